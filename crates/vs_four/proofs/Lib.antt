@@ -1,0 +1,12 @@
+pub mod PlanesLemmas
+pub mod LogicLemmas
+pub mod PlaneParts
+pub mod Reductions
+pub mod LengthsLemmas
+pub mod ArithmeticLaws
+pub mod LogicLaws
+pub mod SelectLaws
+pub mod NumberLemmas
+pub mod ShiftLemmas
+pub mod SelectLemmas
+pub mod SelectPlanes

@@ -1,0 +1,17 @@
+use Rattle.std.proofs.Common.{◌^◌, ◌<◌, bit_xor, sym, ap, ap₂, ◌∙◌}
+use Rattle.std.proofs.lemmas.Nat.{or_lt, xor_lt}
+use Rattle.vs_four.specs.Tables.{same_bit}
+use Rattle.vs_four.specs.Logic.{map2, reduce_and}
+use Rattle.vs_four.proofs.PlanesLemmas.{operand, operand_like}
+use Rattle.vs_four.proofs.LogicLemmas.{same-planes, same_difference}
+use Rattle.vs_four.proofs.Reductions.{no_difference-planes}
+use Rattle.vs_four.proofs.logic.same.Goals as goal
+
+pub returns : goal.returns
+returns c =
+    let a = operand _ _ _ _ c.a.view_is c.a.invariant in
+    let b = operand_like c.a.inside.len _ _ _ _ _ c.requires a.count (operand _ _ _ _ c.b.view_is c.b.invariant) in
+    let n = c.a.inside.len in let va = c.a.inside.value in let ua = c.a.inside.unknown in let vb = c.b.inside.value in let ub = c.b.inside.unknown in
+    let values : bit_xor va vb < 2 ^ n = xor_lt n va vb a.value_below b.value_below in
+    let apart : same_difference va ua vb ub < 2 ^ n = or_lt n _ _ values (xor_lt n ua ub a.unknown_below b.unknown_below) in
+    c.without_difference.ensures ∙ sym (no_difference-planes n (same_difference va ua vb ub) apart) ∙ ap reduce_and (same-planes n va ua vb ub ∙ ap₂ (map2 same_bit) a.planes b.planes)

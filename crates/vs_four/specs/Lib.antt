@@ -1,0 +1,9 @@
+pub mod Tables
+pub mod Logic
+pub mod Lengths
+pub mod Numbers
+pub mod Shifts
+pub mod Selects
+pub mod Planes
+pub mod PlanesBack
+pub mod Laws
