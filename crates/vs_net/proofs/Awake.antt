@@ -1,0 +1,103 @@
+-- The end of slot 0: a block that is woken has run.
+use Rattle.std.proofs.Common.{◌≡◌, ℕ, true, false, List, inl, inr, refl, sym, ap, ◌∙◌, subst}
+use Rattle.std.proofs.lemmas.Bool.{both_ways}
+use Rattle.vs_four.specs.declared.Bit4.{Bit4}
+use Rattle.vs_four.specs.declared.Bit4.TheVariants.{Zero}
+use Rattle.vs_net.specs.Network.{State, Update, write_all, flatten, Network, Kind, AnInput, TheClock, AnAssign, AComb, AClocked, kind, writes, listens}
+use Rattle.vs_net.specs.Queue.{Queue, Fall}
+use Rattle.vs_net.proofs.Quiet.{IsRested}
+use Rattle.vs_net.specs.Solution.{driven, IsWriter}
+use Rattle.vs_net.specs.Lawful.{IsLawful, Settles, IsKnown, IsUnknown, IsWokenBlock, ReadsIn}
+use Rattle.vs_net.specs.Laws.{IsKnownVector}
+use Rattle.vs_net.proofs.Parts.{Agrees, WriterPart}
+use Rattle.vs_net.proofs.Levels.{by_order, no_writer, settles, updates as by_updates, writer_of}
+use Rattle.vs_net.proofs.Settling.{Each, an_assign, an_input, a_comb, a_clocked, comb_due, comb_agrees, comb_sleeps, CombPart, ClockedPart, IsInput, Settling}
+use Rattle.vs_net.proofs.Ends.{assign_rests, writer_rests}
+use Rattle.vs_net.proofs.Drives.{driven_clock, driven_input, driven_drive, clocked_undriven, falls_none}
+use Rattle.vs_net.proofs.Begin.{first_phase, calm_first}
+
+never_both : (v : Bit4) → IsKnown v → IsUnknown v → ⊥
+never_both v (inl a) (inl b) = cc
+never_both v (inl a) (inr b) = cc
+never_both v (inr a) (inl b) = cc
+never_both v (inr a) (inr b) = cc
+
+module _ (n : Network) (L : IsLawful n) (v base : State) (known : IsKnownVector n v) (base_in : (b : ℕ) → L.early b (base b) ≡ true) (apart : false ≡ false) where
+  abbrev pub Sleeps : ℕ → Type 0
+  Sleeps p = IsWokenBlock L.early L.late (n.process p)
+
+  abbrev pub SettlingFirst : Queue → Type 0
+  SettlingFirst q = Settling n L (first_phase n.idle v) base Sleeps (calm_first n.idle v) apart q
+
+  module _ (q : Queue) (over : IsRested q) (h : SettlingFirst q) where
+    abbrev EachFirst : ℕ → Type 0
+    EachFirst p = Each n L.clock_nets (first_phase n.idle v) (CombPart n base Sleeps) (ClockedPart n (first_phase n.idle v)) q p
+
+    abbrev In : ℕ → Type 0
+    In b = L.late b (q.now b) ≡ true
+
+    abbrev WrittenIn : ℕ → Type 0
+    WrittenIn p = (b : ℕ) → writes (n.process p) b ≡ true → In b
+
+    in_as : (b : ℕ) (w : Bit4) → q.now b ≡ w → L.late b w ≡ true → In b
+    in_as b w e h = subst (λ (x : Bit4). L.late b x ≡ true) (sym e) h
+
+    given : (p b : ℕ) → writes (n.process p) b ≡ true → WriterPart n (first_phase n.idle v) q p → q.now b ≡ driven (n.process p) (Fall v) n.idle b
+    given p b w part = writer_rests n L (first_phase n.idle v) base Sleeps (calm_first n.idle v) apart q over.0 over.1 p b part w
+
+    writer_part : (p : ℕ) → IsWriter (kind (n.process p)) → EachFirst p → WriterPart n (first_phase n.idle v) q p
+    writer_part p u (an_assign k part) = absurd (subst IsWriter k u)
+    writer_part p u (an_input k part) = part.writer
+    writer_part p u (a_comb k part) = absurd (subst IsWriter k u)
+    writer_part p u (a_clocked k part) = part.writer
+
+    -- a clocked block's bits have no update in slot 0
+    undriven : (p b : ℕ) → kind (n.process p) ≡ AClocked → driven (n.process p) (Fall v) n.idle b ≡ n.idle b
+    unfolding write_all flatten
+    undriven p b e = driven_drive (n.process p) (Fall v) n.idle b (falls_none (n.process p) v n.idle) ∙ ap (λ (x : List Update). write_all n.idle (flatten x) b) (clocked_undriven (n.process p) (Fall v) e)
+
+    by_kind : (p b : ℕ) → writes (n.process p) b ≡ true → ((r : ℕ) → writes (n.process r) b ≡ true → r ≡ p) → (k : Kind) → kind (n.process p) ≡ k → IsWriter k → WriterPart n (first_phase n.idle v) q p → In b
+    by_kind p b w only AnInput e u part = in_as b (v b) (given p b w part ∙ driven_input (n.process p) v n.idle b e w) (L.time_zero.late_input p b (v b) e w (known p b e w))
+    by_kind p b w only TheClock e u part = in_as b Zero (given p b w part ∙ driven_clock (n.process p) (Fall v) n.idle b e w) (L.time_zero.late_clock p b e w)
+    by_kind p b w only AClocked e u part =
+        in_as b (n.idle b) (given p b w part ∙ undriven p b e)
+        (L.time_zero.late_idle b (λ r wr. subst (λ (x : ℕ). kind (n.process x) ≡ AClocked) (sym (only r wr)) e))
+    by_kind p b w only AnAssign e u part = absurd u
+    by_kind p b w only AComb e u part = absurd u
+
+    unsettled_in : (b : ℕ) → ((r : ℕ) → writes (n.process r) b ≡ true → Settles (kind (n.process r)) → In b) → In b
+    unsettled_in b below = elim (writer_of n L b) [
+      | no_writer none ↦ in_as b (n.idle b) (h.kept b none) (L.time_zero.late_idle b (λ p e. absurd (both_ways (writes (n.process p) b) (none p) e)))
+      | settles r w s ↦ below r w s
+      | by_updates r w u only ↦ by_kind r b w only (kind (n.process r)) refl u (writer_part r u (h.each r))
+    ]
+
+    agreed_in : (p : ℕ) → Settles (kind (n.process p)) → ReadsIn L.late (n.process p) q.now → Agrees n p q.now → WrittenIn p
+    agreed_in p s reads g b w = subst (λ (x : Bit4). L.late b x ≡ true) (g b w) (L.time_zero.late_made p s q.now reads b w q.now)
+
+    -- a block that is to be woken can't sleep on
+    wakes_up : (p : ℕ) → Sleeps p → ReadsIn L.late (n.process p) q.now → ((b : ℕ) → listens (n.process p) b ≡ true → q.now b ≡ base b) → ⊥
+    wakes_up p s reads g = never_both (q.now s.bit) (s.known (q.now s.bit) (reads s.bit s.listened)) (subst IsUnknown (sym (g s.bit s.listened)) (s.unknown (base s.bit) (base_in s.bit)))
+
+    written_in : (p : ℕ) → ReadsIn L.late (n.process p) q.now → Settles (kind (n.process p)) → EachFirst p → WrittenIn p
+    written_in p reads s (an_assign k part) = agreed_in p s reads (assign_rests n L (first_phase n.idle v) q over.0 p part)
+    written_in p reads s (an_input k part) = absurd (no_input (kind (n.process p)) s k)
+      where
+        no_input : (k : Kind) → Settles k → IsInput k → ⊥
+        no_input AnInput i b = i
+        no_input TheClock i b = i
+        no_input AnAssign i b = b
+        no_input AComb i b = b
+        no_input AClocked i b = b
+    written_in p reads s (a_clocked k part) = absurd (subst Settles k s)
+    written_in p reads s (a_comb k part) = elim part.ok [
+      | comb_due d ↦ absurd (let w = (over.0 p).0 in cc)
+      | comb_agrees m g ↦ agreed_in p s reads g
+      | comb_sleeps m w g ↦ absurd (wakes_up p w reads g)
+    ]
+
+    all_late : (b : ℕ) → In b
+    all_late b = unsettled_in b (λ r w s. by_order n L WrittenIn (λ p st below. written_in p (λ c l. unsettled_in c (λ t wt stt. below c t l wt stt c wt)) st (h.each p)) r s b w)
+
+    pub awake : (p : ℕ) → Sleeps p → ((b : ℕ) → listens (n.process p) b ≡ true → q.now b ≡ base b) → Agrees n p q.now
+    awake p s g = absurd (wakes_up p s (λ b l. all_late b) g)

@@ -1,0 +1,165 @@
+-- What writes do to the processes that wait.
+use Rattle.std.proofs.Common.{◌≡◌, ◌≢◌, ℕ, Bool, true, false, List, [], ◌∷◌, ◌||◌, ◌&&◌, ◌==◌, ◌⊎◌, inl, inr, refl, sym, ap, ◌∙◌, subst, eq-eqb, ne_eqb, eqb-true}
+use Rattle.std.proofs.lemmas.Bool.{cond-true, cond-false, both_ways}
+use Rattle.vs_four.specs.declared.Bit4.{Bit4}
+use Rattle.vs_four.specs.declared.Bit4.TheVariants.{Zero, One, X, Z}
+use Rattle.vs_four.specs.Tables.{same}
+use Rattle.vs_net.specs.Network.{posedge, Write, put, write_all, is_written, Process, Input, Clock, Assign, Comb, Clocked, Network, AClocked, kind, listens, clock_net, senses}
+use Rattle.vs_net.specs.Queue.{Mode, Unstarted, Waiting, Due, Queue, woken, change, changes}
+use Rattle.vs_net.proofs.Basics.{by_test, same_number, put-same, put-other, same_is, write_all_at}
+
+-- between two states of the queue a process stays as it is, with what it listens to, or wakes
+pub data Woke (n : Network) (q q' : Queue) (r : ℕ) : Type 0 where
+  stays : q'.mode r ≡ q.mode r → (q.mode r ≡ Waiting → (b : ℕ) → listens (n.process r) b ≡ true → q'.now b ≡ q.now b) → Woke n q q' r
+  wakes : q.mode r ≡ Waiting → q'.mode r ≡ Due → Woke n q q' r
+
+pub record Changed (n : Network) (q q' : Queue) (ws : List Write) : Type 0 where
+  pub now : (b : ℕ) → q'.now b ≡ write_all q.now ws b
+  pub mode : (r : ℕ) → Woke n q q' r
+  pub calm : (r : ℕ) → kind (n.process r) ≡ AClocked → is_written ws (clock_net (n.process r)) ≡ false → q'.mode r ≡ q.mode r
+  pub deaf : (r : ℕ) → kind (n.process r) ≢ AClocked → ((b : ℕ) → listens (n.process r) b ≡ true → is_written ws b ≡ false) → q'.mode r ≡ q.mode r
+  pub pending : q'.pending ≡ q.pending
+  pub active : q'.active ≡ q.active
+  pub waiting : q'.waiting ≡ q.waiting
+  pub slots : q'.slots ≡ q.slots
+
+sensed : (process : Process) (old : Bit4) (w : Write) → listens process w.bit ≡ true → senses process old w ≡ true
+sensed (Assign reads targets value) old w h = h
+sensed (Comb waits targets run) old w h = h
+sensed (Input bits) old w h = cc
+sensed (Clock bit) old w h = cc
+sensed (Clocked clock targets run) old w h = cc
+
+-- and no other process senses what it doesn't listen to
+unsensed : (process : Process) (old : Bit4) (w : Write) → kind process ≢ AClocked → listens process w.bit ≡ false → senses process old w ≡ false
+unsensed (Assign reads targets value) old w k h = h
+unsensed (Comb waits targets run) old w k h = h
+unsensed (Input bits) old w k h = refl
+unsensed (Clock bit) old w k h = refl
+unsensed (Clocked clock targets run) old w k h = absurd (k refl)
+
+pub woken_or_not : (m : Mode) (t : Bool) → ((m ≡ Waiting) × (t ≡ true) × (woken m t ≡ Due)) ⊎ ((woken m t ≡ m) × (m ≡ Waiting → t ≡ false))
+woken_or_not Waiting true = inl (refl, refl, refl)
+woken_or_not Waiting false = inr (refl, λ e. refl)
+woken_or_not Unstarted true = inr (refl, λ e. cc)
+woken_or_not Unstarted false = inr (refl, λ e. refl)
+woken_or_not Due true = inr (refl, λ e. cc)
+woken_or_not Due false = inr (refl, λ e. refl)
+
+pub woken_calm : (m : Mode) (t : Bool) → t ≡ false → woken m t ≡ m
+woken_calm Waiting true h = cc
+woken_calm Waiting false h = refl
+woken_calm Unstarted t h = refl
+woken_calm Due t h = refl
+
+-- a clocked block senses a change of its clock net alone
+senses_clock : (process : Process) (old : Bit4) (w : Write) → kind process ≡ AClocked → senses process old w ≡ ((clock_net process == w.bit) && posedge old w.value)
+senses_clock (Clocked clock targets run) old w e = refl
+senses_clock (Assign reads targets value) old w e = cc
+senses_clock (Comb waits targets run) old w e = cc
+senses_clock (Input bits) old w e = cc
+senses_clock (Clock bit) old w e = cc
+
+pub posedge_same : (a : Bit4) → posedge a a ≡ false
+posedge_same Zero = refl
+posedge_same One = refl
+posedge_same X = refl
+posedge_same Z = refl
+
+module _ (n : Network) (q : Queue) (w : Write) where
+  -- what one write makes where it changes the bit
+  abbrev moved : Queue
+  moved = record q { now = put q.now w.bit w.value; mode = λ p. woken (q.mode p) (senses (n.process p) (q.now w.bit) w) }
+
+  moved_woke : (r : ℕ) → Woke n q moved r
+  moved_woke r = elim (woken_or_not (q.mode r) (senses (n.process r) (q.now w.bit) w)) [
+    | inl h ↦ wakes h.0 h.2
+    | inr h ↦ stays h.0 (λ m b l. put-other q.now w.bit w.value b (λ e. both_ways (senses (n.process r) (q.now w.bit) w) (h.1 m) (sensed (n.process r) (q.now w.bit) w (subst (λ c. listens (n.process r) c ≡ true) e l))))
+  ]
+
+  moved_calm : (r : ℕ) → kind (n.process r) ≡ AClocked → (clock_net (n.process r) ≡ w.bit → posedge (q.now w.bit) w.value ≡ false) → moved.mode r ≡ q.mode r
+  moved_calm r k h = woken_calm (q.mode r) (senses (n.process r) (q.now w.bit) w) (senses_clock (n.process r) (q.now w.bit) w k ∙ silent)
+    where
+      silent : ((clock_net (n.process r) == w.bit) && posedge (q.now w.bit) w.value) ≡ false
+      silent = by_test (clock_net (n.process r) == w.bit)
+          (λ e. subst (λ c. (c && posedge (q.now w.bit) w.value) ≡ false) (sym e) (h (eqb-true (clock_net (n.process r)) w.bit e)))
+          (λ e. subst (λ c. (c && posedge (q.now w.bit) w.value) ≡ false) (sym e) refl)
+
+  moved_deaf : (r : ℕ) → kind (n.process r) ≢ AClocked → listens (n.process r) w.bit ≡ false → moved.mode r ≡ q.mode r
+  moved_deaf r k h = woken_calm (q.mode r) (senses (n.process r) (q.now w.bit) w) (unsensed (n.process r) (q.now w.bit) w k h)
+
+  -- a clocked block wakes at a posedge of its clock net
+  moved_clock : (r : ℕ) → kind (n.process r) ≡ AClocked → moved.mode r ≡ woken (q.mode r) (posedge (q.now (clock_net (n.process r))) (moved.now (clock_net (n.process r))))
+  moved_clock r k = ap (λ t. woken (q.mode r) t) (senses_clock (n.process r) (q.now w.bit) w k ∙ as_now)
+    where
+      as_now : ((clock_net (n.process r) == w.bit) && posedge (q.now w.bit) w.value) ≡ posedge (q.now (clock_net (n.process r))) (moved.now (clock_net (n.process r)))
+      as_now = same_number (clock_net (n.process r)) w.bit
+          (λ e. ap (λ c. c && posedge (q.now w.bit) w.value) (eq-eqb (clock_net (n.process r)) w.bit e)
+          ∙ subst (λ (c : ℕ). posedge (q.now w.bit) w.value ≡ posedge (q.now c) (put q.now w.bit w.value c)) (sym e) (ap (posedge (q.now w.bit)) (sym (put-same q.now w.bit w.value))))
+          (λ e. ap (λ c. c && posedge (q.now w.bit) w.value) (ne_eqb (clock_net (n.process r)) w.bit e)
+          ∙ sym (ap (posedge (q.now (clock_net (n.process r)))) (put-other q.now w.bit w.value (clock_net (n.process r)) e) ∙ posedge_same (q.now (clock_net (n.process r)))))
+
+  unmoved_now : same (q.now w.bit) w.value ≡ true → (b : ℕ) → q.now b ≡ put q.now w.bit w.value b
+  unmoved_now e b = same_number b w.bit
+      (λ h. subst (λ (c : ℕ). q.now c ≡ put q.now w.bit w.value c) (sym h) (same_is (q.now w.bit) w.value e ∙ sym (put-same q.now w.bit w.value)))
+      (λ h. sym (put-other q.now w.bit w.value b h))
+
+  change_is : (same (q.now w.bit) w.value ≡ true × (change n q w ≡ q)) ⊎ (change n q w ≡ moved)
+  unfolding change
+  change_is = by_test (same (q.now w.bit) w.value)
+      (λ e. inl (e, cond-true (same (q.now w.bit) w.value) q moved e))
+      (λ e. inr (cond-false (same (q.now w.bit) w.value) q moved e))
+
+  pub change_one : Changed n q (change n q w) (w ∷ [])
+  unfolding write_all is_written
+  change_one = elim change_is [
+    | inl h ↦ subst (λ (x : Queue). Changed n q x (w ∷ [])) (sym h.1) (record { now = unmoved_now h.0; mode = λ r. stays refl (λ m b l. refl); calm = λ r k c. refl; deaf = λ r k c. refl; pending = refl; active = refl; waiting = refl; slots = refl })
+    | inr h ↦ subst (λ (x : Queue). Changed n q x (w ∷ [])) (sym h) (record { now = λ b. refl; mode = moved_woke; calm = λ r k c. moved_calm r k (λ e. absurd (both_ways (clock_net (n.process r) == w.bit) (unwritten r c) (eq-eqb (clock_net (n.process r)) w.bit e))); deaf = λ r k c. moved_deaf r k (not_listened r c); pending = refl; active = refl; waiting = refl; slots = refl })
+  ]
+    where
+      not_listened : (r : ℕ) → ((b : ℕ) → listens (n.process r) b ≡ true → is_written (w ∷ []) b ≡ false) → listens (n.process r) w.bit ≡ false
+      not_listened r c = by_test (listens (n.process r) w.bit) (λ e. let d = subst (λ x. (x || false) ≡ false) (eq-eqb w.bit w.bit refl) (c w.bit e) in cc) (λ e. e)
+
+      unwritten : (r : ℕ) → is_written (w ∷ []) (clock_net (n.process r)) ≡ false → (clock_net (n.process r) == w.bit) ≡ false
+      unwritten r c = by_test (clock_net (n.process r) == w.bit) (λ e. let d = subst (λ x. (x || false) ≡ false) e c in cc) (λ e. e)
+
+  pub change_clock : (r : ℕ) → kind (n.process r) ≡ AClocked → (change n q w).mode r ≡ woken (q.mode r) (posedge (q.now (clock_net (n.process r))) ((change n q w).now (clock_net (n.process r))))
+  change_clock r k = elim change_is [
+    | inl e ↦ subst (λ (x : Queue). x.mode r ≡ woken (q.mode r) (posedge (q.now (clock_net (n.process r))) (x.now (clock_net (n.process r))))) (sym e.1) (sym (woken_calm (q.mode r) (posedge (q.now (clock_net (n.process r))) (q.now (clock_net (n.process r)))) (posedge_same (q.now (clock_net (n.process r))))))
+    | inr e ↦ subst (λ (x : Queue). x.mode r ≡ woken (q.mode r) (posedge (q.now (clock_net (n.process r))) (x.now (clock_net (n.process r))))) (sym e) (moved_clock r k)
+  ]
+
+pub woke_on : (n : Network) (q q' q'' : Queue) (r : ℕ) → Woke n q q' r → Woke n q' q'' r → Woke n q q'' r
+woke_on n q q' q'' r (stays e k) (stays e' k') = stays (e' ∙ e) (λ m b l. k' (e ∙ m) b l ∙ k m b l)
+woke_on n q q' q'' r (stays e k) (wakes m d) = wakes (sym e ∙ m) d
+woke_on n q q' q'' r (wakes m d) (stays e k) = wakes m (e ∙ d)
+woke_on n q q' q'' r (wakes m d) (wakes m' d') = wakes m d'
+
+pub changes_all : (n : Network) (ws : List Write) (q : Queue) → Changed n q (changes n q ws) ws
+unfolding changes write_all is_written
+changes_all n [] q = record { now = λ b. refl; mode = λ r. stays refl (λ m b l. refl); calm = λ r k c. refl; deaf = λ r k c. refl; pending = refl; active = refl; waiting = refl; slots = refl }
+changes_all n (w ∷ ws) q =
+    let one = change_one n q w in
+    let rest = changes_all n ws (change n q w) in
+    record {
+      now = λ b. rest.now b ∙ write_all_at ws (change n q w).now (put q.now w.bit w.value) b (one.now b);
+      mode = λ r. woke_on n q (change n q w) (changes n (change n q w) ws) r (one.mode r) (rest.mode r);
+      calm = λ r k c. by_test (clock_net (n.process r) == w.bit)
+          (λ e. let d = subst (λ x. (x || is_written ws (clock_net (n.process r))) ≡ false) e c in cc)
+          (λ e. rest.calm r k (subst (λ x. (x || is_written ws (clock_net (n.process r))) ≡ false) e c) ∙ one.calm r k (subst (λ x. (x || false) ≡ false) (sym e) refl));
+      deaf = λ r k c. rest.deaf r k (λ b l. by_test (b == w.bit)
+          (λ e. let d = subst (λ x. (x || is_written ws b) ≡ false) e (c b l) in cc)
+          (λ e. subst (λ x. (x || is_written ws b) ≡ false) e (c b l)))
+          ∙ one.deaf r k (λ b l. by_test (b == w.bit)
+          (λ e. let d = subst (λ x. (x || is_written ws b) ≡ false) e (c b l) in cc)
+          (λ e. subst (λ x. (x || false) ≡ false) (sym e) refl));
+      pending = rest.pending ∙ one.pending;
+      active = rest.active ∙ one.active;
+      waiting = rest.waiting ∙ one.waiting;
+      slots = rest.slots ∙ one.slots;
+    }
+
+-- the same of a single write
+pub changes_clock : (n : Network) (q : Queue) (w : Write) (r : ℕ) → kind (n.process r) ≡ AClocked → (changes n q (w ∷ [])).mode r ≡ woken (q.mode r) (posedge (q.now (clock_net (n.process r))) ((changes n q (w ∷ [])).now (clock_net (n.process r))))
+unfolding changes
+changes_clock n q w r k = change_clock n q w r k

@@ -1,0 +1,109 @@
+-- What the rules for an accepted design give of its network: no latch, complete event lists, one driver for each bit, no combinational cycle, one clock, and the rule of time zero.
+use Rattle.std.specs.Prelude.{◌≡◌, ◌≢◌, ◌≤◌, ℕ, Bool, true, false, List, [], ◌∷◌, ◌⊎◌}
+use Rattle.vs_four.specs.declared.Bit4.{Bit4}
+use Rattle.vs_four.specs.declared.Bit4.TheVariants.{Zero, One, X, Z}
+use Rattle.vs_net.specs.Network.{State, write_all, is_written, flatten, Process, Input, Network, Kind, AnInput, TheClock, AnAssign, AComb, AClocked, kind, writes, listens, clock_net, made, updates}
+
+-- an assign or a combinational block
+abbrev pub Settles : Kind → Type 0
+Settles AnAssign = Unit {0}
+Settles AComb = Unit {0}
+Settles _ = ⊥
+
+-- the assign of an input port that copies one clock net to another (11.6.6)
+pub record IsClockPort (clock_nets : ℕ → Bool) (process : Process) : Type 0 where
+  pub from : ℕ
+  pub to : ℕ
+  pub from_net : clock_nets from ≡ true
+  pub to_net : clock_nets to ≡ true
+  pub apart : to ≢ from
+  pub reads_one : (b : ℕ) → listens process b ≡ true → b ≡ from
+  pub reads_it : listens process from ≡ true
+  pub writes_one : (b : ℕ) → writes process b ≡ true → b ≡ to
+  pub writes_it : writes process to ≡ true
+  pub copies : (s : State) → made process s ≡ record { bit = to; value = s from } ∷ []
+
+-- each process of the order stands after all assigns and combinational blocks that write a bit which it is sensitive to
+abbrev pub IsOrdered : Network → (ℕ → Type 0) → List ℕ → Type 0
+IsOrdered n placed [] = (p : ℕ) → Settles (kind (n.process p)) → placed p
+IsOrdered n placed (p ∷ order) =
+    ((b r : ℕ) → listens (n.process p) b ≡ true → writes (n.process r) b ≡ true → Settles (kind (n.process r)) → placed r)
+    × IsOrdered n (λ r. placed r ⊎ (r ≡ p)) order
+
+-- A level order: it has each assign and combinational block, each after all others that write a bit which it is sensitive to.
+-- A list that has more, as a process twice, is one too: the laws hold of each of them.
+abbrev pub IsLevelOrder : Network → List ℕ → Type 0
+IsLevelOrder n order = IsOrdered n (λ p. ⊥) order
+
+-- all bits that the process is sensitive to are in their sets
+abbrev pub ReadsIn : (ℕ → Bit4 → Bool) → Process → State → Type 0
+ReadsIn sets process s = (b : ℕ) → listens process b ≡ true → sets b (s b) ≡ true
+
+-- all that it writes is in its set
+abbrev pub WritesIn : (ℕ → Bit4 → Bool) → Process → State → Type 0
+WritesIn sets process s = (b : ℕ) → writes process b ≡ true → (t : State) → sets b (write_all t (made process s) b) ≡ true
+
+-- x or z
+abbrev pub IsUnknown : Bit4 → Type 0
+IsUnknown v = (v ≡ X) ⊎ (v ≡ Z)
+
+-- 0 or 1
+abbrev pub IsKnown : Bit4 → Type 0
+IsKnown v = (v ≡ Zero) ⊎ (v ≡ One)
+
+-- Sets of what each bit may hold: early at the moment before the first activation, where no assign or block is due, and late at the end of slot 0.
+pub record IsTimeZero (n : Network) (early late : ℕ → Bit4 → Bool) : Type 0 where
+  pub early_idle : (b : ℕ) → ((p : ℕ) → writes (n.process p) b ≡ true → Settles (kind (n.process p)) → ⊥) → early b (n.idle b) ≡ true
+  pub early_comb : (p b : ℕ) → kind (n.process p) ≡ AComb → writes (n.process p) b ≡ true → early b X ≡ true
+  pub early_made : (p : ℕ) → Settles (kind (n.process p)) → (s : State) → ReadsIn early (n.process p) s → WritesIn early (n.process p) s
+  pub late_idle : (b : ℕ) → ((p : ℕ) → writes (n.process p) b ≡ true → kind (n.process p) ≡ AClocked) → late b (n.idle b) ≡ true
+  pub late_input : (p b : ℕ) (v : Bit4) → kind (n.process p) ≡ AnInput → writes (n.process p) b ≡ true → IsKnown v → late b v ≡ true
+  pub late_clock : (p b : ℕ) → kind (n.process p) ≡ TheClock → writes (n.process p) b ≡ true → late b Zero ≡ true
+  pub late_made : (p : ℕ) → Settles (kind (n.process p)) → (s : State) → ReadsIn late (n.process p) s → WritesIn late (n.process p) s
+
+-- the block is quiet: on values before the first activation it writes x alone, so it is no matter whether it has run
+abbrev pub IsQuietBlock : (ℕ → Bit4 → Bool) → Process → Type 0
+IsQuietBlock early process = (s t : State) → ReadsIn early process s → (b : ℕ) → writes process b ≡ true → write_all t (made process s) b ≡ X
+
+-- the block wakes: some bit that it waits on is x or z before the first activation and 0 or 1 at the end of slot 0, so it changes in every order
+pub record IsWokenBlock (early late : ℕ → Bit4 → Bool) (process : Process) : Type 0 where
+  pub bit : ℕ
+  pub listened : listens process bit ≡ true
+  pub unknown : (v : Bit4) → early bit v ≡ true → IsUnknown v
+  pub known : (v : Bit4) → late bit v ≡ true → IsKnown v
+
+pub record IsLawful (n : Network) : Type 0 where
+  pub beyond : (p : ℕ) → n.count ≤ p → n.process p ≡ Input []
+  -- one writer for each bit
+  pub one_writer : (p q b : ℕ) → writes (n.process p) b ≡ true → writes (n.process q) b ≡ true → q ≡ p
+  -- variables and inputs are x at first
+  pub idle_x : (p b : ℕ) → writes (n.process p) b ≡ true → kind (n.process p) ≢ AnAssign → n.idle b ≡ X
+  pub idle_xz : (b : ℕ) → IsUnknown (n.idle b)
+  -- an assign or a combinational block writes exactly its own bits, by what it listens to alone
+  pub exact : (p b : ℕ) (s : State) → Settles (kind (n.process p)) → is_written (made (n.process p) s) b ≡ writes (n.process p) b
+  pub local : (p : ℕ) (s t : State) → Settles (kind (n.process p)) → ((b : ℕ) → listens (n.process p) b ≡ true → s b ≡ t b) → made (n.process p) s ≡ made (n.process p) t
+  pub apart : (p b : ℕ) → writes (n.process p) b ≡ true → listens (n.process p) b ≡ false
+  -- no nonblocking update in a combinational block, no blocking write in a clocked one
+  pub comb_updates : (p : ℕ) (s : State) → kind (n.process p) ≡ AComb → updates (n.process p) s ≡ []
+  pub clocked_writes : (p : ℕ) (s : State) → kind (n.process p) ≡ AClocked → made (n.process p) s ≡ []
+  pub clocked_own : (p b : ℕ) (s : State) → kind (n.process p) ≡ AClocked → is_written (flatten (updates (n.process p) s)) b ≡ true → writes (n.process p) b ≡ true
+  -- a level order
+  pub order : List ℕ
+  pub ordered : IsLevelOrder n order
+  -- clock nets: the clock's bit, and what ports copy from clock nets. Nothing else reads or writes them
+  pub clock_nets : ℕ → Bool
+  pub clock : ℕ
+  pub clock_is : (kind (n.process clock) ≡ TheClock)
+  pub nets_written : (b : ℕ) → clock_nets b ≡ true → (p : ℕ) × (writes (n.process p) b ≡ true) × ((kind (n.process p) ≡ TheClock) ⊎ (kind (n.process p) ≡ AnAssign))
+  pub clock_net_is : (p : ℕ) → kind (n.process p) ≡ AClocked → clock_nets (clock_net (n.process p)) ≡ true
+  pub clock_bit_is : (p b : ℕ) → kind (n.process p) ≡ TheClock → writes (n.process p) b ≡ true → clock_nets b ≡ true
+  pub assign_nets : (p : ℕ) → kind (n.process p) ≡ AnAssign → IsClockPort clock_nets (n.process p) ⊎ ((b : ℕ) → clock_nets b ≡ true → (listens (n.process p) b ≡ false) × (writes (n.process p) b ≡ false))
+  pub comb_nets : (p b : ℕ) → kind (n.process p) ≡ AComb → clock_nets b ≡ true → listens (n.process p) b ≡ false
+  -- a clocked block reads no clock net
+  pub clocked_local : (p : ℕ) (s t : State) → kind (n.process p) ≡ AClocked → ((b : ℕ) → clock_nets b ≡ false → s b ≡ t b) → updates (n.process p) s ≡ updates (n.process p) t
+  -- The rule of time zero: each combinational block is quiet, or wakes.
+  -- A third kind, a block that may sleep through time zero, would be a further case of `quiet_or_woken`, with x in its sets.
+  pub early : ℕ → Bit4 → Bool
+  pub late : ℕ → Bit4 → Bool
+  pub time_zero : IsTimeZero n early late
+  pub quiet_or_woken : (p : ℕ) → kind (n.process p) ≡ AComb → IsQuietBlock early (n.process p) ⊎ IsWokenBlock early late (n.process p)

@@ -1,0 +1,12 @@
+pub mod Network
+pub mod Queue
+pub mod Solution
+pub mod Lawful
+pub mod LevelRun
+pub mod Bound
+pub mod Settle
+pub mod Laws
+pub mod Steps
+pub mod Checked
+pub mod Example
+pub mod Worked
