@@ -1,0 +1,451 @@
+-- Each refusal says what it should.
+use Rattle.std.proofs.Common.{◌≡◌, ℕ, zero, suc, ◌+◌, ◌≤◌, ◌<◌, Bool, true, false, List, [], ◌∷◌, ◌++◌, ◌||◌, ◌&&◌, ◌==◌, not, if◌then◌else◌, ◌⊎◌, inl, inr, refl, sym, ap, ◌∙◌, subst, min, arith, nat_lt, eqb-true, eq-eqb, Option, Some, None}
+use Rattle.std.specs.Prelude.{nat_le, slice_get, option_map}
+use Rattle.std.specs.List.{list_any}
+use Rattle.std.proofs.lemmas.Bool.{cases_lt}
+use Rattle.vs_design.specs.Expressions.{Signal, signal_length}
+use Rattle.vs_design.specs.Values.{bits_of_signal}
+use Rattle.vs_design.specs.Designs.{Process, process_place, Design, is_combinational}
+use Rattle.vs_design.specs.Footprints.{contains, writes_of, all_reads, waits_of, signals_bits, without, wait_signals}
+use Rattle.vs_design.specs.Fits.{fits_process}
+use Rattle.vs_design.specs.Elaborated.{is_formed_process, are_numbered, have_bits_from}
+use Rattle.vs_design.specs.Sizes.{size}
+use Rattle.vs_design.specs.Rules.{mixed_assigns, missing_bits, latches}
+use Rattle.vs_design.specs.Clocks.{clock_input, clock_nets, reads_clock, has_other_clock}
+use Rattle.vs_design.specs.Levels.{level_order}
+use Rattle.vs_design.specs.TimeZero.{families, sleeps}
+use Rattle.vs_design.specs.Refusals.{least_with, least, otherwise, first_found, where_true, WidthRefusal, TooWide, Division, TooLarge, wide_in, divisions_in, earlier, too_large, BlockRefusal, MixedAssign, Sensitivity, Latch, signal_of, block_refusal_of, ClockRefusal, NoClock, ClockRead, NotTheClock, clock_refusal_by, ZeroRefusal, TimeZero, zero_refusal_by}
+use Rattle.vs_design.specs.RefusalLaws.{IsLeastOf, IsFirstOf, is_unfit, IsWidthRefusal, WidthRefusalIs, is_some_of, breaks_block, IsBlockRefusal, BlockRefusalIs, IsClockRefusal, ClockRefusalIs, IsZeroRefusal, ZeroRefusalIs}
+use Rattle.vs_design.proofs.Lists.{by_test, and_both, or_left, or_right, or_neither, or_false, contains-append, contains-left, contains_head, contains_filter}
+use Rattle.vs_design.proofs.Writes.{either_way}
+use Rattle.vs_design.proofs.Parts.{all_at}
+use Rattle.vs_design.proofs.Signals.{count_low, count_high}
+use Rattle.vs_design.proofs.Exactly.{least_none, earlier_none, any_none, true_where, block_clear, all_fit}
+use Rattle.vs_design.proofs.Drivers.{empty_is}
+use Rattle.vs_design.proofs.Named.{process_bits}
+use Rattle.vs_design.proofs.WidthExact.{process_clear, wide_none, divisions_none}
+
+-- ---- the least of a list
+
+least_more : (n k : ℕ) (ns : List ℕ) (m : ℕ) → IsLeastOf (min n k ∷ ns) m → IsLeastOf (n ∷ k ∷ ns) m
+least_more n k ns l r = record { there = in_more l r.there; least = lower }
+  where
+    in_more : (m : ℕ) → contains (min n k ∷ ns) m ≡ true → contains (n ∷ k ∷ ns) m ≡ true
+    in_more m h =
+        by_test (m == min n k)
+        (λ e. go (eqb-true m (min n k) e) (cases_lt n k))
+        (λ e. or_right (m == n) ((m == k) || contains ns m) (or_right (m == k) (contains ns m) (subst (λ x. (x || contains ns m) ≡ true) e h)))
+      where
+        go : m ≡ min n k → (n < k) ⊎ (k ≤ n) → contains (n ∷ k ∷ ns) m ≡ true
+        go e (inl l) = or_left (m == n) ((m == k) || contains ns m) (eq-eqb m n (omega arith))
+        go e (inr l) = or_right (m == n) ((m == k) || contains ns m) (or_left (m == k) (contains ns m) (eq-eqb m k (omega arith)))
+
+    lower : (m : ℕ) → contains (n ∷ k ∷ ns) m ≡ true → l ≤ m
+    lower m h =
+        let a = r.least (min n k) (contains_head (min n k) ns) in
+        by_test (m == n)
+        (λ e. let q = eqb-true m n e in omega (arith, a))
+        (λ e.
+        let h' : ((m == k) || contains ns m) ≡ true = subst (λ x. (x || ((m == k) || contains ns m)) ≡ true) e h in
+        by_test (m == k)
+        (λ f. let q = eqb-true m k f in omega (arith, a))
+        (λ f. r.least m (or_right (m == min n k) (contains ns m) (subst (λ x. (x || contains ns m) ≡ true) f h'))))
+
+only_one : (n m : ℕ) → contains (n ∷ []) m ≡ true → m ≡ n
+only_one n m h = by_test (m == n) (λ e. eqb-true m n e) (λ e. absurd (either_way ((m == n) || false) h (or_false (m == n) false e refl)))
+
+least_with_is : (n : ℕ) (ns : List ℕ) → IsLeastOf (n ∷ ns) (least_with n ns)
+least_with_is n [] = record { there = contains_head n []; least = λ m h. let e = only_one n m h in omega (arith, e) }
+least_with_is n (k ∷ ns) = least_more n k ns (least_with (min n k) ns) (least_with_is (min n k) ns)
+
+pub least_is : (ns : List ℕ) (n : ℕ) → least ns ≡ Some n → IsLeastOf ns n
+least_is [] n h = cc
+least_is (m ∷ ms) n h = subst (IsLeastOf (m ∷ ms)) (value (least_with m ms) n h) (least_with_is m ms)
+  where
+    value : (x y : ℕ) → Some x ≡ Some y → x ≡ y
+    value x y e = cc
+
+no_least : (ns : List ℕ) → least ns ≡ None → ns ≡ []
+no_least ns h = least_none ns h
+
+-- ---- the first process
+
+-- where the search at a process finds something exactly where it breaks the rule, what is found first is that of the first such process
+record Found_at {A : Type 0} (d : Design) (find : ℕ → Process → Option A) (breaks : Process → Bool) (a : A) : Type 0 where
+  pub number : ℕ
+  pub process : Process
+  pub first : IsFirstOf d breaks number process
+  pub found : find number process ≡ Some a
+
+found_first : {A : Type 0} (d : Design) (find : ℕ → Process → Option A) (breaks : Process → Bool) (a : A)
+    → ((p : ℕ) (x : Process) → slice_get d.processes p ≡ Some x → find p x ≡ None → breaks x ≡ false) → ((p : ℕ) (x : Process) (a : A) → slice_get d.processes p ≡ Some x → find p x ≡ Some a → breaks x ≡ true)
+    → first_found find 0 d.processes ≡ Some a → Found_at d find breaks a
+found_first {A} d find breaks a none some h = go 0 d.processes (λ n x e. subst (λ m. slice_get d.processes m ≡ Some x) (omega arith) e) (λ q y l e. absurd (omega arith)) h
+  where
+    Tail : ℕ → List Process → Type 0
+    Tail k ps = (n : ℕ) (x : Process) → slice_get ps n ≡ Some x → slice_get d.processes (k + n) ≡ Some x
+
+    Before : ℕ → Type 0
+    Before k = (q : ℕ) (y : Process) → q < k → slice_get d.processes q ≡ Some y → breaks y ≡ false
+
+    here : (k : ℕ) (x : Process) (ps : List Process) → Tail k (x ∷ ps) → slice_get d.processes k ≡ Some x
+    here k x ps t = subst (λ m. slice_get d.processes m ≡ Some x) (omega arith) (t 0 x refl)
+
+    next : (k : ℕ) (x : Process) (ps : List Process) → Tail k (x ∷ ps) → Tail (suc k) ps
+    next k x ps t n y f = subst (λ m. slice_get d.processes m ≡ Some y) (omega arith) (t (suc n) y f)
+
+    some_is : (y z : Process) → Some y ≡ Some z → y ≡ z
+    some_is y z e = cc
+
+    more : (k : ℕ) (x : Process) → slice_get d.processes k ≡ Some x → find k x ≡ None → Before k → Before (suc k)
+    more k x i e b q y l f = either (cases_lt q k)
+      where
+        either : (q < k) ⊎ (k ≤ q) → breaks y ≡ false
+        either (inl m) = b q y m f
+        either (inr m) =
+            let w : q ≡ k = omega arith in
+            let s : x ≡ y = some_is x y (sym i ∙ subst (λ m. slice_get d.processes m ≡ Some y) w f) in
+            none k y (subst (λ m. slice_get d.processes m ≡ Some y) w f) (subst (λ z. find k z ≡ None) s e)
+
+    go : (k : ℕ) (ps : List Process) → Tail k ps → Before k → first_found find k ps ≡ Some a → Found_at d find breaks a
+    go k [] t b h = cc
+    go k (x ∷ ps) t b h = cases (find k x) refl h (λ e g. go (suc k) ps (next k x ps t) (more k x (here k x ps t) e b) g)
+      where
+        cases : (o : Option A) → find k x ≡ o → otherwise o (first_found find (suc k) ps) ≡ Some a → (find k x ≡ None → first_found find (suc k) ps ≡ Some a → Found_at d find breaks a) → Found_at d find breaks a
+        cases (Some v) e h rest = record { number = k; process = x; first = record { is = here k x ps t; broken = some k x v (here k x ps t) e; before = b }; found = e ∙ h }
+        cases None e h rest = rest e h
+
+-- ---- lengths
+
+-- the first of two, or the second where there is no first
+otherwise_some : {A : Type 0} (a b : Option A) (x : A) → otherwise a b ≡ Some x → (a ≡ Some x) ⊎ ((a ≡ None) × (b ≡ Some x))
+otherwise_some (Some y) b x h = inl h
+otherwise_some None b x h = inr (refl, h)
+
+no_member : (ns : List ℕ) (n : ℕ) → ns ≡ [] → contains ns n ≡ true → ⊥
+no_member ns n e h = either_way (contains ns n) h (ap (λ xs. contains xs n) e)
+
+-- of the two least places
+abbrev IsEarlier : List ℕ → List ℕ → WidthRefusal → Type 0
+IsEarlier wide divisions (TooWide at) = IsLeastOf wide at × ((n : ℕ) → contains divisions n ≡ true → at ≤ n)
+IsEarlier wide divisions (Division at) = IsLeastOf divisions at × ((n : ℕ) → contains wide n ≡ true → at < n)
+IsEarlier wide divisions (TooLarge n) = ⊥
+
+wide_is : (x y : ℕ) → Some (TooWide x) ≡ Some (TooWide y) → x ≡ y
+wide_is x y e = cc
+
+division_is : (x y : ℕ) → Some (Division x) ≡ Some (Division y) → x ≡ y
+division_is x y e = cc
+
+earlier_is : (wide divisions : List ℕ) (r : WidthRefusal) → earlier (least wide) (least divisions) ≡ Some r → IsEarlier wide divisions r
+earlier_is ws vs r h = go (least ws) (least vs) refl refl r h
+  where
+    first : (x y : ℕ) → nat_le x y ≡ true → x ≤ y
+    first x y t = grind arith
+
+    second : (x y : ℕ) → nat_le x y ≡ false → y < x
+    second x y t = grind arith
+
+    go : (a b : Option ℕ) → least ws ≡ a → least vs ≡ b → (r : WidthRefusal) → earlier a b ≡ Some r → IsEarlier ws vs r
+    go None None e f r h = cc
+    go (Some x) None e f (TooWide at) h = (subst (IsLeastOf ws) (wide_is x at h) (least_is ws x e), λ n k. absurd (no_member vs n (no_least vs f) k))
+    go (Some x) None e f (Division at) h = cc
+    go (Some x) None e f (TooLarge n) h = cc
+    go None (Some y) e f (TooWide at) h = cc
+    go None (Some y) e f (Division at) h = (subst (IsLeastOf vs) (division_is y at h) (least_is vs y f), λ n k. absurd (no_member ws n (no_least ws e) k))
+    go None (Some y) e f (TooLarge n) h = cc
+    go (Some x) (Some y) e f r h =
+        by_test (nat_le x y)
+        (λ t. wide_first r (subst (λ (c : Bool). (if c then Some (TooWide x) else Some (Division y)) ≡ Some r) t h) (first x y t))
+        (λ t. division_first r (subst (λ (c : Bool). (if c then Some (TooWide x) else Some (Division y)) ≡ Some r) t h) (second x y t))
+      where
+        wide_first : (r : WidthRefusal) → Some (TooWide x) ≡ Some r → x ≤ y → IsEarlier ws vs r
+        wide_first (TooWide at) h l =
+            let q = wide_is x at h in
+            let v = least_is vs y f in
+            (subst (IsLeastOf ws) q (least_is ws x e), λ n k. let m = v.least n k in omega (arith, m, q))
+        wide_first (Division at) h l = cc
+        wide_first (TooLarge n) h l = cc
+
+        division_first : (r : WidthRefusal) → Some (Division y) ≡ Some r → y < x → IsEarlier ws vs r
+        division_first (TooWide at) h l = cc
+        division_first (Division at) h l =
+            let q = division_is y at h in
+            let w = least_is ws x e in
+            (subst (IsLeastOf vs) q (least_is vs y f), λ n k. let m = w.least n k in omega (arith, m, q))
+        division_first (TooLarge n) h l = cc
+
+pub width_refusal_is : WidthRefusalIs
+width_refusal_is d l r h = go r (otherwise_some (first_found find 0 d.processes) (too_large d) r h)
+  where
+    find : ℕ → Process → Option WidthRefusal
+    find p process = earlier (least (wide_in process)) (least (divisions_in process))
+
+    fit_none : (x : Process) → fits_process x ≡ true → earlier (least (wide_in x)) (least (divisions_in x)) ≡ None
+    fit_none x f = rw (wide_none x f, divisions_none x f) refl
+
+    none : (p : ℕ) (x : Process) → slice_get d.processes p ≡ Some x → find p x ≡ None → is_unfit x ≡ false
+    none p x i e =
+        let q = earlier_none (least (wide_in x)) (least (divisions_in x)) e in
+        ap not (process_clear d x (all_at (is_formed_process d) d.processes p x l.formed i) (least_none (wide_in x) q.0) (least_none (divisions_in x) q.1))
+
+    some : (p : ℕ) (x : Process) (a : WidthRefusal) → slice_get d.processes p ≡ Some x → find p x ≡ Some a → is_unfit x ≡ true
+    some p x a i e = by_test (fits_process x) (λ f. absurd (apart (fit_none x f) e)) (λ f. ap not f)
+      where
+        apart : earlier (least (wide_in x)) (least (divisions_in x)) ≡ None → earlier (least (wide_in x)) (least (divisions_in x)) ≡ Some a → ⊥
+        apart e f = cc
+
+    by_process : (r : WidthRefusal) → Found_at d find is_unfit r → IsWidthRefusal d r
+    by_process (TooWide at) f = let q = earlier_is (wide_in f.process) (divisions_in f.process) (TooWide at) f.found in (f.number, f.process, f.first, q.0, q.1)
+    by_process (Division at) f = let q = earlier_is (wide_in f.process) (divisions_in f.process) (Division at) f.found in (f.number, f.process, f.first, q.0, q.1)
+    by_process (TooLarge n) f = absurd (earlier_is (wide_in f.process) (divisions_in f.process) (TooLarge n) f.found)
+
+    large_is : (x y : ℕ) → Some (TooLarge x) ≡ Some (TooLarge y) → x ≡ y
+    large_is x y e = cc
+
+    over : nat_lt 16777216 (size d) ≡ true → 16777216 < size d
+    over t = grind arith
+
+    by_size : (r : WidthRefusal) → first_found find 0 d.processes ≡ None → too_large d ≡ Some r → IsWidthRefusal d r
+    by_size r e f = by_test (nat_lt 16777216 (size d)) (λ t. large r t (subst (λ (c : Bool). where_true c (TooLarge (size d)) ≡ Some r) t f)) (λ t. absurd (small r (subst (λ (c : Bool). where_true c (TooLarge (size d)) ≡ Some r) t f)))
+      where
+        small : (r : WidthRefusal) → where_true false (TooLarge (size d)) ≡ Some r → ⊥
+        small r h = cc
+
+        large : (r : WidthRefusal) → nat_lt 16777216 (size d) ≡ true → Some (TooLarge (size d)) ≡ Some r → IsWidthRefusal d r
+        large (TooWide at) t h = cc
+        large (Division at) t h = cc
+        large (TooLarge n) t h = let q = large_is (size d) n h in (all_fit d 0 d.processes l.formed e, sym q, subst (λ m. 16777216 < m) q (over t))
+
+    go : (r : WidthRefusal) → (first_found find 0 d.processes ≡ Some r) ⊎ ((first_found find 0 d.processes ≡ None) × (too_large d ≡ Some r)) → IsWidthRefusal d r
+    go r (inl e) = by_process r (found_first d find is_unfit r none some e)
+    go r (inr e) = by_size r e.0 e.1
+
+-- ---- blocks
+
+pub mapped_some : {A B : Type 0} (f : A → B) (o : Option A) (y : B) → option_map f o ≡ Some y → (x : A) × (o ≡ Some x) × (f x ≡ y)
+mapped_some f None y h = cc
+mapped_some f (Some x) y h = (x, refl, value h)
+  where
+    value : Some (f x) ≡ Some y → f x ≡ y
+    value h = cc
+
+none_of : (ns : List ℕ) → ns ≡ [] → is_some_of ns ≡ false
+none_of ns h = rw h refl
+
+empty_of : (ns : List ℕ) → is_some_of ns ≡ false → ns ≡ []
+empty_of [] h = refl
+empty_of (n ∷ ns) h = cc
+
+-- the signal of a bit, and its number
+signal_found : (k scope : ℕ) (ss : List Signal) (b : ℕ) → are_numbered k scope ss ≡ true → contains (signals_bits ss) b ≡ true → (i : ℕ) × (s : Signal) × (slice_get ss i ≡ Some s) × (contains (bits_of_signal s) b ≡ true) × (signal_of ss b ≡ k + i)
+signal_found k scope [] b f h = cc
+signal_found k scope (s ∷ ss) b f h =
+    let p = and_both ((s.number == k) && nat_le scope s.scope) (are_numbered (suc k) s.scope ss) f in
+    let q = and_both (s.number == k) (nat_le scope s.scope) p.0 in
+    by_test (contains (bits_of_signal s) b)
+    (λ e. (0, s, refl, e, let n = eqb-true s.number k q.0 in let m = here e in omega (arith, n, m)))
+    (λ e.
+    let r = signal_found (suc k) s.scope ss b p.1 (subst (λ c. (c || contains (signals_bits ss) b) ≡ true) e (sym (contains-append (bits_of_signal s) (signals_bits ss) b) ∙ h)) in
+    (suc r.0, r.1, r.2, r.3, let n = r.4 in let m = later e in omega (arith, n, m)))
+  where
+    here : contains (bits_of_signal s) b ≡ true → signal_of (s ∷ ss) b ≡ s.number
+    here e = rw e refl
+
+    later : contains (bits_of_signal s) b ≡ false → signal_of (s ∷ ss) b ≡ signal_of ss b
+    later e = rw e refl
+
+-- bits are numbered signal by signal
+bits_above : (k : ℕ) (ss : List Signal) (i : ℕ) (s : Signal) (b : ℕ) → have_bits_from k ss ≡ true → slice_get ss i ≡ Some s → contains (bits_of_signal s) b ≡ true → k ≤ b
+bits_above k [] i s b f h m = cc
+bits_above k (x ∷ ss) zero s b f h m =
+    let q = eqb-true x.first k (and_both (x.first == k) (have_bits_from (k + signal_length x) ss) f).0 in
+    let l = count_low x.first (signal_length x) b (subst (λ r. contains (bits_of_signal r) b ≡ true) (sym (some_signal x s h)) m) in omega (arith, q, l)
+  where
+    some_signal : (x y : Signal) → Some x ≡ Some y → x ≡ y
+    some_signal x y e = cc
+bits_above k (x ∷ ss) (suc i) s b f h m = let l = bits_above (k + signal_length x) ss i s b (and_both (x.first == k) (have_bits_from (k + signal_length x) ss) f).1 h m in omega (arith, l)
+
+bits_in_order : (k : ℕ) (ss : List Signal) (i j : ℕ) (s t : Signal) (b c : ℕ) → have_bits_from k ss ≡ true → slice_get ss i ≡ Some s → slice_get ss j ≡ Some t → contains (bits_of_signal s) b ≡ true → contains (bits_of_signal t) c ≡ true → b ≤ c → i ≤ j
+bits_in_order k [] i j s t b c f h g m n l = cc
+bits_in_order k (x ∷ ss) zero j s t b c f h g m n l = omega arith
+bits_in_order k (x ∷ ss) (suc i) zero s t b c f h g m n l =
+    let p = and_both (x.first == k) (have_bits_from (k + signal_length x) ss) f in
+    let q = eqb-true x.first k p.0 in
+    let low = bits_above (k + signal_length x) ss i s b p.1 h m in
+    let high = count_high x.first (signal_length x) c (subst (λ r. contains (bits_of_signal r) c ≡ true) (sym (some_signal x t g)) n) in absurd (omega (arith, q, low, high))
+  where
+    some_signal : (x y : Signal) → Some x ≡ Some y → x ≡ y
+    some_signal x y e = cc
+bits_in_order k (x ∷ ss) (suc i) (suc j) s t b c f h g m n l =
+    let r = bits_in_order (k + signal_length x) ss i j s t b c (and_both (x.first == k) (have_bits_from (k + signal_length x) ss) f).1 h g m n l in omega (arith, r)
+
+pub block_refusal_is : BlockRefusalIs
+block_refusal_is d l r h = go r (found_first d (block_refusal_of d) breaks_block r none some h)
+  where
+    none : (p : ℕ) (x : Process) → slice_get d.processes p ≡ Some x → block_refusal_of d p x ≡ None → breaks_block x ≡ false
+    none p x i e =
+        let q = block_clear d p x e in
+        or_false _ _ (or_false _ _ (none_of (mixed_assigns x) (empty_is (mixed_assigns x) q.0)) (none_of (missing_bits x) (empty_is (missing_bits x) q.1))) (none_of (latches x) (empty_is (latches x) q.2))
+
+    some : (p : ℕ) (x : Process) (a : BlockRefusal) → slice_get d.processes p ≡ Some x → block_refusal_of d p x ≡ Some a → breaks_block x ≡ true
+    some p x a i e = by_test (breaks_block x) (λ t. t) (λ t. absurd (apart (clear t) e))
+      where
+        clear : breaks_block x ≡ false → block_refusal_of d p x ≡ None
+        clear t =
+            let q = or_neither (is_some_of (mixed_assigns x) || is_some_of (missing_bits x)) (is_some_of (latches x)) t in
+            let w = or_neither (is_some_of (mixed_assigns x)) (is_some_of (missing_bits x)) q.0 in
+            rw (empty_of (mixed_assigns x) w.0, empty_of (missing_bits x) w.1, empty_of (latches x) q.1) refl
+
+        apart : block_refusal_of d p x ≡ None → block_refusal_of d p x ≡ Some a → ⊥
+        apart e f = cc
+
+    -- which of the three it is
+    three : (p : ℕ) (x : Process) (r : BlockRefusal) → block_refusal_of d p x ≡ Some r
+        → ((m : ℕ) × (least (mixed_assigns x) ≡ Some m) × (MixedAssign m ≡ r))
+        ⊎ (((m : ℕ) × (mixed_assigns x ≡ []) × (least (missing_bits x) ≡ Some m) × (Sensitivity p (signal_of d.signals m) (process_place x) ≡ r))
+        ⊎ ((m : ℕ) × (mixed_assigns x ≡ []) × (missing_bits x ≡ []) × (least (latches x) ≡ Some m) × (Latch p m (process_place x) ≡ r)))
+    three p x r e = first (otherwise_some (option_map MixedAssign (least (mixed_assigns x))) (otherwise sensitive latched) r e)
+      where
+        sensitive : Option BlockRefusal
+        sensitive = option_map (λ b. Sensitivity p (signal_of d.signals b) (process_place x)) (least (missing_bits x))
+
+        latched : Option BlockRefusal
+        latched = option_map (λ b. Latch p b (process_place x)) (least (latches x))
+
+        Three : Type 0
+        Three = ((m : ℕ) × (least (mixed_assigns x) ≡ Some m) × (MixedAssign m ≡ r))
+            ⊎ (((m : ℕ) × (mixed_assigns x ≡ []) × (least (missing_bits x) ≡ Some m) × (Sensitivity p (signal_of d.signals m) (process_place x) ≡ r))
+            ⊎ ((m : ℕ) × (mixed_assigns x ≡ []) × (missing_bits x ≡ []) × (least (latches x) ≡ Some m) × (Latch p m (process_place x) ≡ r)))
+
+        mapped_none : {A B : Type 0} (f : A → B) (o : Option A) → option_map f o ≡ None → o ≡ None
+        mapped_none f None h = refl
+        mapped_none f (Some x) h = cc
+
+        second : option_map MixedAssign (least (mixed_assigns x)) ≡ None → (sensitive ≡ Some r) ⊎ ((sensitive ≡ None) × (latched ≡ Some r)) → Three
+        second e (inl f) = let m = mapped_some (λ b. Sensitivity p (signal_of d.signals b) (process_place x)) (least (missing_bits x)) r f in inr (inl (m.0, no_least (mixed_assigns x) (mapped_none MixedAssign (least (mixed_assigns x)) e), m.1, m.2))
+        second e (inr f) =
+            let m = mapped_some (λ b. Latch p b (process_place x)) (least (latches x)) r f.1 in
+            inr (inr (m.0, no_least (mixed_assigns x) (mapped_none MixedAssign (least (mixed_assigns x)) e), no_least (missing_bits x) (mapped_none (λ b. Sensitivity p (signal_of d.signals b) (process_place x)) (least (missing_bits x)) f.0), m.1, m.2))
+
+        first : (option_map MixedAssign (least (mixed_assigns x)) ≡ Some r) ⊎ ((option_map MixedAssign (least (mixed_assigns x)) ≡ None) × (otherwise sensitive latched ≡ Some r)) → Three
+        first (inl f) = let m = mapped_some MixedAssign (least (mixed_assigns x)) r f in inl (m.0, m.1, m.2)
+        first (inr f) = second f.0 (otherwise_some sensitive latched r f.1)
+
+    same_mixed : (x y : ℕ) → MixedAssign x ≡ MixedAssign y → x ≡ y
+    same_mixed x y e = cc
+
+    same_sensitivity : (p s a q t b : ℕ) → Sensitivity p s a ≡ Sensitivity q t b → (p ≡ q) × (s ≡ t) × (a ≡ b)
+    same_sensitivity p s a q t b e = (cc, cc, cc)
+
+    same_latch : (p s a q t b : ℕ) → Latch p s a ≡ Latch q t b → (p ≡ q) × (s ≡ t) × (a ≡ b)
+    same_latch p s a q t b e = (cc, cc, cc)
+
+    go : (r : BlockRefusal) → Found_at d (block_refusal_of d) breaks_block r → IsBlockRefusal d r
+    go r f = cases r f (three f.number f.process r f.found)
+      where
+        cases : (r : BlockRefusal) (f : Found_at d (block_refusal_of d) breaks_block r)
+            → ((m : ℕ) × (least (mixed_assigns f.process) ≡ Some m) × (MixedAssign m ≡ r))
+            ⊎ (((m : ℕ) × (mixed_assigns f.process ≡ []) × (least (missing_bits f.process) ≡ Some m) × (Sensitivity f.number (signal_of d.signals m) (process_place f.process) ≡ r))
+            ⊎ ((m : ℕ) × (mixed_assigns f.process ≡ []) × (missing_bits f.process ≡ []) × (least (latches f.process) ≡ Some m) × (Latch f.number m (process_place f.process) ≡ r)))
+            → IsBlockRefusal d r
+        cases (MixedAssign at) f (inl m) = (f.number, f.process, f.first, subst (IsLeastOf (mixed_assigns f.process)) (same_mixed m.0 at m.2) (least_is (mixed_assigns f.process) m.0 m.1))
+        cases (MixedAssign at) f (inr (inl m)) = cc
+        cases (MixedAssign at) f (inr (inr m)) = cc
+        cases (Sensitivity p s at) f (inl m) = cc
+        cases (Sensitivity p s at) f (inr (inl m)) =
+            let q = same_sensitivity f.number (signal_of d.signals m.0) (process_place f.process) p s at m.3 in
+            let i = least_is (missing_bits f.process) m.0 m.2 in
+            let w = signal_found 0 0 d.signals m.0 l.numbered (process_bits d f.process m.0 (all_at (is_formed_process d) d.processes f.number f.process l.formed f.first.is) (missing_read f.process m.0 i.there)) in
+            let at_signal : slice_get d.signals s ≡ Some w.1 = subst (λ n. slice_get d.signals n ≡ Some w.1) (let z = w.4 in let y = q.1 in omega (arith, z, y)) w.2 in
+            (f.process, subst (λ n. IsFirstOf d breaks_block n f.process) q.0 f.first, sym q.2, m.1, (m.0, i, (w.1, at_signal, w.3)), λ j t b e c g. bits_in_order 0 d.signals s j w.1 t m.0 b l.bits_numbered at_signal e w.3 c (i.least b g))
+          where
+            missing_read : (x : Process) (b : ℕ) → contains (missing_bits x) b ≡ true → contains (all_reads x ++ (writes_of x ++ waits_of x)) b ≡ true
+            missing_read x b h = contains-left (all_reads x) (writes_of x ++ waits_of x) b (is_read (is_combinational x) h)
+              where
+                without_in : (xs ys : List ℕ) → contains (without xs ys) b ≡ true → contains xs b ≡ true
+                without_in xs ys h = (and_both (contains xs b) (not (contains ys b)) (sym (contains_filter (λ b. not (contains ys b)) xs b) ∙ h)).0
+
+                is_read : (c : Bool) → contains (if c then without (if c then without (all_reads x) (writes_of x) else all_reads x) (signals_bits (wait_signals x)) else []) b ≡ true → contains (all_reads x) b ≡ true
+                is_read true h = without_in (all_reads x) (writes_of x) (without_in (without (all_reads x) (writes_of x)) (signals_bits (wait_signals x)) h)
+                is_read false h = absurd (either_way _ h refl)
+        cases (Sensitivity p s at) f (inr (inr m)) = cc
+        cases (Latch p b at) f (inl m) = cc
+        cases (Latch p b at) f (inr (inl m)) = cc
+        cases (Latch p b at) f (inr (inr m)) =
+            let q = same_latch f.number m.0 (process_place f.process) p b at m.4 in
+            (f.process, subst (λ n. IsFirstOf d breaks_block n f.process) q.0 f.first, sym q.2, m.1, m.2, subst (IsLeastOf (latches f.process)) q.1 (least_is (latches f.process) m.0 m.3))
+
+-- ---- the clock, and time zero
+
+-- where a test at a process gives a refusal, it is found at the first process that passes
+tested_first : {A : Type 0} (d : Design) (test : Process → Bool) (f : ℕ → Process → A) (a : A) → first_found (λ p process. where_true (test process) (f p process)) 0 d.processes ≡ Some a → (p : ℕ) × (process : Process) × IsFirstOf d test p process × (f p process ≡ a)
+tested_first {A} d test f a h =
+    let r = found_first d (λ p process. where_true (test process) (f p process)) test a (λ p x i e. none (test x) (f p x) e) (λ p x b i e. some (test x) (f p x) b e) h in
+    (r.number, r.process, r.first, value (test r.process) (f r.number r.process) r.found)
+  where
+    none : (c : Bool) (x : A) → where_true c x ≡ None → c ≡ false
+    none true x e = cc
+    none false x e = refl
+
+    some : (c : Bool) (x y : A) → where_true c x ≡ Some y → c ≡ true
+    some true x y e = refl
+    some false x y e = cc
+
+    value : (c : Bool) (x : A) → where_true c x ≡ Some a → x ≡ a
+    value true x e = cc
+    value false x e = cc
+
+pub clock_refusal_is : ClockRefusalIs
+clock_refusal_is d name r h = go (clock_input d name) refl r h
+  where
+    reads : Signal → Process → Bool
+    reads clock = reads_clock (clock_nets d clock.first)
+
+    others : Signal → Process → Bool
+    others clock = has_other_clock (clock_nets d clock.first)
+
+    same_read : (p a q b : ℕ) → ClockRead p a ≡ ClockRead q b → (p ≡ q) × (a ≡ b)
+    same_read p a q b e = (cc, cc)
+
+    same_other : (p a q b : ℕ) → NotTheClock p a ≡ NotTheClock q b → (p ≡ q) × (a ≡ b)
+    same_other p a q b e = (cc, cc)
+
+    by_read : (clock : Signal) → clock_input d name ≡ Some clock → (r : ClockRefusal) → (p : ℕ) × (process : Process) × IsFirstOf d (reads_clock (clock_nets d clock.first)) p process × (ClockRead p (process_place process) ≡ r) → IsClockRefusal d name r
+    by_read clock e NoClock m = cc
+    by_read clock e (ClockRead p at) m = let q = same_read m.0 (process_place m.1) p at m.3 in (clock, e, (m.1, subst (λ n. IsFirstOf d (reads_clock (clock_nets d clock.first)) n m.1) q.0 m.2, sym q.1))
+    by_read clock e (NotTheClock p at) m = cc
+
+    by_other : (clock : Signal) → clock_input d name ≡ Some clock → (r : ClockRefusal) → list_any (reads_clock (clock_nets d clock.first)) d.processes ≡ false
+        → (p : ℕ) × (process : Process) × IsFirstOf d (has_other_clock (clock_nets d clock.first)) p process × (NotTheClock p (process_place process) ≡ r) → IsClockRefusal d name r
+    by_other clock e NoClock u m = cc
+    by_other clock e (ClockRead p at) u m = cc
+    by_other clock e (NotTheClock p at) u m = let q = same_other m.0 (process_place m.1) p at m.3 in (clock, e, u, (m.1, subst (λ n. IsFirstOf d (has_other_clock (clock_nets d clock.first)) n m.1) q.0 m.2, sym q.1))
+
+    go : (o : Option Signal) → clock_input d name ≡ o → (r : ClockRefusal) → clock_refusal_by d o ≡ Some r → IsClockRefusal d name r
+    go None e NoClock h = e
+    go None e (ClockRead p at) h = cc
+    go None e (NotTheClock p at) h = cc
+    go (Some clock) e r h =
+        either (otherwise_some (first_found (λ p process. where_true (reads_clock (clock_nets d clock.first) process) (ClockRead p (process_place process))) 0 d.processes) (first_found (λ p process. where_true (has_other_clock (clock_nets d clock.first) process) (NotTheClock p (process_place process))) 0 d.processes) r h)
+      where
+        either : (first_found (λ p process. where_true (reads_clock (clock_nets d clock.first) process) (ClockRead p (process_place process))) 0 d.processes ≡ Some r)
+            ⊎ ((first_found (λ p process. where_true (reads_clock (clock_nets d clock.first) process) (ClockRead p (process_place process))) 0 d.processes ≡ None) × (first_found (λ p process. where_true (has_other_clock (clock_nets d clock.first) process) (NotTheClock p (process_place process))) 0 d.processes ≡ Some r))
+            → IsClockRefusal d name r
+        either (inl m) = by_read clock e r (tested_first d (reads_clock (clock_nets d clock.first)) (λ p process. ClockRead p (process_place process)) r m)
+        either (inr m) =
+            by_other clock e r (any_none (λ p process. where_true (reads_clock (clock_nets d clock.first) process) (ClockRead p (process_place process))) (reads_clock (clock_nets d clock.first)) 0 d.processes (λ p x f. true_where (reads_clock (clock_nets d clock.first) x) (ClockRead p (process_place x)) f) m.0)
+            (tested_first d (has_other_clock (clock_nets d clock.first)) (λ p process. NotTheClock p (process_place process)) r m.1)
+
+pub zero_refusal_is : ZeroRefusalIs
+zero_refusal_is d name r h = go (clock_input d name) refl r h
+  where
+    same_zero : (p a q b : ℕ) → TimeZero p a ≡ TimeZero q b → (p ≡ q) × (a ≡ b)
+    same_zero p a q b e = (cc, cc)
+
+    go : (o : Option Signal) → clock_input d name ≡ o → (r : ZeroRefusal) → zero_refusal_by d o ≡ Some r → IsZeroRefusal d name r
+    go None e r h = cc
+    go (Some clock) e (TimeZero p at) h =
+        let m = tested_first d (sleeps (families d clock.first (level_order d))) (λ p process. TimeZero p (process_place process)) (TimeZero p at) h in
+        let q = same_zero m.0 (process_place m.1) p at m.3 in
+        (clock, e, (m.1, subst (λ n. IsFirstOf d (sleeps (families d clock.first (level_order d))) n m.1) q.0 m.2, sym q.1))

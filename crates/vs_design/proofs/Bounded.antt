@@ -1,0 +1,134 @@
+-- A slot of an accepted design has few steps.
+use Rattle.std.proofs.Common.{◌≡◌, ℕ, ◌+◌, ◌≤◌, Bool, true, false, List, [], ◌∷◌, ◌++◌, ◌||◌, ◌==◌, eqb-true, not, if◌then◌else◌, refl, subst, length, map, Option, Some, None, arith, length-append}
+use Rattle.std.specs.Prelude.{slice_get}
+use Rattle.std.specs.List.{list_any}
+use Rattle.vs_net.specs.Network.{State, Update, Effect, write_all, Network, Kind, AnInput, TheClock, AnAssign, AComb, AClocked, kind, writes, listens, clock_net, updates}
+use Rattle.vs_net.specs.Network as N
+use Rattle.vs_net.specs.Lawful.{IsLawful}
+use Rattle.vs_net.proofs.Bounded.{slots_end}
+use Rattle.vs_net.proofs.Continued.{runs_end}
+use Rattle.vs_four.specs.Logic.{BitList, truth}
+use Rattle.vs_four.specs.Tables.{is_one}
+use Rattle.vs_design.specs.Values.{own_value, value}
+use Rattle.vs_design.specs.Statements.{CaseKind, Statement, Empty, Assignment, Then, If, Case, Arms, Arm, Default, case_width, case_sign}
+use Rattle.vs_design.specs.Bodies.{assignment_writes, effect_of, is_taken, body, arms_body}
+use Rattle.vs_design.specs.Designs.{Process, Continuous, Always, is_clocked, Design, top_inputs}
+use Rattle.vs_design.specs.Footprints.{contains, target_reads, read_bits, waits_of, without, signals_bits, wait_signals, statement_bits}
+use Rattle.vs_design.specs.Networks.{network_of, process_of, writer_of, block_process}
+use Rattle.vs_design.specs.Bounds.{assignments, arms_assignments, wakers, size_of, feeds_of}
+use Rattle.vs_design.specs.Accepted.{IsAcceptedDesign}
+use Rattle.vs_design.specs.Laws.{BoundOfDesign, RunsEndOfDesign}
+use Rattle.vs_design.proofs.Lists.{by_test, or_left, or_right}
+use Rattle.vs_design.proofs.Writes.{either_way}
+use Rattle.vs_design.proofs.BodyExact.{cond_of}
+use Rattle.vs_design.proofs.TimeBits.{any_bit}
+use Rattle.vs_design.proofs.Parts.{by_kind, at_process}
+use Rattle.vs_design.proofs.Lawful.{lawful}
+use Rattle.vs_design.proofs.Weights.{weight, weighed}
+
+-- ---- a run leaves at most one update for each assignment
+
+effect_few : (blocking : Bool) (ws : List N.Write) → length (effect_of blocking ws).updates ≤ 1
+effect_few true ws = omega arith
+effect_few false ws = omega arith
+
+mutual
+  body_few : (st : Statement) (s : State) → length (body st s).updates ≤ assignments st
+  body_few Empty s = omega arith
+  body_few (Assignment place target e blocking) s = effect_few blocking (assignment_writes target e s)
+  body_few (Then first rest) s =
+      let a = body_few first s in
+      let b = body_few rest (write_all s (body first s).writes) in
+      let l = length-append (body first s).updates (body rest (write_all s (body first s).writes)).updates in
+      omega (arith, a, b, l)
+  body_few (If c taken other) s =
+      let a = body_few taken s in
+      let b = body_few other s in
+      cond_of (λ (x : Effect). length x.updates ≤ assignments taken + assignments other) (is_one (truth (own_value c s))) (body taken s) (body other s) (omega (arith, a)) (omega (arith, b))
+  body_few (Case kind subject arms) s = arms_few arms kind (case_width subject arms) (case_sign subject arms) (value subject (case_width subject arms) (case_sign subject arms) s) s
+
+  arms_few : (arms : Arms) (kind : CaseKind) (w : ℕ) (g : Bool) (v : BitList) (s : State) → length (arms_body arms kind w g v s).updates ≤ arms_assignments arms
+  arms_few (Arm items statement rest) kind w g v s =
+      let a = body_few statement s in
+      let b = arms_few rest kind w g v s in
+      cond_of (λ (x : Effect). length x.updates ≤ assignments statement + arms_assignments rest) (is_taken kind w g v items s) (body statement s) (arms_body rest kind w g v s) (omega (arith, a)) (omega (arith, b))
+  arms_few (Default statement) kind w g v s = body_few statement s
+
+any_of : (test : ℕ → Bool) (bs : List ℕ) (b : ℕ) → contains bs b ≡ true → test b ≡ true → list_any test bs ≡ true
+any_of test [] b h k = cc
+any_of test (c ∷ bs) b h k =
+    by_test (b == c)
+    (λ e. or_left (test c) (list_any test bs) (subst (λ m. test m ≡ true) (eqb-true b c e) k))
+    (λ e. or_right (test c) (list_any test bs) (any_of test bs b (subst (λ z. (z || contains bs b) ≡ true) e h) k))
+
+module _ (d : Design) (name : List ℕ) (a : IsAcceptedDesign d name) where
+  abbrev net_work : Network
+  net_work = network_of d a.clock.first
+
+  L : IsLawful net_work
+  L = lawful d name a
+
+  fed : (p q b : ℕ) → listens (net_work.process p) b ≡ true → writes (net_work.process q) b ≡ true → feeds_of d a.clock.first q p ≡ true
+  fed p q b = by_kind d a.clock.first (λ p x. listens x b ≡ true → writes (net_work.process q) b ≡ true → feeds_of d a.clock.first q p ≡ true) (record {
+    assigns = λ p place port target_place target e h l w. rw h (any_of (writes (net_work.process q)) (target_reads target ++ read_bits e) b l w);
+    combs = λ p place star events st h k l w. rw h (any_of (writes (net_work.process q)) (waits_of (Always place star events st)) b l w);
+    clocked = λ p place star events st h k l w. absurd (either_way false l refl);
+    inputs = λ p i s l e f g w. absurd (either_way false g refl);
+    clock = λ p i s l e f g w. absurd (either_way false g refl);
+    none = λ p l w. absurd (either_way false l refl);
+  }) p
+
+  woken_by : (p : ℕ) (o : Option Process) → slice_get d.processes p ≡ o → (b : ℕ) → contains (wakers o) b ≡ true → listens (net_work.process p) b ≡ true
+  woken_by p None h b k = cc
+  woken_by p (Some x) h b k = rw (at_process d.processes (map (writer_of a.clock.first) (top_inputs d)) p x h) (go x k)
+    where
+      go : (x : Process) → contains (wakers (Some x)) b ≡ true → listens (process_of x) b ≡ true
+      go (Continuous place port target_place target e) k = k
+      go (Always place star events st) k = blocks (is_clocked (Always place star events st)) refl k
+        where
+          blocks : (c : Bool) → is_clocked (Always place star events st) ≡ c → contains (waits_of (Always place star events st)) b ≡ true → listens (block_process c (Always place star events st) events st) b ≡ true
+          blocks false e k = k
+          blocks true e k = absurd (either_way false (subst (λ (z : Bool). contains (if not z then without (signals_bits (wait_signals (Always place star events st))) (statement_bits st) else []) b ≡ true) e k) refl)
+
+  fed_only : (p q : ℕ) → feeds_of d a.clock.first q p ≡ true → (b : ℕ) × (listens (net_work.process p) b ≡ true) × (writes (net_work.process q) b ≡ true)
+  fed_only p q h = let r = any_bit (writes (net_work.process q)) (wakers (slice_get d.processes p)) h in (r.0, woken_by p (slice_get d.processes p) refl r.0 r.1, r.2)
+
+  few : (p : ℕ) (s : State) → kind (net_work.process p) ≡ AClocked → length (updates (net_work.process p) s) ≤ size_of d p
+  few p s = by_kind d a.clock.first (λ p x. kind x ≡ AClocked → length (updates x s) ≤ size_of d p) (record {
+    assigns = λ p place port target_place target e h w. cc;
+    combs = λ p place star events st h k w. cc;
+    clocked = λ p place star events st h k w. rw h (body_few st s);
+    inputs = λ p i r l e f w. cc;
+    clock = λ p i r l e f w. cc;
+    none = λ p w. cc;
+  }) p
+
+  master_of : (p : ℕ) (k : Kind) → kind (net_work.process p) ≡ k → ℕ
+  master_of p AClocked e = (L.nets_written (clock_net (net_work.process p)) (L.clock_net_is p e)).0
+  master_of p _ e = 0
+
+  master : ℕ → ℕ
+  master p = master_of p (kind (net_work.process p)) refl
+
+  mastered_by : (p : ℕ) (k : Kind) (e : kind (net_work.process p) ≡ k) → k ≡ AClocked → writes (net_work.process (master_of p k e)) (clock_net (net_work.process p)) ≡ true
+  unfolding master_of
+  mastered_by p AClocked e f = (L.nets_written (clock_net (net_work.process p)) (L.clock_net_is p e)).1
+  mastered_by p _ e f = cc
+
+  mastered : (p : ℕ) → kind (net_work.process p) ≡ AClocked → writes (net_work.process (master p)) (clock_net (net_work.process p)) ≡ true
+  unfolding master
+  mastered p e = mastered_by p (kind (net_work.process p)) refl e
+
+pub bound_of : BoundOfDesign
+bound_of d name a =
+    let n = network_of d a.clock.first in
+    let w = weight n (lawful d name a) (feeds_of d a.clock.first) (size_of d) (master d name a) (fed d name a) (fed_only d name a) (few d name a) (mastered d name a) in
+    let r = λ (p : ℕ). w (master d name a p) in
+    let h = weighed n (lawful d name a) (feeds_of d a.clock.first) (size_of d) (master d name a) (fed d name a) (fed_only d name a) (few d name a) (mastered d name a) in
+    (w, r, h, slots_end n (lawful d name a) (feeds_of d a.clock.first) (size_of d) w r h)
+
+pub runs_end_of : RunsEndOfDesign
+runs_end_of d name a =
+    let n = network_of d a.clock.first in
+    let b = bound_of d name a in
+    runs_end n (lawful d name a) (feeds_of d a.clock.first) (size_of d) b.0 b.1 b.2

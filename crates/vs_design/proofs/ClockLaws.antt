@@ -1,0 +1,204 @@
+-- The clock nets of an accepted design's network.
+use Rattle.std.proofs.Common.{◌≡◌, ℕ, Bool, true, false, List, [], ◌∷◌, ◌++◌, ◌||◌, ◌&&◌, ◌==◌, eqb-true, eq-eqb, not, if◌then◌else◌, ◌⊎◌, inl, inr, refl, sym, ap, ◌∙◌, subst, map, length, Option, Some, None}
+use Rattle.std.specs.Prelude.{slice_get, unwrap_or}
+use Rattle.std.specs.List.{list_any}
+use Rattle.vs_net.specs.Network.{State, Update, Effect, Network, Kind, TheClock, AnAssign, AComb, AClocked, kind, writes, listens, updates, clock_net}
+use Rattle.vs_net.specs.Lawful.{IsClockPort}
+use Rattle.vs_design.specs.Expressions.{Expression}
+use Rattle.vs_design.specs.Statements.{Target, Statement}
+use Rattle.vs_design.specs.Designs.{Event, Process, Continuous, Always, is_clocked, Design}
+use Rattle.vs_design.specs.Footprints.{contains, read_bits, target_reads, target_bits, statement_bits, statement_reads, writes_of, reads_of, waits_of, without}
+use Rattle.vs_design.specs.Clocks.{is_clock_net, port_target, port_targets, clock_nets, is_clock_port, reads_clock, posedge_bit, has_other_clock}
+use Rattle.vs_design.specs.Levels.{level_order}
+use Rattle.vs_design.specs.Networks.{network_of}
+use Rattle.vs_design.specs.Accepted.{IsAcceptedDesign}
+use Rattle.vs_design.proofs.Lists.{by_test, and_both, or_left, or_neither, contains-append, contains-left, contains-right}
+use Rattle.vs_design.proofs.Writes.{either_way}
+use Rattle.vs_design.proofs.Blocks.{body_reads}
+use Rattle.vs_design.proofs.Drivers.{one_process}
+use Rattle.vs_design.proofs.Order.{no_loop}
+use Rattle.vs_design.proofs.Parts.{by_kind, at_process, none_at}
+use Rattle.vs_design.proofs.LawfulParts.{one_writer}
+use Rattle.vs_design.proofs.ClosedNets.{closed}
+use Rattle.vs_design.proofs.ClockNets.{clock_number, clock_process, clock_in, net_is, PortAt, PortFacts, port_at, port_listed, is_port, port_facts, clock_port}
+
+not_both : (a : Bool) → (not a) ≡ false → a ≡ true
+not_both true h = refl
+not_both false h = cc
+
+module _ (d : Design) (name : List ℕ) (a : IsAcceptedDesign d name) where
+  abbrev pub nets : List ℕ
+  nets = clock_nets d a.clock.first
+
+  abbrev pub net_work : Network
+  net_work = network_of d a.clock.first
+
+  pub clock_is : kind (net_work.process (clock_number d name a)) ≡ TheClock
+  clock_is = rw (clock_process d name a) refl
+
+  clock_writes : writes (net_work.process (clock_number d name a)) a.clock.first ≡ true
+  clock_writes = rw (clock_process d name a) (eq-eqb a.clock.first a.clock.first refl)
+
+  pub clock_one : (p : ℕ) → kind (net_work.process p) ≡ TheClock → p ≡ clock_number d name a
+  clock_one p h = one_writer d name a a.clock.first (clock_number d name a) p a.clock.first clock_writes (writes_clock p h)
+    where
+      writes_clock : (p : ℕ) → kind (net_work.process p) ≡ TheClock → writes (net_work.process p) a.clock.first ≡ true
+      writes_clock = by_kind d a.clock.first (λ p x. kind x ≡ TheClock → writes x a.clock.first ≡ true) (record {
+        assigns = λ p place port target_place target e h w. cc;
+        combs = λ p place star events st h k w. cc;
+        clocked = λ p place star events st h k w. cc;
+        inputs = λ p i r l e f w. cc;
+        clock = λ p i r l e f w. eq-eqb a.clock.first a.clock.first refl;
+        none = λ p w. cc;
+      })
+
+  pub clock_bit_is : (p b : ℕ) → kind (net_work.process p) ≡ TheClock → writes (net_work.process p) b ≡ true → contains nets b ≡ true
+  clock_bit_is p b = by_kind d a.clock.first (λ p x. kind x ≡ TheClock → writes x b ≡ true → contains nets b ≡ true) (record {
+    assigns = λ p place port target_place target e h w. cc;
+    combs = λ p place star events st h k w. cc;
+    clocked = λ p place star events st h k w. cc;
+    inputs = λ p i r l e f w. cc;
+    clock = λ p i r l e f w z. subst (λ m. contains nets m ≡ true) (sym (eqb-true b a.clock.first z)) (clock_in (length d.processes) d.processes a.clock.first);
+    none = λ p w. cc;
+  }) p
+
+  pub clock_net_is : (p : ℕ) → kind (net_work.process p) ≡ AClocked → contains nets (clock_net (net_work.process p)) ≡ true
+  clock_net_is p = by_kind d a.clock.first (λ p x. kind x ≡ AClocked → contains nets (clock_net x) ≡ true) (record {
+    assigns = λ p place port target_place target e h w. cc;
+    combs = λ p place star events st h k w. cc;
+    clocked = λ p place star events st h k w. clock_of (posedge_bit events) (not_both (is_clock_net nets (posedge_bit events)) (subst (λ c. (c && not (is_clock_net nets (posedge_bit events))) ≡ false) k (none_at (has_other_clock nets) d.processes p (Always place star events st) a.one_clock h)));
+    inputs = λ p i r l e f w. cc;
+    clock = λ p i r l e f w. cc;
+    none = λ p w. cc;
+  }) p
+    where
+      clock_of : (o : Option ℕ) → is_clock_net nets o ≡ true → contains nets (unwrap_or o 0) ≡ true
+      clock_of None h = cc
+      clock_of (Some b) h = h
+
+  port_written : (b : ℕ) → (q : PortAt nets d.processes b) → contains (writes_of q.process) b ≡ true
+  port_written b q = go q.port
+    where
+      listed : (xs ys : List ℕ) → xs ≡ ys → contains xs b ≡ true → contains ys b ≡ true
+      listed xs ys e h = subst (λ zs. contains zs b ≡ true) e h
+
+      go : PortFacts nets q.process → contains (writes_of q.process) b ≡ true
+      go f =
+          let it : contains (port_target nets (Continuous f.place Rattle.vs_design.specs.Designs.InputPort f.target_place (Rattle.vs_design.specs.Statements.Whole f.signal) f.e)) b ≡ true = subst (λ x. contains (port_target nets x) b ≡ true) f.is q.has_it in
+          let v : port_target nets (Continuous f.place Rattle.vs_design.specs.Designs.InputPort f.target_place (Rattle.vs_design.specs.Statements.Whole f.signal) f.e) ≡ f.signal.first ∷ [] = rw (f.from, f.one_bit) refl in
+          let e : b ≡ f.signal.first = one f.signal.first (listed _ _ v it) in
+          subst (λ x. contains (writes_of x) b ≡ true) (sym f.is) (subst (λ m. contains (Rattle.vs_design.specs.Values.bits_of_signal f.signal) m ≡ true) (sym e) (Rattle.vs_design.proofs.LawfulParts.first_bit f.signal))
+        where
+          one : (n : ℕ) → contains (n ∷ []) b ≡ true → b ≡ n
+          one n h = by_test (b == n) (λ e. eqb-true b n e) (λ e. absurd (either_way (contains [] b) (subst (λ x. (x || false) ≡ true) e h) refl))
+
+  pub nets_written : (b : ℕ) → contains nets b ≡ true → (p : ℕ) × (writes (net_work.process p) b ≡ true) × ((kind (net_work.process p) ≡ TheClock) ⊎ (kind (net_work.process p) ≡ AnAssign))
+  nets_written b h = go (net_is (length d.processes) d.processes a.clock.first b h)
+    where
+      go : (b ≡ a.clock.first) ⊎ (contains (port_targets nets d.processes) b ≡ true) → (p : ℕ) × (writes (net_work.process p) b ≡ true) × ((kind (net_work.process p) ≡ TheClock) ⊎ (kind (net_work.process p) ≡ AnAssign))
+      go (inl e) = (clock_number d name a, subst (λ m. writes (net_work.process (clock_number d name a)) m ≡ true) (sym e) clock_writes, inl clock_is)
+      go (inr k) =
+          let q = port_at nets d.processes b k in
+          let w = port_written b q in
+          let at = at_process d.processes (map (Rattle.vs_design.specs.Networks.writer_of a.clock.first) (Rattle.vs_design.specs.Designs.top_inputs d)) q.number q.process q.is in
+          (q.number, rw at (written q.process w), inr (rw at (rw q.port.is refl)))
+        where
+          written : (x : Process) → contains (writes_of x) b ≡ true → writes (Rattle.vs_design.specs.Networks.process_of x) b ≡ true
+          written (Continuous place port target_place target e) w = w
+          written (Always place star events st) w = blocks (is_clocked (Always place star events st))
+            where
+              blocks : (c : Bool) → writes (Rattle.vs_design.specs.Networks.block_process c (Always place star events st) events st) b ≡ true
+              blocks true = w
+              blocks false = w
+
+  -- what a process that is no port reads is no net
+  unread : (p : ℕ) (x : Process) (b : ℕ) → slice_get d.processes p ≡ Some x → is_clock_port nets x ≡ false → contains nets b ≡ true → contains (reads_of x ++ waits_of x) b ≡ false
+  unread p x b h k n =
+      by_test (contains (reads_of x ++ waits_of x) b)
+      (λ e. absurd (either_way (list_any (contains nets) (reads_of x ++ waits_of x)) (any_of (reads_of x ++ waits_of x) e) (subst (λ c. (not c && list_any (contains nets) (reads_of x ++ waits_of x)) ≡ false) k (none_at (reads_clock nets) d.processes p x a.clock_unread h))))
+      (λ e. e)
+    where
+      any_of : (bs : List ℕ) → contains bs b ≡ true → list_any (contains nets) bs ≡ true
+      any_of [] h = cc
+      any_of (c ∷ bs) h =
+          by_test (b == c)
+          (λ e. or_left (contains nets c) (list_any (contains nets) bs) (subst (λ m. contains nets m ≡ true) (eqb-true b c e) n))
+          (λ e. Rattle.vs_design.proofs.Lists.or_right (contains nets c) (list_any (contains nets) bs) (any_of bs (subst (λ z. (z || contains bs b) ≡ true) e h)))
+
+  first_part : (xs ys : List ℕ) (b : ℕ) → contains (xs ++ ys) b ≡ false → contains xs b ≡ false
+  first_part xs ys b h = (or_neither (contains xs b) (contains ys b) (sym (contains-append xs ys b) ∙ h)).0
+
+  second_part : (xs ys : List ℕ) (b : ℕ) → contains (xs ++ ys) b ≡ false → contains ys b ≡ false
+  second_part xs ys b h = (or_neither (contains xs b) (contains ys b) (sym (contains-append xs ys b) ∙ h)).1
+
+  pub comb_nets : (p b : ℕ) → kind (net_work.process p) ≡ AComb → contains nets b ≡ true → listens (net_work.process p) b ≡ false
+  comb_nets p b = by_kind d a.clock.first (λ p x. kind x ≡ AComb → contains nets b ≡ true → listens x b ≡ false) (record {
+    assigns = λ p place port target_place target e h w. cc;
+    combs = λ p place star events st h k w n. second_part (reads_of (Always place star events st)) (waits_of (Always place star events st)) b (unread p (Always place star events st) b h refl n);
+    clocked = λ p place star events st h k w n. refl;
+    inputs = λ p i r l e f w n. refl;
+    clock = λ p i r l e f w n. refl;
+    none = λ p w n. refl;
+  }) p
+
+  pub clocked_local : (p : ℕ) (s t : State) → kind (net_work.process p) ≡ AClocked → ((b : ℕ) → contains nets b ≡ false → s b ≡ t b) → updates (net_work.process p) s ≡ updates (net_work.process p) t
+  clocked_local p s t = by_kind d a.clock.first (λ p x. kind x ≡ AClocked → ((b : ℕ) → contains nets b ≡ false → s b ≡ t b) → updates x s ≡ updates x t) (record {
+    assigns = λ p place port target_place target e h w z. refl;
+    combs = λ p place star events st h k w z. cc;
+    clocked = λ p place star events st h k w z. ap {B = List Update} (λ (x : Effect). x.updates) (body_reads st s t (λ b q. z b (not_a_net p place star events st h k b q)));
+    inputs = λ p i r l e f w z. refl;
+    clock = λ p i r l e f w z. refl;
+    none = λ p w z. refl;
+  }) p
+    where
+      not_a_net : (p place : ℕ) (star : Bool) (events : List Event) (st : Statement) → slice_get d.processes p ≡ Some (Always place star events st) → is_clocked (Always place star events st) ≡ true → (b : ℕ) → contains (statement_reads st) b ≡ true → contains nets b ≡ false
+      not_a_net p place star events st h k b q =
+          by_test (contains nets b)
+          (λ n.
+          let r : contains (reads_of (Always place star events st)) b ≡ false = first_part (reads_of (Always place star events st)) (waits_of (Always place star events st)) b (unread p (Always place star events st) b h refl n) in
+          absurd (either_way (contains (statement_reads st) b) q (subst (λ (c : Bool). contains (if not c then without (statement_reads st) (statement_bits st) else statement_reads st) b ≡ false) k r)))
+          (λ n. n)
+
+  pub assign_nets : (p : ℕ) → kind (net_work.process p) ≡ AnAssign → IsClockPort (contains nets) (net_work.process p) ⊎ ((b : ℕ) → contains nets b ≡ true → (listens (net_work.process p) b ≡ false) × (writes (net_work.process p) b ≡ false))
+  assign_nets p = by_kind d a.clock.first (λ p x. kind x ≡ AnAssign → IsClockPort (contains nets) x ⊎ ((b : ℕ) → contains nets b ≡ true → (listens x b ≡ false) × (writes x b ≡ false))) (record {
+    assigns = λ p place port target_place target e h w.
+        by_test (is_clock_port nets (Continuous place port target_place target e))
+        (λ k. inl (clock_port nets place target_place port target e (Rattle.vs_design.proofs.ClockNets.port_of nets (Continuous place port target_place target e) (port_facts nets (Continuous place port target_place target e) k).0 (port_facts nets (Continuous place port target_place target e) k).1)
+        (λ b q. closed d.processes a.clock.first b (port_listed nets d.processes p (Continuous place port target_place target e) b h q))
+        (λ b q r. no_loop d (level_order d) [] p (Continuous place port target_place target e) b a.no_cycle refl h refl q (contains-left (target_reads target ++ read_bits e) [] b r))))
+        (λ k. inr (λ b n. (first_part (target_reads target ++ read_bits e) [] b (unread p (Continuous place port target_place target e) b h k n), unwritten p place port target_place target e h k b n)));
+    combs = λ p place star events st h k w. cc;
+    clocked = λ p place star events st h k w. cc;
+    inputs = λ p i r l e f w. cc;
+    clock = λ p i r l e f w. cc;
+    none = λ p w. cc;
+  }) p
+    where
+      unwritten : (p place : ℕ) (port : Rattle.vs_design.specs.Designs.Port) (target_place : ℕ) (target : Target) (e : Expression) → slice_get d.processes p ≡ Some (Continuous place port target_place target e) → is_clock_port nets (Continuous place port target_place target e) ≡ false
+          → (b : ℕ) → contains nets b ≡ true → contains (target_bits target) b ≡ false
+      unwritten p place port target_place target e h k b n =
+          by_test (contains (target_bits target) b)
+          (λ q. absurd (go q (net_is (length d.processes) d.processes a.clock.first b n)))
+          (λ q. q)
+        where
+          at : net_work.process p ≡ Rattle.vs_design.specs.Networks.process_of (Continuous place port target_place target e)
+          at = at_process d.processes (map (Rattle.vs_design.specs.Networks.writer_of a.clock.first) (Rattle.vs_design.specs.Designs.top_inputs d)) p (Continuous place port target_place target e) h
+
+          go : contains (target_bits target) b ≡ true → (b ≡ a.clock.first) ⊎ (contains (port_targets nets d.processes) b ≡ true) → ⊥
+          go q (inl m) =
+              let w : writes (net_work.process p) b ≡ true = rw at q in
+              let same : p ≡ clock_number d name a = one_writer d name a a.clock.first (clock_number d name a) p b (subst (λ m. writes (net_work.process (clock_number d name a)) m ≡ true) (sym m) clock_writes) w in
+              let ka : kind (net_work.process p) ≡ AnAssign = rw at refl in
+              let kc : kind (net_work.process p) ≡ TheClock = subst (λ m. kind (net_work.process m) ≡ TheClock) (sym same) clock_is in
+              apart (kind (net_work.process p)) ka kc
+            where
+              apart : (x : Kind) → x ≡ AnAssign → x ≡ TheClock → ⊥
+              apart x e f = cc
+          go q (inr m) =
+              let r = port_at nets d.processes b m in
+              let same : r.number ≡ p = one_process d p r.number (Continuous place port target_place target e) r.process b a.one_driver h r.is q (port_written b r) in
+              let it : r.process ≡ Continuous place port target_place target e = some_same r.process (Continuous place port target_place target e) (sym r.is ∙ subst (λ m. slice_get d.processes m ≡ Some (Continuous place port target_place target e)) (sym same) h) in
+              either_way (is_clock_port nets (Continuous place port target_place target e)) (subst (λ x. is_clock_port nets x ≡ true) it (is_port nets r.process b r.has_it)) k
+            where
+              some_same : (x y : Process) → Some x ≡ Some y → x ≡ y
+              some_same x y e = cc

@@ -1,0 +1,55 @@
+-- A design is accepted or refused.
+use Rattle.std.proofs.Common.{◌≡◌, true, ◌⊎◌, inl, inr, refl, Option, Some, None}
+use Rattle.vs_design.specs.Levels.{level_order, has_no_cycle}
+use Rattle.vs_design.specs.Accepted.{IsAcceptedDesign}
+use Rattle.vs_design.specs.Refusals.{WidthRefusal, width_refusal, BlockRefusal, block_refusal, DriverRefusal, driver_refusal, ClockRefusal, clock_refusal, ZeroRefusal, zero_refusal, place_at, IsUnrefused}
+use Rattle.vs_design.specs.Answers.{DesignRefusal, OfWidth, OfBlock, OfDriver, OfClock, Cycle, OfZero, first_of, IsRefusedBy, AcceptedOrRefused, NotBoth}
+use Rattle.vs_design.proofs.Lists.{by_test}
+use Rattle.vs_design.proofs.Exactly.{accepted_exactly}
+use Rattle.vs_design.proofs.CycleFound.{order_or_cycle}
+
+pub accepted_or_refused : AcceptedOrRefused
+accepted_or_refused d name l = by_width (width_refusal d) refl
+  where
+    Answer : Type 0
+    Answer = IsAcceptedDesign d name ⊎ ((r : DesignRefusal) × IsRefusedBy d name r)
+
+    by_zero : width_refusal d ≡ None → block_refusal d ≡ None → driver_refusal d ≡ None → clock_refusal d name ≡ None → has_no_cycle d ≡ true → (o : Option ZeroRefusal) → zero_refusal d name ≡ o → Answer
+    by_zero w b r c n (Some z) e = inr (OfZero z, (w, b, r, c, n, e))
+    by_zero w b r c n None e = inl ((accepted_exactly d name l).1 (record { widths = w; blocks = b; drivers = r; clocks = c; no_cycle = n; zero = e }))
+
+    by_cycle : width_refusal d ≡ None → block_refusal d ≡ None → driver_refusal d ≡ None → clock_refusal d name ≡ None → Answer
+    by_cycle w b r c =
+        by_test (has_no_cycle d)
+        (λ n. by_zero w b r c n (zero_refusal d name) refl)
+        (λ n. let q = (order_or_cycle d).found n in inr (Cycle q.0 (place_at d.processes (first_of q.0)), (w, b, r, c, q.1, refl)))
+
+    by_clock : width_refusal d ≡ None → block_refusal d ≡ None → driver_refusal d ≡ None → (o : Option ClockRefusal) → clock_refusal d name ≡ o → Answer
+    by_clock w b r (Some c) e = inr (OfClock c, (w, b, r, e))
+    by_clock w b r None e = by_cycle w b r e
+
+    by_driver : width_refusal d ≡ None → block_refusal d ≡ None → (o : Option DriverRefusal) → driver_refusal d ≡ o → Answer
+    by_driver w b (Some r) e = inr (OfDriver r, (w, b, e))
+    by_driver w b None e = by_clock w b e (clock_refusal d name) refl
+
+    by_block : width_refusal d ≡ None → (o : Option BlockRefusal) → block_refusal d ≡ o → Answer
+    by_block w (Some b) e = inr (OfBlock b, (w, e))
+    by_block w None e = by_driver w e (driver_refusal d) refl
+
+    by_width : (o : Option WidthRefusal) → width_refusal d ≡ o → Answer
+    by_width (Some w) e = inr (OfWidth w, e)
+    by_width None e = by_block e (block_refusal d) refl
+
+none_some : {A : Type 0} (o : Option A) (x : A) → o ≡ None → o ≡ Some x → ⊥
+none_some o x e f = cc
+
+pub not_both : NotBoth
+not_both d name a r h = go r h ((accepted_exactly d name a.lawful).0 a)
+  where
+    go : (r : DesignRefusal) → IsRefusedBy d name r → IsUnrefused d name → ⊥
+    go (OfWidth x) h u = none_some (width_refusal d) x u.widths h
+    go (OfBlock x) h u = none_some (block_refusal d) x u.blocks h.1
+    go (OfDriver x) h u = none_some (driver_refusal d) x u.drivers h.2
+    go (OfClock x) h u = none_some (clock_refusal d name) x u.clocks h.3
+    go (Cycle processes at) h u = (order_or_cycle d).none (level_order d) u.no_cycle processes h.4
+    go (OfZero x) h u = none_some (zero_refusal d name) x u.zero h.5

@@ -1,0 +1,298 @@
+-- The worked designs, by computation.
+use Rattle.std.proofs.Common.{[], ◌∷◌, refl, lit≤}
+use Rattle.vs_net.specs.Network.{write_all, is_written, flatten}
+use Rattle.vs_net.specs.Queue.{change, changes, is_held}
+use Rattle.vs_design.specs.Accepted.{IsAcceptedDesign}
+use Rattle.vs_design.specs.Cycles.{IsCycle, Feeds}
+use Rattle.vs_design.specs.ExampleParts.{clk, clk_signal}
+use Rattle.vs_design.specs.ExampleDesigns.{DesignsComputed, and_gate, counter, if_and_choice, three_registers, woken, set_once, chain, quiet, port, adder, clocked_instance, sum}
+use Rattle.vs_design.specs.ExampleRefusals.{RefusalsComputed, loop}
+
+and_gate_is_accepted : IsAcceptedDesign and_gate clk
+and_gate_is_accepted = record {
+  lawful = record { scopes = refl; numbered = refl; bits_numbered = refl; declared = refl; formed = refl; few_bits = lit≤ tt; few_processes = lit≤ tt };
+  fit = refl;
+  small = lit≤ tt;
+  unmixed = refl;
+  sensitive = refl;
+  no_latch = refl;
+  one_driver = refl;
+  clock = clk_signal;
+  clock_found = refl;
+  clock_unread = refl;
+  one_clock = refl;
+  no_cycle = refl;
+  awake = refl;
+}
+
+counter_is_accepted : IsAcceptedDesign counter clk
+counter_is_accepted = record {
+  lawful = record { scopes = refl; numbered = refl; bits_numbered = refl; declared = refl; formed = refl; few_bits = lit≤ tt; few_processes = lit≤ tt };
+  fit = refl;
+  small = lit≤ tt;
+  unmixed = refl;
+  sensitive = refl;
+  no_latch = refl;
+  one_driver = refl;
+  clock = clk_signal;
+  clock_found = refl;
+  clock_unread = refl;
+  one_clock = refl;
+  no_cycle = refl;
+  awake = refl;
+}
+
+if_and_choice_is_accepted : IsAcceptedDesign if_and_choice clk
+if_and_choice_is_accepted = record {
+  lawful = record { scopes = refl; numbered = refl; bits_numbered = refl; declared = refl; formed = refl; few_bits = lit≤ tt; few_processes = lit≤ tt };
+  fit = refl;
+  small = lit≤ tt;
+  unmixed = refl;
+  sensitive = refl;
+  no_latch = refl;
+  one_driver = refl;
+  clock = clk_signal;
+  clock_found = refl;
+  clock_unread = refl;
+  one_clock = refl;
+  no_cycle = refl;
+  awake = refl;
+}
+
+three_registers_is_accepted : IsAcceptedDesign three_registers clk
+three_registers_is_accepted = record {
+  lawful = record { scopes = refl; numbered = refl; bits_numbered = refl; declared = refl; formed = refl; few_bits = lit≤ tt; few_processes = lit≤ tt };
+  fit = refl;
+  small = lit≤ tt;
+  unmixed = refl;
+  sensitive = refl;
+  no_latch = refl;
+  one_driver = refl;
+  clock = clk_signal;
+  clock_found = refl;
+  clock_unread = refl;
+  one_clock = refl;
+  no_cycle = refl;
+  awake = refl;
+}
+
+woken_is_accepted : IsAcceptedDesign woken clk
+woken_is_accepted = record {
+  lawful = record { scopes = refl; numbered = refl; bits_numbered = refl; declared = refl; formed = refl; few_bits = lit≤ tt; few_processes = lit≤ tt };
+  fit = refl;
+  small = lit≤ tt;
+  unmixed = refl;
+  sensitive = refl;
+  no_latch = refl;
+  one_driver = refl;
+  clock = clk_signal;
+  clock_found = refl;
+  clock_unread = refl;
+  one_clock = refl;
+  no_cycle = refl;
+  awake = refl;
+}
+
+set_once_is_accepted : IsAcceptedDesign set_once clk
+set_once_is_accepted = record {
+  lawful = record { scopes = refl; numbered = refl; bits_numbered = refl; declared = refl; formed = refl; few_bits = lit≤ tt; few_processes = lit≤ tt };
+  fit = refl;
+  small = lit≤ tt;
+  unmixed = refl;
+  sensitive = refl;
+  no_latch = refl;
+  one_driver = refl;
+  clock = clk_signal;
+  clock_found = refl;
+  clock_unread = refl;
+  one_clock = refl;
+  no_cycle = refl;
+  awake = refl;
+}
+
+chain_is_accepted : IsAcceptedDesign chain clk
+chain_is_accepted = record {
+  lawful = record { scopes = refl; numbered = refl; bits_numbered = refl; declared = refl; formed = refl; few_bits = lit≤ tt; few_processes = lit≤ tt };
+  fit = refl;
+  small = lit≤ tt;
+  unmixed = refl;
+  sensitive = refl;
+  no_latch = refl;
+  one_driver = refl;
+  clock = clk_signal;
+  clock_found = refl;
+  clock_unread = refl;
+  one_clock = refl;
+  no_cycle = refl;
+  awake = refl;
+}
+
+quiet_is_accepted : IsAcceptedDesign quiet clk
+quiet_is_accepted = record {
+  lawful = record { scopes = refl; numbered = refl; bits_numbered = refl; declared = refl; formed = refl; few_bits = lit≤ tt; few_processes = lit≤ tt };
+  fit = refl;
+  small = lit≤ tt;
+  unmixed = refl;
+  sensitive = refl;
+  no_latch = refl;
+  one_driver = refl;
+  clock = clk_signal;
+  clock_found = refl;
+  clock_unread = refl;
+  one_clock = refl;
+  no_cycle = refl;
+  awake = refl;
+}
+
+port_is_accepted : IsAcceptedDesign port clk
+port_is_accepted = record {
+  lawful = record { scopes = refl; numbered = refl; bits_numbered = refl; declared = refl; formed = refl; few_bits = lit≤ tt; few_processes = lit≤ tt };
+  fit = refl;
+  small = lit≤ tt;
+  unmixed = refl;
+  sensitive = refl;
+  no_latch = refl;
+  one_driver = refl;
+  clock = clk_signal;
+  clock_found = refl;
+  clock_unread = refl;
+  one_clock = refl;
+  no_cycle = refl;
+  awake = refl;
+}
+
+adder_is_accepted : IsAcceptedDesign adder clk
+adder_is_accepted = record {
+  lawful = record { scopes = refl; numbered = refl; bits_numbered = refl; declared = refl; formed = refl; few_bits = lit≤ tt; few_processes = lit≤ tt };
+  fit = refl;
+  small = lit≤ tt;
+  unmixed = refl;
+  sensitive = refl;
+  no_latch = refl;
+  one_driver = refl;
+  clock = clk_signal;
+  clock_found = refl;
+  clock_unread = refl;
+  one_clock = refl;
+  no_cycle = refl;
+  awake = refl;
+}
+
+clocked_instance_is_accepted : IsAcceptedDesign clocked_instance clk
+clocked_instance_is_accepted = record {
+  lawful = record { scopes = refl; numbered = refl; bits_numbered = refl; declared = refl; formed = refl; few_bits = lit≤ tt; few_processes = lit≤ tt };
+  fit = refl;
+  small = lit≤ tt;
+  unmixed = refl;
+  sensitive = refl;
+  no_latch = refl;
+  one_driver = refl;
+  clock = clk_signal;
+  clock_found = refl;
+  clock_unread = refl;
+  one_clock = refl;
+  no_cycle = refl;
+  awake = refl;
+}
+
+sum_is_accepted : IsAcceptedDesign sum clk
+sum_is_accepted = record {
+  lawful = record { scopes = refl; numbered = refl; bits_numbered = refl; declared = refl; formed = refl; few_bits = lit≤ tt; few_processes = lit≤ tt };
+  fit = refl;
+  small = lit≤ tt;
+  unmixed = refl;
+  sensitive = refl;
+  no_latch = refl;
+  one_driver = refl;
+  clock = clk_signal;
+  clock_found = refl;
+  clock_unread = refl;
+  one_clock = refl;
+  no_cycle = refl;
+  awake = refl;
+}
+
+loop_is_cycle : IsCycle loop (0 ∷ 1 ∷ [])
+loop_is_cycle = ((feeds_01, feeds_10), (refl, (refl, tt)), (lit≤ tt, tt))
+  where
+    feeds_01 : Feeds loop 0 1
+    feeds_01 = record { from = _; to = _; from_is = refl; to_is = refl; from_settles = refl; to_settles = refl; fed = refl }
+
+    feeds_10 : Feeds loop 1 0
+    feeds_10 = record { from = _; to = _; from_is = refl; to_is = refl; from_settles = refl; to_settles = refl; fed = refl }
+
+pub designs_computed : DesignsComputed
+unfolding change changes is_held write_all is_written flatten
+designs_computed = record {
+  and_gate_size = refl;
+  and_gate_accepted = and_gate_is_accepted;
+  and_gate_ends = refl;
+  counter_size = refl;
+  counter_accepted = counter_is_accepted;
+  counter_ends = refl;
+  if_and_choice_size = refl;
+  if_and_choice_accepted = if_and_choice_is_accepted;
+  if_and_choice_ends = refl;
+  three_registers_size = refl;
+  three_registers_accepted = three_registers_is_accepted;
+  three_registers_ends = refl;
+  woken_size = refl;
+  woken_accepted = woken_is_accepted;
+  woken_ends = refl;
+  set_once_size = refl;
+  set_once_accepted = set_once_is_accepted;
+  set_once_ends = refl;
+  chain_size = refl;
+  chain_accepted = chain_is_accepted;
+  chain_ends = refl;
+  quiet_size = refl;
+  quiet_accepted = quiet_is_accepted;
+  quiet_ends = refl;
+  port_size = refl;
+  port_accepted = port_is_accepted;
+  port_ends = refl;
+  chain_order = refl;
+  adder_size = refl;
+  adder_reads = refl;
+  adder_writes = refl;
+  adder_accepted = adder_is_accepted;
+  adder_ends = refl;
+  product_size = refl;
+  clocked_instance_size = refl;
+  clocked_instance_accepted = clocked_instance_is_accepted;
+  clocked_instance_nets = refl;
+  clocked_instance_ends = refl;
+  sum_size = refl;
+  sum_accepted = sum_is_accepted;
+  sum_ends = refl;
+  quiet_register = refl;
+  quiet_block = refl;
+  woken_input = refl;
+  woken_net = refl;
+  product_ends = refl;
+}
+
+pub refusals_computed : RefusalsComputed
+refusals_computed = record {
+  too_large_refused = refl;
+  sleeping_refused = refl;
+  stirred_refused = refl;
+  loop_refused = refl;
+  loop_is_one = loop_is_cycle;
+  gated_refused = refl;
+  other_clock_refused = refl;
+  no_clock_refused = refl;
+  too_wide_refused = refl;
+  divided_refused = refl;
+  wide_division_refused = refl;
+  by_process_refused = refl;
+  driven_twice_refused = refl;
+  twice_in_one_refused = refl;
+  latch_refused = refl;
+  unlisted_refused = refl;
+  mixed_first_refused = refl;
+  list_second_refused = refl;
+  lesser_block_refused = refl;
+  first_in_text_refused = refl;
+  and_gate_passes = record { widths = refl; blocks = refl; drivers = refl; clocks = refl; no_cycle = refl; zero = refl };
+}

@@ -1,0 +1,195 @@
+-- An accepted design's processes write their own bits alone, by what they listen to.
+use Rattle.std.proofs.Common.{◌≡◌, ◌≢◌, ℕ, zero, suc, ◌+◌, ◌≤◌, Bool, true, false, List, [], ◌++◌, ◌&&◌, ◌==◌, eqb-true, eq-eqb, not, inl, inr, refl, sym, ap, ◌∙◌, subst, length, Option, Some, None, arith}
+use Rattle.std.specs.Prelude.{slice_get}
+use Rattle.std.specs.List.{list_any}
+use Rattle.vs_four.specs.declared.Bit4.TheVariants.{X}
+use Rattle.vs_net.specs.Network.{State, Write, Effect, is_written, flatten, AnAssign, AComb, AClocked, kind, writes, listens, made, updates}
+use Rattle.vs_net.specs.Lawful.{Settles, IsUnknown}
+use Rattle.vs_design.specs.Expressions.{Signal, signal_length, Expression}
+use Rattle.vs_design.specs.Values.{count_from, bits_of_signal}
+use Rattle.vs_design.specs.Statements.{Target}
+use Rattle.vs_design.specs.Bodies.{assignment_writes}
+use Rattle.vs_design.specs.Designs.{Process, Continuous, Always, Design, top_inputs}
+use Rattle.vs_design.specs.Footprints.{contains, read_bits, target_reads, target_bits, writes_of, net_bits, input_bits, variable_bits, is_input, is_net, is_variable}
+use Rattle.vs_design.specs.Levels.{level_order}
+use Rattle.vs_design.specs.Networks.{network_of, idle_value}
+use Rattle.vs_design.specs.Accepted.{IsAcceptedDesign}
+use Rattle.vs_design.proofs.Lists.{by_test, or_left, contains-left}
+use Rattle.vs_design.proofs.Writes.{either_way, assignment_within, assignment_assigns}
+use Rattle.vs_design.proofs.BodyExact.{body_within, body_updates, body_writes}
+use Rattle.vs_design.proofs.BodyLocal.{assignment_local}
+use Rattle.vs_design.proofs.Blocks.{block_writes, block_reads}
+use Rattle.vs_design.proofs.Drivers.{one_process}
+use Rattle.vs_design.proofs.Signals.{kinds_apart, member_bits, one_signal}
+use Rattle.vs_design.proofs.Order.{no_loop}
+use Rattle.vs_design.proofs.Along.{constant_assigns}
+use Rattle.vs_design.proofs.Parts.{by_kind}
+use Rattle.vs_design.proofs.Facts.{assign_facts, block_facts, comb_facts, clocked_unmixed}
+
+pub assign_exact : (t : Target) (e : Expression) (s : State) (b : ℕ) → Rattle.vs_design.specs.Elaborated.has_constant_selects t ≡ true → Rattle.vs_design.specs.Fits.fits_target t ≡ true → is_written (assignment_writes t e s) b ≡ contains (target_bits t) b
+assign_exact t e s b c f =
+    by_test (contains (target_bits t) b)
+    (λ q. assignment_assigns t e s b (subst (λ xs. contains xs b ≡ true) (sym (constant_assigns t c)) q) ∙ sym q)
+    (λ q. none (is_written (assignment_writes t e s) b) refl q)
+  where
+    none : (x : Bool) → is_written (assignment_writes t e s) b ≡ x → contains (target_bits t) b ≡ false → is_written (assignment_writes t e s) b ≡ contains (target_bits t) b
+    none true p q = absurd (either_way (contains (target_bits t) b) (assignment_within t e s b f p) q)
+    none false p q = p ∙ sym q
+
+module _ (d : Design) (name : List ℕ) (a : IsAcceptedDesign d name) (c : ℕ) where
+  pub exact : (p b : ℕ) (s : State) → Settles (kind ((network_of d c).process p)) → is_written (made ((network_of d c).process p) s) b ≡ writes ((network_of d c).process p) b
+  exact p b s = by_kind d c (λ p x. Settles (kind x) → is_written (made x s) b ≡ writes x b) (record {
+    assigns = λ p place port target_place target e h k. let f = assign_facts d name a p place port target_place target e h in assign_exact target e s b f.constant f.fit_target;
+    combs = λ p place star events st h k z. let f = comb_facts d name a p place star events st h k in let g = block_facts d name a p place star events st h in block_writes st g.fit f.unmixed f.no_latch s b;
+    clocked = λ p place star events st h k z. absurd z;
+    inputs = λ p i r l e f z. absurd z;
+    clock = λ p i r l e f z. absurd z;
+    none = λ p z. absurd z;
+  }) p
+
+  pub local : (p : ℕ) (s t : State) → Settles (kind ((network_of d c).process p)) → ((b : ℕ) → listens ((network_of d c).process p) b ≡ true → s b ≡ t b) → made ((network_of d c).process p) s ≡ made ((network_of d c).process p) t
+  local p s t = by_kind d c (λ p x. Settles (kind x) → ((b : ℕ) → listens x b ≡ true → s b ≡ t b) → made x s ≡ made x t) (record {
+    assigns = λ p place port target_place target e h k z. assignment_local target e s t z;
+    combs = λ p place star events st h k y z. let f = comb_facts d name a p place star events st h k in ap {B = List Write} (λ (x : Effect). x.writes) (block_reads st f.unmixed f.no_latch s t (λ b q. z b (f.waits b q)));
+    clocked = λ p place star events st h k z. absurd z;
+    inputs = λ p i r l e f z. absurd z;
+    clock = λ p i r l e f z. absurd z;
+    none = λ p z. absurd z;
+  }) p
+
+  pub apart : (p b : ℕ) → writes ((network_of d c).process p) b ≡ true → listens ((network_of d c).process p) b ≡ false
+  apart p b = by_kind d c (λ p x. writes x b ≡ true → listens x b ≡ false) (record {
+    assigns = λ p place port target_place target e h w.
+        by_test (contains (target_reads target ++ read_bits e) b)
+        (λ q. absurd (no_loop d (level_order d) [] p (Continuous place port target_place target e) b a.no_cycle refl h refl w (contains-left (target_reads target ++ read_bits e) [] b q)))
+        (λ q. q);
+    combs = λ p place star events st h k w. (comb_facts d name a p place star events st h k).apart b w;
+    clocked = λ p place star events st h k w. refl;
+    inputs = λ p i r l e f w. refl;
+    clock = λ p i r l e f w. refl;
+    none = λ p w. refl;
+  }) p
+
+  pub comb_updates : (p : ℕ) (s : State) → kind ((network_of d c).process p) ≡ AComb → updates ((network_of d c).process p) s ≡ []
+  comb_updates p s = by_kind d c (λ p x. kind x ≡ AComb → updates x s ≡ []) (record {
+    assigns = λ p place port target_place target e h w. refl;
+    combs = λ p place star events st h k w. body_updates st s (comb_facts d name a p place star events st h k).unmixed;
+    clocked = λ p place star events st h k w. cc;
+    inputs = λ p i r l e f w. refl;
+    clock = λ p i r l e f w. refl;
+    none = λ p w. refl;
+  }) p
+
+  pub clocked_writes : (p : ℕ) (s : State) → kind ((network_of d c).process p) ≡ AClocked → made ((network_of d c).process p) s ≡ []
+  clocked_writes p s = by_kind d c (λ p x. kind x ≡ AClocked → made x s ≡ []) (record {
+    assigns = λ p place port target_place target e h w. cc;
+    combs = λ p place star events st h k w. cc;
+    clocked = λ p place star events st h k w. body_writes st s (clocked_unmixed d name a p place star events st h k);
+    inputs = λ p i r l e f w. refl;
+    clock = λ p i r l e f w. refl;
+    none = λ p w. refl;
+  }) p
+
+  pub clocked_own : (p b : ℕ) (s : State) → kind ((network_of d c).process p) ≡ AClocked → is_written (flatten (updates ((network_of d c).process p) s)) b ≡ true → writes ((network_of d c).process p) b ≡ true
+  clocked_own p b s = by_kind d c (λ p x. kind x ≡ AClocked → is_written (flatten (updates x s)) b ≡ true → writes x b ≡ true) (record {
+    assigns = λ p place port target_place target e h w. cc;
+    combs = λ p place star events st h k w. cc;
+    clocked = λ p place star events st h k w q. body_within st s (block_facts d name a p place star events st h).fit b (inr q);
+    inputs = λ p i r l e f w. cc;
+    clock = λ p i r l e f w. cc;
+    none = λ p w. cc;
+  }) p
+
+-- ---- one writer
+
+-- a bit that a process of the network writes, and who that is
+pub data Writer (d : Design) (c p b : ℕ) : Type 0 where
+  by_process : (x : Process) → slice_get d.processes p ≡ Some x → contains (writes_of x) b ≡ true → Writer d c p b
+  by_input : (i : ℕ) (s : Signal) → p ≡ length d.processes + i → slice_get (top_inputs d) i ≡ Some s → contains (bits_of_signal s) b ≡ true → Writer d c p b
+
+pub listed : (bs : List ℕ) (b : ℕ) → list_any (λ c. b == c) bs ≡ true → contains bs b ≡ true
+listed bs b h = h
+
+pub positive : (s : Signal) → 1 ≤ signal_length s
+positive s = lengths s.range
+  where
+    sizes : (r : Rattle.vs_four.specs.declared.Range.Range) → 1 ≤ Rattle.vs_four.specs.Selects.range_length r
+    sizes r = by_test (Rattle.vs_four.specs.Selects.is_descending r) (λ e. rw e (omega arith)) (λ e. rw e (omega arith))
+
+    lengths : (r : Option Rattle.vs_four.specs.declared.Range.Range) → 1 ≤ Rattle.vs_design.specs.Expressions.range_or_one r
+    lengths None = omega arith
+    lengths (Some r) = sizes r
+
+pub first_bit : (s : Signal) → contains (bits_of_signal s) s.first ≡ true
+first_bit s = go (signal_length s) (positive s)
+  where
+    go : (n : ℕ) → 1 ≤ n → contains (count_from s.first n) s.first ≡ true
+    go zero h = absurd (omega arith)
+    go (suc n) h = or_left (s.first == s.first) _ (eq-eqb s.first s.first refl)
+
+pub writer : (d : Design) (c p b : ℕ) → writes ((network_of d c).process p) b ≡ true → Writer d c p b
+writer d c p b = by_kind d c (λ p x. writes x b ≡ true → Writer d c p b) (record {
+  assigns = λ p place port target_place target e h w. by_process (Continuous place port target_place target e) h w;
+  combs = λ p place star events st h k w. by_process (Always place star events st) h w;
+  clocked = λ p place star events st h k w. by_process (Always place star events st) h w;
+  inputs = λ p i s l e f w. by_input i s l e w;
+  clock = λ p i s l e f w. by_input i s l e (subst (λ m. contains (bits_of_signal s) m ≡ true) (f ∙ sym (eqb-true b c w)) (first_bit s));
+  none = λ p w. cc;
+}) p
+
+module _ (d : Design) (name : List ℕ) (a : IsAcceptedDesign d name) (c : ℕ) where
+  -- inputs, nets and variables share no bits
+  pub nets_not_inputs : (b : ℕ) → contains (net_bits d) b ≡ true → contains (input_bits d) b ≡ true → ⊥
+  nets_not_inputs b = kinds_apart is_net is_input 0 d.signals b (λ s h. go s.net s.input h) a.lawful.bits_numbered
+    where
+      go : (n i : Bool) → (n && not i) ≡ true → i ≡ false
+      go true false h = refl
+      go true true h = sym h
+      go false i h = cc
+
+  pub variables_not_inputs : (b : ℕ) → contains (variable_bits d) b ≡ true → contains (input_bits d) b ≡ true → ⊥
+  variables_not_inputs b = kinds_apart is_variable is_input 0 d.signals b (λ s h. go s.net s.input h) a.lawful.bits_numbered
+    where
+      go : (n i : Bool) → (not n && not i) ≡ true → i ≡ false
+      go false false h = refl
+      go false true h = sym h
+      go true i h = cc
+
+  pub variables_not_nets : (b : ℕ) → contains (variable_bits d) b ≡ true → contains (net_bits d) b ≡ true → ⊥
+  variables_not_nets b = kinds_apart is_variable is_net 0 d.signals b (λ s h. go s.net s.input h) a.lawful.bits_numbered
+    where
+      go : (n i : Bool) → (not n && not i) ≡ true → (n && not i) ≡ false
+      go false i h = refl
+      go true i h = cc
+
+  process_not_input : (p b : ℕ) (x : Process) → slice_get d.processes p ≡ Some x → contains (writes_of x) b ≡ true → contains (input_bits d) b ≡ true → ⊥
+  process_not_input p b (Continuous place port target_place target e) h w = nets_not_inputs b ((assign_facts d name a p place port target_place target e h).nets b w)
+  process_not_input p b (Always place star events st) h w = variables_not_inputs b ((block_facts d name a p place star events st h).variables b w)
+
+  pub one_writer : (p q b : ℕ) → writes ((network_of d c).process p) b ≡ true → writes ((network_of d c).process q) b ≡ true → q ≡ p
+  one_writer p q b g h = go (writer d c p b g) (writer d c q b h)
+    where
+      go : Writer d c p b → Writer d c q b → q ≡ p
+      go (by_process x e w) (by_process y f z) = one_process d p q x y b a.one_driver e f w z
+      go (by_process x e w) (by_input i s l f z) = absurd (process_not_input p b x e w (member_bits (top_inputs d) i s b f z))
+      go (by_input i s l e w) (by_process y f z) = absurd (process_not_input q b y f z (member_bits (top_inputs d) i s b e w))
+      go (by_input i s l e w) (by_input j r m f z) = let k = one_signal (λ s. s.input) 0 d.signals b i j s r a.lawful.bits_numbered e f w z in omega (arith, k)
+
+  idle_of : (b : ℕ) → contains (net_bits d) b ≡ false → idle_value d b ≡ X
+  idle_of b h = rw h refl
+
+  not_net : (b : ℕ) → (contains (net_bits d) b ≡ true → ⊥) → contains (net_bits d) b ≡ false
+  not_net b h = by_test (contains (net_bits d) b) (λ e. absurd (h e)) (λ e. e)
+
+  pub idle_x : (p b : ℕ) → writes ((network_of d c).process p) b ≡ true → kind ((network_of d c).process p) ≢ AnAssign → idle_value d b ≡ X
+  idle_x p b = by_kind d c (λ p x. writes x b ≡ true → kind x ≢ AnAssign → idle_value d b ≡ X) (record {
+    assigns = λ p place port target_place target e h w k. absurd (k refl);
+    combs = λ p place star events st h k w l. idle_of b (not_net b (variables_not_nets b ((block_facts d name a p place star events st h).variables b w)));
+    clocked = λ p place star events st h k w l. idle_of b (not_net b (variables_not_nets b ((block_facts d name a p place star events st h).variables b w)));
+    inputs = λ p i s l e f w k. idle_of b (not_net b (λ n. nets_not_inputs b n (member_bits (top_inputs d) i s b e w)));
+    clock = λ p i s l e f w k. idle_of b (not_net b (λ n. nets_not_inputs b n (member_bits (top_inputs d) i s b e (subst (λ m. contains (bits_of_signal s) m ≡ true) (f ∙ sym (eqb-true b c w)) (first_bit s)))));
+    none = λ p w k. cc;
+  }) p
+
+  pub idle_xz : (b : ℕ) → IsUnknown (idle_value d b)
+  idle_xz b = by_test (contains (net_bits d) b) (λ e. inr (rw e refl)) (λ e. inl (rw e refl))

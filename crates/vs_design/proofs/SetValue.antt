@@ -1,0 +1,268 @@
+-- A value is in its lifted sets.
+use Rattle.std.proofs.Common.{◌≡◌, ℕ, zero, suc, ◌+◌, ◌-◌, ◌*◌, ◌^◌, ◌≤◌, Bool, true, false, List, [], ◌∷◌, ◌++◌, ◌&&◌, if◌then◌else◌, refl, sym, ◌∙◌, subst, map, length, replicate, get_or, Option, Some, None, arith, eqb-true, add-zero, ◌==◌}
+use Rattle.std.specs.Prelude.{int_lt}
+use Rattle.std.specs.List.{list_any, list_all}
+use Rattle.std.proofs.lemmas.List.Folds.{list_all-append}
+use Rattle.std.proofs.lemmas.List.{length-map}
+use Rattle.vs_four.specs.declared.Bit4.{Bit4}
+use Rattle.vs_four.specs.declared.Bit4.TheVariants.{Zero, One, X, Z}
+use Rattle.vs_net.specs.Network.{State}
+use Rattle.vs_four.specs.Logic.{BitList, all_known, map2, reduce_and, reduce_or, reduce_xor, equal, identical, truth}
+use Rattle.vs_four.specs.Tables.{is_known, of_bool, not_bit, and_bit, or_bit, xor_bit, xnor_bit, same_bit}
+use Rattle.vs_four.specs.Lengths.{last_or}
+use Rattle.vs_four.specs.Numbers.{bits_of, number, integer, if_known}
+use Rattle.vs_four.specs.Shifts.{distance, move_up, move_down}
+use Rattle.vs_four.specs.Selects.{Part, range_length, at_place, places, select}
+use Rattle.vs_design.specs.Expressions.{Signal, signal_length, Source, OfSignal, OfConstant, UnaryOp, Plus, Minus, BitNot, LogicalNot, ReduceAnd, ReduceNand, ReduceOr, ReduceNor, ReduceXor, ReduceXnor, Signed, Unsigned, BinaryOp, Add, Subtract, Multiply, Divide, Remainder, BitAnd, BitOr, BitXor, BitXnor, Less, LessEqual, Greater, GreaterEqual, Equal, NotEqual, CaseEqual, CaseNotEqual, LogicalAnd, LogicalOr, ShiftLeft, ShiftRight, ShiftLeftArith, ShiftRightArith, Expression, Literal, Name, Select, Unary, Binary, Choice, Join, Repeat, At, unary_way, way, width, sign, is_constant}
+use Rattle.vs_design.specs.Values.{count_from, bits_of_signal, source_value, apply_unary, apply_binary, left_width, right_width, left_sign, right_sign, value, own_value, constant_value}
+use Rattle.vs_design.specs.Footprints.{contains, source_bits, read_bits, somes}
+use Rattle.vs_design.specs.Bodies.{bits_at}
+use Rattle.vs_design.specs.Sets.{Set4, has, only, any_value, union, image, image2, is_known_set, is_unknown_set, all_of, set_and, set_or, set_xor, arithmetic, set_match, variable}
+use Rattle.vs_design.specs.Lifted.{Family, extend_sets, source_sets, surely_inside, set_select, lift_unary, lift_binary, lift_shift, fill_set, is_left, lift_quotient, lift_operator, lift_of, Lift, FromSets, Moved, Divided, lifted}
+use Rattle.vs_design.specs.Fits.{fits, fits_64, source_length}
+use Rattle.vs_design.specs.TreeLaws.{AllIn, none_in, one_in, InSets, ValueInSets}
+use Rattle.vs_design.proofs.Lists.{by_test, or_right, and_both, contains-left, contains-right, contains_head}
+use Rattle.vs_design.proofs.ReadValue.{value_reads, constant_agree}
+use Rattle.vs_design.proofs.Writes.{constant_index}
+use Rattle.vs_design.proofs.Lengths.{left_fits, right_fits, unary_fits, length_value, length_places, length_bits_of, length_signal}
+use Rattle.vs_design.proofs.SetBits.{image_has, image2_has, all_length, all_map, all_map2, all_fold, all_append, all_last, all_repeat, all_only, all_extend, each_known, some_unknown}
+use Rattle.vs_design.proofs.SetOps.{Each, each_in, each_of_all, bits_of_known, of_bool_known, arithmetic_in, arithmetic_bit, arithmetic_not, shift_by_in, shift_in, choose_in, places_in, places_or_x}
+use Rattle.vs_design.proofs.Indices.{select_sure}
+
+pub sets_left : (xs ys : List ℕ) (sets : Family) (s : State) → InSets (xs ++ ys) sets s → InSets xs sets s
+sets_left xs ys sets s h b k = h b (contains-left xs ys b k)
+
+pub sets_right : (xs ys : List ℕ) (sets : Family) (s : State) → InSets (xs ++ ys) sets s → InSets ys sets s
+sets_right xs ys sets s h b k = h b (contains-right xs ys b k)
+
+pub read_in : (bs : List ℕ) (sets : Family) (s : State) → InSets bs sets s → AllIn (map sets bs) (map s bs)
+read_in [] sets s h = none_in
+read_in (b ∷ bs) sets s h = one_in (h b (contains_head b bs)) (read_in bs sets s (λ c k. h c (or_right (c == b) (contains bs c) k)))
+
+pub and_in : {ss : List Set4} {vs : BitList} → AllIn ss vs → has (set_and ss) (reduce_and vs) ≡ true
+and_in h = all_fold and_bit (only One) One refl h
+
+pub truth_in : {ss : List Set4} {vs : BitList} → AllIn ss vs → has (set_or ss) (truth vs) ≡ true
+truth_in h = all_fold or_bit (only Zero) Zero refl h
+
+pub xor_in : {ss : List Set4} {vs : BitList} → AllIn ss vs → has (set_xor ss) (reduce_xor vs) ≡ true
+xor_in h = all_fold xor_bit (only Zero) Zero refl h
+
+pub match_in : (f : Bit4 → Bit4 → Bit4) {ss ts : List Set4} {us vs : BitList} → AllIn ss us → AllIn ts vs → has (set_match f ss ts) (reduce_and (map2 f us vs)) ≡ true
+match_in f h k = and_in (all_map2 f h k)
+
+-- one bit, and its inverse
+single_in : (s : Set4) (v : Bit4) → has s v ≡ true → AllIn (s ∷ []) (v ∷ [])
+single_in s v h = one_in h none_in
+
+not_in : (s : Set4) (v : Bit4) → has s v ≡ true → AllIn (image not_bit s ∷ []) (not_bit v ∷ [])
+not_in s v h = one_in (image_has not_bit s v h) none_in
+
+known_append : (a b : BitList) → all_known (a ++ b) ≡ (all_known a && all_known b)
+known_append a b = list_all-append is_known a b
+
+unary_in : (op : UnaryOp) {ss : List Set4} {vs : BitList} → AllIn ss vs → AllIn (lift_unary op ss) (apply_unary op vs)
+unary_in Plus h = h
+unary_in Minus {ss} {vs} h = arithmetic_in h (all_known vs) (length ss) (length vs) (bits_of (length vs) (2 ^ length vs - number vs)) (all_length h) refl (length_bits_of (length vs) (2 ^ length vs - number vs)) (bits_of_known (length vs) (2 ^ length vs - number vs))
+unary_in BitNot h = all_map not_bit h
+unary_in LogicalNot {ss} {vs} h = not_in (set_or ss) (truth vs) (truth_in h)
+unary_in ReduceAnd {ss} {vs} h = single_in (set_and ss) (reduce_and vs) (and_in h)
+unary_in ReduceNand {ss} {vs} h = not_in (set_and ss) (reduce_and vs) (and_in h)
+unary_in ReduceOr {ss} {vs} h = single_in (set_or ss) (reduce_or vs) (truth_in h)
+unary_in ReduceNor {ss} {vs} h = not_in (set_or ss) (reduce_or vs) (truth_in h)
+unary_in ReduceXor {ss} {vs} h = single_in (set_xor ss) (reduce_xor vs) (xor_in h)
+unary_in ReduceXnor {ss} {vs} h = not_in (set_xor ss) (reduce_xor vs) (xor_in h)
+unary_in Signed h = h
+unary_in Unsigned h = h
+
+sum_in : {ss ts : List Set4} {us vs : BitList} → AllIn ss us → AllIn ts vs → (n : ℕ) → AllIn (replicate (length ss) (arithmetic (ss ++ ts))) (if_known (all_known us && all_known vs) (length us) (bits_of (length us) n))
+sum_in {ss} {ts} {us} {vs} h k n = arithmetic_in (all_append h k) (all_known us && all_known vs) (length ss) (length us) (bits_of (length us) n) (all_length h) (known_append us vs) (length_bits_of (length us) n) (bits_of_known (length us) n)
+
+swap_known : (a b : Bool) → (a && b) ≡ (b && a)
+swap_known true true = refl
+swap_known true false = refl
+swap_known false true = refl
+swap_known false false = refl
+
+-- operators whose sets come from their operands' sets
+binary_in : (op : BinaryOp) (g : Bool) {ss ts : List Set4} {us vs : BitList} → lift_of op ≡ FromSets → AllIn ss us → AllIn ts vs → AllIn (lift_binary op ss ts) (apply_binary op g us vs)
+binary_in Add g {us} {vs} o h k = sum_in h k (number us + number vs)
+binary_in Subtract g {us} {vs} o h k = sum_in h k ((number us + 2 ^ length us) - number vs)
+binary_in Multiply g {us} {vs} o h k = sum_in h k (number us * number vs)
+binary_in BitAnd g o h k = all_map2 and_bit h k
+binary_in BitOr g o h k = all_map2 or_bit h k
+binary_in BitXor g o h k = all_map2 xor_bit h k
+binary_in BitXnor g o h k = all_map2 xnor_bit h k
+binary_in Less g {ss} {ts} {us} {vs} o h k = one_in (arithmetic_bit (all_append h k) (all_known us && all_known vs) (of_bool (int_lt (integer g us) (integer g vs))) (known_append us vs) (of_bool_known (int_lt (integer g us) (integer g vs)))) none_in
+binary_in GreaterEqual g {ss} {ts} {us} {vs} o h k = one_in (arithmetic_not (all_append h k) (all_known us && all_known vs) (of_bool (int_lt (integer g us) (integer g vs))) (known_append us vs) (of_bool_known (int_lt (integer g us) (integer g vs)))) none_in
+binary_in Greater g {ss} {ts} {us} {vs} o h k = one_in (arithmetic_bit (all_append h k) (all_known vs && all_known us) (of_bool (int_lt (integer g vs) (integer g us))) (known_append us vs ∙ swap_known (all_known us) (all_known vs)) (of_bool_known (int_lt (integer g vs) (integer g us)))) none_in
+binary_in LessEqual g {ss} {ts} {us} {vs} o h k = one_in (arithmetic_not (all_append h k) (all_known vs && all_known us) (of_bool (int_lt (integer g vs) (integer g us))) (known_append us vs ∙ swap_known (all_known us) (all_known vs)) (of_bool_known (int_lt (integer g vs) (integer g us)))) none_in
+binary_in Equal g {ss} {ts} {us} {vs} o h k = single_in (set_match xnor_bit ss ts) (equal us vs) (match_in xnor_bit h k)
+binary_in NotEqual g {ss} {ts} {us} {vs} o h k = not_in (set_match xnor_bit ss ts) (equal us vs) (match_in xnor_bit h k)
+binary_in CaseEqual g {ss} {ts} {us} {vs} o h k = single_in (set_match same_bit ss ts) (identical us vs) (match_in same_bit h k)
+binary_in CaseNotEqual g {ss} {ts} {us} {vs} o h k = not_in (set_match same_bit ss ts) (identical us vs) (match_in same_bit h k)
+binary_in LogicalAnd g {ss} {ts} {us} {vs} o h k = single_in (image2 and_bit (set_or ss) (set_or ts)) (and_bit (truth us) (truth vs)) (image2_has and_bit (set_or ss) (set_or ts) (truth us) (truth vs) (truth_in h) (truth_in k))
+binary_in LogicalOr g {ss} {ts} {us} {vs} o h k = single_in (image2 or_bit (set_or ss) (set_or ts)) (or_bit (truth us) (truth vs)) (image2_has or_bit (set_or ss) (set_or ts) (truth us) (truth vs) (truth_in h) (truth_in k))
+binary_in Divide g o h k = cc
+binary_in Remainder g o h k = cc
+binary_in ShiftLeft g o h k = cc
+binary_in ShiftRight g o h k = cc
+binary_in ShiftLeftArith g o h k = cc
+binary_in ShiftRightArith g o h k = cc
+
+-- shifts: what they bring in is in its set
+shift_value_in : (op : BinaryOp) (g left : Bool) (v : Bit4) (b : Expression) (us : BitList) {ts ss : List Set4} {vs : BitList} → AllIn ts us → AllIn ss vs → has (fill_set op g ss) v ≡ true → is_left op ≡ left → (is_constant b ≡ true → us ≡ constant_value b)
+    → AllIn (lift_shift op g b ts ss) (if_known (all_known us) (length vs) (if left then move_up v (distance (length vs) us) vs else move_down v (distance (length vs) us) vs))
+shift_value_in op g left v b us {ts} {ss} {vs} h k f l c =
+    by_test (is_constant b)
+    (λ e. rw e (rw (l, ← c e)
+    (subst (λ m. AllIn (Rattle.vs_design.specs.Sets.set_shift_by (all_known us) left (fill_set op g ss) (distance m us) ss) (if_known (all_known us) (length vs) (if left then move_up v (distance (length vs) us) vs else move_down v (distance (length vs) us) vs))) (sym (all_length k))
+    (shift_by_in (all_known us) left (fill_set op g ss) v (distance (length vs) us) f k))))
+    (λ e. rw e (shift_in h k left (fill_set op g ss) v (distance (length vs) us) f))
+
+shifted_in : (op : BinaryOp) (g : Bool) (b : Expression) {ts ss : List Set4} {us vs : BitList} → lift_of op ≡ Moved → AllIn ts us → AllIn ss vs → (is_constant b ≡ true → us ≡ constant_value b) → AllIn (lift_shift op g b ts ss) (apply_binary op g vs us)
+shifted_in ShiftLeft g b {us} o h k c = shift_value_in ShiftLeft g true Zero b us h k refl refl c
+shifted_in ShiftLeftArith g b {us} o h k c = shift_value_in ShiftLeftArith g true Zero b us h k refl refl c
+shifted_in ShiftRight g b {us} o h k c = shift_value_in ShiftRight g false Zero b us h k refl refl c
+shifted_in ShiftRightArith true b {us} {vs} o h k c = shift_value_in ShiftRightArith true false (last_or Zero vs) b us h k (all_last (only Zero) Zero refl k) refl c
+shifted_in ShiftRightArith false b {us} o h k c = shift_value_in ShiftRightArith false false Zero b us h k refl refl c
+shifted_in Add g b o h k c = cc
+shifted_in Subtract g b o h k c = cc
+shifted_in Multiply g b o h k c = cc
+shifted_in Divide g b o h k c = cc
+shifted_in Remainder g b o h k c = cc
+shifted_in BitAnd g b o h k c = cc
+shifted_in BitOr g b o h k c = cc
+shifted_in BitXor g b o h k c = cc
+shifted_in BitXnor g b o h k c = cc
+shifted_in Less g b o h k c = cc
+shifted_in LessEqual g b o h k c = cc
+shifted_in Greater g b o h k c = cc
+shifted_in GreaterEqual g b o h k c = cc
+shifted_in Equal g b o h k c = cc
+shifted_in NotEqual g b o h k c = cc
+shifted_in CaseEqual g b o h k c = cc
+shifted_in CaseNotEqual g b o h k c = cc
+shifted_in LogicalAnd g b o h k c = cc
+shifted_in LogicalOr g b o h k c = cc
+
+source_in : (source : Source) (part : Part) (index : Expression) (sets : Family) (s : State) → is_constant index ≡ false → InSets (source_bits source part index) sets s → AllIn (source_sets sets source) (source_value s source)
+source_in (OfConstant bits) part index sets s e h = all_only bits
+source_in (OfSignal signal) part index sets s e h =
+    read_in (bits_of_signal signal) sets s (subst (λ (c : Bool). InSets (if c then somes (bits_at signal (places part (sign index) (constant_value index))) else bits_of_signal signal) sets s) e h)
+
+length_source_value : (s : State) (source : Source) → length (source_value s source) ≡ source_length source
+length_source_value s (OfSignal signal) = length_signal s signal
+length_source_value s (OfConstant bits) = refl
+
+-- a select by an index that varies
+variable_in : (part : Part) (g : Bool) {ts ss : List Set4} {us vs : BitList} → AllIn ts us → AllIn ss vs → range_length part.range ≡ length vs → AllIn (replicate part.width (variable ts (surely_inside part g ts) (all_of ss))) (select part g vs us)
+variable_in part g {ts} {ss} {us} {vs} h k l =
+    each_in (variable ts (surely_inside part g ts) (all_of ss)) part.width (select part g vs us) (length-map (places part g us) (at_place X vs) ∙ length_places part g us)
+    (by_test (list_any is_unknown_set ts)
+    (λ q. rw q (rw (some_unknown h q) (unknown_places part.width vs)))
+    (λ q. rw q
+    (by_test (surely_inside part g ts)
+    (λ r. rw r (select_sure part g (all_of ss) vs h r (sure_known ts us h r) l (each_of_all k)))
+    (λ r. rw r (places_or_x (all_of ss) vs (places part g us) (each_of_all k))))))
+  where
+    unknown_places : (n : ℕ) (vs : BitList) → Each (only X) (map (at_place X vs) (replicate n None))
+    unknown_places zero vs = refl
+    unknown_places (suc n) vs = unknown_places n vs
+
+    sure_known : (ts : List Set4) (us : BitList) → AllIn ts us → surely_inside part g ts ≡ true → all_known us ≡ true
+    sure_known ts us h r = each_known h (and_both (list_all is_known_set ts) (Rattle.vs_design.specs.Lifted.is_inside part g (Rattle.vs_design.specs.Lifted.least_bits g ts)) (and_both (list_all is_known_set ts && Rattle.vs_design.specs.Lifted.is_inside part g (Rattle.vs_design.specs.Lifted.least_bits g ts)) (Rattle.vs_design.specs.Lifted.is_inside part g (Rattle.vs_design.specs.Lifted.greatest_bits g ts)) r).0).0
+
+-- the bits that a constant select takes are in their sets, whatever the others hold
+constant_in : (sets : Family) (s : State) (signal : Signal) (ps : List (Option ℕ)) → InSets (somes (bits_at signal ps)) sets s → AllIn (map (at_place (only X) (map sets (bits_of_signal signal))) ps) (map (at_place X (map s (bits_of_signal signal))) ps)
+constant_in sets s signal [] h = none_in
+constant_in sets s signal (None ∷ ps) h = one_in refl (constant_in sets s signal ps h)
+constant_in sets s signal (Some n ∷ ps) h =
+    one_in (nth_in sets s signal.first n (signal_length signal) (signal.first + n) refl (h (signal.first + n) (contains_head (signal.first + n) (somes (bits_at signal ps)))))
+    (constant_in sets s signal ps (λ b c. h b (or_right (b == (signal.first + n)) (contains (somes (bits_at signal ps)) b) c)))
+  where
+    nth_in : (sets : Family) (s : State) (f n len k : ℕ) → k ≡ f + n → has (sets k) (s k) ≡ true → has (get_or (map sets (count_from f len)) n (only X)) (get_or (map s (count_from f len)) n X) ≡ true
+    nth_in sets s f n zero k e h = refl
+    nth_in sets s f zero (suc len) k e h = subst (λ m. has (sets m) (s m) ≡ true) (e ∙ add-zero f) h
+    nth_in sets s f (suc n) (suc len) k e h = nth_in sets s (suc f) n len k (omega arith) h
+
+constant_source : (source : Source) (part : Part) (index : Expression) (sets : Family) (s : State) → is_constant index ≡ true → InSets (source_bits source part index) sets s
+    → AllIn (map (at_place (only X) (source_sets sets source)) (places part (sign index) (constant_value index))) (map (at_place X (source_value s source)) (places part (sign index) (constant_value index)))
+constant_source (OfConstant bits) part index sets s e h = places_in (places part (sign index) (constant_value index)) (all_only bits)
+constant_source (OfSignal signal) part index sets s e h =
+    constant_in sets s signal (places part (sign index) (constant_value index)) (subst (λ (c : Bool). InSets (if c then somes (bits_at signal (places part (sign index) (constant_value index))) else bits_of_signal signal) sets s) e h)
+
+select_in : (source : Source) (part : Part) (index : Expression) (sets : Family) (s : State) {ts : List Set4} (us : BitList) → AllIn ts us → (is_constant index ≡ true → us ≡ constant_value index) → range_length part.range ≡ source_length source → InSets (source_bits source part index) sets s
+    → AllIn (set_select part index ts (source_sets sets source)) (select part (sign index) (source_value s source) us)
+select_in source part index sets s {ts} us h c l k =
+    by_test (is_constant index)
+    (λ e. rw e (rw (c e) (constant_source source part index sets s e k)))
+    (λ e. rw e (variable_in part (sign index) h (source_in source part index sets s e k) (l ∙ sym (length_source_value s source))))
+
+any_has : (v : Bit4) → has any_value v ≡ true
+any_has Zero = refl
+any_has One = refl
+any_has X = refl
+any_has Z = refl
+
+any_in : (n : ℕ) (vs : BitList) → length vs ≡ n → AllIn (replicate n any_value) vs
+any_in zero [] l = none_in
+any_in zero (v ∷ vs) l = absurd (omega arith)
+any_in (suc n) [] l = absurd (omega arith)
+any_in (suc n) (v ∷ vs) l = one_in (any_has v) (any_in n vs (omega arith))
+
+quotient_in : (e : Expression) (w : ℕ) (g : Bool) (s : State) → width e ≤ w → AllIn (lift_quotient e w g) (value e w g s)
+quotient_in e w g s h =
+    by_test (is_constant e)
+    (λ c. rw c (subst (λ v. AllIn (map only (value e w g (λ b. X))) v) (value_reads e w g (λ b. X) s (constant_agree e c (λ b. X) s)) (all_only (value e w g (λ b. X)))))
+    (λ c. rw c (any_in w (value e w g s) (length_value e w g s h)))
+
+-- of a shift the amount is evaluated by itself
+shift_own : (op : BinaryOp) (w : ℕ) (g : Bool) (a b : Expression) (s : State) → lift_of op ≡ Moved → is_constant b ≡ true → value b (right_width (way op) w (width a) (width b)) (right_sign (way op) g (sign a) (sign b)) s ≡ constant_value b
+shift_own op w g a b s o c = own op o ∙ constant_index b s c
+  where
+    own : (op : BinaryOp) → lift_of op ≡ Moved → value b (right_width (way op) w (width a) (width b)) (right_sign (way op) g (sign a) (sign b)) s ≡ own_value b s
+    own ShiftLeft o = refl
+    own ShiftRight o = refl
+    own ShiftLeftArith o = refl
+    own ShiftRightArith o = refl
+    own _ o = cc
+
+operator_in : (l : Lift) (op : BinaryOp) → lift_of op ≡ l → (w : ℕ) (g : Bool) (a b : Expression) (s : State) {ss ts : List Set4} → width (Binary op a b) ≤ w
+    → AllIn ss (value a (left_width (way op) w (width a) (width b)) (left_sign (way op) g (sign a) (sign b)) s)
+    → AllIn ts (value b (right_width (way op) w (width a) (width b)) (right_sign (way op) g (sign a) (sign b)) s)
+    → AllIn (lift_operator l op w g (left_sign (way op) g (sign a) (sign b)) b (lift_quotient (Binary op a b) w g) ss ts) (value (Binary op a b) w g s)
+operator_in Divided op o w g a b s h ia ib = quotient_in (Binary op a b) w g s h
+operator_in Moved op o w g a b s h ia ib = all_extend w g (shifted_in op (left_sign (way op) g (sign a) (sign b)) b o ib ia (shift_own op w g a b s o))
+operator_in FromSets op o w g a b s h ia ib = all_extend w g (binary_in op (left_sign (way op) g (sign a) (sign b)) o ia ib)
+
+-- where each bit that an expression reads is in its set, its value is in its lifted sets
+pub value_in : ValueInSets
+value_in (Literal bits signed sized) w g sets s f h k = all_only (value (Literal bits signed sized) w g s)
+value_in (Name signal) w g sets s f h k = all_extend w g (read_in (bits_of_signal signal) sets s k)
+value_in (Select source part index) w g sets s f h k =
+    let q = and_both (fits_64 part.width && (range_length part.range == source_length source)) (fits index) f in
+    let r = and_both (fits_64 part.width) (range_length part.range == source_length source) q.0 in
+    all_extend w g (select_in source part index sets s (own_value index s) (value_in index (width index) (sign index) sets s q.1 (omega arith) (sets_right (source_bits source part index) (read_bits index) sets s k))
+    (λ e. constant_index index s e) (eqb-true (range_length part.range) (source_length source) r.1) (sets_left (source_bits source part index) (read_bits index) sets s k))
+value_in (Unary op a) w g sets s f h k =
+    all_extend w g (unary_in op (value_in a (left_width (unary_way op) w (width a) 0) (left_sign (unary_way op) g (sign a) false) sets s f (unary_fits op w (width a) h) k))
+value_in (Binary op a b) w g sets s f h k =
+    let q = and_both (fits a) (fits b) f in
+    let ia = value_in a (left_width (way op) w (width a) (width b)) (left_sign (way op) g (sign a) (sign b)) sets s q.0 (left_fits (way op) w (width a) (width b) h) (sets_left (read_bits a) (read_bits b) sets s k) in
+    let ib = value_in b (right_width (way op) w (width a) (width b)) (right_sign (way op) g (sign a) (sign b)) sets s q.1 (right_fits (way op) w (width a) (width b) h) (sets_right (read_bits a) (read_bits b) sets s k) in
+    operator_in (lift_of op) op refl w g a b s h ia ib
+value_in (Choice c p q) w g sets s f h k =
+    let x = and_both (fits c && fits p) (fits q) f in
+    let y = and_both (fits c) (fits p) x.0 in
+    let kr = sets_right (read_bits c) (read_bits p ++ read_bits q) sets s k in
+    let lp : length (value p w g s) ≡ w = length_value p w g s (omega arith) in
+    let lq : length (value q w g s) ≡ w = length_value q w g s (omega arith) in
+    choose_in (set_or (lifted c (width c) (sign c) sets)) (truth (value c (width c) (sign c) s)) (truth_in (value_in c (width c) (sign c) sets s y.0 (omega arith) (sets_left (read_bits c) (read_bits p ++ read_bits q) sets s k)))
+    (value_in p w g sets s y.1 (omega arith) (sets_left (read_bits p) (read_bits q) sets s kr)) (value_in q w g sets s x.1 (omega arith) (sets_right (read_bits p) (read_bits q) sets s kr)) (lp ∙ sym lq)
+value_in (Join high low) w g sets s f h k =
+    let x = and_both (fits_64 (width high + width low) && fits high) (fits low) f in
+    let y = and_both (fits_64 (width high + width low)) (fits high) x.0 in
+    all_extend w g (all_append (value_in low (width low) (sign low) sets s x.1 (omega arith) (sets_right (read_bits high) (read_bits low) sets s k)) (value_in high (width high) (sign high) sets s y.1 (omega arith) (sets_left (read_bits high) (read_bits low) sets s k)))
+value_in (Repeat count a) w g sets s f h k = all_extend w g (all_repeat count (value_in a (width a) (sign a) sets s (and_both (fits_64 (count * width a)) (fits a) f).1 (omega arith) k))
+value_in (At place e) w g sets s f h k = value_in e w g sets s f h k

@@ -1,0 +1,192 @@
+-- The equations of a slot on a design are those of its network.
+use Rattle.std.proofs.Common.{◌≡◌, ℕ, ◌+◌, Bool, true, false, List, [], ◌∷◌, ◌++◌, ◌||◌, ◌&&◌, ◌==◌, refl, sym, ap, ◌∙◌, subst, map, length, Some, eqb-true, eq-eqb}
+use Rattle.std.specs.Prelude.{slice_get, unwrap_or}
+use Rattle.vs_four.specs.declared.Bit4.{Bit4}
+use Rattle.vs_net.specs.Network.{State, Write, Update, put, write_all, is_written, flatten, Network, Kind, AnInput, TheClock, AnAssign, AComb, AClocked, kind, writes, made}
+use Rattle.vs_net.specs.Network as N
+use Rattle.vs_net.specs.Queue.{Slot, Fall, Rise}
+use Rattle.vs_net.specs.Solution.{IsWriter, driven, IsSlotEnd}
+use Rattle.vs_net.proofs.Basics.{write_all_other}
+use Rattle.vs_design.specs.Expressions.{Signal, signal_length}
+use Rattle.vs_design.specs.Values.{count_from, bits_of_signal}
+use Rattle.vs_design.specs.Statements.{Statement}
+use Rattle.vs_design.specs.Bodies.{body}
+use Rattle.vs_design.specs.Designs.{Event, Process, Continuous, Always, is_clocked, Design, top_inputs}
+use Rattle.vs_design.specs.Footprints.{contains, statement_bits, writes_of, input_bits}
+use Rattle.vs_design.specs.Clocks.{posedge_bit, same_name}
+use Rattle.vs_design.specs.Networks.{network_of, process_of, writer_of, block_process}
+use Rattle.vs_design.specs.Accepted.{IsAcceptedDesign}
+use Rattle.vs_design.specs.SlotValues.{clock_value, input_value, register_value, IsSlotValues, SlotValuesAre}
+use Rattle.vs_design.proofs.Lists.{by_test, and_both}
+use Rattle.vs_design.proofs.Writes.{either_way}
+use Rattle.vs_design.proofs.BodyExact.{body_writes}
+use Rattle.vs_design.proofs.Signals.{member_bits}
+use Rattle.vs_design.proofs.Parts.{by_kind, at_process, at_writer}
+use Rattle.vs_design.proofs.LawfulParts.{first_bit}
+use Rattle.vs_design.proofs.Facts.{clocked_unmixed}
+use Rattle.vs_design.proofs.ClockNets.{clock_at, one_listed, find_test}
+use Rattle.vs_design.proofs.TimeBits.{signal_with}
+use Rattle.vs_design.proofs.TimeLaws.{clock_signal}
+
+-- ---- what writers give
+
+vector_writes : State → List ℕ → List Write
+vector_writes v bits = map (λ b. record { bit = b; value = v b }) bits
+
+written_vector : (v : State) (bits : List ℕ) (b : ℕ) → is_written (vector_writes v bits) b ≡ contains bits b
+unfolding is_written vector_writes
+written_vector v [] b = refl
+written_vector v (c ∷ bits) b = ap {B = Bool} (λ x. (b == c) || x) (written_vector v bits b)
+
+after_vector : (v : State) (bits : List ℕ) (s : State) (b : ℕ) → contains bits b ≡ true → write_all s (vector_writes v bits) b ≡ v b
+unfolding write_all vector_writes
+after_vector v [] s b h = cc
+after_vector v (c ∷ bits) s b h =
+    by_test (contains bits b)
+    (λ e. after_vector v bits (put s c (v c)) b e)
+    (λ e.
+    let k : (b == c) ≡ true = by_test (b == c) (λ q. q) (λ q. absurd (either_way (contains bits b) (subst (λ x. (x || contains bits b) ≡ true) q h) e)) in
+    write_all_other (vector_writes v bits) (put s c (v c)) b (written_vector v bits b ∙ e) ∙ put_here b c k)
+  where
+    put_here : (b c : ℕ) → (b == c) ≡ true → put s c (v c) b ≡ v b
+    put_here b c k = rw k (ap v (sym (eqb-true b c k)))
+
+input_driven : (bits : List ℕ) (slot : Slot) (before : State) (b : ℕ) → contains bits b ≡ true → driven (N.Input bits) slot before b ≡ input_value slot before b
+unfolding write_all flatten vector_writes
+input_driven [] slot before b h = cc
+input_driven (c ∷ bits) (Fall v) before b h = subst (λ (ws : List Write). write_all before ws b ≡ v b) (sym (append_nil (vector_writes v (c ∷ bits)))) (after_vector v (c ∷ bits) before b h)
+  where
+    append_nil : (ws : List Write) → ws ++ [] ≡ ws
+    append_nil [] = refl
+    append_nil (w ∷ ws) = ap {B = List Write} (λ xs. w ∷ xs) (append_nil ws)
+input_driven (c ∷ bits) Rise before b h = refl
+
+clock_driven : (clock : ℕ) (slot : Slot) (before : State) → driven (N.Clock clock) slot before clock ≡ clock_value slot
+unfolding write_all flatten
+clock_driven clock (Fall v) before = rw (eq-eqb clock clock refl) refl
+clock_driven clock Rise before = rw (eq-eqb clock clock refl) refl
+
+register_driven : (c : ℕ) (targets : ℕ → Bool) (st : Statement) (slot : Slot) (before : State) → driven (N.Clocked c targets (body st)) slot before ≡ register_value st slot before
+unfolding write_all flatten
+register_driven c targets st (Fall v) before = refl
+register_driven c targets st Rise before = refl
+
+nothing_made : (s : State) → write_all s [] ≡ s
+unfolding write_all
+nothing_made s = refl
+
+module _ (d : Design) (name : List ℕ) (a : IsAcceptedDesign d name) (before : State) (slot : Slot) (s : State) where
+  abbrev net_work : Network
+  net_work = network_of d a.clock.first
+
+  process_at : (p : ℕ) (x : Process) → slice_get d.processes p ≡ Some x → net_work.process p ≡ process_of x
+  process_at p x h = at_process d.processes (map (writer_of a.clock.first) (top_inputs d)) p x h
+
+  writer_at : (i : ℕ) (r : Signal) → slice_get (top_inputs d) i ≡ Some r → net_work.process (length d.processes + i) ≡ writer_of a.clock.first r
+  writer_at i r h = at_writer d.processes a.clock.first (top_inputs d) i (length d.processes + i) r refl h
+
+  block_is : (place : ℕ) (star : Bool) (events : List Event) (st : Statement) (c : Bool) → is_clocked (Always place star events st) ≡ c → process_of (Always place star events st) ≡ block_process c (Always place star events st) events st
+  block_is place star events st c e = ap {B = N.Process} (λ x. block_process x (Always place star events st) events st) e
+
+  -- ---- from the network's equations to the design's
+
+  there : IsSlotEnd net_work before slot s → IsSlotValues d a.clock.first before slot s
+  there h = record {
+    assign = λ p place port target_place target e i. subst (λ x. write_all s (made x s) ≡ s) (process_at p (Continuous place port target_place target e) i) (h.settled p);
+    block = λ p st i. subst (λ x. write_all s (made x s) ≡ s) (process_at p (Always i.place i.star i.events st) i.is ∙ block_is i.place i.star i.events st false i.combinational) (h.settled p);
+    register = λ p place star events st i k b w.
+        let e = process_at p (Always place star events st) i ∙ block_is place star events st true k in
+        registered p (unwrap_or (posedge_bit events) 0) st e b w;
+    clock_input =
+        let c = clock_at d name a in
+        clocked (length d.processes + c.0) (writer_at c.0 a.clock c.1 ∙ clock_writer a.clock (eq-eqb a.clock.first a.clock.first refl));
+    input = λ i r e f b w. given (length d.processes + i) (bits_of_signal r) (writer_at i r e ∙ input_writer r f) b w;
+    kept = λ b n i. h.kept b (λ p. unwritten b n i p);
+  }
+    where
+      clock_writer : (r : Signal) → (r.first == a.clock.first) ≡ true → writer_of a.clock.first r ≡ N.Clock a.clock.first
+      clock_writer r e = rw e refl
+
+      input_writer : (r : Signal) → (r.first == a.clock.first) ≡ false → writer_of a.clock.first r ≡ N.Input (bits_of_signal r)
+      input_writer r e = rw e refl
+
+      registered : (p c : ℕ) (st : Statement) → net_work.process p ≡ N.Clocked c (contains (statement_bits st)) (body st) → (b : ℕ) → contains (statement_bits st) b ≡ true → s b ≡ register_value st slot before b
+      registered p c st e b w =
+          subst (λ x. IsWriter (kind x) → writes x b ≡ true → s b ≡ driven x slot before b) e (h.updated p b) tt w ∙ ap {B = Bit4} (λ (t : State). t b) (register_driven c (contains (statement_bits st)) st slot before)
+
+      clocked : (p : ℕ) → net_work.process p ≡ N.Clock a.clock.first → s a.clock.first ≡ clock_value slot
+      clocked p e = subst (λ x. IsWriter (kind x) → writes x a.clock.first ≡ true → s a.clock.first ≡ driven x slot before a.clock.first) e (h.updated p a.clock.first) tt (eq-eqb a.clock.first a.clock.first refl) ∙ clock_driven a.clock.first slot before
+
+      given : (p : ℕ) (bits : List ℕ) → net_work.process p ≡ N.Input bits → (b : ℕ) → contains bits b ≡ true → s b ≡ input_value slot before b
+      given p bits e b w = subst (λ x. IsWriter (kind x) → writes x b ≡ true → s b ≡ driven x slot before b) e (h.updated p b) tt w ∙ input_driven bits slot before b w
+
+      unwritten : (b : ℕ) → ((p : ℕ) (process : Process) → slice_get d.processes p ≡ Some process → contains (writes_of process) b ≡ false) → contains (input_bits d) b ≡ false → (p : ℕ) → writes (net_work.process p) b ≡ false
+      unwritten b n i = by_kind d a.clock.first (λ p x. writes x b ≡ false) (record {
+        assigns = λ p place port target_place target e h. n p (Continuous place port target_place target e) h;
+        combs = λ p place star events st h k. n p (Always place star events st) h;
+        clocked = λ p place star events st h k. n p (Always place star events st) h;
+        inputs = λ p j r l e f. outside j r e;
+        clock = λ p j r l e f. by_test (b == a.clock.first) (λ q. absurd (either_way (contains (bits_of_signal r) b) (subst (λ m. contains (bits_of_signal r) m ≡ true) (f ∙ sym (eqb-true b a.clock.first q)) (first_bit r)) (outside j r e))) (λ q. q);
+        none = λ p. refl;
+      })
+        where
+          outside : (j : ℕ) (r : Signal) → slice_get (top_inputs d) j ≡ Some r → contains (bits_of_signal r) b ≡ false
+          outside j r e = by_test (contains (bits_of_signal r) b) (λ q. absurd (either_way (contains (input_bits d) b) (member_bits (top_inputs d) j r b e q) i)) (λ q. q)
+
+  -- ---- and back
+
+  back : IsSlotValues d a.clock.first before slot s → IsSlotEnd net_work before slot s
+  back h = record {
+    settled = by_kind d a.clock.first (λ p x. write_all s (made x s) ≡ s) (record {
+      assigns = λ p place port target_place target e i. h.assign p place port target_place target e i;
+      combs = λ p place star events st i k. h.block p st (record { place = place; star = star; events = events; is = i; combinational = k });
+      clocked = λ p place star events st i k. subst (λ ws. write_all s ws ≡ s) (sym (body_writes st s (clocked_unmixed d name a p place star events st i k))) (nothing_made s);
+      inputs = λ p j r l e f. nothing_made s;
+      clock = λ p j r l e f. nothing_made s;
+      none = λ p. nothing_made s;
+    });
+    updated = λ p b. by_kind d a.clock.first (λ p x. IsWriter (kind x) → writes x b ≡ true → s b ≡ driven x slot before b) (record {
+      assigns = λ p place port target_place target e i w z. absurd w;
+      combs = λ p place star events st i k w z. absurd w;
+      clocked = λ p place star events st i k w z. h.register p place star events st i k b z ∙ sym (ap {B = Bit4} (λ (t : State). t b) (register_driven (unwrap_or (posedge_bit events) 0) (contains (statement_bits st)) st slot before));
+      inputs = λ p j r l e f w z. h.input j r e f b z ∙ sym (input_driven (bits_of_signal r) slot before b z);
+      clock = λ p j r l e f w z. subst (λ m. s m ≡ driven (N.Clock a.clock.first) slot before m) (sym (eqb-true b a.clock.first z)) (h.clock_input ∙ sym (clock_driven a.clock.first slot before));
+      none = λ p w z. cc;
+    }) p;
+    kept = λ b n. h.kept b (λ p x e. not_written b n p x e) (no_input b n);
+  }
+    where
+      of_process : (x : Process) (b : ℕ) → contains (writes_of x) b ≡ true → writes (process_of x) b ≡ true
+      of_process (Continuous place port target_place target e) b w = w
+      of_process (Always place star events st) b w = go (is_clocked (Always place star events st))
+        where
+          go : (c : Bool) → writes (block_process c (Always place star events st) events st) b ≡ true
+          go true = w
+          go false = w
+
+      not_written : (b : ℕ) → ((p : ℕ) → writes (net_work.process p) b ≡ false) → (p : ℕ) (x : Process) → slice_get d.processes p ≡ Some x → contains (writes_of x) b ≡ false
+      not_written b n p x e = by_test (contains (writes_of x) b) (λ w. absurd (either_way (writes (net_work.process p) b) (subst (λ y. writes y b ≡ true) (sym (process_at p x e)) (of_process x b w)) (n p))) (λ w. w)
+
+      no_input : (b : ℕ) → ((p : ℕ) → writes (net_work.process p) b ≡ false) → contains (input_bits d) b ≡ false
+      no_input b n = by_test (contains (input_bits d) b) (λ i. absurd (one (signal_with (top_inputs d) b i))) (λ i. i)
+        where
+          long : signal_length a.clock ≡ 1
+          long = eqb-true (signal_length a.clock) 1 (and_both (a.clock.input && same_name a.clock.name name) (signal_length a.clock == 1) (find_test (λ s. s.input && same_name s.name name && (signal_length s == 1)) d.signals a.clock a.clock_found)).1
+
+          one : (i : ℕ) × (r : Signal) × (slice_get (top_inputs d) i ≡ Some r) × (contains (bits_of_signal r) b ≡ true) → ⊥
+          one q =
+              by_test (q.1.first == a.clock.first)
+              (λ e.
+              let same : q.1 ≡ a.clock = clock_signal d name a q.0 q.1 a.clock.first q.2 (subst (λ m. contains (bits_of_signal q.1) m ≡ true) (eqb-true q.1.first a.clock.first e) (first_bit q.1)) in
+              let k : b ≡ a.clock.first = one_listed a.clock.first b (subst (λ n. contains (count_from a.clock.first n) b ≡ true) long (subst (λ r. contains (bits_of_signal r) b ≡ true) same q.3)) in
+              either_way (writes (net_work.process (length d.processes + q.0)) b) (subst (λ x. writes x b ≡ true) (sym (writer_at q.0 q.1 q.2 ∙ clock_case e)) (eq-eqb b a.clock.first k)) (n (length d.processes + q.0)))
+              (λ e. either_way (writes (net_work.process (length d.processes + q.0)) b) (subst (λ x. writes x b ≡ true) (sym (writer_at q.0 q.1 q.2 ∙ input_case e)) q.3) (n (length d.processes + q.0)))
+            where
+              clock_case : (q.1.first == a.clock.first) ≡ true → writer_of a.clock.first q.1 ≡ N.Clock a.clock.first
+              clock_case e = rw e refl
+
+              input_case : (q.1.first == a.clock.first) ≡ false → writer_of a.clock.first q.1 ≡ N.Input (bits_of_signal q.1)
+              input_case e = rw e refl
+
+pub slot_values_are : SlotValuesAre
+slot_values_are d name a before slot s = (there d name a before slot s, back d name a before slot s)

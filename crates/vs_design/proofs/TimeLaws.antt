@@ -1,0 +1,264 @@
+-- The sets A and E of an accepted design, and the rule of time zero.
+use Rattle.std.proofs.Common.{◌≡◌, ℕ, ◌+◌, Bool, true, false, List, [], ◌++◌, ◌&&◌, ◌==◌, eqb-true, eq-eqb, not, if◌then◌else◌, ◌⊎◌, inl, inr, refl, sym, ◌∙◌, subst, map, length, Some}
+use Rattle.std.specs.Prelude.{slice_get}
+use Rattle.vs_four.specs.declared.Bit4.{Bit4}
+use Rattle.vs_four.specs.declared.Bit4.TheVariants.{Zero, One, X, Z}
+use Rattle.vs_net.specs.Network.{State, Effect, write_all, Network, Kind, AnInput, TheClock, AnAssign, AComb, AClocked, kind, writes, listens, made}
+use Rattle.vs_net.specs.Network as N
+use Rattle.vs_net.specs.Lawful.{Settles, ReadsIn, WritesIn, IsKnown, IsQuietBlock, IsWokenBlock}
+use Rattle.vs_design.specs.Expressions.{Signal, signal_length}
+use Rattle.vs_design.specs.Values.{count_from, bits_of_signal}
+use Rattle.vs_design.specs.Statements.{Statement}
+use Rattle.vs_design.specs.Bodies.{assignment_writes, body}
+use Rattle.vs_design.specs.Designs.{Event, Process, Continuous, Always, is_clocked, Design, top_inputs}
+use Rattle.vs_design.specs.Footprints.{contains, read_bits, target_reads, statement_bits, writes_of, reads_of, waits_of, net_bits, input_bits}
+use Rattle.vs_design.specs.Levels.{level_order}
+use Rattle.vs_design.specs.Sets.{Set4, has, only, known_set, union, is_only_x, is_unknown_set, is_known_set}
+use Rattle.vs_design.specs.Lifted.{Family}
+use Rattle.vs_design.specs.TimeZero.{Families, families, early_source, late_source, block_sets, is_quiet, wakes, sleeps}
+use Rattle.vs_design.specs.Networks.{network_of, process_of, writer_of, block_process, idle_value}
+use Rattle.vs_design.specs.Accepted.{IsAcceptedDesign}
+use Rattle.vs_design.proofs.Lists.{by_test, and_both, or_left, contains-left, contains-right}
+use Rattle.vs_design.proofs.Writes.{either_way}
+use Rattle.vs_design.proofs.SetBits.{union_left, union_right}
+use Rattle.vs_design.proofs.Signals.{one_signal, member_bits}
+use Rattle.vs_design.proofs.Parts.{by_kind, at_process, at_writer, none_at}
+use Rattle.vs_design.proofs.LawfulParts.{one_writer, first_bit}
+use Rattle.vs_design.proofs.Facts.{assign_facts, block_facts, comb_facts}
+use Rattle.vs_design.proofs.ClockNets.{clock_at, clock_number, clock_process, one_listed}
+use Rattle.vs_design.proofs.ClockLaws.{clock_is}
+use Rattle.vs_design.proofs.Along.{SameAt, Found, found, unwritten, assign_made, block_made}
+use Rattle.vs_design.proofs.TimeBits.{only_x_is, only_x_has, unknown_set, known_set_is, all_of_bits, any_bit, signal_with, some_is}
+
+module _ (d : Design) (name : List ℕ) (a : IsAcceptedDesign d name) where
+  abbrev pub sets : Families
+  sets = families d a.clock.first (level_order d)
+
+  abbrev net_work : Network
+  net_work = network_of d a.clock.first
+
+  found_at : (p : ℕ) (x : Process) → slice_get d.processes p ≡ Some x → is_clocked x ≡ false → Found d sets x
+  found_at p x h k = found d (level_order d) [] (record { early = early_source d; late = late_source d a.clock.first }) p x a.one_driver a.no_cycle h k refl
+
+  -- the network's process of a number
+  settling : (r : ℕ) (x : Process) (b : ℕ) → slice_get d.processes r ≡ Some x → is_clocked x ≡ false → contains (writes_of x) b ≡ true → (writes (net_work.process r) b ≡ true) × Settles (kind (net_work.process r))
+  settling r x b h k w = subst (λ y. (writes y b ≡ true) × Settles (kind y)) (sym (at_process d.processes (map (writer_of a.clock.first) (top_inputs d)) r x h)) (go x k w)
+    where
+      go : (x : Process) → is_clocked x ≡ false → contains (writes_of x) b ≡ true → (writes (process_of x) b ≡ true) × Settles (kind (process_of x))
+      go (Continuous place port target_place target e) k w = (w, tt)
+      go (Always place star events st) k w = subst (λ c. (writes (block_process c (Always place star events st) events st) b ≡ true) × Settles (kind (block_process c (Always place star events st) events st))) (sym k) (w, tt)
+
+  -- a bit that no settling process writes has its first sets
+  first_sets : (b : ℕ) → ((p : ℕ) → writes (net_work.process p) b ≡ true → Settles (kind (net_work.process p)) → ⊥) → SameAt sets (record { early = early_source d; late = late_source d a.clock.first }) b
+  first_sets b h = unwritten d (level_order d) (record { early = early_source d; late = late_source d a.clock.first }) b a.no_cycle (λ r x e k. by_test (contains (writes_of x) b) (λ w. let q = settling r x b e k w in absurd (h r q.0 q.1)) (λ w. w))
+
+  source_idle : (b : ℕ) → has (early_source d b) (idle_value d b) ≡ true
+  source_idle b = by_test (contains (net_bits d) b) (λ e. rw e refl) (λ e. rw e refl)
+
+  pub early_idle : (b : ℕ) → ((p : ℕ) → writes (net_work.process p) b ≡ true → Settles (kind (net_work.process p)) → ⊥) → has (sets.early b) (net_work.idle b) ≡ true
+  early_idle b h = subst (λ s. has s (idle_value d b) ≡ true) (sym (first_sets b h).0) (source_idle b)
+
+  pub early_comb : (p b : ℕ) → kind (net_work.process p) ≡ AComb → writes (net_work.process p) b ≡ true → has (sets.early b) X ≡ true
+  early_comb p b = by_kind d a.clock.first (λ p x. kind x ≡ AComb → writes x b ≡ true → has (sets.early b) X ≡ true) (record {
+    assigns = λ p place port target_place target e h w z. cc;
+    combs = λ p place star events st h k w z. let g = found_at p (Always place star events st) h k in subst (λ s. has s X ≡ true) (sym (g.own b z).0) (rw z (end st g.then_.early b z));
+    clocked = λ p place star events st h k w z. cc;
+    inputs = λ p i r l e f w z. cc;
+    clock = λ p i r l e f w z. cc;
+    none = λ p w z. cc;
+  }) p
+    where
+      end : (st : Statement) (f : Family) (b : ℕ) → contains (statement_bits st) b ≡ true → has (if is_quiet st f then block_sets st f b else union (only X) (block_sets st f b)) X ≡ true
+      end st f b w =
+          by_test (is_quiet st f)
+          (λ q. rw q (only_x_has (block_sets st f b) (all_of_bits (λ b. is_only_x (block_sets st f b)) (statement_bits st) b q w)))
+          (λ q. rw q (union_left (only X) (block_sets st f b) X refl))
+
+  pub early_made : (p : ℕ) → Settles (kind (net_work.process p)) → (s : State) → ReadsIn (λ b. has (sets.early b)) (net_work.process p) s → WritesIn (λ b. has (sets.early b)) (net_work.process p) s
+  early_made p z s = by_kind d a.clock.first (λ p x. Settles (kind x) → ReadsIn (λ b. has (sets.early b)) x s → WritesIn (λ b. has (sets.early b)) x s) (record {
+    assigns = λ p place port target_place target e h z r b w t.
+        let g = found_at p (Continuous place port target_place target e) h refl in
+        let f = assign_facts d name a p place port target_place target e h in
+        subst (λ x. has x (write_all t (assignment_writes target e s) b) ≡ true) (sym (g.own b w).0)
+        (assign_made target e g.then_.early s t b f.constant f.fit_target f.fit_value
+        (λ c k. subst (λ x. has x (s c) ≡ true) (g.same c (contains-left (target_reads target ++ read_bits e) [] c (contains-right (target_reads target) (read_bits e) c k))).0 (r c (contains-right (target_reads target) (read_bits e) c k))) w);
+    combs = λ p place star events st h k z r b w t.
+        let g = found_at p (Always place star events st) h k in
+        let f = comb_facts d name a p place star events st h k in
+        let in_block : has (block_sets st g.then_.early b) (write_all t (body st s).writes b) ≡ true = block_made st g.then_.early s t b (block_facts d name a p place star events st h).fit f.unmixed f.no_latch
+        (λ c q. subst (λ x. has x (s c) ≡ true) (g.same c (contains-right (reads_of (Always place star events st)) (waits_of (Always place star events st)) c (f.waits c q))).0 (r c (f.waits c q))) w in
+        subst (λ x. has x (write_all t (body st s).writes b) ≡ true) (sym (g.own b w).0) (rw w (wider (is_quiet st g.then_.early) (block_sets st g.then_.early b) (write_all t (body st s).writes b) in_block));
+    clocked = λ p place star events st h k z. absurd z;
+    inputs = λ p i r l e f z. absurd z;
+    clock = λ p i r l e f z. absurd z;
+    none = λ p z. absurd z;
+  }) p z
+    where
+      wider : (q : Bool) (x : Set4) (v : Bit4) → has x v ≡ true → has (if q then x else union (only X) x) v ≡ true
+      wider true x v h = h
+      wider false x v h = union_right (only X) x v h
+
+  pub late_made : (p : ℕ) → Settles (kind (net_work.process p)) → (s : State) → ReadsIn (λ b. has (sets.late b)) (net_work.process p) s → WritesIn (λ b. has (sets.late b)) (net_work.process p) s
+  late_made p z s = by_kind d a.clock.first (λ p x. Settles (kind x) → ReadsIn (λ b. has (sets.late b)) x s → WritesIn (λ b. has (sets.late b)) x s) (record {
+    assigns = λ p place port target_place target e h z r b w t.
+        let g = found_at p (Continuous place port target_place target e) h refl in
+        let f = assign_facts d name a p place port target_place target e h in
+        subst (λ x. has x (write_all t (assignment_writes target e s) b) ≡ true) (sym (g.own b w).1)
+        (assign_made target e g.then_.late s t b f.constant f.fit_target f.fit_value
+        (λ c k. subst (λ x. has x (s c) ≡ true) (g.same c (contains-left (target_reads target ++ read_bits e) [] c (contains-right (target_reads target) (read_bits e) c k))).1 (r c (contains-right (target_reads target) (read_bits e) c k))) w);
+    combs = λ p place star events st h k z r b w t.
+        let g = found_at p (Always place star events st) h k in
+        let f = comb_facts d name a p place star events st h k in
+        let in_block : has (block_sets st g.then_.late b) (write_all t (body st s).writes b) ≡ true = block_made st g.then_.late s t b (block_facts d name a p place star events st h).fit f.unmixed f.no_latch
+        (λ c q. subst (λ x. has x (s c) ≡ true) (g.same c (contains-right (reads_of (Always place star events st)) (waits_of (Always place star events st)) c (f.waits c q))).1 (r c (f.waits c q))) w in
+        subst (λ x. has x (write_all t (body st s).writes b) ≡ true) (sym (g.own b w).1) (rw w in_block);
+    clocked = λ p place star events st h k z. absurd z;
+    inputs = λ p i r l e f z. absurd z;
+    clock = λ p i r l e f z. absurd z;
+    none = λ p z. absurd z;
+  }) p z
+
+  -- the signal of the clock's bit is the clock, of one bit
+  pub clock_signal : (i : ℕ) (s : Signal) (b : ℕ) → slice_get (top_inputs d) i ≡ Some s → contains (bits_of_signal s) a.clock.first ≡ true → s ≡ a.clock
+  clock_signal i s b e h =
+      let k = one_signal (λ s. s.input) 0 d.signals a.clock.first i (clock_at d name a).0 s a.clock a.lawful.bits_numbered e (clock_at d name a).1 h (first_bit a.clock) in
+      some_is s a.clock (sym e ∙ subst (λ m. slice_get (top_inputs d) m ≡ Some a.clock) (sym k) (clock_at d name a).1)
+
+  unsettled : (p b : ℕ) → writes (net_work.process p) b ≡ true → (Settles (kind (net_work.process p)) → ⊥) → (q : ℕ) → writes (net_work.process q) b ≡ true → Settles (kind (net_work.process q)) → ⊥
+  unsettled p b w n q v s = n (subst (λ m. Settles (kind (net_work.process m))) (one_writer d name a a.clock.first p q b w v) s)
+
+  pub late_clock : (p b : ℕ) → kind (net_work.process p) ≡ TheClock → writes (net_work.process p) b ≡ true → has (sets.late b) Zero ≡ true
+  late_clock p b h w =
+      let same : b ≡ a.clock.first = is_clock p h w in
+      subst (λ s. has s Zero ≡ true) (sym (first_sets b (unsettled p b w (λ s. settles_not (kind (net_work.process p)) h s))).1) (rw same (rw (or_left (a.clock.first == a.clock.first) false (eq-eqb a.clock.first a.clock.first refl)) refl))
+    where
+      settles_not : (k : Kind) → k ≡ TheClock → Settles k → ⊥
+      settles_not TheClock h s = s
+      settles_not AnInput h s = s
+      settles_not AnAssign h s = cc
+      settles_not AComb h s = cc
+      settles_not AClocked h s = s
+
+      is_clock : (p : ℕ) → kind (net_work.process p) ≡ TheClock → writes (net_work.process p) b ≡ true → b ≡ a.clock.first
+      is_clock = by_kind d a.clock.first (λ p x. kind x ≡ TheClock → writes x b ≡ true → b ≡ a.clock.first) (record {
+        assigns = λ p place port target_place target e h w z. cc;
+        combs = λ p place star events st h k w z. cc;
+        clocked = λ p place star events st h k w z. cc;
+        inputs = λ p i r l e f w z. cc;
+        clock = λ p i r l e f w z. eqb-true b a.clock.first z;
+        none = λ p w z. cc;
+      })
+
+  -- the late sets of a bit that no settling process writes: the clock's, an input's, another's
+  source_input : (b : ℕ) (v : Bit4) → (b == a.clock.first) ≡ false → contains (input_bits d) b ≡ true → IsKnown v → has (late_source d a.clock.first b) v ≡ true
+  source_input b v e h k = rw e (rw h (known v k))
+    where
+      known : (v : Bit4) → IsKnown v → has known_set v ≡ true
+      known Zero k = refl
+      known One k = refl
+      known X (inl e) = cc
+      known X (inr e) = cc
+      known Z (inl e) = cc
+      known Z (inr e) = cc
+
+  source_other : (b : ℕ) → (b == a.clock.first) ≡ false → contains (input_bits d) b ≡ false → has (late_source d a.clock.first b) (idle_value d b) ≡ true
+  source_other b e h = rw e (rw h (source_idle b))
+
+  pub late_input : (p b : ℕ) (v : Bit4) → kind (net_work.process p) ≡ AnInput → writes (net_work.process p) b ≡ true → IsKnown v → has (sets.late b) v ≡ true
+  late_input p b v h w k = subst (λ s. has s v ≡ true) (sym (first_sets b (unsettled p b w (λ s. settles_not (kind (net_work.process p)) h s))).1) (is_input p h w)
+    where
+      settles_not : (k : Kind) → k ≡ AnInput → Settles k → ⊥
+      settles_not TheClock h s = s
+      settles_not AnInput h s = s
+      settles_not AnAssign h s = cc
+      settles_not AComb h s = cc
+      settles_not AClocked h s = s
+
+      is_input : (p : ℕ) → kind (net_work.process p) ≡ AnInput → writes (net_work.process p) b ≡ true → has (late_source d a.clock.first b) v ≡ true
+      is_input = by_kind d a.clock.first (λ p x. kind x ≡ AnInput → writes x b ≡ true → has (late_source d a.clock.first b) v ≡ true) (record {
+        assigns = λ p place port target_place target e h w z. cc;
+        combs = λ p place star events st h k w z. cc;
+        clocked = λ p place star events st h k w z. cc;
+        inputs = λ p i s l e f w z.
+            by_test (b == a.clock.first)
+            (λ q.
+            let same : s ≡ a.clock = clock_signal i s b e (subst (λ m. contains (bits_of_signal s) m ≡ true) (eqb-true b a.clock.first q) z) in
+            absurd (either_way (s.first == a.clock.first) (subst (λ x. (x.first == a.clock.first) ≡ true) (sym same) (eq-eqb a.clock.first a.clock.first refl)) f))
+            (λ q. source_input b v q (member_bits (top_inputs d) i s b e z) k);
+        clock = λ p i r l e f w z. cc;
+        none = λ p w z. cc;
+      })
+
+  pub late_idle : (b : ℕ) → ((p : ℕ) → writes (net_work.process p) b ≡ true → kind (net_work.process p) ≡ AClocked) → has (sets.late b) (net_work.idle b) ≡ true
+  late_idle b h =
+      subst (λ s. has s (idle_value d b) ≡ true) (sym (first_sets b (λ p w s. clocked_not (kind (net_work.process p)) (h p w) s)).1)
+      (by_test (b == a.clock.first)
+      (λ q. absurd (two_kinds (kind (net_work.process (clock_number d name a))) (clock_is d name a) (h (clock_number d name a) (clock_writes_it (eqb-true b a.clock.first q)))))
+      (λ q.
+      by_test (contains (input_bits d) b)
+      (λ i. absurd (an_input q (signal_with (top_inputs d) b i)))
+      (λ i. source_other b q i)))
+    where
+      clocked_not : (k : Kind) → k ≡ AClocked → Settles k → ⊥
+      clocked_not TheClock h s = s
+      clocked_not AnInput h s = s
+      clocked_not AnAssign h s = cc
+      clocked_not AComb h s = cc
+      clocked_not AClocked h s = s
+
+      two_kinds : (k : Kind) → k ≡ TheClock → k ≡ AClocked → ⊥
+      two_kinds k e f = cc
+
+      input_kinds : (k : Kind) → k ≡ AnInput → k ≡ AClocked → ⊥
+      input_kinds k e f = cc
+
+      clock_writes_it : b ≡ a.clock.first → writes (net_work.process (clock_number d name a)) b ≡ true
+      clock_writes_it e = rw (clock_process d name a) (eq-eqb b a.clock.first e)
+
+      an_input : (b == a.clock.first) ≡ false → (i : ℕ) × (s : Signal) × (slice_get (top_inputs d) i ≡ Some s) × (contains (bits_of_signal s) b ≡ true) → ⊥
+      an_input q r =
+          let at = at_writer d.processes a.clock.first (top_inputs d) r.0 (length d.processes + r.0) r.1 refl r.2 in
+          by_test (r.1.first == a.clock.first)
+          (λ e.
+          let same : r.1 ≡ a.clock = clock_signal r.0 r.1 b r.2 (subst (λ m. contains (bits_of_signal r.1) m ≡ true) (eqb-true r.1.first a.clock.first e) (first_bit r.1)) in
+          either_way (b == a.clock.first) (eq-eqb b a.clock.first (clock_bit b (subst (λ s. contains (bits_of_signal s) b ≡ true) same r.3))) q)
+          (λ e.
+          let here : net_work.process (length d.processes + r.0) ≡ N.Input (bits_of_signal r.1) = at ∙ rw e refl in
+          input_kinds (kind (net_work.process (length d.processes + r.0))) (rw here refl) (h (length d.processes + r.0) (rw here r.3)))
+        where
+          one_long : signal_length a.clock ≡ 1
+          one_long = eqb-true (signal_length a.clock) 1 (and_both (a.clock.input && Rattle.vs_design.specs.Clocks.same_name a.clock.name name) (signal_length a.clock == 1) (Rattle.vs_design.proofs.ClockNets.find_test (λ s. s.input && Rattle.vs_design.specs.Clocks.same_name s.name name && (signal_length s == 1)) d.signals a.clock a.clock_found)).1
+
+          clock_bit : (b : ℕ) → contains (bits_of_signal a.clock) b ≡ true → b ≡ a.clock.first
+          clock_bit b k = one_listed a.clock.first b (subst (λ n. contains (count_from a.clock.first n) b ≡ true) one_long k)
+
+  pub quiet_or_woken : (p : ℕ) → kind (net_work.process p) ≡ AComb → IsQuietBlock (λ b. has (sets.early b)) (net_work.process p) ⊎ IsWokenBlock (λ b. has (sets.early b)) (λ b. has (sets.late b)) (net_work.process p)
+  quiet_or_woken p = by_kind d a.clock.first (λ p x. kind x ≡ AComb → IsQuietBlock (λ b. has (sets.early b)) x ⊎ IsWokenBlock (λ b. has (sets.early b)) (λ b. has (sets.late b)) x) (record {
+    assigns = λ p place port target_place target e h w. cc;
+    combs = λ p place star events st h k w.
+        by_test (is_quiet st sets.early)
+        (λ q. inl (λ s t r b z.
+        let f = comb_facts d name a p place star events st h k in
+        only_x_is (block_sets st sets.early b) (write_all t (body st s).writes b) (all_of_bits (λ b. is_only_x (block_sets st sets.early b)) (statement_bits st) b q z)
+        (block_made st sets.early s t b (block_facts d name a p place star events st h).fit f.unmixed f.no_latch (λ c u. r c (f.waits c u)) z)))
+        (λ q. inr (woken p place star events st h k q));
+    clocked = λ p place star events st h k w. cc;
+    inputs = λ p i r l e f w. cc;
+    clock = λ p i r l e f w. cc;
+    none = λ p w. cc;
+  }) p
+    where
+      woken : (p place : ℕ) (star : Bool) (events : List Event) (st : Statement) → slice_get d.processes p ≡ Some (Always place star events st) → is_clocked (Always place star events st) ≡ false → is_quiet st sets.early ≡ false
+          → IsWokenBlock (λ b. has (sets.early b)) (λ b. has (sets.late b)) (N.Comb (contains (waits_of (Always place star events st))) (contains (statement_bits st)) (body st))
+      woken p place star events st h k q =
+          let s : (not (is_clocked (Always place star events st)) && not (is_quiet st sets.early) && not (wakes sets (Always place star events st))) ≡ false = none_at (sleeps sets) d.processes p (Always place star events st) a.awake h in
+          let w : wakes sets (Always place star events st) ≡ true = awake (is_clocked (Always place star events st)) (is_quiet st sets.early) (wakes sets (Always place star events st)) k q s in
+          let r = any_bit (λ b. is_unknown_set (sets.early b) && is_known_set (sets.late b)) (waits_of (Always place star events st)) w in
+          let z = and_both (is_unknown_set (sets.early r.0)) (is_known_set (sets.late r.0)) r.2 in
+          record { bit = r.0; listened = r.1; unknown = λ v. unknown_set (sets.early r.0) v z.0; known = λ v. known_set_is (sets.late r.0) v z.1 }
+        where
+          awake : (c q w : Bool) → c ≡ false → q ≡ false → (not c && not q && not w) ≡ false → w ≡ true
+          awake true q w e f g = cc
+          awake false true w e f g = cc
+          awake false false true e f g = refl
+          awake false false false e f g = cc

@@ -1,0 +1,43 @@
+-- An accepted design, as far as it is a matter of the elaborated one: it breaks no rule.
+use Rattle.std.specs.Prelude.{◌≡◌, ℕ, ◌≤◌, Bool, true, false, List, [], ◌∷◌, Some}
+use Rattle.std.specs.List.{list_any, list_all}
+use Rattle.vs_design.specs.Expressions.{Signal}
+use Rattle.vs_design.specs.Designs.{Design}
+use Rattle.vs_design.specs.Fits.{fits_process}
+use Rattle.vs_design.specs.Elaborated.{IsLawfulDesign}
+use Rattle.vs_design.specs.Sizes.{size}
+use Rattle.vs_design.specs.Rules.{mixed_assigns, missing_bits, latches, shared_bits}
+use Rattle.vs_design.specs.Clocks.{clock_input, clock_nets, reads_clock, has_other_clock}
+use Rattle.vs_design.specs.Levels.{level_order, has_no_cycle}
+use Rattle.vs_design.specs.TimeZero.{families, sleeps}
+
+abbrev pub is_empty : List ℕ → Bool
+is_empty [] = true
+is_empty (b ∷ bs) = false
+
+-- with a clock input of this name
+pub record IsAcceptedDesign (d : Design) (name : List ℕ) : Type 0 where
+  pub lawful : IsLawfulDesign d
+  -- TooWide, Division
+  pub fit : list_all fits_process d.processes ≡ true
+  -- TooLarge
+  pub small : size d ≤ 16777216
+  -- MixedAssign
+  pub unmixed : list_all (λ p. is_empty (mixed_assigns p)) d.processes ≡ true
+  -- Sensitivity
+  pub sensitive : list_all (λ p. is_empty (missing_bits p)) d.processes ≡ true
+  -- Latch
+  pub no_latch : list_all (λ p. is_empty (latches p)) d.processes ≡ true
+  -- TwoDrivers
+  pub one_driver : is_empty (shared_bits d) ≡ true
+  -- NoClock
+  pub clock : Signal
+  pub clock_found : clock_input d name ≡ Some clock
+  -- ClockRead
+  pub clock_unread : list_any (reads_clock (clock_nets d clock.first)) d.processes ≡ false
+  -- NotTheClock
+  pub one_clock : list_any (has_other_clock (clock_nets d clock.first)) d.processes ≡ false
+  -- Cycle
+  pub no_cycle : has_no_cycle d ≡ true
+  -- TimeZero
+  pub awake : list_any (sleeps (families d clock.first (level_order d))) d.processes ≡ false

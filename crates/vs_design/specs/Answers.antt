@@ -1,0 +1,37 @@
+-- The one answer that the rules give of a design: accepted, or the first refusal.
+use Rattle.std.specs.Prelude.{◌≡◌, ℕ, true, List, [], ◌∷◌, ◌⊎◌, Some, None}
+use Rattle.vs_design.specs.Designs.{Design}
+use Rattle.vs_design.specs.Elaborated.{IsLawfulDesign}
+use Rattle.vs_design.specs.Levels.{has_no_cycle}
+use Rattle.vs_design.specs.Cycles.{IsCycle}
+use Rattle.vs_design.specs.Accepted.{IsAcceptedDesign}
+use Rattle.vs_design.specs.Refusals.{WidthRefusal, width_refusal, BlockRefusal, block_refusal, DriverRefusal, driver_refusal, ClockRefusal, clock_refusal, ZeroRefusal, zero_refusal, place_at}
+
+pub data DesignRefusal : Type 0 where
+  OfWidth : (refusal : WidthRefusal) → DesignRefusal
+  OfBlock : (refusal : BlockRefusal) → DesignRefusal
+  OfDriver : (refusal : DriverRefusal) → DesignRefusal
+  OfClock : (refusal : ClockRefusal) → DesignRefusal
+  -- at the first of the processes
+  Cycle : (processes : List ℕ) (at : ℕ) → DesignRefusal
+  OfZero : (refusal : ZeroRefusal) → DesignRefusal
+
+abbrev pub first_of : List ℕ → ℕ
+first_of [] = 0
+first_of (p ∷ ps) = p
+
+-- the rules are tried in this order; which of several cycles is answered is left open
+abbrev pub IsRefusedBy : Design → List ℕ → DesignRefusal → Type 0
+IsRefusedBy d name (OfWidth r) = width_refusal d ≡ Some r
+IsRefusedBy d name (OfBlock r) = (width_refusal d ≡ None) × (block_refusal d ≡ Some r)
+IsRefusedBy d name (OfDriver r) = (width_refusal d ≡ None) × (block_refusal d ≡ None) × (driver_refusal d ≡ Some r)
+IsRefusedBy d name (OfClock r) = (width_refusal d ≡ None) × (block_refusal d ≡ None) × (driver_refusal d ≡ None) × (clock_refusal d name ≡ Some r)
+IsRefusedBy d name (Cycle processes at) = (width_refusal d ≡ None) × (block_refusal d ≡ None) × (driver_refusal d ≡ None) × (clock_refusal d name ≡ None) × IsCycle d processes × (at ≡ place_at d.processes (first_of processes))
+IsRefusedBy d name (OfZero r) = (width_refusal d ≡ None) × (block_refusal d ≡ None) × (driver_refusal d ≡ None) × (clock_refusal d name ≡ None) × (has_no_cycle d ≡ true) × (zero_refusal d name ≡ Some r)
+
+-- a design that elaboration gives is accepted or refused, and not both
+abbrev pub AcceptedOrRefused : Type 0
+AcceptedOrRefused = (d : Design) (name : List ℕ) → IsLawfulDesign d → IsAcceptedDesign d name ⊎ ((r : DesignRefusal) × IsRefusedBy d name r)
+
+abbrev pub NotBoth : Type 0
+NotBoth = (d : Design) (name : List ℕ) → IsAcceptedDesign d name → (r : DesignRefusal) → IsRefusedBy d name r → ⊥

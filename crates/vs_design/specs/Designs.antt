@@ -1,0 +1,64 @@
+-- An elaborated design: scopes, signals and processes, each by number (IEEE 1364-2005, clause 12).
+use Rattle.std.specs.Prelude.{ℕ, Bool, true, false, not, ◌&&◌, List, filter, sum_by, Option}
+use Rattle.std.specs.List.{list_any}
+use Rattle.vs_design.specs.Expressions.{Signal, signal_length, Expression}
+use Rattle.vs_design.specs.Statements.{Target, Statement}
+
+-- an instance (12.1.2) or a generate block (12.4); the top has no parent
+pub record Scope : Type 0 where
+  pub name : List ℕ
+  pub parent : Option ℕ
+  pub instance : Bool
+
+-- 9.7.2
+pub data Edge : Type 0 where
+  Any Posedge Negedge : Edge
+
+pub record Event : Type 0 where
+  pub signal : Signal
+  pub edge : Edge
+
+-- an assign is written, or implied by an input or an output port (12.3.9.2): it goes from the outer expression to the inner net, or from the inner signal to the outer net
+pub data Port : Type 0 where
+  Written InputPort OutputPort : Port
+
+pub data Process : Type 0 where
+  -- an assign (6.1); it begins at `place` in the text, its target at `target_place`
+  Continuous : (place : ℕ) (port : Port) (target_place : ℕ) (target : Target) (e : Expression) → Process
+  -- an always block (9.9.2) with its event control; `star` is `@*` (9.7.5), and then there are no events
+  Always : (place : ℕ) (star : Bool) (events : List Event) (statement : Statement) → Process
+
+pub record Design : Type 0 where
+  pub scopes : List Scope
+  pub signals : List Signal
+  pub processes : List Process
+
+abbrev pub is_edge : Edge → Bool
+is_edge Any = false
+is_edge _ = true
+
+abbrev pub has_edge : Event → Bool
+has_edge e = is_edge e.edge
+
+abbrev pub is_assign : Process → Bool
+is_assign (Continuous place port target_place target e) = true
+is_assign (Always place star events statement) = false
+
+-- a block with an edge among its events is clocked, and any other is combinational
+abbrev pub is_clocked : Process → Bool
+is_clocked (Continuous place port target_place target e) = false
+is_clocked (Always place star events statement) = list_any has_edge events
+
+abbrev pub is_combinational : Process → Bool
+is_combinational p = not (is_assign p) && not (is_clocked p)
+
+-- where it begins in the text
+abbrev pub process_place : Process → ℕ
+process_place (Continuous place port target_place target e) = place
+process_place (Always place star events statement) = place
+
+abbrev pub top_inputs : Design → List Signal
+top_inputs d = filter (λ s. s.input) d.signals
+
+abbrev pub bit_count : Design → ℕ
+bit_count d = sum_by signal_length d.signals

@@ -1,0 +1,153 @@
+-- What elaboration gives of every design: its numbers, bits, ranges, targets and events (IEEE 1364-2005, clause 12).
+use Rattle.std.specs.Prelude.{◌≡◌, ℕ, suc, ◌+◌, ◌≤◌, Bool, true, false, not, ◌&&◌, ◌||◌, List, [], ◌∷◌, length, nat_le, nat_lt, if◌then◌else◌, ◌==◌, Option, Some, None, is_some, is_none, slice_get}
+use Rattle.std.specs.List.{list_all}
+use Rattle.vs_four.specs.declared.Range.{Range}
+use Rattle.vs_four.specs.Selects.{range_length, Part}
+use Rattle.vs_design.specs.Expressions.{Signal, signal_length, Source, OfSignal, OfConstant, Expression, Literal, Name, Select, Unary, Binary, Choice, Join, Repeat, At, is_constant}
+use Rattle.vs_design.specs.Statements.{Target, Whole, PartOf, Both, Statement, Empty, Assignment, Then, If, Case, Arms, Arm, Default}
+use Rattle.vs_design.specs.Designs.{Scope, Event, is_edge, Port, Written, InputPort, OutputPort, Process, Continuous, Always, Design, bit_count}
+use Rattle.vs_design.specs.Footprints.{is_net, is_variable}
+use Rattle.vs_design.specs.Fits.{fits_64}
+use Rattle.vs_design.specs.Clocks.{same_name, name_of}
+
+-- ---- scopes and signals
+
+abbrev pub is_nil : {A : Type 0} → List A → Bool
+is_nil [] = true
+is_nil (x ∷ xs) = false
+
+-- the way from a scope out to the top, from this scope on
+abbrev pub way_from : ℕ → List ℕ → List ℕ
+way_from n [] = []
+way_from n (m ∷ way) = if m == n then (m ∷ way) else way_from n way
+
+abbrev pub way_of_parent : Option ℕ → List ℕ → List ℕ
+way_of_parent None way = []
+way_of_parent (Some n) way = way_from n way
+
+-- each scope is within the one before it or within one around that: those within a scope come before the next one beside it
+abbrev pub are_nested : ℕ → List ℕ → List Scope → Bool
+are_nested n way [] = true
+are_nested n way (s ∷ ss) = let outer = way_of_parent s.parent way in not (is_nil outer) && are_nested (suc n) (n ∷ outer) ss
+
+-- the top is scope 0, an instance within no scope (12.1.1)
+abbrev pub are_scopes : List Scope → Bool
+are_scopes [] = false
+are_scopes (top ∷ ss) = top.instance && is_none top.parent && are_nested 1 (0 ∷ []) ss
+
+-- signals are numbered scope by scope
+abbrev pub are_numbered : ℕ → ℕ → List Signal → Bool
+are_numbered n scope [] = true
+are_numbered n scope (s ∷ ss) = (s.number == n) && nat_le scope s.scope && are_numbered (suc n) s.scope ss
+
+-- and have their bits one after the other
+abbrev pub have_bits_from : ℕ → List Signal → Bool
+have_bits_from first [] = true
+have_bits_from first (s ∷ ss) = (s.first == first) && have_bits_from (first + signal_length s) ss
+
+-- bounds are at most 65,535, and a vector has at most 64 bits
+abbrev pub is_lawful_range : Option Range → Bool
+is_lawful_range None = true
+is_lawful_range (Some r) = nat_le r.left 65535 && nat_le r.right 65535 && nat_le (range_length r) 64
+
+-- an input is a net of the top
+abbrev pub is_declared : Design → Signal → Bool
+is_declared d s = nat_lt s.scope (length d.scopes) && is_lawful_range s.range && (not s.input || (s.net && (s.scope == 0)))
+
+abbrev pub same_range : Option Range → Option Range → Bool
+same_range None None = true
+same_range (Some r) (Some s) = (r.left == s.left) && (r.right == s.right)
+same_range _ _ = false
+
+abbrev pub same_flag : Bool → Bool → Bool
+same_flag true b = b
+same_flag false b = not b
+
+abbrev pub same_signal : Signal → Signal → Bool
+same_signal s t =
+    same_name s.name t.name && (s.scope == t.scope) && (s.number == t.number) && same_flag s.net t.net && same_flag s.input t.input && same_range s.range t.range && same_flag s.signed t.signed && (s.first == t.first)
+
+abbrev pub is_this : Signal → Option Signal → Bool
+is_this s (Some t) = same_signal s t
+is_this s None = false
+
+-- a signal that is named is one of the design, as it is declared there
+abbrev pub is_signal : Design → Signal → Bool
+is_signal d s = is_this s (slice_get d.signals s.number)
+
+-- ---- expressions, targets and statements
+
+-- a select has 1 to 64 bits, and the declared range of its signal or of its parameter; that of a parameter has as many bits as its value
+abbrev pub is_formed_select : Design → Source → Part → Bool
+is_formed_select d (OfSignal signal) part = is_signal d signal && same_range signal.range (Some part.range) && fits_64 part.width
+is_formed_select d (OfConstant bits) part = is_lawful_range (Some part.range) && (range_length part.range == length bits) && fits_64 part.width
+
+-- a literal has 1 to 64 bits, and 32 where no size was given (3.5.1); a replication has a count from 1 to 64
+abbrev pub is_formed : Design → Expression → Bool
+is_formed d (Literal bits signed sized) = fits_64 (length bits) && (sized || (length bits == 32))
+is_formed d (Name signal) = is_signal d signal
+is_formed d (Select source part index) = is_formed_select d source part && is_formed d index
+is_formed d (Unary op a) = is_formed d a
+is_formed d (Binary op a b) = is_formed d a && is_formed d b
+is_formed d (Choice c p q) = is_formed d c && is_formed d p && is_formed d q
+is_formed d (Join high low) = is_formed d high && is_formed d low
+is_formed d (Repeat count a) = fits_64 count && is_formed d a
+is_formed d (At place e) = is_formed d e
+
+-- a target that writes signals of this kind alone
+abbrev pub is_formed_target : Design → (Signal → Bool) → Target → Bool
+is_formed_target d allowed (Whole signal) = is_signal d signal && allowed signal
+is_formed_target d allowed (PartOf signal part index) = is_formed_select d (OfSignal signal) part && allowed signal && is_formed d index
+is_formed_target d allowed (Both high low) = is_formed_target d allowed high && is_formed_target d allowed low
+
+abbrev pub has_constant_selects : Target → Bool
+has_constant_selects (Whole signal) = true
+has_constant_selects (PartOf signal part index) = is_constant index
+has_constant_selects (Both high low) = has_constant_selects high && has_constant_selects low
+
+-- a block writes variables (table 6-1)
+abbrev mutual
+  pub is_formed_statement : Design → Statement → Bool
+  is_formed_statement d Empty = true
+  is_formed_statement d (Assignment place target e blocking) = is_formed_target d is_variable target && is_formed d e
+  is_formed_statement d (Then first rest) = is_formed_statement d first && is_formed_statement d rest
+  is_formed_statement d (If c taken other) = is_formed d c && is_formed_statement d taken && is_formed_statement d other
+  is_formed_statement d (Case kind subject arms) = is_formed d subject && are_formed_arms d arms
+
+  pub are_formed_arms : Design → Arms → Bool
+  are_formed_arms d (Arm items statement rest) = not (is_nil items) && list_all (is_formed d) items && is_formed_statement d statement && are_formed_arms d rest
+  are_formed_arms d (Default statement) = is_formed_statement d statement
+
+-- ---- processes
+
+-- an edge is one of a scalar
+abbrev pub is_formed_event : Design → Event → Bool
+is_formed_event d e = is_signal d e.signal && (not (is_edge e.edge) || is_none e.signal.range)
+
+abbrev pub are_formed_events : Design → Bool → List Event → Bool
+are_formed_events d true events = is_nil events
+are_formed_events d false events = not (is_nil events) && list_all (is_formed_event d) events
+
+abbrev pub is_whole : Target → Bool
+is_whole (Whole signal) = true
+is_whole _ = false
+
+-- an input port's assign writes the inner net, an output port's reads the inner signal (12.3.9.2)
+abbrev pub is_formed_port : Port → Target → Expression → Bool
+is_formed_port Written target e = true
+is_formed_port InputPort target e = is_whole target
+is_formed_port OutputPort target e = is_some (name_of e)
+
+-- an assign writes nets (table 6-1), by constant selects alone
+abbrev pub is_formed_process : Design → Process → Bool
+is_formed_process d (Continuous place port target_place target e) = is_formed_target d is_net target && has_constant_selects target && is_formed d e && is_formed_port port target e
+is_formed_process d (Always place star events statement) = are_formed_events d star events && is_formed_statement d statement
+
+pub record IsLawfulDesign (d : Design) : Type 0 where
+  pub scopes : are_scopes d.scopes ≡ true
+  pub numbered : are_numbered 0 0 d.signals ≡ true
+  pub bits_numbered : have_bits_from 0 d.signals ≡ true
+  pub declared : list_all (is_declared d) d.signals ≡ true
+  pub formed : list_all (is_formed_process d) d.processes ≡ true
+  pub few_bits : bit_count d ≤ 1048576
+  pub few_processes : length d.processes ≤ 65536

@@ -1,0 +1,254 @@
+-- Worked designs: their sizes, that they are accepted, and the values at the end of each slot.
+use Rattle.std.specs.Prelude.{◌≡◌, ℕ, true, false, [], ◌∷◌, None, Some, codes, map, drop, replicate}
+use Rattle.vs_four.specs.declared.Bit4.TheVariants.{Zero, One, X}
+use Rattle.vs_four.specs.Selects.{one_bit}
+use Rattle.vs_design.specs.Expressions.{Signal, BitNot, Add, Multiply, BitAnd, BitOr, BitXor, Name, Unary, Binary, Choice, At}
+use Rattle.vs_design.specs.Statements.{Whole, PartOf, If}
+use Rattle.vs_design.specs.Designs.{InputPort, OutputPort, Process, Continuous, Design}
+use Rattle.vs_design.specs.Footprints.{reads_of, writes_of}
+use Rattle.vs_design.specs.Sizes.{size}
+use Rattle.vs_design.specs.Levels.{level_order}
+use Rattle.vs_design.specs.Clocks.{clock_nets}
+use Rattle.vs_design.specs.Sets.{only, known_set}
+use Rattle.vs_design.specs.TimeZero.{families}
+use Rattle.vs_design.specs.Accepted.{IsAcceptedDesign}
+use Rattle.vs_design.specs.ExampleParts.{input_of, wire_of, reg_of, range_of, to_zero, clk, clk_signal, dec, plain, bit, blocking, nonblocking, assign, on_posedge, on_star, top_scope, design_of, slot_ends}
+
+-- inputs and registers of one bit that several examples have
+abbrev pub a1 : Signal
+a1 = input_of (codes "a") 1 None 1
+
+abbrev pub d1 : Signal
+d1 = input_of (codes "d") 1 None 1
+
+abbrev pub b2 : Signal
+b2 = input_of (codes "b") 2 None 2
+
+abbrev pub y2_net : Signal
+y2_net = wire_of (codes "y") 2 None 2
+
+abbrev pub y2 : Signal
+y2 = reg_of (codes "y") 2 None 2
+
+abbrev pub q2 : Signal
+q2 = reg_of (codes "q") 2 None 2
+
+abbrev pub y3 : Signal
+y3 = reg_of (codes "y") 3 None 3
+
+abbrev pub y3_net : Signal
+y3_net = wire_of (codes "y") 3 None 3
+
+abbrev pub w3 : Signal
+w3 = wire_of (codes "w") 3 None 3
+
+-- `assign y = a & b;`
+abbrev pub and_gate : Design
+and_gate = design_of (clk_signal ∷ a1 ∷ b2 ∷ y3_net ∷ []) (assign 51 (Whole y3_net) (Binary BitAnd (Name a1) (Name b2)) ∷ [])
+
+-- `always @(posedge clk) if (rst) q <= 4'd0; else q <= q + 4'd1;`
+abbrev pub rst1 : Signal
+rst1 = input_of (codes "rst") 1 None 1
+
+abbrev pub q2_wide : Signal
+q2_wide = reg_of (codes "q") 2 (to_zero 3) 2
+
+abbrev pub counter : Design
+counter = design_of (clk_signal ∷ rst1 ∷ q2_wide ∷ []) (on_posedge 54 clk_signal (If (Name rst1) (nonblocking 85 q2_wide (dec 4 0)) (nonblocking 101 q2_wide (Binary Add (Name q2_wide) (dec 4 1)))) ∷ [])
+
+-- `always @* if (r) y = 1'b1; else y = 1'b0; assign v = r ? 1'b1 : 1'b0;`
+abbrev pub r1 : Signal
+r1 = input_of (codes "r") 1 None 1
+
+abbrev pub v3_net : Signal
+v3_net = wire_of (codes "v") 3 None 3
+
+abbrev pub if_and_choice : Design
+if_and_choice = design_of (clk_signal ∷ r1 ∷ y2 ∷ v3_net ∷ [])
+    (on_star 56 (If (Name r1) (blocking 73 y2 (dec 1 1)) (blocking 88 y2 (dec 1 0))) ∷ assign 98 (Whole v3_net) (Choice (Name r1) (dec 1 1) (dec 1 0)) ∷ [])
+
+-- `always @(posedge clk) c <= b;`, and the same for `b <= a` and `a <= d`
+abbrev pub a2 : Signal
+a2 = reg_of (codes "a") 2 None 2
+
+abbrev pub b3 : Signal
+b3 = reg_of (codes "b") 3 None 3
+
+abbrev pub c4 : Signal
+c4 = reg_of (codes "c") 4 None 4
+
+abbrev pub three_registers : Design
+three_registers = design_of (clk_signal ∷ d1 ∷ a2 ∷ b3 ∷ c4 ∷ []) (on_posedge 73 clk_signal (nonblocking 95 c4 (Name b3)) ∷ on_posedge 103 clk_signal (nonblocking 125 b3 (Name a2)) ∷ on_posedge 133 clk_signal (nonblocking 155 a2 (Name d1)) ∷ [])
+
+-- `wire w; assign w = 1'b0; always @* y = w | a;`
+abbrev pub woken : Design
+woken = design_of (clk_signal ∷ a1 ∷ y2 ∷ w3 ∷ []) (assign 54 (Whole w3) (dec 1 0) ∷ on_star 71 (blocking 81 y2 (Binary BitOr (Name w3) (Name a1))) ∷ [])
+
+-- `always @(posedge clk) q <= 1'b1;`
+abbrev pub q1 : Signal
+q1 = reg_of (codes "q") 1 None 1
+
+abbrev pub set_once : Design
+set_once = design_of (clk_signal ∷ q1 ∷ []) (on_posedge 36 clk_signal (nonblocking 58 q1 (dec 1 1)) ∷ [])
+
+-- `assign y = v; assign v = ~u; assign u = ~a;`
+abbrev pub u3 : Signal
+u3 = wire_of (codes "u") 3 None 3
+
+abbrev pub v4 : Signal
+v4 = wire_of (codes "v") 4 None 4
+
+abbrev pub chain : Design
+chain = design_of (clk_signal ∷ a1 ∷ y2_net ∷ u3 ∷ v4 ∷ []) (assign 58 (Whole y2_net) (Name v4) ∷ assign 72 (Whole v4) (Unary BitNot (Name u3)) ∷ assign 87 (Whole u3) (Unary BitNot (Name a1)) ∷ [])
+
+-- `always @(posedge clk) q <= d; always @* y = ~q;`
+abbrev pub quiet : Design
+quiet = design_of (clk_signal ∷ d1 ∷ q2 ∷ y3 ∷ []) (on_posedge 60 clk_signal (nonblocking 82 q2 (Name d1)) ∷ on_star 90 (blocking 100 y3 (Unary BitNot (Name q2))) ∷ [])
+
+-- `inv g(a, y);` of `module inv(input p, output q); assign q = ~p; endmodule`
+abbrev pub p3_inner : Signal
+p3_inner = record { name = codes "p"; scope = 1; number = 3; net = true; input = false; range = None; signed = false; first = 3 }
+
+abbrev pub q4_inner : Signal
+q4_inner = record { name = codes "q"; scope = 1; number = 4; net = true; input = false; range = None; signed = false; first = 4 }
+
+abbrev pub port : Design
+port = record {
+  scopes = top_scope ∷ record { name = codes "g"; parent = Some 0; instance = true } ∷ [];
+  signals = clk_signal ∷ a1 ∷ y2_net ∷ p3_inner ∷ q4_inner ∷ [];
+  processes = Continuous 100 InputPort 100 (Whole p3_inner) (Name a1) ∷ Continuous 100 OutputPort 109 (Whole y2_net) (Name q4_inner) ∷ assign 36 (Whole q4_inner) (Unary BitNot (Name p3_inner)) ∷ [];
+}
+
+-- `reg1 r((clk), d, y);` of `module reg1(input c, input d, output reg q); always @(posedge c) q <= d; endmodule`: its net c is a clock net
+abbrev pub c3_inner : Signal
+c3_inner = record { name = codes "c"; scope = 1; number = 3; net = true; input = false; range = None; signed = false; first = 3 }
+
+abbrev pub d4_inner : Signal
+d4_inner = record { name = codes "d"; scope = 1; number = 4; net = true; input = false; range = None; signed = false; first = 4 }
+
+abbrev pub q5_inner : Signal
+q5_inner = record { name = codes "q"; scope = 1; number = 5; net = false; input = false; range = None; signed = false; first = 5 }
+
+abbrev pub clocked_instance : Design
+clocked_instance = record {
+  scopes = top_scope ∷ record { name = codes "r"; parent = Some 0; instance = true } ∷ [];
+  signals = clk_signal ∷ d1 ∷ y2_net ∷ c3_inner ∷ d4_inner ∷ q5_inner ∷ [];
+  processes = Continuous 130 InputPort 130 (Whole c3_inner) (At 138 (At 139 (Name clk_signal))) ∷ Continuous 130 InputPort 130 (Whole d4_inner) (Name d1) ∷ Continuous 130 OutputPort 145 (Whole y2_net) (Name q5_inner) ∷ on_posedge 47 c3_inner (nonblocking 67 q5_inner (Name d4_inner)) ∷ [];
+}
+
+abbrev pub a_wide : Signal
+a_wide = input_of (codes "a") 1 (to_zero 3) 1
+
+abbrev pub b_wide : Signal
+b_wide = input_of (codes "b") 2 (to_zero 3) 5
+
+-- `assign y = a + b;` of four bits
+abbrev pub y9_wide : Signal
+y9_wide = wire_of (codes "y") 3 (to_zero 3) 9
+
+abbrev pub sum : Design
+sum = design_of (clk_signal ∷ a_wide ∷ b_wide ∷ y9_wide ∷ []) (assign 0 (Whole y9_wide) (Binary Add (Name a_wide) (Name b_wide)) ∷ [])
+
+-- `assign s[i] = a[i] ^ b[i] ^ c[i]; assign c[i+1] = a[i] & b[i] | c[i] & (a[i] | b[i]);` for i from 0 to 3
+abbrev pub s_wide : Signal
+s_wide = wire_of (codes "s") 3 (to_zero 3) 9
+
+abbrev pub c_wide : Signal
+c_wide = wire_of (codes "c") 4 (to_zero 4) 13
+
+abbrev pub sum_bit : ℕ → Process
+sum_bit i = assign 0 (PartOf s_wide (one_bit (range_of 3 0)) (plain i)) (Binary BitXor (Binary BitXor (bit a_wide 3 (plain i)) (bit b_wide 3 (plain i))) (bit c_wide 4 (plain i)))
+
+abbrev pub carry_bit : ℕ → Process
+carry_bit i = assign 0 (PartOf c_wide (one_bit (range_of 4 0)) (Binary Add (plain i) (plain 1)))
+    (Binary BitOr (Binary BitAnd (bit a_wide 3 (plain i)) (bit b_wide 3 (plain i))) (Binary BitAnd (bit c_wide 4 (plain i)) (Binary BitOr (bit a_wide 3 (plain i)) (bit b_wide 3 (plain i)))))
+
+abbrev pub adder : Design
+adder = design_of (clk_signal ∷ a_wide ∷ b_wide ∷ s_wide ∷ c_wide ∷ [])
+    (assign 0 (PartOf c_wide (one_bit (range_of 4 0)) (plain 0)) (dec 1 0) ∷ sum_bit 0 ∷ carry_bit 0 ∷ sum_bit 1 ∷ carry_bit 1 ∷ sum_bit 2 ∷ carry_bit 2 ∷ sum_bit 3 ∷ carry_bit 3 ∷ [])
+
+-- `assign y = a * b;` of 64 bits
+abbrev pub a64 : Signal
+a64 = input_of (codes "a") 1 (to_zero 63) 1
+
+abbrev pub b64 : Signal
+b64 = input_of (codes "b") 2 (to_zero 63) 65
+
+abbrev pub y64 : Signal
+y64 = wire_of (codes "y") 3 (to_zero 63) 129
+
+abbrev pub product : Design
+product = design_of (clk_signal ∷ a64 ∷ b64 ∷ y64 ∷ []) (assign 0 (Whole y64) (Binary Multiply (Name a64) (Name b64)) ∷ [])
+
+pub record DesignsComputed : Type 0 where
+  -- `y = a & b`: bits clk, a, b, y
+  pub and_gate_size : size and_gate ≡ 5
+  pub and_gate_accepted : IsAcceptedDesign and_gate clk
+  pub and_gate_ends : slot_ends and_gate (Zero ∷ One ∷ Zero ∷ []) ((Zero ∷ One ∷ One ∷ []) ∷ []) ≡
+      ((Zero ∷ One ∷ Zero ∷ Zero ∷ []) ∷ (One ∷ One ∷ Zero ∷ Zero ∷ []) ∷ (Zero ∷ One ∷ One ∷ One ∷ []) ∷ (One ∷ One ∷ One ∷ One ∷ []) ∷ [])
+  -- a counter that `rst` clears: bits clk, rst and the four of q
+  pub counter_size : size counter ≡ 39
+  pub counter_accepted : IsAcceptedDesign counter clk
+  pub counter_ends : slot_ends counter (Zero ∷ One ∷ []) ((Zero ∷ Zero ∷ []) ∷ []) ≡
+      ((Zero ∷ One ∷ X ∷ X ∷ X ∷ X ∷ []) ∷ (One ∷ One ∷ Zero ∷ Zero ∷ Zero ∷ Zero ∷ []) ∷ (Zero ∷ Zero ∷ Zero ∷ Zero ∷ Zero ∷ Zero ∷ []) ∷ (One ∷ Zero ∷ One ∷ Zero ∷ Zero ∷ Zero ∷ []) ∷ [])
+  -- under an unknown condition `if` takes its other branch, and `?:` gives x: bits clk, r, y, v
+  pub if_and_choice_size : size if_and_choice ≡ 10
+  pub if_and_choice_accepted : IsAcceptedDesign if_and_choice clk
+  pub if_and_choice_ends : slot_ends if_and_choice (Zero ∷ One ∷ []) ((Zero ∷ X ∷ []) ∷ []) ≡
+      ((Zero ∷ One ∷ One ∷ One ∷ []) ∷ (One ∷ One ∷ One ∷ One ∷ []) ∷ (Zero ∷ X ∷ Zero ∷ X ∷ []) ∷ (One ∷ X ∷ Zero ∷ X ∷ []) ∷ [])
+  -- each register takes the old value of the one before it: bits clk, d, a, b, c
+  pub three_registers_size : size three_registers ≡ 11
+  pub three_registers_accepted : IsAcceptedDesign three_registers clk
+  pub three_registers_ends : slot_ends three_registers (Zero ∷ One ∷ []) ((Zero ∷ Zero ∷ []) ∷ (Zero ∷ One ∷ []) ∷ []) ≡
+      ((Zero ∷ One ∷ X ∷ X ∷ X ∷ []) ∷ (One ∷ One ∷ One ∷ X ∷ X ∷ []) ∷ (Zero ∷ Zero ∷ One ∷ X ∷ X ∷ []) ∷ (One ∷ Zero ∷ Zero ∷ One ∷ X ∷ []) ∷ (Zero ∷ One ∷ Zero ∷ One ∷ X ∷ []) ∷ (One ∷ One ∷ One ∷ Zero ∷ One ∷ []) ∷ [])
+  -- a block that an input wakes at time zero: bits clk, a, y, w
+  pub woken_size : size woken ≡ 6
+  pub woken_accepted : IsAcceptedDesign woken clk
+  pub woken_ends : slot_ends woken (Zero ∷ One ∷ []) [] ≡
+      ((Zero ∷ One ∷ One ∷ Zero ∷ []) ∷ (One ∷ One ∷ One ∷ Zero ∷ []) ∷ [])
+  -- a register that is set, without data inputs: bits clk, q
+  pub set_once_size : size set_once ≡ 4
+  pub set_once_accepted : IsAcceptedDesign set_once clk
+  pub set_once_ends : slot_ends set_once (Zero ∷ []) ((Zero ∷ []) ∷ []) ≡
+      ((Zero ∷ X ∷ []) ∷ (One ∷ One ∷ []) ∷ (Zero ∷ One ∷ []) ∷ (One ∷ One ∷ []) ∷ [])
+  -- assigns settle in level order, whatever the order of the text: bits clk, a, y, u, v
+  pub chain_size : size chain ≡ 7
+  pub chain_accepted : IsAcceptedDesign chain clk
+  pub chain_ends : slot_ends chain (Zero ∷ One ∷ []) ((Zero ∷ Zero ∷ []) ∷ []) ≡
+      ((Zero ∷ One ∷ One ∷ Zero ∷ One ∷ []) ∷ (One ∷ One ∷ One ∷ Zero ∷ One ∷ []) ∷ (Zero ∷ Zero ∷ Zero ∷ One ∷ Zero ∷ []) ∷ (One ∷ Zero ∷ Zero ∷ One ∷ Zero ∷ []) ∷ [])
+  -- a block that is quiet at time zero: bits clk, d, q, y
+  pub quiet_size : size quiet ≡ 8
+  pub quiet_accepted : IsAcceptedDesign quiet clk
+  pub quiet_ends : slot_ends quiet (Zero ∷ One ∷ []) [] ≡
+      ((Zero ∷ One ∷ X ∷ X ∷ []) ∷ (One ∷ One ∷ One ∷ Zero ∷ []) ∷ [])
+  -- an instance: bits clk, a, y of the top, p and q within it
+  pub port_size : size port ≡ 6
+  pub port_accepted : IsAcceptedDesign port clk
+  pub port_ends : slot_ends port (Zero ∷ One ∷ []) [] ≡
+      ((Zero ∷ One ∷ Zero ∷ One ∷ Zero ∷ []) ∷ (One ∷ One ∷ Zero ∷ One ∷ Zero ∷ []) ∷ [])
+  pub chain_order : level_order chain ≡ 2 ∷ 1 ∷ 0 ∷ []
+  -- a ripple adder of four bits: 0111 and 0011 give 1010, with the carries 1110 above the first; bits clk, a, b, s, c
+  pub adder_size : size adder ≡ 42
+  pub adder_reads : reads_of (carry_bit 1) ≡ 2 ∷ 6 ∷ 14 ∷ 2 ∷ 6 ∷ []
+  pub adder_writes : writes_of (carry_bit 1) ≡ 15 ∷ []
+  pub adder_accepted : IsAcceptedDesign adder clk
+  pub adder_ends : map (drop 9) (slot_ends adder (Zero ∷ One ∷ One ∷ One ∷ Zero ∷ One ∷ One ∷ Zero ∷ Zero ∷ []) []) ≡ ((Zero ∷ One ∷ Zero ∷ One ∷ Zero ∷ One ∷ One ∷ One ∷ Zero ∷ []) ∷ (Zero ∷ One ∷ Zero ∷ One ∷ Zero ∷ One ∷ One ∷ One ∷ Zero ∷ []) ∷ [])
+  -- the size of a product of 64 bits
+  pub product_size : size product ≡ 16577
+  -- a register in an instance, on a clock net of its own: bits clk, d, y of the top, c, d and q within it
+  pub clocked_instance_size : size clocked_instance ≡ 8
+  pub clocked_instance_accepted : IsAcceptedDesign clocked_instance clk
+  pub clocked_instance_nets : clock_nets clocked_instance 0 ≡ 0 ∷ 3 ∷ []
+  pub clocked_instance_ends : slot_ends clocked_instance (Zero ∷ One ∷ []) ((Zero ∷ Zero ∷ []) ∷ []) ≡
+      ((Zero ∷ One ∷ X ∷ Zero ∷ One ∷ X ∷ []) ∷ (One ∷ One ∷ One ∷ One ∷ One ∷ One ∷ []) ∷ (Zero ∷ Zero ∷ One ∷ Zero ∷ Zero ∷ One ∷ []) ∷ (One ∷ Zero ∷ Zero ∷ One ∷ Zero ∷ Zero ∷ []) ∷ [])
+  -- an x bit of one operand makes the whole sum x, and a known vector gives the sum: bits clk, a, b, y
+  pub sum_size : size sum ≡ 29
+  pub sum_accepted : IsAcceptedDesign sum clk
+  pub sum_ends : slot_ends sum (Zero ∷ Zero ∷ Zero ∷ Zero ∷ Zero ∷ One ∷ Zero ∷ Zero ∷ Zero ∷ []) ((Zero ∷ One ∷ Zero ∷ X ∷ Zero ∷ One ∷ Zero ∷ Zero ∷ Zero ∷ []) ∷ (Zero ∷ One ∷ Zero ∷ One ∷ Zero ∷ One ∷ Zero ∷ Zero ∷ Zero ∷ []) ∷ []) ≡
+      ((Zero ∷ Zero ∷ Zero ∷ Zero ∷ Zero ∷ One ∷ Zero ∷ Zero ∷ Zero ∷ One ∷ Zero ∷ Zero ∷ Zero ∷ []) ∷ (One ∷ Zero ∷ Zero ∷ Zero ∷ Zero ∷ One ∷ Zero ∷ Zero ∷ Zero ∷ One ∷ Zero ∷ Zero ∷ Zero ∷ []) ∷ (Zero ∷ One ∷ Zero ∷ X ∷ Zero ∷ One ∷ Zero ∷ Zero ∷ Zero ∷ X ∷ X ∷ X ∷ X ∷ []) ∷ (One ∷ One ∷ Zero ∷ X ∷ Zero ∷ One ∷ Zero ∷ Zero ∷ Zero ∷ X ∷ X ∷ X ∷ X ∷ []) ∷ (Zero ∷ One ∷ Zero ∷ One ∷ Zero ∷ One ∷ Zero ∷ Zero ∷ Zero ∷ Zero ∷ One ∷ One ∷ Zero ∷ []) ∷ (One ∷ One ∷ Zero ∷ One ∷ Zero ∷ One ∷ Zero ∷ Zero ∷ Zero ∷ Zero ∷ One ∷ One ∷ Zero ∷ []) ∷ [])
+  -- sets at time zero: a register that a quiet block reads, and what the block writes; a net that is 0
+  pub quiet_register : (families quiet 0 (level_order quiet)).early 2 ≡ only X
+  pub quiet_block : (families quiet 0 (level_order quiet)).early 3 ≡ only X
+  pub woken_input : (families woken 0 (level_order woken)).late 1 ≡ known_set
+  pub woken_net : (families woken 0 (level_order woken)).early 3 ≡ only Zero
+  pub product_ends : map (drop 129) (slot_ends product (Zero ∷ replicate 128 One) []) ≡ (One ∷ replicate 63 Zero) ∷ (One ∷ replicate 63 Zero) ∷ []

@@ -1,0 +1,90 @@
+-- The laws of a design.
+use Rattle.std.specs.Prelude.{◌≡◌, ℕ, true, ◌&&◌, List, [], ◌∷◌, ◌≤◌, ◌<◌, ◌↔◌, ◌⊎◌, length, ◌++◌, nat_lt, Some, slice_get}
+use Rattle.std.specs.List.Sorted.{IsStrictlyIncreasing}
+use Rattle.vs_net.specs.Network.{State}
+use Rattle.vs_net.specs.Lawful.{IsLawful}
+use Rattle.vs_net.specs.Queue.{Slot, Choice, IsFirst, IsCompleted, start, slots_of, ends}
+use Rattle.vs_net.specs.Solution.{IsSolution, IsSlotEnd}
+use Rattle.vs_net.specs.Settle.{settle, IsFed}
+use Rattle.vs_net.specs.Laws.{IsKnownVector}
+use Rattle.vs_net.specs.LevelRun.{level_run}
+use Rattle.vs_net.specs.Bound.{IsWeighed, bound, IsPartOfRun, HasNoNext}
+use Rattle.vs_design.specs.Statements.{Statement}
+use Rattle.vs_design.specs.Designs.{Event, Process, Always, Design, bit_count}
+use Rattle.vs_design.specs.Footprints.{contains, all_reads, writes_of, waits_of, ascending}
+use Rattle.vs_design.specs.Rules.{missing_bits}
+use Rattle.vs_design.specs.Clocks.{port_targets, clock_nets}
+use Rattle.vs_design.specs.Networks.{network_of}
+use Rattle.vs_design.specs.Bounds.{feeds_of, size_of}
+use Rattle.vs_design.specs.Levels.{is_level_order}
+use Rattle.vs_design.specs.Elaborated.{IsLawfulDesign}
+use Rattle.vs_design.specs.Cycles.{IsDecided, IsOrder}
+use Rattle.vs_design.specs.Refusals.{IsUnrefused}
+use Rattle.vs_design.specs.TimeZero.{Families, families}
+use Rattle.vs_design.specs.Equations.{IsOrderly, IsSolved}
+use Rattle.vs_design.specs.Accepted.{IsAcceptedDesign}
+
+-- where elaboration gives the design, all bits that a process reads, writes and waits on are bits of the design
+abbrev pub BitsOfDesign : Type 0
+BitsOfDesign = (d : Design) → IsLawfulDesign d → (p : ℕ) (process : Process) → slice_get d.processes p ≡ Some process
+    → (b : ℕ) → contains (all_reads process ++ (writes_of process ++ waits_of process)) b ≡ true → b < bit_count d
+
+-- `@*` waits on every signal that is read, so no bit is missing
+abbrev pub StarMissesNone : Type 0
+StarMissesNone = (d : Design) → IsLawfulDesign d → (p place : ℕ) (events : List Event) (st : Statement) → slice_get d.processes p ≡ Some (Always place true events st) → missing_bits (Always place true events st) ≡ []
+
+-- an ascending list has the bits of the list that are below the count, each once
+abbrev pub AscendingHas : Type 0
+AscendingHas = (count : ℕ) (bs : List ℕ) (b : ℕ) → contains (ascending count bs) b ≡ (contains bs b && nat_lt b count)
+
+abbrev pub AscendingRises : Type 0
+AscendingRises = (count : ℕ) (bs : List ℕ) → IsStrictlyIncreasing (ascending count bs)
+
+-- the clock nets are the clock input, and each one-bit net that is the target of an input port's assign whose expression is the name of a clock net alone
+abbrev pub ClockNetsAre : Type 0
+ClockNetsAre = (d : Design) (clock b : ℕ) → (contains (clock_nets d clock) b ≡ true) ↔ ((b ≡ clock) ⊎ (contains (port_targets (clock_nets d clock) d.processes) b ≡ true))
+
+-- where no rule on blocks and drivers is broken, the families found along a level order solve the equations of time zero, whichever order it is, and no other pair does
+abbrev pub OneFamilies : Type 0
+OneFamilies = (d : Design) → IsOrderly d → (clock : ℕ) (order : List ℕ) → is_level_order d order ≡ true → IsSolved d clock (families d clock order)
+    × ((f g : Families) → IsSolved d clock f → IsSolved d clock g → (b : ℕ) → (f.early b ≡ g.early b) × (f.late b ≡ g.late b))
+
+-- the level order is found exactly where there is no cycle: where it isn't there is a cycle, and where there is any level order there is none
+abbrev pub OrderOrCycle : Type 0
+OrderOrCycle = (d : Design) → IsDecided d
+
+abbrev pub LevelOrderIs : Type 0
+LevelOrderIs = (d : Design) (order : List ℕ) → is_level_order d order ≡ true → IsOrder d order
+
+-- a design that elaboration gives is accepted exactly where nothing refuses it
+abbrev pub AcceptedExactly : Type 0
+AcceptedExactly = (d : Design) (name : List ℕ) → IsLawfulDesign d → IsAcceptedDesign d name ↔ IsUnrefused d name
+
+-- the network of an accepted design is lawful
+abbrev pub AcceptedIsLawful : Type 0
+AcceptedIsLawful = (d : Design) (name : List ℕ) (a : IsAcceptedDesign d name) → IsLawful (network_of d a.clock.first)
+
+-- so every completed run of its event queue, in whatever order of its steps, ends each slot with the one solution
+abbrev pub EveryOrderOfDesign : Type 0
+EveryOrderOfDesign = (d : Design) (name : List ℕ) (a : IsAcceptedDesign d name) → let n = network_of d a.clock.first in (first v : State) (vs : List State) → IsFirst n first → IsKnownVector n v → (choices : List Choice) → IsCompleted n (start n first v vs) choices → IsSolution n n.idle (slots_of (v ∷ vs)) (ends n (start n first v vs) choices)
+
+-- the equations of an accepted design have no second solution
+abbrev pub OneSolutionOfDesign : Type 0
+OneSolutionOfDesign = (d : Design) (name : List ℕ) (a : IsAcceptedDesign d name) → let n = network_of d a.clock.first in (before : State) (slots : List Slot) (xs ys : List State) → IsSolution n before slots xs → IsSolution n before slots ys → xs ≡ ys
+
+-- in each of its level orders the level run is a completed run, and it ends with the solution
+abbrev pub LevelRunOfDesign : Type 0
+LevelRunOfDesign = (d : Design) (name : List ℕ) (a : IsAcceptedDesign d name) (order : List ℕ) → is_level_order d order ≡ true → let n = network_of d a.clock.first in (first v : State) (vs : List State) → IsFirst n first → IsKnownVector n v → let q = start n first v vs in IsCompleted n q (level_run n order q) × IsSolution n n.idle (slots_of (v ∷ vs)) (ends n q (level_run n order q))
+
+-- where inputs and registers have their values, one pass over any of its level orders gives the values at the slot's end
+abbrev pub OnePassOfDesign : Type 0
+OnePassOfDesign = (d : Design) (name : List ℕ) (a : IsAcceptedDesign d name) (order : List ℕ) → is_level_order d order ≡ true → let n = network_of d a.clock.first in (before : State) (slot : Slot) (s : State) → IsFed n before slot s → IsSlotEnd n before slot (settle n order s)
+
+-- its processes have weights, so between two beginnings of slots there are at most `bound` steps, in any order
+abbrev pub BoundOfDesign : Type 0
+BoundOfDesign = (d : Design) (name : List ℕ) (a : IsAcceptedDesign d name) → let n = network_of d a.clock.first in (w : ℕ → ℕ) × (r : ℕ → ℕ) × IsWeighed n (feeds_of d a.clock.first) (size_of d) w r
+    × ((first v : State) (vs : List State) → IsFirst n first → IsKnownVector n v → (earlier steps : List Choice) → IsPartOfRun n (start n first v vs) (earlier ++ steps) → HasNoNext steps → length steps ≤ bound n w r)
+
+-- every run of its event queue can be continued to a completed one
+abbrev pub RunsEndOfDesign : Type 0
+RunsEndOfDesign = (d : Design) (name : List ℕ) (a : IsAcceptedDesign d name) → let n = network_of d a.clock.first in (first v : State) (vs : List State) → IsFirst n first → IsKnownVector n v → (earlier : List Choice) → IsPartOfRun n (start n first v vs) earlier → (later : List Choice) × IsCompleted n (start n first v vs) (earlier ++ later)

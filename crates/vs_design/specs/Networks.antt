@@ -1,0 +1,43 @@
+-- A design as a network of processes, on which the event queue runs (IEEE 1364-2005, 11.3 and 11.4).
+use Rattle.std.specs.Prelude.{ℕ, zero, suc, Bool, true, false, List, [], ◌∷◌, ◌++◌, map, length, if◌then◌else◌, ◌==◌}
+use Rattle.vs_four.specs.declared.Bit4.TheVariants.{X, Z}
+use Rattle.vs_net.specs.Network.{State, Network}
+use Rattle.vs_net.specs.Network as N
+use Rattle.vs_design.specs.Expressions.{Signal}
+use Rattle.vs_design.specs.Values.{bits_of_signal}
+use Rattle.vs_design.specs.Statements.{Statement}
+use Rattle.vs_design.specs.Bodies.{assignment_writes, body}
+use Rattle.vs_design.specs.Designs.{Event, Process, Continuous, Always, is_clocked, Design, top_inputs}
+use Rattle.vs_design.specs.Footprints.{contains, all_reads, writes_of, waits_of, net_bits}
+use Rattle.vs_design.specs.Clocks.{posedge_bit}
+use Rattle.std.specs.Prelude.{unwrap_or}
+
+abbrev pub block_process : Bool → Process → List Event → Statement → N.Process
+block_process true p events statement = N.Clocked (unwrap_or (posedge_bit events) 0) (contains (writes_of p)) (body statement)
+block_process false p events statement = N.Comb (contains (waits_of p)) (contains (writes_of p)) (body statement)
+
+abbrev pub process_of : Process → N.Process
+process_of (Continuous place port target_place target e) =
+    N.Assign (contains (all_reads (Continuous place port target_place target e))) (contains (writes_of (Continuous place port target_place target e))) (assignment_writes target e)
+process_of (Always place star events statement) = block_process (is_clocked (Always place star events statement)) (Always place star events statement) events statement
+
+-- each input of the top is a writer of its own; the clock is the one whose bit is given
+abbrev pub writer_of : ℕ → Signal → N.Process
+writer_of clock s = if s.first == clock then N.Clock clock else N.Input (bits_of_signal s)
+
+-- the processes by number, then the inputs in order of declaration
+abbrev pub all_processes : Design → ℕ → List N.Process
+all_processes d clock = map process_of d.processes ++ map (writer_of clock) (top_inputs d)
+
+-- the process of this number, or an input without bits
+abbrev pub at_or_input : List N.Process → ℕ → N.Process
+at_or_input [] p = N.Input []
+at_or_input (process ∷ ps) zero = process
+at_or_input (process ∷ ps) (suc p) = at_or_input ps p
+
+-- before anything writes it a net bit is z (4.2.1), and a variable or an input x (4.2.2)
+abbrev pub idle_value : Design → State
+idle_value d b = if contains (net_bits d) b then Z else X
+
+abbrev pub network_of : Design → ℕ → Network
+network_of d clock = record { process = at_or_input (all_processes d clock); count = length (all_processes d clock); idle = idle_value d }

@@ -1,0 +1,94 @@
+-- What each refusal says of the design.
+use Rattle.std.specs.Prelude.{◌≡◌, ℕ, ◌≤◌, ◌<◌, Bool, true, false, not, ◌||◌, List, [], ◌∷◌, ◌⊎◌, ◌↔◌, Some, None, slice_get}
+use Rattle.std.specs.List.{list_any, list_all}
+use Rattle.vs_design.specs.Expressions.{Signal}
+use Rattle.vs_design.specs.Values.{bits_of_signal}
+use Rattle.vs_design.specs.Designs.{Process, process_place, Design}
+use Rattle.vs_design.specs.Footprints.{contains, writes_of}
+use Rattle.vs_design.specs.Fits.{fits_process}
+use Rattle.vs_design.specs.Elaborated.{IsLawfulDesign}
+use Rattle.vs_design.specs.Sizes.{size}
+use Rattle.vs_design.specs.Rules.{mixed_assigns, missing_bits, latches, shared_bits, drivers}
+use Rattle.vs_design.specs.Clocks.{clock_input, clock_nets, reads_clock, has_other_clock}
+use Rattle.vs_design.specs.Levels.{level_order}
+use Rattle.vs_design.specs.TimeZero.{families, sleeps}
+use Rattle.vs_design.specs.Refusals.{WidthRefusal, TooWide, Division, TooLarge, wide_in, divisions_in, width_refusal, BlockRefusal, MixedAssign, Sensitivity, Latch, block_refusal, DriverRefusal, TwoDrivers, driver_refusal, ClockRefusal, NoClock, ClockRead, NotTheClock, clock_refusal, ZeroRefusal, TimeZero, zero_refusal}
+
+-- n is the least of these numbers
+pub record IsLeastOf (ns : List ℕ) (n : ℕ) : Type 0 where
+  pub there : contains ns n ≡ true
+  pub least : (m : ℕ) → contains ns m ≡ true → n ≤ m
+
+-- p is the process, and no process before it breaks the rule
+pub record IsFirstOf (d : Design) (breaks : Process → Bool) (p : ℕ) (process : Process) : Type 0 where
+  pub is : slice_get d.processes p ≡ Some process
+  pub broken : breaks process ≡ true
+  pub before : (q : ℕ) (other : Process) → q < p → slice_get d.processes q ≡ Some other → breaks other ≡ false
+
+-- ---- lengths
+
+abbrev pub is_unfit : Process → Bool
+is_unfit process = not (fits_process process)
+
+-- the first process that has something too wide or a division; of its places the least, and at one place TooWide
+abbrev pub IsWidthRefusal : Design → WidthRefusal → Type 0
+IsWidthRefusal d (TooWide at) = (p : ℕ) × (process : Process) × IsFirstOf d is_unfit p process × IsLeastOf (wide_in process) at × ((n : ℕ) → contains (divisions_in process) n ≡ true → at ≤ n)
+IsWidthRefusal d (Division at) = (p : ℕ) × (process : Process) × IsFirstOf d is_unfit p process × IsLeastOf (divisions_in process) at × ((n : ℕ) → contains (wide_in process) n ≡ true → at < n)
+IsWidthRefusal d (TooLarge n) = (list_all fits_process d.processes ≡ true) × (n ≡ size d) × (16777216 < n)
+
+abbrev pub WidthRefusalIs : Type 0
+WidthRefusalIs = (d : Design) → IsLawfulDesign d → (r : WidthRefusal) → width_refusal d ≡ Some r → IsWidthRefusal d r
+
+-- ---- blocks
+
+abbrev pub is_some_of : List ℕ → Bool
+is_some_of [] = false
+is_some_of (n ∷ ns) = true
+
+abbrev pub breaks_block : Process → Bool
+breaks_block process = is_some_of (mixed_assigns process) || is_some_of (missing_bits process) || is_some_of (latches process)
+
+-- the first process that breaks a rule on blocks; within it the first mixed assignment in the text, then the least signal with a missing bit, then the least bit that may latch
+abbrev pub IsBlockRefusal : Design → BlockRefusal → Type 0
+IsBlockRefusal d (MixedAssign at) = (p : ℕ) × (process : Process) × IsFirstOf d breaks_block p process × IsLeastOf (mixed_assigns process) at
+IsBlockRefusal d (Sensitivity p signal at) =
+    (process : Process) × IsFirstOf d breaks_block p process × (at ≡ process_place process) × (mixed_assigns process ≡ [])
+    × ((b : ℕ) × IsLeastOf (missing_bits process) b × ((s : Signal) × (slice_get d.signals signal ≡ Some s) × (contains (bits_of_signal s) b ≡ true)))
+    × ((q : ℕ) (s : Signal) (b : ℕ) → slice_get d.signals q ≡ Some s → contains (bits_of_signal s) b ≡ true → contains (missing_bits process) b ≡ true → signal ≤ q)
+IsBlockRefusal d (Latch p bit at) = (process : Process) × IsFirstOf d breaks_block p process × (at ≡ process_place process) × (mixed_assigns process ≡ []) × (missing_bits process ≡ []) × IsLeastOf (latches process) bit
+
+abbrev pub BlockRefusalIs : Type 0
+BlockRefusalIs = (d : Design) → IsLawfulDesign d → (r : BlockRefusal) → block_refusal d ≡ Some r → IsBlockRefusal d r
+
+-- ---- drivers
+
+-- the writers of a bit by number, the least first; an assign that has it twice is there twice
+abbrev pub DriversAre : Type 0
+DriversAre = (d : Design) (b p : ℕ) → (contains (drivers d b) p ≡ true) ↔ ((process : Process) × (slice_get d.processes p ≡ Some process) × (contains (writes_of process) b ≡ true))
+
+-- the least bit with two writers, its least writer and the least of the others
+abbrev pub IsDriverRefusal : Design → DriverRefusal → Type 0
+IsDriverRefusal d (TwoDrivers bit first second at) =
+    IsLeastOf (shared_bits d) bit × ((rest : List ℕ) × (drivers d bit ≡ first ∷ second ∷ rest)) × (first ≤ second) × ((p : ℕ) → contains (drivers d bit) p ≡ true → (p ≡ first) ⊎ (second ≤ p))
+    × ((process : Process) × (slice_get d.processes second ≡ Some process) × (at ≡ process_place process))
+
+abbrev pub DriverRefusalIs : Type 0
+DriverRefusalIs = (d : Design) (r : DriverRefusal) → driver_refusal d ≡ Some r → IsDriverRefusal d r
+
+-- ---- the clock, and time zero
+
+abbrev pub IsClockRefusal : Design → List ℕ → ClockRefusal → Type 0
+IsClockRefusal d name NoClock = clock_input d name ≡ None
+IsClockRefusal d name (ClockRead p at) = (clock : Signal) × (clock_input d name ≡ Some clock) × ((process : Process) × IsFirstOf d (reads_clock (clock_nets d clock.first)) p process × (at ≡ process_place process))
+IsClockRefusal d name (NotTheClock p at) =
+    (clock : Signal) × (clock_input d name ≡ Some clock) × (list_any (reads_clock (clock_nets d clock.first)) d.processes ≡ false)
+    × ((process : Process) × IsFirstOf d (has_other_clock (clock_nets d clock.first)) p process × (at ≡ process_place process))
+
+abbrev pub ClockRefusalIs : Type 0
+ClockRefusalIs = (d : Design) (name : List ℕ) (r : ClockRefusal) → clock_refusal d name ≡ Some r → IsClockRefusal d name r
+
+abbrev pub IsZeroRefusal : Design → List ℕ → ZeroRefusal → Type 0
+IsZeroRefusal d name (TimeZero p at) = (clock : Signal) × (clock_input d name ≡ Some clock) × ((process : Process) × IsFirstOf d (sleeps (families d clock.first (level_order d))) p process × (at ≡ process_place process))
+
+abbrev pub ZeroRefusalIs : Type 0
+ZeroRefusalIs = (d : Design) (name : List ℕ) (r : ZeroRefusal) → zero_refusal d name ≡ Some r → IsZeroRefusal d name r

@@ -1,0 +1,201 @@
+-- What a refusal of an elaborated design carries, and which comes first. A refusal's `at` is a place in the text.
+use Rattle.std.specs.Prelude.{◌≡◌, ℕ, zero, suc, Bool, true, not, ◌&&◌, List, [], ◌∷◌, ◌++◌, min, get_or, if◌then◌else◌, nat_le, nat_lt, Option, Some, None, option_map}
+use Rattle.vs_design.specs.Expressions.{Signal, Expression, Literal, Name, Select, Unary, Binary, Choice, Join, Repeat, At, width, is_constant}
+use Rattle.vs_design.specs.Statements.{Target, Whole, PartOf, Both, target_width, Statement, Empty, Assignment, Then, If, Case, Arms, Arm, Default}
+use Rattle.vs_design.specs.Designs.{Process, Continuous, Always, process_place, Design}
+use Rattle.vs_design.specs.Values.{bits_of_signal}
+use Rattle.vs_design.specs.Footprints.{contains}
+use Rattle.vs_design.specs.Fits.{is_division}
+use Rattle.vs_design.specs.Sizes.{size}
+use Rattle.vs_design.specs.Rules.{mixed_assigns, missing_bits, latches, drivers, shared_bits}
+use Rattle.vs_design.specs.Clocks.{clock_input, clock_nets, reads_clock, has_other_clock}
+use Rattle.vs_design.specs.Levels.{level_order, has_no_cycle}
+use Rattle.vs_design.specs.TimeZero.{families, sleeps}
+
+-- the least of these and n
+abbrev pub least_with : ℕ → List ℕ → ℕ
+least_with n [] = n
+least_with n (m ∷ ms) = least_with (min n m) ms
+
+abbrev pub least : List ℕ → Option ℕ
+least [] = None
+least (n ∷ ns) = Some (least_with n ns)
+
+-- the first value, or else the second
+abbrev pub otherwise : {A : Type 0} → Option A → Option A → Option A
+otherwise (Some a) b = Some a
+otherwise None b = b
+
+-- what is found at the least process, the list being numbered from p on
+abbrev pub first_found : {A : Type 0} → (ℕ → Process → Option A) → ℕ → List Process → Option A
+first_found find p [] = None
+first_found find p (process ∷ ps) = otherwise (find p process) (first_found find (suc p) ps)
+
+-- this value where the test holds
+abbrev pub where_true : {A : Type 0} → Bool → A → Option A
+where_true test a = if test then Some a else None
+
+-- ---- lengths
+
+pub data WidthRefusal : Type 0 where
+  TooWide Division : (at : ℕ) → WidthRefusal
+  TooLarge : (size : ℕ) → WidthRefusal
+
+-- the place where this is over 64 bits
+abbrev pub over_64 : ℕ → ℕ → List ℕ
+over_64 at n = if nat_lt 64 n then (at ∷ []) else []
+
+-- the places of the expressions in it that are over 64 bits; it begins at this place unless it says another
+abbrev pub wide_places : ℕ → Expression → List ℕ
+wide_places at (Literal bits signed sized) = over_64 at (width (Literal bits signed sized))
+wide_places at (Name signal) = over_64 at (width (Name signal))
+wide_places at (Select source part index) = over_64 at (width (Select source part index)) ++ wide_places at index
+wide_places at (Unary op a) = over_64 at (width (Unary op a)) ++ wide_places at a
+wide_places at (Binary op a b) = over_64 at (width (Binary op a b)) ++ (wide_places at a ++ wide_places at b)
+wide_places at (Choice c p q) = over_64 at (width (Choice c p q)) ++ (wide_places at c ++ (wide_places at p ++ wide_places at q))
+wide_places at (Join high low) = over_64 at (width (Join high low)) ++ (wide_places at high ++ wide_places at low)
+wide_places at (Repeat count a) = over_64 at (width (Repeat count a)) ++ wide_places at a
+wide_places at (At place e) = over_64 place (width e) ++ wide_places place e
+
+-- where an expression begins
+abbrev pub place_in : ℕ → Expression → ℕ
+place_in at (At place e) = place
+place_in at _ = at
+
+-- the places of the divisions at run time; a division begins where its first operand does
+abbrev pub division_places : ℕ → Expression → List ℕ
+division_places at (Literal bits signed sized) = []
+division_places at (Name signal) = []
+division_places at (Select source part index) = division_places at index
+division_places at (Unary op a) = division_places at a
+division_places at (Binary op a b) =
+    (if is_division op && not (is_constant a && is_constant b) then (place_in at a ∷ []) else []) ++ (division_places at a ++ division_places at b)
+division_places at (Choice c p q) = division_places at c ++ (division_places at p ++ division_places at q)
+division_places at (Join high low) = division_places at high ++ division_places at low
+division_places at (Repeat count a) = division_places at a
+division_places at (At place e) = division_places place e
+
+-- f of all expressions of a target, one after the other, and of a statement, with the places where they begin at the latest
+abbrev pub in_indices : (ℕ → Expression → List ℕ) → ℕ → Target → List ℕ
+in_indices f at (Whole signal) = []
+in_indices f at (PartOf signal part index) = f at index
+in_indices f at (Both high low) = in_indices f at high ++ in_indices f at low
+
+abbrev pub in_items : (ℕ → Expression → List ℕ) → ℕ → List Expression → List ℕ
+in_items f at [] = []
+in_items f at (e ∷ es) = f at e ++ in_items f at es
+
+-- a target's own length counts too
+abbrev pub in_assignment : (ℕ → Expression → List ℕ) → (ℕ → ℕ → List ℕ) → ℕ → Target → Expression → List ℕ
+in_assignment f own at target e = own at (target_width target) ++ (in_indices f at target ++ f at e)
+
+abbrev mutual
+  pub in_statement : (ℕ → Expression → List ℕ) → (ℕ → ℕ → List ℕ) → ℕ → Statement → List ℕ
+  in_statement f own at Empty = []
+  in_statement f own at (Assignment place target e blocking) = in_assignment f own place target e
+  in_statement f own at (Then first rest) = in_statement f own at first ++ in_statement f own at rest
+  in_statement f own at (If c taken other) = f at c ++ (in_statement f own at taken ++ in_statement f own at other)
+  in_statement f own at (Case kind subject arms) = f at subject ++ in_arms f own at arms
+
+  pub in_arms : (ℕ → Expression → List ℕ) → (ℕ → ℕ → List ℕ) → ℕ → Arms → List ℕ
+  in_arms f own at (Arm items statement rest) = in_items f at items ++ (in_statement f own at statement ++ in_arms f own at rest)
+  in_arms f own at (Default statement) = in_statement f own at statement
+
+abbrev pub in_process : (ℕ → Expression → List ℕ) → (ℕ → ℕ → List ℕ) → Process → List ℕ
+in_process f own (Continuous place port target_place target e) = own target_place (target_width target) ++ (in_indices f target_place target ++ f place e)
+in_process f own (Always place star events statement) = in_statement f own place statement
+
+-- the places of the process's expressions and targets over 64 bits, and those of its divisions
+abbrev pub wide_in : Process → List ℕ
+wide_in p = in_process wide_places over_64 p
+
+abbrev pub divisions_in : Process → List ℕ
+divisions_in p = in_process division_places (λ at n. []) p
+
+-- the one with the lesser place; at one place TooWide
+abbrev pub earlier : Option ℕ → Option ℕ → Option WidthRefusal
+earlier None None = None
+earlier (Some wide) None = Some (TooWide wide)
+earlier None (Some division) = Some (Division division)
+earlier (Some wide) (Some division) = if nat_le wide division then Some (TooWide wide) else Some (Division division)
+
+abbrev pub too_large : Design → Option WidthRefusal
+too_large d = where_true (nat_lt 16777216 (size d)) (TooLarge (size d))
+
+-- TooWide and Division by process and then by place, and after them TooLarge
+abbrev pub width_refusal : Design → Option WidthRefusal
+width_refusal d = otherwise (first_found (λ p process. earlier (least (wide_in process)) (least (divisions_in process))) 0 d.processes) (too_large d)
+
+-- ---- blocks and drivers
+
+pub data BlockRefusal : Type 0 where
+  -- at the assignment
+  MixedAssign : (at : ℕ) → BlockRefusal
+  -- at the process, as all that follow
+  Sensitivity : (process signal at : ℕ) → BlockRefusal
+  Latch : (process bit at : ℕ) → BlockRefusal
+
+-- the number of the signal that has the bit
+abbrev pub signal_of : List Signal → ℕ → ℕ
+signal_of [] b = 0
+signal_of (s ∷ ss) b = if contains (bits_of_signal s) b then s.number else signal_of ss b
+
+-- within a process the first mixed assignment in the text, then the least signal, then the least bit. Bits are numbered signal by signal
+abbrev pub block_refusal_of : Design → ℕ → Process → Option BlockRefusal
+block_refusal_of d p process =
+    otherwise (option_map MixedAssign (least (mixed_assigns process)))
+    (otherwise (option_map (λ b. Sensitivity p (signal_of d.signals b) (process_place process)) (least (missing_bits process))) (option_map (λ b. Latch p b (process_place process)) (least (latches process))))
+
+abbrev pub block_refusal : Design → Option BlockRefusal
+block_refusal d = first_found (block_refusal_of d) 0 d.processes
+
+abbrev pub place_at : List Process → ℕ → ℕ
+place_at [] p = 0
+place_at (process ∷ ps) zero = process_place process
+place_at (process ∷ ps) (suc p) = place_at ps p
+
+pub data DriverRefusal : Type 0 where
+  -- at the second
+  TwoDrivers : (bit first second at : ℕ) → DriverRefusal
+
+-- the least bit with two writers, and the two least of them
+abbrev pub driver_refusal : Design → Option DriverRefusal
+driver_refusal d = option_map (λ b. TwoDrivers b (get_or (drivers d b) 0 0) (get_or (drivers d b) 1 0) (place_at d.processes (get_or (drivers d b) 1 0))) (least (shared_bits d))
+
+-- ---- the clock, and time zero
+
+pub data ClockRefusal : Type 0 where
+  NoClock : ClockRefusal
+  ClockRead NotTheClock : (process at : ℕ) → ClockRefusal
+
+abbrev pub clock_refusal_by : Design → Option Signal → Option ClockRefusal
+clock_refusal_by d None = Some NoClock
+clock_refusal_by d (Some clock) =
+    otherwise (first_found (λ p process. where_true (reads_clock (clock_nets d clock.first) process) (ClockRead p (process_place process))) 0 d.processes)
+    (first_found (λ p process. where_true (has_other_clock (clock_nets d clock.first) process) (NotTheClock p (process_place process))) 0 d.processes)
+
+-- NoClock, then ClockRead, then NotTheClock, each of the least process
+abbrev pub clock_refusal : Design → List ℕ → Option ClockRefusal
+clock_refusal d name = clock_refusal_by d (clock_input d name)
+
+pub data ZeroRefusal : Type 0 where
+  TimeZero : (process at : ℕ) → ZeroRefusal
+
+abbrev pub zero_refusal_by : Design → Option Signal → Option ZeroRefusal
+zero_refusal_by d None = None
+zero_refusal_by d (Some clock) = first_found (λ p process. where_true (sleeps (families d clock.first (level_order d)) process) (TimeZero p (process_place process))) 0 d.processes
+
+-- the least block that breaks TimeZero
+abbrev pub zero_refusal : Design → List ℕ → Option ZeroRefusal
+zero_refusal d name = zero_refusal_by d (clock_input d name)
+
+-- ---- none
+
+-- nothing refuses the design
+pub record IsUnrefused (d : Design) (name : List ℕ) : Type 0 where
+  pub widths : width_refusal d ≡ None
+  pub blocks : block_refusal d ≡ None
+  pub drivers : driver_refusal d ≡ None
+  pub clocks : clock_refusal d name ≡ None
+  pub no_cycle : has_no_cycle d ≡ true
+  pub zero : zero_refusal d name ≡ None

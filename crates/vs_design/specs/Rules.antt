@@ -1,0 +1,59 @@
+-- The rules on blocks and drivers, each as the list of the places or bits that break it.
+use Rattle.std.specs.Prelude.{ℕ, suc, Bool, not, ◌&&◌, ◌||◌, List, [], ◌∷◌, ◌++◌, filter, length, replicate, if◌then◌else◌, ◌==◌, nat_lt}
+use Rattle.vs_design.specs.Statements.{Statement, Empty, Assignment, Then, If, Case, Arms, Arm, Default}
+use Rattle.vs_design.specs.Designs.{Process, Continuous, Always, is_clocked, is_combinational, Design}
+use Rattle.vs_design.specs.Footprints.{contains, target_bits, statement_bits, writes_of, reads_of, wait_signals, signals_bits, without}
+use Rattle.vs_design.specs.Latches.{latch_bits}
+
+-- the places of the blocking assignments in a clocked block, and of the nonblocking ones in any other
+abbrev mutual
+  pub mixed_in : Bool → Statement → List ℕ
+  mixed_in clocked Empty = []
+  mixed_in clocked (Assignment place target e blocking) = if (clocked && blocking) || not (clocked || blocking) then (place ∷ []) else []
+  mixed_in clocked (Then first rest) = mixed_in clocked first ++ mixed_in clocked rest
+  mixed_in clocked (If c taken other) = mixed_in clocked taken ++ mixed_in clocked other
+  mixed_in clocked (Case kind subject arms) = mixed_in_arms clocked arms
+
+  pub mixed_in_arms : Bool → Arms → List ℕ
+  mixed_in_arms clocked (Arm items statement rest) = mixed_in clocked statement ++ mixed_in_arms clocked rest
+  mixed_in_arms clocked (Default statement) = mixed_in clocked statement
+
+-- the rule MixedAssign
+abbrev pub mixed_assigns : Process → List ℕ
+mixed_assigns (Continuous place port target_place target e) = []
+mixed_assigns (Always place star events statement) = mixed_in (is_clocked (Always place star events statement)) statement
+
+-- the rule Sensitivity: the bits in a combinational block's reads that are of no signal that it waits on. `@*` waits on every signal that is read
+abbrev pub missing_bits : Process → List ℕ
+missing_bits p = if is_combinational p then without (reads_of p) (signals_bits (wait_signals p)) else []
+
+-- the rule Latch
+abbrev pub latches : Process → List ℕ
+latches (Continuous place port target_place target e) = []
+latches (Always place star events statement) = if is_combinational (Always place star events statement) then latch_bits statement else []
+
+-- how often the bit is in the list
+abbrev pub times : ℕ → List ℕ → ℕ
+times b [] = 0
+times b (c ∷ cs) = if b == c then suc (times b cs) else times b cs
+
+-- a process that writes the bit, by its number: a block once, an assign as often as its target has the bit
+abbrev pub driver : ℕ → Process → ℕ → List ℕ
+driver p (Continuous place port target_place target e) b = replicate (times b (target_bits target)) p
+driver p (Always place star events statement) b = if contains (statement_bits statement) b then (p ∷ []) else []
+
+abbrev pub drivers_from : ℕ → List Process → ℕ → List ℕ
+drivers_from p [] b = []
+drivers_from p (process ∷ ps) b = driver p process b ++ drivers_from (suc p) ps b
+
+-- the writers of the bit, the least first
+abbrev pub drivers : Design → ℕ → List ℕ
+drivers d b = drivers_from 0 d.processes b
+
+abbrev pub written_bits : List Process → List ℕ
+written_bits [] = []
+written_bits (p ∷ ps) = writes_of p ++ written_bits ps
+
+-- the rule TwoDrivers: the bits with more than one writer
+abbrev pub shared_bits : Design → List ℕ
+shared_bits d = filter (λ b. nat_lt 1 (length (drivers d b))) (written_bits d.processes)

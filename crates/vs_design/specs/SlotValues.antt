@@ -1,0 +1,47 @@
+-- The equations of a slot, on the processes and signals of a design.
+use Rattle.std.specs.Prelude.{◌≡◌, ℕ, Bool, true, false, List, ◌==◌, ◌↔◌, Some, slice_get}
+use Rattle.vs_four.specs.declared.Bit4.{Bit4}
+use Rattle.vs_four.specs.declared.Bit4.TheVariants.{Zero, One}
+use Rattle.vs_net.specs.Network.{State, write_all, flatten}
+use Rattle.vs_net.specs.Queue.{Slot, Fall, Rise}
+use Rattle.vs_net.specs.Solution.{IsSlotEnd}
+use Rattle.vs_design.specs.Expressions.{Signal, Expression}
+use Rattle.vs_design.specs.Values.{bits_of_signal}
+use Rattle.vs_design.specs.Statements.{Target, Statement}
+use Rattle.vs_design.specs.Bodies.{assignment_writes, body}
+use Rattle.vs_design.specs.Designs.{Event, Port, Process, Continuous, Always, is_clocked, Design, top_inputs}
+use Rattle.vs_design.specs.Footprints.{contains, statement_bits, writes_of, input_bits}
+use Rattle.vs_design.specs.Networks.{network_of}
+use Rattle.vs_design.specs.Equations.{IsBlock}
+use Rattle.vs_design.specs.Accepted.{IsAcceptedDesign}
+
+-- the clock falls to 0 and rises to 1; a data input gets its vector's value when the clock falls, and keeps it when it rises
+abbrev pub clock_value : Slot → Bit4
+clock_value (Fall vector) = Zero
+clock_value Rise = One
+
+abbrev pub input_value : Slot → State → State
+input_value (Fall vector) before = vector
+input_value Rise before = before
+
+-- when the clock rises a register gets all updates of its block on the values before, in their order; when it falls it stays
+abbrev pub register_value : Statement → Slot → State → State
+register_value st (Fall vector) before = before
+register_value st Rise before = write_all before (flatten (body st before).updates)
+
+-- s are the values at the end of the slot, where those at the end of the slot before were these
+pub record IsSlotValues (d : Design) (clock : ℕ) (before : State) (slot : Slot) (s : State) : Type 0 where
+  -- an assign's target has the value of its right side, in its bits in range
+  pub assign : (p place : ℕ) (port : Port) (target_place : ℕ) (target : Target) (e : Expression) → slice_get d.processes p ≡ Some (Continuous place port target_place target e) → write_all s (assignment_writes target e s) ≡ s
+  -- a combinational block's bits have what its statement gives
+  pub block : (p : ℕ) (st : Statement) → IsBlock d p st → write_all s (body st s).writes ≡ s
+  pub register : (p place : ℕ) (star : Bool) (events : List Event) (st : Statement) → slice_get d.processes p ≡ Some (Always place star events st) → is_clocked (Always place star events st) ≡ true
+      → (b : ℕ) → contains (statement_bits st) b ≡ true → s b ≡ register_value st slot before b
+  pub clock_input : s clock ≡ clock_value slot
+  pub input : (i : ℕ) (signal : Signal) → slice_get (top_inputs d) i ≡ Some signal → (signal.first == clock) ≡ false → (b : ℕ) → contains (bits_of_signal signal) b ≡ true → s b ≡ input_value slot before b
+  -- a bit that no process writes, and no input has, stays
+  pub kept : (b : ℕ) → ((p : ℕ) (process : Process) → slice_get d.processes p ≡ Some process → contains (writes_of process) b ≡ false) → contains (input_bits d) b ≡ false → s b ≡ before b
+
+-- these are the equations of the design's network
+abbrev pub SlotValuesAre : Type 0
+SlotValuesAre = (d : Design) (name : List ℕ) (a : IsAcceptedDesign d name) (before : State) (slot : Slot) (s : State) → IsSlotEnd (network_of d a.clock.first) before slot s ↔ IsSlotValues d a.clock.first before slot s

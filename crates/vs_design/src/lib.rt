@@ -1,0 +1,169 @@
+//! The meaning of an elaborated design (IEEE 1364-2005): lengths, signs and values of expressions, what statements do, the bits that a process reads and writes, the rules of an accepted design, and its network of processes.
+//!
+//! It is definitions, in specs/, and their laws: each law is a function with an empty body whose `ensures` is the law.
+#![tactic(auto)]
+
+ghost use Rattle.vs_design.specs.Answers.{AcceptedOrRefused, NotBoth};
+ghost use Rattle.vs_design.specs.ExampleBodies.{BodiesComputed};
+ghost use Rattle.vs_design.specs.ExampleDesigns.{DesignsComputed};
+ghost use Rattle.vs_design.specs.ExampleElaborated.{ElaboratedComputed};
+ghost use Rattle.vs_design.specs.ExampleRefusals.{RefusalsComputed};
+ghost use Rattle.vs_design.specs.ExampleSets.{SetsComputed};
+ghost use Rattle.vs_design.specs.ExampleValues.{ValuesComputed};
+ghost use Rattle.vs_design.specs.Laws.{AcceptedExactly, AcceptedIsLawful, AscendingHas, AscendingRises, BitsOfDesign, BoundOfDesign, ClockNetsAre, EveryOrderOfDesign, LevelOrderIs, LevelRunOfDesign, OneFamilies, OnePassOfDesign, OneSolutionOfDesign, OrderOrCycle, RunsEndOfDesign, StarMissesNone};
+ghost use Rattle.vs_design.specs.Paths.{LatchBitsAre};
+ghost use Rattle.vs_design.specs.RefusalLaws.{BlockRefusalIs, ClockRefusalIs, DriverRefusalIs, DriversAre, WidthRefusalIs, ZeroRefusalIs};
+ghost use Rattle.vs_design.specs.SlotValues.{SlotValuesAre};
+ghost use Rattle.vs_design.specs.TreeLaws.{AssignWritesExactly, AssignedLength, BlockReads, BlockWritesExactly, BodyAssigns, BodyInSets, BodyReads, BodySetsRead, BodyWritesWithin, ConstantValue, NoUpdates, NoWrites, ValueInSets, ValueLength, ValueReads, ValueSetsRead};
+
+/// A value has the length of its context, and a constant expression has one value (IEEE 1364-2005, 5.4 and 5.5).
+pub fn value_law()
+    ensures length { ValueLength }
+    ensures assigned { AssignedLength }
+    ensures constant { ConstantValue }
+{}
+
+/// A value depends on the bits that its expression reads alone, and what a statement does on those that the statement reads (IEEE 1364-2005, 5 and 9).
+pub fn reads_law()
+    ensures value { ValueReads }
+    ensures body { BodyReads }
+{}
+
+/// What is written: by an assign exactly its target's bits, by a statement bits of its own, at least those that it assigns on every path; a combinational block leaves no updates, and a clocked one makes no blocking writes.
+pub fn write_law()
+    ensures assign { AssignWritesExactly }
+    ensures body { BodyWritesWithin }
+    ensures assigned { BodyAssigns }
+    ensures no_updates { NoUpdates }
+    ensures no_writes { NoWrites }
+{}
+
+/// A combinational block without latches writes exactly its bits whatever path it takes, and depends on what it reads and doesn't write alone.
+pub fn block_law()
+    ensures writes { BlockWritesExactly }
+    ensures reads { BlockReads }
+{}
+
+/// Where the bits that are read are in their sets, values and bodies are in their lifted sets; and lifted sets depend on the sets of what is read alone.
+pub fn sets_law()
+    ensures value { ValueInSets }
+    ensures body { BodyInSets }
+    ensures value_reads { ValueSetsRead }
+    ensures body_reads { BodySetsRead }
+{}
+
+/// The clock nets are the clock input and each net that input ports lead to from it.
+pub fn clock_law()
+    ensures { ClockNetsAre }
+{}
+
+/// A level order has each assign and combinational block once, after all that feed it; and it is found exactly where there is no cycle of them.
+pub fn cycle_law()
+    ensures order { LevelOrderIs }
+    ensures cycle { OrderOrCycle }
+{}
+
+/// The sets of values at time zero are the one solution of their equations, and are found along any level order.
+pub fn time_zero_law()
+    ensures { OneFamilies }
+{}
+
+/// The bits that a process reads, writes and waits on are bits of the design, `@*` misses none of those that are read (IEEE 1364-2005, 9.7.5), and an ascending list has each bit once.
+pub fn footprint_law()
+    ensures bits { BitsOfDesign }
+    ensures star { StarMissesNone }
+    ensures ascending { AscendingHas }
+    ensures rises { AscendingRises }
+{}
+
+/// A bit may latch exactly where the block writes it somewhere, and on some path through its `if` and `case` statements it reaches a read of it, or the end, unassigned.
+pub fn latch_law()
+    ensures { LatchBitsAre }
+{}
+
+/// A design that elaboration gives is accepted exactly where nothing refuses it: no refusal of a length, a block, a driver or the clock, no cycle, and none at time zero. Any other is refused, by the first rule that it breaks.
+pub fn accepted_law()
+    ensures exactly { AcceptedExactly }
+    ensures either { AcceptedOrRefused }
+    ensures not_both { NotBoth }
+{}
+
+/// What each refusal carries: the first process, bit or place that breaks the rule, in the order of the rules.
+pub fn refusal_law()
+    ensures width { WidthRefusalIs }
+    ensures block { BlockRefusalIs }
+    ensures writers { DriversAre }
+    ensures driver { DriverRefusalIs }
+    ensures clock { ClockRefusalIs }
+    ensures zero { ZeroRefusalIs }
+{}
+
+/// The network of an accepted design is lawful.
+pub fn lawful_law()
+    ensures { AcceptedIsLawful }
+{}
+
+/// The equations of a slot of an accepted design, on its assigns, blocks, registers and inputs, are those of its network.
+pub fn solution_law()
+    ensures { SlotValuesAre }
+{}
+
+/// Every completed run of an accepted design's event queue (IEEE 1364-2005, 11.3 and 11.4), in whatever order of its steps, ends each slot with the one solution.
+pub fn order_law()
+    ensures { EveryOrderOfDesign }
+{}
+
+/// The run of an accepted design in any of its level orders is a completed run, and ends each slot with the solution.
+pub fn exists_law()
+    ensures { LevelRunOfDesign }
+{}
+
+/// One pass over any level order of an accepted design solves the equations of a slot.
+pub fn pass_law()
+    ensures { OnePassOfDesign }
+{}
+
+/// The equations of an accepted design have no second solution.
+pub fn unique_law()
+    ensures { OneSolutionOfDesign }
+{}
+
+/// Between two beginnings of slots there are at most `bound` steps, in any order.
+pub fn bound_law()
+    ensures { BoundOfDesign }
+{}
+
+/// Every run of an accepted design's event queue can be continued to a completed one.
+pub fn continue_law()
+    ensures { RunsEndOfDesign }
+{}
+
+/// Worked lists of scopes, and ranges.
+pub fn elaborated_examples()
+    ensures { ElaboratedComputed }
+{}
+
+/// Worked values of expressions.
+pub fn value_examples()
+    ensures { ValuesComputed }
+{}
+
+/// Worked statements: what they write, read and wait on.
+pub fn body_examples()
+    ensures { BodiesComputed }
+{}
+
+/// Worked sets of values.
+pub fn set_examples()
+    ensures { SetsComputed }
+{}
+
+/// Worked designs: their sizes, that they are accepted, and the values at the end of each slot.
+pub fn design_examples()
+    ensures { DesignsComputed }
+{}
+
+/// Worked designs that are refused, and with what.
+pub fn refusal_examples()
+    ensures { RefusalsComputed }
+{}
