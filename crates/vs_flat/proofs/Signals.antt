@@ -1,0 +1,63 @@
+-- Signals added one after the other.
+use Rattle.std.proofs.Common.{◌≡◌, ℕ, suc, ◌+◌, ◌-◌, ◌≤◌, ◌^◌, Bool, true, false, if◌then◌else◌, List, [], ◌∷◌, ◌++◌, length, ap, ◌∙◌, sym, arith, append-nil}
+use Rattle.std.proofs.lemmas.List.Sums.{sum_by-append}
+use Rattle.std.proofs.lemmas.Bool.{cond_both}
+use Rattle.vs_four.specs.Selects.{is_descending}
+use Rattle.vs_four.specs.declared.Range.{Range}
+use Rattle.std.specs.Prelude.{Option, None, Some}
+use Rattle.vs_design.specs.Expressions.{range_or_one}
+use Rattle.vs_flat.specs.declared.processes.Signal.{Signal}
+use Rattle.vs_flat.specs.Arena.{Arena, bit_count, inputs_from, IsWithinLimits}
+
+-- a signal has a bit
+pub one≤range_or_one : (r : Option Range) → 1 ≤ range_or_one r
+one≤range_or_one None = omega arith
+one≤range_or_one (Some r) = cond_both (is_descending r) (suc (r.left - r.right)) (suc (r.right - r.left)) (λ n. 1 ≤ n) (λ _. omega arith) (λ _. omega arith)
+
+-- so there are no more signals than bits
+pub length≤bit_count : (ss : List Signal) → length ss ≤ bit_count ss
+length≤bit_count [] = omega arith
+length≤bit_count (s ∷ ss) =
+    let more : bit_count (s ∷ ss) ≡ (0 + range_or_one s.range) + bit_count ss = sum_by-append (λ (t : Signal). range_or_one t.range) (s ∷ []) ss in
+    omega (arith, more, one≤range_or_one s.range, length≤bit_count ss)
+
+pub bit_count-append : (ss : List Signal) (s : Signal) → bit_count (ss ++ s ∷ []) ≡ bit_count ss + range_or_one s.range
+bit_count-append ss s = sum_by-append (λ (t : Signal). range_or_one t.range) ss (s ∷ []) ∙ ap (λ n. bit_count ss + n) (omega arith)
+
+-- this number, or none
+abbrev pub one_if : Bool → ℕ → List ℕ
+one_if b n = if b then (n ∷ []) else []
+
+step : (b : Bool) (n : ℕ) (all rest last : List ℕ) → all ≡ rest ++ last → (if b then (n ∷ all) else all) ≡ (if b then (n ∷ rest) else rest) ++ last
+step true n all rest last e = ap (λ xs. n ∷ xs) e
+step false n all rest last e = e
+
+-- one more input, or none
+pub inputs_from-append : (n : ℕ) (ss : List Signal) (s : Signal) → inputs_from n (ss ++ s ∷ []) ≡ inputs_from n ss ++ one_if s.input (n + length ss)
+inputs_from-append n [] s = ap (one_if s.input) (omega arith)
+inputs_from-append n (t ∷ ss) s =
+    step t.input n (inputs_from (suc n) (ss ++ s ∷ [])) (inputs_from (suc n) ss) (one_if s.input (n + length (t ∷ ss)))
+    (inputs_from-append (suc n) ss s ∙ ap (λ m. inputs_from (suc n) ss ++ one_if s.input m) (omega arith))
+
+pub within_with_signal : (a : Arena) (s : Signal) (signals : List Signal) → IsWithinLimits a → bit_count a.signals + range_or_one s.range ≤ 2 ^ 20 → signals ≡ a.signals ++ s ∷ [] → IsWithinLimits (record a { signals = signals })
+within_with_signal a s signals w room e = record {
+  scopes = w.scopes;
+  nodes = w.nodes;
+  statements = w.statements;
+  bits = omega (arith, room, bit_count-append a.signals s, ap bit_count e);
+  processes = w.processes;
+}
+
+-- the list of inputs, where this one is an input, and where it is none
+pub inputs_with_signal : (s : Signal) (old signals : List Signal) (before : List ℕ) → before ≡ inputs_from 0 old → signals ≡ old ++ s ∷ [] → before ++ one_if s.input (length old) ≡ inputs_from 0 signals
+inputs_with_signal s old signals before was e =
+    ap (λ xs. xs ++ one_if s.input (length old)) was ∙ ap (λ n. inputs_from 0 old ++ one_if s.input n) (omega arith) ∙ sym (inputs_from-append 0 old s) ∙ ap (inputs_from 0) (sym e)
+
+pub inputs_with_input : (s : Signal) (old signals : List Signal) (before room after : List ℕ) (n : ℕ) → s.input ≡ true → n ≡ length old → before ≡ inputs_from 0 old → signals ≡ old ++ s ∷ [] → room ≡ before → after ≡ room ++ n ∷ [] → after ≡ inputs_from 0 signals
+inputs_with_input s old signals before room after n is_input counted was e kept more =
+    let one : n ∷ [] ≡ one_if s.input (length old) = ap (λ m. m ∷ []) counted ∙ ap (λ b. one_if b (length old)) (sym is_input) in
+    more ∙ ap (λ xs. xs ++ n ∷ []) kept ∙ ap (λ xs. before ++ xs) one ∙ inputs_with_signal s old signals before was e
+
+pub inputs_with_other : (s : Signal) (old signals : List Signal) (before after : List ℕ) → s.input ≡ false → before ≡ inputs_from 0 old → signals ≡ old ++ s ∷ [] → after ≡ before → after ≡ inputs_from 0 signals
+inputs_with_other s old signals before after is_other was e kept =
+    kept ∙ sym (append-nil before) ∙ ap (λ b. before ++ one_if b (length old)) (sym is_other) ∙ inputs_with_signal s old signals before was e

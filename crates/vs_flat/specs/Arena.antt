@@ -1,0 +1,72 @@
+-- What contracts see of a flat design: the lists of what was added, each kind numbered from 0.
+use Rattle.std.specs.Prelude.{ℕ, suc, ◌<◌, ◌≤◌, ◌^◌, List, [], ◌∷◌, ◌++◌, length, if◌then◌else◌, sum_by, Option, option_map, slice_get}
+use Rattle.vs_design.specs.Expressions.{range_or_one}
+use Rattle.vs_flat.specs.declared.placed.Placed.{Placed}
+use Rattle.vs_flat.specs.declared.expressions.Node.{Node}
+use Rattle.vs_flat.specs.declared.processes.Scope.{Scope}
+use Rattle.vs_flat.specs.declared.processes.Signal.{Signal}
+use Rattle.vs_flat.specs.declared.processes.Process.{Process}
+use Rattle.vs_flat.specs.declared.statements.Statement.{Statement}
+
+pub record Arena : Type 0 where
+  pub scopes : List Scope
+  pub signals : List Signal
+  pub processes : List Process
+  pub nodes : List (Placed Node)
+  pub statements : List (Placed Statement)
+
+-- nothing was added
+abbrev pub empty_arena : Arena
+empty_arena = record { scopes = []; signals = []; processes = []; nodes = []; statements = [] }
+
+abbrev pub placed : {T : Type 0} → T → ℕ → Placed T
+placed item at = record { item = item; at = at }
+
+-- with one more of a kind
+abbrev pub with_scope : Arena → Scope → Arena
+with_scope a s = record a { scopes = a.scopes ++ s ∷ [] }
+
+abbrev pub with_signal : Arena → Signal → Arena
+with_signal a s = record a { signals = a.signals ++ s ∷ [] }
+
+abbrev pub with_process : Arena → Process → Arena
+with_process a p = record a { processes = a.processes ++ p ∷ [] }
+
+abbrev pub with_node : Arena → Node → ℕ → Arena
+with_node a n at = record a { nodes = a.nodes ++ placed n at ∷ [] }
+
+abbrev pub with_statement : Arena → Statement → ℕ → Arena
+with_statement a s at = record a { statements = a.statements ++ placed s at ∷ [] }
+
+abbrev pub node_at : Arena → ℕ → Option Node
+node_at a e = option_map (λ (n : Placed Node). n.item) (slice_get a.nodes e)
+
+abbrev pub node_place : Arena → ℕ → Option ℕ
+node_place a e = option_map (λ (n : Placed Node). n.at) (slice_get a.nodes e)
+
+abbrev pub statement_at : Arena → ℕ → Option Statement
+statement_at a s = option_map (λ (t : Placed Statement). t.item) (slice_get a.statements s)
+
+abbrev pub statement_place : Arena → ℕ → Option ℕ
+statement_place a s = option_map (λ (t : Placed Statement). t.at) (slice_get a.statements s)
+
+-- how many bits the signals have (3.3)
+abbrev pub bit_count : List Signal → ℕ
+bit_count signals = sum_by (λ (s : Signal). range_or_one s.range) signals
+
+-- the numbers of the inputs among these signals, the first of which has this number
+abbrev pub inputs_from : ℕ → List Signal → List ℕ
+inputs_from n [] = []
+inputs_from n (s ∷ ss) = if s.input then (n ∷ inputs_from (suc n) ss) else inputs_from (suc n) ss
+
+-- the inputs of the top, in order of declaration
+abbrev pub top_inputs : Arena → List ℕ
+top_inputs a = inputs_from 0 a.signals
+
+-- what every flat design keeps: as many of a kind as a number can count, 2^20 bits and 2^16 processes at most
+pub record IsWithinLimits (a : Arena) : Type 0 where
+  pub scopes : length a.scopes < 2 ^ 32
+  pub nodes : length a.nodes < 2 ^ 32
+  pub statements : length a.statements < 2 ^ 32
+  pub bits : bit_count a.signals ≤ 2 ^ 20
+  pub processes : length a.processes ≤ 2 ^ 16

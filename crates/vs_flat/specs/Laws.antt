@@ -1,0 +1,135 @@
+-- What holds of every flat design.
+use Rattle.std.specs.Prelude.{◌≡◌, ◌↔◌, ◌≤◌, ◌<◌, ◌==◌, ℕ, Bool, true, Some, List, [], ◌∷◌, ◌++◌, map, length, count_by, slice_get}
+use Rattle.vs_design.specs.Designs as D
+use Rattle.vs_design.specs.Elaborated.{is_formed, is_formed_statement, IsLawfulDesign}
+use Rattle.vs_flat.specs.declared.placed.Placed.{Placed}
+use Rattle.vs_flat.specs.declared.expressions.Node.{Node}
+use Rattle.vs_flat.specs.declared.processes.Scope.{Scope}
+use Rattle.vs_flat.specs.declared.processes.Signal.{Signal}
+use Rattle.vs_flat.specs.declared.processes.Process.{Process}
+use Rattle.vs_flat.specs.declared.processes.Port.{Port}
+use Rattle.vs_flat.specs.declared.processes.Kind.TheVariants as K
+use Rattle.vs_flat.specs.declared.statements.Statement.{Statement}
+use Rattle.vs_flat.specs.declared.statements.Statement.TheVariants as S
+use Rattle.vs_flat.specs.Arena.{Arena, placed, bit_count, top_inputs, empty_arena, with_scope, with_signal, with_process, with_node, with_statement, IsWithinLimits}
+use Rattle.vs_flat.specs.Named.{node_names_below, statement_names_below, covers_process, covers_node, covers_statement}
+use Rattle.vs_flat.specs.Trees.{signal_of, signal_at, tree_at, statement_at, placed_tree, statement_tree, target_tree}
+use Rattle.vs_flat.specs.Targets.{target_of}
+use Rattle.vs_flat.specs.DesignOf.{scope_of, process_of, arena_signals, arena_trees, arena_statements, design_of}
+use Rattle.vs_flat.specs.Lawful.{NamesEarlier, are_different, IsLawful}
+use Rattle.vs_flat.specs.Example.{example_arena, example_design}
+use Rattle.vs_flat.specs.BlockExample.{block_arena, block_design}
+
+-- each signal of the plain design, with its number
+abbrev pub EachSignal : Type 0
+EachSignal = (a : Arena) (n : ℕ) (s : Signal) → slice_get a.signals n ≡ Some s → signal_at (arena_signals a) n ≡ signal_of n s
+
+-- the tree of an expression is made of the trees of those that it names
+abbrev pub EachTree : Type 0
+EachTree = (a : Arena) → NamesEarlier a → (e : ℕ) (n : Placed Node) → slice_get a.nodes e ≡ Some n
+    → tree_at (arena_trees a) e ≡ placed_tree (signal_at (arena_signals a)) (tree_at (arena_trees a)) n
+
+abbrev pub EachStatement : Type 0
+EachStatement = (a : Arena) → NamesEarlier a → (n : ℕ) (s : Placed Statement) → slice_get a.statements n ≡ Some s
+    → statement_at (arena_statements a) n ≡ statement_tree (tree_at (arena_trees a)) (statement_at (arena_statements a)) s.at s.item
+
+abbrev pub EachProcess : Type 0
+EachProcess = (a : Arena) (n : ℕ) (p : Process) → slice_get a.processes n ≡ Some p
+    → slice_get (design_of a).processes n ≡ Some (process_of (signal_at (arena_signals a)) (tree_at (arena_trees a)) (statement_at (arena_statements a)) p)
+
+-- as many of each kind as the plain design has
+pub record HasCounts (a : Arena) : Type 0 where
+  pub scopes : length (design_of a).scopes ≡ length a.scopes
+  pub signals : length (design_of a).signals ≡ length a.signals
+  pub bits : D.bit_count (design_of a) ≡ bit_count a.signals
+  pub processes : length (design_of a).processes ≡ length a.processes
+  pub expressions : length (arena_trees a) ≡ length a.nodes
+  pub statements : length (arena_statements a) ≡ length a.statements
+
+abbrev pub CountsStay : Type 0
+CountsStay = (a : Arena) → HasCounts a
+
+-- and the same inputs of the top, in the same order
+abbrev pub InputsStay : Type 0
+InputsStay = (a : Arena) → map (signal_at (arena_signals a)) (top_inputs a) ≡ D.top_inputs (design_of a)
+
+-- what each expression, statement and process names is there, and earlier
+abbrev pub NodeNames : Type 0
+NodeNames = (a : Arena) → NamesEarlier a → (e : ℕ) (n : Placed Node) → slice_get a.nodes e ≡ Some n → node_names_below (length a.signals) e n.item ≡ true
+
+abbrev pub StatementNames : Type 0
+StatementNames = (a : Arena) → NamesEarlier a → (n : ℕ) (s : Placed Statement) → slice_get a.statements n ≡ Some s → statement_names_below (length a.nodes) n s.item ≡ true
+
+abbrev pub ProcessNames : Type 0
+ProcessNames = (a : Arena) → NamesEarlier a → (n : ℕ) (p : Process) → slice_get a.processes n ≡ Some p → covers_process a p ≡ true
+
+-- what is named stays named as more is added
+abbrev pub NamesStay : Type 0
+NamesStay = NamesEarlier empty_arena
+    × ((a : Arena) (s : Scope) → NamesEarlier a → NamesEarlier (with_scope a s))
+    × ((a : Arena) (s : Signal) → NamesEarlier a → NamesEarlier (with_signal a s))
+    × ((a : Arena) (p : Process) → NamesEarlier a → covers_process a p ≡ true → NamesEarlier (with_process a p))
+    × ((a : Arena) (n : Node) (at : ℕ) → NamesEarlier a → covers_node a n ≡ true → NamesEarlier (with_node a n at))
+    × ((a : Arena) (s : Statement) (at : ℕ) → NamesEarlier a → covers_statement a s ≡ true → NamesEarlier (with_statement a s at))
+
+-- one scope more, and nothing else
+abbrev pub ScopeAdded : Type 0
+ScopeAdded = (a : Arena) (s : Scope) → design_of (with_scope a s) ≡ record (design_of a) { scopes = (design_of a).scopes ++ scope_of s ∷ [] }
+
+abbrev pub SignalAdded : Type 0
+SignalAdded = (a : Arena) (s : Signal) → NamesEarlier a → design_of (with_signal a s) ≡ record (design_of a) { signals = (design_of a).signals ++ signal_of (length a.signals) s ∷ [] }
+
+abbrev pub ProcessAdded : Type 0
+ProcessAdded = (a : Arena) (p : Process)
+    → design_of (with_process a p) ≡ record (design_of a) { processes = (design_of a).processes ++ process_of (signal_at (arena_signals a)) (tree_at (arena_trees a)) (statement_at (arena_statements a)) p ∷ [] }
+
+-- an expression or a statement that nothing names yet leaves the design as it was
+abbrev pub NodeAdded : Type 0
+NodeAdded = (a : Arena) (n : Node) (at : ℕ) → NamesEarlier a → design_of (with_node a n at) ≡ design_of a
+
+abbrev pub StatementAdded : Type 0
+StatementAdded = (a : Arena) (s : Statement) (at : ℕ) → NamesEarlier a → design_of (with_statement a s at) ≡ design_of a
+
+-- the trees of earlier expressions and statements stay
+abbrev pub TreesKept : Type 0
+TreesKept = ((a : Arena) (s : Signal) → NamesEarlier a → arena_trees (with_signal a s) ≡ arena_trees a)
+    × ((a : Arena) (s : Signal) → NamesEarlier a → arena_statements (with_signal a s) ≡ arena_statements a)
+    × ((a : Arena) (n : Node) (at : ℕ) → arena_trees (with_node a n at) ≡ arena_trees a ++ placed_tree (signal_at (arena_signals a)) (tree_at (arena_trees a)) (placed n at) ∷ [])
+    × ((a : Arena) (n : Node) (at : ℕ) → NamesEarlier a → arena_statements (with_node a n at) ≡ arena_statements a)
+    × ((a : Arena) (s : Statement) (at : ℕ) → arena_statements (with_statement a s at) ≡ arena_statements a ++ statement_tree (tree_at (arena_trees a)) (statement_at (arena_statements a)) at s ∷ [])
+
+-- the plain design of a lawful one is what elaboration gives
+abbrev pub LawfulIsDesign : Type 0
+LawfulIsDesign = (a : Arena) → IsLawful a → IsLawfulDesign (design_of a)
+
+-- within the limits that every flat design keeps
+abbrev pub LawfulIsWithinLimits : Type 0
+LawfulIsWithinLimits = (a : Arena) → IsLawful a → IsWithinLimits a
+
+-- each expression and statement is formed as in its plain design
+abbrev pub EachIsFormed : Type 0
+EachIsFormed = (a : Arena) → IsLawful a → (e : ℕ) → e < length a.nodes → is_formed (design_of a) (tree_at (arena_trees a) e) ≡ true
+
+abbrev pub EachStatementIsFormed : Type 0
+EachStatementIsFormed = (a : Arena) → IsLawful a → (s : ℕ) → s < length a.statements → is_formed_statement (design_of a) (statement_at (arena_statements a) s) ≡ true
+
+-- what an assign or an assignment writes is a target, that of the plain design
+abbrev pub AssignTargets : Type 0
+AssignTargets = (a : Arena) → IsLawful a → (p at target e : ℕ) (port : Port) → slice_get a.processes p ≡ Some (record { at = at; kind = K.Assign target e port })
+    → target_of (tree_at (arena_trees a) target) ≡ Some (target_tree (tree_at (arena_trees a) target))
+
+abbrev pub StatementTargets : Type 0
+StatementTargets = (a : Arena) → IsLawful a → (s at target e : ℕ) (blocking : Bool) → slice_get a.statements s ≡ Some (placed (S.Assign target e blocking) at)
+    → target_of (tree_at (arena_trees a) target) ≡ Some (target_tree (tree_at (arena_trees a) target))
+
+-- numbers are different where none of them stands twice
+abbrev pub DifferentIsOnce : Type 0
+DifferentIsOnce = (ns : List ℕ) → (are_different ns ≡ true) ↔ ((n : ℕ) → count_by (λ m. m == n) ns ≤ 1)
+
+-- the plain designs of the examples
+abbrev pub ExamplesAreDesigns : Type 0
+ExamplesAreDesigns = (design_of example_arena ≡ example_design) × (design_of block_arena ≡ block_design)
+
+-- and they are lawful
+abbrev pub ExamplesAreLawful : Type 0
+ExamplesAreLawful = IsLawful example_arena × IsLawful block_arena

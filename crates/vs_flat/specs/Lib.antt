@@ -1,0 +1,12 @@
+pub mod Arena
+pub mod Named
+pub mod Kept
+pub mod Operators
+pub mod Targets
+pub mod Trees
+pub mod DesignOf
+pub mod Lawful
+pub mod Example
+pub mod BlockExample
+pub mod Rows
+pub mod Laws

@@ -1,0 +1,134 @@
+//! Expressions (IEEE 1364-2005, clause 5).
+
+use crate::List;
+use vs_four::{Bits, Range};
+
+/// An operator of one operand (IEEE 1364-2005, 5.1), or a cast (5.5).
+#[derive(Clone, Copy, PartialEq, Eq, Debug)]
+pub enum UnaryOp {
+    /// `+`
+    Plus,
+    /// `-`
+    Minus,
+    /// `~`
+    BitNot,
+    /// `!`
+    LogicalNot,
+    /// `&`
+    ReduceAnd,
+    /// `~&`
+    ReduceNand,
+    /// `|`
+    ReduceOr,
+    /// `~|`
+    ReduceNor,
+    /// `^`
+    ReduceXor,
+    /// `~^` and `^~`
+    ReduceXnor,
+    /// `$signed`
+    Signed,
+    /// `$unsigned`
+    Unsigned,
+}
+
+/// An operator of two operands (IEEE 1364-2005, 5.1).
+#[derive(Clone, Copy, PartialEq, Eq, Debug)]
+pub enum BinaryOp {
+    /// `+`
+    Add,
+    /// `-`
+    Subtract,
+    /// `*`
+    Multiply,
+    /// `/`
+    Divide,
+    /// `%`
+    Remainder,
+    /// `&`
+    BitAnd,
+    /// `|`
+    BitOr,
+    /// `^`
+    BitXor,
+    /// `~^` and `^~`
+    BitXnor,
+    /// `<`
+    Less,
+    /// `<=`
+    LessEqual,
+    /// `>`
+    Greater,
+    /// `>=`
+    GreaterEqual,
+    /// `==`
+    Equal,
+    /// `!=`
+    NotEqual,
+    /// `===`
+    CaseEqual,
+    /// `!==`
+    CaseNotEqual,
+    /// `&&`
+    LogicalAnd,
+    /// `||`
+    LogicalOr,
+    /// `<<`
+    ShiftLeft,
+    /// `>>`
+    ShiftRight,
+    /// `<<<`
+    ShiftLeftArith,
+    /// `>>>`
+    ShiftRightArith,
+}
+
+/// One node of an expression. It names its parts by their numbers.
+#[derive(Drop)]
+pub enum Node {
+    /// A literal, or the value of a parameter (IEEE 1364-2005, 3.5 and 4.10); `sized` says whether a size was given.
+    Literal {
+        bits: Bits,
+        signed: bool,
+        sized: bool,
+    },
+    /// A signal by its number.
+    Name {
+        signal: u32,
+    },
+    /// A bit select (IEEE 1364-2005, 5.2.1): `of` is a signal's name or a parameter's value, and `range` its declared bounds.
+    Bit {
+        of: u32,
+        range: Range,
+        index: u32,
+    },
+    /// A part select of `width` bits: `[base +: width]` where it goes up, else `[base -: width]`.
+    Part {
+        of: u32,
+        range: Range,
+        base: u32,
+        up: bool,
+        width: u32,
+    },
+    /// An operator of one operand.
+    Unary {
+        op: UnaryOp,
+        a: u32,
+    },
+    /// An operator of two operands.
+    Binary {
+        op: BinaryOp,
+        a: u32,
+        b: u32,
+    },
+    /// `c ? p : q` (IEEE 1364-2005, 5.1.13)
+    Choice {
+        c: u32,
+        p: u32,
+        q: u32,
+    },
+    /// A concatenation, the most significant part first, or a replication, whose parts are named once for each copy (IEEE 1364-2005, 5.1.14).
+    Join {
+        parts: List<u32>,
+    },
+}

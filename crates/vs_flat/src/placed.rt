@@ -1,0 +1,8 @@
+//! Where a part of a design begins in its text.
+
+/// An expression or a statement, and its first byte in the text.
+#[derive(Drop)]
+pub struct Placed<T> {
+    pub item: T,
+    pub at: u32,
+}

@@ -1,0 +1,79 @@
+//! Scopes, signals and processes (IEEE 1364-2005, clauses 3, 6, 9 and 12).
+
+use crate::{List, Text};
+use vs_four::Range;
+
+/// A module instance or a generate block (IEEE 1364-2005, 12.1 and 12.4). Scope 0 is the top.
+#[derive(Drop)]
+pub struct Scope {
+    pub name: Text,
+    /// The scope that it stands in; the top has none.
+    pub parent: Option<u32>,
+    /// Whether it is an instance.
+    pub instance: bool,
+}
+
+/// A net or a variable (IEEE 1364-2005, 3.2).
+#[derive(Drop)]
+pub struct Signal {
+    pub name: Text,
+    /// The scope that declares it.
+    pub scope: u32,
+    /// Whether it is a net.
+    pub net: bool,
+    /// Whether it is an input of the top.
+    pub input: bool,
+    /// The declared bounds of a vector; a scalar has none.
+    pub range: Option<Range>,
+    pub signed: bool,
+    /// The number of its least significant bit. The others follow.
+    pub first_bit: u32,
+}
+
+/// An assign or a block.
+#[derive(Drop)]
+pub struct Process {
+    /// The first byte of its item in the text.
+    pub at: u32,
+    pub kind: Kind,
+}
+
+/// What a process is.
+#[derive(Drop)]
+pub enum Kind {
+    /// A continuous assignment (IEEE 1364-2005, 6.1).
+    Assign {
+        target: u32,
+        expr: u32,
+        port: Port,
+    },
+    /// An `always` (IEEE 1364-2005, 9.9.2); `star` is `@*`, else the events are listed.
+    Block {
+        star: bool,
+        events: List<Event>,
+        statement: u32,
+    },
+}
+
+/// Whether an assign is written, or implied by an input or output port (IEEE 1364-2005, 12.3.9).
+#[derive(Clone, Copy, PartialEq, Eq, Debug)]
+pub enum Port {
+    Written,
+    Input,
+    Output,
+}
+
+/// What a block waits for (IEEE 1364-2005, 9.7.2).
+#[derive(Clone, Copy, PartialEq, Eq, Debug)]
+pub struct Event {
+    pub signal: u32,
+    pub edge: Edge,
+}
+
+/// Any change of a signal, `posedge` or `negedge`.
+#[derive(Clone, Copy, PartialEq, Eq, Debug)]
+pub enum Edge {
+    Any,
+    Pos,
+    Neg,
+}
