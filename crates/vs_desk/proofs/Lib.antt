@@ -1,0 +1,5 @@
+pub mod Contents
+pub mod Putting
+pub mod Failing
+pub mod Held
+pub mod Tells

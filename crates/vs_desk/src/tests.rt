@@ -1,0 +1,121 @@
+// Each kind of desk at work.
+ghost use Rattle.std.specs.Prelude.{Bool, true};
+ghost use Rattle.vs_desk.specs.MemoryDesk as memory;
+
+use crate::{Desk, Failed, HostDesk, MemoryDesk, Way, put_all};
+use std::alloc::{AllocError, Global};
+use std::fs;
+use std::test::Fail;
+
+fn text(alloc: Global, s: &str) -> Result<String, AllocError> {
+    String::from_str(alloc, s)
+}
+
+#[test]
+fn memory_moves_pieces_of_a_file(rt: HostRuntime) -> Result<(), Fail> {
+    let alloc = rt.alloc();
+    let mut desk = MemoryDesk::new(alloc, 2);
+    desk.add_file(text(alloc, "in")?, b"abc".to_vec(alloc)?)?;
+    desk.fail_at(&[2])?;
+    let mut buf = [0u8; 4];
+
+    desk.attach(1, text(alloc, "in")?, Way::Read)?;
+    assert_eq!(rt; desk.take(1, &mut buf)?, 2);
+    assert_eq!(rt; buf, [97, 98, 0, 0]);
+    assert_eq!(rt; desk.take(1, &mut buf), Err(Failed));
+    assert_eq!(rt; desk.take(1, &mut buf)?, 1);
+    assert_eq!(rt; buf, [99, 98, 0, 0]);
+    assert_eq!(rt; desk.take(1, &mut buf)?, 0);
+    assert_eq!(rt; (desk.calls(), desk.faults(), desk.losses()), (5, 1, 0));
+    Ok(())
+}
+
+#[test]
+fn memory_keeps_what_was_put(rt: HostRuntime) -> Result<(), Fail> {
+    let alloc = rt.alloc();
+    let mut desk = MemoryDesk::new(alloc, 1);
+    desk.fail_at(&[1, 3])?;
+
+    desk.attach(1, text(alloc, "out")?, Way::Write)?;
+    assert_eq!(rt; desk.put(1, b"xy"), Err(Failed));
+    assert_eq!(rt; desk.put(1, b"xyz")?, 3);
+    assert_eq!(rt; desk.put(0, b"ok"), Err(Failed));
+    assert_eq!(rt; desk.put(0, b"fine")?, 4);
+    assert_eq!(rt;
+        desk.attach(2, text(alloc, "none")?, Way::Read),
+        Err(Failed)
+    );
+    assert_eq!(rt; (desk.calls(), desk.faults(), desk.losses()), (6, 2, 1));
+    assert_eq!(rt;
+        (desk.written(1), desk.written(0)),
+        (b"xyz".as_slice(), b"fine".as_slice())
+    );
+    assert_eq!(rt; (desk.attached(1), desk.attached(2)), (Some("out"), None));
+    Ok(())
+}
+
+// A desk whose puts take one byte of the piece.
+#[derive(Drop)]
+struct ByteByByte {
+    desk: MemoryDesk,
+}
+
+impl Desk for ByteByByte {
+    ghost register = { λ slow. memory.register slow.desk };
+
+    ghost tells = { true };
+
+    ghost contents = { λ slow. memory.contents slow.desk };
+
+    fn attach(&mut self, place: u32, path: String, way: Way) -> Result<(), Failed> {
+        self.desk.attach(place, path, way)
+    }
+
+    fn take(&mut self, place: u32, buf: &mut [u8]) -> Result<usize, Failed> {
+        self.desk.take(place, buf)
+    }
+
+    fn put(&mut self, place: u32, bytes: &[u8]) -> Result<usize, Failed> {
+        self.desk.put(place, &bytes[..1])
+    }
+}
+
+#[test]
+fn put_all_goes_on_after_a_part(rt: HostRuntime) -> Result<(), Fail> {
+    let alloc = rt.alloc();
+    let mut slow = ByteByByte {
+        desk: MemoryDesk::new(alloc, 1),
+    };
+    put_all(&mut slow, 0, b"")?;
+    assert_eq!(rt; slow.desk.calls(), 0);
+    put_all(&mut slow, 0, b"abc")?;
+    assert_eq!(rt; slow.desk.calls(), 3);
+    slow.desk.fail_at(&[5])?;
+    assert_eq!(rt; put_all(&mut slow, 0, b"defg"), Err(Failed));
+    assert_eq!(rt; slow.desk.written(0), b"abcde".as_slice());
+    assert_eq!(rt; slow.desk.losses(), 1);
+    Ok(())
+}
+
+#[test]
+fn host_reads_what_it_wrote(rt: HostRuntime) -> Result<(), Fail> {
+    let alloc = rt.alloc();
+    let path = "vs_desk_host_test.txt";
+    let mut desk = HostDesk::new(rt.clone()?, alloc)?;
+    assert_eq!(rt;
+        desk.attach(1, text(alloc, "vs_desk_no_such_file")?, Way::Read),
+        Err(Failed)
+    );
+    assert_eq!(rt; (desk.faults(), desk.losses()), (1, 0));
+
+    desk.attach(2, text(alloc, path)?, Way::Write)?;
+    put_all(&mut desk, 2, b"some text")?;
+    desk.attach(3, text(alloc, path)?, Way::Read)?;
+    let mut buf = [0u8; 16];
+    assert_eq!(rt; desk.take(3, &mut buf)?, 9);
+    assert_eq!(rt; &buf[..9], b"some text".as_slice());
+    assert_eq!(rt; desk.take(3, &mut buf)?, 0);
+    assert_eq!(rt; desk.faults(), 1);
+    fs::remove_file(&rt, path)?;
+    Ok(())
+}
