@@ -1,0 +1,15 @@
+//! Why a run was refused, and the line that says so.
+#![tactic(auto)]
+
+mod ending;
+mod names;
+mod processes;
+mod refusal;
+mod report;
+#[cfg(test)]
+mod tests;
+
+pub use ending::Ending;
+pub use names::{AtName, BareName, LaneName, LineName, ProcessName};
+pub use processes::Processes;
+pub use refusal::{Field, Label, Refusal};
