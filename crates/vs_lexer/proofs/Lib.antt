@@ -1,0 +1,14 @@
+mod Rows
+pub mod Longest
+pub mod Runs
+pub mod Classes
+pub mod TableFacts
+pub mod Strings
+pub mod Signs
+pub mod Heads
+pub mod Values
+pub mod Numbers
+pub mod Progress
+pub mod PlaneFacts
+pub mod Spans
+pub mod LongestFacts

@@ -1,0 +1,7 @@
+pub mod Spellings
+pub mod Classes
+pub mod Literals
+pub mod Tokens
+pub mod Cuts
+pub mod LeftOut
+pub mod Laws

@@ -1,0 +1,20 @@
+//! Cuts the text of a design into tokens (IEEE 1364-2005, clause 3).
+#![tactic(auto)]
+
+mod bytes;
+mod laws;
+mod left_out;
+mod lexer;
+mod number;
+mod scan;
+mod tables;
+#[cfg(test)]
+mod tests;
+mod token;
+mod value;
+
+pub use laws::{longest_law, tokens_law};
+pub use left_out::is_left_out;
+pub use lexer::{MAX_BYTES, MAX_TOKENS, lex};
+pub use token::{LexError, Token, TokenKind};
+pub use value::{Literal, is_number, read_literal, spelling};
