@@ -1,0 +1,122 @@
+-- Worked texts, computed.
+use Rattle.std.proofs.Common.{◌≡◌, ℕ, List, [], ◌∷◌, ◌++◌, refl}
+use Rattle.std.specs.Prelude.{codes, Option, Some, None}
+use Rattle.vs_four.specs.declared.Bit4.{Bit4}
+use Rattle.vs_four.specs.declared.Bit4.TheVariants.{Zero, One, X, Z}
+use Rattle.vs_stim.specs.declared.input.Input.{Input}
+use Rattle.vs_stim.specs.declared.error.StimError.{StimError}
+use Rattle.vs_stim.specs.declared.error.StimError.TheVariants.{BadHeader, BadVector, FirstUnknown, NoVector, TooManyVectors, StimulusTooLong, LineTooLong}
+use Rattle.vs_stim.specs.Reading.{Reading, Limits, reading, reading_within, refused}
+
+-- a line with its LF
+abbrev line : List ℕ → List ℕ
+line text = text ++ 10 ∷ []
+
+-- a line with CR and LF
+abbrev crlf : List ℕ → List ℕ
+crlf text = text ++ 13 ∷ 10 ∷ []
+
+-- the vectors, and then this refusal or none
+abbrev gives : List (List (List Bit4)) → Option StimError → Reading
+gives vs e = record { vectors = vs; refusal = e }
+
+abbrev two : List Input
+two = record { name = codes "a"; length = 1 } ∷ record { name = codes "b"; length = 1 } ∷ []
+
+abbrev wide : List Input
+wide = record { name = codes "a"; length = 4 } ∷ record { name = codes "b"; length = 2 } ∷ []
+
+abbrev small : Limits
+small = record { vectors = 2; line = 10; bytes = 20 }
+
+abbrev one_zero : List (List Bit4)
+one_zero = (One ∷ []) ∷ (Zero ∷ []) ∷ []
+
+abbrev one_one : List (List Bit4)
+one_one = (One ∷ []) ∷ (One ∷ []) ∷ []
+
+two_vectors : reading two (line (codes "inputs a b") ++ line (codes "1 0") ++ line (codes "1 1")) ≡ gives (one_zero ∷ one_one ∷ []) None
+two_vectors = refl
+
+-- the vector is in the design's order of inputs, and the last line may lack its LF
+other_order : reading two (line (codes "inputs b a") ++ line (codes "0 1") ++ codes "1 1") ≡ gives (one_zero ∷ one_one ∷ []) None
+other_order = refl
+
+-- the first digit is the most significant bit
+digits : reading wide (line (codes "inputs b a") ++ line (codes "10 0011") ++ line (codes "zZ 0xX1")) ≡ gives (((One ∷ One ∷ Zero ∷ Zero ∷ []) ∷ (Zero ∷ One ∷ []) ∷ []) ∷ ((One ∷ X ∷ X ∷ Zero ∷ []) ∷ (Z ∷ Z ∷ []) ∷ []) ∷ []) None
+digits = refl
+
+-- one CR before the LF is dropped
+with_cr : reading two (crlf (codes "inputs a b") ++ crlf (codes "1 0") ++ crlf [] ++ crlf (codes "1 1")) ≡ gives (one_zero ∷ one_one ∷ []) None
+with_cr = refl
+
+-- one in the middle stays, and one at the end of a last line without LF
+cr_inside : reading two (line (codes "inputs a b") ++ codes "1 0" ++ crlf (13 ∷ [])) ≡ refused (BadVector 2)
+cr_inside = refl
+
+cr_at_end : reading two (line (codes "inputs a b") ++ codes "1 0" ++ 13 ∷ []) ≡ refused (BadVector 2)
+cr_at_end = refl
+
+-- skipped lines count
+skipped : reading two (line (codes "# s") ++ line [] ++ line (codes " \t") ++ line (codes " inputs a\tb ") ++ line (codes " # 1 0") ++ line (codes "\t1  0") ++ line (codes "1 2")) ≡ gives (one_zero ∷ []) (Some (BadVector 7))
+skipped = refl
+
+-- no inputs: the one field `-`
+no_inputs : reading [] (line (codes "inputs") ++ line (codes " - ") ++ line (codes "-")) ≡ gives ([] ∷ [] ∷ []) None
+no_inputs = refl
+
+no_dash : reading [] (line (codes "inputs") ++ line (codes "- -")) ≡ refused (BadVector 2)
+no_dash = refl
+
+empty : reading two [] ≡ refused BadHeader
+empty = refl
+
+header_alone : reading two (line (codes "inputs a b")) ≡ refused NoVector
+header_alone = refl
+
+header_missing : reading two (line (codes "inputs a")) ≡ refused BadHeader
+header_missing = refl
+
+header_twice : reading two (line (codes "inputs a b a")) ≡ refused BadHeader
+header_twice = refl
+
+header_unknown : reading two (line (codes "inputs a c")) ≡ refused BadHeader
+header_unknown = refl
+
+header_word : reading two (line (codes "input a b")) ≡ refused BadHeader
+header_word = refl
+
+short_vector : reading two (line (codes "inputs a b") ++ line (codes "1 0") ++ line (codes "1 1") ++ line (codes "1")) ≡ gives (one_zero ∷ one_one ∷ []) (Some (BadVector 4))
+short_vector = refl
+
+first_unknown : reading two (line (codes "inputs a b") ++ line (codes "1 x")) ≡ refused FirstUnknown
+first_unknown = refl
+
+-- a malformed first vector comes before an unknown digit
+malformed_first : reading two (line (codes "inputs a b") ++ line (codes "x 2")) ≡ refused (BadVector 2)
+malformed_first = refl
+
+-- the limits, small ones
+line_limit : reading_within small [] (line (codes "#") ++ line (codes "# 34567890")) ≡ refused BadHeader
+line_limit = refl
+
+line_too_long : reading_within small [] (line (codes "#") ++ line (codes "2 345678901")) ≡ refused (LineTooLong 2)
+line_too_long = refl
+
+-- twenty bytes are kept, and the LF would be one more
+bytes_kept : reading_within small [] (line (codes "inputs") ++ line (codes "-") ++ line (codes "-") ++ codes "# 3456789") ≡ gives ([] ∷ [] ∷ []) None
+bytes_kept = refl
+
+bytes_limit : reading_within small [] (line (codes "inputs") ++ line (codes "-") ++ line (codes "-") ++ line (codes "# 3456789")) ≡ gives ([] ∷ [] ∷ []) (Some StimulusTooLong)
+bytes_limit = refl
+
+-- of two limits at one byte the line's is answered
+both_limits : reading_within (record { vectors = 2; line = 10; bytes = 12 }) [] (line (codes "#") ++ codes "# 345678901") ≡ refused (LineTooLong 2)
+both_limits = refl
+
+vectors_limit : reading_within small [] (line (codes "inputs") ++ line (codes "-") ++ line (codes "-") ++ line (codes "-")) ≡ gives ([] ∷ [] ∷ []) (Some TooManyVectors)
+vectors_limit = refl
+
+-- a malformed line comes before the limit on vectors
+malformed_past : reading_within small [] (line (codes "inputs") ++ line (codes "-") ++ line (codes "-") ++ line (codes "=")) ≡ gives ([] ∷ [] ∷ []) (Some (BadVector 4))
+malformed_past = refl

@@ -1,0 +1,116 @@
+-- What a text gives, line by line.
+use Rattle.std.proofs.Common.{◌≡◌, ℕ, ◌+◌, ◌≤◌, Bool, true, false, List, [], length, refl, ap, sym, ◌∙◌, arith, zero-add}
+use Rattle.std.proofs.lemmas.Bool.{le-ltb}
+use Rattle.std.specs.Prelude.{Option, Some, None, IsTrue}
+use Rattle.vs_stim.specs.declared.error.StimError.{StimError}
+use Rattle.vs_stim.specs.declared.error.StimError.TheVariants.{BadVector, StimulusTooLong}
+use Rattle.vs_stim.specs.declared.input.Column.{Column}
+use Rattle.vs_stim.specs.Lines.{lines, all_lines}
+use Rattle.vs_stim.specs.Reading.{Reading, refused, with_vector, limits, behind, too_long, Said, said, vector_line, not_taken, at_end, read_vectors}
+use Rattle.vs_stim.specs.Reading.Said.{Skipped, Malformed, Given}
+use Rattle.vs_stim.specs.Row.{Values}
+use Rattle.vs_stim.specs.Fields.{is_skipped, fields}
+use Rattle.vs_stim.specs.Vectors.{vector}
+use Rattle.vs_stim.specs.Known.{lines_tell}
+use Rattle.vs_stim.specs.Source.{Open, line_length, line_refusal, says, vectors_from, text_tells, is_told, Passes}
+
+refusal_here : (o : Open) → o.taken ≡ 0 → too_long limits o.at (length (lines o.rest).first.bytes) (lines o.rest).first.ended ≡ line_refusal o
+refusal_here o z = ap (λ n. too_long limits o.at n (lines o.rest).first.ended) (sym (zero-add (length (lines o.rest).first.bytes)) ∙ ap (λ t. t + length (lines o.rest).first.bytes) (sym z))
+
+length_here : (o : Open) → o.taken ≡ 0 → line_length o ≡ length (lines o.rest).first.bytes
+length_here o z = ap (λ t. t + length (lines o.rest).first.bytes) z ∙ zero-add (length (lines o.rest).first.bytes)
+
+-- a line behind the header, by its refusal, by what it says and by whether a vector is taken
+vector_turn : List Column → Open → ℕ → Option StimError → Said Values → (Values → Option StimError) → Reading
+vector_turn cs o count r s taken =
+    elim r [
+      | Some e ↦ refused e
+      | None ↦ elim s [
+        | Skipped ↦ read_vectors limits cs (behind o.at (length (lines o.rest).first.bytes)) count (lines o.rest).later
+        | Malformed ↦ refused (BadVector o.at.number)
+        | Given v ↦ elim (taken v) [
+          | Some e ↦ refused e
+          | None ↦ with_vector v (read_vectors limits cs (behind o.at (length (lines o.rest).first.bytes)) (count + 1) (lines o.rest).later)
+        ]
+      ]
+    ]
+
+turned : (cs : List Column) (o : Open) (count : ℕ) (r : Option StimError) (s : Said Values) → o.taken ≡ 0 → line_refusal o ≡ r → vector_line cs (says o) ≡ s → vectors_from cs count o ≡ vector_turn cs o count r s (not_taken limits count)
+unfolding vector_turn
+turned cs o count r s z e f = λ i. vector_turn cs o count ((refusal_here o z ∙ e) i) (f i) (not_taken limits count)
+
+-- the lines behind this one
+later_vectors : (cs : List Column) (o p : Open) (count : ℕ) → o.taken ≡ 0 → Passes false o p → read_vectors limits cs (behind o.at (length (lines o.rest).first.bytes)) count (lines o.rest).later ≡ vectors_from cs count p
+later_vectors cs o p count z h = λ i. read_vectors limits cs (sym (h.at refl ∙ ap (behind o.at) (length_here o z)) i) count (sym (h.more refl) i)
+
+pub vectors_skipped : (cs : List Column) (o p : Open) (count : ℕ) → o.taken ≡ 0 → Passes false o p → vector_line cs (says o) ≡ Skipped → vectors_from cs count o ≡ vectors_from cs count p
+unfolding vector_turn
+vectors_skipped cs o p count z h s = turned cs o count None Skipped z h.kept s ∙ later_vectors cs o p count z h
+
+last_vectors : (cs : List Column) (o p : Open) (count : ℕ) → Passes true o p → read_vectors limits cs (behind o.at (length (lines o.rest).first.bytes)) count (lines o.rest).later ≡ at_end count
+last_vectors cs o p count h = ap (read_vectors limits cs (behind o.at (length (lines o.rest).first.bytes)) count) (h.none refl)
+
+vectors_given : (cs : List Column) (o : Open) (count : ℕ) (v : Values) → o.taken ≡ 0 → line_refusal o ≡ None → vector_line cs (says o) ≡ Given v → not_taken limits count v ≡ None → vectors_from cs count o ≡ with_vector v (read_vectors limits cs (behind o.at (length (lines o.rest).first.bytes)) (count + 1) (lines o.rest).later)
+unfolding vector_turn
+vectors_given cs o count v z h s n = turned cs o count None (Given v) z h s ∙ (λ i. vector_turn cs o count None (Given v) (λ _. n i))
+
+pub vectors_taken : (cs : List Column) (o p : Open) (count : ℕ) (v : Values) → o.taken ≡ 0 → Passes false o p → vector_line cs (says o) ≡ Given v → not_taken limits count v ≡ None → vectors_from cs count o ≡ with_vector v (vectors_from cs (count + 1) p)
+vectors_taken cs o p count v z h s n = vectors_given cs o count v z h.kept s n ∙ ap (with_vector v) (later_vectors cs o p (count + 1) z h)
+
+-- nothing is left of the text
+pub nothing_left : (cs : List Column) (p : Open) (count : ℕ) → p.rest ≡ [] → p.at.start ≤ 4294967296 → vectors_from cs count p ≡ at_end count
+nothing_left cs p count e h = ap (λ r. read_vectors limits cs p.at count (all_lines (lines r))) e ∙ ap past (le-ltb 4294967296 (p.at.start + 0) (omega arith))
+  where
+    past : Bool → Reading
+    past b = elim (elim b as (λ _. Option StimError) [ true ↦ Some StimulusTooLong | false ↦ None ]) as (λ _. Reading) [ Some e ↦ refused e | None ↦ at_end count ]
+
+pub vectors_taken_last : (cs : List Column) (o p : Open) (count : ℕ) (v : Values) → o.taken ≡ 0 → Passes true o p → p.at.start ≤ 4294967296 → vector_line cs (says o) ≡ Given v → not_taken limits count v ≡ None → vectors_from cs count o ≡ with_vector v (vectors_from cs (count + 1) p)
+vectors_taken_last cs o p count v z h b s n = vectors_given cs o count v z h.kept s n ∙ ap (with_vector v) (last_vectors cs o p (count + 1) h ∙ sym (nothing_left cs p (count + 1) (h.nothing refl) b))
+
+-- A vector was read.
+pub vectors_found : (cs : List Column) (o p : Open) (count : ℕ) (v : Values) (last : Bool) → o.taken ≡ 0 → Passes last o p → p.at.start ≤ 4294967296 → vector_line cs (says o) ≡ Given v → not_taken limits count v ≡ None → vectors_from cs count o ≡ with_vector v (vectors_from cs (count + 1) p)
+vectors_found cs o p count v true z h b s n = vectors_taken_last cs o p count v z h b s n
+vectors_found cs o p count v false z h b s n = vectors_taken cs o p count v z h s n
+
+skipped_is : (cs : List Column) (t : List ℕ) → Skipped ≡ vector_line cs t → is_skipped t ≡ true
+skipped_is cs t e = go (is_skipped t) refl
+  where
+    never : (o : Option Values) → Skipped ≡ said o → ⊥
+    never None f = cc
+    never (Some v) f = cc
+
+    go : (b : Bool) → is_skipped t ≡ b → is_skipped t ≡ true
+    go true f = f
+    go false f = absurd (never (vector cs (fields t)) (rw (f, vector_line) at e))
+
+-- whether lines tell, by the first one's refusal, its LF, whether it is skipped, and whether the others tell
+tell : Option StimError → Bool → Bool → Bool → Bool
+tell r e s k = elim r [ Some x ↦ true | None ↦ elim e [ false ↦ false | true ↦ elim s [ false ↦ true | true ↦ k ] ] ]
+
+told_parts : (o : Open) → o.taken ≡ 0 → IsTrue (text_tells o) → tell (line_refusal o) (lines o.rest).first.ended (is_skipped (says o)) (lines_tell (behind o.at (length (lines o.rest).first.bytes)) (lines o.rest).later) ≡ true
+unfolding tell
+told_parts o z t = sym (ap (λ r. tell r (lines o.rest).first.ended (is_skipped (says o)) (lines_tell (behind o.at (length (lines o.rest).first.bytes)) (lines o.rest).later)) (refusal_here o z)) ∙ t
+
+-- What tells what is read next tells the line.
+pub tells_line : (o : Open) → o.taken ≡ 0 → IsTrue (text_tells o) → IsTrue (is_told o)
+unfolding tell
+tells_line o z t = go (line_refusal o) (lines o.rest).first.ended (is_skipped (says o)) (lines_tell (behind o.at (length (lines o.rest).first.bytes)) (lines o.rest).later) (told_parts o z t)
+  where
+    go : (r : Option StimError) (e s k : Bool) → tell r e s k ≡ true → (elim r as (λ _. Bool) [ Some x ↦ true | None ↦ e ]) ≡ true
+    go (Some x) e s k h = refl
+    go None true s k h = refl
+    go None false s k h = h
+
+-- Where a line tells what is read next and was skipped, the lines behind it tell.
+pub tells_on : (cs : List Column) (o p : Open) → o.taken ≡ 0 → Passes false o p → Skipped ≡ vector_line cs (says o) → IsTrue (text_tells o) → IsTrue (text_tells p)
+unfolding tell
+tells_on cs o p z h s t =
+    let k = lines_tell (behind o.at (length (lines o.rest).first.bytes)) (lines o.rest).later in
+    let e = (lines o.rest).first.ended in
+    let moved : text_tells p ≡ k = (λ i. lines_tell ((h.at refl ∙ ap (behind o.at) (length_here o z)) i) (h.more refl i)) in
+    let known : tell None e true k ≡ true = (λ i. tell (sym h.kept i) e (sym (skipped_is cs (says o) s) i) k) ∙ told_parts o z t in
+    moved ∙ go e k known
+  where
+    go : (e k : Bool) → tell None e true k ≡ true → k ≡ true
+    go true k h = h
+    go false k h = absurd (cc)

@@ -1,0 +1,24 @@
+use Rattle.std.proofs.Common.{◌≡◌, ◌-◌, IsTrue}
+use Rattle.vs_stim.specs.Desk.{OthersKept}
+use Rattle.vs_stim.specs.Heading.{heading_with, IsHeading}
+use Rattle.vs_stim.specs.Source.{open_at, says, IsSource, SameLine}
+use Rattle.vs_stim.proofs.header.feed_heading.Given as goal
+
+abbrev pub invariant-line : goal.invariant-line
+invariant-line g l =
+    let before = open_at l.initial.source (g.D.Desk.contents l.initial.desk) in
+    let now = open_at l.source (g.D.Desk.contents l.desk) in
+    record {
+      source : IsSource l.source;
+      heading : IsHeading l.inputs l.heading;
+      place : l.source.place ≡ l.initial.source.place;
+      number : l.source.number ≡ l.initial.source.number;
+      start : l.source.start ≡ l.initial.source.start;
+      register : g.D.Desk.register l.desk ≡ g.D.Desk.register l.initial.desk;
+      others : IsTrue g.D.Desk.tells → OthersKept l.initial.source.place (g.D.Desk.contents l.initial.desk) (g.D.Desk.contents l.desk);
+      line : IsTrue g.D.Desk.tells → SameLine before now;
+      says : IsTrue g.D.Desk.tells → heading_with l.inputs l.heading (says now) ≡ heading_with l.inputs l.initial.heading (says before);
+    }
+
+abbrev pub decreases-line : goal.decreases-line
+decreases-line g l = 65536 - l.source.length

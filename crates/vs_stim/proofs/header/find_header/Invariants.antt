@@ -1,0 +1,23 @@
+use Rattle.std.proofs.Common.{◌≡◌, ◌-◌, IsTrue}
+use Rattle.vs_stim.specs.Desk.{OthersKept}
+use Rattle.vs_stim.specs.Heading.{IsHeading}
+use Rattle.vs_stim.specs.Source.{open_at, IsSource, header_from}
+use Rattle.vs_stim.specs.declared.heading.Stage.TheVariants.{Start}
+use Rattle.vs_stim.proofs.header.find_header.Given as goal
+
+abbrev pub invariant-lines : goal.invariant-lines
+invariant-lines g l =
+    record {
+      source : IsSource l.source;
+      begins : l.source.length ≡ 0;
+      heading : IsHeading l.inputs l.heading;
+      stage : l.heading.stage ≡ Start;
+      place : l.source.place ≡ l.initial.source.place;
+      register : g.D.Desk.register l.desk ≡ g.D.Desk.register l.initial.desk;
+      others : IsTrue g.D.Desk.tells → OthersKept l.initial.source.place (g.D.Desk.contents l.initial.desk) (g.D.Desk.contents l.desk);
+      reading : IsTrue g.D.Desk.tells →
+          header_from l.inputs (open_at l.initial.source (g.D.Desk.contents l.initial.desk)) ≡ header_from l.inputs (open_at l.source (g.D.Desk.contents l.desk));
+    }
+
+abbrev pub decreases-lines : goal.decreases-lines
+decreases-lines g l = 4294967296 - l.source.start

@@ -1,0 +1,13 @@
+use Rattle.std.proofs.Common.{IsTrue}
+use Rattle.vs_desk.specs.Desk.{IsAttached}
+use Rattle.vs_desk.specs.declared.desk.Way.TheVariants.{Read}
+use Rattle.vs_desk.specs.MemoryDesk as memory
+use Rattle.vs_stim.specs.Known.{place_of}
+use Rattle.vs_stim.proofs.tests.read.Given as goal
+
+-- the next vector may be asked for
+abbrev pub invariant-vectors : goal.invariant-vectors
+invariant-vectors l = record {
+  live : IsTrue l.stimulus.live;
+  attached : IsAttached (memory.register l.desk) (place_of l.stimulus.lane) Read;
+}

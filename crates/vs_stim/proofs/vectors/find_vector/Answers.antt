@@ -1,0 +1,49 @@
+use Rattle.std.proofs.Common.{rules, ◌+◌, Bool, IsTrue, sym, ◌∙◌, ap, subst, arith}
+use Rattle.vs_stim.specs.Reading.{limits, not_taken, with_vector}
+use Rattle.vs_stim.specs.Source.{open_at, in_block, is_told, vectors_from, Passes}
+use Rattle.vs_stim.proofs.Turns.{vectors_skipped, vectors_found, tells_line, tells_on}
+use Rattle.vs_stim.proofs.vectors.find_vector.Goals as goal
+
+pub lines-preserved : goal.lines-preserved
+lines-preserved g c =
+    let h = c.in_ok-kind.ensures in
+    let inv = c.lines.invariant in
+    let before = c.lines.source in
+    let now = c.read_row.new.source in
+    let columns = c.lines.row.columns in
+    record {
+      source = search rules;
+      begins = search rules;
+      row = search rules;
+      each = search rules;
+      form = search rules;
+      place = search rules;
+      register = search rules;
+      others = search rules;
+      frugal = λ x. h.frugal (tells_line (in_block before) inv.begins (inv.told x)) ∙ inv.frugal x;
+      told = λ x.
+          let y : IsTrue (is_told (in_block before)) = tells_line (in_block before) inv.begins (inv.told x) in
+          let P : Bool → Type 0 = λ b. Passes b (in_block before) (in_block now) in
+          tells_on columns.items (in_block before) (in_block now) inv.begins (subst P c.if-last.false (h.told y)) (rw c.in-Skipped.is at (h.told_says y)) (inv.told x);
+      reading = λ t.
+          let o = open_at before (g.D.Desk.contents c.lines.desk) in
+          let p = open_at now (g.D.Desk.contents c.read_row.new.desk) in
+          let P : Bool → Type 0 = λ b. Passes b o p in
+          inv.reading t
+          ∙ vectors_skipped columns.items o p c.args.count inv.begins (subst P c.if-last.false (h.passes t)) (sym (rw c.in-Skipped.is at (h.says t)))
+          ∙ sym (ap (λ cs. vectors_from cs.items c.args.count p) h.form.columns);
+    }
+
+pub returns-in-Given-clause-found : goal.returns-in-Given-clause-found
+returns-in-Given-clause-found g c =
+    let h = c.in_ok-kind.ensures in
+    let inv = c.lines.invariant in
+    let columns = c.lines.row.columns in
+    let values = c.read_row.new.row.values.items in
+    let taken = ap (not_taken limits c.args.count) (sym c.deref.ensures.value) ∙ c.in_ok-check_vector-in-Given.ensures.ok in
+    λ t _.
+    let o = open_at c.lines.source (g.D.Desk.contents c.lines.desk) in
+    let p = open_at c.read_row.new.source (g.D.Desk.contents c.read_row.new.desk) in
+    inv.reading t
+    ∙ vectors_found columns.items o p c.args.count values c.in_ok-kind.last inv.begins (h.passes t) (omega (arith, h.source.bytes)) (sym (rw c.in-Given.is at (h.says t))) taken
+    ∙ ap (λ cs. with_vector values (vectors_from cs.items (c.args.count + 1) p)) inv.form.columns

@@ -1,0 +1,25 @@
+use Rattle.std.proofs.Common.{◌≡◌, ◌-◌, IsTrue}
+use Rattle.vs_stim.specs.Desk.{OthersKept}
+use Rattle.vs_stim.specs.Row.{IsRow, SameForm, each_input}
+use Rattle.vs_stim.specs.Source.{open_at, in_block, text_tells, IsSource, vectors_from}
+use Rattle.vs_stim.proofs.vectors.find_vector.Given as goal
+
+abbrev pub invariant-lines : goal.invariant-lines
+invariant-lines g l =
+    record {
+      source : IsSource l.source;
+      begins : l.source.length ≡ 0;
+      row : IsRow l.row;
+      each : IsTrue (each_input l.row);
+      form : SameForm l.initial.row l.row;
+      place : l.source.place ≡ l.initial.source.place;
+      register : g.D.Desk.register l.desk ≡ g.D.Desk.register l.initial.desk;
+      others : IsTrue g.D.Desk.tells → OthersKept l.initial.source.place (g.D.Desk.contents l.initial.desk) (g.D.Desk.contents l.desk);
+      frugal : IsTrue (text_tells (in_block l.initial.source)) → l.desk ≡ l.initial.desk;
+      told : IsTrue (text_tells (in_block l.initial.source)) → IsTrue (text_tells (in_block l.source));
+      reading : IsTrue g.D.Desk.tells →
+          vectors_from l.initial.row.columns.items l.count (open_at l.initial.source (g.D.Desk.contents l.initial.desk)) ≡ vectors_from l.row.columns.items l.count (open_at l.source (g.D.Desk.contents l.desk));
+    }
+
+abbrev pub decreases-lines : goal.decreases-lines
+decreases-lines g l = 4294967296 - l.source.start

@@ -1,0 +1,47 @@
+-- What is known of a stimulus that is being read.
+use Rattle.std.specs.Prelude.{ℕ, ◌+◌, Bool, true, false, List, [], ◌∷◌, ◌++◌, length, Some, None}
+use Rattle.vs_desk.specs.Desk.{Contents}
+use Rattle.vs_four.specs.declared.Bit4.{Bit4}
+use Rattle.vs_stim.specs.declared.input.Column.{Column}
+use Rattle.vs_stim.specs.Lines.{Line, lines, all_lines, content}
+use Rattle.vs_stim.specs.Fields.{is_skipped}
+use Rattle.vs_stim.specs.Reading.{Place, Reading, limits, behind, too_long, read_vectors}
+
+-- A stimulus between two lines: its lane, whether the next line may be read, the columns of its header, how many vectors
+-- were given, the last of them, where the next line stands, and the bytes that were taken and not yet read.
+pub record Known : Type 0 where
+  pub lane : ℕ
+  pub live : Bool
+  pub columns : List Column
+  pub count : ℕ
+  pub vector : List (List Bit4)
+  pub at : Place
+  pub pending : List ℕ
+
+-- the place of a lane's stimulus
+abbrev pub place_of : ℕ → ℕ
+place_of lane = 1000 + lane
+
+-- the text that is left: the pending bytes, and what is left on a desk with these contents
+abbrev pub text_left : Known → Contents → List ℕ
+text_left k contents = k.pending ++ contents.left (place_of k.lane)
+
+-- Lines from here on tell what is read next: one that isn't skipped has its LF, or a byte is past a limit.
+abbrev pub lines_tell : Place → List Line → Bool
+lines_tell p [] = false
+lines_tell p (line ∷ later) =
+    elim (too_long limits p (length line.bytes) line.ended) [
+      | Some e ↦ true
+      | None ↦ elim line.ended [
+        | false ↦ false
+        | true ↦ elim (is_skipped (content line)) [ false ↦ true | true ↦ lines_tell (behind p (length line.bytes)) later ]
+      ]
+    ]
+
+-- the pending bytes tell what is read next
+abbrev pub pending_tells : Known → Bool
+pending_tells k = lines_tell k.at (all_lines (lines k.pending))
+
+-- what the text that is left gives
+abbrev pub remaining : Known → Contents → Reading
+remaining k contents = read_vectors limits k.columns k.at k.count (all_lines (lines (text_left k contents)))

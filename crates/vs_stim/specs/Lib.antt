@@ -1,0 +1,11 @@
+pub mod Lines
+pub mod Fields
+pub mod Header
+pub mod Vectors
+pub mod Reading
+pub mod Row
+pub mod Heading
+pub mod Desk
+pub mod Source
+pub mod Known
+pub mod Stimulus

@@ -1,0 +1,152 @@
+-- A text of which a part was read, in the middle of a line.
+use Rattle.std.specs.Prelude.{◌≡◌, ℕ, ◌+◌, ◌<◌, ◌≤◌, List, [], ◌∷◌, ◌++◌, length, Option, Some, None, Bool, true, false}
+use Rattle.vs_desk.specs.Desk.{Contents}
+use Rattle.vs_stim.specs.declared.error.StimError.{StimError}
+use Rattle.vs_stim.specs.declared.input.Input.{Input}
+use Rattle.vs_stim.specs.declared.input.Column.{Column}
+use Rattle.vs_stim.specs.declared.error.StimError.TheVariants.{BadHeader, BadVector, FirstUnknown, NoVector, TooManyVectors, StimulusTooLong, LineTooLong, ReadFault, Memory}
+use Rattle.vs_stim.specs.declared.source.Source.{Source}
+use Rattle.vs_stim.specs.declared.source.Piece.{Piece}
+use Rattle.vs_stim.specs.declared.source.Piece.TheVariants.{Byte, LineEnd, TextEnd}
+use Rattle.vs_stim.specs.Known.{lines_tell}
+use Rattle.vs_stim.specs.Lines.{lines, all_lines, content}
+use Rattle.vs_stim.specs.Reading.{limits, Place, behind, too_long, Reading, read_vectors, read_header}
+
+-- where the line stands, how many of its bytes were read, and the text that is left
+pub record Open : Type 0 where
+  pub at : Place
+  pub taken : ℕ
+  pub rest : List ℕ
+
+-- how many bytes the line has before its LF
+abbrev pub line_length : Open → ℕ
+line_length o = o.taken + length (lines o.rest).first.bytes
+
+-- the line's refusal for its length
+abbrev pub line_refusal : Open → Option StimError
+line_refusal o = too_long limits o.at (line_length o) (lines o.rest).first.ended
+
+-- what is left of what the line says
+abbrev pub says : Open → List ℕ
+says o = content (lines o.rest).first
+
+-- The next byte of what the line says is this, and the line goes on.
+pub record GivesByte (byte : ℕ) (old new : Open) : Type 0 where
+  pub said : says old ≡ byte ∷ says new
+  pub size : line_length new ≡ line_length old
+  pub ended : (lines new.rest).first.ended ≡ (lines old.rest).first.ended
+  pub later : (lines new.rest).later ≡ (lines old.rest).later
+
+-- The line says no more, and an LF ends it.
+pub record EndsLine (old new : Open) : Type 0 where
+  pub said : says old ≡ []
+  pub kept : line_refusal old ≡ None
+  pub later : all_lines (lines new.rest) ≡ (lines old.rest).later
+  pub at : new.at ≡ behind old.at (line_length old)
+
+-- The line says no more, and the text ends with it.
+pub record EndsText (old new : Open) : Type 0 where
+  pub said : says old ≡ []
+  pub kept : line_refusal old ≡ None
+  pub ended : (lines old.rest).first.ended ≡ false
+  pub later : (lines old.rest).later ≡ []
+  pub nothing : new.rest ≡ []
+
+abbrev pub Gives : Piece → Open → Open → Type 0
+Gives (Byte b) old new = GivesByte b old new
+Gives LineEnd old new = EndsLine old new
+Gives TextEnd old new = EndsText old new
+
+-- the text that is left: what was taken and not yet read, and what is left on the desk
+abbrev pub rest_of : Source → Contents → List ℕ
+rest_of s contents = s.block ++ contents.left s.place
+
+-- where a reader is in its text, where this is left of it
+abbrev pub open_before : Source → List ℕ → Open
+open_before s rest = record { at = record { number = s.number; start = s.start }; taken = s.length; rest = rest }
+
+abbrev pub open_at : Source → Contents → Open
+open_at s contents = open_before s (rest_of s contents)
+
+-- a reader, where its block is all that is left of the text
+abbrev pub in_block : Source → Open
+in_block s = open_before s s.block
+
+-- the rest has the line's LF, or a byte past a limit
+abbrev pub is_told : Open → Bool
+is_told o = elim (line_refusal o) [ Some e ↦ true | None ↦ (lines o.rest).first.ended ]
+
+-- how the numbers of a reader go on
+abbrev pub Moves : Piece → Source → Source → Type 0
+Moves (Byte b) old new = (new.number ≡ old.number) × (new.start ≡ old.start) × (new.length ≡ old.length + 1)
+Moves LineEnd old new = (old.start < new.start) × (new.length ≡ 0)
+Moves TextEnd old new = new.length ≡ 0
+
+-- the refusals of a line for its length, and a fault
+abbrev pub IsReadError : ℕ → StimError → Type 0
+IsReadError number ReadFault = Unit {0}
+IsReadError number StimulusTooLong = Unit {0}
+IsReadError number (LineTooLong line) = line ≡ number
+IsReadError number BadHeader = ⊥
+IsReadError number (BadVector line) = ⊥
+IsReadError number FirstUnknown = ⊥
+IsReadError number NoVector = ⊥
+IsReadError number TooManyVectors = ⊥
+IsReadError number Memory = ⊥
+
+-- the numbers are in range
+pub record IsSource (s : Source) : Type 0 where
+  pub number : s.number ≤ s.start + 1
+  pub line : s.length ≤ 65536
+  pub bytes : s.start + s.length ≤ 4294967296
+
+-- what lines behind the header give from here on, where this many vectors stand before them
+abbrev pub vectors_from : List Column → ℕ → Open → Reading
+vectors_from cs count o = read_vectors limits cs o.at count (all_lines (lines o.rest))
+
+-- the answers of a line that should be a vector, but for Ok
+abbrev pub IsVectorError : StimError → Type 0
+IsVectorError BadHeader = ⊥
+IsVectorError (BadVector line) = Unit {0}
+IsVectorError FirstUnknown = Unit {0}
+IsVectorError NoVector = Unit {0}
+IsVectorError TooManyVectors = Unit {0}
+IsVectorError StimulusTooLong = Unit {0}
+IsVectorError (LineTooLong line) = Unit {0}
+IsVectorError ReadFault = Unit {0}
+IsVectorError Memory = ⊥
+
+-- what lines before the vectors give from here on
+abbrev pub header_from : List Input → Open → Reading
+header_from is o = read_header limits is o.at (all_lines (lines o.rest))
+
+-- the answers of a line that should be a header, but for Ok
+abbrev pub IsHeaderError : StimError → Type 0
+IsHeaderError BadHeader = Unit {0}
+IsHeaderError (BadVector line) = ⊥
+IsHeaderError FirstUnknown = ⊥
+IsHeaderError NoVector = ⊥
+IsHeaderError TooManyVectors = ⊥
+IsHeaderError StimulusTooLong = Unit {0}
+IsHeaderError (LineTooLong line) = Unit {0}
+IsHeaderError ReadFault = Unit {0}
+IsHeaderError Memory = Unit {0}
+
+-- The line of old was read whole: an LF ended it, or the text.
+pub record Passes (last : Bool) (old new : Open) : Type 0 where
+  pub kept : line_refusal old ≡ None
+  pub more : last ≡ false → all_lines (lines new.rest) ≡ (lines old.rest).later
+  pub at : last ≡ false → new.at ≡ behind old.at (line_length old)
+  pub none : last ≡ true → (lines old.rest).later ≡ []
+  pub nothing : last ≡ true → new.rest ≡ []
+
+-- The reader is still in the line of old.
+pub record SameLine (old new : Open) : Type 0 where
+  pub at : new.at ≡ old.at
+  pub size : line_length new ≡ line_length old
+  pub ended : (lines new.rest).first.ended ≡ (lines old.rest).first.ended
+  pub later : (lines new.rest).later ≡ (lines old.rest).later
+
+-- the rest tells what is read next, from a line's start
+abbrev pub text_tells : Open → Bool
+text_tells o = lines_tell o.at (all_lines (lines o.rest))

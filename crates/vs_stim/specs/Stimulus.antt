@@ -1,0 +1,26 @@
+-- What is kept of a stimulus between calls.
+use Rattle.std.specs.Prelude.{◌≡◌, ◌<◌, ◌≤◌, true, IsTrue}
+use Rattle.vs_stim.specs.declared.stimulus.Stimulus.TheInside.{Inside}
+use Rattle.vs_stim.specs.Row.{IsRow, each_input}
+use Rattle.vs_stim.specs.Source.{IsSource}
+use Rattle.vs_stim.specs.Known.{Known, place_of}
+
+abbrev pub known : Inside → Known
+known s = record {
+  lane = s.lane;
+  live = s.live;
+  columns = s.row.columns.items;
+  count = s.count;
+  vector = s.row.values.items;
+  at = record { number = s.source.number; start = s.source.start };
+  pending = s.source.block;
+}
+
+pub record IsStimulus (s : Inside) : Type 0 where
+  pub source : IsSource s.source
+  pub place : s.source.place ≡ place_of s.lane
+  pub lane : s.lane < 1000
+  pub row : IsRow s.row
+  pub each : IsTrue (each_input s.row)
+  pub count : s.count ≤ 16777216
+  pub begins : s.live ≡ true → s.source.length ≡ 0

@@ -1,0 +1,140 @@
+//! The lines before the vectors.
+
+ghost use Rattle.std.specs.Prelude.{◌≡◌, ◌≢◌, ◌<◌, All, [], length, Ok, Err, Some, true, false, IsTrue, IfOk, IfErr, OnOk};
+ghost use Rattle.vs_desk.specs.Desk.{IsAttached, Fails};
+ghost use Rattle.vs_desk.specs.declared.desk.Way.TheVariants.{Read};
+ghost use Rattle.vs_stim.specs.Desk.{OthersKept};
+ghost use Rattle.vs_stim.specs.Header.{IsInput, lengths, each_once};
+ghost use Rattle.vs_stim.specs.Reading.{header_line, refused};
+ghost use Rattle.vs_stim.specs.Row.{as_said, IsColumn};
+ghost use Rattle.vs_stim.specs.Heading.{heading_with, IsHeading};
+ghost use Rattle.vs_stim.specs.Source.{open_at, line_refusal, says, rest_of, vectors_from, header_from, IsSource, IsHeaderError, Passes};
+ghost use Rattle.vs_stim.specs.declared.heading.Stage.TheVariants.{Start};
+ghost use Rattle.vs_stim.specs.declared.row.LineKind.TheVariants.{Skipped, Given};
+
+use crate::heading::Heading;
+use crate::row::LineKind;
+use crate::source::{Piece, Source};
+use crate::{Column, Input, StimError};
+use std::alloc::{AllocError, Global};
+use vs_desk::Desk;
+
+/// Reads a line into the heading, and answers whether the text ends with it.
+fn feed_heading<D: Desk>(
+    source: &mut Source,
+    heading: &mut Heading,
+    inputs: &[Input],
+    desk: &mut D,
+) -> Result<bool, StimError>
+    requires source { IsSource source.old }
+    requires inputs { All IsInput inputs.now }
+    requires heading { IsHeading inputs.now heading.old }
+    requires attached { IsAttached (D.register desk.old) source.old.place Read }
+    ensures source { IsSource source.new }
+    ensures heading { OnOk result (IsHeading inputs.now heading.new) }
+    ensures place { source.new.place ≡ source.old.place }
+    ensures moves { result ≡ Ok false → source.old.start < source.new.start }
+    ensures begins { OnOk result (source.new.length ≡ 0) }
+    ensures says { IsTrue D.tells → OnOk result (heading_with inputs.now heading.new [] ≡ heading_with inputs.now heading.old (says (open_at source.old (D.contents desk.old)))) }
+    ensures passes { IsTrue D.tells → IfOk result (λ last. Passes last (open_at source.old (D.contents desk.old)) (open_at source.new (D.contents desk.new))) }
+
+    ensures refused { IsTrue D.tells → IfErr result (λ e. e ≢ StimError.ReadFault → e ≢ StimError.Memory → line_refusal (open_at source.old (D.contents desk.old)) ≡ Some e) }
+    ensures errors { IfErr result IsHeaderError }
+    ensures register { IfErr result (λ e. e ≢ StimError.ReadFault → D.register desk.new ≡ D.register desk.old) }
+    ensures same { OnOk result (D.register desk.new ≡ D.register desk.old) }
+    ensures failed { result ≡ Err StimError.ReadFault → Fails (D.register desk.old) (D.register desk.new) source.old.place (D.register desk.old).asked }
+    ensures others { IsTrue D.tells → OthersKept source.old.place (D.contents desk.old) (D.contents desk.new) }
+{
+    'line: loop {
+        match source.next_piece(desk)? {
+            Piece::Byte(byte) => {
+                if let Err(AllocError) = heading.feed(inputs, byte) {
+                    return Err(StimError::Memory);
+                }
+            }
+            Piece::LineEnd => return Ok(false),
+            Piece::TextEnd => return Ok(true),
+        }
+    }
+}
+
+/// Reads a line, and answers what it is and whether the text ends with it.
+fn read_heading<D: Desk>(
+    source: &mut Source,
+    heading: &mut Heading,
+    inputs: &[Input],
+    desk: &mut D,
+) -> Result<(LineKind, bool), StimError>
+    requires source { IsSource source.old }
+    requires inputs { All IsInput inputs.now }
+    requires heading { IsHeading inputs.now heading.old }
+    requires stage { heading.old.stage ≡ Start }
+    requires attached { IsAttached (D.register desk.old) source.old.place Read }
+    ensures source { IsSource source.new }
+    ensures heading { OnOk result (IsHeading inputs.now heading.new) }
+    ensures skipped { IfOk result (λ line. line.0 ≡ Skipped → (heading.new.titled ≡ false) × (heading.new.columns.items ≡ [])) }
+    ensures given { IfOk result (λ line. line.0 ≡ Given → each_once (length inputs.now) heading.new.columns.items ≡ true) }
+    ensures place { source.new.place ≡ source.old.place }
+    ensures moves { IfOk result (λ line. line.1 ≡ false → source.old.start < source.new.start) }
+    ensures begins { OnOk result (source.new.length ≡ 0) }
+    ensures says { IsTrue D.tells → IfOk result (λ line. as_said line.0 heading.new.columns.items ≡ header_line inputs.now (says (open_at source.old (D.contents desk.old)))) }
+    ensures passes { IsTrue D.tells → IfOk result (λ line. Passes line.1 (open_at source.old (D.contents desk.old)) (open_at source.new (D.contents desk.new))) }
+
+    ensures refused { IsTrue D.tells → IfErr result (λ e. e ≢ StimError.ReadFault → e ≢ StimError.Memory → line_refusal (open_at source.old (D.contents desk.old)) ≡ Some e) }
+    ensures errors { IfErr result IsHeaderError }
+    ensures register { IfErr result (λ e. e ≢ StimError.ReadFault → D.register desk.new ≡ D.register desk.old) }
+    ensures same { OnOk result (D.register desk.new ≡ D.register desk.old) }
+    ensures failed { result ≡ Err StimError.ReadFault → Fails (D.register desk.old) (D.register desk.new) source.old.place (D.register desk.old).asked }
+    ensures others { IsTrue D.tells → OthersKept source.old.place (D.contents desk.old) (D.contents desk.new) }
+{
+    let last = feed_heading(source, heading, inputs, desk)?;
+    match heading.finish(inputs) {
+        Ok(kind) => Ok((kind, last)),
+        Err(AllocError) => Err(StimError::Memory),
+    }
+}
+
+/// Reads lines up to the header, and answers its columns.
+pub(crate) fn find_header<D: Desk>(
+    alloc: Global,
+    source: &mut Source,
+    inputs: &[Input],
+    desk: &mut D,
+) -> Result<Vec<Column>, StimError>
+    requires source { IsSource source.old }
+    requires begins { source.old.length ≡ 0 }
+    requires inputs { All IsInput inputs.now }
+    requires attached { IsAttached (D.register desk.old) source.old.place Read }
+    ensures source { IsSource source.new }
+    ensures place { source.new.place ≡ source.old.place }
+    ensures begins { OnOk result (source.new.length ≡ 0) }
+    ensures columns { IfOk result (λ cs. All (IsColumn (lengths inputs.now)) cs.items) }
+    ensures each { IfOk result (λ cs. each_once (length inputs.now) cs.items ≡ true) }
+
+    ensures found { IsTrue D.tells → IfOk result (λ cs. header_from inputs.now (open_at source.old (D.contents desk.old)) ≡ vectors_from cs.items 0 (open_at source.new (D.contents desk.new))) }
+    ensures refused { IsTrue D.tells → IfErr result (λ e. e ≢ StimError.ReadFault → e ≢ StimError.Memory → header_from inputs.now (open_at source.old (D.contents desk.old)) ≡ refused e) }
+
+    ensures errors { IfErr result IsHeaderError }
+    ensures register { IfErr result (λ e. e ≢ StimError.ReadFault → D.register desk.new ≡ D.register desk.old) }
+    ensures same { OnOk result (D.register desk.new ≡ D.register desk.old) }
+    ensures failed { result ≡ Err StimError.ReadFault → Fails (D.register desk.old) (D.register desk.new) source.old.place (D.register desk.old).asked }
+    ensures others { IsTrue D.tells → OthersKept source.old.place (D.contents desk.old) (D.contents desk.new) }
+{
+    let mut heading = match Heading::new(alloc, inputs) {
+        Ok(heading) => heading,
+        Err(AllocError) => return Err(StimError::Memory),
+    };
+    'lines: loop {
+        let (kind, last) = read_heading(source, &mut heading, inputs, desk)?;
+        match kind {
+            LineKind::Given => return Ok(heading.into_columns()),
+            LineKind::Malformed => return Err(StimError::BadHeader),
+            LineKind::Skipped => {
+                if last {
+                    return Err(StimError::BadHeader);
+                }
+                heading.begin();
+            }
+        }
+    }
+}

@@ -1,0 +1,242 @@
+//! A line behind the header, read byte by byte.
+
+use crate::Column;
+use crate::digits::{Digits, bit_of, is_blank};
+use vs_four::Bits;
+
+/// Where in a line the next byte stands.
+#[derive(Clone, Copy)]
+pub(crate) enum Spot {
+    /// Before the first byte that isn't a blank.
+    Start,
+    /// In a line that is skipped.
+    Comment,
+    /// Between two fields.
+    Gap,
+    /// In a field of this column.
+    Field(Column),
+    /// Behind a `-` that is the whole line so far.
+    Dash,
+    /// Behind a `-` and blanks.
+    AfterDash,
+    /// In a line that is no vector.
+    Bad,
+}
+
+/// What a whole line is.
+#[derive(Clone, Copy)]
+pub(crate) enum LineKind {
+    Skipped,
+    Malformed,
+    Given,
+}
+
+/// A line behind the header, as far as it was read.
+#[derive(Drop)]
+pub(crate) struct Row {
+    /// The columns, in the header's order.
+    pub(crate) columns: Vec<Column>,
+    /// A value for each input, in the design's order.
+    pub(crate) values: Vec<Bits>,
+    pub(crate) spot: Spot,
+    /// How many columns have begun.
+    pub(crate) column: usize,
+    /// The digits of the field so far.
+    pub(crate) digits: Digits,
+}
+
+impl Row {
+    ghost use Rattle.std.specs.Prelude.{All, ◌≡◌, ◌<◌, ◌≤◌, ℕ, List, [], ◌∷◌, length, drop, true, false};
+    ghost use Rattle.vs_stim.specs.Fields.{is_blank, words, fields};
+    ghost use Rattle.vs_stim.specs.Row.{row_with, in_field, to_come, as_said, sizes, IsRow, IsOutside, IsColumn, SameForm};
+    ghost use Rattle.vs_stim.specs.declared.row.Spot.TheVariants.{Start};
+
+    /// Before the first line. The values are written over.
+    pub(crate) fn new(columns: Vec<Column>, values: Vec<Bits>) -> Row
+        requires { All (IsColumn (sizes values.items)) columns.items }
+        ensures row { IsRow result }
+        ensures columns { result.columns ≡ columns }
+        ensures values { result.values ≡ values }
+    {
+        Row {
+            columns,
+            values,
+            spot: Spot::Start,
+            column: 0,
+            digits: Digits::new(),
+        }
+    }
+
+    /// Begins a line.
+    pub(crate) fn begin(&mut self)
+        requires { IsRow self.old }
+        ensures row { IsRow self.new }
+        ensures spot { self.new.spot ≡ Start }
+        ensures column { self.new.column ≡ 0 }
+        ensures values { self.new.values ≡ self.old.values }
+        ensures columns { self.new.columns ≡ self.old.columns }
+    {
+        self.spot = Spot::Start;
+        self.column = 0;
+    }
+
+    /// Reads the next byte of the line.
+    pub(crate) fn feed(&mut self, byte: u8)
+        requires { IsRow self.old }
+        ensures row { IsRow self.new }
+        ensures says { (rest : List ℕ) → row_with self.new rest ≡ row_with self.old (byte ∷ rest) }
+        ensures form { SameForm self.old self.new }
+    {
+        match self.spot {
+            Spot::Start => self.feed_start(byte),
+            Spot::Gap => {
+                if !is_blank(byte) {
+                    self.begin_field(byte);
+                }
+            }
+            Spot::Field(column) => {
+                if is_blank(byte) {
+                    self.end_field(column);
+                } else {
+                    self.feed_digit(column, byte);
+                }
+            }
+            Spot::Dash => {
+                self.spot = if is_blank(byte) {
+                    Spot::AfterDash
+                } else {
+                    Spot::Bad
+                };
+            }
+            Spot::AfterDash => {
+                if !is_blank(byte) {
+                    self.spot = Spot::Bad;
+                }
+            }
+            Spot::Comment | Spot::Bad => {}
+        }
+    }
+
+    /// Reads a byte before which no byte of the line but blanks stands.
+    fn feed_start(&mut self, byte: u8)
+        requires row { IsRow self.old }
+        requires spot { self.old.spot ≡ Start }
+        ensures row { IsRow self.new }
+        ensures says { (rest : List ℕ) → row_with self.new rest ≡ row_with self.old (byte ∷ rest) }
+        ensures form { SameForm self.old self.new }
+    {
+        if is_blank(byte) {
+            return;
+        }
+        if byte == b'#' {
+            self.spot = Spot::Comment;
+        } else if self.columns.is_empty() {
+            self.spot = if byte == b'-' { Spot::Dash } else { Spot::Bad };
+        } else {
+            self.begin_field(byte);
+        }
+    }
+
+    /// Reads the first byte of a field.
+    fn begin_field(&mut self, byte: u8)
+        requires row { IsRow self.old }
+        requires no_blank { is_blank byte ≡ false }
+        ensures row { IsRow self.new }
+        ensures says { (rest : List ℕ) → row_with self.new rest
+            ≡ to_come (drop self.old.column self.old.columns.items) self.old.values.items (fields (byte ∷ rest)) }
+        ensures form { SameForm self.old self.new }
+    {
+        if self.column == self.columns.len() {
+            self.spot = Spot::Bad;
+            return;
+        }
+        let column = self.columns[self.column];
+        self.column += 1;
+        self.digits.clear();
+        self.feed_digit(column, byte);
+    }
+
+    /// Reads one more byte of a field of this column.
+    fn feed_digit(&mut self, column: Column, byte: u8)
+        requires each { All (IsColumn (sizes self.old.values.items)) self.old.columns.items }
+        requires within { self.old.column ≤ length self.old.columns.items }
+        requires column { IsColumn (sizes self.old.values.items) column }
+        requires room { length self.old.digits ≤ column.length }
+        ensures row { IsRow self.new }
+        ensures says { (rest : List ℕ) → row_with self.new rest
+            ≡ in_field column self.old.digits (drop self.old.column self.old.columns.items) self.old.values.items
+            (record { word = byte ∷ (words rest).word; later = (words rest).later }) }
+        ensures form { SameForm self.old self.new }
+    {
+        match bit_of(byte) {
+            Some(bit) if self.digits.len() < column.length as usize => {
+                self.digits.push(bit);
+                self.spot = Spot::Field(column);
+            }
+            _ => self.spot = Spot::Bad,
+        }
+    }
+
+    /// Ends a field of this column.
+    fn end_field(&mut self, column: Column)
+        requires row { IsRow self.old }
+        requires column { IsColumn (sizes self.old.values.items) column }
+        ensures row { IsRow self.new }
+        ensures says { (rest : List ℕ) → row_with self.new rest
+            ≡ in_field column self.old.digits (drop self.old.column self.old.columns.items) self.old.values.items
+            (record { word = []; later = fields rest }) }
+        ensures outside { IsOutside self.new.spot }
+        ensures form { SameForm self.old self.new }
+    {
+        if self.digits.len() == column.length as usize {
+            self.values[column.input] = self.digits.bits();
+            self.spot = Spot::Gap;
+        } else {
+            self.spot = Spot::Bad;
+        }
+    }
+
+    /// Ends the line.
+    pub(crate) fn finish(&mut self) -> LineKind
+        requires { IsRow self.old }
+        ensures row { IsRow self.new }
+        ensures says { as_said result self.new.values.items ≡ row_with self.old [] }
+        ensures form { SameForm self.old self.new }
+    {
+        self.end_word();
+        self.kind()
+    }
+
+    /// Ends the field, if the line ends in one.
+    fn end_word(&mut self)
+        requires { IsRow self.old }
+        ensures row { IsRow self.new }
+        ensures says { row_with self.new [] ≡ row_with self.old [] }
+        ensures outside { IsOutside self.new.spot }
+        ensures form { SameForm self.old self.new }
+    {
+        if let Spot::Field(column) = self.spot {
+            self.end_field(column);
+        }
+    }
+
+    /// What a line is that ends here.
+    fn kind(&self) -> LineKind
+        requires within { self.now.column ≤ length self.now.columns.items }
+        requires outside { IsOutside self.now.spot }
+        ensures { as_said result self.now.values.items ≡ row_with self.now [] }
+    {
+        match self.spot {
+            Spot::Start | Spot::Comment => LineKind::Skipped,
+            Spot::Dash | Spot::AfterDash => LineKind::Given,
+            Spot::Gap => {
+                if self.column == self.columns.len() {
+                    LineKind::Given
+                } else {
+                    LineKind::Malformed
+                }
+            }
+            Spot::Field(_) | Spot::Bad => LineKind::Malformed,
+        }
+    }
+}

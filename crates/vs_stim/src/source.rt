@@ -1,0 +1,209 @@
+//! The lines of a text on a desk, in pieces.
+
+use crate::StimError;
+use crate::block::Block;
+use std::alloc::{AllocError, Global};
+use vs_desk::{Desk, Failed};
+
+/// The greatest number of bytes in a line before its LF.
+const LINE_BYTES: u64 = 65_536;
+
+/// The greatest number of bytes in a text.
+const TEXT_BYTES: u64 = 4_294_967_296;
+
+/// What comes next in a text.
+#[derive(Clone, Copy)]
+pub(crate) enum Piece {
+    /// A byte of what the line says.
+    Byte(u8),
+    /// An LF, and a CR before it if there is one.
+    LineEnd,
+    /// The end of the text.
+    TextEnd,
+}
+
+/// A text at a place of a desk, in the middle of a line.
+#[derive(Drop)]
+pub(crate) struct Source {
+    /// Bytes that were taken and not yet read.
+    pub(crate) block: Block,
+    /// Where the text is attached.
+    pub(crate) place: u32,
+    /// The line's number, from 1.
+    pub(crate) number: u64,
+    /// How many bytes stand before the line.
+    pub(crate) start: u64,
+    /// How many bytes of the line were read.
+    pub(crate) length: u64,
+}
+
+impl Source {
+    ghost use Rattle.std.specs.Prelude.{◌≡◌, ◌≢◌, ◌≤◌, ◌<◌, ◌+◌, ◌-◌, ◌∷◌, [], drop, ℕ, List, length, Some, None, IsTrue, IfOk, OnOk, IfErr, OnErr, IfSome, IfNone, IsErrOf};
+    ghost use Rattle.vs_desk.specs.Desk.{IsAttached, Fails};
+    ghost use Rattle.vs_desk.specs.declared.desk.Way.TheVariants.{Read};
+    ghost use Rattle.vs_stim.specs.Desk.{OthersKept};
+    ghost use Rattle.vs_stim.specs.Lines.{lines};
+    ghost use Rattle.vs_stim.specs.Source.{open_at, open_before, in_block, is_told, rest_of, line_refusal, Gives, Moves, IsReadError, IsSource};
+
+    /// The start of the text at this place.
+    pub(crate) fn new(alloc: Global, place: u32) -> Result<Source, AllocError>
+        ensures source { IfOk result IsSource }
+        ensures block { IfOk result (λ s. s.block ≡ []) }
+        ensures place { IfOk result (λ s. s.place ≡ place) }
+        ensures number { IfOk result (λ s. s.number ≡ 1) }
+        ensures start { IfOk result (λ s. s.start ≡ 0) }
+        ensures length { IfOk result (λ s. s.length ≡ 0) }
+    {
+        Ok(Source {
+            block: Block::new(alloc)?,
+            place,
+            number: 1,
+            start: 0,
+            length: 0,
+        })
+    }
+
+    /// Reads the line's next byte, which is no LF and stands first in the block.
+    fn read_byte(&mut self) -> Result<(), StimError>
+        requires source { IsSource self.old }
+        requires byte { 0 < length self.old.block }
+        ensures ok { OnOk result (self.new ≡ record self.old { block = drop 1 self.old.block; length = self.old.length + 1 }) }
+        ensures err { OnErr result (self.new ≡ self.old) }
+        ensures source { IsSource self.new }
+        ensures errors { IfErr result (IsReadError self.old.number) }
+        ensures refused { IfErr result (λ e. (b : ℕ) (rest : List ℕ) → b ≢ 10 → line_refusal (open_before self.old (b ∷ rest)) ≡ Some e) }
+        ensures no_fault { result ≢ Err StimError.ReadFault }
+        ensures within { OnOk result ((self.old.length < 65536) × (self.old.start + self.old.length < 4294967296)) }
+    {
+        if self.length == LINE_BYTES {
+            return Err(StimError::LineTooLong { line: self.number });
+        }
+        if self.start + self.length == TEXT_BYTES {
+            return Err(StimError::StimulusTooLong);
+        }
+        self.block.skip();
+        self.length += 1;
+        Ok(())
+    }
+
+    /// Reads the LF of the line, which stands first in the block.
+    fn read_lf(&mut self) -> Result<(), StimError>
+        requires source { IsSource self.old }
+        requires byte { 0 < length self.old.block }
+        ensures ok { OnOk result (self.new ≡ record self.old {
+          block = drop 1 self.old.block;
+          number = self.old.number + 1;
+          start = self.old.start + self.old.length + 1;
+          length = 0;
+        }) }
+        ensures err { OnErr result (self.new ≡ self.old) }
+        ensures source { IsSource self.new }
+        ensures only { IfErr result (λ e. e ≡ StimError.StimulusTooLong) }
+        ensures refused { IfErr result (λ e. (rest : List ℕ) → line_refusal (open_before self.old (10 ∷ rest)) ≡ Some e) }
+        ensures within { OnOk result (self.old.start + self.old.length < 4294967296) }
+    {
+        if self.start + self.length == TEXT_BYTES {
+            return Err(StimError::StimulusTooLong);
+        }
+        self.block.skip();
+        self.number += 1;
+        self.start += self.length + 1;
+        self.length = 0;
+        Ok(())
+    }
+
+    /// Ends a line that the text ends with.
+    fn end_text(&mut self)
+        requires { IsSource self.old }
+        ensures source { IsSource self.new }
+        ensures moved { self.new ≡ record self.old { start = self.old.start + self.old.length; length = 0 } }
+    {
+        self.start += self.length;
+        self.length = 0;
+    }
+
+    /// The next byte of the text, which stays. It then stands first in the block.
+    fn peek<D: Desk>(&mut self, desk: &mut D) -> Result<Option<u8>, StimError>
+        requires { IsAttached (D.register desk.old) self.old.place Read }
+        ensures block { self.new ≡ record self.old { block = self.new.block } }
+        ensures same { OnOk result (D.register desk.new ≡ D.register desk.old) }
+        ensures fault { IfErr result (λ e. e ≡ StimError.ReadFault) }
+        ensures failed { OnErr result (Fails (D.register desk.old) (D.register desk.new) self.old.place (D.register desk.old).asked) }
+        ensures rest { IsTrue D.tells → rest_of self.new (D.contents desk.new) ≡ rest_of self.old (D.contents desk.old) }
+        ensures end { IsTrue D.tells → IfOk result (λ byte. IfNone byte (rest_of self.new (D.contents desk.new) ≡ [])) }
+        ensures some { IfOk result (λ byte. IfSome byte (λ b. self.new.block ≡ b ∷ drop 1 self.new.block)) }
+        ensures none { IfOk result (λ byte. IfNone byte (self.new.block ≡ [])) }
+        ensures none_before { IfOk result (λ byte. IfNone byte (self.old.block ≡ [])) }
+        ensures others { IsTrue D.tells → OthersKept self.old.place (D.contents desk.old) (D.contents desk.new) }
+        ensures frugal { self.old.block ≢ [] → (desk.new ≡ desk.old) × (self.new ≡ self.old) }
+    {
+        match self.block.peek(desk, self.place) {
+            Ok(byte) => Ok(byte),
+            Err(Failed) => Err(StimError::ReadFault),
+        }
+    }
+
+    /// Reads the next piece of the text.
+    pub(crate) fn next_piece<D: Desk>(&mut self, desk: &mut D) -> Result<Piece, StimError>
+        requires source { IsSource self.old }
+        requires attached { IsAttached (D.register desk.old) self.old.place Read }
+        ensures source { IsSource self.new }
+        ensures moves { IfOk result (λ piece. Moves piece self.old self.new) }
+        ensures place { self.new.place ≡ self.old.place }
+        ensures gives { IsTrue D.tells → IfOk result (λ piece. Gives piece (open_at self.old (D.contents desk.old)) (open_at self.new (D.contents desk.new))) }
+
+        ensures refused { IsTrue D.tells → IfErr result (λ e. e ≢ StimError.ReadFault → line_refusal (open_at self.old (D.contents desk.old)) ≡ Some e) }
+        ensures errors { IfErr result (IsReadError self.old.number) }
+        ensures register { IfErr result (λ e. e ≢ StimError.ReadFault → D.register desk.new ≡ D.register desk.old) }
+        ensures same { OnOk result (D.register desk.new ≡ D.register desk.old) }
+        ensures failed { result ≡ Err StimError.ReadFault → Fails (D.register desk.old) (D.register desk.new) self.old.place (D.register desk.old).asked }
+        ensures others { IsTrue D.tells → OthersKept self.old.place (D.contents desk.old) (D.contents desk.new) }
+        ensures frugal { IsTrue (is_told (in_block self.old)) → desk.new ≡ desk.old }
+        ensures told { IsTrue (is_told (in_block self.old)) → IfOk result (λ piece. Gives piece (in_block self.old) (in_block self.new)) }
+    {
+        match self.peek(desk)? {
+            None => {
+                self.end_text();
+                Ok(Piece::TextEnd)
+            }
+            Some(b'\n') => {
+                self.read_lf()?;
+                Ok(Piece::LineEnd)
+            }
+            Some(b'\r') => self.read_cr(desk),
+            Some(byte) => {
+                self.read_byte()?;
+                Ok(Piece::Byte(byte))
+            }
+        }
+    }
+
+    /// Reads a CR, which stands first in the block, and an LF behind it.
+    fn read_cr<D: Desk>(&mut self, desk: &mut D) -> Result<Piece, StimError>
+        requires source { IsSource self.old }
+        requires attached { IsAttached (D.register desk.old) self.old.place Read }
+        requires cr { self.old.block ≡ 13 ∷ drop 1 self.old.block }
+        ensures source { IsSource self.new }
+        ensures moves { IfOk result (λ piece. Moves piece self.old self.new) }
+        ensures place { self.new.place ≡ self.old.place }
+        ensures gives { IsTrue D.tells → IfOk result (λ piece. Gives piece (open_at self.old (D.contents desk.old)) (open_at self.new (D.contents desk.new))) }
+
+        ensures refused { IsTrue D.tells → IfErr result (λ e. e ≢ StimError.ReadFault → line_refusal (open_at self.old (D.contents desk.old)) ≡ Some e) }
+        ensures errors { IfErr result (IsReadError self.old.number) }
+        ensures register { IfErr result (λ e. e ≢ StimError.ReadFault → D.register desk.new ≡ D.register desk.old) }
+        ensures same { OnOk result (D.register desk.new ≡ D.register desk.old) }
+        ensures failed { result ≡ Err StimError.ReadFault → Fails (D.register desk.old) (D.register desk.new) self.old.place (D.register desk.old).asked }
+        ensures others { IsTrue D.tells → OthersKept self.old.place (D.contents desk.old) (D.contents desk.new) }
+        ensures frugal { IsTrue (is_told (in_block self.old)) → desk.new ≡ desk.old }
+        ensures told { IsTrue (is_told (in_block self.old)) → IfOk result (λ piece. Gives piece (in_block self.old) (in_block self.new)) }
+    {
+        self.read_byte()?;
+        match self.peek(desk)? {
+            Some(b'\n') => {
+                self.read_lf()?;
+                Ok(Piece::LineEnd)
+            }
+            _ => Ok(Piece::Byte(b'\r')),
+        }
+    }
+}

@@ -1,0 +1,184 @@
+//! The vectors of one lane's text.
+
+ghost use Rattle.std.specs.Prelude.{◌≡◌, ◌≢◌, ◌⊎◌, ◌+◌, ◌<◌, ◌≤◌, ◌↔◌, [], All, length, map, true, false, Ok, Err, string_bytes, IsNone, IsTrue, IfOk, IfErr, OnOk};
+ghost use Rattle.vs_desk.specs.Desk.{IsAttached, Fails, with_place};
+ghost use Rattle.vs_desk.specs.declared.desk.Way.TheVariants.{Read};
+ghost use Rattle.vs_stim.specs.Desk.{OthersKept};
+ghost use Rattle.vs_stim.specs.Header.{IsInput, lengths};
+ghost use Rattle.vs_stim.specs.Row.{sizes};
+ghost use Rattle.vs_stim.specs.Reading.{reading, refused, whole, with_vector};
+ghost use Rattle.vs_stim.specs.Known.{remaining, pending_tells, text_left, place_of};
+ghost use Rattle.vs_stim.specs.Source.{IsSource, IsVectorError, IsHeaderError};
+
+use crate::header::find_header;
+use crate::row::Row;
+use crate::source::Source;
+use crate::vectors::find_vector;
+use crate::{Input, StimError};
+use std::alloc::{AllocError, Global};
+use std::marker::Model;
+use vs_desk::{Desk, Failed, Way};
+use vs_four::{Bit4, Bits};
+
+/// The stimulus of one lane: the vectors of a text at place 1000 + lane of a desk, one after the
+/// other. Contracts see what is known of it (`Known`).
+#[derive(Drop)]
+pub struct Stimulus {
+    lane: u32,
+    live: bool,
+    count: u32,
+    source: Source,
+    row: Row,
+}
+
+impl Model for Stimulus {
+    ghost use Rattle.vs_stim.specs.Known.{Known};
+
+    ghost Value = { Known };
+
+    ghost use Rattle.vs_stim.specs.Stimulus.{known, IsStimulus};
+
+    ghost view = { known };
+
+    ghost invariant = { IsStimulus };
+}
+
+/// The place of lane 0's stimulus.
+const FIRST_PLACE: u32 = 1000;
+
+impl Stimulus {
+    /// Attaches place 1000 + lane to the path, and reads the text's header there.
+    ///
+    /// The refusals are `BadHeader`, `StimulusTooLong` and `LineTooLong`, each at a line up to the header
+    /// (70, 75, 76). All the memory that the stimulus needs is taken here.
+    pub fn begin<D: Desk>(
+        alloc: Global,
+        desk: &mut D,
+        lane: u32,
+        path: String,
+        inputs: &[Input],
+    ) -> Result<Stimulus, StimError>
+        requires lane { lane < 1000 }
+        requires free { IsNone ((D.register desk.old).attached (place_of lane)) }
+        requires inputs { All IsInput inputs.now }
+
+        // Where the desk tells its bytes, the answer is what the definition reads first of the path's bytes.
+        ensures header { IsTrue D.tells → IfOk result (λ s. reading inputs.now ((D.contents desk.old).files (string_bytes path)) ≡ remaining s (D.contents desk.new)) }
+        ensures refused { IsTrue D.tells → IfErr result (λ e. e ≢ StimError.ReadFault → e ≢ StimError.Memory →
+            reading inputs.now ((D.contents desk.old).files (string_bytes path)) ≡ refused e) }
+
+        // Whatever the desk tells.
+        ensures errors { IfErr result IsHeaderError }
+        ensures live { IfOk result (λ s. IsTrue s.live) }
+        ensures lane { IfOk result (λ s. s.lane ≡ lane) }
+        ensures sizes { IfOk result (λ s. sizes s.vector ≡ lengths inputs.now) }
+
+        // On the desk the place is attached and bytes are taken there, and a fault is a failed call.
+        ensures attached { OnOk result (D.register desk.new ≡ with_place (D.register desk.old) (place_of lane) Read (string_bytes path)) }
+        ensures register { IfErr result (λ e. e ≢ StimError.ReadFault → e ≢ StimError.Memory →
+            D.register desk.new ≡ with_place (D.register desk.old) (place_of lane) Read (string_bytes path)) }
+        ensures memory { result ≡ Err StimError.Memory → (D.register desk.new ≡ D.register desk.old)
+            ⊎ (D.register desk.new ≡ with_place (D.register desk.old) (place_of lane) Read (string_bytes path)) }
+        ensures fault { result ≡ Err StimError.ReadFault → Fails (D.register desk.old) (D.register desk.new) (place_of lane) (string_bytes path)
+            ⊎ Fails (with_place (D.register desk.old) (place_of lane) Read (string_bytes path)) (D.register desk.new) (place_of lane) (D.register desk.old).asked }
+        ensures others { IsTrue D.tells → OthersKept (place_of lane) (D.contents desk.old) (D.contents desk.new) }
+    {
+        let place = FIRST_PLACE + lane;
+        let (mut source, values) = match room(alloc, place, inputs) {
+            Ok(room) => room,
+            Err(AllocError) => return Err(StimError::Memory),
+        };
+        if let Err(Failed) = desk.attach(place, path, Way::Read) {
+            return Err(StimError::ReadFault);
+        }
+        let columns = find_header(alloc, &mut source, inputs, desk)?;
+        Ok(Stimulus {
+            lane,
+            live: true,
+            count: 0,
+            source,
+            row: Row::new(columns, values),
+        })
+    }
+
+    /// Whether the next vector may be asked for: until an end, a refusal or a fault.
+    pub fn live(&self) -> bool
+        ensures { result ≡ self.now.live }
+    {
+        self.live
+    }
+
+    /// The vector that was read last, with a value for each input in the design's order.
+    pub fn vector(&self) -> &[Bits]
+        ensures { result.now ≡ self.now.vector }
+    {
+        self.row.values.as_slice()
+    }
+
+    /// Reads the next vector, which then stands in `vector`. Answers false at the end of the text.
+    ///
+    /// It takes no memory. The refusals are 71 to 76 (`StimError`). On an end, a refusal or a fault the
+    /// stimulus is no longer live.
+    pub fn next<D: Desk>(&mut self, desk: &mut D) -> Result<bool, StimError>
+        requires live { IsTrue self.old.live }
+        requires attached { IsAttached (D.register desk.old) (place_of self.old.lane) Read }
+
+        // Where the desk tells its bytes, the answer is what the definition reads next.
+        ensures vector { IsTrue D.tells → result ≡ Ok true →
+            remaining self.old (D.contents desk.old) ≡ with_vector self.new.vector (remaining self.new (D.contents desk.new)) }
+        ensures end { IsTrue D.tells → result ≡ Ok false → remaining self.old (D.contents desk.old) ≡ whole }
+        ensures taken { IsTrue D.tells → result ≡ Ok false → text_left self.new (D.contents desk.new) ≡ [] }
+        ensures refused { IsTrue D.tells → IfErr result (λ e. e ≢ StimError.ReadFault → remaining self.old (D.contents desk.old) ≡ refused e) }
+
+        // Whatever the desk tells.
+        ensures errors { IfErr result IsVectorError }
+        ensures live { IsTrue self.new.live ↔ (result ≡ Ok true) }
+        ensures lane { self.new.lane ≡ self.old.lane }
+        ensures sizes { sizes self.new.vector ≡ sizes self.old.vector }
+
+        // On the desk only bytes at the place are taken, and a fault is a failed call there.
+        ensures same { OnOk result (D.register desk.new ≡ D.register desk.old) }
+        ensures register { IfErr result (λ e. e ≢ StimError.ReadFault → D.register desk.new ≡ D.register desk.old) }
+        ensures fault { result ≡ Err StimError.ReadFault → Fails (D.register desk.old) (D.register desk.new) (place_of self.old.lane) (D.register desk.old).asked }
+        ensures others { IsTrue D.tells → OthersKept (place_of self.old.lane) (D.contents desk.old) (D.contents desk.new) }
+
+        // Nothing is taken where the pending bytes tell the answer: they have the LF of a line that isn't
+        // skipped, or a byte past a limit.
+        ensures frugal { IsTrue (pending_tells self.old) → desk.new ≡ desk.old }
+    {
+        self.live = false;
+        let found = find_vector(&mut self.source, &mut self.row, self.count, desk)?;
+        if found {
+            self.live = true;
+            self.count += 1;
+        }
+        Ok(found)
+    }
+}
+
+/// The start of the text at a place, and a value for each input.
+fn room(alloc: Global, place: u32, inputs: &[Input]) -> Result<(Source, Vec<Bits>), AllocError>
+    requires { All IsInput inputs.now }
+    ensures source { IfOk result (λ made. IsSource made.0) }
+    ensures place { IfOk result (λ made. made.0.place ≡ place) }
+    ensures block { IfOk result (λ made. made.0.block ≡ []) }
+    ensures at { IfOk result (λ made. (made.0.number ≡ 1) × (made.0.start ≡ 0) × (made.0.length ≡ 0)) }
+    ensures sizes { IfOk result (λ made. sizes made.1.items ≡ lengths inputs.now) }
+{
+    let source = Source::new(alloc, place)?;
+    let mut values = Vec::new(alloc);
+    for input in inputs {
+        values.push(unknown(input.length))?;
+    }
+    Ok((source, values))
+}
+
+/// This many x bits.
+fn unknown(count: u32) -> Bits
+    requires some { 1 ≤ count }
+    requires at_most_64 { count ≤ 64 }
+    ensures { length result ≡ count }
+{
+    let bits = [Bit4::X; 64];
+    Bits::of(&bits[..count as usize])
+}

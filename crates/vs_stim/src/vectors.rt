@@ -1,0 +1,205 @@
+//! The lines behind the header.
+
+ghost use Rattle.std.specs.Prelude.{Some, None, ◌≡◌, ◌≢◌, ◌≤◌, ◌<◌, ◌+◌, [], length, true, false, IsTrue, IfOk, IfErr, OnOk};
+ghost use Rattle.vs_desk.specs.Desk.{IsAttached, Fails};
+ghost use Rattle.vs_desk.specs.declared.desk.Way.TheVariants.{Read};
+ghost use Rattle.vs_stim.specs.Desk.{OthersKept};
+ghost use Rattle.vs_four.specs.Tables.{is_known};
+ghost use Rattle.vs_stim.specs.Vectors.{all_known, vector_known};
+ghost use Rattle.vs_stim.specs.Reading.{vector_line, limits, not_taken, at_end, refused, whole, with_vector};
+ghost use Rattle.vs_stim.specs.Row.{row_with, as_said, each_input, IsRow, SameForm};
+ghost use Rattle.vs_stim.specs.Source.{open_at, in_block, is_told, text_tells, line_refusal, says, IsSource, IsReadError, IsVectorError, Passes, rest_of, vectors_from};
+
+use crate::StimError;
+use crate::row::{LineKind, Row};
+use crate::source::{Piece, Source};
+use vs_desk::Desk;
+use vs_four::{Bit4, Bits};
+
+/// The greatest number of vectors in a text.
+const VECTORS: u32 = 16_777_216;
+
+/// Reads a line into the row, and answers whether the text ends with it.
+fn feed_row<D: Desk>(source: &mut Source, row: &mut Row, desk: &mut D) -> Result<bool, StimError>
+    requires source { IsSource source.old }
+    requires row { IsRow row.old }
+    requires attached { IsAttached (D.register desk.old) source.old.place Read }
+    ensures source { IsSource source.new }
+    ensures row { IsRow row.new }
+    ensures form { SameForm row.old row.new }
+    ensures place { source.new.place ≡ source.old.place }
+    ensures moves { result ≡ Ok false → source.old.start < source.new.start }
+    ensures begins { OnOk result (source.new.length ≡ 0) }
+    ensures says { IsTrue D.tells → OnOk result (row_with row.new [] ≡ row_with row.old (says (open_at source.old (D.contents desk.old)))) }
+    ensures passes { IsTrue D.tells → IfOk result (λ last. Passes last (open_at source.old (D.contents desk.old)) (open_at source.new (D.contents desk.new))) }
+
+    ensures refused { IsTrue D.tells → IfErr result (λ e. e ≢ StimError.ReadFault → line_refusal (open_at source.old (D.contents desk.old)) ≡ Some e) }
+    ensures errors { IfErr result (IsReadError source.old.number) }
+    ensures register { IfErr result (λ e. e ≢ StimError.ReadFault → D.register desk.new ≡ D.register desk.old) }
+    ensures same { OnOk result (D.register desk.new ≡ D.register desk.old) }
+    ensures failed { result ≡ Err StimError.ReadFault → Fails (D.register desk.old) (D.register desk.new) source.old.place (D.register desk.old).asked }
+    ensures others { IsTrue D.tells → OthersKept source.old.place (D.contents desk.old) (D.contents desk.new) }
+    ensures frugal { IsTrue (is_told (in_block source.old)) → desk.new ≡ desk.old }
+    ensures told { IsTrue (is_told (in_block source.old)) → IfOk result (λ last. Passes last (in_block source.old) (in_block source.new)) }
+    ensures told_last { IsTrue (is_told (in_block source.old)) → IfOk result (λ last. last ≡ false) }
+    ensures told_says { IsTrue (is_told (in_block source.old)) → OnOk result (row_with row.new [] ≡ row_with row.old (says (in_block source.old))) }
+{
+    'line: loop {
+        match source.next_piece(desk)? {
+            Piece::Byte(byte) => row.feed(byte),
+            Piece::LineEnd => return Ok(false),
+            Piece::TextEnd => return Ok(true),
+        }
+    }
+}
+
+/// Reads a line, and answers what it is and whether the text ends with it.
+fn read_row<D: Desk>(
+    source: &mut Source,
+    row: &mut Row,
+    desk: &mut D,
+) -> Result<(LineKind, bool), StimError>
+    requires source { IsSource source.old }
+    requires row { IsRow row.old }
+    requires each { IsTrue (each_input row.old) }
+    requires attached { IsAttached (D.register desk.old) source.old.place Read }
+    ensures source { IsSource source.new }
+    ensures row { IsRow row.new }
+    ensures form { SameForm row.old row.new }
+    ensures place { source.new.place ≡ source.old.place }
+    ensures moves { IfOk result (λ line. line.1 ≡ false → source.old.start < source.new.start) }
+    ensures begins { OnOk result (source.new.length ≡ 0) }
+    ensures says { IsTrue D.tells → IfOk result (λ line. as_said line.0 row.new.values.items ≡ vector_line row.old.columns.items (says (open_at source.old (D.contents desk.old)))) }
+    ensures passes { IsTrue D.tells → IfOk result (λ line. Passes line.1 (open_at source.old (D.contents desk.old)) (open_at source.new (D.contents desk.new))) }
+
+    ensures refused { IsTrue D.tells → IfErr result (λ e. e ≢ StimError.ReadFault → line_refusal (open_at source.old (D.contents desk.old)) ≡ Some e) }
+    ensures errors { IfErr result (IsReadError source.old.number) }
+    ensures register { IfErr result (λ e. e ≢ StimError.ReadFault → D.register desk.new ≡ D.register desk.old) }
+    ensures same { OnOk result (D.register desk.new ≡ D.register desk.old) }
+    ensures failed { result ≡ Err StimError.ReadFault → Fails (D.register desk.old) (D.register desk.new) source.old.place (D.register desk.old).asked }
+    ensures others { IsTrue D.tells → OthersKept source.old.place (D.contents desk.old) (D.contents desk.new) }
+    ensures frugal { IsTrue (is_told (in_block source.old)) → desk.new ≡ desk.old }
+    ensures told { IsTrue (is_told (in_block source.old)) → IfOk result (λ line. Passes line.1 (in_block source.old) (in_block source.new)) }
+    ensures told_last { IsTrue (is_told (in_block source.old)) → IfOk result (λ line. line.1 ≡ false) }
+    ensures told_says { IsTrue (is_told (in_block source.old)) → IfOk result (λ line. as_said line.0 row.new.values.items ≡ vector_line row.old.columns.items (says (in_block source.old))) }
+{
+    row.begin();
+    let last = feed_row(source, row, desk)?;
+    Ok((row.finish(), last))
+}
+
+/// Whether a bit is 0 or 1.
+fn is_known_bit(bit: Bit4) -> bool
+    ensures { result ≡ is_known bit }
+{
+    match bit {
+        Bit4::Zero | Bit4::One => true,
+        Bit4::X | Bit4::Z => false,
+    }
+}
+
+/// Whether no bit is x or z.
+fn are_bits_known(bits: Bits) -> bool
+    ensures { result ≡ all_known bits }
+{
+    for n in 0..bits.len() {
+        if !is_known_bit(bits.get(n)) {
+            return false;
+        }
+    }
+    true
+}
+
+/// Whether no value has an x or z bit.
+fn are_known(values: &[Bits]) -> bool
+    ensures { result ≡ vector_known values.now }
+{
+    for value in values {
+        if !are_bits_known(*value) {
+            return false;
+        }
+    }
+    true
+}
+
+/// Whether these values may be the vector behind this many others.
+fn check_vector(values: &[Bits], count: u32) -> Result<(), StimError>
+    ensures ok { OnOk result (not_taken limits count values.now ≡ None) }
+    ensures err { IfErr result (λ e. not_taken limits count values.now ≡ Some e) }
+    ensures errors { IfErr result IsVectorError }
+    ensures no_fault { result ≢ Err StimError.ReadFault }
+{
+    if count == 0 && !are_known(values) {
+        return Err(StimError::FirstUnknown);
+    }
+    if count == VECTORS {
+        return Err(StimError::TooManyVectors);
+    }
+    Ok(())
+}
+
+/// The end of a text that has this many vectors.
+fn end_vectors(count: u32) -> Result<bool, StimError>
+    ensures ok { IfOk result (λ more. more ≡ false) }
+    ensures whole { OnOk result (at_end count ≡ whole) }
+    ensures err { IfErr result (λ e. at_end count ≡ refused e) }
+    ensures errors { IfErr result (λ e. e ≡ StimError.NoVector) }
+{
+    if count == 0 {
+        Err(StimError::NoVector)
+    } else {
+        Ok(false)
+    }
+}
+
+/// Reads lines up to the next vector, which then stands in the row. Answers false at the end of
+/// the text. This many vectors stand before it.
+pub(crate) fn find_vector<D: Desk>(
+    source: &mut Source,
+    row: &mut Row,
+    count: u32,
+    desk: &mut D,
+) -> Result<bool, StimError>
+    requires source { IsSource source.old }
+    requires begins { source.old.length ≡ 0 }
+    requires row { IsRow row.old }
+    requires each { IsTrue (each_input row.old) }
+    requires count { count ≤ 16777216 }
+    requires attached { IsAttached (D.register desk.old) source.old.place Read }
+    ensures source { IsSource source.new }
+    ensures row { IsRow row.new }
+    ensures form { SameForm row.old row.new }
+    ensures place { source.new.place ≡ source.old.place }
+    ensures begins { OnOk result (source.new.length ≡ 0) }
+    ensures room { result ≡ Ok true → count < 16777216 }
+
+    ensures found { IsTrue D.tells → result ≡ Ok true → vectors_from row.old.columns.items count (open_at source.old (D.contents desk.old))
+        ≡ with_vector row.new.values.items (vectors_from row.old.columns.items (count + 1) (open_at source.new (D.contents desk.new))) }
+    ensures whole { IsTrue D.tells → result ≡ Ok false → vectors_from row.old.columns.items count (open_at source.old (D.contents desk.old)) ≡ whole }
+    ensures end { IsTrue D.tells → result ≡ Ok false → rest_of source.new (D.contents desk.new) ≡ [] }
+    ensures refused { IsTrue D.tells → IfErr result (λ e. e ≢ StimError.ReadFault → vectors_from row.old.columns.items count (open_at source.old (D.contents desk.old)) ≡ refused e) }
+
+    ensures errors { IfErr result IsVectorError }
+    ensures register { IfErr result (λ e. e ≢ StimError.ReadFault → D.register desk.new ≡ D.register desk.old) }
+    ensures same { OnOk result (D.register desk.new ≡ D.register desk.old) }
+    ensures failed { result ≡ Err StimError.ReadFault → Fails (D.register desk.old) (D.register desk.new) source.old.place (D.register desk.old).asked }
+    ensures others { IsTrue D.tells → OthersKept source.old.place (D.contents desk.old) (D.contents desk.new) }
+    ensures frugal { IsTrue (text_tells (in_block source.old)) → desk.new ≡ desk.old }
+{
+    'lines: loop {
+        let number = source.number;
+        let (kind, last) = read_row(source, row, desk)?;
+        match kind {
+            LineKind::Malformed => return Err(StimError::BadVector { line: number }),
+            LineKind::Given => {
+                check_vector(&row.values, count)?;
+                return Ok(true);
+            }
+            LineKind::Skipped => {
+                if last {
+                    return end_vectors(count);
+                }
+            }
+        }
+    }
+}
