@@ -1,0 +1,31 @@
+-- Scopes and signals of a flat design as those of the plain one.
+use Rattle.std.proofs.Common.{◌≡◌, ℕ, zero, suc, ◌+◌, List, [], ◌∷◌, length, refl, ap, ◌∙◌, arith}
+use Rattle.std.specs.Prelude.{slice_get, Some, option_map}
+use Rattle.std.proofs.lemmas.List.{length-map}
+use Rattle.std.proofs.lemmas.Option.{slice_get-map}
+use Rattle.vs_flat.specs.Arena.{Arena}
+use Rattle.vs_flat.specs.DesignOf.{design_of, scope_of}
+use Rattle.vs_flat.specs.Trees.{signal_of, signals_from}
+use Rattle.vs_flat.specs.declared.processes.Scope.{Scope}
+use Rattle.vs_flat.specs.declared.processes.Signal.{Signal}
+
+pub scope-at : (a : Arena) (n : ℕ) (s : Scope) → slice_get a.scopes n ≡ Some s → slice_get (design_of a).scopes n ≡ Some (scope_of s)
+scope-at a n s h = slice_get-map scope_of a.scopes n ∙ ap (option_map scope_of) h
+
+pub length-scopes : (a : Arena) → length (design_of a).scopes ≡ length a.scopes
+length-scopes a = length-map a.scopes scope_of
+
+signal_from : (k n : ℕ) (signals : List Signal) (s : Signal) → slice_get signals n ≡ Some s → slice_get (signals_from k signals) n ≡ Some (signal_of (k + n) s)
+signal_from k n [] s h = cc
+signal_from k zero (x ∷ signals) s h = let same : x ≡ s = cc in let e : k ≡ k + 0 = omega arith in ap (λ (y : Signal). Some (signal_of k y)) same ∙ ap (λ (m : ℕ). Some (signal_of m s)) e
+signal_from k (suc n) (x ∷ signals) s h = let e : suc k + n ≡ k + suc n = omega arith in signal_from (suc k) n signals s h ∙ ap (λ (m : ℕ). Some (signal_of m s)) e
+
+pub signal-at : (a : Arena) (n : ℕ) (s : Signal) → slice_get a.signals n ≡ Some s → slice_get (design_of a).signals n ≡ Some (signal_of n s)
+signal-at a n s h = let e : 0 + n ≡ n = omega arith in signal_from 0 n a.signals s h ∙ ap (λ (m : ℕ). Some (signal_of m s)) e
+
+length-from : (k : ℕ) (signals : List Signal) → length (signals_from k signals) ≡ length signals
+length-from k [] = refl
+length-from k (s ∷ signals) = ap suc (length-from (suc k) signals)
+
+pub length-signals : (a : Arena) → length (design_of a).signals ≡ length a.signals
+length-signals a = length-from 0 a.signals

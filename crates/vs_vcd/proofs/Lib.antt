@@ -1,0 +1,10 @@
+pub mod Appending
+pub mod Arenas
+pub mod Grouping
+pub mod Moving
+pub mod NumeralLemmas
+pub mod Numbers
+pub mod Outline
+pub mod Taken
+pub mod Unchanged
+pub mod ValueLemmas

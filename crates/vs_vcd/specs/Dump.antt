@@ -1,0 +1,13 @@
+-- What contracts see of a `Vcd`.
+use Rattle.std.specs.Prelude.{ℕ, List}
+use Rattle.vs_four.specs.Logic.{BitList}
+
+pub record Dump : Type 0 where
+  -- the text of the head
+  pub head : List ℕ
+  -- the half-period
+  pub half : ℕ
+  -- the values of the slot that was begun last, by signal
+  pub last : List BitList
+  -- what is left of the part that was begun last
+  pub left : List ℕ

@@ -1,0 +1,56 @@
+-- The declarations at the head of a VCD (IEEE 1364-2005, 18.2.3).
+use Rattle.std.specs.Prelude.{ℕ, suc, Bool, true, false, List, [], ◌∷◌, ◌++◌, filter, ◌==◌, codes, Option, None, Some}
+use Rattle.std.specs.List.{flat_map}
+use Rattle.vs_four.specs.declared.Range.{Range}
+use Rattle.vs_design.specs.Expressions.{Signal, signal_length}
+use Rattle.vs_design.specs.Designs.{Scope, Design}
+use Rattle.vs_vcd.specs.Numerals.{decimal, identifier}
+use Rattle.vs_vcd.specs.Values.{line}
+
+abbrev pub variable_kind : Bool → List ℕ
+variable_kind true = codes "wire"
+variable_kind false = codes "reg"
+
+abbrev pub range_text : Option Range → List ℕ
+range_text None = []
+range_text (Some r) = codes " [" ++ decimal r.left ++ codes ":" ++ decimal r.right ++ codes "]"
+
+-- `$var`, the kind, the length and the identifier code
+unfoldable pub variable_start : Signal → List ℕ
+variable_start s = codes "$var " ++ variable_kind s.net ++ codes " " ++ decimal (signal_length s) ++ codes " " ++ identifier s.number ++ codes " "
+
+-- then the name with its declared range
+unfoldable pub variable_line : Signal → List ℕ
+variable_line s = line (variable_start s ++ s.name ++ range_text s.range ++ codes " $end")
+
+-- the variables of scope n, by number
+unfoldable pub variables : List Signal → ℕ → List ℕ
+variables signals n = flat_map variable_line (filter (λ s. s.scope == n) signals)
+
+abbrev pub scope_kind : Bool → List ℕ
+scope_kind true = codes "module "
+scope_kind false = codes "begin "
+
+-- `$scope`
+unfoldable pub scope_line : Scope → List ℕ
+scope_line s = line (codes "$scope " ++ scope_kind s.instance ++ s.name ++ codes " $end")
+
+abbrev pub upscope_line : List ℕ
+upscope_line = line (codes "$upscope $end")
+
+-- the scope stands in this one; the top stands in none
+abbrev pub stands_in : Option ℕ → Option ℕ → Bool
+stands_in None None = true
+stands_in (Some n) (Some parent) = parent == n
+stands_in _ _ = false
+
+-- those of these scopes that stand in this one, in order; the first of these scopes has number n. Each has its variables, then the scopes in it, and is closed
+abbrev pub scopes_in : List Signal → Option ℕ → ℕ → List Scope → List ℕ
+scopes_in signals outer n [] = []
+scopes_in signals outer n (s ∷ ss) = elim (stands_in outer s.parent) [
+  | true ↦ scope_line s ++ variables signals n ++ scopes_in signals (Some n) (suc n) ss ++ upscope_line ++ scopes_in signals outer (suc n) ss
+  | false ↦ scopes_in signals outer (suc n) ss
+]
+
+abbrev pub head_text : Design → List ℕ
+head_text d = line (codes "$version cyclesim $end") ++ line (codes "$timescale 1ns $end") ++ scopes_in d.signals None 0 d.scopes ++ line (codes "$enddefinitions $end")

@@ -1,0 +1,145 @@
+//! Worked texts, through pieces of several lengths.
+
+ghost use Rattle.std.specs.Prelude.{◌≡◌, ◌<◌, [], ◌∷◌, ◌++◌, length, IfOk, OnOk};
+ghost use Rattle.vs_flat.specs.Example.{net, example_ports};
+ghost use Rattle.vs_vcd.specs.Dump.{Dump};
+
+use crate::Vcd;
+use crate::line::Line;
+use std::alloc::{AllocError, Global};
+use std::test::Fail;
+use vs_flat::{Flat, Scope, Signal, Text};
+use vs_four::{Bit4, Bits};
+
+const ZERO: Bit4 = Bit4::Zero;
+
+const ONE: Bit4 = Bit4::One;
+
+const X: Bit4 = Bit4::X;
+
+const Z: Bit4 = Bit4::Z;
+
+fn port(alloc: Global, name: &str, input: bool, first_bit: u32) -> Result<Signal, AllocError>
+    ensures { IfOk result (λ s. s ≡ net name.now input first_bit) }
+{
+    Ok(Signal {
+        name: Text::of(String::from_str(alloc, name)?),
+        scope: 0,
+        net: true,
+        input,
+        range: None,
+        signed: false,
+        first_bit,
+    })
+}
+
+// `module top(input clk, input a, input b, output y);`
+fn ports(alloc: Global) -> Result<Flat, AllocError>
+    ensures { IfOk result (λ f. f ≡ example_ports) }
+{
+    let mut flat = Flat::new(alloc);
+    flat.add_scope(Scope {
+        name: Text::of(String::from_str(alloc, "top")?),
+        parent: None,
+        instance: true,
+    })?;
+    flat.add_signal(port(alloc, "clk", true, 0)?)?;
+    flat.add_signal(port(alloc, "a", true, 1)?)?;
+    flat.add_signal(port(alloc, "b", true, 2)?)?;
+    flat.add_signal(port(alloc, "y", false, 3)?)?;
+    Ok(flat)
+}
+
+/// Hands out the rest of the part in pieces that fit the block: joined, they are that part.
+fn drain(vcd: &mut Vcd, block: &mut [u8], text: &mut Vec<u8>) -> Result<(), AllocError>
+    requires { 0 < length block.old }
+    ensures text { OnOk result (text.new.items ≡ text.old.items ++ vcd.old.left) }
+    ensures left { OnOk result (vcd.new ≡ record vcd.old { left = [] }) }
+{
+    'pieces: loop {
+        let count = vcd.fill(block);
+        if count == 0 {
+            return Ok(());
+        }
+        text.extend_from_slice(&block[..count])?;
+    }
+}
+
+/// The four values of scalars.
+fn values(clk: Bit4, a: Bit4, b: Bit4, y: Bit4) -> [Bits; 4]
+    ensures { result ≡ (clk ∷ []) ∷ (a ∷ []) ∷ (b ∷ []) ∷ (y ∷ []) ∷ [] }
+{
+    [
+        Bits::of(&[clk]),
+        Bits::of(&[a]),
+        Bits::of(&[b]),
+        Bits::of(&[y]),
+    ]
+}
+
+/// The text of `assign y = a & b;`, where a is 1 and b is 0 and then 1.
+fn and_text(alloc: Global, block: &mut [u8]) -> Result<Vec<u8>, AllocError>
+    requires { 0 < length block.old }
+{
+    let mut vcd = Vcd::new(alloc, &ports(alloc)?, 5)?;
+    let mut text = Vec::new(alloc);
+    vcd.start_head();
+    drain(&mut vcd, block, &mut text)?;
+    vcd.start_first(&values(ZERO, ONE, ZERO, ZERO));
+    drain(&mut vcd, block, &mut text)?;
+    vcd.start_slot(5, &values(ONE, ONE, ZERO, ZERO));
+    drain(&mut vcd, block, &mut text)?;
+    vcd.start_slot(10, &values(ZERO, ONE, ONE, ONE));
+    drain(&mut vcd, block, &mut text)?;
+    vcd.start_slot(15, &values(ONE, ONE, ONE, ONE));
+    drain(&mut vcd, block, &mut text)?;
+    vcd.start_last(20);
+    drain(&mut vcd, block, &mut text)?;
+    Ok(text)
+}
+
+#[test]
+fn writes_the_whole_text(rt: HostRuntime) -> Result<(), Fail> {
+    let expected = "$version cyclesim $end\n$timescale 1ns $end\n$scope module top $end\n\
+        $var wire 1 ! clk $end\n$var wire 1 \" a $end\n$var wire 1 # b $end\n$var wire 1 $ y $end\n\
+        $upscope $end\n$enddefinitions $end\n\
+        #0\n$dumpvars\n0!\n1\"\n0#\n0$\n$end\n\
+        #5\n1!\n#10\n0!\n1#\n1$\n#15\n1!\n#20\n";
+    for room in [1, 7, 65_536] {
+        let mut block = vec![in rt.alloc(); 0; room]?;
+        let text = and_text(rt.alloc(), &mut block)?;
+        assert_eq!(rt; text.as_slice(), expected.as_bytes(), "by {room}");
+    }
+    Ok(())
+}
+
+#[test]
+fn writes_values(rt: HostRuntime) {
+    // Bits least significant first, digits most significant first.
+    let table = [
+        ([ZERO, ZERO, ZERO, ZERO], "b0 "),
+        ([ONE, X, ZERO, ZERO], "b0x1 "),
+        ([ONE, ZERO, X, ZERO], "b0x01 "),
+        ([ZERO, ZERO, X, X], "bx00 "),
+        ([ZERO, Z, Z, Z], "bz0 "),
+        ([Z, Z, Z, Z], "bz "),
+        ([ONE, ONE, ONE, ONE], "b1111 "),
+    ];
+    for (bits, expected) in table {
+        let mut line = Line::new();
+        line.push_value(Bits::of(&bits));
+        assert_eq!(rt; line.as_slice(), expected.as_bytes(), "{expected}");
+    }
+    let mut line = Line::new();
+    line.push_value(Bits::of(&[X]));
+    assert_eq!(rt; line.as_slice(), b"x".as_slice());
+}
+
+#[test]
+fn writes_identifier_codes(rt: HostRuntime) {
+    for (number, expected) in [(0, "!"), (93, "~"), (94, "!\""), (95, "\"\""), (188, "!#")] {
+        let mut line = Line::new();
+        line.push_identifier(number);
+        assert_eq!(rt; line.as_slice(), expected.as_bytes(), "{number}");
+    }
+}
