@@ -1,0 +1,8 @@
+pub mod Source
+pub mod Reading
+pub mod Elaborated
+pub mod Accepted
+pub mod Wiring
+pub mod Gates
+pub mod Thin
+pub mod Lent

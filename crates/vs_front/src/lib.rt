@@ -1,0 +1,15 @@
+//! The acceptance of a design text: from its bytes to a design that breaks no rule, or a refusal.
+#![tactic(auto)]
+
+mod acceptance;
+mod builder;
+mod error;
+mod reader;
+mod source;
+#[cfg(test)]
+mod tests;
+mod wiring;
+
+pub use acceptance::{Accepted, accept};
+pub use error::AcceptError;
+pub use source::{Item, Port, Source};
