@@ -5,4 +5,5 @@ pub mod Tape
 pub mod Host
 pub mod Files
 pub mod MemoryDesk
+pub mod Places
 pub mod Laws
