@@ -14,7 +14,7 @@ use Rattle.vs_design.specs.Designs.{Process, Continuous, Always, Design, top_inp
 use Rattle.vs_design.specs.Footprints.{contains, signals_bits, input_bits}
 use Rattle.vs_design.specs.Networks.{process_of, writer_of, at_or_input, network_of}
 use Rattle.vs_engine.specs.Compiled.{data_bits}
-use Rattle.vs_engine.specs.Thin.{is_scalar, is_gate, IsThin}
+use Rattle.vs_flat.specs.Thin.{is_scalar, is_gate, IsThin}
 use Rattle.vs_engine.proofs.Ordered.{some_is, all_at}
 use Rattle.vs_engine.proofs.Writes.{by_test}
 

@@ -13,7 +13,8 @@ use Rattle.vs_design.specs.Bodies.{pair_up, last_of_each}
 use Rattle.vs_design.specs.Designs.{Process, Continuous, Always}
 use Rattle.vs_design.specs.Networks.{process_of}
 use Rattle.vs_engine.specs.declared.program.And.{And}
-use Rattle.vs_engine.specs.Thin.{is_scalar, is_input_name, is_and, is_gate, named_bit, and_of, operation_of}
+use Rattle.vs_flat.specs.Thin.{is_scalar, is_input_name, is_and, is_gate}
+use Rattle.vs_engine.specs.Thin.{named_bit, and_of, operation_of}
 
 name_value : (e : Expression) (s : Bool) (state : State) → is_input_name e ≡ true → (value e 1 s state ≡ state (named_bit e) ∷ []) × (width e ≡ 1)
 name_value (Name signal) s state h =

@@ -17,7 +17,8 @@ use Rattle.vs_flat.specs.Trees.{no_signal, signal_at, tree_at, statement_at, tar
 use Rattle.vs_flat.specs.Named.{kind_names_below}
 use Rattle.vs_flat.specs.DesignOf.{kind_of, arena_signals, arena_trees, arena_statements, design_of}
 use Rattle.vs_flat.specs.Laws.{EachProcess, AssignTargets}
-use Rattle.vs_engine.specs.Thin.{IsThinFlat, is_and, is_gate, is_whole, whole_bit, and_of, operation_of, operation_or, operation_at}
+use Rattle.vs_flat.specs.Thin.{is_and, is_gate}
+use Rattle.vs_engine.specs.Thin.{IsThinFlat, is_whole, whole_bit, and_of, operation_of, operation_or, operation_at}
 use Rattle.vs_engine.proofs.Ordered.{all_at}
 use Rattle.vs_engine.proofs.Trees.{lt_is}
 

@@ -10,7 +10,8 @@ use Rattle.vs_flat.specs.Trees.{signal_of, signals_from}
 use Rattle.vs_flat.specs.DesignOf.{arena_signals}
 use Rattle.vs_engine.specs.declared.program.Span.{Span}
 use Rattle.vs_engine.specs.Compiled.{span_of}
-use Rattle.vs_engine.specs.Thin.{is_scalar, IsThinFlat}
+use Rattle.vs_flat.specs.Thin.{is_scalar}
+use Rattle.vs_engine.specs.Thin.{IsThinFlat}
 use Rattle.vs_engine.proofs.Ordered.{all_at}
 use Rattle.vs_engine.proofs.Writes.{by_test}
 use Rattle.vs_engine.proofs.Trees.{signal_number}

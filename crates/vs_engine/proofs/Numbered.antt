@@ -9,7 +9,8 @@ use Rattle.vs_design.specs.Footprints.{contains, signals_bits, is_net}
 use Rattle.vs_design.specs.Elaborated.{have_bits_from}
 use Rattle.vs_engine.specs.Program.{is_below, spans}
 use Rattle.vs_engine.specs.Compiled.{span_of}
-use Rattle.vs_engine.specs.Thin.{is_scalar, initial_bit}
+use Rattle.vs_flat.specs.Thin.{is_scalar}
+use Rattle.vs_engine.specs.Thin.{initial_bit}
 use Rattle.vs_engine.proofs.Ordered.{some_is}
 use Rattle.vs_engine.proofs.Writes.{by_test}
 use Rattle.vs_engine.proofs.Feeding.{contains-append}

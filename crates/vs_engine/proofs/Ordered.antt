@@ -13,7 +13,8 @@ use Rattle.vs_design.specs.Footprints.{contains}
 use Rattle.vs_design.specs.Levels.{is_ready, at_number, is_order_after}
 use Rattle.vs_design.specs.Networks.{process_of, at_or_input, network_of}
 use Rattle.vs_engine.specs.Program.{after, is_below}
-use Rattle.vs_engine.specs.Thin.{is_gate, operation_of, operation_or, operation_at}
+use Rattle.vs_flat.specs.Thin.{is_gate}
+use Rattle.vs_engine.specs.Thin.{operation_of, operation_or, operation_at}
 use Rattle.vs_engine.proofs.Writes.{by_test}
 use Rattle.vs_engine.proofs.Gates.{write_of, gate_writes}
 

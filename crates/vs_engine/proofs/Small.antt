@@ -11,7 +11,7 @@ use Rattle.vs_design.specs.Designs.{Process, Continuous, Always, Design, top_inp
 use Rattle.vs_design.specs.Footprints.{contains, without, signals_bits, input_bits}
 use Rattle.vs_design.specs.Sizes.{process_weight, size}
 use Rattle.vs_engine.specs.Compiled.{data_bits}
-use Rattle.vs_engine.specs.Thin.{is_scalar, is_and, is_gate}
+use Rattle.vs_flat.specs.Thin.{is_scalar, is_and, is_gate}
 use Rattle.vs_engine.proofs.Writes.{by_test}
 
 gate_weighs : (x : Process) → is_gate x ≡ true → 1 ≤ process_weight x

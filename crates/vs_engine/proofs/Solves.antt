@@ -20,7 +20,8 @@ use Rattle.vs_engine.specs.declared.program.And.{And}
 use Rattle.vs_engine.specs.declared.program.Span.{Span}
 use Rattle.vs_engine.specs.Program.{Program, IsInRange, after, fits, is_below, spans}
 use Rattle.vs_engine.specs.Compiled.{IsProgramOf, IsAcceptedAt, data_bits, span_of, fall_stores}
-use Rattle.vs_engine.specs.Thin.{IsThin, initial_bit, operation_at}
+use Rattle.vs_flat.specs.Thin.{IsThin}
+use Rattle.vs_engine.specs.Thin.{initial_bit, operation_at}
 use Rattle.vs_engine.proofs.Ordered.{settle_is, no_more_than_processes}
 use Rattle.vs_engine.proofs.Feeding.{fall_fed, rise_fed, lowered}
 use Rattle.vs_engine.proofs.Small.{stores_fit, scalars_count}

@@ -9,7 +9,8 @@ ghost use Rattle.vs_flat.specs.Targets.{target_of};
 ghost use Rattle.vs_flat.specs.Trees.{signal_of, tree_at};
 ghost use Rattle.vs_engine.specs.Program.{fits, is_below};
 ghost use Rattle.vs_engine.specs.Compiled.{IsAcceptedAt, IsProgramOf, data_bits, span_of};
-ghost use Rattle.vs_engine.specs.Thin.{IsThin, IsThinFlat, and_of, initial_bit, is_and, is_input_name, is_whole, named_bit, operation_at, whole_bit};
+ghost use Rattle.vs_flat.specs.Thin.{IsThin, is_and, is_input_name};
+ghost use Rattle.vs_engine.specs.Thin.{IsThinFlat, and_of, initial_bit, is_whole, named_bit, operation_at, whole_bit};
 
 use crate::{And, Compiled, Span};
 use std::alloc::{AllocError, Global};

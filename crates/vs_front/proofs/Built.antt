@@ -1,15 +1,13 @@
 -- What is built of a source is its elaborated design.
-use Rattle.std.proofs.Common.{◌≡◌, ℕ, suc, ◌+◌, ◌*◌, ◌<◌, Bool, true, false, ◌&&◌, ◌||◌, cond, List, [], ◌∷◌, map, filter, length, refl, sym, ◌∙◌, ap, arith, add-one}
-use Rattle.std.specs.Prelude.{Option, Some, None, slice_get, nat_lt, sum_by, ◌==◌}
-use Rattle.std.specs.List.{list_any, list_all, range_with_len}
-use Rattle.std.proofs.lemmas.Bool.{eq-eqb, eqb-true}
+use Rattle.std.proofs.Common.{◌≡◌, ℕ, suc, ◌+◌, ◌*◌, ◌<◌, Bool, true, false, ◌&&◌, cond, List, [], ◌∷◌, map, filter, length, refl, sym, ◌∙◌, ap, arith, add-one}
+use Rattle.std.specs.Prelude.{Option, Some, None, slice_get, nat_lt, sum_by}
+use Rattle.std.specs.List.{list_all, range_with_len}
 use Rattle.std.proofs.lemmas.List.Sums.{sum_by-cons}
 use Rattle.std.proofs.lemmas.Option.{slice_get_within}
 use Rattle.vs_design.specs.Expressions as E
 use Rattle.vs_design.specs.Designs as D
 use Rattle.vs_design.specs.Clocks.{clock_input}
 use Rattle.vs_design.specs.Levels.{is_level_order}
-use Rattle.vs_design.specs.Footprints.{contains, all_reads}
 use Rattle.vs_design.specs.Sizes.{size, register_bits, distinct}
 use Rattle.vs_flat.specs.declared.processes.Signal.{Signal}
 use Rattle.vs_flat.specs.Arena.{Arena, empty_arena, with_scope, inputs_from, top_inputs}
@@ -21,12 +19,12 @@ use Rattle.vs_front.specs.declared.source.Source.{Source}
 use Rattle.vs_front.specs.declared.wiring.Gate.{Gate}
 use Rattle.vs_front.specs.Elaborated.{signal_of, signals_from, first_item, elaborated}
 use Rattle.vs_front.specs.Accepted.{is_declared_item, IsDeclared}
-use Rattle.vs_front.specs.Wiring.{gate_of, is_gate_below, reads_number, IsWired}
+use Rattle.vs_front.specs.Wiring.{gate_of, is_gate_below, IsWired}
 use Rattle.vs_front.specs.Gates.{top_scope, with_ports, with_gate, with_gates}
-use Rattle.vs_front.specs.Thin.{is_scalar, is_gate, IsThin}
-use Rattle.vs_front.proofs.Bools.{and_left, and_right, and_both, either_is, apart}
+use Rattle.vs_flat.specs.Thin.{is_scalar, is_gate, IsThin}
+use Rattle.vs_front.proofs.Bools.{and_left, and_right, and_both}
 use Rattle.vs_front.proofs.Numbers.{port, gate_is, signals_at, number_is}
-use Rattle.vs_front.proofs.Assigns.{formed, each_assign, any_assigns, weigh, no_registers, found_clock}
+use Rattle.vs_front.proofs.Assigns.{each_assign, weigh, no_registers, found_clock}
 use Rattle.vs_front.proofs.Arenas.{port_signals, base, base_is}
 use Rattle.vs_front.proofs.Gated.{FlatLaws, gates_added, gate_assigns, signals_are, names_base, assigns_same}
 use Rattle.vs_front.proofs.Orders.{text_order}
@@ -97,28 +95,12 @@ all_scalars : (k : ℕ) (ps : List Port) → list_all is_scalar (signals_from k 
 all_scalars k [] = refl
 all_scalars k (p ∷ ps) = all_scalars (suc k) ps
 
-eq_swap : (m n : ℕ) → (m == n) ≡ (n == m)
-eq_swap m n = one (n == m) refl
-  where
-    one : (t : Bool) → (n == m) ≡ t → (m == n) ≡ t
-    one true e = eq-eqb m n (sym (eqb-true n m e))
-    one false e = either_is (m == n) (λ h. apart (n == m) (eq-eqb n m (sym (eqb-true m n h))) e)
-
-reads_same : (clock at : ℕ) (i : Item) (g : Gate) → contains (all_reads (formed at i g)) clock ≡ reads_number clock g
-reads_same clock at i g = ap (λ a. a || ((clock == g.right) || false)) (eq_swap clock g.left) ∙ ap (λ b. (g.left == clock) || (b || false)) (eq_swap clock g.right) ∙ one (g.left == clock) (g.right == clock)
-  where
-    one : (a b : Bool) → (a || (b || false)) ≡ (a || b)
-    one true b = refl
-    one false true = refl
-    one false false = refl
-
-pub thin_is : (s : Source) (top clock : List ℕ) (gs : List Gate) (n : ℕ) → IsWired s top clock gs n → IsThin (elaborated s) n
+pub thin_is : (s : Source) (top clock : List ℕ) (gs : List Gate) (n : ℕ) → IsWired s top clock gs n → IsThin (elaborated s)
 thin_is s top clock gs n w =
     let d = w.declared in
     record {
       signals = all_scalars 0 s.ports;
       processes = each_assign is_gate s.ports d.different (λ at i g h. refl) (first_item s) s.items d.items;
-      unread = any_assigns (λ p. contains (all_reads p) n) (reads_number n) s.ports d.different (λ at i g. reads_same n at i g) (first_item s) s.items d.items ∙ ap (λ gs. list_any (reads_number n) gs) (sym w.gates_are) ∙ w.unread;
     }
 
 -- ---- its clock and its order

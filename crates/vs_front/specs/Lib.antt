@@ -4,5 +4,4 @@ pub mod Elaborated
 pub mod Accepted
 pub mod Wiring
 pub mod Gates
-pub mod Thin
 pub mod Lent

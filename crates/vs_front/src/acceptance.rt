@@ -11,13 +11,13 @@ ghost use Rattle.vs_design.specs.Levels.{is_level_order};
 ghost use Rattle.vs_design.specs.Sizes.{size as size_of};
 ghost use Rattle.vs_flat.specs.DesignOf.{design_of};
 ghost use Rattle.vs_flat.specs.Lawful.{IsLawful};
+ghost use Rattle.vs_flat.specs.Thin.{IsThin};
 ghost use Rattle.vs_front.specs.declared.source.Source.{Source};
 ghost use Rattle.vs_front.specs.declared.error.AcceptError.TheVariants.{Refused};
 ghost use Rattle.vs_front.specs.Source.{Spells};
 ghost use Rattle.vs_front.specs.Elaborated.{elaborated};
 ghost use Rattle.vs_front.specs.Accepted.{IsAcceptedText};
 ghost use Rattle.vs_front.specs.Wiring.{IsWired};
-ghost use Rattle.vs_front.specs.Thin.{IsThin};
 
 use crate::builder::build;
 use crate::error::AcceptError;
@@ -144,7 +144,7 @@ pub fn accept(alloc: Global, text: &[u8], top: &str, clock: &str) -> Result<Acce
     requires { length text.now ≤ MAX_BYTES }
     ensures accepted { IfOk result (λ a. IsAcceptedText text.now top.now clock.now (design_of a.flat)) }
     ensures lawful { IfOk result (λ a. IsLawful a.flat) }
-    ensures thin { IfOk result (λ a. IsThin (design_of a.flat) a.clock) }
+    ensures thin { IfOk result (λ a. IsThin (design_of a.flat)) }
     ensures clock { IfOk result (λ a. clock_input (design_of a.flat) clock.now ≡ slice_get (design_of a.flat).signals a.clock) }
     ensures order { IfOk result (λ a. is_level_order (design_of a.flat) a.order ≡ true) }
     ensures size { IfOk result (λ a. a.size ≡ size_of (design_of a.flat)) }

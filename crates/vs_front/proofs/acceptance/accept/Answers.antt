@@ -5,7 +5,7 @@ use Rattle.vs_design.specs.Accepted.{IsAcceptedDesign}
 use Rattle.vs_design.specs.Clocks.{clock_input}
 use Rattle.vs_design.specs.Levels.{is_level_order}
 use Rattle.vs_front.specs.Elaborated.{elaborated}
-use Rattle.vs_front.specs.Thin.{IsThin}
+use Rattle.vs_flat.specs.Thin.{IsThin}
 use Rattle.vs_front.proofs.Unique.{source_accepted}
 use Rattle.vs_front.proofs.Wired.{wired_accepted}
 use Rattle.vs_front.proofs.Built.{thin_is, clock_is, order_is}
@@ -34,9 +34,7 @@ returns-clause-accepted c =
 
 pub returns-clause-thin : goal.returns-clause-thin
 returns-clause-thin c =
-    let P : Design → Type 0 = λ d. IsThin d c.in_ok-design.field-0.clock in
-    let Q : ℕ → Type 0 = λ n. IsThin (elaborated c.in_ok-source.source) n in
-    subst P (sym c.in_ok-design.ensures.flat) (subst Q (sym c.in_ok-design.ensures.clock) (thin_is c.in_ok-source.source c.args.top.now c.args.clock.now _ _ c.in_ok-wiring.ensures.wired))
+    subst IsThin (sym c.in_ok-design.ensures.flat) (thin_is c.in_ok-source.source c.args.top.now c.args.clock.now _ _ c.in_ok-wiring.ensures.wired)
 
 pub returns-clause-clock : goal.returns-clause-clock
 returns-clause-clock c =

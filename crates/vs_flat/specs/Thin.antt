@@ -1,10 +1,9 @@
--- The designs that are accepted today.
-use Rattle.std.specs.Prelude.{◌≡◌, ℕ, Bool, true, false, ◌&&◌, ◌==◌}
-use Rattle.std.specs.List.{list_any, list_all}
+-- Designs of `&` gates: all signals have one bit, and each process is an assign of a whole net from the `&` of two inputs.
+use Rattle.std.specs.Prelude.{◌≡◌, Bool, true, false, ◌&&◌, ◌==◌}
+use Rattle.std.specs.List.{list_all}
 use Rattle.vs_design.specs.Expressions.{Signal, signal_length, Expression, Name, Binary, At, BitAnd}
 use Rattle.vs_design.specs.Statements.{Whole}
 use Rattle.vs_design.specs.Designs.{Process, Continuous, Design}
-use Rattle.vs_design.specs.Footprints.{contains, all_reads}
 
 abbrev pub is_scalar : Signal → Bool
 is_scalar s = signal_length s == 1
@@ -26,8 +25,6 @@ abbrev pub is_gate : Process → Bool
 is_gate (Continuous place port target_place (Whole signal) e) = is_scalar signal && is_and e
 is_gate _ = false
 
--- all signals have one bit, and each process is such an assign, which doesn't read the clock
-pub record IsThin (d : Design) (clock : ℕ) : Type 0 where
+pub record IsThin (d : Design) : Type 0 where
   pub signals : list_all is_scalar d.signals ≡ true
   pub processes : list_all is_gate d.processes ≡ true
-  pub unread : list_any (λ p. contains (all_reads p) clock) d.processes ≡ false
