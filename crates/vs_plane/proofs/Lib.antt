@@ -1,1 +1,6 @@
 pub mod WordBits
+pub mod Filling
+pub mod Parts
+pub mod RowBits
+pub mod Turns
+pub mod Stores

@@ -1,2 +1,5 @@
 pub mod Bits
 pub mod Lanes
+pub mod Kernels
+pub mod Chunks
+pub mod Turns

@@ -5,27 +5,27 @@ ghost use Rattle.vs_plane.specs.Bits.{bit_of_words};
 
 use crate::traits::{Lanes, Word};
 
-/// `K` words of 64 bits, with `64 * K` lanes, but never more than `u32::MAX`. Lane i is bit i % 64 of word i / 64.
+/// `K` words of 64 bits, with `64 * K` lanes, but never more than an eighth of what a `u32` counts. Lane i is bit i % 64 of word i / 64.
 #[derive(Clone, Copy)]
 pub struct Words<const K: usize> {
-    words: [u64; K],
+    pub(crate) words: [u64; K],
 }
 
-// The number of bits of this many words, as far as a `u32` counts them.
-const fn lanes_of(words: usize) -> u32
-    ensures { result ≡ min (64 * words) (2 ^ 32 - 1) }
+// The number of bits of this many words, as far as a `u32` counts eight times as many.
+pub(crate) const fn lanes_of(words: usize) -> u32
+    ensures { result ≡ min (64 * words) (2 ^ 29 - 1) }
 {
-    if words < 67_108_864 {
+    if words < 8_388_608 {
         64 * words as u32
     } else {
-        u32::MAX
+        u32::MAX / 8
     }
 }
 
 impl<const K: usize> Word for Words<K> {
     ghost lane = { λ w. bit_of_words w.words };
 
-    ghost LANES = { min (64 * K) (2 ^ 32 - 1) };
+    ghost LANES = { min (64 * K) (2 ^ 29 - 1) };
 
     const LANES: u32 = lanes_of(K);
 

@@ -1,23 +1,39 @@
 //! Planes of lanes: words of bits, one a lane, pairs of them that hold four-valued bits, and files of such pairs.
 #![tactic(auto)]
 
+ghost use Rattle.vs_plane.specs.Kernels.{FillingComputes};
 ghost use Rattle.vs_plane.specs.Lanes.{EncodingIsExact};
+ghost use Rattle.vs_plane.specs.Turns.{TurnsFill};
 
 mod arrays;
+mod chunks;
 mod counting;
 mod file;
 mod pairs;
+mod rows;
 #[cfg(test)]
 mod tests;
 mod traits;
 
 pub use arrays::Words;
+pub use chunks::parts_law;
 pub use counting::Steps;
 pub use file::PlaneFile;
 pub use pairs::Pair;
-pub use traits::{Lanes, Word};
+pub use rows::Rows;
+pub use traits::{Chunked, Lanes, Word};
 
 /// Each four-valued bit has one encoding in two planes, and each encoding is of one bit.
 pub fn encoding_law()
     ensures { EncodingIsExact }
+{}
+
+/// A value stored bit by bit, from the first slot to the last, stands there in the end, in every lane.
+pub fn filling_law<W: Word>()
+    ensures { FillingComputes W.lane W.LANES }
+{}
+
+/// A value stored part by part, eight slots a turn and then the rest, stands there in the end too.
+pub fn turns_law<W: Word>()
+    ensures { TurnsFill W.lane W.LANES }
 {}

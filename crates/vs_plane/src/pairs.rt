@@ -1,6 +1,6 @@
 //! A slot's two planes.
-ghost use Rattle.std.specs.Prelude.{◌≡◌, ℕ, ◌<◌, ◌≢◌, not, ◌&&◌, ◌||◌, length, slice_get};
-ghost use Rattle.vs_four.specs.Tables.{and_bit, not_bit, or_bit, xor_bit};
+ghost use Rattle.std.specs.Prelude.{◌≡◌, ℕ, ◌<◌, ◌≢◌, not, ◌&&◌, ◌||◌, length, slice_get, if◌then◌else◌};
+ghost use Rattle.vs_four.specs.Tables.{and_bit, casex_bit, casez_bit, is_known, is_one, is_z, merge_bit, not_bit, of_bool, or_bit, same, same_bit, xnor_bit, xor_bit};
 ghost use Rattle.vs_plane.specs.Lanes.{decode, pair_lane, unknown_bit, value_bit};
 
 use crate::traits::{Lanes, Word};
@@ -46,12 +46,45 @@ impl<W: Word> Pair<W> {
         self.value.or(self.unknown)
     }
 
-    // The lanes that are 1.
+    /// The lanes that are 1.
     #[inline]
-    fn one(self) -> W
-        ensures { (i : ℕ) → i < W.LANES → W.lane result i ≡ (W.lane self.value i && not (W.lane self.unknown i)) }
+    pub fn one(self) -> W
+        ensures planes { (i : ℕ) → i < W.LANES → W.lane result i ≡ (W.lane self.value i && not (W.lane self.unknown i)) }
+        ensures lanes { (i : ℕ) → i < W.LANES → W.lane result i ≡ is_one (pair_lane W.lane self i) }
     {
         self.value.and(self.unknown.not())
+    }
+
+    /// The lanes that are 0 or 1.
+    #[inline]
+    pub fn known(self) -> W
+        ensures { (i : ℕ) → i < W.LANES → W.lane result i ≡ is_known (pair_lane W.lane self i) }
+    {
+        self.unknown.not()
+    }
+
+    /// The pair with 1 in these lanes, and 0 in the others.
+    #[inline]
+    pub fn of_word(word: W) -> Self
+        ensures { (i : ℕ) → i < W.LANES → pair_lane W.lane result i ≡ of_bool (W.lane word i) }
+    {
+        Pair {
+            value: word,
+            unknown: W::none(),
+        }
+    }
+
+    /// The bits of `self` in these lanes, and those of `other` in the others.
+    #[inline]
+    pub fn in_lanes(self, lanes: W, other: Self) -> Self
+        ensures { (i : ℕ) → i < W.LANES → pair_lane W.lane result i
+            ≡ (if W.lane lanes i then pair_lane W.lane self i else pair_lane W.lane other i) }
+    {
+        let rest = lanes.not();
+        Pair {
+            value: self.value.and(lanes).or(other.value.and(rest)),
+            unknown: self.unknown.and(lanes).or(other.unknown.and(rest)),
+        }
     }
 
     /// `&` in each lane (IEEE 1364-2005, table 5-12).
@@ -91,6 +124,76 @@ impl<W: Word> Pair<W> {
             value: self.value.xor(other.value).or(unknown),
             unknown,
         }
+    }
+
+    /// `~^` in each lane (IEEE 1364-2005, table 5-15).
+    #[inline]
+    pub fn xnor(self, other: Self) -> Self
+        ensures { (i : ℕ) → i < W.LANES
+            → pair_lane W.lane result i ≡ xnor_bit (pair_lane W.lane self i) (pair_lane W.lane other i) }
+    {
+        self.xor(other).not()
+    }
+
+    /// One bit of `?:` under an unknown condition, in each lane (IEEE 1364-2005, table 5-21): equal known bits stay, all others are x.
+    #[inline]
+    pub fn merge(self, other: Self) -> Self
+        ensures { (i : ℕ) → i < W.LANES
+            → pair_lane W.lane result i ≡ merge_bit (pair_lane W.lane self i) (pair_lane W.lane other i) }
+    {
+        let differ = self.value.xor(other.value);
+        let unknown = self.unknown.or(other.unknown).or(differ);
+        Pair {
+            value: self.value.or(unknown),
+            unknown,
+        }
+    }
+
+    // The lanes in which the two bits are not one.
+    #[inline]
+    fn differ(self, other: Self) -> W
+        ensures { (i : ℕ) → i < W.LANES → W.lane result i ≡ not (same (pair_lane W.lane self i) (pair_lane W.lane other i)) }
+    {
+        self.value
+            .xor(other.value)
+            .or(self.unknown.xor(other.unknown))
+    }
+
+    // The lanes that are z.
+    #[inline]
+    fn high(self) -> W
+        ensures { (i : ℕ) → i < W.LANES → W.lane result i ≡ is_z (pair_lane W.lane self i) }
+    {
+        self.unknown.and(self.value.not())
+    }
+
+    /// One bit of `===`, and of the match of `case`, in each lane (IEEE 1364-2005, 5.1.8, 9.5): 1 where the bits are as written.
+    #[inline]
+    pub fn same(self, other: Self) -> Self
+        ensures { (i : ℕ) → i < W.LANES
+            → pair_lane W.lane result i ≡ same_bit (pair_lane W.lane self i) (pair_lane W.lane other i) }
+    {
+        Pair::of_word(self.differ(other).not())
+    }
+
+    /// One bit of the match of `casez`, in each lane (IEEE 1364-2005, 9.5.1): as `same`, but a z on either side matches any bit.
+    #[inline]
+    pub fn matches_z(self, other: Self) -> Self
+        ensures { (i : ℕ) → i < W.LANES
+            → pair_lane W.lane result i ≡ casez_bit (pair_lane W.lane self i) (pair_lane W.lane other i) }
+    {
+        let free = self.high().or(other.high());
+        Pair::of_word(free.or(self.differ(other).not()))
+    }
+
+    /// One bit of the match of `casex`, in each lane (IEEE 1364-2005, 9.5.1): as `same`, but an x or z on either side matches any bit.
+    #[inline]
+    pub fn matches_x(self, other: Self) -> Self
+        ensures { (i : ℕ) → i < W.LANES
+            → pair_lane W.lane result i ≡ casex_bit (pair_lane W.lane self i) (pair_lane W.lane other i) }
+    {
+        let free = self.unknown.or(other.unknown);
+        Pair::of_word(free.or(self.differ(other).not()))
     }
 }
 

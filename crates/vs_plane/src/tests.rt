@@ -1,9 +1,9 @@
 // The tests, and a function over any word as a kernel is written.
-ghost use Rattle.std.specs.Prelude.{◌≡◌, ℕ, ◌+◌, ◌<◌, ◌≢◌, length};
+ghost use Rattle.std.specs.Prelude.{◌≡◌, ℕ, ◌+◌, ◌<◌, ◌≢◌, length, slice_index};
 ghost use Rattle.vs_four.specs.Tables.{and_bit};
 ghost use Rattle.vs_plane.specs.Lanes.{slot_lane};
 
-use crate::{Lanes, Pair, PlaneFile, Steps, Word, Words};
+use crate::{Chunked, Lanes, Pair, PlaneFile, Steps, Word, Words};
 use std::alloc::Global;
 use std::marker::Brand;
 use std::process::Abort;
@@ -93,4 +93,50 @@ fn check_store<L: Ledger>(rt: &impl Abort, alloc: Global, blank: Blank) -> Resul
 #[test]
 fn a_store_leaves_the_other_slots(rt: HostRuntime) -> Result<(), Fail> {
     check_store::<Brand>(&rt, rt.alloc(), Blank::new(1))
+}
+
+// Eight slots from this one on.
+fn eight_from(first: u32) -> [u32; 8]
+    requires { first < 100 }
+    ensures { (k : ℕ) → k < 8 → slice_index result k ≡ first + k }
+{
+    let mut slots = [0; 8];
+    for k in 0..8 {
+        slots[k as usize] = first + k;
+    }
+    slots
+}
+
+// The `~` of eight slots at once goes to the next eight.
+fn check_chunks<W: Lanes + Chunked, L: Ledger>(
+    rt: &impl Abort,
+    alloc: Global,
+    blank: Blank,
+) -> Result<(), Fail>
+    requires name { blank.name ≡ L.name }
+    requires parts { blank.parts ≡ L.parts }
+    requires some { 0 < blank.parts }
+    requires lanes { 0 < W.LANES }
+{
+    let bits = [Bit4::Zero, Bit4::One, Bit4::X, Bit4::Z];
+    let mut initial = [Bit4::Zero; 16];
+    for k in 0..8 {
+        initial[k] = bits[k % 4];
+    }
+    let mut file: PlaneFile<W> = PlaneFile::new(alloc, &initial)?;
+    let mut steps: Steps<L> = Steps::new(blank);
+    let eight = file.load_chunk(&eight_from(0));
+    file.store_chunk(&eight_from(8), eight.not(), &mut steps);
+    for k in 0..8 {
+        for lane in [0, W::LANES - 1] {
+            assert_eq!(rt; file.lane(k, lane), bits[k as usize % 4]);
+            assert_eq!(rt; file.lane(8 + k, lane), file.load(k).not().lane(lane));
+        }
+    }
+    Ok(())
+}
+
+#[test]
+fn a_chunk_is_eight_slots(rt: HostRuntime) -> Result<(), Fail> {
+    check_chunks::<Words<2>, Brand>(&rt, rt.alloc(), Blank::new(1))
 }

@@ -1,5 +1,5 @@
 //! Words of lanes, and their operations.
-ghost use Rattle.std.specs.Prelude.{◌≡◌, ℕ, ◌<◌, Bool, true, false, not, ◌&&◌, ◌||◌, ◌≢◌};
+ghost use Rattle.std.specs.Prelude.{◌≡◌, ℕ, ◌+◌, ◌*◌, ◌<◌, Bool, true, false, not, ◌&&◌, ◌||◌, ◌≢◌};
 ghost use Rattle.vs_plane.specs.Bits.{differ};
 
 /// A word of `LANES` bits, one a lane. Its operations go bit by bit, and none of them shows a bit.
@@ -50,4 +50,25 @@ pub trait Lanes: Word {
         requires { i < Self.LANES }
         ensures changed { Self.lane result i ≡ bit }
         ensures others { (k : ℕ) → k < Self.LANES → k ≢ i → Self.lane result k ≡ Self.lane self k };
+}
+
+/// A word that is one of the eight parts of a wide one. None of its operations shows a bit.
+pub trait Chunked: Word {
+    /// A wide word, of eight times as many lanes. Its part `j`, for `j` below 8, has the lanes from `j * LANES` on.
+    type Eight: Word;
+
+    /// Part `j` of a wide word.
+    fn part(eight: Self::Eight, j: u32) -> Self
+        requires { j < 8 }
+        ensures { (i : ℕ) → i < Self.LANES → Self.lane result i ≡ Self.Eight.lane eight (j * Self.LANES + i) };
+
+    /// The wide word with this part `j`, and the other parts as they are.
+    fn with_part(eight: Self::Eight, j: u32, word: Self) -> Self::Eight
+        requires { j < 8 }
+        ensures changed { (i : ℕ) → i < Self.LANES → Self.Eight.lane result (j * Self.LANES + i) ≡ Self.lane word i }
+        ensures others { (k i : ℕ) → k < 8 → k ≢ j → i < Self.LANES
+            → Self.Eight.lane result (k * Self.LANES + i) ≡ Self.Eight.lane eight (k * Self.LANES + i) };
+
+    // There are as many lanes as the parts have.
+    ghost eight: { Self.Eight.LANES ≡ 8 * Self.LANES };
 }
