@@ -1,0 +1,36 @@
+use Rattle.std.proofs.Common.{◌≡◌, ℕ, ◌+◌, ◌<◌, List, map, length, sym, ap, ◌∙◌, subst, arith, get_or}
+use Rattle.std.proofs.lemmas.List.{get_or-map}
+use Rattle.vs_four.specs.declared.Bit4.TheVariants.{X}
+use Rattle.vs_four.specs.Logic.{BitList}
+use Rattle.vs_plane.specs.declared.pairs.Pair.{Pair}
+use Rattle.vs_plane.specs.Lanes.{pair_lane}
+use Rattle.vs_plane.specs.Kernels.{lane_bits, Fills}
+use Rattle.vs_kern_logic.specs.Gates.{output_bit}
+use Rattle.vs_kern_logic.proofs.laws.output_places.Goals as goal
+
+pub loop-k-preserved : goal.loop-k-preserved
+loop-k-preserved g c =
+    let law = c.filling_law.ensures in
+    let lane = g.W.Word.lane in
+    let before = c.args.file.now in
+    let file = c.loop-k.file in
+    let to = c.args.to.now in
+    let k = c.loop-k.k in
+    let value : ℕ → BitList = λ i. map (output_bit c.args.inverted) (lane_bits lane before c.args.a.now i) in
+    let fills = c.loop-k.invariant.fills in
+    let in_to : k < length to = c.loop-k-test.true in
+    let in_a : k < length c.args.a.now = omega arith in
+    let holds : (i : ℕ) → i < g.W.Word.LANES → pair_lane lane c.output-pair.result i ≡ get_or (value i) k X = λ i h.
+    c.output-pair.ensures i h
+    ∙ ap (output_bit c.args.inverted) (c.load.ensures.lanes i ∙ law.reads value to k before file c.args.a.now k i c.requires.a.to_apart (omega arith) in_a fills)
+    ∙ sym (get_or-map (output_bit c.args.inverted) (lane_bits lane before c.args.a.now i) k X X (omega (arith, law.long before c.args.a.now i))) in
+    record {
+      fills = subst (λ (f : List (Pair _)). Fills lane g.W.Word.LANES value to (k + 1) before f) (sym c.store.ensures.stored)
+          (law.grows value to k before file c.output-pair.result c.requires.targets.to_differ in_to (omega arith) fills holds);
+      ticked = omega (arith, c.store.ensures.ticked);
+    }
+
+pub returns-clause-fills : goal.returns-clause-fills
+returns-clause-fills g c =
+    let all : c.loop-k.k ≡ length c.args.to.now = omega arith in
+    subst (λ (n : ℕ). Fills g.W.Word.lane g.W.Word.LANES (λ i. map (output_bit c.args.inverted) (lane_bits g.W.Word.lane c.args.file.now c.args.a.now i)) c.args.to.now n c.args.file.now c.loop-k.file) all c.loop-k.invariant.fills
