@@ -1,0 +1,5 @@
+pub mod SumLaws
+pub mod OrderLaws
+pub mod Still
+pub mod ProductLaws
+pub mod Runs

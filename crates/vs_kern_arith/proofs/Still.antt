@@ -1,0 +1,27 @@
+-- Arguments stay as they were while a value is stored.
+use Rattle.std.proofs.Common.{◌≡◌, ℕ, ◌<◌, ◌≤◌, Bool, List, length, get_or, slice_get, Option, sym, ap, ◌∙◌, arith}
+use Rattle.std.proofs.lemmas.List.{ext_get_or}
+use Rattle.vs_four.specs.declared.Bit4.TheVariants.{X}
+use Rattle.vs_four.specs.Logic.{BitList}
+use Rattle.vs_plane.specs.declared.pairs.Pair.{Pair}
+use Rattle.vs_plane.specs.Lanes.{lane_or_x}
+use Rattle.vs_plane.specs.Kernels.{lane_bits, AreApart, Fills, FillingComputes}
+
+pub still : {W : Type 0} (lane : W → ℕ → Bool) (lanes : ℕ) → FillingComputes lane lanes → (value : ℕ → BitList) (to : List ℕ) (done : ℕ) (before file : List (Pair W)) (arg : List ℕ) (i : ℕ)
+    → AreApart arg to → done ≤ length to → Fills lane lanes value to done before file
+    → lane_bits lane file arg i ≡ lane_bits lane before arg i
+still lane lanes law value to done before file arg i apart within fills =
+    ext_get_or X (lane_bits lane file arg i) (lane_bits lane before arg i)
+    (law.long file arg i ∙ sym (law.long before arg i))
+    (λ k h. law.bit file arg k i (omega (arith, h, law.long file arg i)) ∙ law.reads value to done before file arg k i apart within (omega (arith, h, law.long file arg i)) fills)
+
+-- the bits of slots whose planes are as they were
+pub unmoved : {W : Type 0} (lane : W → ℕ → Bool) (lanes : ℕ) → FillingComputes lane lanes → (before file : List (Pair W)) (arg : List ℕ) (i : ℕ)
+    → ((k : ℕ) → k < length arg → slice_get file (get_or arg k 0) ≡ slice_get before (get_or arg k 0))
+    → lane_bits lane file arg i ≡ lane_bits lane before arg i
+unmoved {W} lane lanes law before file arg i same =
+    ext_get_or X (lane_bits lane file arg i) (lane_bits lane before arg i)
+    (law.long file arg i ∙ sym (law.long before arg i))
+    (λ k h.
+    let in_arg : k < length arg = omega (arith, h, law.long file arg i) in
+    law.bit file arg k i in_arg ∙ ap (λ (o : Option (Pair W)). lane_or_x lane o i) (same k in_arg) ∙ sym (law.bit before arg k i in_arg))

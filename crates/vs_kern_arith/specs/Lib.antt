@@ -1,0 +1,4 @@
+pub mod Digits
+pub mod Operators
+pub mod Costs
+pub mod Rows
