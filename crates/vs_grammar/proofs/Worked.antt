@@ -1,0 +1,120 @@
+-- The worked texts, by computation.
+use Rattle.std.proofs.Common.{◌≡◌, ℕ, zero, suc, ◌<◌, ◌≤◌, Bool, true, false, not, ◌&&◌, List, [], refl, length, arith, ap, drop, ◌⊎◌, inl, inr}
+use Rattle.std.specs.Prelude.{◌+◌, is_ok, Result, Ok, Err, Option, None, Some, nat_le}
+use Rattle.std.proofs.lemmas.Bool.{and_parts}
+use Rattle.std.proofs.lemmas.Option.{slice_get_past}
+use Rattle.vs_lexer.specs.declared.token.Token.{Token}
+use Rattle.vs_lexer.specs.declared.token.LexError.{LexError}
+use Rattle.vs_lexer.specs.declared.token.TokenKind.{TokenKind}
+use Rattle.vs_lexer.specs.Cuts.{cut_text, spelling_of}
+use Rattle.vs_lexer.specs.LeftOut.{is_left_out, is_left_out_between, kind_at, kind_before}
+use Rattle.vs_grammar.specs.Grammars.{depth}
+use Rattle.vs_grammar.specs.Kinds.{terminals, end_of_text}
+use Rattle.vs_grammar.specs.Verilog.{verilog, phrase_of, r, Rule as rule}
+use Rattle.vs_grammar.specs.Meaning.{text_of}
+use Rattle.vs_grammar.specs.Trees.{Source}
+use Rattle.vs_grammar.specs.Spelled.{NoneLeftOut, Spells, depth_limit}
+use Rattle.vs_grammar.specs.Examples as ex
+use Rattle.vs_grammar.proofs.Decided.{verilog_is_predictive}
+use Rattle.vs_grammar.proofs.Whole.{derived, stops}
+use Rattle.vs_grammar.specs.Grammars.{Terminal}
+use Rattle.vs_grammar.specs.Predictive.{Stops}
+use Rattle.vs_grammar.proofs.Sets.{not_true}
+use Rattle.vs_grammar.proofs.Runner.{Run, Whole, run_rule, is_read, is_stopped, whole, left_by, stopped_by}
+use Rattle.std.proofs.Common.{subst}
+use Rattle.std.proofs.lemmas.Bool.Decides.{nat_tests}
+
+abbrev pub tokens_of : Result (List Token) LexError → List Token
+tokens_of (Ok ts) = ts
+tokens_of (Err e) = []
+
+pub was_ok : (o : Result (List Token) LexError) → is_ok o ≡ true → o ≡ Ok (tokens_of o)
+was_ok (Ok ts) e = refl
+was_ok (Err x) e = cc
+
+-- ---- none is left out
+
+abbrev pub every : (ℕ → Bool) → ℕ → Bool
+every f zero = true
+every f (suc n) = f n && every f n
+
+every_one : (f : ℕ → Bool) (n k : ℕ) → every f n ≡ true → k < n → f k ≡ true
+every_one f zero k e h = absurd (omega arith)
+every_one f (suc n) k e h = let p = and_parts (f n) (every f n) e in elim (split k n h) [ inl q ↦ every_one f n k p.1 q | inr q ↦ rw q p.0 ]
+  where
+    split : (k n : ℕ) → k < suc n → (k < n) ⊎ (k ≡ n)
+    split k n h = grind arith
+
+abbrev pub is_kept : List Token → Bool
+is_kept ts = every (λ n. not (is_left_out ts n)) (length ts)
+
+-- the same, by what token n is
+abbrev kind_by : Option Token → Option TokenKind
+kind_by None = None
+kind_by (Some t) = Some t.kind
+
+abbrev out_kind : List Token → ℕ → Option TokenKind → Bool
+out_kind ts n None = false
+out_kind ts n (Some k) = is_left_out_between (kind_before ts n) k (kind_at ts (n + 1)) (kind_at ts (n + 2))
+
+abbrev out_by : List Token → ℕ → Option Token → Bool
+out_by ts n o = out_kind ts n (kind_by o)
+
+inside : (n m : ℕ) → (n < m) ⊎ (m ≤ n)
+inside n m = grind arith
+
+pub none_left_out : (ts : List Token) → is_kept ts ≡ true → NoneLeftOut ts
+none_left_out ts e n = elim (inside n (length ts)) [
+  | inl h ↦ not_true (is_left_out ts n) (every_one (λ n. not (is_left_out ts n)) (length ts) n e h)
+  | inr h ↦ ap (out_by ts n) (slice_get_past ts n h)
+]
+
+-- ---- what is found of a text
+
+abbrev pub reading : (ts : List Token) → Run verilog (phrase_of rule.Text) (terminals ts)
+reading ts = run_rule verilog 60 39 (terminals ts)
+
+pub record Found (text : List ℕ) : Type 0 where
+  pub source : Source
+  pub spelled : Spells text source
+
+pub shallow_by : (n : ℕ) → nat_le n depth_limit ≡ true → n ≤ depth_limit
+shallow_by n e = grind (arith, nat_tests)
+
+abbrev pub found_by : (text : List ℕ) → is_ok (cut_text text) ≡ true → is_kept (tokens_of (cut_text text)) ≡ true → (w : Whole verilog (phrase_of rule.Text) (terminals (tokens_of (cut_text text)))) → nat_le (depth w.tree) depth_limit ≡ true → Found text
+found_by text cut kept w h =
+    record {
+      source = text_of (spelling_of text (tokens_of (cut_text text))) w.tree;
+      spelled = record {
+        tokens = tokens_of (cut_text text);
+        cut = was_ok (cut_text text) cut;
+        spelled = record {
+          kept = none_left_out (tokens_of (cut_text text)) kept;
+          derivation = w.tree;
+          derived = derived verilog (r rule.Source) end_of_text verilog_is_predictive (terminals (tokens_of (cut_text text))) w.tree w.reads;
+          stands = refl;
+          shallow = shallow_by (depth w.tree) h;
+        };
+      };
+    }
+
+abbrev pub found : (text : List ℕ) → is_ok (cut_text text) ≡ true → is_kept (tokens_of (cut_text text)) ≡ true → (e : is_read verilog (reading (tokens_of (cut_text text))) ≡ true) → nat_le (depth (whole verilog (reading (tokens_of (cut_text text))) e).tree) depth_limit ≡ true → Found text
+found text cut kept e h = found_by text cut kept (whole verilog (reading (tokens_of (cut_text text))) e) h
+
+pub record Stopped (text : List ℕ) (k : ℕ) : Type 0 where
+  pub cut : is_ok (cut_text text) ≡ true
+  pub kept : is_kept (tokens_of (cut_text text)) ≡ true
+  pub stopped : is_stopped verilog (reading (tokens_of (cut_text text))) ≡ true
+  pub left : left_by verilog (reading (tokens_of (cut_text text))) ≡ drop k (terminals (tokens_of (cut_text text)))
+
+pub stops_at : (text : List ℕ) (k : ℕ) → Stopped text k → ex.StopsAt text k
+stops_at text k s =
+    let ts = tokens_of (cut_text text) in
+    record {
+      tokens = ts;
+      cut = was_ok (cut_text text) s.cut;
+      fault = record {
+        kept = none_left_out ts s.kept;
+        fault = stops verilog (r rule.Source) end_of_text verilog_is_predictive (terminals ts) k (subst (λ (us : List Terminal). Stops verilog (phrase_of rule.Text) (terminals ts) us) s.left (stopped_by verilog (reading ts) s.stopped));
+      };
+    }

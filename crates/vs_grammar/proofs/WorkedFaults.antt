@@ -1,0 +1,78 @@
+-- The worked depths, and texts that stop, by computation.
+use Rattle.std.specs.Prelude.{codes, refl, []}
+use Rattle.vs_lexer.specs.Cuts.{cut_text}
+use Rattle.vs_lexer.specs.Spellings.{signs, keywords, left_out_words, system_names}
+use Rattle.vs_lexer.specs.Tokens.{word_kind, system_kind, sign_kind}
+use Rattle.vs_lexer.specs.Literals.{is_in_range, number_bits, literal_bits, literal_size, is_signed_literal, has_size}
+use Rattle.vs_grammar.specs.Examples as ex
+use Rattle.vs_grammar.proofs.Worked.{found, stops_at}
+
+flat : ex.HasDepth (ex.assign_text (codes "a")) 0
+unfolding is_in_range cut_text word_kind system_kind sign_kind signs keywords left_out_words system_names literal_bits is_signed_literal has_size literal_size number_bits
+flat = let f = found (ex.assign_text (codes "a")) refl refl refl refl in record { source = f.source; spelled = f.spelled; deep = refl }
+
+operator : ex.HasDepth (ex.assign_text (codes "a + b * c")) 2
+unfolding is_in_range cut_text word_kind system_kind sign_kind signs keywords left_out_words system_names literal_bits is_signed_literal has_size literal_size number_bits
+operator = let f = found (ex.assign_text (codes "a + b * c")) refl refl refl refl in record { source = f.source; spelled = f.spelled; deep = refl }
+
+chain : ex.HasDepth (ex.assign_text (codes "a + b + c")) 2
+unfolding is_in_range cut_text word_kind system_kind sign_kind signs keywords left_out_words system_names literal_bits is_signed_literal has_size literal_size number_bits
+chain = let f = found (ex.assign_text (codes "a + b + c")) refl refl refl refl in record { source = f.source; spelled = f.spelled; deep = refl }
+
+brackets : ex.HasDepth (ex.assign_text (codes "((a))")) 2
+unfolding is_in_range cut_text word_kind system_kind sign_kind signs keywords left_out_words system_names literal_bits is_signed_literal has_size literal_size number_bits
+brackets = let f = found (ex.assign_text (codes "((a))")) refl refl refl refl in record { source = f.source; spelled = f.spelled; deep = refl }
+
+select : ex.HasDepth (ex.assign_text (codes "a[b[c]]")) 2
+unfolding is_in_range cut_text word_kind system_kind sign_kind signs keywords left_out_words system_names literal_bits is_signed_literal has_size literal_size number_bits
+select = let f = found (ex.assign_text (codes "a[b[c]]")) refl refl refl refl in record { source = f.source; spelled = f.spelled; deep = refl }
+
+parts : ex.HasDepth (ex.assign_text (codes "{2{a, b[c]}}")) 2
+unfolding is_in_range cut_text word_kind system_kind sign_kind signs keywords left_out_words system_names literal_bits is_signed_literal has_size literal_size number_bits
+parts = let f = found (ex.assign_text (codes "{2{a, b[c]}}")) refl refl refl refl in record { source = f.source; spelled = f.spelled; deep = refl }
+
+call : ex.HasDepth (ex.assign_text (codes "$signed((a))")) 2
+unfolding is_in_range cut_text word_kind system_kind sign_kind signs keywords left_out_words system_names literal_bits is_signed_literal has_size literal_size number_bits
+call = let f = found (ex.assign_text (codes "$signed((a))")) refl refl refl refl in record { source = f.source; spelled = f.spelled; deep = refl }
+
+choice : ex.HasDepth (ex.assign_text (codes "a ? b : c ? d : e")) 2
+unfolding is_in_range cut_text word_kind system_kind sign_kind signs keywords left_out_words system_names literal_bits is_signed_literal has_size literal_size number_bits
+choice = let f = found (ex.assign_text (codes "a ? b : c ? d : e")) refl refl refl refl in record { source = f.source; spelled = f.spelled; deep = refl }
+
+statement : ex.HasDepth ex.dangling_text 3
+unfolding is_in_range cut_text word_kind system_kind sign_kind signs keywords left_out_words system_names literal_bits is_signed_literal has_size literal_size number_bits
+statement = let f = found ex.dangling_text refl refl refl refl in record { source = f.source; spelled = f.spelled; deep = refl }
+
+block : ex.HasDepth ex.dangling_generate_text 2
+unfolding is_in_range cut_text word_kind system_kind sign_kind signs keywords left_out_words system_names literal_bits is_signed_literal has_size literal_size number_bits
+block = let f = found ex.dangling_generate_text refl refl refl refl in record { source = f.source; spelled = f.spelled; deep = refl }
+
+pub depths_are : ex.DepthsAre
+depths_are = record { flat = flat; operator = operator; chain = chain; brackets = brackets; select = select; parts = parts; call = call; choice = choice; statement = statement; block = block }
+
+empty : ex.StopsAt [] 0
+unfolding is_in_range cut_text word_kind system_kind sign_kind signs keywords left_out_words system_names
+empty = stops_at [] 0 (record { cut = refl; kept = refl; stopped = refl; left = refl })
+
+cut_off : ex.StopsAt (codes "module top(input clk);") 7
+unfolding is_in_range cut_text word_kind system_kind sign_kind signs keywords left_out_words system_names
+cut_off = stops_at (codes "module top(input clk);") 7 (record { cut = refl; kept = refl; stopped = refl; left = refl })
+
+surplus_else : ex.StopsAt (codes "module m; always @* if (a) y = b; else y = c; else y = d; endmodule") 19
+unfolding is_in_range cut_text word_kind system_kind sign_kind signs keywords left_out_words system_names
+surplus_else = stops_at (codes "module m; always @* if (a) y = b; else y = c; else y = d; endmodule") 19 (record { cut = refl; kept = refl; stopped = refl; left = refl })
+
+second_default : ex.StopsAt (codes "module m; always @* case (a) default: ; b: ; default: ; endcase endmodule") 16
+unfolding is_in_range cut_text word_kind system_kind sign_kind signs keywords left_out_words system_names
+second_default = stops_at (codes "module m; always @* case (a) default: ; b: ; default: ; endcase endmodule") 16 (record { cut = refl; kept = refl; stopped = refl; left = refl })
+
+no_operand : ex.StopsAt (ex.assign_text (codes "a +")) 8
+unfolding is_in_range cut_text word_kind system_kind sign_kind signs keywords left_out_words system_names
+no_operand = stops_at (ex.assign_text (codes "a +")) 8 (record { cut = refl; kept = refl; stopped = refl; left = refl })
+
+chained_targets : ex.StopsAt (codes "module m; assign a = b = c; endmodule") 7
+unfolding is_in_range cut_text word_kind system_kind sign_kind signs keywords left_out_words system_names
+chained_targets = stops_at (codes "module m; assign a = b = c; endmodule") 7 (record { cut = refl; kept = refl; stopped = refl; left = refl })
+
+pub faults_are : ex.FaultsAre
+faults_are = record { empty = empty; cut_off = cut_off; surplus_else = surplus_else; second_default = second_default; no_operand = no_operand; chained_targets = chained_targets }

@@ -1,0 +1,461 @@
+-- Worked texts: the trees that they spell, how operators are grouped (IEEE 1364-2005, table 5-4), what counts as depth, and where texts stop.
+use Rattle.std.specs.Prelude.{◌≡◌, ℕ, ◌+◌, true, false, List, [], ◌∷◌, ◌++◌, map, codes, Some, None, Ok}
+use Rattle.std.specs.List.{flat_map}
+use Rattle.vs_lexer.specs.declared.token.Token.{Token}
+use Rattle.vs_lexer.specs.Cuts.{cut_text}
+use Rattle.vs_four.specs.declared.Bit4.TheVariants.{Zero, One, X}
+use Rattle.vs_lexer.specs.Literals.{number_bits}
+use Rattle.vs_grammar.specs.Grammars.{depth}
+use Rattle.vs_grammar.specs.Trees.{Declarator, PlainPorts, Name, Expr, Exprs, UnaryOp, BinaryOp, SystemFunction, Assign, Item, Module, Source, items_list}
+use Rattle.vs_grammar.specs.Trees.{UnaryOp as unary, BinaryOp as binary}
+use Rattle.vs_grammar.specs.Trees.{Alone, AlwaysItem, AndArm, AndExpr, AndGenerateArm, AndItem, AndStatement, AndTarget, Any, AsSigned, AsUnsigned, Assignment, AssignsItem, Between, Binary, BitAt, Brackets, ByName, ByOrder, Call, Case, CaseX, CaseZ, Choice, Clog2, Concatenation, DeclaredPorts, Downward, Empty, Enclosed, Exact, GenerateCase, GenerateFor, GenerateIf, GenvarsItem, If, Input, InstancesItem, Listed, Named, NamedTarget, Negedge, NoArm, NoBlock, NoBlockFallback, NoExpr, NoFallback, NoGenerateArm, NoItem, NoPorts, NoStatement, NoTarget, Number, Otherwise, OtherwiseBlock, Output, OutputReg, OutputWire, ParametersItem, Posedge, Reg, Replication, Sequence, SignalsItem, Slice, Star, Targeted, Unary, Unconnected, Upward, Whole, Wire}
+use Rattle.vs_grammar.specs.Spelled.{Spells, HasSyntaxFault}
+
+-- ---- whole trees
+
+abbrev name : List ℕ → ℕ → Name
+name bytes place = record { bytes = bytes; place = place }
+
+abbrev read : List ℕ → ℕ → Expr
+read bytes place = Named (name bytes place) Whole
+
+abbrev pub thin_text : List ℕ
+thin_text = codes "module top(input clk, input a, input b, output y); assign y = a & b; endmodule"
+
+abbrev pub thin_source : Source
+thin_source = record {
+  modules =
+      record {
+        place = 0;
+        name = name (codes "top") 1;
+        parameters = [];
+        header = DeclaredPorts (
+            record { place = 3; kind = Input; signed = false; range = None; names = record { name = name (codes "clk") 4; value = None } ∷ [] }
+            ∷ record { place = 6; kind = Input; signed = false; range = None; names = record { name = name (codes "a") 7; value = None } ∷ [] }
+            ∷ record { place = 9; kind = Input; signed = false; range = None; names = record { name = name (codes "b") 10; value = None } ∷ [] }
+            ∷ record { place = 12; kind = Output; signed = false; range = None; names = record { name = name (codes "y") 13; value = None } ∷ [] }
+            ∷ []);
+        items = AndItem (AssignsItem 16 (record { target = NamedTarget (name (codes "y") 17) Whole; e = Binary binary.BitAnd (read (codes "a") 19) (read (codes "b") 21) } ∷ [])) NoItem;
+      }
+      ∷ [];
+}
+
+-- one module without ports, of one item
+abbrev pub module_of : Item → Source
+module_of item = record { modules = record { place = 0; name = name (codes "m") 1; parameters = []; header = NoPorts; items = AndItem item NoItem } ∷ [] }
+
+-- `else` belongs to the nearest `if` (9.4)
+abbrev pub dangling_text : List ℕ
+dangling_text = codes "module m; always @* if (a) if (b) y = c; else y = d; endmodule"
+
+abbrev pub dangling_source : Source
+dangling_source =
+    module_of (AlwaysItem (record {
+      place = 3;
+      control = Star;
+      statement =
+          If 6 (read (codes "a") 8)
+          (If 10 (read (codes "b") 12)
+          (Assignment (NamedTarget (name (codes "y") 14) Whole) (read (codes "c") 16) true)
+          (Otherwise (Assignment (NamedTarget (name (codes "y") 19) Whole) (read (codes "d") 21) true)))
+          NoFallback;
+    }))
+
+-- and in generate constructs (12.4.2)
+abbrev pub dangling_generate_text : List ℕ
+dangling_generate_text = codes "module m; if (a) if (b) wire c; else wire d; endmodule"
+
+abbrev pub wire_block : List ℕ → ℕ → Item
+wire_block bytes place = SignalsItem (record { place = place; kind = Wire; signed = false; range = None; names = record { name = name bytes (1 + place); value = None } ∷ [] })
+
+abbrev pub dangling_generate_source : Source
+dangling_generate_source =
+    module_of (GenerateIf 3 (read (codes "a") 5) (Alone (GenerateIf 7 (read (codes "b") 9) (Alone (wire_block (codes "c") 11)) (OtherwiseBlock (Alone (wire_block (codes "d") 15))))) NoBlockFallback)
+
+-- the name after `begin` has no effect in a statement, and names a generate block (9.8.3, 12.4.3)
+abbrev pub begin_name_text : List ℕ
+begin_name_text = codes "module m; always @(*) begin : s y <= a; ; end endmodule"
+
+abbrev pub begin_name_source : Source
+begin_name_source =
+    module_of (AlwaysItem (record {
+      place = 3;
+      control = Star;
+      statement = Sequence 8 (AndStatement (Assignment (NamedTarget (name (codes "y") 11) Whole) (read (codes "a") 13) false) (AndStatement (Empty 15) NoStatement));
+    }))
+
+abbrev pub block_name_text : List ℕ
+block_name_text = codes "module m; generate if (a) begin : g wire c; end endgenerate endmodule"
+
+abbrev pub block_name_source : Source
+block_name_source = module_of (GenerateIf 4 (read (codes "a") 6) (Enclosed 8 (Some (name (codes "g") 10)) (AndItem (wire_block (codes "c") 11) NoItem)) NoBlockFallback)
+
+-- empty brackets connect nothing, and a comma stands between two connections (12.3.5)
+abbrev pub empty_text : List ℕ
+empty_text = codes "module m(); s #() i(), j(,), k(.p()); endmodule"
+
+abbrev pub empty_source : Source
+empty_source =
+    module_of (InstancesItem (record {
+      of = name (codes "s") 5;
+      overrides = Unconnected;
+      instances =
+          record { name = name (codes "i") 9; connections = Unconnected }
+          ∷ record { name = name (codes "j") 13; connections = ByOrder (None ∷ None ∷ []) }
+          ∷ record { name = name (codes "k") 18; connections = ByName (record { name = name (codes "p") 21; e = None } ∷ []) }
+          ∷ [];
+    }))
+
+-- the default of a case may stand anywhere, and is kept apart (9.5)
+abbrev pub default_text : List ℕ
+default_text = codes "module m; always @* case (a) default y = b; c, d: ; endcase endmodule"
+
+abbrev pub default_source : Source
+default_source =
+    module_of (AlwaysItem (record {
+      place = 3;
+      control = Star;
+      statement =
+          Case 6 Exact (read (codes "a") 8) (AndArm (read (codes "c") 15 ∷ read (codes "d") 17 ∷ []) (Empty 19) NoArm)
+          (Otherwise (Assignment (NamedTarget (name (codes "y") 11) Whole) (read (codes "b") 13) true));
+    }))
+
+-- an unsized decimal number
+abbrev count : ℕ → ℕ → Expr
+count n place = Number (record { place = place; bits = number_bits 32 n; signed = true; sized = false })
+
+abbrev declared : List ℕ → ℕ → Declarator
+declared bytes place = record { name = name bytes place; value = None }
+
+abbrev modules_of : List Module → Source
+modules_of modules = record { modules = modules }
+
+-- a header's parameters and ports, each declaration with the names behind it (12.2, 12.3.4)
+abbrev pub header_text : List ℕ
+header_text =
+    codes "module m #(parameter N = 1, M = 2, parameter signed [3:0] P = 3) "
+    ++ codes "(input clk, a, output wire b, output reg signed [N:0] c, d); endmodule"
+
+abbrev pub header_source : Source
+header_source =
+    modules_of (record {
+      place = 0;
+      name = name (codes "m") 1;
+      parameters =
+          record {
+            place = 4;
+            is_local = false;
+            signed = false;
+            range = None;
+            settings = record { name = name (codes "N") 5; value = count 1 7 } ∷ record { name = name (codes "M") 9; value = count 2 11 } ∷ [];
+          }
+          ∷ record {
+            place = 13;
+            is_local = false;
+            signed = true;
+            range = Some (record { bracket = 15; left = count 3 16; right = count 0 18 });
+            settings = record { name = name (codes "P") 20; value = count 3 22 } ∷ [];
+          }
+          ∷ [];
+      header = DeclaredPorts (
+          record { place = 25; kind = Input; signed = false; range = None; names = declared (codes "clk") 26 ∷ declared (codes "a") 28 ∷ [] }
+          ∷ record { place = 30; kind = OutputWire; signed = false; range = None; names = declared (codes "b") 32 ∷ [] }
+          ∷ record {
+            place = 34;
+            kind = OutputReg;
+            signed = true;
+            range = Some (record { bracket = 37; left = read (codes "N") 38; right = count 0 40 });
+            names = declared (codes "c") 42 ∷ declared (codes "d") 44 ∷ [];
+          }
+          ∷ []);
+      items = NoItem;
+    } ∷ [])
+
+-- plain ports, and the declarations of a module (12.3.2, 12.3.3, 4.2, 4.10)
+abbrev pub declarations_text : List ℕ
+declarations_text =
+    codes "module m(a, y); input [1:0] a; output y; parameter S = 4'sb1x0; localparam T = S; "
+    ++ codes "wire w = a, v; reg signed r; genvar i; endmodule"
+
+abbrev pub declarations_source : Source
+declarations_source =
+    modules_of (record {
+      place = 0;
+      name = name (codes "m") 1;
+      parameters = [];
+      header = PlainPorts (name (codes "a") 3 ∷ name (codes "y") 5 ∷ []);
+      items =
+          AndItem (SignalsItem (record { place = 8; kind = Input; signed = false; range = Some (record { bracket = 9; left = count 1 10; right = count 0 12 }); names = declared (codes "a") 14 ∷ [] }))
+          (AndItem (SignalsItem (record { place = 16; kind = Output; signed = false; range = None; names = declared (codes "y") 17 ∷ [] }))
+          (AndItem (ParametersItem (record {
+            place = 19;
+            is_local = false;
+            signed = false;
+            range = None;
+            settings = record { name = name (codes "S") 20; value = Number (record { place = 22; bits = Zero ∷ X ∷ One ∷ Zero ∷ []; signed = true; sized = true }) } ∷ [];
+          }))
+          (AndItem (ParametersItem (record { place = 24; is_local = true; signed = false; range = None; settings = record { name = name (codes "T") 25; value = read (codes "S") 27 } ∷ [] }))
+          (AndItem (SignalsItem (record { place = 29; kind = Wire; signed = false; range = None; names = record { name = name (codes "w") 30; value = Some (read (codes "a") 32) } ∷ declared (codes "v") 34 ∷ [] }))
+          (AndItem (SignalsItem (record { place = 36; kind = Reg; signed = true; range = None; names = declared (codes "r") 38 ∷ [] }))
+          (AndItem (GenvarsItem 40 (name (codes "i") 41 ∷ [])) NoItem))))));
+    } ∷ [])
+
+-- generate constructs, an instance with names, and lists of events (12.4, 12.2.2.2, 12.3.6, 9.7.4)
+abbrev pub generate_text : List ℕ
+generate_text =
+    codes "module m; for (i = 0; i < 2; i = i + 1) begin : g s #(.N(i)) u(.a(x), .b()); end case (N) 1, 2: ; default: begin end endcase "
+    ++ codes "always @(posedge clk or negedge r, a) ; always @b ; endmodule"
+
+abbrev pub generate_source : Source
+generate_source =
+    modules_of (record {
+      place = 0;
+      name = name (codes "m") 1;
+      parameters = [];
+      header = NoPorts;
+      items =
+          AndItem
+          (GenerateFor
+          (record {
+            place = 3;
+            variable = name (codes "i") 5;
+            first = count 0 7;
+            test = Binary binary.Less (read (codes "i") 9) (count 2 11);
+            again = name (codes "i") 13;
+            next = Binary binary.Add (read (codes "i") 15) (count 1 17);
+          })
+          (Enclosed 19 (Some (name (codes "g") 21))
+          (AndItem
+          (InstancesItem (record {
+            of = name (codes "s") 22;
+            overrides = ByName (record { name = name (codes "N") 26; e = Some (read (codes "i") 28) } ∷ []);
+            instances =
+                record {
+                  name = name (codes "u") 31;
+                  connections = ByName (record { name = name (codes "a") 34; e = Some (read (codes "x") 36) } ∷ record { name = name (codes "b") 40; e = None } ∷ []);
+                }
+                ∷ [];
+          }))
+          NoItem)))
+          (AndItem
+          (GenerateCase 46 (read (codes "N") 48)
+          (AndGenerateArm (count 1 50 ∷ count 2 52 ∷ []) (NoBlock 54) NoGenerateArm)
+          (OtherwiseBlock (Enclosed 57 None NoItem)))
+          (AndItem
+          (AlwaysItem (record {
+            place = 60;
+            control = Listed (record { edge = Posedge; name = name (codes "clk") 64 } ∷ record { edge = Negedge; name = name (codes "r") 67 } ∷ record { edge = Any; name = name (codes "a") 69 } ∷ []);
+            statement = Empty 71;
+          }))
+          (AndItem (AlwaysItem (record { place = 72; control = Listed (record { edge = Any; name = name (codes "b") 74 } ∷ []); statement = Empty 75 })) NoItem)));
+    } ∷ [])
+
+-- targets, selects, and the three kinds of case (A.8.5, 5.2.1, 9.5.1)
+abbrev pub selects_text : List ℕ
+selects_text =
+    codes "module m; assign {a, b[1]} = c[3:0], d[i +: 2] = e[i -: 2]; always @(*) casez (a) 1: y <= b; endcase "
+    ++ codes "always @* casex (a) default ; endcase endmodule"
+
+abbrev pub selects_source : Source
+selects_source =
+    modules_of (record {
+      place = 0;
+      name = name (codes "m") 1;
+      parameters = [];
+      header = NoPorts;
+      items =
+          AndItem
+          (AssignsItem 3 (
+          record {
+            target = Targeted 4 (AndTarget (NamedTarget (name (codes "a") 5) Whole) (AndTarget (NamedTarget (name (codes "b") 7) (BitAt 8 (count 1 9))) NoTarget));
+            e = Named (name (codes "c") 13) (Slice 14 Between (count 3 15) (count 0 17));
+          }
+          ∷ record {
+            target = NamedTarget (name (codes "d") 20) (Slice 21 Upward (read (codes "i") 22) (count 2 24));
+            e = Named (name (codes "e") 27) (Slice 28 Downward (read (codes "i") 29) (count 2 31));
+          }
+          ∷ []))
+          (AndItem
+          (AlwaysItem (record {
+            place = 34;
+            control = Star;
+            statement = Case 39 CaseZ (read (codes "a") 41) (AndArm (count 1 43 ∷ []) (Assignment (NamedTarget (name (codes "y") 45) Whole) (read (codes "b") 47) false) NoArm) NoFallback;
+          }))
+          (AndItem (AlwaysItem (record { place = 50; control = Star; statement = Case 53 CaseX (read (codes "a") 55) NoArm (Otherwise (Empty 58)) })) NoItem));
+    } ∷ [])
+
+-- several modules, and `generate` to `endgenerate`, which leave nothing (12.4)
+abbrev pub region_text : List ℕ
+region_text = codes "module a; endmodule module b; generate wire x; wire y; endgenerate wire z; endmodule"
+
+abbrev pub region_source : Source
+region_source =
+    modules_of (
+    record { place = 0; name = name (codes "a") 1; parameters = []; header = NoPorts; items = NoItem }
+    ∷ record {
+      place = 4;
+      name = name (codes "b") 5;
+      parameters = [];
+      header = NoPorts;
+      items = AndItem (wire_block (codes "x") 8) (AndItem (wire_block (codes "y") 11) (AndItem (wire_block (codes "z") 15) NoItem));
+    }
+    ∷ [])
+
+-- ---- operators
+
+abbrev pub unary_sign : UnaryOp → List ℕ
+unary_sign unary.Plus = codes "+"
+unary_sign unary.Minus = codes "-"
+unary_sign unary.BitNot = codes "~"
+unary_sign unary.LogicalNot = codes "!"
+unary_sign unary.ReduceAnd = codes "&"
+unary_sign unary.ReduceNand = codes "~&"
+unary_sign unary.ReduceOr = codes "|"
+unary_sign unary.ReduceNor = codes "~|"
+unary_sign unary.ReduceXor = codes "^"
+unary_sign unary.ReduceXnor = codes "~^"
+
+abbrev pub binary_sign : BinaryOp → List ℕ
+binary_sign binary.Add = codes "+"
+binary_sign binary.Subtract = codes "-"
+binary_sign binary.Multiply = codes "*"
+binary_sign binary.Divide = codes "/"
+binary_sign binary.Remainder = codes "%"
+binary_sign binary.BitAnd = codes "&"
+binary_sign binary.BitOr = codes "|"
+binary_sign binary.BitXor = codes "^"
+binary_sign binary.BitXnor = codes "~^"
+binary_sign binary.Less = codes "<"
+binary_sign binary.LessEqual = codes "<="
+binary_sign binary.Greater = codes ">"
+binary_sign binary.GreaterEqual = codes ">="
+binary_sign binary.Equal = codes "=="
+binary_sign binary.NotEqual = codes "!="
+binary_sign binary.CaseEqual = codes "==="
+binary_sign binary.CaseNotEqual = codes "!=="
+binary_sign binary.LogicalAnd = codes "&&"
+binary_sign binary.LogicalOr = codes "||"
+binary_sign binary.ShiftLeft = codes "<<"
+binary_sign binary.ShiftRight = codes ">>"
+binary_sign binary.ShiftLeftArith = codes "<<<"
+binary_sign binary.ShiftRightArith = codes ">>>"
+
+abbrev function_name : SystemFunction → List ℕ
+function_name AsSigned = codes "$signed"
+function_name AsUnsigned = codes "$unsigned"
+function_name Clog2 = codes "$clog2"
+
+-- an expression written out, with square brackets round each operation; a literal is `#`, and a select is left away
+abbrev mutual
+  pub written : Expr → List ℕ
+  written (Number literal) = codes "#"
+  written (Named name select) = name.bytes
+  written (Unary place op a) = codes "[" ++ unary_sign op ++ written a ++ codes "]"
+  written (Binary op a b) = codes "[" ++ written a ++ binary_sign op ++ written b ++ codes "]"
+  written (Choice c p q) = codes "[" ++ written c ++ codes "?" ++ written p ++ codes ":" ++ written q ++ codes "]"
+  written (Concatenation place parts) = codes "{" ++ all_written parts ++ codes "}"
+  written (Replication place count parts) = codes "{" ++ written count ++ codes "{" ++ all_written parts ++ codes "}}"
+  written (Call place function a) = function_name function ++ codes "(" ++ written a ++ codes ")"
+  written (Brackets place e) = codes "(" ++ written e ++ codes ")"
+
+  all_written : Exprs → List ℕ
+  all_written NoExpr = []
+  all_written (AndExpr e NoExpr) = written e
+  all_written (AndExpr e rest) = written e ++ codes "," ++ all_written rest
+
+-- what the assigns of an item, and of a source, give
+abbrev assigned_by : Item → List Expr
+assigned_by (AssignsItem place assigns) = map (λ (a : Assign). a.e) assigns
+assigned_by _ = []
+
+abbrev pub assigned : Source → List Expr
+assigned source = flat_map (λ (m : Module). flat_map assigned_by (items_list m.items)) source.modules
+
+-- an assign of this expression
+abbrev pub assign_text : List ℕ → List ℕ
+assign_text e = codes "module m; assign y = " ++ e ++ codes "; endmodule"
+
+-- as the right side of an assign, the expression is grouped so
+pub record IsGrouped (e groups : List ℕ) : Type 0 where
+  pub source : Source
+  pub spelled : Spells (assign_text e) source
+  pub grouped : map written (assigned source) ≡ groups ∷ []
+
+-- Table 5-4 from the weakest operator to the strongest and the other way round, then the operators of each level, which associate to the left, and
+-- `?:`, which associates to the right.
+pub record OperatorsAre : Type 0 where
+  pub rising : IsGrouped (codes "a ? b : c || d && e | f ^ g & h == i < j << k + l * -m") (codes "[a?b:[c||[d&&[e|[f^[g&[h==[i<[j<<[k+[l*[-m]]]]]]]]]]]]")
+  pub falling : IsGrouped (codes "-m * l + k << j < i == h & g ^ f | e && d || c ? b : a") (codes "[[[[[[[[[[[[-m]*l]+k]<<j]<i]==h]&g]^f]|e]&&d]||c]?b:a]")
+  pub unaries : IsGrouped (codes "! ~ & a + | ~| b - ^ ~^ c * - + d") (codes "[[[![~[&a]]]+[|[~|b]]]-[[^[~^c]]*[-[+d]]]]")
+  pub joined_unaries : IsGrouped (codes "!~&a-^~^b") (codes "[[![~&a]]-[~^[^b]]]")
+  pub products : IsGrouped (codes "a * b / c % d") (codes "[[[a*b]/c]%d]")
+  pub sums : IsGrouped (codes "a - b + c - d") (codes "[[[a-b]+c]-d]")
+  pub shifts : IsGrouped (codes "a << b >> c <<< d >>> e") (codes "[[[[a<<b]>>c]<<<d]>>>e]")
+  pub relations : IsGrouped (codes "a < b <= c > d >= e") (codes "[[[[a<b]<=c]>d]>=e]")
+  pub equalities : IsGrouped (codes "a == b != c === d !== e") (codes "[[[[a==b]!=c]===d]!==e]")
+  pub ands : IsGrouped (codes "a & b & c") (codes "[[a&b]&c]")
+  pub xors : IsGrouped (codes "a ^ b ~^ c ^~ d") (codes "[[[a^b]~^c]~^d]")
+  pub ors : IsGrouped (codes "a | b | c") (codes "[[a|b]|c]")
+  pub logical_ands : IsGrouped (codes "a && b && c") (codes "[[a&&b]&&c]")
+  pub logical_ors : IsGrouped (codes "a || b || c") (codes "[[a||b]||c]")
+  pub choices : IsGrouped (codes "a ? b : c ? d : e") (codes "[a?b:[c?d:e]]")
+  pub choices_within : IsGrouped (codes "a ? b ? c : d : e") (codes "[a?[b?c:d]:e]")
+  pub brackets : IsGrouped (codes "a - (b - c)") (codes "[a-([b-c])]")
+  pub primaries : IsGrouped (codes "{a, {2{b, 8'h1}}, $signed(c[3:0]), $clog2(d[e])}") (codes "{a,{#{b,#}},$signed(c),$clog2(d)}")
+
+-- ---- depth
+
+-- the text's tokens have a derivation of this depth
+pub record HasDepth (text : List ℕ) (levels : ℕ) : Type 0 where
+  pub source : Source
+  pub spelled : Spells text source
+  pub deep : depth spelled.spelled.derivation ≡ levels
+
+-- Each pair of round brackets of a primary, each operator, select, concatenation, call, statement and generate block is a level; brackets of other
+-- constructs, modules and items are none.
+pub record DepthsAre : Type 0 where
+  pub flat : HasDepth (assign_text (codes "a")) 0
+  pub operator : HasDepth (assign_text (codes "a + b * c")) 2
+  pub chain : HasDepth (assign_text (codes "a + b + c")) 2
+  pub brackets : HasDepth (assign_text (codes "((a))")) 2
+  pub select : HasDepth (assign_text (codes "a[b[c]]")) 2
+  pub parts : HasDepth (assign_text (codes "{2{a, b[c]}}")) 2
+  pub call : HasDepth (assign_text (codes "$signed((a))")) 2
+  pub choice : HasDepth (assign_text (codes "a ? b : c ? d : e")) 2
+  pub statement : HasDepth dangling_text 3
+  pub block : HasDepth dangling_generate_text 2
+
+-- ---- texts that spell nothing
+
+-- the text is cut into tokens, of which this one is the first with which no list goes on
+pub record StopsAt (text : List ℕ) (k : ℕ) : Type 0 where
+  pub tokens : List Token
+  pub cut : cut_text text ≡ Ok tokens
+  pub fault : HasSyntaxFault tokens k
+
+pub record FaultsAre : Type 0 where
+  -- an empty text stops at its end, and so does one that is cut off
+  pub empty : StopsAt [] 0
+  pub cut_off : StopsAt (codes "module top(input clk);") 7
+  -- an `else` too many, and a second default
+  pub surplus_else : StopsAt (codes "module m; always @* if (a) y = b; else y = c; else y = d; endmodule") 19
+  pub second_default : StopsAt (codes "module m; always @* case (a) default: ; b: ; default: ; endcase endmodule") 16
+  -- an operator without its operand, and an assign of an assign
+  pub no_operand : StopsAt (assign_text (codes "a +")) 8
+  pub chained_targets : StopsAt (codes "module m; assign a = b = c; endmodule") 7
+
+-- ---- all of them
+
+pub record TreesAre : Type 0 where
+  pub thin : Spells thin_text thin_source
+  pub dangling : Spells dangling_text dangling_source
+  pub dangling_generate : Spells dangling_generate_text dangling_generate_source
+  pub begin_name : Spells begin_name_text begin_name_source
+  pub block_name : Spells block_name_text block_name_source
+  pub empty : Spells empty_text empty_source
+  pub default : Spells default_text default_source
+  pub header : Spells header_text header_source
+  pub declarations : Spells declarations_text declarations_source
+  pub generate : Spells generate_text generate_source
+  pub selects : Spells selects_text selects_source
+  pub region : Spells region_text region_source

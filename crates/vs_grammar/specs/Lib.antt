@@ -1,0 +1,13 @@
+pub mod Trees
+pub mod Grammars
+pub mod Predictive
+pub mod Laws
+pub mod Kinds
+pub mod Verilog
+pub mod Meaning
+pub mod Spelled
+pub mod SpelledLaws
+pub mod Depths
+pub mod Shapes
+pub mod Examples
+pub mod Precedence

@@ -1,0 +1,533 @@
+-- The grammar of design texts (IEEE 1364-2005, annex A), left-factored so that one token decides at every place. Beside each rule stands what
+-- it says in the standard's notation: `[..]` is optional, `{..}` repeats.
+use Rattle.std.specs.Prelude.{ℕ, Bool, true, false, List, [], ◌∷◌, ◌++◌, slice_get, Option, Some, None}
+use Rattle.vs_lexer.specs.declared.token.TokenKind.{TokenKind}
+use Rattle.vs_lexer.specs.declared.token.TokenKind.TheVariants as kind
+use Rattle.vs_grammar.specs.Grammars.{Phrase, opt, star}
+use Rattle.vs_grammar.specs.Grammars.Phrase.{tok, eps, seq, alt, last, many, post, level, var}
+use Rattle.vs_grammar.specs.Predictive.{Table}
+use Rattle.vs_grammar.specs.Kinds.{number_of, numbers_of, end_of_text}
+
+infixr 30 ◌⨾◌
+abbrev pub ◌⨾◌ : Phrase → Phrase → Phrase
+x ⨾ y = seq x y
+
+infixr 20 ◌∣◌
+abbrev pub ◌∣◌ : Phrase → Phrase → Phrase
+x ∣ y = alt x y
+
+-- ---- the rules
+
+pub data Rule : Type 0 where
+  Source Module HeaderParameters ParameterType ParameterSetting Range Ports Port Direction Names : Rule
+  Item GenerateItem Instance Connections GenerateCaseItem GenerateCaseDefault GenerateCases GenerateBlock : Rule
+  EventControl Event Statement CaseItem CaseDefault Cases Target Select : Rule
+  Primary Unary Product Sum Shift Relation Equality BitAnd BitXor BitOr LogicalAnd LogicalOr Expression : Rule
+  Text : Rule
+
+-- the rules by number
+abbrev pub rules : List Rule
+rules =
+    Source ∷ Module ∷ HeaderParameters ∷ ParameterType ∷ ParameterSetting ∷ Range ∷ Ports ∷ Port ∷ Direction ∷ Names
+    ∷ Item ∷ GenerateItem ∷ Instance ∷ Connections ∷ GenerateCaseItem ∷ GenerateCaseDefault ∷ GenerateCases ∷ GenerateBlock
+    ∷ EventControl ∷ Event ∷ Statement ∷ CaseItem ∷ CaseDefault ∷ Cases ∷ Target ∷ Select
+    ∷ Primary ∷ Unary ∷ Product ∷ Sum ∷ Shift ∷ Relation ∷ Equality ∷ BitAnd ∷ BitXor ∷ BitOr ∷ LogicalAnd ∷ LogicalOr ∷ Expression
+    ∷ Text ∷ []
+
+-- how many there are
+abbrev pub rule_count : ℕ
+rule_count = 40
+
+abbrev pub index_of : Rule → ℕ
+index_of Source = 0
+index_of Module = 1
+index_of HeaderParameters = 2
+index_of ParameterType = 3
+index_of ParameterSetting = 4
+index_of Range = 5
+index_of Ports = 6
+index_of Port = 7
+index_of Direction = 8
+index_of Names = 9
+index_of Item = 10
+index_of GenerateItem = 11
+index_of Instance = 12
+index_of Connections = 13
+index_of GenerateCaseItem = 14
+index_of GenerateCaseDefault = 15
+index_of GenerateCases = 16
+index_of GenerateBlock = 17
+index_of EventControl = 18
+index_of Event = 19
+index_of Statement = 20
+index_of CaseItem = 21
+index_of CaseDefault = 22
+index_of Cases = 23
+index_of Target = 24
+index_of Select = 25
+index_of Primary = 26
+index_of Unary = 27
+index_of Product = 28
+index_of Sum = 29
+index_of Shift = 30
+index_of Relation = 31
+index_of Equality = 32
+index_of BitAnd = 33
+index_of BitXor = 34
+index_of BitOr = 35
+index_of LogicalAnd = 36
+index_of LogicalOr = 37
+index_of Expression = 38
+index_of Text = 39
+
+-- a token, and a rule, as parts of a phrase
+abbrev pub t : TokenKind → Phrase
+t k = tok (number_of k)
+
+abbrev pub r : Rule → Phrase
+r n = var (index_of n)
+
+-- ---- what rules share
+
+-- x {',' x}
+abbrev pub separated : Phrase → Phrase
+separated x = x ⨾ star (t kind.Comma ⨾ x)
+
+-- ['signed'] [range]
+abbrev pub signed_range : Phrase → Phrase
+signed_range x = opt (t kind.KeywordSigned) ⨾ opt (r Range) ⨾ x
+
+-- [':' ID]
+abbrev pub block_name : Phrase
+block_name = opt (t kind.Colon ⨾ t kind.Identifier)
+
+-- 'if' '(' expr ')' x ['else' x], where `else` belongs to the nearest `if`
+abbrev pub conditional : Phrase → Phrase
+conditional x = t kind.KeywordIf ⨾ t kind.OpenParen ⨾ r Expression ⨾ t kind.CloseParen ⨾ x ⨾ last (number_of kind.KeywordElse) x
+
+-- expr {',' expr} ':' x
+abbrev pub case_item : Phrase → Phrase
+case_item x = separated (r Expression) ⨾ t kind.Colon ⨾ x
+
+-- 'default' [':'] x
+abbrev pub case_default : Phrase → Phrase
+case_default x = t kind.KeywordDefault ⨾ opt (t kind.Colon) ⨾ x
+
+-- item {item} with at most one default among them, and not without both
+abbrev pub case_items : Phrase → Phrase → Phrase
+case_items item default = (default ⨾ star item) ∣ (item ⨾ star item ⨾ opt (default ⨾ star item))
+
+-- ID ['=' expr]
+abbrev pub wire_name : Phrase
+wire_name = t kind.Identifier ⨾ opt (t kind.Assign ⨾ r Expression)
+
+-- lval '=' expr
+abbrev pub assignment : Phrase
+assignment = r Target ⨾ t kind.Assign ⨾ r Expression
+
+-- '.' ID '(' [expr] ')'
+abbrev pub named_connection : Phrase
+named_connection = t kind.Dot ⨾ t kind.Identifier ⨾ t kind.OpenParen ⨾ opt (r Expression) ⨾ t kind.CloseParen
+
+-- NUM
+abbrev pub number : Phrase
+number = t kind.Decimal ∣ t kind.Based
+
+-- ID [select]
+abbrev pub selected_name : Phrase
+selected_name = t kind.Identifier ⨾ opt (r Select)
+
+-- the operators of table 5-4, level by level
+abbrev pub unary_operator : Phrase
+unary_operator =
+    t kind.Plus ∣ t kind.Minus ∣ t kind.Bang ∣ t kind.Tilde ∣ t kind.And ∣ t kind.Nand ∣ t kind.Or ∣ t kind.Nor ∣ t kind.Caret ∣ t kind.Xnor
+    ∣ t kind.XnorCaret
+
+abbrev pub product_operator : Phrase
+product_operator = t kind.Star ∣ t kind.Slash ∣ t kind.Percent
+
+abbrev pub sum_operator : Phrase
+sum_operator = t kind.Plus ∣ t kind.Minus
+
+abbrev pub shift_operator : Phrase
+shift_operator = t kind.ShiftLeft ∣ t kind.ShiftRight ∣ t kind.ArithmeticShiftLeft ∣ t kind.ArithmeticShiftRight
+
+abbrev pub relation_operator : Phrase
+relation_operator = t kind.Less ∣ t kind.LessEqual ∣ t kind.Greater ∣ t kind.GreaterEqual
+
+abbrev pub equality_operator : Phrase
+equality_operator = t kind.Equal ∣ t kind.NotEqual ∣ t kind.CaseEqual ∣ t kind.CaseNotEqual
+
+abbrev pub xor_operator : Phrase
+xor_operator = t kind.Caret ∣ t kind.Xnor ∣ t kind.XnorCaret
+
+-- x {operator x}, to the left, each operator a level around what stands before it
+abbrev pub operations : Phrase → Phrase → Phrase
+operations x operator = many true x (operator ⨾ x)
+
+-- ---- the parts of primaries, statements and events
+
+-- '(' expr ')', a level
+abbrev pub brackets : Phrase
+brackets = level (t kind.OpenParen ⨾ r Expression ⨾ t kind.CloseParen)
+
+-- '{' expr {',' expr} '}' '}' | {',' expr} '}', behind '{' expr
+abbrev pub braced : Phrase
+braced = (t kind.OpenBrace ⨾ separated (r Expression) ⨾ t kind.CloseBrace ⨾ t kind.CloseBrace) ∣ (star (t kind.Comma ⨾ r Expression) ⨾ t kind.CloseBrace)
+
+-- '{' expr '{' expr {',' expr} '}' '}' | '{' expr {',' expr} '}', a level
+abbrev pub braces : Phrase
+braces = level (t kind.OpenBrace ⨾ r Expression ⨾ braced)
+
+-- ('$signed' | '$unsigned' | '$clog2') '(' expr ')', a level
+abbrev pub call : Phrase
+call = level ((t kind.SystemSigned ∣ t kind.SystemUnsigned ∣ t kind.SystemClog2) ⨾ t kind.OpenParen ⨾ r Expression ⨾ t kind.CloseParen)
+
+-- [(':' | '+:' | '-:') expr]
+abbrev pub slice_end : Phrase
+slice_end = opt ((t kind.Colon ∣ t kind.PlusColon ∣ t kind.MinusColon) ⨾ r Expression)
+
+-- ('case' | 'casez' | 'casex') '(' expr ')' citem {citem} 'endcase'
+abbrev pub case_statement : Phrase
+case_statement = (t kind.KeywordCase ∣ t kind.KeywordCasez ∣ t kind.KeywordCasex) ⨾ t kind.OpenParen ⨾ r Expression ⨾ t kind.CloseParen ⨾ r Cases ⨾ t kind.KeywordEndCase
+
+-- 'begin' [':' ID] {stmt} 'end'
+abbrev pub sequence : Phrase
+sequence = t kind.KeywordBegin ⨾ block_name ⨾ star (r Statement) ⨾ t kind.KeywordEnd
+
+-- lval ('=' | '<=') expr ';'
+abbrev pub assigned : Phrase
+assigned = r Target ⨾ (t kind.Assign ∣ t kind.LessEqual) ⨾ r Expression ⨾ t kind.Semicolon
+
+-- 'begin' [':' ID] {gitem} 'end'
+abbrev pub block : Phrase
+block = t kind.KeywordBegin ⨾ block_name ⨾ star (r GenerateItem) ⨾ t kind.KeywordEnd
+
+-- '(' ('*' | ev {('or' | ',') ev}) ')'
+abbrev pub event_list : Phrase
+event_list = t kind.OpenParen ⨾ (t kind.Star ∣ (r Event ⨾ star ((t kind.KeywordOr ∣ t kind.Comma) ⨾ r Event))) ⨾ t kind.CloseParen
+
+-- ---- the items that may stand in a generate block
+
+-- 'reg' ['signed'] [range] names ';'
+abbrev pub reg_item : Phrase
+reg_item = t kind.KeywordReg ⨾ signed_range (r Names ⨾ t kind.Semicolon)
+
+-- 'wire' ['signed'] [range] ID ['=' expr] {',' ID ['=' expr]} ';'
+abbrev pub wire_item : Phrase
+wire_item = t kind.KeywordWire ⨾ signed_range (separated wire_name ⨾ t kind.Semicolon)
+
+-- 'localparam' ptype pset {',' pset} ';'
+abbrev pub local_item : Phrase
+local_item = t kind.KeywordLocalParam ⨾ r ParameterType ⨾ separated (r ParameterSetting) ⨾ t kind.Semicolon
+
+-- 'assign' lval '=' expr {',' lval '=' expr} ';'
+abbrev pub assign_item : Phrase
+assign_item = t kind.KeywordAssign ⨾ separated assignment ⨾ t kind.Semicolon
+
+-- 'always' event stmt
+abbrev pub always_item : Phrase
+always_item = t kind.KeywordAlways ⨾ r EventControl ⨾ r Statement
+
+-- 'genvar' names ';'
+abbrev pub genvar_item : Phrase
+genvar_item = t kind.KeywordGenvar ⨾ r Names ⨾ t kind.Semicolon
+
+-- ['#' '(' conns ')']
+abbrev pub overrides : Phrase
+overrides = opt (t kind.Hash ⨾ t kind.OpenParen ⨾ r Connections ⨾ t kind.CloseParen)
+
+-- ID ['#' '(' conns ')'] inst {',' inst} ';'
+abbrev pub instance_item : Phrase
+instance_item = t kind.Identifier ⨾ overrides ⨾ separated (r Instance) ⨾ t kind.Semicolon
+
+-- 'for' '(' ID '=' expr ';' expr ';' ID '=' expr ')' gblock
+abbrev pub for_item : Phrase
+for_item =
+    t kind.KeywordFor ⨾ t kind.OpenParen ⨾ t kind.Identifier ⨾ t kind.Assign ⨾ r Expression ⨾ t kind.Semicolon ⨾ r Expression ⨾ t kind.Semicolon
+    ⨾ t kind.Identifier ⨾ t kind.Assign ⨾ r Expression ⨾ t kind.CloseParen ⨾ r GenerateBlock
+
+-- 'if' '(' expr ')' gblock ['else' gblock]
+abbrev pub if_item : Phrase
+if_item = conditional (r GenerateBlock)
+
+-- 'case' '(' expr ')' gcases 'endcase'
+abbrev pub generate_case : Phrase
+generate_case = t kind.KeywordCase ⨾ t kind.OpenParen ⨾ r Expression ⨾ t kind.CloseParen ⨾ r GenerateCases ⨾ t kind.KeywordEndCase
+
+-- ---- what each rule is
+
+abbrev pub phrase_of : Rule → Phrase
+-- module {module}
+phrase_of Source = r Module ⨾ star (r Module)
+-- 'module' ID ['#' '(' hpar ')'] ['(' [ports] ')'] ';' {item} 'endmodule'
+phrase_of Module =
+    t kind.KeywordModule ⨾ t kind.Identifier
+    ⨾ opt (t kind.Hash ⨾ t kind.OpenParen ⨾ r HeaderParameters ⨾ t kind.CloseParen)
+    ⨾ opt (t kind.OpenParen ⨾ opt (r Ports) ⨾ t kind.CloseParen)
+    ⨾ t kind.Semicolon ⨾ star (r Item) ⨾ t kind.KeywordEndModule
+-- 'parameter' ptype pset {',' ['parameter' ptype] pset}
+phrase_of HeaderParameters =
+    t kind.KeywordParameter ⨾ r ParameterType ⨾ r ParameterSetting
+    ⨾ star (t kind.Comma ⨾ ((t kind.KeywordParameter ⨾ r ParameterType ⨾ r ParameterSetting) ∣ r ParameterSetting))
+-- ['signed'] [range]
+phrase_of ParameterType = opt (t kind.KeywordSigned) ⨾ opt (r Range)
+-- ID '=' expr
+phrase_of ParameterSetting = t kind.Identifier ⨾ t kind.Assign ⨾ r Expression
+-- '[' expr ':' expr ']'
+phrase_of Range = t kind.OpenBracket ⨾ r Expression ⨾ t kind.Colon ⨾ r Expression ⨾ t kind.CloseBracket
+-- ID {',' ID} | port {',' (port | ID)}
+phrase_of Ports = separated (t kind.Identifier) ∣ (r Port ⨾ star (t kind.Comma ⨾ (r Port ∣ t kind.Identifier)))
+-- dir ['signed'] [range] ID
+phrase_of Port = r Direction ⨾ signed_range (t kind.Identifier)
+-- 'input' ['wire'] | 'output' ['wire' | 'reg']
+phrase_of Direction = (t kind.KeywordInput ⨾ opt (t kind.KeywordWire)) ∣ (t kind.KeywordOutput ⨾ opt (t kind.KeywordWire ∣ t kind.KeywordReg))
+-- ID {',' ID}
+phrase_of Names = separated (t kind.Identifier)
+-- dir ['signed'] [range] names ';' | 'parameter' ptype pset {',' pset} ';' | 'generate' {gitem} 'endgenerate' | gitem
+phrase_of Item =
+    (r Direction ⨾ signed_range (r Names ⨾ t kind.Semicolon))
+    ∣ (t kind.KeywordParameter ⨾ r ParameterType ⨾ separated (r ParameterSetting) ⨾ t kind.Semicolon)
+    ∣ (t kind.KeywordGenerate ⨾ star (r GenerateItem) ⨾ t kind.KeywordEndGenerate)
+    ∣ r GenerateItem
+-- declarations of signals, of local parameters and of genvars, assigns, blocks, instances, and generate constructs
+phrase_of GenerateItem = reg_item ∣ wire_item ∣ local_item ∣ assign_item ∣ always_item ∣ genvar_item ∣ instance_item ∣ for_item ∣ if_item ∣ generate_case
+-- ID '(' conns ')'
+phrase_of Instance = t kind.Identifier ⨾ t kind.OpenParen ⨾ r Connections ⨾ t kind.CloseParen
+-- named {',' named} | [expr] {',' [expr]}
+phrase_of Connections = separated named_connection ∣ separated (opt (r Expression))
+-- expr {',' expr} ':' gblock
+phrase_of GenerateCaseItem = case_item (r GenerateBlock)
+-- 'default' [':'] gblock
+phrase_of GenerateCaseDefault = case_default (r GenerateBlock)
+-- gcase {gcase}, with one default at most
+phrase_of GenerateCases = case_items (r GenerateCaseItem) (r GenerateCaseDefault)
+-- 'begin' [':' ID] {gitem} 'end' | gitem | ';'; a level
+phrase_of GenerateBlock = level (block ∣ r GenerateItem ∣ t kind.Semicolon)
+-- '@' ID | '@' '*' | '@' '(' '*' ')' | '@' '(' ev {('or' | ',') ev} ')'
+phrase_of EventControl = t kind.At ⨾ (t kind.Identifier ∣ t kind.Star ∣ event_list)
+-- ['posedge' | 'negedge'] ID
+phrase_of Event = opt (t kind.KeywordPosedge ∣ t kind.KeywordNegedge) ⨾ t kind.Identifier
+-- ';' | 'if' '(' expr ')' stmt ['else' stmt] | ('case' | 'casez' | 'casex') '(' expr ')' cases 'endcase' | 'begin' [':' ID] {stmt} 'end'
+-- | lval ('=' | '<=') expr ';'; a level
+phrase_of Statement = level (t kind.Semicolon ∣ conditional (r Statement) ∣ case_statement ∣ sequence ∣ assigned)
+-- expr {',' expr} ':' stmt
+phrase_of CaseItem = case_item (r Statement)
+-- 'default' [':'] stmt
+phrase_of CaseDefault = case_default (r Statement)
+-- citem {citem}, with one default at most
+phrase_of Cases = case_items (r CaseItem) (r CaseDefault)
+-- ID [select] | '{' lval {',' lval} '}', the second a level
+phrase_of Target = selected_name ∣ level (t kind.OpenBrace ⨾ separated (r Target) ⨾ t kind.CloseBrace)
+-- '[' expr [(':' | '+:' | '-:') expr] ']'; a level
+phrase_of Select = level (t kind.OpenBracket ⨾ r Expression ⨾ slice_end ⨾ t kind.CloseBracket)
+-- NUM | ID [select] | '(' expr ')' | '{' expr ('{' expr {',' expr} '}' '}' | {',' expr} '}') | ('$signed' | '$unsigned' | '$clog2') '(' expr ')';
+-- each of the last three a level
+phrase_of Primary = number ∣ selected_name ∣ brackets ∣ braces ∣ call
+-- ('+' | '-' | '!' | '~' | '&' | '~&' | '|' | '~|' | '^' | '~^' | '^~') unary | prim, the first a level
+phrase_of Unary = level (unary_operator ⨾ r Unary) ∣ r Primary
+-- unary {('*' | '/' | '%') unary}
+phrase_of Product = operations (r Unary) product_operator
+-- product {('+' | '-') product}
+phrase_of Sum = operations (r Product) sum_operator
+-- sum {('<<' | '>>' | '<<<' | '>>>') sum}
+phrase_of Shift = operations (r Sum) shift_operator
+-- shift {('<' | '<=' | '>' | '>=') shift}
+phrase_of Relation = operations (r Shift) relation_operator
+-- relation {('==' | '!=' | '===' | '!==') relation}
+phrase_of Equality = operations (r Relation) equality_operator
+-- equality {'&' equality}
+phrase_of BitAnd = operations (r Equality) (t kind.And)
+-- and {('^' | '~^' | '^~') and}
+phrase_of BitXor = operations (r BitAnd) xor_operator
+-- xor {'|' xor}
+phrase_of BitOr = operations (r BitXor) (t kind.Or)
+-- or {'&&' or}
+phrase_of LogicalAnd = operations (r BitOr) (t kind.AndAnd)
+-- both {'||' both}
+phrase_of LogicalOr = operations (r LogicalAnd) (t kind.OrOr)
+-- either ['?' expr ':' expr], a level around all of it
+phrase_of Expression = post (r LogicalOr) (t kind.Question ⨾ r Expression ⨾ t kind.Colon ⨾ r Expression)
+-- source, and the end
+phrase_of Text = r Source ⨾ tok end_of_text
+
+-- ---- what a rule's lists can begin with, and what can follow them
+
+abbrev pub derives_nothing : Rule → Bool
+derives_nothing ParameterType = true
+derives_nothing Connections = true
+derives_nothing _ = false
+
+abbrev pub primary_firsts : List TokenKind
+primary_firsts =
+    kind.Identifier ∷ kind.Decimal ∷ kind.Based ∷ kind.OpenParen ∷ kind.OpenBrace ∷ kind.SystemSigned ∷ kind.SystemUnsigned ∷ kind.SystemClog2 ∷ []
+
+abbrev pub expression_firsts : List TokenKind
+expression_firsts =
+    primary_firsts
+    ++ kind.Plus ∷ kind.Minus ∷ kind.Bang ∷ kind.Tilde ∷ kind.And ∷ kind.Nand ∷ kind.Or ∷ kind.Nor ∷ kind.Caret ∷ kind.Xnor ∷ kind.XnorCaret ∷ []
+
+abbrev pub generate_item_firsts : List TokenKind
+generate_item_firsts =
+    kind.Identifier ∷ kind.KeywordReg ∷ kind.KeywordWire ∷ kind.KeywordLocalParam ∷ kind.KeywordAssign ∷ kind.KeywordAlways ∷ kind.KeywordGenvar
+    ∷ kind.KeywordFor ∷ kind.KeywordIf ∷ kind.KeywordCase ∷ []
+
+abbrev pub item_firsts : List TokenKind
+item_firsts = kind.KeywordInput ∷ kind.KeywordOutput ∷ kind.KeywordParameter ∷ kind.KeywordGenerate ∷ generate_item_firsts
+
+abbrev pub statement_firsts : List TokenKind
+statement_firsts =
+    kind.Identifier ∷ kind.OpenBrace ∷ kind.Semicolon ∷ kind.KeywordIf ∷ kind.KeywordCase ∷ kind.KeywordCasez ∷ kind.KeywordCasex ∷ kind.KeywordBegin ∷ []
+
+abbrev pub firsts_of_rule : Rule → List TokenKind
+firsts_of_rule Source = kind.KeywordModule ∷ []
+firsts_of_rule Module = kind.KeywordModule ∷ []
+firsts_of_rule HeaderParameters = kind.KeywordParameter ∷ []
+firsts_of_rule ParameterType = kind.KeywordSigned ∷ kind.OpenBracket ∷ []
+firsts_of_rule ParameterSetting = kind.Identifier ∷ []
+firsts_of_rule Range = kind.OpenBracket ∷ []
+firsts_of_rule Ports = kind.Identifier ∷ kind.KeywordInput ∷ kind.KeywordOutput ∷ []
+firsts_of_rule Port = kind.KeywordInput ∷ kind.KeywordOutput ∷ []
+firsts_of_rule Direction = kind.KeywordInput ∷ kind.KeywordOutput ∷ []
+firsts_of_rule Names = kind.Identifier ∷ []
+firsts_of_rule Item = item_firsts
+firsts_of_rule GenerateItem = generate_item_firsts
+firsts_of_rule Instance = kind.Identifier ∷ []
+firsts_of_rule Connections = kind.Dot ∷ kind.Comma ∷ expression_firsts
+firsts_of_rule GenerateCaseItem = expression_firsts
+firsts_of_rule GenerateCaseDefault = kind.KeywordDefault ∷ []
+firsts_of_rule GenerateCases = kind.KeywordDefault ∷ expression_firsts
+firsts_of_rule GenerateBlock = kind.KeywordBegin ∷ kind.Semicolon ∷ generate_item_firsts
+firsts_of_rule EventControl = kind.At ∷ []
+firsts_of_rule Event = kind.Identifier ∷ kind.KeywordPosedge ∷ kind.KeywordNegedge ∷ []
+firsts_of_rule Statement = statement_firsts
+firsts_of_rule CaseItem = expression_firsts
+firsts_of_rule CaseDefault = kind.KeywordDefault ∷ []
+firsts_of_rule Cases = kind.KeywordDefault ∷ expression_firsts
+firsts_of_rule Target = kind.Identifier ∷ kind.OpenBrace ∷ []
+firsts_of_rule Select = kind.OpenBracket ∷ []
+firsts_of_rule Primary = primary_firsts
+firsts_of_rule Text = kind.KeywordModule ∷ []
+firsts_of_rule _ = expression_firsts
+
+-- what follows an expression, and, level by level, what follows its operands
+abbrev pub after_expression : List TokenKind
+after_expression =
+    kind.CloseParen ∷ kind.CloseBracket ∷ kind.OpenBrace ∷ kind.CloseBrace ∷ kind.Semicolon ∷ kind.Colon ∷ kind.Comma ∷ kind.PlusColon ∷ kind.MinusColon ∷ []
+
+abbrev pub after_either : List TokenKind
+after_either = kind.Question ∷ after_expression
+
+abbrev pub after_both : List TokenKind
+after_both = kind.OrOr ∷ after_either
+
+abbrev pub after_or : List TokenKind
+after_or = kind.AndAnd ∷ after_both
+
+abbrev pub after_xor : List TokenKind
+after_xor = kind.Or ∷ after_or
+
+abbrev pub after_and : List TokenKind
+after_and = kind.Caret ∷ kind.Xnor ∷ kind.XnorCaret ∷ after_xor
+
+abbrev pub after_equality : List TokenKind
+after_equality = kind.And ∷ after_and
+
+abbrev pub after_relation : List TokenKind
+after_relation = kind.Equal ∷ kind.NotEqual ∷ kind.CaseEqual ∷ kind.CaseNotEqual ∷ after_equality
+
+abbrev pub after_shift : List TokenKind
+after_shift = kind.Less ∷ kind.LessEqual ∷ kind.Greater ∷ kind.GreaterEqual ∷ after_relation
+
+abbrev pub after_sum : List TokenKind
+after_sum = kind.ShiftLeft ∷ kind.ShiftRight ∷ kind.ArithmeticShiftLeft ∷ kind.ArithmeticShiftRight ∷ after_shift
+
+abbrev pub after_product : List TokenKind
+after_product = kind.Plus ∷ kind.Minus ∷ after_sum
+
+abbrev pub after_unary : List TokenKind
+after_unary = kind.Star ∷ kind.Slash ∷ kind.Percent ∷ after_product
+
+-- what follows an item of a generate block
+abbrev pub after_generate_item : List TokenKind
+after_generate_item =
+    kind.KeywordEndModule ∷ kind.KeywordEndGenerate ∷ kind.KeywordEnd ∷ kind.KeywordElse ∷ kind.KeywordEndCase ∷ kind.KeywordDefault ∷ item_firsts ++ expression_firsts
+
+abbrev pub follows_of_rule : Rule → List TokenKind
+follows_of_rule Source = []
+follows_of_rule Module = kind.KeywordModule ∷ []
+follows_of_rule HeaderParameters = kind.CloseParen ∷ []
+follows_of_rule ParameterType = kind.Identifier ∷ []
+follows_of_rule ParameterSetting = kind.CloseParen ∷ kind.Semicolon ∷ kind.Comma ∷ []
+follows_of_rule Range = kind.Identifier ∷ []
+follows_of_rule Ports = kind.CloseParen ∷ []
+follows_of_rule Port = kind.CloseParen ∷ kind.Comma ∷ []
+follows_of_rule Direction = kind.Identifier ∷ kind.KeywordSigned ∷ kind.OpenBracket ∷ []
+follows_of_rule Names = kind.Semicolon ∷ []
+follows_of_rule Item = kind.KeywordEndModule ∷ item_firsts
+follows_of_rule GenerateItem = after_generate_item
+follows_of_rule Instance = kind.Semicolon ∷ kind.Comma ∷ []
+follows_of_rule Connections = kind.CloseParen ∷ []
+follows_of_rule GenerateCaseItem = kind.KeywordEndCase ∷ kind.KeywordDefault ∷ expression_firsts
+follows_of_rule GenerateCaseDefault = kind.KeywordEndCase ∷ expression_firsts
+follows_of_rule GenerateCases = kind.KeywordEndCase ∷ []
+follows_of_rule GenerateBlock = after_generate_item
+follows_of_rule EventControl = statement_firsts
+follows_of_rule Event = kind.CloseParen ∷ kind.Comma ∷ kind.KeywordOr ∷ []
+follows_of_rule Statement = statement_firsts ++ after_generate_item
+follows_of_rule CaseItem = kind.KeywordEndCase ∷ kind.KeywordDefault ∷ expression_firsts
+follows_of_rule CaseDefault = kind.KeywordEndCase ∷ expression_firsts
+follows_of_rule Cases = kind.KeywordEndCase ∷ []
+follows_of_rule Target = kind.CloseBrace ∷ kind.Comma ∷ kind.Assign ∷ kind.LessEqual ∷ []
+follows_of_rule Select = kind.Assign ∷ after_unary
+follows_of_rule Primary = after_unary
+follows_of_rule Unary = after_unary
+follows_of_rule Product = after_product
+follows_of_rule Sum = after_sum
+follows_of_rule Shift = after_shift
+follows_of_rule Relation = after_relation
+follows_of_rule Equality = after_equality
+follows_of_rule BitAnd = after_and
+follows_of_rule BitXor = after_xor
+follows_of_rule BitOr = after_or
+follows_of_rule LogicalAnd = after_both
+follows_of_rule LogicalOr = after_either
+follows_of_rule Expression = after_expression
+follows_of_rule Text = []
+
+-- the end of the text follows the modules
+abbrev pub can_be_last : Rule → Bool
+can_be_last Source = true
+can_be_last Module = true
+can_be_last _ = false
+
+-- ---- the table
+
+-- rule n; past the last one there is nothing
+abbrev pub rule_phrase : Option Rule → Phrase
+rule_phrase None = eps
+rule_phrase (Some n) = phrase_of n
+
+abbrev pub rule_is_empty : Option Rule → Bool
+rule_is_empty None = true
+rule_is_empty (Some n) = derives_nothing n
+
+abbrev pub rule_firsts : Option Rule → List ℕ
+rule_firsts None = []
+rule_firsts (Some n) = numbers_of (firsts_of_rule n)
+
+abbrev pub end_if : Bool → List ℕ
+end_if true = end_of_text ∷ []
+end_if false = []
+
+abbrev pub rule_follows : Option Rule → List ℕ
+rule_follows None = []
+rule_follows (Some n) = end_if (can_be_last n) ++ numbers_of (follows_of_rule n)
+
+abbrev pub verilog : Table
+verilog = record {
+  rule = λ n. rule_phrase (slice_get rules n);
+  empties = λ n. rule_is_empty (slice_get rules n);
+  firsts = λ n. rule_firsts (slice_get rules n);
+  follows = λ n. rule_follows (slice_get rules n);
+}
