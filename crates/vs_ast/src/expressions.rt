@@ -1,0 +1,253 @@
+//! Expressions (IEEE 1364-2005, A.8).
+
+ghost use Rattle.std.specs.Prelude.{◌≡◌, IfOk};
+ghost use Rattle.vs_grammar.specs.Trees as tree;
+ghost use Rattle.vs_ast.specs.Views.{binary_op, expr, exprs, select, slice_kind, system_function, unary_op};
+
+use crate::names::{Literal, Name};
+use std::alloc::{AllocError, Global};
+
+/// The operators before an operand (5.1). `ReduceXnor` is `~^` and `^~`.
+#[derive(Clone, Copy, Debug)]
+pub enum UnaryOp {
+    Plus,
+    Minus,
+    BitNot,
+    LogicalNot,
+    ReduceAnd,
+    ReduceNand,
+    ReduceOr,
+    ReduceNor,
+    ReduceXor,
+    ReduceXnor,
+}
+
+/// The operators between two operands (5.1). `BitXnor` is `~^` and `^~`.
+#[derive(Clone, Copy, Debug)]
+pub enum BinaryOp {
+    Add,
+    Subtract,
+    Multiply,
+    Divide,
+    Remainder,
+    BitAnd,
+    BitOr,
+    BitXor,
+    BitXnor,
+    Less,
+    LessEqual,
+    Greater,
+    GreaterEqual,
+    Equal,
+    NotEqual,
+    CaseEqual,
+    CaseNotEqual,
+    LogicalAnd,
+    LogicalOr,
+    ShiftLeft,
+    ShiftRight,
+    ShiftLeftArith,
+    ShiftRightArith,
+}
+
+/// `$signed`, `$unsigned` (5.5) and `$clog2` (17.11).
+#[derive(Clone, Copy, Debug)]
+pub enum SystemFunction {
+    AsSigned,
+    AsUnsigned,
+    Clog2,
+}
+
+/// `[a:b]`, `[a +: b]` and `[a -: b]` (5.2.1).
+#[derive(Clone, Copy, Debug)]
+pub enum SliceKind {
+    Between,
+    Upward,
+    Downward,
+}
+
+/// An expression. `place` is the place of its first token.
+#[cycle(expressions)]
+#[derive(Drop)]
+pub enum Expr {
+    Number(Literal),
+    /// A name, with what is selected of it.
+    Named(Name, Select),
+    Unary {
+        place: u32,
+        op: UnaryOp,
+        operand: Box<Expr>,
+    },
+    Binary {
+        op: BinaryOp,
+        left: Box<Expr>,
+        right: Box<Expr>,
+    },
+    /// `condition ? yes : no` (5.1.13).
+    Choice {
+        condition: Box<Expr>,
+        yes: Box<Expr>,
+        no: Box<Expr>,
+    },
+    /// `{a, b, ..}` (5.1.14).
+    Concatenation {
+        place: u32,
+        parts: Vec<Expr>,
+    },
+    /// `{count{a, b, ..}}`.
+    Replication {
+        place: u32,
+        count: Box<Expr>,
+        parts: Vec<Expr>,
+    },
+    Call {
+        place: u32,
+        function: SystemFunction,
+        operand: Box<Expr>,
+    },
+    /// `(inner)`.
+    Brackets {
+        place: u32,
+        inner: Box<Expr>,
+    },
+}
+
+/// All of a name, one bit, or several (5.2.1). `bracket` is the place of the `[`.
+#[cycle(expressions)]
+#[derive(Drop)]
+pub enum Select {
+    Whole,
+    Bit {
+        bracket: u32,
+        index: Box<Expr>,
+    },
+    Slice {
+        bracket: u32,
+        kind: SliceKind,
+        left: Box<Expr>,
+        right: Box<Expr>,
+    },
+}
+
+impl Expr {
+    /// The operation on one expression.
+    pub fn new_unary(
+        alloc: Global,
+        place: u32,
+        op: UnaryOp,
+        operand: Expr,
+    ) -> Result<Expr, AllocError>
+        ensures { IfOk result (λ e. expr e ≡ tree.Unary place (unary_op op) (expr operand)) }
+    {
+        let operand = Box::new(alloc, operand)?;
+        Ok(Expr::Unary { place, op, operand })
+    }
+
+    /// The operation on two expressions.
+    pub fn new_binary(
+        alloc: Global,
+        op: BinaryOp,
+        left: Expr,
+        right: Expr,
+    ) -> Result<Expr, AllocError>
+        ensures { IfOk result (λ e. expr e ≡ tree.Binary (binary_op op) (expr left) (expr right)) }
+    {
+        let left = Box::new(alloc, left)?;
+        let right = Box::new(alloc, right)?;
+        Ok(Expr::Binary { op, left, right })
+    }
+
+    /// The choice between two expressions.
+    pub fn new_choice(
+        alloc: Global,
+        condition: Expr,
+        yes: Expr,
+        no: Expr,
+    ) -> Result<Expr, AllocError>
+        ensures { IfOk result (λ e. expr e ≡ tree.Choice (expr condition) (expr yes) (expr no)) }
+    {
+        let condition = Box::new(alloc, condition)?;
+        let yes = Box::new(alloc, yes)?;
+        let no = Box::new(alloc, no)?;
+        Ok(Expr::Choice { condition, yes, no })
+    }
+
+    /// These parts in braces.
+    pub fn new_concatenation(place: u32, parts: Vec<Expr>) -> Expr
+        ensures { expr result ≡ tree.Concatenation place (exprs parts.items) }
+    {
+        Expr::Concatenation { place, parts }
+    }
+
+    /// These parts in braces, so many times.
+    pub fn new_replication(
+        alloc: Global,
+        place: u32,
+        count: Expr,
+        parts: Vec<Expr>,
+    ) -> Result<Expr, AllocError>
+        ensures { IfOk result (λ e. expr e ≡ tree.Replication place (expr count) (exprs parts.items)) }
+    {
+        let count = Box::new(alloc, count)?;
+        Ok(Expr::Replication {
+            place,
+            count,
+            parts,
+        })
+    }
+
+    /// The call of a system function.
+    pub fn new_call(
+        alloc: Global,
+        place: u32,
+        function: SystemFunction,
+        operand: Expr,
+    ) -> Result<Expr, AllocError>
+        ensures { IfOk result (λ e. expr e ≡ tree.Call place (system_function function) (expr operand)) }
+    {
+        let operand = Box::new(alloc, operand)?;
+        Ok(Expr::Call {
+            place,
+            function,
+            operand,
+        })
+    }
+
+    /// The expression in round brackets.
+    pub fn new_brackets(alloc: Global, place: u32, inner: Expr) -> Result<Expr, AllocError>
+        ensures { IfOk result (λ e. expr e ≡ tree.Brackets place (expr inner)) }
+    {
+        let inner = Box::new(alloc, inner)?;
+        Ok(Expr::Brackets { place, inner })
+    }
+}
+
+impl Select {
+    /// One bit.
+    pub fn new_bit(alloc: Global, bracket: u32, index: Expr) -> Result<Select, AllocError>
+        ensures { IfOk result (λ s. select s ≡ tree.BitAt bracket (expr index)) }
+    {
+        let index = Box::new(alloc, index)?;
+        Ok(Select::Bit { bracket, index })
+    }
+
+    /// Several bits.
+    pub fn new_slice(
+        alloc: Global,
+        bracket: u32,
+        kind: SliceKind,
+        left: Expr,
+        right: Expr,
+    ) -> Result<Select, AllocError>
+        ensures { IfOk result (λ s. select s ≡ tree.Slice bracket (slice_kind kind) (expr left) (expr right)) }
+    {
+        let left = Box::new(alloc, left)?;
+        let right = Box::new(alloc, right)?;
+        Ok(Select::Slice {
+            bracket,
+            kind,
+            left,
+            right,
+        })
+    }
+}

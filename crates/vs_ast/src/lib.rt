@@ -1,0 +1,18 @@
+//! The syntax tree of a design text (IEEE 1364-2005, annex A). A place is the number of a token, from 0 on.
+#![tactic(auto)]
+
+mod expressions;
+mod items;
+mod modules;
+mod names;
+mod statements;
+
+pub use expressions::{BinaryOp, Expr, Select, SliceKind, SystemFunction, UnaryOp};
+pub use items::{
+    AlwaysBlock, Assign, Connections, Declarator, Edge, Event, EventControl, GenerateArm,
+    GenerateBlock, GenerateHead, Instance, Instances, Item, NamedConnection, Parameters, Range,
+    Setting, SignalKind, Signals,
+};
+pub use modules::{Header, Module, Source};
+pub use names::{Literal, Name, Text};
+pub use statements::{CaseArm, CaseKind, Statement, Target};
