@@ -1,0 +1,73 @@
+-- What pieces of declarations and event controls stand for.
+use Rattle.std.proofs.Common.{◌≡◌, ℕ, Bool, true, false, List, [], ◌∷◌, ◌++◌, map, append-nil, refl, sym, ◌∙◌, ap, arith, ◌+◌, ◌<◌, ◌≤◌, length}
+use Rattle.std.specs.Prelude.{Option, Some, None}
+use Rattle.vs_lexer.specs.declared.token.Token.{Token}
+use Rattle.vs_lexer.specs.declared.token.TokenKind.TheVariants as kind
+use Rattle.vs_grammar.specs.Grammars.{Phrase, Terminal, onto, opt, star}
+use Rattle.vs_grammar.specs.Grammars.Tree.{leaf, nothing, both, former, latter, named}
+use Rattle.vs_grammar.specs.Predictive.{can_be_empty}
+use Rattle.vs_grammar.specs.Verilog.{◌⨾◌, verilog, t, r}
+use Rattle.vs_grammar.specs.Verilog.{Rule as rule}
+use Rattle.vs_grammar.specs.Trees as tree
+use Rattle.vs_grammar.specs.Trees.{Expr}
+use Rattle.vs_grammar.specs.Meaning as meaning
+use Rattle.vs_grammar.specs.Meaning.{D, is_there, first_place, head_place, each_onto, behind_sign}
+use Rattle.vs_grammar.proofs.Stopped.{says, onto_front}
+use Rattle.vs_ast.specs.declared.items.Event.{Event}
+use Rattle.vs_ast.specs.declared.items.SignalKind.{SignalKind}
+use Rattle.vs_ast.specs.Views as view
+use Rattle.vs_parser.specs.Parts as part
+use Rattle.vs_parser.specs.Reading.{kind_at, from, terminal_at, Read}
+use Rattle.vs_parser.proofs.Places.{from_head, later}
+use Rattle.vs_parser.proofs.Lists.{some}
+
+-- what is read from place i on has its first token there
+pub first_is : {ts : List Token} {d : ℕ} {x : Phrase} {a : D x} {i j : ℕ} → Read ts d x a i j → can_be_empty verilog x ≡ false → first_place a ≡ i
+first_is {ts} {d} {x} {a} {i} {j} p e = go (onto a []) (some a e) (sym (onto_front a (from ts j)) ∙ (says verilog p.reads).text ∙ from_head ts i)
+  where
+    head_of : {u v : Terminal} {us vs : List Terminal} → u ∷ us ≡ v ∷ vs → u ≡ v
+    head_of e = cc
+
+    go : (l : List Terminal) → 0 < length l → l ++ from ts j ≡ terminal_at ts i ∷ later ts i → head_place l ≡ i
+    go [] h q = absurd (omega arith)
+    go (u ∷ l) h q = ap (λ (z : Terminal). z.place) (head_of q)
+
+pub input_made : (d : D (t kind.KeywordInput)) (w : D (opt (t kind.KeywordWire))) (b : Bool) (k : SignalKind) → is_there w ≡ b → view.signal_kind k ≡ part.input_kind b → meaning.port_kind (part.as_input (both d w)) ≡ view.signal_kind k
+input_made d (former w) b k e f = ap part.input_kind e ∙ sym f
+input_made d (latter z) b k e f = ap part.input_kind e ∙ sym f
+
+pub output_made : (b : ℕ → List ℕ) (d : D (t kind.KeywordOutput)) (w : D part.output_words) (k : SignalKind) → part.output_kind b w ≡ view.signal_kind k → meaning.port_kind (part.as_output (both d w)) ≡ view.signal_kind k
+output_made b d (former (former w)) k e = e
+output_made b d (former (latter w)) k e = e
+output_made b d (latter z) k e = e
+
+-- ---- connections
+
+pub is_ordered : (b : ℕ → List ℕ) (list : List (Option Expr)) → meaning.by_order b list ≡ part.by_order list
+is_ordered b [] = refl
+is_ordered b (None ∷ []) = refl
+is_ordered b (None ∷ x ∷ rest) = refl
+is_ordered b (Some e ∷ rest) = refl
+
+pub ordered_nothing : (list : List (Option Expr)) → part.is_nothing list ≡ true → tree.Unconnected ≡ part.by_order list
+ordered_nothing [] e = cc
+ordered_nothing (None ∷ []) e = refl
+ordered_nothing (None ∷ x ∷ rest) e = cc
+ordered_nothing (Some x ∷ rest) e = cc
+
+pub ordered_some : (list : List (Option Expr)) → part.is_nothing list ≡ false → tree.ByOrder list ≡ part.by_order list
+ordered_some [] e = refl
+ordered_some (None ∷ []) e = cc
+ordered_some (None ∷ x ∷ rest) e = refl
+ordered_some (Some x ∷ rest) e = refl
+
+-- ---- event controls
+
+pub control_made : (b : ℕ → List ℕ) (a : D (t kind.At)) (c : D part.control) → meaning.control_of b (named (both a c)) ≡ part.control_of b c
+control_made b a (former n) = refl
+control_made b a (latter (former s)) = refl
+control_made b a (latter (latter (both o (both (former s) z)))) = refl
+control_made b a (latter (latter (both o (both (latter (both e l)) z)))) = refl
+
+pub events_made : (b : ℕ → List ℕ) (e : D (r rule.Event)) (l : D part.events_behind) (first : Event) (begun list : List Event) → meaning.event_of b e ≡ view.event first → begun ≡ first ∷ [] → map view.event begun ++ each_onto (behind_sign (meaning.event_of b)) l [] ≡ map view.event list → part.events_of b (both e l) ≡ map view.event list
+events_made b e l first begun list p q m = ap (λ z. z ∷ each_onto (behind_sign (meaning.event_of b)) l []) p ∙ ap (λ z. map view.event z ++ each_onto (behind_sign (meaning.event_of b)) l []) (sym q) ∙ m

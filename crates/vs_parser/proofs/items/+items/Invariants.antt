@@ -1,0 +1,57 @@
+use Rattle.std.proofs.Common.{◌≡◌, ℕ, ◌+◌, ◌-◌, ◌*◌, length, map, List, [], ◌∷◌, ◌++◌}
+use Rattle.vs_lexer.specs.declared.token.TokenKind.TheVariants as kind
+use Rattle.vs_grammar.specs.Verilog.{Rule as rule, r, t}
+use Rattle.vs_grammar.specs.Trees as tree
+use Rattle.vs_grammar.specs.Meaning as meaning
+use Rattle.vs_ast.specs.Views as view
+use Rattle.vs_parser.specs.Parts as part
+use Rattle.vs_parser.specs.Reading.{Listed, Listing, ItemsGrown, bytes_in}
+use Rattle.vs_parser.proofs.items.+items.Given as goal
+
+abbrev pub invariant-generate_arms-loop-list : goal.invariant-generate_arms-loop-list
+invariant-generate_arms-loop-list l = Listing l.input (r rule.GenerateCaseItem) part.generate_arm_of part.generate_arm_view l.depth l.fn.before.items l.fn.at l.list.items l.to
+
+abbrev pub decreases-generate_arms-loop-list : goal.decreases-generate_arms-loop-list
+decreases-generate_arms-loop-list l = length l.input.tokens.now - l.to
+
+abbrev pub invariant-generate_items-loop-list : goal.invariant-generate_items-loop-list
+invariant-generate_items-loop-list l = Listing l.input (r rule.GenerateItem) meaning.item_of view.item l.depth l.fn.before.items l.fn.at l.list.items l.to
+
+abbrev pub decreases-generate_items-loop-list : goal.decreases-generate_items-loop-list
+decreases-generate_items-loop-list l = length l.input.tokens.now - l.to
+
+abbrev pub decreases-block : goal.decreases-block
+decreases-block l = 16 * (201 - l.depth) + 1
+
+abbrev pub decreases-enclosed : goal.decreases-enclosed
+decreases-enclosed l = 16 * (201 - l.depth) + 8
+
+abbrev pub decreases-generate_items : goal.decreases-generate_items
+decreases-generate_items l = 16 * (201 - l.depth) + 7
+
+abbrev pub decreases-generate_item : goal.decreases-generate_item
+decreases-generate_item l = 16 * (201 - l.depth) + 6
+
+abbrev pub decreases-generate_for : goal.decreases-generate_for
+decreases-generate_for l = 16 * (201 - l.depth) + 5
+
+abbrev pub decreases-generate_if : goal.decreases-generate_if
+decreases-generate_if l = 16 * (201 - l.depth) + 5
+
+abbrev pub decreases-other_block : goal.decreases-other_block
+decreases-other_block l = 16 * (201 - l.depth) + 2
+
+abbrev pub decreases-generate_case : goal.decreases-generate_case
+decreases-generate_case l = 16 * (201 - l.depth) + 5
+
+abbrev pub decreases-generate_cases : goal.decreases-generate_cases
+decreases-generate_cases l = 16 * (201 - l.depth) + 4
+
+abbrev pub decreases-generate_arms : goal.decreases-generate_arms
+decreases-generate_arms l = 16 * (201 - l.depth) + 3
+
+abbrev pub decreases-generate_arm : goal.decreases-generate_arm
+decreases-generate_arm l = 16 * (201 - l.depth) + 2
+
+abbrev pub decreases-generate_default : goal.decreases-generate_default
+decreases-generate_default l = 16 * (201 - l.depth) + 2

@@ -1,0 +1,69 @@
+use Rattle.std.proofs.Common.{◌≡◌, ◌+◌, ◌-◌, ◌*◌, ◌<◌, ◌≤◌, IfOk, IfErr, ℕ, refl, sym, ◌∙◌, ap, subst, Bool, true, false, List, [], ◌∷◌, ◌++◌, arith, map, length, append-nil}
+use Rattle.std.specs.Prelude.{Option, Some, None}
+use Rattle.vs_lexer.specs.declared.token.TokenKind.TheVariants as kind
+use Rattle.vs_grammar.specs.Trees as tree
+use Rattle.vs_grammar.specs.Verilog.{Rule as rule, r, t}
+use Rattle.vs_grammar.specs.Meaning as meaning
+use Rattle.vs_ast.specs.Views as view
+use Rattle.vs_parser.specs.declared.error.ParseError.TheVariants.{Memory}
+use Rattle.vs_parser.specs.Parts as part
+use Rattle.vs_parser.specs.Reading.{kind_at, bytes_in, Parsed, Measured, Refused, Listing, Listed}
+use Rattle.vs_parser.specs.Reading.Refused.{out_of_memory}
+use Rattle.vs_parser.proofs.Places.{refused_exit, refused_memory, refused_kept, refused_var, refused_seq, refused_then, refused_missing, refused_level, refused_former, refused_latter, refused_more, refused_start, refused_within, read_tok, read_eps, read_var, read_seq, read_level, read_former, read_latter, read_many, read_without, read_within, grown_start, grown_more, parsed, one_true, one_false, known, stood, ok_more, err_more, ap2, ap3, ap4, ap5, took_kind, first_took, inside_of}
+use Rattle.vs_parser.proofs.Firsts.{too_deep_first, stopped_first}
+use Rattle.vs_parser.proofs.Tables.{read_chosen}
+use Rattle.vs_parser.proofs.Lists.{shorter, not_back, listed_start, listed_more, listed_done, listing_start, listing_more, listing_done, pushed_first}
+use Rattle.vs_grammar.specs.Grammars.Tree.{nothing}
+use Rattle.vs_parser.proofs.Arms.{listed_exprs, targets_made, statements_made, default_first, arms_alone, arms_around}
+use Rattle.vs_parser.proofs.Lists.{listing_from, listing_behind}
+use Rattle.vs_grammar.specs.Grammars.Tree.{leaf}
+use Rattle.vs_parser.specs.Reading.{terminal_at}
+use Rattle.vs_grammar.specs.Verilog.{◌⨾◌}
+use Rattle.vs_grammar.specs.Verilog as grammar
+use Rattle.vs_grammar.specs.Predictive.{is_member}
+use Rattle.vs_grammar.specs.Grammars.{opt}
+use Rattle.vs_parser.proofs.Places.{neither, as_items, ap6}
+use Rattle.vs_parser.proofs.Choices.{option_more, event_picked}
+use Rattle.vs_parser.proofs.Pieces.{first_is, input_made, output_made, is_ordered, ordered_nothing, ordered_some, control_made, events_made}
+use Rattle.vs_parser.specs.Reading.{items_from}
+use Rattle.vs_parser.proofs.Blocks.{items_made, generated, one_more, ports_put, parameters_put, read_item, items_start, items_more, items_done, block_default_first, block_arms_alone, block_arms_around}
+use Rattle.vs_parser.proofs.items.item.Goals as goal
+
+pub returns-in_err-ports-clause-refused : goal.returns-in_err-ports-clause-refused
+returns-in_err-ports-clause-refused c = refused_exit c.from_residual.result c.in_err-ports.field-0.0 c.from_residual.ensures.1 (refused_var (refused_former (sym c.stands_any.ensures ∙ c.if-stands_any.true) c.in_err-ports.ensures.refused))
+
+pub returns-in_err-push-clause-refused : goal.returns-in_err-push-clause-refused
+returns-in_err-push-clause-refused c = refused_exit c.from_residual-in_err-push.result Memory c.from_residual-in_err-push.ensures.1 out_of_memory
+
+pub returns-in_ok-push-clause-found : goal.returns-in_ok-push-clause-found
+returns-in_ok-push-clause-found c = read_item (read_var (read_former (sym c.stands_any.ensures ∙ c.if-stands_any.true) c.in_ok-ports.ensures.found.read)) (λ rest. ap (λ z. items_from (map view.item c.args.before.items) z) (ports_put (bytes_in c.args.input.now) c.in_ok-ports.ensures.found.tree rest) ∙ one_more c.args.before.items _ _ c.in_ok-ports.ports.value c.in_ok-ports.ensures.found.made c.in_ok-push.ensures.items rest)
+
+pub returns-in_err-constants-clause-refused : goal.returns-in_err-constants-clause-refused
+returns-in_err-constants-clause-refused c = refused_exit c.from_residual-in_err-constants.result c.in_err-constants.field-0.0 c.from_residual-in_err-constants.ensures.1 (refused_var (refused_latter (sym c.stands_any.ensures ∙ c.if-stands_any.false) (refused_former (one_true _ c.stands.result c.stands.ensures c.if-stands.true) c.in_err-constants.ensures.refused)))
+
+pub returns-in_err-push-2-clause-refused : goal.returns-in_err-push-2-clause-refused
+returns-in_err-push-2-clause-refused c = refused_exit c.from_residual-in_err-push-2.result Memory c.from_residual-in_err-push-2.ensures.1 out_of_memory
+
+pub returns-in_ok-push-2-clause-found : goal.returns-in_ok-push-2-clause-found
+returns-in_ok-push-2-clause-found c = read_item (read_var (read_latter (sym c.stands_any.ensures ∙ c.if-stands_any.false) (read_former (one_true _ c.stands.result c.stands.ensures c.if-stands.true) c.in_ok-constants.ensures.found.read))) (λ rest. ap (λ z. items_from (map view.item c.args.before.items) z) (parameters_put (bytes_in c.args.input.now) c.in_ok-constants.ensures.found.tree rest) ∙ one_more c.args.before.items _ _ c.in_ok-constants.constants.value c.in_ok-constants.ensures.found.made c.in_ok-push-2.ensures.items rest)
+
+pub returns-in_err-word-clause-refused : goal.returns-in_err-word-clause-refused
+returns-in_err-word-clause-refused c = refused_exit c.from_residual-in_err-word.result c.in_err-word.field-0.0 c.from_residual-in_err-word.ensures.1 (refused_var (refused_latter (sym c.stands_any.ensures ∙ c.if-stands_any.false) (refused_latter (one_false _ c.stands.result c.stands.ensures c.if-stands.false) (refused_former (one_true _ c.stands-else-stands.result c.stands-else-stands.ensures c.if-stands-2.true) (refused_seq (refused_missing c.in_err-word.ensures.refused))))))
+
+pub returns-in_err-items-clause-refused : goal.returns-in_err-items-clause-refused
+returns-in_err-items-clause-refused c = refused_exit c.from_residual-in_err-items.result c.in_err-items.field-0.0 c.from_residual-in_err-items.ensures.1 (refused_var (refused_latter (sym c.stands_any.ensures ∙ c.if-stands_any.false) (refused_latter (one_false _ c.stands.result c.stands.ensures c.if-stands.false) (refused_former (one_true _ c.stands-else-stands.result c.stands-else-stands.ensures c.if-stands-2.true) (refused_then (read_tok c.requires.shallow c.in_ok-word.ensures.read) (refused_seq c.in_err-items.ensures.refused))))))
+
+pub returns-in_err-end-clause-refused : goal.returns-in_err-end-clause-refused
+returns-in_err-end-clause-refused c = refused_exit c.from_residual-in_err-end.result c.in_err-end.field-0.0 c.from_residual-in_err-end.ensures.1 (refused_var (refused_latter (sym c.stands_any.ensures ∙ c.if-stands_any.false) (refused_latter (one_false _ c.stands.result c.stands.ensures c.if-stands.false) (refused_former (one_true _ c.stands-else-stands.result c.stands-else-stands.ensures c.if-stands-2.true) (refused_then (read_tok c.requires.shallow c.in_ok-word.ensures.read) (refused_then c.in_ok-items.ensures.found.read (refused_missing c.in_err-end.ensures.refused)))))))
+
+pub returns-in_ok-end-clause-found : goal.returns-in_ok-end-clause-found
+returns-in_ok-end-clause-found c = read_item (read_var (read_latter (sym c.stands_any.ensures ∙ c.if-stands_any.false) (read_latter (one_false _ c.stands.result c.stands.ensures c.if-stands.false) (read_former (one_true _ c.stands-else-stands.result c.stands-else-stands.ensures c.if-stands-2.true) (read_seq (read_tok c.requires.shallow c.in_ok-word.ensures.read) (read_seq c.in_ok-items.ensures.found.read (read_tok c.requires.shallow c.in_ok-end.ensures.read))))))) (generated (bytes_in c.args.input.now) c.in_ok-items.ensures.found.tree c.args.before.items c.in_ok-items.items.value.items c.in_ok-items.ensures.found.made)
+
+pub returns-in_err-other-clause-refused : goal.returns-in_err-other-clause-refused
+returns-in_err-other-clause-refused c = refused_exit c.from_residual-in_err-other.result c.in_err-other.field-0.0 c.from_residual-in_err-other.ensures.1 (refused_var (refused_latter (sym c.stands_any.ensures ∙ c.if-stands_any.false) (refused_latter (one_false _ c.stands.result c.stands.ensures c.if-stands.false) (refused_latter (one_false _ c.stands-else-stands.result c.stands-else-stands.ensures c.if-stands-2.false) c.in_err-other.ensures.refused))))
+
+pub returns-in_err-push-3-clause-refused : goal.returns-in_err-push-3-clause-refused
+returns-in_err-push-3-clause-refused c = refused_exit c.from_residual-in_err-push-3.result Memory c.from_residual-in_err-push-3.ensures.1 out_of_memory
+
+pub returns-in_ok-push-3-clause-found : goal.returns-in_ok-push-3-clause-found
+returns-in_ok-push-3-clause-found c = read_item (read_var (read_latter (sym c.stands_any.ensures ∙ c.if-stands_any.false) (read_latter (one_false _ c.stands.result c.stands.ensures c.if-stands.false) (read_latter (one_false _ c.stands-else-stands.result c.stands-else-stands.ensures c.if-stands-2.false) c.in_ok-other.ensures.found.read)))) (one_more c.args.before.items _ _ c.in_ok-other.other.value c.in_ok-other.ensures.found.made c.in_ok-push-3.ensures.items)

@@ -1,0 +1,24 @@
+use Rattle.std.proofs.Common.{◌≡◌, ℕ, ◌+◌, ◌-◌, ◌*◌, length, map, List, [], ◌∷◌, ◌++◌}
+use Rattle.vs_lexer.specs.declared.token.TokenKind.TheVariants as kind
+use Rattle.vs_grammar.specs.Verilog.{Rule as rule, r, t}
+use Rattle.vs_grammar.specs.Trees as tree
+use Rattle.vs_grammar.specs.Meaning as meaning
+use Rattle.vs_ast.specs.Views as view
+use Rattle.vs_parser.specs.Parts as part
+use Rattle.vs_parser.specs.Reading.{Listed, Listing, bytes_in}
+use Rattle.vs_parser.proofs.statements.+targets.Given as goal
+
+abbrev pub invariant-target_list-loop-list : goal.invariant-target_list-loop-list
+invariant-target_list-loop-list l = Listed l.input (r rule.Target) meaning.target_of view.target l.depth l.fn.at l.list.items l.to
+
+abbrev pub decreases-target_list-loop-list : goal.decreases-target_list-loop-list
+decreases-target_list-loop-list l = length l.input.tokens.now - l.to
+
+abbrev pub decreases-target : goal.decreases-target
+decreases-target l = 4 * (201 - l.depth) + 2
+
+abbrev pub decreases-targets : goal.decreases-targets
+decreases-targets l = 4 * (201 - l.depth) + 1
+
+abbrev pub decreases-target_list : goal.decreases-target_list
+decreases-target_list l = 4 * (201 - l.depth) + 3

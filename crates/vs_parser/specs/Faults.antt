@@ -1,0 +1,13 @@
+-- What is wrong with the tokens of a text that is not read.
+use Rattle.std.specs.Prelude.{List}
+use Rattle.vs_lexer.specs.declared.token.Token.{Token}
+use Rattle.vs_grammar.specs.Spelled.{LeftOutAt, HasSyntaxFault, IsTooDeep}
+use Rattle.vs_parser.specs.declared.error.ParseError.{ParseError}
+use Rattle.vs_parser.specs.declared.error.ParseError.TheVariants.{LeftOut, Syntax, TooDeep, Memory}
+
+-- the token is the first that is left out, or the first with which no derived list goes on, or one with which none goes on that is shallow enough
+abbrev pub Fault : List Token → ParseError → Type 0
+Fault tokens (LeftOut k) = LeftOutAt tokens k
+Fault tokens (Syntax k) = HasSyntaxFault tokens k
+Fault tokens (TooDeep k) = IsTooDeep tokens k
+Fault tokens Memory = Unit {0}

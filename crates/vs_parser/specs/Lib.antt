@@ -1,0 +1,5 @@
+pub mod Reading
+pub mod Levels
+pub mod Parts
+pub mod Headings
+pub mod Faults

@@ -1,0 +1,451 @@
+//! Declarations (IEEE 1364-2005, A.2).
+
+ghost use Rattle.std.specs.Prelude.{◌≡◌, ◌≤◌, MatchOption, IfOk, IfErr, Ok, false, [], ◌∷◌, ◌++◌, map};
+ghost use Rattle.vs_lexer.specs.Cuts.{cut_text};
+ghost use Rattle.vs_lexer.specs.declared.token.TokenKind.TheVariants as kind;
+ghost use Rattle.vs_grammar.specs.Grammars.{opt, star};
+ghost use Rattle.vs_grammar.specs.Verilog.{Rule as rule, r, t, separated, ◌⨾◌};
+ghost use Rattle.vs_grammar.specs.Meaning as meaning;
+ghost use Rattle.vs_grammar.specs.Trees as tree;
+ghost use Rattle.vs_grammar.specs.Predictive.{is_member};
+ghost use Rattle.vs_grammar.specs.Verilog as grammar;
+ghost use Rattle.vs_ast.specs.Views as view;
+ghost use Rattle.vs_parser.specs.Parts as part;
+ghost use Rattle.vs_parser.specs.Reading.{Chosen, Parsed, Refused, kind_at};
+
+use crate::error::ParseError;
+use crate::expressions::expression;
+use crate::input::{Found, Input};
+use crate::tokens::{optional, stands, take};
+use crate::words::identifier;
+use vs_ast::{Declarator, Expr, Item, Name, Parameters, Range, Setting, SignalKind, Signals};
+use vs_lexer::TokenKind;
+
+/// The bounds of a vector.
+fn range(input: &Input<'_>, at: u32, depth: u32) -> Result<Found<Range>, ParseError>
+    requires lexed { cut_text input.now.text.now ≡ Ok input.now.tokens.now }
+    requires shallow { depth ≤ 200 }
+    ensures found { IfOk result (λ f. Parsed input.now (r rule.Range) meaning.range_of depth at (view.range f.value) f.to) }
+    ensures refused { IfErr result (λ e. Refused input.now.tokens.now depth (r rule.Range) at e) }
+{
+    let open = take(input, at, TokenKind::OpenBracket)?;
+    let left = expression(input, open, depth)?;
+    let colon = take(input, left.to, TokenKind::Colon)?;
+    let right = expression(input, colon, depth)?;
+    let close = take(input, right.to, TokenKind::CloseBracket)?;
+    let value = Range {
+        bracket: at,
+        left: left.value,
+        right: right.value,
+    };
+    Ok(Found { value, to: close })
+}
+
+/// The bounds of a vector, if there are any.
+pub(crate) fn optional_range(
+    input: &Input<'_>,
+    at: u32,
+    depth: u32,
+) -> Result<Found<Option<Range>>, ParseError>
+    requires lexed { cut_text input.now.text.now ≡ Ok input.now.tokens.now }
+    requires shallow { depth ≤ 200 }
+    ensures found { IfOk result (λ f. Parsed input.now (opt (r rule.Range)) (λ b d. meaning.option_of (meaning.range_of b) d) depth at (view.option view.range f.value) f.to) }
+    ensures refused { IfErr result (λ e. Refused input.now.tokens.now depth (opt (r rule.Range)) at e) }
+{
+    if !stands(input, at, TokenKind::OpenBracket) {
+        return Ok(Found {
+            value: None,
+            to: at,
+        });
+    }
+    let inner = range(input, at, depth)?;
+    Ok(Found {
+        value: Some(inner.value),
+        to: inner.to,
+    })
+}
+
+/// The value behind a `=`.
+fn value_behind(input: &Input<'_>, at: u32, depth: u32) -> Result<Found<Expr>, ParseError>
+    requires lexed { cut_text input.now.text.now ≡ Ok input.now.tokens.now }
+    requires shallow { depth ≤ 200 }
+    ensures found { IfOk result (λ f. Parsed input.now (t kind.Assign ⨾ r rule.Expression) (λ b d. meaning.behind_sign (meaning.expr_of b) d) depth at (view.expr f.value) f.to) }
+    ensures refused { IfErr result (λ e. Refused input.now.tokens.now depth (t kind.Assign ⨾ r rule.Expression) at e) }
+{
+    let sign = take(input, at, TokenKind::Assign)?;
+    let value = expression(input, sign, depth)?;
+    Ok(Found {
+        value: value.value,
+        to: value.to,
+    })
+}
+
+/// The value behind a `=`, if there is one.
+fn optional_value(input: &Input<'_>, at: u32, depth: u32) -> Result<Found<Option<Expr>>, ParseError>
+    requires lexed { cut_text input.now.text.now ≡ Ok input.now.tokens.now }
+    requires shallow { depth ≤ 200 }
+    ensures found { IfOk result (λ f. Parsed input.now (opt (t kind.Assign ⨾ r rule.Expression)) (λ b d. meaning.option_of (meaning.behind_sign (meaning.expr_of b)) d) depth at (view.option view.expr f.value) f.to) }
+    ensures refused { IfErr result (λ e. Refused input.now.tokens.now depth (opt (t kind.Assign ⨾ r rule.Expression)) at e) }
+{
+    if !stands(input, at, TokenKind::Assign) {
+        return Ok(Found {
+            value: None,
+            to: at,
+        });
+    }
+    let inner = value_behind(input, at, depth)?;
+    Ok(Found {
+        value: Some(inner.value),
+        to: inner.to,
+    })
+}
+
+/// Names, with commas between them.
+pub(crate) fn identifiers(
+    input: &Input<'_>,
+    at: u32,
+    depth: u32,
+) -> Result<Found<Vec<Name>>, ParseError>
+    requires lexed { cut_text input.now.text.now ≡ Ok input.now.tokens.now }
+    requires shallow { depth ≤ 200 }
+    ensures found { IfOk result (λ f. Parsed input.now (separated (t kind.Identifier)) (λ b d. meaning.list_of (meaning.name_of b) d) depth at (map view.name f.value.items) f.to) }
+    ensures refused { IfErr result (λ e. Refused input.now.tokens.now depth (separated (t kind.Identifier)) at e) }
+{
+    let mut list = Vec::new(input.alloc);
+    let first = identifier(input, at)?;
+    list.push(first.value)?;
+    let mut to = first.to;
+    while stands(input, to, TokenKind::Comma) {
+        let comma = take(input, to, TokenKind::Comma)?;
+        let next = identifier(input, comma)?;
+        list.push(next.value)?;
+        to = next.to;
+    }
+    Ok(Found { value: list, to })
+}
+
+/// A declared name.
+pub(crate) fn plain_declarator(
+    input: &Input<'_>,
+    at: u32,
+    depth: u32,
+) -> Result<Found<Declarator>, ParseError>
+    requires lexed { cut_text input.now.text.now ≡ Ok input.now.tokens.now }
+    requires shallow { depth ≤ 200 }
+    ensures found { IfOk result (λ f. Parsed input.now (t kind.Identifier) meaning.plain_name depth at (view.declarator f.value) f.to) }
+    ensures refused { IfErr result (λ e. Refused input.now.tokens.now depth (t kind.Identifier) at e) }
+{
+    let name = identifier(input, at)?;
+    Ok(Found {
+        value: Declarator {
+            name: name.value,
+            value: None,
+        },
+        to: name.to,
+    })
+}
+
+/// Declared names, with commas between them.
+fn plain_declarators(
+    input: &Input<'_>,
+    at: u32,
+    depth: u32,
+) -> Result<Found<Vec<Declarator>>, ParseError>
+    requires lexed { cut_text input.now.text.now ≡ Ok input.now.tokens.now }
+    requires shallow { depth ≤ 200 }
+    ensures found { IfOk result (λ f. Parsed input.now (separated (t kind.Identifier)) (λ b d. meaning.list_of (meaning.plain_name b) d) depth at (map view.declarator f.value.items) f.to) }
+    ensures refused { IfErr result (λ e. Refused input.now.tokens.now depth (separated (t kind.Identifier)) at e) }
+{
+    let mut list = Vec::new(input.alloc);
+    let first = plain_declarator(input, at, depth)?;
+    list.push(first.value)?;
+    let mut to = first.to;
+    while stands(input, to, TokenKind::Comma) {
+        let comma = take(input, to, TokenKind::Comma)?;
+        let next = plain_declarator(input, comma, depth)?;
+        list.push(next.value)?;
+        to = next.to;
+    }
+    Ok(Found { value: list, to })
+}
+
+/// A declared net, and what it is assigned.
+fn wire_declarator(input: &Input<'_>, at: u32, depth: u32) -> Result<Found<Declarator>, ParseError>
+    requires lexed { cut_text input.now.text.now ≡ Ok input.now.tokens.now }
+    requires shallow { depth ≤ 200 }
+    ensures found { IfOk result (λ f. Parsed input.now (grammar.wire_name) meaning.wire_of depth at (view.declarator f.value) f.to) }
+    ensures refused { IfErr result (λ e. Refused input.now.tokens.now depth (grammar.wire_name) at e) }
+{
+    let name = identifier(input, at)?;
+    let value = optional_value(input, name.to, depth)?;
+    Ok(Found {
+        value: Declarator {
+            name: name.value,
+            value: value.value,
+        },
+        to: value.to,
+    })
+}
+
+/// Declared nets, with commas between them.
+fn wire_declarators(
+    input: &Input<'_>,
+    at: u32,
+    depth: u32,
+) -> Result<Found<Vec<Declarator>>, ParseError>
+    requires lexed { cut_text input.now.text.now ≡ Ok input.now.tokens.now }
+    requires shallow { depth ≤ 200 }
+    ensures found { IfOk result (λ f. Parsed input.now (separated (grammar.wire_name)) (λ b d. meaning.list_of (meaning.wire_of b) d) depth at (map view.declarator f.value.items) f.to) }
+    ensures refused { IfErr result (λ e. Refused input.now.tokens.now depth (separated (grammar.wire_name)) at e) }
+{
+    let mut list = Vec::new(input.alloc);
+    let first = wire_declarator(input, at, depth)?;
+    list.push(first.value)?;
+    let mut to = first.to;
+    while stands(input, to, TokenKind::Comma) {
+        let comma = take(input, to, TokenKind::Comma)?;
+        let next = wire_declarator(input, comma, depth)?;
+        list.push(next.value)?;
+        to = next.to;
+    }
+    Ok(Found { value: list, to })
+}
+
+/// A declaration of registers.
+pub(crate) fn regs(input: &Input<'_>, at: u32, depth: u32) -> Result<Found<Item>, ParseError>
+    requires lexed { cut_text input.now.text.now ≡ Ok input.now.tokens.now }
+    requires shallow { depth ≤ 200 }
+    ensures found { IfOk result (λ f. Parsed input.now (grammar.reg_item) meaning.reg_item_of depth at (view.item f.value) f.to) }
+    ensures refused { IfErr result (λ e. Refused input.now.tokens.now depth (grammar.reg_item) at e) }
+{
+    let word = take(input, at, TokenKind::KeywordReg)?;
+    let signed = optional(input, word, depth, TokenKind::KeywordSigned);
+    let range = optional_range(input, signed.to, depth)?;
+    let names = plain_declarators(input, range.to, depth)?;
+    let end = take(input, names.to, TokenKind::Semicolon)?;
+    let value = Item::Signals(Signals {
+        place: at,
+        kind: SignalKind::Reg,
+        signed: signed.value,
+        range: range.value,
+        names: names.value,
+    });
+    Ok(Found { value, to: end })
+}
+
+/// A declaration of nets.
+pub(crate) fn wires(input: &Input<'_>, at: u32, depth: u32) -> Result<Found<Item>, ParseError>
+    requires lexed { cut_text input.now.text.now ≡ Ok input.now.tokens.now }
+    requires shallow { depth ≤ 200 }
+    ensures found { IfOk result (λ f. Parsed input.now (grammar.wire_item) meaning.wire_item_of depth at (view.item f.value) f.to) }
+    ensures refused { IfErr result (λ e. Refused input.now.tokens.now depth (grammar.wire_item) at e) }
+{
+    let word = take(input, at, TokenKind::KeywordWire)?;
+    let signed = optional(input, word, depth, TokenKind::KeywordSigned);
+    let range = optional_range(input, signed.to, depth)?;
+    let names = wire_declarators(input, range.to, depth)?;
+    let end = take(input, names.to, TokenKind::Semicolon)?;
+    let value = Item::Signals(Signals {
+        place: at,
+        kind: SignalKind::Wire,
+        signed: signed.value,
+        range: range.value,
+        names: names.value,
+    });
+    Ok(Found { value, to: end })
+}
+
+/// The direction of a port, and what it is.
+pub(crate) fn direction(
+    input: &Input<'_>,
+    at: u32,
+    depth: u32,
+) -> Result<Found<SignalKind>, ParseError>
+    requires lexed { cut_text input.now.text.now ≡ Ok input.now.tokens.now }
+    requires shallow { depth ≤ 200 }
+    ensures found { IfOk result (λ f. Parsed input.now (r rule.Direction) (λ b d. meaning.port_kind d) depth at (view.signal_kind f.value) f.to) }
+    ensures refused { IfErr result (λ e. Refused input.now.tokens.now depth (r rule.Direction) at e) }
+{
+    if stands(input, at, TokenKind::KeywordInput) {
+        input_direction(input, at, depth)
+    } else {
+        output_direction(input, at, depth)
+    }
+}
+
+/// What an input is, with or without the word `wire`.
+fn input_kind(wire: bool) -> SignalKind
+    ensures { view.signal_kind result ≡ part.input_kind wire }
+{
+    if wire {
+        SignalKind::InputWire
+    } else {
+        SignalKind::Input
+    }
+}
+
+/// An input.
+fn input_direction(input: &Input<'_>, at: u32, depth: u32) -> Result<Found<SignalKind>, ParseError>
+    requires lexed { cut_text input.now.text.now ≡ Ok input.now.tokens.now }
+    requires shallow { depth ≤ 200 }
+    ensures found { IfOk result (λ f. Parsed input.now (part.input_direction) (λ b d. meaning.port_kind (part.as_input d)) depth at (view.signal_kind f.value) f.to) }
+    ensures refused { IfErr result (λ e. Refused input.now.tokens.now depth (part.input_direction) at e) }
+{
+    let word = take(input, at, TokenKind::KeywordInput)?;
+    let wire = optional(input, word, depth, TokenKind::KeywordWire);
+    Ok(Found {
+        value: input_kind(wire.value),
+        to: wire.to,
+    })
+}
+
+/// An output.
+fn output_direction(input: &Input<'_>, at: u32, depth: u32) -> Result<Found<SignalKind>, ParseError>
+    requires lexed { cut_text input.now.text.now ≡ Ok input.now.tokens.now }
+    requires shallow { depth ≤ 200 }
+    ensures found { IfOk result (λ f. Parsed input.now (part.output_direction) (λ b d. meaning.port_kind (part.as_output d)) depth at (view.signal_kind f.value) f.to) }
+    ensures refused { IfErr result (λ e. Refused input.now.tokens.now depth (part.output_direction) at e) }
+{
+    let word = take(input, at, TokenKind::KeywordOutput)?;
+    let kind = output_kind(input, word, depth)?;
+    Ok(Found {
+        value: kind.value,
+        to: kind.to,
+    })
+}
+
+/// What an output is, by the word behind it.
+fn output_kind(input: &Input<'_>, at: u32, depth: u32) -> Result<Found<SignalKind>, ParseError>
+    requires lexed { cut_text input.now.text.now ≡ Ok input.now.tokens.now }
+    requires shallow { depth ≤ 200 }
+    ensures found { IfOk result (λ f. Parsed input.now (part.output_words) part.output_kind depth at (view.signal_kind f.value) f.to) }
+    ensures refused { IfErr result (λ e. Refused input.now.tokens.now depth (part.output_words) at e) }
+{
+    if stands(input, at, TokenKind::KeywordWire) {
+        let wire = take(input, at, TokenKind::KeywordWire)?;
+        Ok(Found {
+            value: SignalKind::OutputWire,
+            to: wire,
+        })
+    } else if stands(input, at, TokenKind::KeywordReg) {
+        let reg = take(input, at, TokenKind::KeywordReg)?;
+        Ok(Found {
+            value: SignalKind::OutputReg,
+            to: reg,
+        })
+    } else {
+        Ok(Found {
+            value: SignalKind::Output,
+            to: at,
+        })
+    }
+}
+
+/// A declaration of ports.
+pub(crate) fn ports_item(input: &Input<'_>, at: u32, depth: u32) -> Result<Found<Item>, ParseError>
+    requires lexed { cut_text input.now.text.now ≡ Ok input.now.tokens.now }
+    requires shallow { depth ≤ 200 }
+    ensures found { IfOk result (λ f. Parsed input.now (part.ports_item) part.ports_item_tree depth at (view.item f.value) f.to) }
+    ensures refused { IfErr result (λ e. Refused input.now.tokens.now depth (part.ports_item) at e) }
+{
+    let kind = direction(input, at, depth)?;
+    let signed = optional(input, kind.to, depth, TokenKind::KeywordSigned);
+    let range = optional_range(input, signed.to, depth)?;
+    let names = plain_declarators(input, range.to, depth)?;
+    let end = take(input, names.to, TokenKind::Semicolon)?;
+    let value = Item::Signals(Signals {
+        place: at,
+        kind: kind.value,
+        signed: signed.value,
+        range: range.value,
+        names: names.value,
+    });
+    Ok(Found { value, to: end })
+}
+
+/// A name and the value that it is given.
+pub(crate) fn setting(input: &Input<'_>, at: u32, depth: u32) -> Result<Found<Setting>, ParseError>
+    requires lexed { cut_text input.now.text.now ≡ Ok input.now.tokens.now }
+    requires shallow { depth ≤ 200 }
+    ensures found { IfOk result (λ f. Parsed input.now (r rule.ParameterSetting) meaning.setting_of depth at (view.setting f.value) f.to) }
+    ensures refused { IfErr result (λ e. Refused input.now.tokens.now depth (r rule.ParameterSetting) at e) }
+{
+    let name = identifier(input, at)?;
+    let sign = take(input, name.to, TokenKind::Assign)?;
+    let value = expression(input, sign, depth)?;
+    Ok(Found {
+        value: Setting {
+            name: name.value,
+            value: value.value,
+        },
+        to: value.to,
+    })
+}
+
+/// Settings, with commas between them.
+fn settings(input: &Input<'_>, at: u32, depth: u32) -> Result<Found<Vec<Setting>>, ParseError>
+    requires lexed { cut_text input.now.text.now ≡ Ok input.now.tokens.now }
+    requires shallow { depth ≤ 200 }
+    ensures found { IfOk result (λ f. Parsed input.now (separated (r rule.ParameterSetting)) (λ b d. meaning.list_of (meaning.setting_of b) d) depth at (map view.setting f.value.items) f.to) }
+    ensures refused { IfErr result (λ e. Refused input.now.tokens.now depth (separated (r rule.ParameterSetting)) at e) }
+{
+    let mut list = Vec::new(input.alloc);
+    let first = setting(input, at, depth)?;
+    list.push(first.value)?;
+    let mut to = first.to;
+    while stands(input, to, TokenKind::Comma) {
+        let comma = take(input, to, TokenKind::Comma)?;
+        let next = setting(input, comma, depth)?;
+        list.push(next.value)?;
+        to = next.to;
+    }
+    Ok(Found { value: list, to })
+}
+
+/// A declaration of parameters.
+pub(crate) fn parameters(input: &Input<'_>, at: u32, depth: u32) -> Result<Found<Item>, ParseError>
+    requires lexed { cut_text input.now.text.now ≡ Ok input.now.tokens.now }
+    requires shallow { depth ≤ 200 }
+    ensures found { IfOk result (λ f. Parsed input.now (part.parameters_item) part.parameters_item_tree depth at (view.item f.value) f.to) }
+    ensures refused { IfErr result (λ e. Refused input.now.tokens.now depth (part.parameters_item) at e) }
+{
+    let word = take(input, at, TokenKind::KeywordParameter)?;
+    let signed = optional(input, word, depth, TokenKind::KeywordSigned);
+    let range = optional_range(input, signed.to, depth)?;
+    let settings = settings(input, range.to, depth)?;
+    let end = take(input, settings.to, TokenKind::Semicolon)?;
+    let value = Item::Parameters(Parameters {
+        place: at,
+        is_local: false,
+        signed: signed.value,
+        range: range.value,
+        settings: settings.value,
+    });
+    Ok(Found { value, to: end })
+}
+
+/// A declaration of local parameters.
+pub(crate) fn local_parameters(
+    input: &Input<'_>,
+    at: u32,
+    depth: u32,
+) -> Result<Found<Item>, ParseError>
+    requires lexed { cut_text input.now.text.now ≡ Ok input.now.tokens.now }
+    requires shallow { depth ≤ 200 }
+    ensures found { IfOk result (λ f. Parsed input.now (grammar.local_item) meaning.local_item_of depth at (view.item f.value) f.to) }
+    ensures refused { IfErr result (λ e. Refused input.now.tokens.now depth (grammar.local_item) at e) }
+{
+    let word = take(input, at, TokenKind::KeywordLocalParam)?;
+    let signed = optional(input, word, depth, TokenKind::KeywordSigned);
+    let range = optional_range(input, signed.to, depth)?;
+    let settings = settings(input, range.to, depth)?;
+    let end = take(input, settings.to, TokenKind::Semicolon)?;
+    let value = Item::Parameters(Parameters {
+        place: at,
+        is_local: true,
+        signed: signed.value,
+        range: range.value,
+        settings: settings.value,
+    });
+    Ok(Found { value, to: end })
+}

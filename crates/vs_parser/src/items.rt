@@ -1,0 +1,489 @@
+//! The items of modules and of generate blocks (IEEE 1364-2005, A.1.4 and A.4.2).
+
+ghost use Rattle.std.specs.Prelude.{◌≡◌, ◌≤◌, MatchOption, IfOk, IfErr, Ok, false, [], ◌∷◌, ◌++◌, map};
+ghost use Rattle.vs_lexer.specs.Cuts.{cut_text};
+ghost use Rattle.vs_lexer.specs.declared.token.TokenKind.TheVariants as kind;
+ghost use Rattle.vs_grammar.specs.Grammars.{opt, star};
+ghost use Rattle.vs_grammar.specs.Verilog.{Rule as rule, r, t, separated, ◌⨾◌};
+ghost use Rattle.vs_grammar.specs.Meaning as meaning;
+ghost use Rattle.vs_grammar.specs.Trees as tree;
+ghost use Rattle.vs_grammar.specs.Predictive.{is_member};
+ghost use Rattle.vs_grammar.specs.Verilog as grammar;
+ghost use Rattle.vs_ast.specs.Views as view;
+ghost use Rattle.vs_parser.specs.Parts as part;
+ghost use Rattle.vs_parser.specs.Reading.{ItemRead, Parsed, Refused, kind_at};
+
+use crate::declarations::{identifiers, local_parameters, parameters, ports_item, regs, wires};
+use crate::error::ParseError;
+use crate::expressions::{expression, expressions, is_expression_at};
+use crate::input::{Found, Input};
+use crate::instances::instances;
+use crate::processes::{always, assigns};
+use crate::tokens::{deeper, optional, stands, stands_any, take};
+use crate::words::{identifier, label};
+use vs_ast::{GenerateArm, GenerateBlock, GenerateHead, Item};
+use vs_lexer::TokenKind;
+
+/// What an item begins with that may stand in a generate block.
+const GENERATE_ITEM_KINDS: [TokenKind; 10] = [
+    TokenKind::Identifier,
+    TokenKind::KeywordReg,
+    TokenKind::KeywordWire,
+    TokenKind::KeywordLocalParam,
+    TokenKind::KeywordAssign,
+    TokenKind::KeywordAlways,
+    TokenKind::KeywordGenvar,
+    TokenKind::KeywordFor,
+    TokenKind::KeywordIf,
+    TokenKind::KeywordCase,
+];
+
+/// What an item of a module begins with.
+const ITEM_KINDS: [TokenKind; 14] = [
+    TokenKind::KeywordInput,
+    TokenKind::KeywordOutput,
+    TokenKind::KeywordParameter,
+    TokenKind::KeywordGenerate,
+    TokenKind::Identifier,
+    TokenKind::KeywordReg,
+    TokenKind::KeywordWire,
+    TokenKind::KeywordLocalParam,
+    TokenKind::KeywordAssign,
+    TokenKind::KeywordAlways,
+    TokenKind::KeywordGenvar,
+    TokenKind::KeywordFor,
+    TokenKind::KeywordIf,
+    TokenKind::KeywordCase,
+];
+
+/// What a generate block begins with.
+const BLOCK_KINDS: [TokenKind; 12] = [
+    TokenKind::KeywordBegin,
+    TokenKind::Semicolon,
+    TokenKind::Identifier,
+    TokenKind::KeywordReg,
+    TokenKind::KeywordWire,
+    TokenKind::KeywordLocalParam,
+    TokenKind::KeywordAssign,
+    TokenKind::KeywordAlways,
+    TokenKind::KeywordGenvar,
+    TokenKind::KeywordFor,
+    TokenKind::KeywordIf,
+    TokenKind::KeywordCase,
+];
+
+/// Whether an item begins here that may stand in a generate block.
+fn is_generate_item_at(input: &Input<'_>, at: u32) -> bool
+    ensures { result ≡ is_member (kind_at input.now.tokens.now at) part.generate_item_kinds }
+{
+    stands_any(input, at, &GENERATE_ITEM_KINDS)
+}
+
+/// Whether an item of a module begins here.
+fn is_item_at(input: &Input<'_>, at: u32) -> bool
+    ensures { result ≡ is_member (kind_at input.now.tokens.now at) part.item_kinds }
+{
+    stands_any(input, at, &ITEM_KINDS)
+}
+
+/// An item that may stand in a generate block.
+#[cycle(items)]
+fn generate_item(input: &Input<'_>, at: u32, depth: u32) -> Result<Found<Item>, ParseError>
+    requires lexed { cut_text input.now.text.now ≡ Ok input.now.tokens.now }
+    requires shallow { depth ≤ 200 }
+    ensures found { IfOk result (λ f. Parsed input.now (r rule.GenerateItem) meaning.item_of depth at (view.item f.value) f.to) }
+    ensures refused { IfErr result (λ e. Refused input.now.tokens.now depth (r rule.GenerateItem) at e) }
+{
+    if stands(input, at, TokenKind::KeywordReg) {
+        regs(input, at, depth)
+    } else if stands(input, at, TokenKind::KeywordWire) {
+        wires(input, at, depth)
+    } else if stands(input, at, TokenKind::KeywordLocalParam) {
+        local_parameters(input, at, depth)
+    } else if stands(input, at, TokenKind::KeywordAssign) {
+        assigns(input, at, depth)
+    } else if stands(input, at, TokenKind::KeywordAlways) {
+        always(input, at, depth)
+    } else if stands(input, at, TokenKind::KeywordGenvar) {
+        genvars(input, at, depth)
+    } else if stands(input, at, TokenKind::Identifier) {
+        instances(input, at, depth)
+    } else if stands(input, at, TokenKind::KeywordFor) {
+        generate_for(input, at, depth)
+    } else if stands(input, at, TokenKind::KeywordIf) {
+        generate_if(input, at, depth)
+    } else {
+        generate_case(input, at, depth)
+    }
+}
+
+/// A declaration of genvars.
+fn genvars(input: &Input<'_>, at: u32, depth: u32) -> Result<Found<Item>, ParseError>
+    requires lexed { cut_text input.now.text.now ≡ Ok input.now.tokens.now }
+    requires shallow { depth ≤ 200 }
+    ensures found { IfOk result (λ f. Parsed input.now (grammar.genvar_item) meaning.genvar_item_of depth at (view.item f.value) f.to) }
+    ensures refused { IfErr result (λ e. Refused input.now.tokens.now depth (grammar.genvar_item) at e) }
+{
+    let word = take(input, at, TokenKind::KeywordGenvar)?;
+    let names = identifiers(input, word, depth)?;
+    let end = take(input, names.to, TokenKind::Semicolon)?;
+    let value = Item::Genvars {
+        place: at,
+        names: names.value,
+    };
+    Ok(Found { value, to: end })
+}
+
+/// A generate `for`.
+#[cycle(items)]
+fn generate_for(input: &Input<'_>, at: u32, depth: u32) -> Result<Found<Item>, ParseError>
+    requires lexed { cut_text input.now.text.now ≡ Ok input.now.tokens.now }
+    requires shallow { depth ≤ 200 }
+    ensures found { IfOk result (λ f. Parsed input.now (grammar.for_item) meaning.for_item_of depth at (view.item f.value) f.to) }
+    ensures refused { IfErr result (λ e. Refused input.now.tokens.now depth (grammar.for_item) at e) }
+{
+    let word = take(input, at, TokenKind::KeywordFor)?;
+    let open = take(input, word, TokenKind::OpenParen)?;
+    let variable = identifier(input, open)?;
+    let first_sign = take(input, variable.to, TokenKind::Assign)?;
+    let first = expression(input, first_sign, depth)?;
+    let first_end = take(input, first.to, TokenKind::Semicolon)?;
+    let test = expression(input, first_end, depth)?;
+    let test_end = take(input, test.to, TokenKind::Semicolon)?;
+    let again = identifier(input, test_end)?;
+    let next_sign = take(input, again.to, TokenKind::Assign)?;
+    let next = expression(input, next_sign, depth)?;
+    let close = take(input, next.to, TokenKind::CloseParen)?;
+    let block = block(input, close, depth)?;
+    let head = GenerateHead {
+        place: at,
+        variable: variable.value,
+        first: first.value,
+        test: test.value,
+        again: again.value,
+        next: next.value,
+    };
+    let value = Item::new_for(input.alloc, head, block.value)?;
+    Ok(Found {
+        value,
+        to: block.to,
+    })
+}
+
+/// A generate `if`.
+#[cycle(items)]
+fn generate_if(input: &Input<'_>, at: u32, depth: u32) -> Result<Found<Item>, ParseError>
+    requires lexed { cut_text input.now.text.now ≡ Ok input.now.tokens.now }
+    requires shallow { depth ≤ 200 }
+    ensures found { IfOk result (λ f. Parsed input.now (grammar.if_item) meaning.if_item_of depth at (view.item f.value) f.to) }
+    ensures refused { IfErr result (λ e. Refused input.now.tokens.now depth (grammar.if_item) at e) }
+{
+    let word = take(input, at, TokenKind::KeywordIf)?;
+    let open = take(input, word, TokenKind::OpenParen)?;
+    let condition = expression(input, open, depth)?;
+    let close = take(input, condition.to, TokenKind::CloseParen)?;
+    let taken = block(input, close, depth)?;
+    let other = other_block(input, taken.to, depth)?;
+    let value = Item::new_if(input.alloc, at, condition.value, taken.value, other.value)?;
+    Ok(Found {
+        value,
+        to: other.to,
+    })
+}
+
+/// The block of an `else`, which belongs to the nearest `if`.
+#[cycle(items)]
+fn other_block(
+    input: &Input<'_>,
+    at: u32,
+    depth: u32,
+) -> Result<Found<Option<GenerateBlock>>, ParseError>
+    requires lexed { cut_text input.now.text.now ≡ Ok input.now.tokens.now }
+    requires shallow { depth ≤ 200 }
+    ensures found { IfOk result (λ f. Parsed input.now (part.other_block) meaning.else_block depth at (view.block_fallback f.value) f.to) }
+    ensures refused { IfErr result (λ e. Refused input.now.tokens.now depth (part.other_block) at e) }
+{
+    if !stands(input, at, TokenKind::KeywordElse) {
+        return Ok(Found {
+            value: None,
+            to: at,
+        });
+    }
+    let word = take(input, at, TokenKind::KeywordElse)?;
+    let other = block(input, word, depth)?;
+    Ok(Found {
+        value: Some(other.value),
+        to: other.to,
+    })
+}
+
+/// A generate `case`.
+#[cycle(items)]
+fn generate_case(input: &Input<'_>, at: u32, depth: u32) -> Result<Found<Item>, ParseError>
+    requires lexed { cut_text input.now.text.now ≡ Ok input.now.tokens.now }
+    requires shallow { depth ≤ 200 }
+    ensures found { IfOk result (λ f. Parsed input.now (grammar.generate_case) meaning.generate_case_of depth at (view.item f.value) f.to) }
+    ensures refused { IfErr result (λ e. Refused input.now.tokens.now depth (grammar.generate_case) at e) }
+{
+    let word = take(input, at, TokenKind::KeywordCase)?;
+    let open = take(input, word, TokenKind::OpenParen)?;
+    let subject = expression(input, open, depth)?;
+    let close = take(input, subject.to, TokenKind::CloseParen)?;
+    let cases = generate_cases(input, close, depth)?;
+    let end = take(input, cases.to, TokenKind::KeywordEndCase)?;
+    let value = Item::new_case(
+        input.alloc,
+        at,
+        subject.value,
+        cases.value.arms,
+        cases.value.other,
+    )?;
+    Ok(Found { value, to: end })
+}
+
+/// The arms of a generate `case`, and the block of its default.
+#[derive(Drop)]
+pub(crate) struct GenerateParts {
+    pub(crate) arms: Vec<GenerateArm>,
+    pub(crate) other: Option<GenerateBlock>,
+}
+
+/// The arms of a generate `case`, with at most one default among them.
+#[cycle(items)]
+fn generate_cases(
+    input: &Input<'_>,
+    at: u32,
+    depth: u32,
+) -> Result<Found<GenerateParts>, ParseError>
+    requires lexed { cut_text input.now.text.now ≡ Ok input.now.tokens.now }
+    requires shallow { depth ≤ 200 }
+    ensures found { IfOk result (λ f. Parsed input.now (r rule.GenerateCases) part.generate_cases_of depth at (part.generate_cases_view f.value) f.to) }
+    ensures refused { IfErr result (λ e. Refused input.now.tokens.now depth (r rule.GenerateCases) at e) }
+{
+    if stands(input, at, TokenKind::KeywordDefault) {
+        let other = generate_default(input, at, depth)?;
+        let list = generate_arms(input, other.to, depth, Vec::new(input.alloc))?;
+        return Ok(Found {
+            value: GenerateParts {
+                arms: list.value,
+                other: Some(other.value),
+            },
+            to: list.to,
+        });
+    }
+    let first = generate_arm(input, at, depth)?;
+    let mut start = Vec::new(input.alloc);
+    start.push(first.value)?;
+    let before = generate_arms(input, first.to, depth, start)?;
+    if !stands(input, before.to, TokenKind::KeywordDefault) {
+        return Ok(Found {
+            value: GenerateParts {
+                arms: before.value,
+                other: None,
+            },
+            to: before.to,
+        });
+    }
+    let default = generate_default(input, before.to, depth)?;
+    let arms = generate_arms(input, default.to, depth, before.value)?;
+    Ok(Found {
+        value: GenerateParts {
+            arms: arms.value,
+            other: Some(default.value),
+        },
+        to: arms.to,
+    })
+}
+
+/// Arms behind these ones.
+#[cycle(items)]
+fn generate_arms(
+    input: &Input<'_>,
+    at: u32,
+    depth: u32,
+    before: Vec<GenerateArm>,
+) -> Result<Found<Vec<GenerateArm>>, ParseError>
+    requires lexed { cut_text input.now.text.now ≡ Ok input.now.tokens.now }
+    requires shallow { depth ≤ 200 }
+    ensures found { IfOk result (λ f. Parsed input.now (star (r rule.GenerateCaseItem)) (λ b d. map part.generate_arm_view before.items ++ meaning.each_onto (part.generate_arm_of b) d []) depth at (map part.generate_arm_view f.value.items) f.to) }
+    ensures refused { IfErr result (λ e. Refused input.now.tokens.now depth (star (r rule.GenerateCaseItem)) at e) }
+{
+    let mut list = before;
+    let mut to = at;
+    while is_expression_at(input, to) {
+        let next = generate_arm(input, to, depth)?;
+        list.push(next.value)?;
+        to = next.to;
+    }
+    Ok(Found { value: list, to })
+}
+
+/// The labels of an arm, and its block.
+#[cycle(items)]
+fn generate_arm(input: &Input<'_>, at: u32, depth: u32) -> Result<Found<GenerateArm>, ParseError>
+    requires lexed { cut_text input.now.text.now ≡ Ok input.now.tokens.now }
+    requires shallow { depth ≤ 200 }
+    ensures found { IfOk result (λ f. Parsed input.now (r rule.GenerateCaseItem) part.generate_arm_of depth at (part.generate_arm_view f.value) f.to) }
+    ensures refused { IfErr result (λ e. Refused input.now.tokens.now depth (r rule.GenerateCaseItem) at e) }
+{
+    let labels = expressions(input, at, depth)?;
+    let colon = take(input, labels.to, TokenKind::Colon)?;
+    let block = block(input, colon, depth)?;
+    Ok(Found {
+        value: GenerateArm {
+            labels: labels.value,
+            block: block.value,
+        },
+        to: block.to,
+    })
+}
+
+/// The default of a generate `case`.
+#[cycle(items)]
+fn generate_default(
+    input: &Input<'_>,
+    at: u32,
+    depth: u32,
+) -> Result<Found<GenerateBlock>, ParseError>
+    requires lexed { cut_text input.now.text.now ≡ Ok input.now.tokens.now }
+    requires shallow { depth ≤ 200 }
+    ensures found { IfOk result (λ f. Parsed input.now (r rule.GenerateCaseDefault) part.generate_default_of depth at (tree.OtherwiseBlock (view.block f.value)) f.to) }
+    ensures refused { IfErr result (λ e. Refused input.now.tokens.now depth (r rule.GenerateCaseDefault) at e) }
+{
+    let word = take(input, at, TokenKind::KeywordDefault)?;
+    let colon = optional(input, word, depth, TokenKind::Colon);
+    let block = block(input, colon.to, depth)?;
+    Ok(block)
+}
+
+/// A generate block.
+#[cycle(items)]
+fn block(input: &Input<'_>, at: u32, depth: u32) -> Result<Found<GenerateBlock>, ParseError>
+    requires lexed { cut_text input.now.text.now ≡ Ok input.now.tokens.now }
+    requires shallow { depth ≤ 200 }
+    ensures found { IfOk result (λ f. Parsed input.now (r rule.GenerateBlock) meaning.block_of depth at (view.block f.value) f.to) }
+    ensures refused { IfErr result (λ e. Refused input.now.tokens.now depth (r rule.GenerateBlock) at e) }
+{
+    if !stands_any(input, at, &BLOCK_KINDS) {
+        return Err(ParseError::Syntax(at));
+    }
+    let inner = deeper(depth, at)?;
+    if stands(input, at, TokenKind::KeywordBegin) {
+        enclosed(input, at, inner)
+    } else if is_generate_item_at(input, at) {
+        let item = generate_item(input, at, inner)?;
+        let value = GenerateBlock::new_alone(input.alloc, item.value)?;
+        Ok(Found { value, to: item.to })
+    } else {
+        let to = take(input, at, TokenKind::Semicolon)?;
+        Ok(Found {
+            value: GenerateBlock::Empty { place: at },
+            to,
+        })
+    }
+}
+
+/// The items between `begin` and `end`.
+#[cycle(items)]
+fn enclosed(input: &Input<'_>, at: u32, depth: u32) -> Result<Found<GenerateBlock>, ParseError>
+    requires lexed { cut_text input.now.text.now ≡ Ok input.now.tokens.now }
+    requires shallow { depth ≤ 200 }
+    ensures found { IfOk result (λ f. Parsed input.now (part.enclosed) part.enclosed_tree depth at (view.block f.value) f.to) }
+    ensures refused { IfErr result (λ e. Refused input.now.tokens.now depth (part.enclosed) at e) }
+{
+    let begin = take(input, at, TokenKind::KeywordBegin)?;
+    let label = label(input, begin, depth)?;
+    let list = generate_items(input, label.to, depth, Vec::new(input.alloc))?;
+    let end = take(input, list.to, TokenKind::KeywordEnd)?;
+    let value = GenerateBlock::new_enclosed(at, label.value, list.value);
+    Ok(Found { value, to: end })
+}
+
+/// Items behind these ones.
+#[cycle(items)]
+fn generate_items(
+    input: &Input<'_>,
+    at: u32,
+    depth: u32,
+    before: Vec<Item>,
+) -> Result<Found<Vec<Item>>, ParseError>
+    requires lexed { cut_text input.now.text.now ≡ Ok input.now.tokens.now }
+    requires shallow { depth ≤ 200 }
+    ensures found { IfOk result (λ f. Parsed input.now (star (r rule.GenerateItem)) (λ b d. map view.item before.items ++ meaning.each_onto (meaning.item_of b) d []) depth at (map view.item f.value.items) f.to) }
+    ensures refused { IfErr result (λ e. Refused input.now.tokens.now depth (star (r rule.GenerateItem)) at e) }
+{
+    let mut list = before;
+    let mut to = at;
+    while is_generate_item_at(input, to) {
+        let next = generate_item(input, to, depth)?;
+        list.push(next.value)?;
+        to = next.to;
+    }
+    Ok(Found { value: list, to })
+}
+
+/// An item of a module behind these ones; `generate` and `endgenerate` leave nothing.
+fn item(
+    input: &Input<'_>,
+    at: u32,
+    depth: u32,
+    before: Vec<Item>,
+) -> Result<Found<Vec<Item>>, ParseError>
+    requires lexed { cut_text input.now.text.now ≡ Ok input.now.tokens.now }
+    requires shallow { depth ≤ 200 }
+    ensures found { IfOk result (λ f. ItemRead input.now before.items depth at f.value.items f.to) }
+    ensures refused { IfErr result (λ e. Refused input.now.tokens.now depth (r rule.Item) at e) }
+{
+    let mut list = before;
+    if stands_any(
+        input,
+        at,
+        &[TokenKind::KeywordInput, TokenKind::KeywordOutput],
+    ) {
+        let ports = ports_item(input, at, depth)?;
+        list.push(ports.value)?;
+        Ok(Found {
+            value: list,
+            to: ports.to,
+        })
+    } else if stands(input, at, TokenKind::KeywordParameter) {
+        let constants = parameters(input, at, depth)?;
+        list.push(constants.value)?;
+        Ok(Found {
+            value: list,
+            to: constants.to,
+        })
+    } else if stands(input, at, TokenKind::KeywordGenerate) {
+        let word = take(input, at, TokenKind::KeywordGenerate)?;
+        let items = generate_items(input, word, depth, list)?;
+        let end = take(input, items.to, TokenKind::KeywordEndGenerate)?;
+        Ok(Found {
+            value: items.value,
+            to: end,
+        })
+    } else {
+        let other = generate_item(input, at, depth)?;
+        list.push(other.value)?;
+        Ok(Found {
+            value: list,
+            to: other.to,
+        })
+    }
+}
+
+/// The items of a module.
+pub(crate) fn items(input: &Input<'_>, at: u32, depth: u32) -> Result<Found<Vec<Item>>, ParseError>
+    requires lexed { cut_text input.now.text.now ≡ Ok input.now.tokens.now }
+    requires shallow { depth ≤ 200 }
+    ensures found { IfOk result (λ f. Parsed input.now (star (r rule.Item)) (λ b d. meaning.items_onto b d tree.NoItem) depth at (view.items f.value.items) f.to) }
+    ensures refused { IfErr result (λ e. Refused input.now.tokens.now depth (star (r rule.Item)) at e) }
+{
+    let mut list = Vec::new(input.alloc);
+    let mut to = at;
+    while is_item_at(input, to) {
+        let next = item(input, to, depth, list)?;
+        list = next.value;
+        to = next.to;
+    }
+    Ok(Found { value: list, to })
+}

@@ -1,0 +1,462 @@
+//! Modules (IEEE 1364-2005, A.1.2).
+
+ghost use Rattle.std.specs.Prelude.{◌≡◌, ◌≤◌, MatchOption, IfOk, IfErr, Ok, false, [], ◌∷◌, ◌++◌, map};
+ghost use Rattle.vs_lexer.specs.Cuts.{cut_text};
+ghost use Rattle.vs_lexer.specs.declared.token.TokenKind.TheVariants as kind;
+ghost use Rattle.vs_grammar.specs.Grammars.{opt, star};
+ghost use Rattle.vs_grammar.specs.Verilog.{Rule as rule, r, t, separated, ◌⨾◌};
+ghost use Rattle.vs_grammar.specs.Meaning as meaning;
+ghost use Rattle.vs_grammar.specs.Trees as tree;
+ghost use Rattle.vs_grammar.specs.Predictive.{is_member};
+ghost use Rattle.vs_grammar.specs.Verilog as grammar;
+ghost use Rattle.vs_ast.specs.Views as view;
+ghost use Rattle.vs_parser.specs.Headings as part;
+ghost use Rattle.vs_parser.specs.Headings.{ParametersRead, ParametersStep, PortRead, PortsRead, PortsStep};
+ghost use Rattle.vs_parser.specs.Reading.{Parsed, Refused};
+
+use crate::declarations::{direction, identifiers, optional_range, plain_declarator, setting};
+use crate::error::ParseError;
+use crate::input::{Found, Input};
+use crate::items::items;
+use crate::tokens::{optional, stands, stands_any, take};
+use crate::words::identifier;
+use std::alloc::Global;
+use vs_ast::{Declarator, Header, Module, Parameters, Range, Setting, Signals, Source};
+use vs_lexer::TokenKind;
+
+/// The parameters in a header.
+fn header_parameters(
+    input: &Input<'_>,
+    at: u32,
+    depth: u32,
+) -> Result<Found<Vec<Parameters>>, ParseError>
+    requires lexed { cut_text input.now.text.now ≡ Ok input.now.tokens.now }
+    requires shallow { depth ≤ 200 }
+    ensures found { IfOk result (λ f. Parsed input.now (r rule.HeaderParameters) meaning.header_parameters depth at (map view.parameters f.value.items) f.to) }
+    ensures refused { IfErr result (λ e. Refused input.now.tokens.now depth (r rule.HeaderParameters) at e) }
+{
+    let word = take(input, at, TokenKind::KeywordParameter)?;
+    let signed = optional(input, word, depth, TokenKind::KeywordSigned);
+    let range = optional_range(input, signed.to, depth)?;
+    let first = setting(input, range.to, depth)?;
+    let last = declaration(input.alloc, at, signed.value, range.value, first.value)?;
+    let list = more_parameters(input, first.to, depth, last)?;
+    Ok(Found {
+        value: list.value,
+        to: list.to,
+    })
+}
+
+/// A declaration in a header, with one parameter.
+fn declaration(
+    alloc: Global,
+    place: u32,
+    signed: bool,
+    range: Option<Range>,
+    first: Setting,
+) -> Result<Parameters, ParseError>
+    ensures declared { IfOk result (λ p. view.parameters p ≡ part.declaration place signed (view.option view.range range) (view.setting first)) }
+    ensures memory { IfErr result (λ e. e ≡ ParseError.Memory) }
+{
+    let mut settings = Vec::new(alloc);
+    settings.push(first)?;
+    Ok(Parameters {
+        place,
+        is_local: false,
+        signed,
+        range,
+        settings,
+    })
+}
+
+/// The parameter with one setting more.
+fn with_setting(declared: Parameters, setting: Setting) -> Result<Parameters, ParseError>
+    ensures longer { IfOk result (λ p. view.parameters p ≡ part.with_settings (view.parameters declared) (view.setting setting ∷ [])) }
+    ensures memory { IfErr result (λ e. e ≡ ParseError.Memory) }
+{
+    let Parameters {
+        place,
+        is_local,
+        signed,
+        range,
+        settings,
+    } = declared;
+    let mut settings = settings;
+    settings.push(setting)?;
+    Ok(Parameters {
+        place,
+        is_local,
+        signed,
+        range,
+        settings,
+    })
+}
+
+/// A declaration that begins with its own `parameter`, in a header, with its first parameter.
+fn next_declaration(input: &Input<'_>, at: u32, depth: u32) -> Result<Found<Parameters>, ParseError>
+    requires lexed { cut_text input.now.text.now ≡ Ok input.now.tokens.now }
+    requires shallow { depth ≤ 200 }
+    ensures found { IfOk result (λ f. Parsed input.now part.next_declaration part.next_declaration_of depth at (view.parameters f.value) f.to) }
+    ensures refused { IfErr result (λ e. Refused input.now.tokens.now depth part.next_declaration at e) }
+{
+    let word = take(input, at, TokenKind::KeywordParameter)?;
+    let signed = optional(input, word, depth, TokenKind::KeywordSigned);
+    let range = optional_range(input, signed.to, depth)?;
+    let first = setting(input, range.to, depth)?;
+    let value = declaration(input.alloc, at, signed.value, range.value, first.value)?;
+    Ok(Found {
+        value,
+        to: first.to,
+    })
+}
+
+/// The declarations of a header, of which the last may go on.
+#[derive(Drop)]
+struct ParametersSoFar {
+    list: Vec<Parameters>,
+    last: Parameters,
+    to: u32,
+}
+
+/// A further declaration, or a further setting of the last one.
+fn parameter_or_setting(
+    input: &Input<'_>,
+    at: u32,
+    depth: u32,
+    state: ParametersSoFar,
+) -> Result<ParametersSoFar, ParseError>
+    requires lexed { cut_text input.now.text.now ≡ Ok input.now.tokens.now }
+    requires shallow { depth ≤ 200 }
+    ensures found { IfOk result (λ s. ParametersStep input.now (map view.parameters state.list.items) (view.parameters state.last) depth at (map view.parameters s.list.items) (view.parameters s.last) s.to) }
+    ensures refused { IfErr result (λ e. Refused input.now.tokens.now depth part.parameter_step at e) }
+{
+    let ParametersSoFar { list, last, .. } = state;
+    if stands(input, at, TokenKind::KeywordParameter) {
+        let next = next_declaration(input, at, depth)?;
+        let mut longer = list;
+        longer.push(last)?;
+        Ok(ParametersSoFar {
+            list: longer,
+            last: next.value,
+            to: next.to,
+        })
+    } else {
+        let more = setting(input, at, depth)?;
+        let last = with_setting(last, more.value)?;
+        Ok(ParametersSoFar {
+            list,
+            last,
+            to: more.to,
+        })
+    }
+}
+
+/// The declarations of a header from this one on, which goes on with each setting that no `parameter` stands before.
+fn more_parameters(
+    input: &Input<'_>,
+    at: u32,
+    depth: u32,
+    first: Parameters,
+) -> Result<Found<Vec<Parameters>>, ParseError>
+    requires lexed { cut_text input.now.text.now ≡ Ok input.now.tokens.now }
+    requires shallow { depth ≤ 200 }
+    ensures found { IfOk result (λ f. ParametersRead input.now (view.parameters first) depth at (map view.parameters f.value.items) f.to) }
+    ensures refused { IfErr result (λ e. Refused input.now.tokens.now depth part.more_parameters at e) }
+{
+    let mut state = ParametersSoFar {
+        list: Vec::new(input.alloc),
+        last: first,
+        to: at,
+    };
+    while stands(input, state.to, TokenKind::Comma) {
+        let comma = take(input, state.to, TokenKind::Comma)?;
+        state = parameter_or_setting(input, comma, depth, state)?;
+    }
+    let ParametersSoFar { list, last, to } = state;
+    let mut list = list;
+    list.push(last)?;
+    Ok(Found { value: list, to })
+}
+
+/// The parameters of a module, if it declares any in its header.
+fn module_parameters(
+    input: &Input<'_>,
+    at: u32,
+    depth: u32,
+) -> Result<Found<Vec<Parameters>>, ParseError>
+    requires lexed { cut_text input.now.text.now ≡ Ok input.now.tokens.now }
+    requires shallow { depth ≤ 200 }
+    ensures found { IfOk result (λ f. Parsed input.now (part.module_parameters) meaning.module_parameters depth at (map view.parameters f.value.items) f.to) }
+    ensures refused { IfErr result (λ e. Refused input.now.tokens.now depth (part.module_parameters) at e) }
+{
+    if !stands(input, at, TokenKind::Hash) {
+        return Ok(Found {
+            value: Vec::new(input.alloc),
+            to: at,
+        });
+    }
+    let hash = take(input, at, TokenKind::Hash)?;
+    let open = take(input, hash, TokenKind::OpenParen)?;
+    let list = header_parameters(input, open, depth)?;
+    let close = take(input, list.to, TokenKind::CloseParen)?;
+    Ok(Found {
+        value: list.value,
+        to: close,
+    })
+}
+
+/// A declaration in a list of ports, with its first name.
+fn port(input: &Input<'_>, at: u32, depth: u32) -> Result<Found<Signals>, ParseError>
+    requires lexed { cut_text input.now.text.now ≡ Ok input.now.tokens.now }
+    requires shallow { depth ≤ 200 }
+    ensures found { IfOk result (λ f. PortRead input.now depth at (view.signals f.value) f.to) }
+    ensures refused { IfErr result (λ e. Refused input.now.tokens.now depth (r rule.Port) at e) }
+{
+    let kind = direction(input, at, depth)?;
+    let signed = optional(input, kind.to, depth, TokenKind::KeywordSigned);
+    let range = optional_range(input, signed.to, depth)?;
+    let name = plain_declarator(input, range.to, depth)?;
+    let mut names = Vec::new(input.alloc);
+    names.push(name.value)?;
+    let value = Signals {
+        place: at,
+        kind: kind.value,
+        signed: signed.value,
+        range: range.value,
+        names,
+    };
+    Ok(Found { value, to: name.to })
+}
+
+/// The declaration with one name more.
+fn with_name(declared: Signals, name: Declarator) -> Result<Signals, ParseError>
+    ensures longer { IfOk result (λ s. view.signals s ≡ part.with_names (view.signals declared) (view.declarator name ∷ [])) }
+    ensures memory { IfErr result (λ e. e ≡ ParseError.Memory) }
+{
+    let Signals {
+        place,
+        kind,
+        signed,
+        range,
+        names,
+    } = declared;
+    let mut names = names;
+    names.push(name)?;
+    Ok(Signals {
+        place,
+        kind,
+        signed,
+        range,
+        names,
+    })
+}
+
+/// The declarations of a list of ports, of which the last may go on.
+#[derive(Drop)]
+struct PortsSoFar {
+    list: Vec<Signals>,
+    last: Signals,
+    to: u32,
+}
+
+/// A further declaration, or a further name of the last one.
+fn port_or_name(
+    input: &Input<'_>,
+    at: u32,
+    depth: u32,
+    state: PortsSoFar,
+) -> Result<PortsSoFar, ParseError>
+    requires lexed { cut_text input.now.text.now ≡ Ok input.now.tokens.now }
+    requires shallow { depth ≤ 200 }
+    ensures found { IfOk result (λ s. PortsStep input.now (map view.signals state.list.items) (view.signals state.last) depth at (map view.signals s.list.items) (view.signals s.last) s.to) }
+    ensures refused { IfErr result (λ e. Refused input.now.tokens.now depth part.port_step at e) }
+{
+    let PortsSoFar { list, last, .. } = state;
+    if stands_any(
+        input,
+        at,
+        &[TokenKind::KeywordInput, TokenKind::KeywordOutput],
+    ) {
+        let next = port(input, at, depth)?;
+        let mut longer = list;
+        longer.push(last)?;
+        Ok(PortsSoFar {
+            list: longer,
+            last: next.value,
+            to: next.to,
+        })
+    } else {
+        let more = plain_declarator(input, at, depth)?;
+        let last = with_name(last, more.value)?;
+        Ok(PortsSoFar {
+            list,
+            last,
+            to: more.to,
+        })
+    }
+}
+
+/// The declarations of a list of ports from this one on, which goes on with each lone name.
+fn more_ports(
+    input: &Input<'_>,
+    at: u32,
+    depth: u32,
+    first: Signals,
+) -> Result<Found<Vec<Signals>>, ParseError>
+    requires lexed { cut_text input.now.text.now ≡ Ok input.now.tokens.now }
+    requires shallow { depth ≤ 200 }
+    ensures found { IfOk result (λ f. PortsRead input.now (view.signals first) depth at (map view.signals f.value.items) f.to) }
+    ensures refused { IfErr result (λ e. Refused input.now.tokens.now depth part.more_ports at e) }
+{
+    let mut state = PortsSoFar {
+        list: Vec::new(input.alloc),
+        last: first,
+        to: at,
+    };
+    while stands(input, state.to, TokenKind::Comma) {
+        let comma = take(input, state.to, TokenKind::Comma)?;
+        state = port_or_name(input, comma, depth, state)?;
+    }
+    let PortsSoFar { list, last, to } = state;
+    let mut list = list;
+    list.push(last)?;
+    Ok(Found { value: list, to })
+}
+
+/// A list of ports.
+fn ports(input: &Input<'_>, at: u32, depth: u32) -> Result<Found<Header>, ParseError>
+    requires lexed { cut_text input.now.text.now ≡ Ok input.now.tokens.now }
+    requires shallow { depth ≤ 200 }
+    ensures found { IfOk result (λ f. Parsed input.now (r rule.Ports) meaning.ports_of depth at (view.header f.value) f.to) }
+    ensures refused { IfErr result (λ e. Refused input.now.tokens.now depth (r rule.Ports) at e) }
+{
+    if stands(input, at, TokenKind::Identifier) {
+        let names = identifiers(input, at, depth)?;
+        Ok(Found {
+            value: Header::Plain(names.value),
+            to: names.to,
+        })
+    } else {
+        let first = port(input, at, depth)?;
+        let list = more_ports(input, first.to, depth, first.value)?;
+        Ok(Found {
+            value: Header::Declared(list.value),
+            to: list.to,
+        })
+    }
+}
+
+/// A list of ports, if there is one.
+fn optional_ports(input: &Input<'_>, at: u32, depth: u32) -> Result<Found<Header>, ParseError>
+    requires lexed { cut_text input.now.text.now ≡ Ok input.now.tokens.now }
+    requires shallow { depth ≤ 200 }
+    ensures found { IfOk result (λ f. Parsed input.now (opt (r rule.Ports)) part.optional_ports_of depth at (view.header f.value) f.to) }
+    ensures refused { IfErr result (λ e. Refused input.now.tokens.now depth (opt (r rule.Ports)) at e) }
+{
+    if !stands_any(
+        input,
+        at,
+        &[
+            TokenKind::Identifier,
+            TokenKind::KeywordInput,
+            TokenKind::KeywordOutput,
+        ],
+    ) {
+        return Ok(Found {
+            value: Header::NoPorts,
+            to: at,
+        });
+    }
+    let inner = ports(input, at, depth)?;
+    Ok(Found {
+        value: inner.value,
+        to: inner.to,
+    })
+}
+
+/// The ports of a module, if it has a list of them.
+fn header(input: &Input<'_>, at: u32, depth: u32) -> Result<Found<Header>, ParseError>
+    requires lexed { cut_text input.now.text.now ≡ Ok input.now.tokens.now }
+    requires shallow { depth ≤ 200 }
+    ensures found { IfOk result (λ f. Parsed input.now (part.header) meaning.header_of depth at (view.header f.value) f.to) }
+    ensures refused { IfErr result (λ e. Refused input.now.tokens.now depth (part.header) at e) }
+{
+    if !stands(input, at, TokenKind::OpenParen) {
+        return Ok(Found {
+            value: Header::NoPorts,
+            to: at,
+        });
+    }
+    let open = take(input, at, TokenKind::OpenParen)?;
+    let list = optional_ports(input, open, depth)?;
+    let close = take(input, list.to, TokenKind::CloseParen)?;
+    Ok(Found {
+        value: list.value,
+        to: close,
+    })
+}
+
+/// A module.
+fn module(input: &Input<'_>, at: u32, depth: u32) -> Result<Found<Module>, ParseError>
+    requires lexed { cut_text input.now.text.now ≡ Ok input.now.tokens.now }
+    requires shallow { depth ≤ 200 }
+    ensures found { IfOk result (λ f. Parsed input.now (r rule.Module) meaning.module_of depth at (view.module_tree f.value) f.to) }
+    ensures refused { IfErr result (λ e. Refused input.now.tokens.now depth (r rule.Module) at e) }
+{
+    let word = take(input, at, TokenKind::KeywordModule)?;
+    let name = identifier(input, word)?;
+    let parameters = module_parameters(input, name.to, depth)?;
+    let header = header(input, parameters.to, depth)?;
+    let semicolon = take(input, header.to, TokenKind::Semicolon)?;
+    let items = items(input, semicolon, depth)?;
+    let end = take(input, items.to, TokenKind::KeywordEndModule)?;
+    let value = Module {
+        place: at,
+        name: name.value,
+        parameters: parameters.value,
+        header: header.value,
+        items: items.value,
+    };
+    Ok(Found { value, to: end })
+}
+
+/// Modules behind these ones.
+fn more_modules(
+    input: &Input<'_>,
+    at: u32,
+    depth: u32,
+    before: Vec<Module>,
+) -> Result<Found<Vec<Module>>, ParseError>
+    requires lexed { cut_text input.now.text.now ≡ Ok input.now.tokens.now }
+    requires shallow { depth ≤ 200 }
+    ensures found { IfOk result (λ f. Parsed input.now (star (r rule.Module)) (λ b d. map view.module_tree before.items ++ meaning.each_onto (meaning.module_of b) d []) depth at (map view.module_tree f.value.items) f.to) }
+    ensures refused { IfErr result (λ e. Refused input.now.tokens.now depth (star (r rule.Module)) at e) }
+{
+    let mut list = before;
+    let mut to = at;
+    while stands(input, to, TokenKind::KeywordModule) {
+        let next = module(input, to, depth)?;
+        list.push(next.value)?;
+        to = next.to;
+    }
+    Ok(Found { value: list, to })
+}
+
+/// The modules of a text.
+pub(crate) fn source(input: &Input<'_>, at: u32, depth: u32) -> Result<Found<Source>, ParseError>
+    requires lexed { cut_text input.now.text.now ≡ Ok input.now.tokens.now }
+    requires shallow { depth ≤ 200 }
+    ensures found { IfOk result (λ f. Parsed input.now (r rule.Source) meaning.source_of depth at (view.source f.value) f.to) }
+    ensures refused { IfErr result (λ e. Refused input.now.tokens.now depth (r rule.Source) at e) }
+{
+    let first = module(input, at, depth)?;
+    let mut begun = Vec::new(input.alloc);
+    begun.push(first.value)?;
+    let modules = more_modules(input, first.to, depth, begun)?;
+    Ok(Found {
+        value: Source {
+            modules: modules.value,
+        },
+        to: modules.to,
+    })
+}

@@ -1,0 +1,291 @@
+//! Continuous assignments and `always` blocks (IEEE 1364-2005, A.6).
+
+ghost use Rattle.std.specs.Prelude.{◌≡◌, ◌≤◌, MatchOption, IfOk, IfErr, Ok, false, [], ◌∷◌, ◌++◌, map};
+ghost use Rattle.vs_lexer.specs.Cuts.{cut_text};
+ghost use Rattle.vs_lexer.specs.declared.token.TokenKind.TheVariants as kind;
+ghost use Rattle.vs_grammar.specs.Grammars.{opt, star};
+ghost use Rattle.vs_grammar.specs.Verilog.{Rule as rule, r, t, separated, ◌⨾◌};
+ghost use Rattle.vs_grammar.specs.Meaning as meaning;
+ghost use Rattle.vs_grammar.specs.Trees as tree;
+ghost use Rattle.vs_grammar.specs.Predictive.{is_member};
+ghost use Rattle.vs_grammar.specs.Verilog as grammar;
+ghost use Rattle.vs_ast.specs.Views as view;
+ghost use Rattle.vs_parser.specs.Parts as part;
+ghost use Rattle.vs_parser.specs.Reading.{Chosen, Parsed, Refused, kind_at};
+
+use crate::error::ParseError;
+use crate::expressions::expression;
+use crate::input::{Found, Input};
+use crate::statements::{statement, target};
+use crate::tokens::{choose, stands, take};
+use crate::words::identifier;
+use vs_ast::{AlwaysBlock, Assign, Edge, Event, EventControl, Item};
+use vs_lexer::TokenKind;
+
+/// What stands between two events.
+const EVENT_SIGNS: [(TokenKind, ()); 2] = [(TokenKind::KeywordOr, ()), (TokenKind::Comma, ())];
+
+/// A target and what it is assigned.
+fn assign(input: &Input<'_>, at: u32, depth: u32) -> Result<Found<Assign>, ParseError>
+    requires lexed { cut_text input.now.text.now ≡ Ok input.now.tokens.now }
+    requires shallow { depth ≤ 200 }
+    ensures found { IfOk result (λ f. Parsed input.now (grammar.assignment) meaning.assign_of depth at (view.assign f.value) f.to) }
+    ensures refused { IfErr result (λ e. Refused input.now.tokens.now depth (grammar.assignment) at e) }
+{
+    let target = target(input, at, depth)?;
+    let sign = take(input, target.to, TokenKind::Assign)?;
+    let value = expression(input, sign, depth)?;
+    Ok(Found {
+        value: Assign {
+            target: target.value,
+            value: value.value,
+        },
+        to: value.to,
+    })
+}
+
+/// Assignments, with commas between them.
+fn assign_list(input: &Input<'_>, at: u32, depth: u32) -> Result<Found<Vec<Assign>>, ParseError>
+    requires lexed { cut_text input.now.text.now ≡ Ok input.now.tokens.now }
+    requires shallow { depth ≤ 200 }
+    ensures found { IfOk result (λ f. Parsed input.now (separated (grammar.assignment)) (λ b d. meaning.list_of (meaning.assign_of b) d) depth at (map view.assign f.value.items) f.to) }
+    ensures refused { IfErr result (λ e. Refused input.now.tokens.now depth (separated (grammar.assignment)) at e) }
+{
+    let mut list = Vec::new(input.alloc);
+    let first = assign(input, at, depth)?;
+    list.push(first.value)?;
+    let mut to = first.to;
+    while stands(input, to, TokenKind::Comma) {
+        let comma = take(input, to, TokenKind::Comma)?;
+        let next = assign(input, comma, depth)?;
+        list.push(next.value)?;
+        to = next.to;
+    }
+    Ok(Found { value: list, to })
+}
+
+/// Continuous assignments.
+pub(crate) fn assigns(input: &Input<'_>, at: u32, depth: u32) -> Result<Found<Item>, ParseError>
+    requires lexed { cut_text input.now.text.now ≡ Ok input.now.tokens.now }
+    requires shallow { depth ≤ 200 }
+    ensures found { IfOk result (λ f. Parsed input.now (grammar.assign_item) meaning.assign_item_of depth at (view.item f.value) f.to) }
+    ensures refused { IfErr result (λ e. Refused input.now.tokens.now depth (grammar.assign_item) at e) }
+{
+    let word = take(input, at, TokenKind::KeywordAssign)?;
+    let list = assign_list(input, word, depth)?;
+    let end = take(input, list.to, TokenKind::Semicolon)?;
+    let value = Item::Assigns {
+        place: at,
+        assigns: list.value,
+    };
+    Ok(Found { value, to: end })
+}
+
+/// Which edge is named.
+fn edge(input: &Input<'_>, at: u32, depth: u32) -> Result<Found<Edge>, ParseError>
+    requires lexed { cut_text input.now.text.now ≡ Ok input.now.tokens.now }
+    requires shallow { depth ≤ 200 }
+    ensures found { IfOk result (λ f. Parsed input.now (part.edge_words) (λ b d. meaning.edge_of d) depth at (view.edge f.value) f.to) }
+    ensures refused { IfErr result (λ e. Refused input.now.tokens.now depth (part.edge_words) at e) }
+{
+    if stands(input, at, TokenKind::KeywordPosedge) {
+        let posedge = take(input, at, TokenKind::KeywordPosedge)?;
+        Ok(Found {
+            value: Edge::Posedge,
+            to: posedge,
+        })
+    } else if stands(input, at, TokenKind::KeywordNegedge) {
+        let negedge = take(input, at, TokenKind::KeywordNegedge)?;
+        Ok(Found {
+            value: Edge::Negedge,
+            to: negedge,
+        })
+    } else {
+        Ok(Found {
+            value: Edge::Any,
+            to: at,
+        })
+    }
+}
+
+/// An event.
+fn event(input: &Input<'_>, at: u32, depth: u32) -> Result<Found<Event>, ParseError>
+    requires lexed { cut_text input.now.text.now ≡ Ok input.now.tokens.now }
+    requires shallow { depth ≤ 200 }
+    ensures found { IfOk result (λ f. Parsed input.now (r rule.Event) meaning.event_of depth at (view.event f.value) f.to) }
+    ensures refused { IfErr result (λ e. Refused input.now.tokens.now depth (r rule.Event) at e) }
+{
+    let edge = edge(input, at, depth)?;
+    let name = identifier(input, edge.to)?;
+    Ok(Found {
+        value: Event {
+            edge: edge.value,
+            name: name.value,
+        },
+        to: name.to,
+    })
+}
+
+/// What stands between two events, if it stands here.
+fn event_sign(input: &Input<'_>, at: u32) -> Option<Found<()>>
+    requires lexed { cut_text input.now.text.now ≡ Ok input.now.tokens.now }
+    ensures { MatchOption result (is_member (kind_at input.now.tokens.now at) part.event_kinds ≡ false) (λ f. Chosen input.now.tokens.now part.event_sign part.nothing_of at f.value f.to) }
+{
+    choose(input, at, &EVENT_SIGNS)
+}
+
+/// Events behind these ones, each after `or` or a comma.
+fn more_events(
+    input: &Input<'_>,
+    at: u32,
+    depth: u32,
+    before: Vec<Event>,
+) -> Result<Found<Vec<Event>>, ParseError>
+    requires lexed { cut_text input.now.text.now ≡ Ok input.now.tokens.now }
+    requires shallow { depth ≤ 200 }
+    ensures found { IfOk result (λ f. Parsed input.now (part.events_behind) (λ b d. map view.event before.items ++ meaning.each_onto (meaning.behind_sign (meaning.event_of b)) d []) depth at (map view.event f.value.items) f.to) }
+    ensures refused { IfErr result (λ e. Refused input.now.tokens.now depth (part.events_behind) at e) }
+{
+    let mut list = before;
+    let mut to = at;
+    while let Some(sign) = event_sign(input, to) {
+        let next = event(input, sign.to, depth)?;
+        list.push(next.value)?;
+        to = next.to;
+    }
+    Ok(Found { value: list, to })
+}
+
+/// Events, with `or` or commas between them.
+fn events(input: &Input<'_>, at: u32, depth: u32) -> Result<Found<Vec<Event>>, ParseError>
+    requires lexed { cut_text input.now.text.now ≡ Ok input.now.tokens.now }
+    requires shallow { depth ≤ 200 }
+    ensures found { IfOk result (λ f. Parsed input.now (part.events) part.events_of depth at (map view.event f.value.items) f.to) }
+    ensures refused { IfErr result (λ e. Refused input.now.tokens.now depth (part.events) at e) }
+{
+    let first = event(input, at, depth)?;
+    let mut begun = Vec::new(input.alloc);
+    begun.push(first.value)?;
+    let list = more_events(input, first.to, depth, begun)?;
+    Ok(Found {
+        value: list.value,
+        to: list.to,
+    })
+}
+
+/// The event of a name.
+fn single_event(input: &Input<'_>, at: u32, depth: u32) -> Result<Found<EventControl>, ParseError>
+    requires lexed { cut_text input.now.text.now ≡ Ok input.now.tokens.now }
+    requires shallow { depth ≤ 200 }
+    ensures found { IfOk result (λ f. Parsed input.now (t kind.Identifier) part.single_event depth at (view.event_control f.value) f.to) }
+    ensures refused { IfErr result (λ e. Refused input.now.tokens.now depth (t kind.Identifier) at e) }
+{
+    let name = identifier(input, at)?;
+    let mut list = Vec::new(input.alloc);
+    list.push(Event {
+        edge: Edge::Any,
+        name: name.value,
+    })?;
+    Ok(Found {
+        value: EventControl::Listed(list),
+        to: name.to,
+    })
+}
+
+/// What stands in the brackets of an event control.
+fn inner_control(input: &Input<'_>, at: u32, depth: u32) -> Result<Found<EventControl>, ParseError>
+    requires lexed { cut_text input.now.text.now ≡ Ok input.now.tokens.now }
+    requires shallow { depth ≤ 200 }
+    ensures found { IfOk result (λ f. Parsed input.now (part.inner_control) part.inner_control_of depth at (view.event_control f.value) f.to) }
+    ensures refused { IfErr result (λ e. Refused input.now.tokens.now depth (part.inner_control) at e) }
+{
+    if stands(input, at, TokenKind::Star) {
+        let star = take(input, at, TokenKind::Star)?;
+        Ok(Found {
+            value: EventControl::Star,
+            to: star,
+        })
+    } else {
+        let list = events(input, at, depth)?;
+        Ok(Found {
+            value: EventControl::Listed(list.value),
+            to: list.to,
+        })
+    }
+}
+
+/// An event control in brackets.
+fn bracketed_control(
+    input: &Input<'_>,
+    at: u32,
+    depth: u32,
+) -> Result<Found<EventControl>, ParseError>
+    requires lexed { cut_text input.now.text.now ≡ Ok input.now.tokens.now }
+    requires shallow { depth ≤ 200 }
+    ensures found { IfOk result (λ f. Parsed input.now (part.bracketed_control) part.bracketed_control_of depth at (view.event_control f.value) f.to) }
+    ensures refused { IfErr result (λ e. Refused input.now.tokens.now depth (part.bracketed_control) at e) }
+{
+    let open = take(input, at, TokenKind::OpenParen)?;
+    let control = inner_control(input, open, depth)?;
+    let close = take(input, control.to, TokenKind::CloseParen)?;
+    Ok(Found {
+        value: control.value,
+        to: close,
+    })
+}
+
+/// What stands behind the `@` of an event control.
+fn control(input: &Input<'_>, at: u32, depth: u32) -> Result<Found<EventControl>, ParseError>
+    requires lexed { cut_text input.now.text.now ≡ Ok input.now.tokens.now }
+    requires shallow { depth ≤ 200 }
+    ensures found { IfOk result (λ f. Parsed input.now (part.control) part.control_of depth at (view.event_control f.value) f.to) }
+    ensures refused { IfErr result (λ e. Refused input.now.tokens.now depth (part.control) at e) }
+{
+    if stands(input, at, TokenKind::Identifier) {
+        single_event(input, at, depth)
+    } else if stands(input, at, TokenKind::Star) {
+        let star = take(input, at, TokenKind::Star)?;
+        Ok(Found {
+            value: EventControl::Star,
+            to: star,
+        })
+    } else {
+        bracketed_control(input, at, depth)
+    }
+}
+
+/// What a block waits for.
+fn event_control(input: &Input<'_>, at: u32, depth: u32) -> Result<Found<EventControl>, ParseError>
+    requires lexed { cut_text input.now.text.now ≡ Ok input.now.tokens.now }
+    requires shallow { depth ≤ 200 }
+    ensures found { IfOk result (λ f. Parsed input.now (r rule.EventControl) meaning.control_of depth at (view.event_control f.value) f.to) }
+    ensures refused { IfErr result (λ e. Refused input.now.tokens.now depth (r rule.EventControl) at e) }
+{
+    let sign = take(input, at, TokenKind::At)?;
+    let control = control(input, sign, depth)?;
+    Ok(Found {
+        value: control.value,
+        to: control.to,
+    })
+}
+
+/// An `always` block.
+pub(crate) fn always(input: &Input<'_>, at: u32, depth: u32) -> Result<Found<Item>, ParseError>
+    requires lexed { cut_text input.now.text.now ≡ Ok input.now.tokens.now }
+    requires shallow { depth ≤ 200 }
+    ensures found { IfOk result (λ f. Parsed input.now (grammar.always_item) meaning.always_item_of depth at (view.item f.value) f.to) }
+    ensures refused { IfErr result (λ e. Refused input.now.tokens.now depth (grammar.always_item) at e) }
+{
+    let word = take(input, at, TokenKind::KeywordAlways)?;
+    let control = event_control(input, word, depth)?;
+    let statement = statement(input, control.to, depth)?;
+    let value = Item::Always(AlwaysBlock {
+        place: at,
+        control: control.value,
+        statement: statement.value,
+    });
+    Ok(Found {
+        value,
+        to: statement.to,
+    })
+}
