@@ -1,4 +1,7 @@
 pub mod Rows
+pub mod FirstVector
+pub mod VectorSizes
+pub mod Behind
 pub mod Arranged
 pub mod Counted
 pub mod Headed

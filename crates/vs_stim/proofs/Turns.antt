@@ -3,16 +3,17 @@ use Rattle.std.proofs.Common.{◌≡◌, ℕ, ◌+◌, ◌≤◌, Bool, true, fa
 use Rattle.std.proofs.lemmas.Bool.{le-ltb}
 use Rattle.std.specs.Prelude.{Option, Some, None, IsTrue}
 use Rattle.vs_stim.specs.declared.error.StimError.{StimError}
-use Rattle.vs_stim.specs.declared.error.StimError.TheVariants.{BadVector, StimulusTooLong}
+use Rattle.vs_stim.specs.declared.error.StimError.TheVariants.{BadHeader, BadVector, StimulusTooLong}
 use Rattle.vs_stim.specs.declared.input.Column.{Column}
+use Rattle.vs_stim.specs.declared.input.Input.{Input}
 use Rattle.vs_stim.specs.Lines.{lines, all_lines}
-use Rattle.vs_stim.specs.Reading.{Reading, refused, with_vector, limits, behind, too_long, Said, said, vector_line, not_taken, at_end, read_vectors}
+use Rattle.vs_stim.specs.Reading.{Reading, refused, with_vector, limits, behind, too_long, Said, said, header_line, header_fault, vector_line, not_taken, at_end, read_vectors}
 use Rattle.vs_stim.specs.Reading.Said.{Skipped, Malformed, Given}
 use Rattle.vs_stim.specs.Row.{Values}
 use Rattle.vs_stim.specs.Fields.{is_skipped, fields}
 use Rattle.vs_stim.specs.Vectors.{vector}
 use Rattle.vs_stim.specs.Known.{lines_tell}
-use Rattle.vs_stim.specs.Source.{Open, line_length, line_refusal, says, vectors_from, text_tells, is_told, Passes}
+use Rattle.vs_stim.specs.Source.{Open, line_length, line_refusal, says, vectors_from, header_fault_from, text_tells, is_told, Passes}
 
 refusal_here : (o : Open) → o.taken ≡ 0 → too_long limits o.at (length (lines o.rest).first.bytes) (lines o.rest).first.ended ≡ line_refusal o
 refusal_here o z = ap (λ n. too_long limits o.at n (lines o.rest).first.ended) (sym (zero-add (length (lines o.rest).first.bytes)) ∙ ap (λ t. t + length (lines o.rest).first.bytes) (sym z))
@@ -46,6 +47,24 @@ later_vectors cs o p count z h = λ i. read_vectors limits cs (sym (h.at refl �
 pub vectors_skipped : (cs : List Column) (o p : Open) (count : ℕ) → o.taken ≡ 0 → Passes false o p → vector_line cs (says o) ≡ Skipped → vectors_from cs count o ≡ vectors_from cs count p
 unfolding vector_turn
 vectors_skipped cs o p count z h s = turned cs o count None Skipped z h.kept s ∙ later_vectors cs o p count z h
+
+-- a line before the vectors, by its refusal and by what it says
+fault_turn : List Input → Open → Option StimError → Said (List Column) → Option StimError
+fault_turn is o r s =
+    elim r [
+      | Some e ↦ Some e
+      | None ↦ elim s [
+        | Skipped ↦ header_fault limits is (behind o.at (length (lines o.rest).first.bytes)) (lines o.rest).later
+        | Malformed ↦ Some BadHeader
+        | Given cs ↦ None
+      ]
+    ]
+
+pub fault_skipped : (is : List Input) (o p : Open) → o.taken ≡ 0 → Passes false o p → header_line is (says o) ≡ Skipped → header_fault_from is o ≡ header_fault_from is p
+unfolding fault_turn
+fault_skipped is o p z h s =
+    let turned : header_fault_from is o ≡ fault_turn is o None Skipped = λ i. fault_turn is o ((refusal_here o z ∙ h.kept) i) (s i) in
+    turned ∙ (λ i. header_fault limits is (sym (h.at refl ∙ ap (behind o.at) (length_here o z)) i) (sym (h.more refl) i))
 
 last_vectors : (cs : List Column) (o p : Open) (count : ℕ) → Passes true o p → read_vectors limits cs (behind o.at (length (lines o.rest).first.bytes)) count (lines o.rest).later ≡ at_end count
 last_vectors cs o p count h = ap (read_vectors limits cs (behind o.at (length (lines o.rest).first.bytes)) count) (h.none refl)

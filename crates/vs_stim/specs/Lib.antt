@@ -9,3 +9,4 @@ pub mod Desk
 pub mod Source
 pub mod Known
 pub mod Stimulus
+pub mod Laws

@@ -116,6 +116,19 @@ read_header l is p (line ∷ later) =
       ]
     ]
 
+-- why lines from the first one on are refused up to the header; None where they have one
+abbrev pub header_fault : Limits → List Input → Place → List Line → Option StimError
+header_fault l is p [] = Some BadHeader
+header_fault l is p (line ∷ later) =
+    elim (too_long l p (length line.bytes) line.ended) [
+      | Some e ↦ Some e
+      | None ↦ elim (header_line is (content line)) [
+        | Skipped ↦ header_fault l is (behind p (length line.bytes)) later
+        | Malformed ↦ Some BadHeader
+        | Given cs ↦ None
+      ]
+    ]
+
 abbrev pub first_place : Place
 first_place = record { number = 1; start = 0 }
 
@@ -126,6 +139,10 @@ reading_within l is text = read_header l is first_place (all_lines (lines text))
 -- what the text gives
 abbrev pub reading : List Input → List ℕ → Reading
 reading is text = reading_within limits is text
+
+-- why the text is refused up to its header; None where it has one
+abbrev pub header_refusal : List Input → List ℕ → Option StimError
+header_refusal is text = header_fault limits is first_place (all_lines (lines text))
 
 -- a valid stimulus, which has these vectors
 abbrev pub stimulus : List ℕ → List Input → List (List (List Bit4)) → Type 0

@@ -10,7 +10,7 @@ use Rattle.vs_stim.specs.declared.source.Piece.{Piece}
 use Rattle.vs_stim.specs.declared.source.Piece.TheVariants.{Byte, LineEnd, TextEnd}
 use Rattle.vs_stim.specs.Known.{lines_tell}
 use Rattle.vs_stim.specs.Lines.{lines, all_lines, content}
-use Rattle.vs_stim.specs.Reading.{limits, Place, behind, too_long, Reading, read_vectors, read_header}
+use Rattle.vs_stim.specs.Reading.{limits, Place, behind, too_long, Reading, read_vectors, read_header, header_fault}
 
 -- where the line stands, how many of its bytes were read, and the text that is left
 pub record Open : Type 0 where
@@ -119,6 +119,10 @@ IsVectorError Memory = ⊥
 -- what lines before the vectors give from here on
 abbrev pub header_from : List Input → Open → Reading
 header_from is o = read_header limits is o.at (all_lines (lines o.rest))
+
+-- why lines before the vectors are refused from here on, up to the header
+abbrev pub header_fault_from : List Input → Open → Option StimError
+header_fault_from is o = header_fault limits is o.at (all_lines (lines o.rest))
 
 -- the answers of a line that should be a header, but for Ok
 abbrev pub IsHeaderError : StimError → Type 0

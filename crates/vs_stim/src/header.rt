@@ -1,6 +1,6 @@
 //! The lines before the vectors.
 
-ghost use Rattle.std.specs.Prelude.{◌≡◌, ◌≢◌, ◌<◌, All, [], length, Ok, Err, Some, true, false, IsTrue, IfOk, IfErr, OnOk};
+ghost use Rattle.std.specs.Prelude.{◌≡◌, ◌≢◌, ◌<◌, All, [], length, Ok, Err, Some, None, true, false, IsTrue, IfOk, IfErr, OnOk};
 ghost use Rattle.vs_desk.specs.Desk.{IsAttached, Fails};
 ghost use Rattle.vs_desk.specs.declared.desk.Way.TheVariants.{Read};
 ghost use Rattle.vs_stim.specs.Desk.{OthersKept};
@@ -8,7 +8,7 @@ ghost use Rattle.vs_stim.specs.Header.{IsInput, lengths, each_once};
 ghost use Rattle.vs_stim.specs.Reading.{header_line, refused};
 ghost use Rattle.vs_stim.specs.Row.{as_said, IsColumn};
 ghost use Rattle.vs_stim.specs.Heading.{heading_with, IsHeading};
-ghost use Rattle.vs_stim.specs.Source.{open_at, line_refusal, says, rest_of, vectors_from, header_from, IsSource, IsHeaderError, Passes};
+ghost use Rattle.vs_stim.specs.Source.{open_at, line_refusal, says, rest_of, vectors_from, header_from, header_fault_from, IsSource, IsHeaderError, Passes};
 ghost use Rattle.vs_stim.specs.declared.heading.Stage.TheVariants.{Start};
 ghost use Rattle.vs_stim.specs.declared.row.LineKind.TheVariants.{Skipped, Given};
 
@@ -113,6 +113,9 @@ pub(crate) fn find_header<D: Desk>(
 
     ensures found { IsTrue D.tells → IfOk result (λ cs. header_from inputs.now (open_at source.old (D.contents desk.old)) ≡ vectors_from cs.items 0 (open_at source.new (D.contents desk.new))) }
     ensures refused { IsTrue D.tells → IfErr result (λ e. e ≢ StimError.ReadFault → e ≢ StimError.Memory → header_from inputs.now (open_at source.old (D.contents desk.old)) ≡ refused e) }
+
+    ensures headed { IsTrue D.tells → OnOk result (header_fault_from inputs.now (open_at source.old (D.contents desk.old)) ≡ None) }
+    ensures faulty { IsTrue D.tells → IfErr result (λ e. e ≢ StimError.ReadFault → e ≢ StimError.Memory → header_fault_from inputs.now (open_at source.old (D.contents desk.old)) ≡ Some e) }
 
     ensures errors { IfErr result IsHeaderError }
     ensures register { IfErr result (λ e. e ≢ StimError.ReadFault → D.register desk.new ≡ D.register desk.old) }

@@ -7,6 +7,7 @@ mod error;
 mod header;
 mod heading;
 mod input;
+pub mod laws;
 mod row;
 mod source;
 mod stimulus;

@@ -1,12 +1,12 @@
 //! The vectors of one lane's text.
 
-ghost use Rattle.std.specs.Prelude.{◌≡◌, ◌≢◌, ◌⊎◌, ◌+◌, ◌<◌, ◌≤◌, ◌↔◌, [], All, length, map, true, false, Ok, Err, string_bytes, IsNone, IsTrue, IfOk, IfErr, OnOk};
+ghost use Rattle.std.specs.Prelude.{◌≡◌, ◌≢◌, ◌⊎◌, ◌+◌, ◌<◌, ◌≤◌, ◌↔◌, [], All, length, map, true, false, Some, None, Ok, Err, string_bytes, IsNone, IsTrue, IfOk, IfErr, OnOk};
 ghost use Rattle.vs_desk.specs.Desk.{IsAttached, Fails, with_place};
 ghost use Rattle.vs_desk.specs.declared.desk.Way.TheVariants.{Read};
 ghost use Rattle.vs_stim.specs.Desk.{OthersKept};
 ghost use Rattle.vs_stim.specs.Header.{IsInput, lengths};
 ghost use Rattle.vs_stim.specs.Row.{sizes};
-ghost use Rattle.vs_stim.specs.Reading.{reading, refused, whole, with_vector};
+ghost use Rattle.vs_stim.specs.Reading.{reading, header_refusal, refused, whole, with_vector};
 ghost use Rattle.vs_stim.specs.Known.{remaining, pending_tells, text_left, place_of};
 ghost use Rattle.vs_stim.specs.Source.{IsSource, IsVectorError, IsHeaderError};
 
@@ -66,6 +66,9 @@ impl Stimulus {
         ensures header { IsTrue D.tells → IfOk result (λ s. reading inputs.now ((D.contents desk.old).files (string_bytes path)) ≡ remaining s (D.contents desk.new)) }
         ensures refused { IsTrue D.tells → IfErr result (λ e. e ≢ StimError.ReadFault → e ≢ StimError.Memory →
             reading inputs.now ((D.contents desk.old).files (string_bytes path)) ≡ refused e) }
+        ensures headed { IsTrue D.tells → OnOk result (header_refusal inputs.now ((D.contents desk.old).files (string_bytes path)) ≡ None) }
+        ensures faulty { IsTrue D.tells → IfErr result (λ e. e ≢ StimError.ReadFault → e ≢ StimError.Memory →
+            header_refusal inputs.now ((D.contents desk.old).files (string_bytes path)) ≡ Some e) }
 
         // Whatever the desk tells.
         ensures errors { IfErr result IsHeaderError }

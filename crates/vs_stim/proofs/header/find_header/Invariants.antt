@@ -1,7 +1,7 @@
 use Rattle.std.proofs.Common.{◌≡◌, ◌-◌, IsTrue}
 use Rattle.vs_stim.specs.Desk.{OthersKept}
 use Rattle.vs_stim.specs.Heading.{IsHeading}
-use Rattle.vs_stim.specs.Source.{open_at, IsSource, header_from}
+use Rattle.vs_stim.specs.Source.{open_at, IsSource, header_from, header_fault_from}
 use Rattle.vs_stim.specs.declared.heading.Stage.TheVariants.{Start}
 use Rattle.vs_stim.proofs.header.find_header.Given as goal
 
@@ -17,6 +17,8 @@ invariant-lines g l =
       others : IsTrue g.D.Desk.tells → OthersKept l.initial.source.place (g.D.Desk.contents l.initial.desk) (g.D.Desk.contents l.desk);
       reading : IsTrue g.D.Desk.tells →
           header_from l.inputs (open_at l.initial.source (g.D.Desk.contents l.initial.desk)) ≡ header_from l.inputs (open_at l.source (g.D.Desk.contents l.desk));
+      fault : IsTrue g.D.Desk.tells →
+          header_fault_from l.inputs (open_at l.initial.source (g.D.Desk.contents l.initial.desk)) ≡ header_fault_from l.inputs (open_at l.source (g.D.Desk.contents l.desk));
     }
 
 abbrev pub decreases-lines : goal.decreases-lines

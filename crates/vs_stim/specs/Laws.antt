@@ -1,0 +1,26 @@
+-- What holds of every text's reading.
+use Rattle.std.specs.Prelude.{◌≡◌, ℕ, ◌<◌, List, [], ◌∷◌, ◌++◌, length, take, None, true, All}
+use Rattle.vs_four.specs.declared.Bit4.{Bit4}
+use Rattle.vs_stim.specs.declared.input.Input.{Input}
+use Rattle.vs_stim.specs.Header.{IsInput, lengths}
+use Rattle.vs_stim.specs.Reading.{reading}
+use Rattle.vs_stim.specs.Row.{sizes}
+use Rattle.vs_stim.specs.Vectors.{vector_known}
+
+-- the first vector has no x or z bit
+abbrev pub FirstIsKnown : Type 0
+FirstIsKnown = (is : List Input) (text : List ℕ) (first : List (List Bit4)) (later : List (List (List Bit4)))
+    → (reading is text).vectors ≡ first ∷ later → vector_known first ≡ true
+
+-- a whole text has a vector
+abbrev pub WholeHasVector : Type 0
+WholeHasVector = (is : List Input) (text : List ℕ) → (reading is text).refusal ≡ None → 0 < length (reading is text).vectors
+
+-- each vector has a value for each input, of its length
+abbrev pub VectorsFit : Type 0
+VectorsFit = (is : List Input) (text : List ℕ) → All IsInput is → All (λ vector. sizes vector ≡ lengths is) (reading is text).vectors
+
+-- The vectors of the lines before an LF begin those of any text that begins with these lines, whatever stands behind it.
+abbrev pub LaterLinesChangeNothing : Type 0
+LaterLinesChangeNothing = (is : List Input) (text later : List ℕ)
+    → let vectors = (reading is (text ++ 10 ∷ [])).vectors in take (length vectors) (reading is (text ++ 10 ∷ later)).vectors ≡ vectors
