@@ -83,6 +83,17 @@ impl Vcd {
         self.last.copy_from_slice(now);
     }
 
+    /// Begins the head and slot 0 behind it, with the values of all signals by number.
+    pub fn start_dump(&mut self, now: &[Bits])
+        requires handed_out { self.old.left ≡ [] }
+        requires count { length now.now ≡ length self.old.last }
+        ensures { self.new ≡ record self.old { last = now.now; left = self.old.head ++ first_text now.now } }
+    {
+        self.slot.begin_first(now);
+        self.last.copy_from_slice(now);
+        self.head_taken = 0;
+    }
+
     /// Begins a later slot, at this time, with the values of all signals by number: those are written that differ from the slot before.
     pub fn start_slot(&mut self, time: u64, now: &[Bits])
         requires handed_out { self.old.left ≡ [] }

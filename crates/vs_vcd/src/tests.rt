@@ -114,6 +114,20 @@ fn writes_the_whole_text(rt: HostRuntime) -> Result<(), Fail> {
 }
 
 #[test]
+fn begins_the_head_and_slot_0_as_one(rt: HostRuntime) -> Result<(), Fail> {
+    let mut block = vec![in rt.alloc(); 0; 300]?;
+    let mut text = Vec::new(rt.alloc());
+    let mut vcd = Vcd::new(rt.alloc(), &ports(rt.alloc())?, 5)?;
+    vcd.start_dump(&values(ZERO, ONE, ZERO, X));
+    drain(&mut vcd, &mut block, &mut text)?;
+    let expected = "$version cyclesim $end\n$timescale 1ns $end\n$scope module top $end\n\
+        $var wire 1 ! clk $end\n$var wire 1 \" a $end\n$var wire 1 # b $end\n$var wire 1 $ y $end\n\
+        $upscope $end\n$enddefinitions $end\n#0\n$dumpvars\n0!\n1\"\n0#\nx$\n$end\n";
+    assert_eq!(rt; text.as_slice(), expected.as_bytes());
+    Ok(())
+}
+
+#[test]
 fn writes_values(rt: HostRuntime) {
     // Bits least significant first, digits most significant first.
     let table = [
