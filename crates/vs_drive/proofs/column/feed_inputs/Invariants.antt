@@ -1,0 +1,11 @@
+use Rattle.std.proofs.Common.{◌≡◌, sum, take}
+use Rattle.vs_stim.specs.Row.{sizes}
+use Rattle.vs_drive.specs.Lanes.{lane_at}
+use Rattle.vs_drive.specs.Fed.{AreFed}
+use Rattle.vs_drive.proofs.column.feed_inputs.Given as goal
+
+abbrev pub invariant-loop-input : goal.invariant-loop-input
+invariant-loop-input g l = record {
+  first : l.first ≡ sum (take l.input (sizes (lane_at l.stimuli 0).vector));
+  fed : AreFed g.W.Word.lane l.first l.stimuli l.pairs;
+}
