@@ -1,0 +1,60 @@
+//! The data inputs of a design.
+
+ghost use Rattle.std.specs.Prelude.{◌≡◌, ◌≤◌, ℕ, ◌&&◌, ◌==◌, not, All, IfOk};
+ghost use Rattle.vs_design.specs.Expressions.{range_or_one};
+ghost use Rattle.vs_flat.specs.DesignOf.{design_of};
+ghost use Rattle.vs_flat.specs.Thin.{IsThin};
+ghost use Rattle.vs_flat.specs.Trees.{signal_of};
+ghost use Rattle.vs_stim.specs.Header.{IsInput};
+ghost use Rattle.vs_load.specs.Inputs.{data_inputs, input_of, is_data_input};
+
+use std::alloc::{AllocError, Global};
+use vs_flat::{Flat, Signal};
+use vs_four::Range;
+use vs_stim::{Input, Name};
+
+/// The data inputs of a design whose clock is this bit, in order of declaration.
+pub(crate) fn data_inputs(alloc: Global, flat: &Flat, clock: u32) -> Result<Vec<Input>, AllocError>
+    requires { IsThin (design_of flat.now) }
+    ensures { IfOk result (λ inputs. inputs.items ≡ data_inputs (design_of flat.now) clock) }
+{
+    let mut inputs = Vec::new(alloc);
+    for n in 0..flat.signal_count() {
+        let signal = flat.signal(n);
+        if is_data_input(signal, clock) {
+            inputs.push(input_of(alloc, signal)?)?;
+        }
+    }
+    Ok(inputs)
+}
+
+/// Whether a signal is an input of the top whose bit isn't the clock's.
+fn is_data_input(signal: &Signal, clock: u32) -> bool
+    ensures { (n : ℕ) → result ≡ is_data_input clock (signal_of n signal.now) }
+{
+    signal.input && signal.first_bit != clock
+}
+
+/// A signal's name and length.
+fn input_of(alloc: Global, signal: &Signal) -> Result<Input, AllocError>
+    requires { range_or_one signal.now.range ≤ 64 }
+    ensures { IfOk result (λ input. (n : ℕ) → input ≡ input_of (signal_of n signal.now)) }
+{
+    let name = String::from_str(alloc, signal.name.as_str())?;
+    Ok(Input {
+        name: Name::new(name),
+        length: length_of(signal.range),
+    })
+}
+
+/// How many bits a signal has.
+fn length_of(range: Option<Range>) -> u32
+    requires { range_or_one range ≤ 64 }
+    ensures { result ≡ range_or_one range }
+{
+    match range {
+        None => 1,
+        Some(r) if r.right <= r.left => r.left - r.right + 1,
+        Some(r) => r.right - r.left + 1,
+    }
+}
