@@ -1,0 +1,64 @@
+-- Lanes that are about to begin.
+use Rattle.std.proofs.Common.{◌≡◌, ◌<◌, ◌∙◌, ℕ, Bool, true, false, not, List, [], length, sym, ap, subst, arith}
+use Rattle.vs_desk.specs.Desk.{Contents}
+use Rattle.vs_net.specs.Network.{State}
+use Rattle.vs_engine.specs.Lanes.{Running, state}
+use Rattle.vs_design.specs.Designs.{Design}
+use Rattle.vs_engine.specs.Compiled.{IsProgramOf, span_of}
+use Rattle.vs_stim.specs.Known.{Known, remaining}
+use Rattle.vs_stim.specs.Reading.{Reading}
+use Rattle.vs_drive.specs.Lanes.{lane_at}
+use Rattle.vs_waves.specs.Wave.{Wave, IsNewWave}
+use Rattle.vs_waves.specs.Puts.{wave_place}
+use Rattle.vs_rounds.specs.Lanes.{Run, reading_of, network, Simulation, wave_at, closed, IsRead, IsUnread, IsWaveAt, HaveNext, HaveVectors, AreOpened, AreBegun}
+use Rattle.vs_rounds.specs.Ready.{AreParts, IsReady}
+use Rattle.vs_rounds.proofs.Settled.{length-map}
+use Rattle.vs_rounds.proofs.Waves.{not_ended}
+use Rattle.vs_rounds.proofs.Rounded.{remaining_left}
+
+unread : (r : Reading) (live : Bool) (rest : Reading) → live ≡ true → r ≡ rest → IsUnread r 0 live rest
+unread r true rest is_live is = record { rest_is = λ _. sym is; within = λ _. omega arith; unrefused = λ e. absurd (cc); ended = λ e. absurd (cc) }
+unread r false rest is_live is = absurd (cc)
+
+pub opened_next : {W : Type 0} (lane : W → ℕ → Bool) (run : Run) (m : Simulation W) (c : Contents) → AreOpened lane run m c → HaveNext run 0 m.stimuli c
+opened_next lane run m c h = record { each = λ i lt. unread (reading_of run i) (lane_at m.stimuli i).live (remaining (lane_at m.stimuli i) c) (h.live i lt) (h.reading i lt) }
+
+new_wave : (run : Run) (r : Reading) (w : Wave) (now : State) (text : List ℕ) → IsNewWave run.design run.half w → now ≡ (network run).idle → text ≡ [] → IsWaveAt run r 0 w now text
+new_wave run r w now text h idle empty = record {
+  given = record { ends = []; solution = tt; text_is = empty };
+  head_is = h.head_is;
+  half_is = h.half_is;
+  handed_out = h.left_is;
+  is_open = h.opened ∙ sym (ap not (not_ended r 0 (omega arith)));
+  now_is = λ _. idle;
+  last_is = λ some _. absurd (omega arith);
+}
+
+pub opened_begun : {W : Type 0} (lane : W → ℕ → Bool) (run : Run) (m new : Simulation W) (before after : Contents) → AreOpened lane run m before
+    → length new.stimuli ≡ length m.stimuli → new.waves ≡ m.waves → new.engine ≡ m.engine → HaveVectors run 0 new.stimuli after → AreBegun lane run new after
+opened_begun lane run m new before after h long waves engine read = record {
+  begun = λ c left empty. record {
+    program = subst (λ (e : Running _). IsProgramOf run.design run.clock e.program) (sym engine) h.program;
+    read = record {
+      each = λ i lt. subst (λ (rest : Reading). IsRead (reading_of run i) 0 (lane_at new.stimuli i).live (lane_at new.stimuli i).vector rest) (sym (remaining_left (lane_at new.stimuli i) after c left)) (read.each i lt);
+    };
+    waves = record {
+      each = λ i lt.
+          let within : i < length m.stimuli = omega (arith, long) in
+          new_wave run (reading_of run i) (wave_at new.waves i) (state lane new.engine i) (c.put (wave_place i))
+          (subst (λ (ws : List Wave). IsNewWave run.design run.half (wave_at ws i)) (sym waves) (h.waves i within))
+          (ap (λ (e : Running _). state lane e i) engine ∙ h.idle i within)
+          (empty i lt);
+    };
+  };
+}
+
+-- the first round can be run
+pub parts_ready : {W : Type 0} (d : Design) (clock half : ℕ) (stimuli : List Known) (waves : List Wave) (engine : Running W) → AreParts d clock half stimuli waves engine.program
+    → IsReady {W = W} 0 (record { stimuli = stimuli; waves = waves; engine = engine })
+parts_ready d clock half stimuli waves engine h = record {
+  alike = record { lanes = h.lanes; waves = h.count; bits = h.bits };
+  waves = λ i lt.
+      let w = h.new i closed (omega (arith, h.count)) in
+      record { half = omega (arith, w.half_is, h.small); count = w.count ∙ sym (ap length h.program.signals ∙ length-map span_of d.signals); lengths = λ some _. absurd (omega arith); handed_out = w.left_is };
+}

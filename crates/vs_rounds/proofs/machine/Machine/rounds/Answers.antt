@@ -1,0 +1,121 @@
+use Rattle.std.proofs.Common.{◌≡◌, ℕ, ◌<◌, ◌*◌, ◌+◌, ◌∙◌, suc, sym, subst, ap, length, arith, refl}
+use Rattle.std.specs.List.{count_by}
+use Rattle.std.proofs.lemmas.List.Sums.{count_by-le-length}
+use Rattle.std.proofs.lemmas.Result.{err_from_is_err_and}
+use Rattle.vs_desk.specs.Desk.{Register, IsWritable}
+use Rattle.vs_waves.specs.Puts.{wave_place}
+use Rattle.vs_engine.specs.Compiled.{fall_stores, rise_stores}
+use Rattle.vs_design.specs.Sizes.{size}
+use Rattle.vs_rounds.specs.Lanes.{AreInRound}
+use Rattle.vs_rounds.specs.Ready.{IsReady}
+use Rattle.vs_rounds.specs.Stops.{ReadStops}
+use Rattle.vs_rounds.specs.Counts.{AreCounted}
+use Rattle.vs_rounds.proofs.Counting.{AreTaken, none_taken, taken_next, all_taken, done_before, done_at_last, few_at_last, none_more, ticks_within}
+use Rattle.vs_rounds.proofs.Rereads.{stops_in}
+use Rattle.vs_rounds.proofs.Going.{others_on, others_put, in_next, ticked_more}
+use Rattle.vs_rounds.proofs.machine.Machine.rounds.Goals as goal
+
+pub loop-round-init : goal.loop-round-init
+loop-round-init g c = record {
+  ready = c.requires.ready;
+  readable = c.requires.readable;
+  writable = c.requires.writable;
+  same = refl;
+  lanes = refl;
+  waves = refl;
+  program = refl;
+  few = omega arith;
+  ticked = record { ticked = omega arith };
+  others = λ t. record { others = λ place ne. refl };
+  in_round = λ t run h. h;
+  taken = λ t run h. none_taken run (length c.args.self.now.stimuli);
+}
+
+pub returns-in_err-live-clause-others : goal.returns-in_err-live-clause-others
+returns-in_err-live-clause-others g c = λ t. others_on c.loop-round.invariant.lanes (c.loop-round.invariant.others t) (c.round.ensures.others t)
+
+pub returns-then-live-eq0-clause-others : goal.returns-then-live-eq0-clause-others
+returns-then-live-eq0-clause-others g c = λ t. others_on c.loop-round.invariant.lanes (c.loop-round.invariant.others t) (c.round.ensures.others t)
+
+pub returns-in_err-read-clause-others : goal.returns-in_err-read-clause-others
+returns-in_err-read-clause-others g c = λ t. others_put (others_on c.loop-round.invariant.lanes (c.loop-round.invariant.others t) (c.round.ensures.others t)) (c.read.ensures.puts t)
+
+pub returns-then-live-eq0-clause-done : goal.returns-then-live-eq0-clause-done
+returns-then-live-eq0-clause-done g c =
+    let inv = c.loop-round.invariant in
+    let e = c.in_ok-live.ensures in
+    λ t run h.
+    done_before g.W.Word.lane run (length c.args.self.now.stimuli) c.loop-round.round c.loop-round.self c.round.new.self (g.D.Desk.contents c.round.new.desk) inv.lanes e.stimuli
+    (sym c.if-live-eq0.true ∙ e.count) (e.done t run (inv.in_round t run h))
+
+pub returns-then-live-eq0-clause-counted : goal.returns-then-live-eq0-clause-counted
+returns-then-live-eq0-clause-counted g c =
+    let inv = c.loop-round.invariant in
+    let e = c.in_ok-live.ensures in
+    λ t run h.
+    all_taken run (length c.args.self.now.stimuli) c.loop-round.round c.loop-round.vectors (inv.taken t run h)
+    (none_more run (length c.args.self.now.stimuli) c.loop-round.round c.loop-round.self.stimuli (g.D.Desk.contents c.loop-round.desk) inv.lanes (inv.in_round t run h).read (sym c.if-live-eq0.true ∙ e.count))
+
+pub returns-then-live-eq0-clause-within : goal.returns-then-live-eq0-clause-within
+returns-then-live-eq0-clause-within g c =
+    let inv = c.loop-round.invariant in
+    let e = c.in_ok-live.ensures in
+    λ d clock is_program.
+    let p = c.args.self.now.engine.program in
+    let small = ticks_within c.loop-round.round (fall_stores p) (rise_stores p) (size d) is_program.fall_small is_program.rise_small in
+    omega (arith, small, inv.ticked.ticked, e.ticked.none (sym e.count ∙ c.if-live-eq0.true))
+
+pub returns-in_err-read-clause-stops : goal.returns-in_err-read-clause-stops
+returns-in_err-read-clause-stops g c =
+    let inv = c.loop-round.invariant in
+    let ran = c.in_ok-live.ensures in
+    let is = err_from_is_err_and c.from_residual-in_err-read.result c.from_residual-in_err-read.ensures.1 in
+    let lanes : length c.round.new.self.stimuli ≡ length c.args.self.now.stimuli = ap length ran.stimuli ∙ inv.lanes in
+    λ t run h. rw (is.1, is.2)
+    (let before = ran.done t run (inv.in_round t run h) in (
+      suc c.loop-round.round,
+      stops_in g.W.Word.lane run (suc c.loop-round.round) (length c.args.self.now.stimuli) c.round.new.self (g.D.Desk.contents c.round.new.desk) (g.D.Desk.contents c.read.new.desk) _ lanes (c.in_err-read.ensures.puts t) before.waves
+          (subst (λ (n : ℕ). ReadStops run n (suc c.loop-round.round) c.in_err-read.field-0.0) lanes (c.in_err-read.ensures.stops t run (suc c.loop-round.round) before.next)),
+    ))
+
+pub loop-round-preserved : goal.loop-round-preserved
+loop-round-preserved g c =
+    let inv = c.loop-round.invariant in
+    let ran = c.in_ok-live.ensures in
+    let read = c.in_ok-read.ensures in
+    let k = c.loop-round.round in
+    let next : suc k ≡ k + 1 = omega arith in
+    let lanes : length c.read.new.self.stimuli ≡ length c.args.self.now.stimuli = read.lanes ∙ ap length ran.stimuli ∙ inv.lanes in
+    let ready = read.ready (suc k) ran.ready in
+    let waves : length c.read.new.self.waves ≡ length c.args.self.now.waves = ready.alike.waves ∙ lanes ∙ sym c.requires.ready.alike.waves in
+    let count = count_by-le-length (λ s. s.live) c.loop-round.self.stimuli in
+    let some : 0 < c.in_ok-live.live = omega (arith, c.if-live-eq0.false) in
+    record {
+      ready = subst (λ (n : ℕ). IsReady n c.read.new.self) next ready;
+      readable = read.attached;
+      writable = λ i lt. subst (λ (r : Register). IsWritable r (wave_place i)) (sym (read.same ∙ ran.same)) (inv.writable i (omega (arith, waves, inv.waves)));
+      same = read.same ∙ ran.same ∙ inv.same;
+      lanes = lanes;
+      waves = waves;
+      program = ap (λ e. e.program) read.engine ∙ ran.program ∙ inv.program;
+      few = omega (arith, inv.few, ran.count, count, inv.ready.alike.lanes.at_most_64);
+      ticked = ticked_more c.args.self.now.engine.program c.loop-round.self.engine.program k (count_by (λ s. s.live) c.loop-round.self.stimuli) c.args.steps.now c.loop-round.steps c.round.new.steps inv.program (omega (arith, some, ran.count)) inv.ticked ran.ticked;
+      others = λ t. others_put (others_on inv.lanes (inv.others t) (ran.others t)) (read.puts t);
+      in_round = λ t run h. subst (λ (n : ℕ). AreInRound g.W.Word.lane run n c.read.new.self (g.D.Desk.contents c.read.new.desk)) next
+          (in_next g.W.Word.lane run (suc k) c.round.new.self c.read.new.self (g.D.Desk.contents c.round.new.desk) (g.D.Desk.contents c.read.new.desk) read.lanes read.waves read.engine (read.puts t) (ran.done t run (inv.in_round t run h)) (read.read t run (suc k)));
+      taken = λ t run h. subst (λ (n : ℕ). AreTaken run (length c.args.self.now.stimuli) n (c.loop-round.vectors + c.in_ok-live.live)) next
+          (taken_next run (length c.args.self.now.stimuli) k c.loop-round.vectors c.in_ok-live.live c.loop-round.self.stimuli (g.D.Desk.contents c.loop-round.desk) inv.lanes (inv.in_round t run h).read ran.count some (inv.taken t run h));
+    }
+
+pub returns-clause-done : goal.returns-clause-done
+returns-clause-done g c =
+    let inv = c.loop-round.invariant in
+    λ t run h. done_at_last g.W.Word.lane run (length c.args.self.now.stimuli) c.loop-round.round c.loop-round.self (g.D.Desk.contents c.loop-round.desk) inv.lanes (omega arith) (inv.in_round t run h)
+
+pub returns-clause-counted : goal.returns-clause-counted
+returns-clause-counted g c =
+    let inv = c.loop-round.invariant in
+    let last : c.loop-round.round ≡ 16777217 = omega arith in
+    λ t run h.
+    subst (λ (n : ℕ). AreCounted run (length c.args.self.now.stimuli) c.loop-round.vectors (2 * n)) last
+    (all_taken run (length c.args.self.now.stimuli) c.loop-round.round c.loop-round.vectors (inv.taken t run h) (λ i lt. few_at_last run c.loop-round.round i (omega arith)))

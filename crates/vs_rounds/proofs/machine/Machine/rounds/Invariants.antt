@@ -1,0 +1,26 @@
+use Rattle.std.proofs.Common.{◌≡◌, ◌≤◌, ◌*◌, length, IsTrue}
+use Rattle.vs_drive.specs.Lanes.{AreAttached}
+use Rattle.vs_waves.specs.Puts.{AreWritable}
+use Rattle.vs_rounds.specs.Lanes.{Run, AreInRound}
+use Rattle.vs_rounds.specs.Ready.{IsReady}
+use Rattle.vs_rounds.specs.Stops.{OtherPutsKept}
+use Rattle.vs_rounds.specs.Counts.{TicksRounds}
+use Rattle.vs_rounds.proofs.Counting.{AreTaken}
+use Rattle.vs_rounds.proofs.machine.Machine.rounds.Given as goal
+
+abbrev pub invariant-loop-round : goal.invariant-loop-round
+invariant-loop-round g l =
+    record {
+      ready : IsReady l.round l.self;
+      readable : AreAttached (g.D.Desk.register l.desk) l.self.stimuli;
+      writable : AreWritable (g.D.Desk.register l.desk) (length l.self.waves);
+      same : g.D.Desk.register l.desk ≡ g.D.Desk.register l.initial.desk;
+      lanes : length l.self.stimuli ≡ length l.initial.self.stimuli;
+      waves : length l.self.waves ≡ length l.initial.self.waves;
+      program : l.self.engine.program ≡ l.initial.self.engine.program;
+      few : l.vectors ≤ 64 * l.round;
+      ticked : TicksRounds l.initial.self.engine.program l.round l.initial.steps l.steps;
+      others : IsTrue g.D.Desk.tells → OtherPutsKept (length l.initial.self.stimuli) (g.D.Desk.contents l.initial.desk) (g.D.Desk.contents l.desk);
+      in_round : IsTrue g.D.Desk.tells → (run : Run) → AreInRound g.W.Word.lane run 0 l.initial.self (g.D.Desk.contents l.initial.desk) → AreInRound g.W.Word.lane run l.round l.self (g.D.Desk.contents l.desk);
+      taken : IsTrue g.D.Desk.tells → (run : Run) → AreInRound g.W.Word.lane run 0 l.initial.self (g.D.Desk.contents l.initial.desk) → AreTaken run (length l.initial.self.stimuli) l.round l.vectors;
+    }

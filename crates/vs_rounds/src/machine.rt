@@ -1,0 +1,158 @@
+//! What a run needs in its rounds, and the phases of a round.
+
+ghost use Rattle.std.specs.Prelude.{◌≡◌, ℕ, [], ◌+◌, ◌<◌, ◌≤◌, length, suc, true, IsTrue, IfOk, IfErr, OnOk};
+ghost use Rattle.std.specs.List.{count_by};
+ghost use Rattle.vs_design.specs.Designs.{Design};
+ghost use Rattle.vs_engine.specs.Compiled.{IsProgramOf, fall_stores, rise_stores};
+ghost use Rattle.vs_drive.specs.Lanes.{AreAttached, OtherPlacesKept, lane_at};
+ghost use Rattle.vs_waves.specs.Puts.{AreWritable};
+ghost use Rattle.vs_rounds.specs.Lanes.{Run, Simulation, HaveNext, HaveVectors, AreBeforeRound, AreInRound};
+ghost use Rattle.vs_rounds.specs.Ready.{AreParts, IsReady, IsNoted, Settles, Ticks};
+ghost use Rattle.vs_rounds.specs.Stops.{ReadStops, StopsIn, IsLaneOf, HasCause, OtherPutsKept};
+
+use crate::Stop;
+use crate::stop::stop_of;
+use std::alloc::{AllocError, Global};
+use std::marker::Model;
+use std::sync::ledger::Ledger;
+use vs_desk::Desk;
+use vs_drive::Drive;
+use vs_engine::Engine;
+use vs_four::Bit4;
+use vs_plane::{Lanes, Pair, Steps};
+use vs_waves::Waves;
+
+/// What a run needs in its rounds: the stimuli, the waves and the engine of all lanes. Lanes have no part in each other.
+#[derive(Drop)]
+pub struct Machine<W: Lanes> {
+    drive: Drive,
+    waves: Waves,
+    engine: Engine<W>,
+    pairs: Vec<Pair<W>>,
+}
+
+// Clauses see the stimuli, the waves and the engine.
+impl<W: Lanes> Model for Machine<W> {
+    ghost use Rattle.std.specs.Prelude.{◌≡◌, length};
+    ghost use Rattle.vs_rounds.specs.Lanes.{Simulation};
+
+    ghost Value = { Simulation W };
+
+    ghost view = { λ m. record { stimuli = m.drive; waves = m.waves; engine = m.engine } };
+
+    ghost invariant = { λ m. length m.pairs.items ≡ length m.engine.program.inputs };
+}
+
+impl<W: Lanes> Machine<W> {
+    /// A machine of these parts. No other call takes memory, and the only error is that there is none.
+    pub fn new(
+        alloc: Global,
+        drive: Drive,
+        waves: Waves,
+        engine: Engine<W>,
+    ) -> Result<Machine<W>, AllocError>
+        ensures parts { IfOk result (λ m. m ≡ record { stimuli = drive; waves = waves; engine = engine }) }
+        ensures ready { (d : Design) (clock half : ℕ) → AreParts d clock half drive waves engine.program → IfOk result (IsReady 0) }
+    {
+        let count = engine.compiled().inputs().len();
+        Ok(Machine {
+            drive,
+            waves,
+            engine,
+            pairs: vec![in alloc; Pair::of_bit(Bit4::X); count]?,
+        })
+    }
+
+    /// Reads the vectors of the next round, by lane.
+    pub(crate) fn read<D: Desk>(&mut self, desk: &mut D) -> Result<(), Stop>
+        requires attached { AreAttached (D.register desk.old) self.old.stimuli }
+        ensures waves { self.new.waves ≡ self.old.waves }
+        ensures engine { self.new.engine ≡ self.old.engine }
+        ensures lanes { OnOk result (length self.new.stimuli ≡ length self.old.stimuli) }
+        ensures same { OnOk result (D.register desk.new ≡ D.register desk.old) }
+        ensures ready { (k : ℕ) → IsReady k self.old → OnOk result (IsReady k self.new) }
+        ensures attached { OnOk result (AreAttached (D.register desk.new) self.new.stimuli) }
+        ensures read { IsTrue D.tells → (run : Run) (k : ℕ) → HaveNext run k self.old.stimuli (D.contents desk.old)
+            → OnOk result (HaveVectors run k self.new.stimuli (D.contents desk.new)) }
+        ensures stops { IsTrue D.tells → (run : Run) (k : ℕ) → HaveNext run k self.old.stimuli (D.contents desk.old)
+            → IfErr result (ReadStops run (length self.old.stimuli) k) }
+        ensures lane { IfErr result (IsLaneOf (length self.old.stimuli)) }
+        ensures cause { IfErr result (HasCause (D.register desk.old) (D.register desk.new)) }
+        ensures puts { IsTrue D.tells → (D.contents desk.new).put ≡ (D.contents desk.old).put }
+    {
+        if let Err(stopped) = self.drive.read(desk) {
+            return Err(stop_of(stopped));
+        }
+        Ok(())
+    }
+
+    /// Runs the engine's two slots of a round, where some lane has a vector, and notes the values after the first. Answers how many
+    /// lanes have one.
+    pub(crate) fn settle<L: Ledger>(&mut self, round: u64, steps: &mut Steps<L>) -> u64
+        requires width { W.LANES ≡ 64 }
+        requires round { round ≤ 16777216 }
+        requires ready { IsReady round self.old }
+        ensures count { result ≡ count_by (λ k. k.live) self.old.stimuli }
+        ensures stimuli { self.new.stimuli ≡ self.old.stimuli }
+        ensures program { self.new.engine.program ≡ self.old.engine.program }
+        ensures noted { IsNoted self.new }
+        ensures lanes { (d : Design) (clock i : ℕ) → IsProgramOf d clock self.old.engine.program → i < length self.old.stimuli
+            → Settles W.lane d clock round i self.old self.new }
+        ensures ticked { Ticks self.old.engine.program (count_by (λ k. k.live) self.old.stimuli) steps.old steps.new }
+    {
+        let vectors = count_live(self.drive.live());
+        if vectors == 0 {
+            return 0;
+        }
+        self.drive.feed(&mut self.pairs);
+        self.engine.fall(&self.pairs, steps);
+        self.waves.begin(&self.engine, self.drive.live(), round);
+        self.engine.rise(steps);
+        vectors
+    }
+
+    /// Runs a round whose vectors were read, and puts by lane what it gives. Answers how many lanes had a vector.
+    pub(crate) fn round<D: Desk, L: Ledger>(
+        &mut self,
+        round: u64,
+        desk: &mut D,
+        steps: &mut Steps<L>,
+    ) -> Result<u64, Stop>
+        requires width { W.LANES ≡ 64 }
+        requires round { round ≤ 16777216 }
+        requires ready { IsReady round self.old }
+        requires writable { AreWritable (D.register desk.old) (length self.old.waves) }
+        ensures count { IfOk result (λ n. n ≡ count_by (λ k. k.live) self.old.stimuli) }
+        ensures stimuli { self.new.stimuli ≡ self.old.stimuli }
+        ensures program { self.new.engine.program ≡ self.old.engine.program }
+        ensures ready { OnOk result (IsReady (suc round) self.new) }
+        ensures same { OnOk result (D.register desk.new ≡ D.register desk.old) }
+        ensures done { IsTrue D.tells → (run : Run) → AreInRound W.lane run round self.old (D.contents desk.old)
+            → OnOk result (AreBeforeRound W.lane run (suc round) self.new (D.contents desk.new)) }
+        ensures stops { IsTrue D.tells → (run : Run) → AreInRound W.lane run round self.old (D.contents desk.old)
+            → IfErr result (StopsIn run (length self.old.stimuli) round (D.contents desk.new)) }
+        ensures lane { IfErr result (IsLaneOf (length self.old.stimuli)) }
+        ensures cause { IfErr result (HasCause (D.register desk.old) (D.register desk.new)) }
+        ensures others { IsTrue D.tells → OtherPutsKept (length self.old.stimuli) (D.contents desk.old) (D.contents desk.new) }
+        ensures ticked { Ticks self.old.engine.program (count_by (λ k. k.live) self.old.stimuli) steps.old steps.new }
+    {
+        let vectors = self.settle(round, steps);
+        if let Err(fault) = self.waves.put(&self.engine, self.drive.live(), round, desk) {
+            return Err(Stop::WriteFault { lane: fault.lane });
+        }
+        Ok(vectors)
+    }
+}
+
+/// How many of these are true.
+fn count_live(live: &[bool]) -> u64
+    ensures { result ≡ count_by (λ x. x) live.now }
+{
+    let mut count = 0;
+    for is_live in live {
+        if *is_live {
+            count += 1;
+        }
+    }
+    count
+}
