@@ -1,0 +1,5 @@
+pub mod Equal
+pub mod Halves
+pub mod Ranges
+pub mod Listed
+pub mod Designs

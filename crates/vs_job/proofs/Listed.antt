@@ -1,0 +1,142 @@
+-- The places of a job, one by one.
+use Rattle.std.proofs.Common.{◌≡◌, ◌≢◌, ℕ, zero, suc, ◌+◌, ◌*◌, ◌<◌, ◌≤◌, Bool, true, false, cond, List, [], ◌∷◌, ◌++◌, map, length, get_or, take, drop, Option, None, Some, refl, sym, ap, ◌∙◌, subst, arith, add-one, append_assoc}
+use Rattle.std.specs.List.{slice_get}
+use Rattle.std.specs.Option.{option_map}
+use Rattle.std.specs.Str.{bytes_eq}
+use Rattle.std.proofs.lemmas.Bool.{both_ways, cond-true, cond-false}
+use Rattle.std.proofs.lemmas.List.{length-append, length-map, get_or_append_left, get_or-append-add, take_more, drop_more, at_drop_all, append-nil}
+use Rattle.std.proofs.lemmas.List.Quantifiers.{all_pairs_push}
+use Rattle.std.proofs.lemmas.Option.{slice_get-map, slice_get_within, slice_get-get_or}
+use Rattle.std.proofs.lemmas.Slice.Eq.{bytes_eq-Decides}
+use Rattle.vs_job.specs.declared.job.Job.{Job}
+use Rattle.vs_job.specs.Places.{Place, place, vcd_path, places_from, places, place_with, pair_or, same_from, same_paths, PathsDiffer}
+
+length-places_from : (n : ℕ) (ps : List (List ℕ)) → length (places_from n ps) ≡ length ps
+length-places_from n [] = refl
+length-places_from n (p ∷ ps) = ap (λ k. suc k) (length-places_from (suc n) ps)
+
+get_or-places_from : (n : ℕ) (ps : List (List ℕ)) (i : ℕ) (d : Place) (path : List ℕ) → slice_get ps i ≡ Some path → get_or (places_from n ps) i d ≡ place (n + i) path
+get_or-places_from n [] i d path e = absurd (cc)
+get_or-places_from n (p ∷ ps) zero d path e =
+    let same : p ≡ path = cc in
+    ap (λ (x : List ℕ). place n x) same ∙ ap (λ (k : ℕ). place k path) (omega arith)
+get_or-places_from n (p ∷ ps) (suc i) d path e = get_or-places_from (suc n) ps i d path e ∙ ap (λ (k : ℕ). place k path) (omega arith)
+
+pub length-places : (j : Job) → length (places j) ≡ 1 + 2 * length j.stimuli
+unfolding places
+length-places j =
+    let a = length-append (places_from 1000 j.stimuli) (places_from 2000 (map vcd_path j.stimuli)) in
+    let b = length-places_from 1000 j.stimuli in
+    let c = length-places_from 2000 (map vcd_path j.stimuli) in
+    let m = length-map j.stimuli vcd_path in
+    omega arith
+
+pub place-design : (j : Job) (d : Place) → get_or (places j) 0 d ≡ place 1 j.design
+unfolding places
+place-design j d = refl
+
+pub place-stimulus : (j : Job) (n i : ℕ) (d : Place) (path : List ℕ) → n ≡ i + 1 → slice_get j.stimuli i ≡ Some path → get_or (places j) n d ≡ place (1000 + i) path
+unfolding places
+place-stimulus j n i d path e is =
+    let stimuli = places_from 1000 j.stimuli in
+    let vcds = places_from 2000 (map vcd_path j.stimuli) in
+    let within = slice_get_within j.stimuli i path is in
+    let size = length-places_from 1000 j.stimuli in
+    ap (λ (k : ℕ). get_or (places j) k d) (e ∙ add-one i) ∙ get_or_append_left stimuli vcds d i (omega arith) ∙ get_or-places_from 1000 j.stimuli i d path is
+
+pub place-vcd : (j : Job) (n i : ℕ) (d : Place) (path : List ℕ) → n ≡ 1 + (length j.stimuli + i) → slice_get j.stimuli i ≡ Some path → get_or (places j) n d ≡ place (2000 + i) (vcd_path path)
+unfolding places
+place-vcd j n i d path e is =
+    let stimuli = places_from 1000 j.stimuli in
+    let vcds = places_from 2000 (map vcd_path j.stimuli) in
+    let size = length-places_from 1000 j.stimuli in
+    let at_vcd : n ≡ suc (length stimuli + i) = omega arith in
+    ap (λ (k : ℕ). get_or (places j) k d) at_vcd ∙ get_or-append-add stimuli vcds i d ∙ get_or-places_from 2000 (map vcd_path j.stimuli) i d (vcd_path path) (slice_get-map vcd_path j.stimuli i ∙ ap (λ (o : Option (List ℕ)). option_map vcd_path o) is)
+
+-- a first place that isn't taken
+passed : (b : Bool) (n : ℕ) (o : Option ℕ) → cond b (Some n) o ≡ None → (b ≡ false) × (o ≡ None)
+passed true n o e = absurd (cc)
+passed false n o e = (refl, e)
+
+-- the first of n places that has a path is the one before which none has it
+place_with-found : (path : List ℕ) (ps : List Place) (i n : ℕ) (d : Place) → i < n → n ≤ length ps → place_with path (take i ps) ≡ None → bytes_eq (get_or ps i d).path path ≡ true → place_with path (take n ps) ≡ Some (get_or ps i d).number
+place_with-found path [] i n d lt le none same = absurd (omega arith)
+place_with-found path (p ∷ ps) i zero d lt le none same = absurd (omega arith)
+place_with-found path (p ∷ ps) zero (suc n) d lt le none same = cond-true _ _ _ same
+place_with-found path (p ∷ ps) (suc i) (suc n) d lt le none same =
+    let first = passed (bytes_eq p.path path) p.number (place_with path (take i ps)) none in
+    cond-false _ _ _ first.0 ∙ place_with-found path ps i n d (omega arith) (omega arith) first.1 same
+
+place_with-push : (path : List ℕ) (ps : List Place) (q : Place) → place_with path ps ≡ None → bytes_eq q.path path ≡ false → place_with path (ps ++ q ∷ []) ≡ None
+place_with-push path [] q none other = cond-false _ _ _ other
+place_with-push path (p ∷ ps) q none other =
+    let first = passed (bytes_eq p.path path) p.number (place_with path ps) none in
+    cond-false _ _ _ first.0 ∙ place_with-push path ps q first.1 other
+
+pub place_with-at : (path : List ℕ) (ps : List Place) (i n : ℕ) (q : Place) → i < n → n ≤ length ps → place_with path (take i ps) ≡ None → get_or ps i q ≡ q → bytes_eq q.path path ≡ true → place_with path (take n ps) ≡ Some q.number
+place_with-at path ps i n q lt le none is same =
+    place_with-found path ps i n q lt le none (ap (λ (x : Place). bytes_eq x.path path) is ∙ same) ∙ ap (λ (x : Place). Some x.number) is
+
+pub place_with-more : (path : List ℕ) (ps : List Place) (i : ℕ) (q : Place) → i < length ps → place_with path (take i ps) ≡ None → get_or ps i q ≡ q → bytes_eq q.path path ≡ false → place_with path (take (i + 1) ps) ≡ None
+place_with-more path ps i q lt none is other =
+    ap (λ (xs : List Place). place_with path xs) (take_more ps i q lt ∙ ap (λ (x : Place). take i ps ++ x ∷ []) is) ∙ place_with-push path (take i ps) q none other
+
+found_step : (earlier : List Place) (p : Place) (rest : List Place) (first : ℕ) → place_with p.path earlier ≡ Some first → same_from earlier (p ∷ rest) ≡ Some (first, p.number)
+found_step earlier p rest first e = ap (λ (o : Option ℕ). pair_or o p.number (same_from (earlier ++ p ∷ []) rest)) e
+
+more_step : (earlier : List Place) (p : Place) (rest : List Place) → place_with p.path earlier ≡ None → same_from earlier (p ∷ rest) ≡ same_from (earlier ++ p ∷ []) rest
+more_step earlier p rest e = ap (λ (o : Option ℕ). pair_or o p.number (same_from (earlier ++ p ∷ []) rest)) e
+
+split_at : (ps : List Place) (n : ℕ) (q : Place) → n < length ps → get_or ps n q ≡ q → same_from (take n ps) (drop n ps) ≡ same_from (take n ps) (q ∷ drop (n + 1) ps)
+split_at ps n q lt is =
+    ap (λ (xs : List Place). same_from (take n ps) xs) (drop_more ps n q lt ∙ ap (λ (x : Place). x ∷ drop (n + 1) ps) is)
+
+pub same_from-found : (ps : List Place) (n : ℕ) (q : Place) (first : ℕ) → n < length ps → get_or ps n q ≡ q → place_with q.path (take n ps) ≡ Some first → same_from (take n ps) (drop n ps) ≡ Some (first, q.number)
+same_from-found ps n q first lt is found = split_at ps n q lt is ∙ found_step (take n ps) q (drop (n + 1) ps) first found
+
+pub same_from-more : (ps : List Place) (n : ℕ) (q : Place) → n < length ps → get_or ps n q ≡ q → place_with q.path (take n ps) ≡ None → same_from (take n ps) (drop n ps) ≡ same_from (take (n + 1) ps) (drop (n + 1) ps)
+same_from-more ps n q lt is none =
+    split_at ps n q lt is ∙ more_step (take n ps) q (drop (n + 1) ps) none ∙ ap (λ (xs : List Place). same_from xs (drop (n + 1) ps)) (sym (take_more ps n q lt ∙ ap (λ (x : Place). take n ps ++ x ∷ []) is))
+
+pub same_from-end : (ps : List Place) (n : ℕ) → length ps ≤ n → same_from (take n ps) (drop n ps) ≡ None
+same_from-end ps n le = at_drop_all (λ (xs : List Place). same_from (take n ps) xs) ps n le
+
+other_paths : (path : List ℕ) (ps : List Place) → place_with path ps ≡ None → (k : ℕ) (d : Place) → k < length ps → (get_or ps k d).path ≢ path
+other_paths path [] none k d lt e = absurd (omega arith)
+other_paths path (p ∷ ps) none zero d lt e =
+    both_ways _ (passed (bytes_eq p.path path) p.number (place_with path ps) none).0 ((bytes_eq-Decides p.path path).1 e)
+other_paths path (p ∷ ps) none (suc k) d lt e =
+    other_paths path ps (passed (bytes_eq p.path path) p.number (place_with path ps) none).1 k d (omega arith) e
+
+step_none : (o : Option ℕ) (n : ℕ) (later : Option (ℕ × ℕ)) → pair_or o n later ≡ None → (o ≡ None) × (later ≡ None)
+step_none None n later e = (refl, e)
+step_none (Some first) n later e = absurd (cc)
+
+differ_from : (earlier rest : List Place) → PathsDiffer earlier → same_from earlier rest ≡ None → PathsDiffer (earlier ++ rest)
+differ_from earlier [] differ none = let P : List Place → Type 0 = λ ps. PathsDiffer ps in subst P (sym (append-nil earlier)) differ
+differ_from earlier (p ∷ rest) differ none =
+    let first = step_none (place_with p.path earlier) p.number (same_from (earlier ++ p ∷ []) rest) none in
+    let P : List Place → Type 0 = λ ps. PathsDiffer ps in
+    let pushed : PathsDiffer (earlier ++ p ∷ []) = all_pairs_push (λ (a b : Place). a.path ≢ b.path) earlier p differ (λ k d lt. other_paths p.path earlier first.0 k d lt) in
+    subst P (append_assoc earlier (p ∷ []) rest) (differ_from (earlier ++ p ∷ []) rest pushed first.1)
+
+-- where no two places have the same path, the paths differ
+pub same_paths-none : (j : Job) → same_paths j ≡ None → PathsDiffer (places j)
+unfolding same_paths
+same_paths-none j none = differ_from [] (places j) (λ i k d lt le. absurd (omega arith)) none
+
+pub slice_get-design : (j : Job) → slice_get (places j) 0 ≡ Some (place 1 j.design)
+unfolding places
+slice_get-design j = refl
+
+pub slice_get-stimulus : (j : Job) (i : ℕ) (path : List ℕ) → slice_get j.stimuli i ≡ Some path → slice_get (places j) (1 + i) ≡ Some (place (1000 + i) path)
+slice_get-stimulus j i path is =
+    let size = length-places j in
+    let within = slice_get_within j.stimuli i path is in
+    slice_get-get_or (places j) (1 + i) (place 0 []) (omega arith) ∙ ap (λ (p : Place). Some p) (place-stimulus j (1 + i) i (place 0 []) path (omega arith) is)
+
+pub slice_get-vcd : (j : Job) (i : ℕ) (path : List ℕ) → slice_get j.stimuli i ≡ Some path → slice_get (places j) (1 + length j.stimuli + i) ≡ Some (place (2000 + i) (vcd_path path))
+slice_get-vcd j i path is =
+    let size = length-places j in
+    let within = slice_get_within j.stimuli i path is in
+    slice_get-get_or (places j) (1 + length j.stimuli + i) (place 0 []) (omega arith) ∙ ap (λ (p : Place). Some p) (place-vcd j (1 + length j.stimuli + i) i (place 0 []) path (omega arith) is)

@@ -1,0 +1,16 @@
+use Rattle.std.proofs.Common.{ℕ, ◌+◌, ◌-◌, List, get_or, ap, sym, ◌∙◌, arith}
+use Rattle.vs_job.specs.Places.{place, places, vcd_path}
+use Rattle.vs_job.proofs.Listed.{place-design, place-stimulus, place-vcd}
+use Rattle.vs_job.proofs.places.place_at.Goals as goal
+
+pub returns-then-n-eq0 : goal.returns-then-n-eq0
+returns-then-n-eq0 c = λ d.
+    ap (λ (n : ℕ). get_or (places c.args.job.now) n d) c.if-n-eq0.true ∙ place-design c.args.job.now d ∙ ap (λ (path : List ℕ). place 1 path) (sym c.as_str.ensures)
+
+pub returns-then-n-lanes : goal.returns-then-n-lanes
+returns-then-n-lanes c = λ d.
+    place-stimulus c.args.job.now c.args.n (c.args.n - 1) d _ (omega arith) c.get.ensures ∙ ap (λ (path : List ℕ). place (1000 + (c.args.n - 1)) path) (sym c.as_str-then-n-lanes.ensures)
+
+pub returns : goal.returns
+returns c = λ d.
+    place-vcd c.args.job.now c.args.n (c.args.n - 1 - c.len-lanes.result) d _ (omega arith) c.get-2.ensures ∙ ap (λ (path : List ℕ). place (2000 + (c.args.n - 1 - c.len-lanes.result)) (vcd_path path)) (sym c.as_str-2.ensures)

@@ -1,0 +1,4 @@
+pub mod Job
+pub mod Command
+pub mod Places
+pub mod Paths

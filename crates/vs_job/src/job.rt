@@ -1,0 +1,57 @@
+//! The job that the words of the command line call for.
+
+ghost use Rattle.std.specs.Prelude.{◌≡◌, ◌↔◌, map, IfOk, string_bytes};
+ghost use Rattle.vs_job.specs.Job.{job, IsJob};
+
+use crate::text::{Text, Texts};
+use crate::words::read_command;
+use std::alloc::{AllocError, Global};
+use thiserror::Error;
+
+/// What to run: one design with one stimulus for each lane.
+#[derive(Debug, Drop)]
+pub struct Job {
+    /// The name of the top module.
+    pub top: Text,
+    /// The name of the top's clock input.
+    pub clock: Text,
+    /// Half a clock period in units of time, from 1 to 1,000,000.
+    pub half: u32,
+    /// The path of the design.
+    pub design: Text,
+    /// The path of each lane's stimulus, for 1 to 64 lanes.
+    pub stimuli: Texts,
+}
+
+/// Why words give no job.
+#[derive(Clone, Copy, PartialEq, Eq, Debug, Error)]
+pub enum JobError {
+    /// 1: the words call for no job.
+    #[error("the words call for no job")]
+    Usage,
+    /// Memory ran out.
+    #[error("out of memory")]
+    Memory,
+}
+
+/// Reads the words of the command line, the program's own name first:
+/// `cyclesim run --top T --clock C [--half H] DESIGN STIM..`.
+///
+/// The options are two words each, and stand in this order. H is a decimal number from 1 to
+/// 1,000,000 without a sign or a leading zero, and 5 where it isn't given. There are 1 to 64 stimuli.
+/// No value and no path begins with `-`.
+///
+/// `Usage` comes exactly where the words are no such list, before any memory is taken.
+pub fn read_job(alloc: Global, words: &[String]) -> Result<Job, JobError>
+    ensures ok { IfOk result (λ j. job (map string_bytes words.now) ≡ Some j) }
+    ensures in_range { IfOk result IsJob }
+    ensures usage { (result ≡ Err JobError.Usage) ↔ (job (map string_bytes words.now) ≡ None) }
+{
+    let Some(command) = read_command(words) else {
+        return Err(JobError::Usage);
+    };
+    match command.to_job(alloc) {
+        Ok(job) => Ok(job),
+        Err(AllocError) => Err(JobError::Memory),
+    }
+}

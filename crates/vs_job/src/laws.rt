@@ -1,0 +1,25 @@
+//! Laws on jobs, as functions that do nothing: each clause is over the definitions alone.
+
+ghost use Rattle.std.specs.Prelude.{◌≡◌, ◌+◌, ℕ, List, None, Some, length, slice_get};
+ghost use Rattle.vs_job.specs.declared.job.Job.{Job};
+ghost use Rattle.vs_job.specs.Job.{job, IsJob};
+ghost use Rattle.vs_job.specs.Places.{Place, places, same_paths, vcd_path, place, PathsDiffer};
+
+/// Every job that words call for keeps its ranges.
+pub fn job_law()
+    ensures { (words : List (List ℕ)) (j : Job) → job words ≡ Some j → IsJob j }
+{}
+
+/// Where no two places have one path, the paths of all places differ pairwise.
+pub fn same_paths_law()
+    ensures { (j : Job) → same_paths j ≡ None → PathsDiffer (places j) }
+{}
+
+/// Which places there are: the design, and a stimulus and a waveform for each lane.
+pub fn places_law()
+    ensures design { (j : Job) → slice_get (places j) 0 ≡ Some (place 1 j.design) }
+    ensures stimulus { (j : Job) (i : ℕ) (path : List ℕ) → slice_get j.stimuli i ≡ Some path
+        → slice_get (places j) (1 + i) ≡ Some (place (1000 + i) path) }
+    ensures vcd { (j : Job) (i : ℕ) (path : List ℕ) → slice_get j.stimuli i ≡ Some path
+        → slice_get (places j) (1 + length j.stimuli + i) ≡ Some (place (2000 + i) (vcd_path path)) }
+{}

@@ -1,0 +1,125 @@
+//! The places of a job, and two of them that have one path.
+
+ghost use Rattle.std.specs.Prelude.{◌≡◌, ◌+◌, ◌*◌, ◌<◌, ◌≤◌, take, length, slice_index_or, bytes_eq};
+ghost use Rattle.vs_job.specs.Places as spec;
+ghost use Rattle.vs_job.specs.Paths.{path_of, place_of};
+
+use crate::job::Job;
+
+/// The place of the design.
+const DESIGN: u32 = 1;
+
+/// The place of lane 0's stimulus.
+const FIRST_STIMULUS: u32 = 1000;
+
+/// The place of lane 0's waveform.
+const FIRST_VCD: u32 = 2000;
+
+/// What is added to a stimulus's path.
+const VCD: &[u8] = b".vcd";
+
+/// A path of a job.
+#[derive(Clone, Copy)]
+enum Path<'a> {
+    /// This word.
+    Word(&'a str),
+    /// This word with `.vcd` added.
+    Vcd(&'a str),
+}
+
+/// A place, and its path.
+#[derive(Clone, Copy)]
+struct Place<'a> {
+    number: u32,
+    path: Path<'a>,
+}
+
+/// Whether the text is the word with `.vcd` added.
+fn is_vcd(text: &str, word: &str) -> bool
+    ensures { result ≡ bytes_eq text.now (spec.vcd_path word.now) }
+{
+    match text.as_bytes().strip_suffix(VCD) {
+        None => false,
+        Some(front) => front == word.as_bytes(),
+    }
+}
+
+/// Whether two paths are equal texts.
+fn is_same(a: Path<'_>, b: Path<'_>) -> bool
+    ensures { result ≡ bytes_eq (path_of a.entry) (path_of b.entry) }
+{
+    match (a, b) {
+        (Path::Word(a), Path::Word(b)) => a == b,
+        (Path::Word(a), Path::Vcd(b)) => is_vcd(a, b),
+        (Path::Vcd(a), Path::Word(b)) => is_vcd(b, a),
+        (Path::Vcd(a), Path::Vcd(b)) => a == b,
+    }
+}
+
+/// How many places there are.
+fn place_count(job: &Job) -> usize
+    requires { length job.now.stimuli ≤ 64 }
+    ensures { result ≡ 1 + 2 * length job.now.stimuli }
+{
+    1 + 2 * job.stimuli.len()
+}
+
+/// Place n, from 0: the design, the stimuli by lane, and the waveforms by lane.
+fn place_at(job: &Job, n: usize) -> Place<'_>
+    requires few { length job.now.stimuli ≤ 64 }
+    requires place { n < 1 + 2 * length job.now.stimuli }
+    ensures { (d : spec.Place) → slice_index_or (spec.places job.now) n d ≡ place_of result }
+{
+    let lanes = job.stimuli.len();
+    if n == 0 {
+        return Place {
+            number: DESIGN,
+            path: Path::Word(job.design.as_str()),
+        };
+    }
+    if n <= lanes {
+        let lane = n - 1;
+        return Place {
+            number: FIRST_STIMULUS + lane as u32,
+            path: Path::Word(job.stimuli.get(lane).as_str()),
+        };
+    }
+    let lane = n - 1 - lanes;
+    Place {
+        number: FIRST_VCD + lane as u32,
+        path: Path::Vcd(job.stimuli.get(lane).as_str()),
+    }
+}
+
+/// The first of the first n places that has the path.
+fn place_with(job: &Job, n: usize, path: Path<'_>) -> Option<u32>
+    requires few { length job.now.stimuli ≤ 64 }
+    requires places { n ≤ 1 + 2 * length job.now.stimuli }
+    ensures { result ≡ spec.place_with (path_of path.entry) (take n (spec.places job.now)) }
+{
+    for i in 0..n {
+        let place = place_at(job, i);
+        if is_same(place.path, path) {
+            return Some(place.number);
+        }
+    }
+    None
+}
+
+/// Two places of the job whose paths are equal texts, if there are any: the design's place is 1, lane
+/// i's stimulus has 1000 + i and its waveform 2000 + i.
+///
+/// In the order of the design, the stimuli by lane and the waveforms by lane it is the pair whose
+/// later member comes first, and with it the earliest equal one. It takes no memory.
+pub fn same_paths(job: &Job) -> Option<(u32, u32)>
+    requires { length job.now.stimuli ≤ 64 }
+    ensures { result ≡ spec.same_paths job.now }
+{
+    for n in 0..place_count(job) {
+        let place = place_at(job, n);
+        if let Some(first) = place_with(job, n, place.path) {
+            return Some((first, place.number));
+        }
+    }
+    None
+}

@@ -1,0 +1,118 @@
+//! Words and jobs, written by hand.
+
+use crate::{Job, JobError, read_job, same_paths, stimulus_paths, vcd_paths};
+use std::alloc::{AllocError, Global};
+use std::process::Abort;
+use std::test::Fail;
+
+/// The words of a line, and so many more stimuli.
+fn words(alloc: Global, line: &str, more: usize) -> Result<Vec<String>, AllocError> {
+    let mut words = Vec::new(alloc);
+    for word in line.split(' ') {
+        words.push(String::from_str(alloc, word)?)?;
+    }
+    for n in 0..more {
+        words.push(format!(in alloc; "t{n}")?)?;
+    }
+    Ok(words)
+}
+
+/// What a job's parts are, as a line.
+fn shown(alloc: Global, job: &Job) -> Result<String, AllocError> {
+    let top = job.top.as_str();
+    let clock = job.clock.as_str();
+    let half = job.half;
+    let design = job.design.as_str();
+    let stimuli = job.stimuli.len();
+    format!(in alloc; "{top} {clock} {half} {design} {stimuli}")
+}
+
+fn expect_job(
+    rt: &impl Abort,
+    alloc: Global,
+    line: &str,
+    more: usize,
+    expected: Option<&str>,
+) -> Result<(), Fail> {
+    let words = words(alloc, line, more)?;
+    match read_job(alloc, &words) {
+        Ok(job) => {
+            let shown = shown(alloc, &job)?;
+            assert_eq!(rt; Some(shown.as_str()), expected, "{line}");
+        }
+        Err(error) => {
+            assert_eq!(rt; error, JobError::Usage);
+            assert!(rt; expected.is_none(), "{line}");
+        }
+    }
+    Ok(())
+}
+
+#[test]
+fn jobs_of_words(rt: HostRuntime) -> Result<(), Fail> {
+    let rows = [
+        ("cyclesim run --top t --clock c d s", 0, Some("t c 5 d 1")),
+        ("x run --top t --clock c --half 9 d s", 0, Some("t c 9 d 1")),
+        ("x run --top t --clock c d", 64, Some("t c 5 d 64")),
+        ("x run --top t --clock c d", 65, None),
+        ("x run --top t --clock c d", 0, None),
+        ("x run --top t --clock c --half 0 d s", 0, None),
+        ("x run --top t --clock c --half 05 d s", 0, None),
+        ("x run --top t --clock c --half +5 d s", 0, None),
+        ("x run --top t --clock c --half 1000001 d s", 0, None),
+        ("x run --top t --clock c --half", 2, None),
+        ("x run --clock c --top t d s", 0, None),
+        ("x run --top -t --clock c d s", 0, None),
+        ("x run --top t --clock c d -s", 0, None),
+        ("x run --top t --clock c d s --half 9", 0, None),
+        ("x bench 1", 0, None),
+        ("x", 0, None),
+        ("x run --top  --clock c d s", 0, Some(" c 5 d 1")),
+    ];
+    for (line, more, expected) in rows {
+        expect_job(&rt, rt.alloc(), line, more, expected)?;
+    }
+    assert!(rt; read_job(rt.alloc(), &[]).is_err());
+    Ok(())
+}
+
+fn expect_same(
+    rt: &impl Abort,
+    alloc: Global,
+    line: &str,
+    expected: Option<(u32, u32)>,
+) -> Result<(), Fail> {
+    let words = words(alloc, line, 0)?;
+    let job = read_job(alloc, &words)?;
+    assert_eq!(rt; same_paths(&job), expected, "{line}");
+    Ok(())
+}
+
+#[test]
+fn same_paths_of_jobs(rt: HostRuntime) -> Result<(), Fail> {
+    let rows = [
+        ("x run --top t --clock c d s u", None),
+        ("x run --top t --clock c d s s", Some((1000, 1001))),
+        ("x run --top t --clock c d s s.vcd", Some((1001, 2000))),
+        ("x run --top t --clock c s s s", Some((1, 1000))),
+        ("x run --top t --clock c s.vcd s", Some((1, 2000))),
+        ("x run --top t --clock c d s.vcd a s a", Some((1001, 1003))),
+    ];
+    for (line, expected) in rows {
+        expect_same(&rt, rt.alloc(), line, expected)?;
+    }
+    Ok(())
+}
+
+#[test]
+fn paths_by_lane(rt: HostRuntime) -> Result<(), Fail> {
+    let words = words(rt.alloc(), "x run --top t --clock c d s u", 0)?;
+    let job = read_job(rt.alloc(), &words)?;
+    let stimuli = stimulus_paths(rt.alloc(), &job)?;
+    let vcds = vcd_paths(rt.alloc(), &job)?;
+    assert_eq!(rt; stimuli.len(), 2);
+    assert_eq!(rt; vcds.len(), 2);
+    assert_eq!(rt; stimuli[1].as_str(), "u");
+    assert_eq!(rt; vcds[1].as_str(), "u.vcd");
+    Ok(())
+}
