@@ -1,0 +1,138 @@
+-- Why a stimulus can't be opened.
+use Rattle.std.proofs.Common.{◌≡◌, ◌≢◌, ◌⊎◌, ℕ, ◌<◌, ◌≤◌, ◌+◌, List, length, take, Some, arith, refl, inl, inr, IsTrue, Bool, Result, Ok, Err, IfErr, sym, subst, ap, ◌∙◌}
+use Rattle.vs_desk.specs.Desk.{Register, Contents}
+use Rattle.vs_stim.specs.declared.input.Input.{Input}
+use Rattle.vs_stim.specs.declared.error.StimError.{StimError}
+use Rattle.vs_stim.specs.declared.error.StimError.TheVariants as E
+use Rattle.vs_stim.specs.Reading.{header_refusal}
+use Rattle.vs_stim.specs.Source.{IsHeaderError}
+use Rattle.vs_drive.specs.Opened.{path_at, with_lanes, HaveHeaders}
+use Rattle.vs_design.specs.Designs.{Design}
+use Rattle.vs_flat.specs.DesignOf.{design_of}
+use Rattle.vs_engine.specs.Lanes.{Running}
+use Rattle.vs_front.specs.Lent.{Acceptance}
+use Rattle.vs_front.specs.Source.{Spells}
+use Rattle.vs_front.specs.Accepted.{IsAcceptedText}
+use Rattle.vs_job.specs.declared.job.Job.{Job}
+use Rattle.vs_load.specs.Inputs.{data_inputs}
+use Rattle.vs_setup.specs.declared.error.SetupError.{SetupError}
+use Rattle.vs_setup.specs.declared.error.SetupError.TheVariants.{TooLong, NotAccepted, Stimulus, ReadFault, Memory}
+use Rattle.vs_setup.specs.DesignText.{with_design}
+use Rattle.vs_setup.specs.Prepared.{IsDesignLoaded}
+use Rattle.vs_setup.specs.Unprepared.{IsUnopened, IsUnprepared, IsDesignOf, IsLoadError, IsFirstRefused, StimulusFails, error_of}
+
+-- what is known of the lane that stopped the opening
+pub record HasStopped (tells : Bool) (inputs : List Input) (stimuli : List (List ℕ)) (before : Register) (old : Contents) (now : Register) (lane : ℕ) (error : StimError) : Type 0 where
+  pub is_lane : lane < length stimuli
+  pub is_header_error : IsHeaderError error
+  pub refused : IsTrue tells → error ≢ E.ReadFault → error ≢ E.Memory → header_refusal inputs (old.files (path_at stimuli lane)) ≡ Some error
+  pub earlier : IsTrue tells → HaveHeaders inputs old.files stimuli lane
+  pub register : error ≢ E.ReadFault → error ≢ E.Memory → now ≡ with_lanes before (take (lane + 1) stimuli)
+  pub memory : error ≡ E.Memory → (now ≡ with_lanes before (take lane stimuli)) ⊎ (now ≡ with_lanes before (take (lane + 1) stimuli))
+  pub fault : error ≡ E.ReadFault → StimulusFails before stimuli now lane
+
+refusal : (tells : Bool) (inputs : List Input) (stimuli : List (List ℕ)) (before : Register) (old : Contents) (now : Register) (lane : ℕ) (error : StimError)
+    → HasStopped tells inputs stimuli before old now lane error → error ≢ E.ReadFault → error ≢ E.Memory
+    → (lane < length stimuli) × IsHeaderError error × (now ≡ with_lanes before (take (lane + 1) stimuli)) × (IsTrue tells → IsFirstRefused inputs old stimuli lane error)
+refusal tells inputs stimuli before old now lane error s r m =
+    (s.is_lane, s.is_header_error, s.register r m, λ t. record { refused = s.refused t r m; earlier = s.earlier t })
+
+pub unopened : (tells : Bool) (inputs : List Input) (stimuli : List (List ℕ)) (before : Register) (old : Contents) (now : Register) (lane : ℕ) (error : StimError)
+    → HasStopped tells inputs stimuli before old now lane error → IsUnopened tells inputs stimuli before old now (error_of lane error)
+unopened tells inputs stimuli before old now lane E.BadHeader s = refusal tells inputs stimuli before old now lane E.BadHeader s (λ e. cc) (λ e. cc)
+unopened tells inputs stimuli before old now lane (E.BadVector line) s = refusal tells inputs stimuli before old now lane (E.BadVector line) s (λ e. cc) (λ e. cc)
+unopened tells inputs stimuli before old now lane E.FirstUnknown s = refusal tells inputs stimuli before old now lane E.FirstUnknown s (λ e. cc) (λ e. cc)
+unopened tells inputs stimuli before old now lane E.NoVector s = refusal tells inputs stimuli before old now lane E.NoVector s (λ e. cc) (λ e. cc)
+unopened tells inputs stimuli before old now lane E.TooManyVectors s = refusal tells inputs stimuli before old now lane E.TooManyVectors s (λ e. cc) (λ e. cc)
+unopened tells inputs stimuli before old now lane E.StimulusTooLong s = refusal tells inputs stimuli before old now lane E.StimulusTooLong s (λ e. cc) (λ e. cc)
+unopened tells inputs stimuli before old now lane (E.LineTooLong line) s = refusal tells inputs stimuli before old now lane (E.LineTooLong line) s (λ e. cc) (λ e. cc)
+unopened tells inputs stimuli before old now lane E.ReadFault s = (lane, s.is_lane, refl, s.fault refl, s.earlier)
+unopened tells inputs stimuli before old now lane E.Memory s = of_memory (s.memory refl)
+  where
+    of_memory : (now ≡ with_lanes before (take lane stimuli)) ⊎ (now ≡ with_lanes before (take (lane + 1) stimuli)) → (lanes : ℕ) × (lanes ≤ length stimuli) × (now ≡ with_lanes before (take lanes stimuli))
+    of_memory (inl e) =
+        let below = s.is_lane in
+        (lane, omega (arith, below), e)
+    of_memory (inr e) =
+        let below = s.is_lane in
+        (lane + 1, omega (arith, below), e)
+
+-- an error that a result has, from what is known of each error
+pub on_err : {A E : Type 0} (P Q : E → Type 0) (r : Result A E) → IfErr r P → ((e : E) → r ≡ Err e → P e → Q e) → IfErr r Q
+on_err P Q (Ok a) h f = tt
+on_err P Q (Err e) h f = f e refl h
+
+err_same : {A E : Type 0} (d e : E) → ◌≡◌ {A = Result A E} (Err d) (Err e) → e ≡ d
+err_same d e is = cc
+
+pub err_is : {A E : Type 0} (Q : E → Type 0) (r : Result A E) (e : E) → ◌≡◌ {A = Result A E} r (Err e) → Q e → IfErr r Q
+err_is Q (Ok a) e is h = tt
+err_is {A = A} Q (Err d) e is h = subst Q (err_same {A = A} d e is) h
+
+-- a text that can't be loaded
+pub unloaded : (tells : Bool) (job : Job) (before : Register) (old : Contents) (now : Register) (new : Contents) (e : SetupError) → IsLoadError e → now ≡ with_design before job.design
+    → (e ≡ NotAccepted → IsTrue tells → (d : Design) → ¬ (IsDesignOf job old d)) → IsUnprepared tells job before old now new e
+unloaded tells job before old now new TooLong h at none = absurd h
+unloaded tells job before old now new NotAccepted h at none = (at, none refl)
+unloaded tells job before old now new (Stimulus lane error) h at none = absurd h
+unloaded tells job before old now new (ReadFault place) h at none = absurd h
+unloaded tells job before old now new Memory h at none =
+    let none_below : 0 ≤ length job.stimuli = omega arith in
+    inr (0, none_below, at)
+
+-- an equal text is accepted as the same design
+pub with_text : (top clock : List ℕ) (d : Design) (text other : List ℕ) → text ≡ other → IsAcceptedText text top clock d → IsAcceptedText other top clock d
+with_text top clock d text other e a = record {
+  source = a.source;
+  short = subst (λ (t : List ℕ). length t ≤ 4194304) e a.short;
+  spelled = subst (λ (t : List ℕ). Spells t a.source) e a.spelled;
+  top_named = a.top_named;
+  declared = a.declared;
+  is_elaborated = a.is_elaborated;
+  accepted = a.accepted;
+}
+
+-- a stimulus that can't be opened, behind a loaded design
+pub unprepared : {W : Type 0} (lane : W → ℕ → Bool) (lanes : ℕ) (tells : Bool) (job : Job) (before : Register) (old mid : Contents) (now : Register) (new : Contents) (a : Acceptance) (inputs : List Input) (engine : Running W)
+    → IsDesignLoaded lane lanes tells job old a inputs engine → (IsTrue tells → mid.files ≡ old.files)
+    → (e : SetupError) → IsUnopened tells inputs job.stimuli (with_design before job.design) mid now e → IsUnprepared tells job before old now new e
+unfolding with_text
+unprepared lane lanes tells job before old mid now new a inputs engine l same e u = by_error e u
+  where
+    bit : ℕ
+    bit = l.loaded.accepted.accepted.clock.first
+
+    accepted : (t : IsTrue tells) → IsDesignOf job old (design_of a.flat)
+    accepted t = with_text job.top job.clock (design_of a.flat) l.text (old.files job.design) (l.text_is t) l.loaded.accepted
+
+    inputs_are : (t : IsTrue tells) → inputs ≡ data_inputs (design_of a.flat) (accepted t).accepted.clock.first
+    inputs_are t = l.loaded.inputs_are
+
+    headers : (t : IsTrue tells) (n : ℕ) → HaveHeaders inputs mid.files job.stimuli n → HaveHeaders (data_inputs (design_of a.flat) (accepted t).accepted.clock.first) old.files job.stimuli n
+    headers t n h = subst (λ (is : List Input). HaveHeaders is old.files job.stimuli n) (inputs_are t) (subst (λ (files : List ℕ → List ℕ). HaveHeaders inputs files job.stimuli n) (same t) h)
+
+    refused : (t : IsTrue tells) (n : ℕ) (error : StimError) → header_refusal inputs (mid.files (path_at job.stimuli n)) ≡ Some error
+        → header_refusal (data_inputs (design_of a.flat) (accepted t).accepted.clock.first) (old.files (path_at job.stimuli n)) ≡ Some error
+    refused t n error h = ap (λ is. header_refusal is (old.files (path_at job.stimuli n))) (sym (inputs_are t)) ∙ ap (λ (files : List ℕ → List ℕ). header_refusal inputs (files (path_at job.stimuli n))) (sym (same t)) ∙ h
+
+    by_error : (e : SetupError) → IsUnopened tells inputs job.stimuli (with_design before job.design) mid now e → IsUnprepared tells job before old now new e
+    by_error TooLong u = absurd u
+    by_error NotAccepted u = absurd u
+    by_error (Stimulus n error) u = (
+      u.0,
+      u.1,
+      u.2,
+      λ t. record {
+        design = design_of a.flat;
+        accepted = accepted t;
+        first = record { refused = refused t n error (u.3 t).refused; earlier = headers t n (u.3 t).earlier };
+      },
+    )
+    by_error (ReadFault place) u = inr (record {
+      lane = u.0;
+      is_lane = u.1;
+      place_is = u.2;
+      fails = u.3;
+      earlier = λ t. record { design = design_of a.flat; accepted = accepted t; headers = headers t u.0 (u.4 t) };
+    })
+    by_error Memory u = inr u

@@ -1,0 +1,82 @@
+-- A run whose parts were put together.
+use Rattle.std.proofs.Common.{◌≡◌, ℕ, ◌<◌, ◌≤◌, Bool, List, length, arith, IsTrue, All, sym, subst, ap, ◌∙◌}
+use Rattle.std.specs.Prelude.{sum}
+use Rattle.std.proofs.lemmas.List.{length-map}
+use Rattle.vs_desk.specs.Desk.{Contents}
+use Rattle.vs_design.specs.Designs.{Design}
+use Rattle.vs_flat.specs.DesignOf.{design_of}
+use Rattle.vs_engine.specs.Compiled.{IsProgramOf, span_of}
+use Rattle.vs_engine.specs.Lanes.{Running, state}
+use Rattle.vs_front.specs.Lent.{Acceptance}
+use Rattle.vs_stim.specs.declared.input.Input.{Input}
+use Rattle.vs_stim.specs.Reading.{reading}
+use Rattle.vs_drive.specs.Lanes.{lane_at, AreLanes}
+use Rattle.vs_drive.specs.Opened as drive
+use Rattle.vs_drive.specs.Opened.{path_at}
+use Rattle.vs_waves.specs.Wave.{Wave, IsNewWave}
+use Rattle.vs_rounds.specs.Lanes.{Simulation, AreOpened, wave_at, closed}
+use Rattle.vs_rounds.specs.Ready.{IsReady, IsWaveReady}
+use Rattle.vs_job.specs.declared.job.Job.{Job}
+use Rattle.vs_setup.specs.Prepared.{IsDesignLoaded, run_of}
+
+-- a wave is new
+new_wave : (d : Design) (half : ℕ) (waves : List Wave) → All (IsNewWave d half) waves → (i : ℕ) → i < length waves → IsNewWave d half (wave_at waves i)
+new_wave d half waves all i h = all i closed h
+
+-- the parts of a run
+pub record HasParts {W : Type 0} (lane : W → ℕ → Bool) (lanes : ℕ) (tells : Bool) (job : Job) (old mid new : Contents) (a : Acceptance) (inputs : List Input) (engine : Running W) (m : Simulation W) : Type 0 where
+  pub loaded : IsDesignLoaded lane lanes tells job old a inputs engine
+  pub files : IsTrue tells → mid.files ≡ old.files
+  pub opened : drive.AreOpened tells inputs mid new job.stimuli m.stimuli
+  pub numbered : AreLanes m.stimuli
+  pub engine_is : m.engine ≡ engine
+  pub waves : length m.waves ≡ length m.stimuli
+  pub new_waves : All (IsNewWave (design_of a.flat) job.half) m.waves
+  pub half : job.half ≤ 1000000
+  pub width : lanes ≡ 64
+
+pub program_is : {W : Type 0} (lane : W → ℕ → Bool) (lanes : ℕ) (tells : Bool) (job : Job) (old mid new : Contents) (a : Acceptance) (inputs : List Input) (engine : Running W) (m : Simulation W)
+    → (p : HasParts lane lanes tells job old mid new a inputs engine m) → IsProgramOf (design_of a.flat) p.loaded.loaded.accepted.accepted.clock.first m.engine.program
+program_is lane lanes tells job old mid new a inputs engine m p = subst (λ (e : Running _). IsProgramOf (design_of a.flat) p.loaded.loaded.accepted.accepted.clock.first e.program) (sym p.engine_is) p.loaded.loaded.program
+
+pub ready : {W : Type 0} (lane : W → ℕ → Bool) (lanes : ℕ) (tells : Bool) (job : Job) (old mid new : Contents) (a : Acceptance) (inputs : List Input) (engine : Running W) (m : Simulation W)
+    → HasParts lane lanes tells job old mid new a inputs engine m → IsReady 0 m
+ready lane lanes tells job old mid new a inputs engine m p = record {
+  alike = record {
+    lanes = p.numbered;
+    waves = p.waves;
+    bits = record { each = λ i h. ap (λ ns. sum ns) (p.opened.each i h).sizes ∙ p.loaded.loaded.bits ∙ ap (λ (e : Running _). length e.program.inputs) (sym p.engine_is) };
+  };
+  waves = λ i h. each i (new_wave (design_of a.flat) job.half m.waves p.new_waves i (subst (λ n. i < n) (sym p.waves) h));
+}
+  where
+    signals : length (design_of a.flat).signals ≡ length m.engine.program.signals
+    signals = sym (length-map (design_of a.flat).signals span_of) ∙ ap length (sym (program_is lane lanes tells job old mid new a inputs engine m p).signals)
+
+    each : (i : ℕ) → IsNewWave (design_of a.flat) job.half (wave_at m.waves i) → IsWaveReady 0 m.engine.program (lane_at m.stimuli i).live (wave_at m.waves i)
+    each i w = record {
+      half = subst (λ n. n ≤ 1000000) (sym w.half_is) p.half;
+      count = w.count ∙ signals;
+      lengths = λ none. absurd (omega (arith, none));
+      handed_out = w.left_is;
+    }
+
+-- Which lane is opened, whatever text of the design the desk told.
+pub begins : {W : Type 0} (lane : W → ℕ → Bool) (lanes : ℕ) (tells : Bool) (job : Job) (old mid new : Contents) (a : Acceptance) (inputs : List Input) (engine : Running W) (m : Simulation W)
+    → (p : HasParts lane lanes tells job old mid new a inputs engine m) → IsTrue tells → AreOpened lane (run_of job old.files (design_of a.flat) p.loaded.loaded.accepted.accepted.clock.first) m new
+begins lane lanes tells job old mid new a inputs engine m p t = record {
+  program = program_is lane lanes tells job old mid new a inputs engine m p;
+  live = λ i h. (p.opened.each i h).live;
+  reading = λ i h.
+      ap (λ is. reading is (old.files (path_at job.stimuli i))) (sym p.loaded.loaded.inputs_are)
+      ∙ ap (λ (files : List ℕ → List ℕ). reading inputs (files (path_at job.stimuli i))) (sym (p.files t))
+      ∙ (p.opened.each i h).reading t;
+  waves = λ i h. new_wave (design_of a.flat) job.half m.waves p.new_waves i (subst (λ n. i < n) (sym p.waves) h);
+  idle = λ i h. ap (λ (e : Running _). state lane e i) p.engine_is ∙ p.loaded.loaded.idle i (below i h);
+}
+  where
+    below : (i : ℕ) → i < length m.stimuli → i < lanes
+    below i h =
+        let most = p.numbered.at_most_64 in
+        let width = p.width in
+        omega (arith, h, most, width)

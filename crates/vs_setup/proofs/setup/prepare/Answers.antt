@@ -1,0 +1,92 @@
+use Rattle.std.proofs.Common.{rules, ◌+◌, ◌≤◌, List, All, length, inr, sym, subst, ap, ◌∙◌, arith}
+use Rattle.std.proofs.lemmas.List.{take_all}
+use Rattle.vs_desk.specs.Desk.{Register}
+use Rattle.vs_flat.specs.DesignOf.{design_of}
+use Rattle.vs_engine.specs.Compiled.{fall_stores, rise_stores}
+use Rattle.vs_engine.specs.Lanes.{Running}
+use Rattle.vs_stim.specs.Header.{IsInput}
+use Rattle.vs_drive.specs.Opened as drive
+use Rattle.vs_drive.specs.Opened.{with_lanes}
+use Rattle.vs_drive.specs.Lanes.{AreLanes, AreAttached}
+use Rattle.vs_stim.specs.declared.input.Input.{Input}
+use Rattle.vs_setup.specs.DesignText.{with_design}
+use Rattle.vs_setup.specs.Places.{with_texts}
+use Rattle.vs_setup.specs.Unprepared.{IsUnprepared, IsUnopened}
+use Rattle.vs_setup.proofs.Opening.{err_is, unprepared}
+use Rattle.vs_setup.proofs.Readied.{HasParts, program_is, ready, begins}
+use Rattle.vs_setup.proofs.setup.prepare.Goals as goal
+
+pub returns-in_err-drive-clause-unprepared : goal.returns-in_err-drive-clause-unprepared
+returns-in_err-drive-clause-unprepared g c =
+    let job = c.args.job.now in
+    let before = g.D.Desk.register c.args.desk.now in
+    let old = g.D.Desk.contents c.args.desk.now in
+    let middle = g.D.Desk.register c.read_and_load.new.desk in
+    let mid = g.D.Desk.contents c.read_and_load.new.desk in
+    let now = g.D.Desk.register c.open_stimuli.new.desk in
+    let new = g.D.Desk.contents c.open_stimuli.new.desk in
+    let l = c.in_ok-loaded.loaded in
+    let e = c.in_err-drive.field-0.0 in
+    let tells = g.D.Desk.tells in
+    let unopened : IsUnopened tells c.deref.result.now job.stimuli middle mid now e = c.in_err-drive.ensures.unopened in
+    let behind : IsUnopened tells l.inputs.items job.stimuli (with_design before job.design) mid now e =
+    subst (λ (r : Register). IsUnopened tells l.inputs.items job.stimuli r mid now e) c.in_ok-loaded.ensures.register
+    (subst (λ (is : List Input). IsUnopened tells is job.stimuli middle mid now e) c.deref.ensures.value unopened) in
+    err_is (IsUnprepared tells job before old now new) c.from_residual-in_err-drive.result e (search rules)
+    (unprepared g.W.Word.lane g.W.Word.LANES tells job before old mid now new l.accepted l.inputs.items l.engine c.in_ok-loaded.ensures.loaded (λ t. (c.in_ok-loaded.ensures.only t).files) e behind)
+
+pub returns-in-Ok-clause-prepared : goal.returns-in-Ok-clause-prepared
+returns-in-Ok-clause-prepared g c =
+    let job = c.args.job.now in
+    let before = g.D.Desk.register c.args.desk.now in
+    let old = g.D.Desk.contents c.args.desk.now in
+    let mid = g.D.Desk.contents c.read_and_load.new.desk in
+    let new = g.D.Desk.contents c.open_stimuli.new.desk in
+    let l = c.in_ok-loaded.loaded in
+    let m = c.in-Ok.prepared.machine in
+    let tells = g.D.Desk.tells in
+    let drive_is = c.in-Ok.ensures.stimuli in
+    let opened : drive.AreOpened tells l.inputs.items mid new job.stimuli c.in_ok-drive.drive =
+    subst (λ (is : List Input). drive.AreOpened tells is mid new job.stimuli c.in_ok-drive.drive) c.deref.ensures.value c.in_ok-drive.ensures.opened in
+    let parts : HasParts g.W.Word.lane g.W.Word.LANES tells job old mid new l.accepted l.inputs.items l.engine m = record {
+      loaded = c.in_ok-loaded.ensures.loaded;
+      files = λ t. (c.in_ok-loaded.ensures.only t).files;
+      opened = subst (λ ks. drive.AreOpened tells l.inputs.items mid new job.stimuli ks) (sym drive_is) opened;
+      numbered = subst AreLanes (sym drive_is) c.in_ok-drive.ensures.numbered;
+      engine_is = c.in-Ok.ensures.engine;
+      waves = c.in-Ok.ensures.lanes ∙ ap length (sym drive_is);
+      new_waves = c.in-Ok.ensures.waves;
+      half = c.requires.job.half_to;
+      width = c.requires.width;
+    } in
+    record {
+      text = parts.loaded.text;
+      text_is = parts.loaded.text_is;
+      design = design_of l.accepted.flat;
+      accepted = parts.loaded.loaded.accepted;
+      size_is = c.in-Ok.ensures.size ∙ parts.loaded.loaded.size;
+      program = program_is g.W.Word.lane g.W.Word.LANES tells job old mid new l.accepted l.inputs.items l.engine m parts;
+      all_inputs = subst (All IsInput) parts.loaded.loaded.inputs_are parts.loaded.loaded.are_inputs;
+      stores_are = c.in-Ok.ensures.stores ∙ ap (λ (e : Running _). fall_stores e.program + rise_stores e.program) (sym c.in-Ok.ensures.engine);
+      lanes = parts.opened.lanes;
+      ready = ready g.W.Word.lane g.W.Word.LANES tells job old mid new l.accepted l.inputs.items l.engine m parts;
+      opened = begins g.W.Word.lane g.W.Word.LANES tells job old mid new l.accepted l.inputs.items l.engine m parts;
+      paths = c.in-Ok.ensures.paths;
+      register_is = c.in_ok-drive.ensures.register ∙ ap (λ (r : Register). with_lanes r job.stimuli) c.in_ok-loaded.ensures.register;
+      readable = subst (λ ks. AreAttached (g.D.Desk.register c.open_stimuli.new.desk) ks) (sym drive_is) c.in_ok-drive.ensures.readable;
+      kept = λ t. record {
+        files = (c.in_ok-drive.ensures.others t).files ∙ (c.in_ok-loaded.ensures.only t).files;
+        put = (c.in_ok-drive.ensures.others t).put ∙ (c.in_ok-loaded.ensures.only t).put;
+      };
+    }
+
+pub returns-in-Err-clause-unprepared : goal.returns-in-Err-clause-unprepared
+returns-in-Err-clause-unprepared g c =
+    let job = c.args.job.now in
+    let all : length job.stimuli ≤ length job.stimuli = omega arith in
+    inr (
+      length job.stimuli,
+      all,
+      c.in_ok-drive.ensures.register ∙ ap (λ (r : Register). with_lanes r job.stimuli) c.in_ok-loaded.ensures.register
+          ∙ ap (λ ss. with_texts (g.D.Desk.register c.args.desk.now) job ss) (sym (take_all (length job.stimuli) job.stimuli all)),
+    )

@@ -1,0 +1,4 @@
+pub mod DesignText
+pub mod Places
+pub mod Prepared
+pub mod Unprepared

@@ -1,0 +1,58 @@
+-- A run that can begin.
+use Rattle.std.specs.Prelude.{◌≡◌, ℕ, ◌+◌, Bool, IsTrue, List, All, length, map}
+use Rattle.vs_desk.specs.Desk.{Register, Contents}
+use Rattle.vs_design.specs.Designs.{Design}
+use Rattle.vs_design.specs.Sizes.{size as size_of}
+use Rattle.vs_engine.specs.Compiled.{IsProgramOf, fall_stores, rise_stores}
+use Rattle.vs_front.specs.Accepted.{IsAcceptedText}
+use Rattle.vs_stim.specs.Header.{IsInput}
+use Rattle.vs_drive.specs.Lanes.{AreAttached}
+use Rattle.vs_drive.specs.Opened.{path_at}
+use Rattle.vs_job.specs.declared.job.Job.{Job}
+use Rattle.vs_job.specs.Places.{vcd_path}
+use Rattle.vs_load.specs.Inputs.{data_inputs}
+use Rattle.vs_rounds.specs.Lanes.{Run, Simulation, AreOpened}
+use Rattle.vs_rounds.specs.Ready.{IsReady}
+use Rattle.vs_load.specs.Loaded.{IsLoaded}
+use Rattle.vs_front.specs.Lent.{Acceptance}
+use Rattle.vs_stim.specs.declared.input.Input.{Input}
+use Rattle.vs_engine.specs.Lanes.{Running}
+use Rattle.vs_setup.specs.Places.{with_texts}
+
+-- What a job runs where the files have these bytes: its design, with the bit of its clock, and a text for each lane.
+abbrev pub run_of : Job → (List ℕ → List ℕ) → Design → ℕ → Run
+run_of job files d clock = record { design = d; clock = clock; half = job.half; inputs = data_inputs d clock; texts = λ i. files (path_at job.stimuli i) }
+
+-- nothing changed of the files and of what was put
+pub record AreTextsKept (old new : Contents) : Type 0 where
+  pub files : new.files ≡ old.files
+  pub put : new.put ≡ old.put
+
+-- The design is accepted and loaded, each lane's stimulus is about to give its first vector, and nothing of the waveforms was begun,
+-- where the desk told this before and tells that now, and `lane` reads a lane of a word.
+pub record IsPrepared {W : Type 0} (lane : W → ℕ → Bool) (tells : Bool) (job : Job) (before : Register) (old : Contents) (now : Register) (new : Contents)
+    (m : Simulation W) (size stores : ℕ) (wave_paths : List (List ℕ)) : Type 0 where
+  -- the design
+  pub text : List ℕ
+  pub text_is : IsTrue tells → text ≡ old.files job.design
+  pub design : Design
+  pub accepted : IsAcceptedText text job.top job.clock design
+  pub size_is : size ≡ size_of design
+  pub program : IsProgramOf design accepted.accepted.clock.first m.engine.program
+  pub stores_are : stores ≡ fall_stores m.engine.program + rise_stores m.engine.program
+  pub all_inputs : All IsInput (data_inputs design accepted.accepted.clock.first)
+  -- the lanes
+  pub lanes : length m.stimuli ≡ length job.stimuli
+  pub ready : IsReady 0 m
+  pub opened : IsTrue tells → AreOpened lane (run_of job old.files design accepted.accepted.clock.first) m new
+  pub paths : wave_paths ≡ map vcd_path job.stimuli
+  -- the desk
+  pub register_is : now ≡ with_texts before job job.stimuli
+  pub readable : AreAttached now m.stimuli
+  pub kept : IsTrue tells → AreTextsKept old new
+
+-- the design's text was loaded, where the desk told this
+pub record IsDesignLoaded {W : Type 0} (lane : W → ℕ → Bool) (lanes : ℕ) (tells : Bool) (job : Job) (old : Contents) (a : Acceptance) (inputs : List Input) (engine : Running W) : Type 0 where
+  pub text : List ℕ
+  pub text_is : IsTrue tells → text ≡ old.files job.design
+  pub loaded : IsLoaded lane lanes text job.top job.clock a inputs engine

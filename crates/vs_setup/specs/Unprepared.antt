@@ -1,0 +1,90 @@
+-- Why a run can't begin, by the error.
+use Rattle.std.specs.Prelude.{◌≡◌, ℕ, ◌<◌, ◌≤◌, ◌+◌, ◌⊎◌, Bool, IsTrue, List, length, take, Some}
+use Rattle.vs_desk.specs.Desk.{Register, Contents, Fails}
+use Rattle.vs_design.specs.Designs.{Design}
+use Rattle.vs_front.specs.Accepted.{IsAcceptedText}
+use Rattle.vs_stim.specs.declared.input.Input.{Input}
+use Rattle.vs_stim.specs.declared.error.StimError.{StimError}
+use Rattle.vs_stim.specs.declared.error.StimError.TheVariants as E
+use Rattle.vs_stim.specs.Known.{place_of}
+use Rattle.vs_stim.specs.Reading.{header_refusal}
+use Rattle.vs_stim.specs.Source.{IsHeaderError}
+use Rattle.vs_drive.specs.Opened.{path_at, with_lanes, HaveHeaders}
+use Rattle.vs_job.specs.declared.job.Job.{Job}
+use Rattle.vs_load.specs.Inputs.{data_inputs}
+use Rattle.vs_setup.specs.declared.error.SetupError.{SetupError}
+use Rattle.vs_setup.specs.declared.error.SetupError.TheVariants.{TooLong, NotAccepted, Stimulus, ReadFault, Memory}
+use Rattle.vs_setup.specs.DesignText.{with_design, IsTooLong, DesignFails}
+use Rattle.vs_setup.specs.Places.{with_texts}
+
+-- the design's file is accepted as this design
+abbrev pub IsDesignOf : Job → Contents → Design → Type 0
+IsDesignOf job c d = IsAcceptedText (c.files job.design) job.top job.clock d
+
+-- the text of lane i's stimulus
+abbrev pub text_of : Contents → List (List ℕ) → ℕ → List ℕ
+text_of c stimuli i = c.files (path_at stimuli i)
+
+-- The stimulus of this lane is the first that is refused up to its header, where the design has these inputs.
+pub record IsFirstRefused (inputs : List Input) (c : Contents) (stimuli : List (List ℕ)) (lane : ℕ) (error : StimError) : Type 0 where
+  pub refused : header_refusal inputs (text_of c stimuli lane) ≡ Some error
+  pub earlier : HaveHeaders inputs c.files stimuli lane
+
+-- no stimulus before this lane's is refused up to its header
+pub record AreEarlierOpened (job : Job) (c : Contents) (lane : ℕ) : Type 0 where
+  pub design : Design
+  pub accepted : IsDesignOf job c design
+  pub headers : HaveHeaders (data_inputs design accepted.accepted.clock.first) c.files job.stimuli lane
+
+pub record IsHeaderRefusal (job : Job) (c : Contents) (lane : ℕ) (error : StimError) : Type 0 where
+  pub design : Design
+  pub accepted : IsDesignOf job c design
+  pub first : IsFirstRefused (data_inputs design accepted.accepted.clock.first) c job.stimuli lane error
+
+-- A call failed at the place of this lane's stimulus, behind the earlier ones: the attach, or a take.
+abbrev pub StimulusFails : Register → List (List ℕ) → Register → ℕ → Type 0
+StimulusFails before stimuli now lane = Fails (with_lanes before (take lane stimuli)) now (place_of lane) (path_at stimuli lane)
+    ⊎ Fails (with_lanes before (take (lane + 1) stimuli)) now (place_of lane) before.asked
+
+-- a fault at the place of the design, or of a stimulus
+pub record IsDesignFault (job : Job) (before now : Register) (place : ℕ) : Type 0 where
+  pub place_is : place ≡ 1
+  pub fails : DesignFails before now job.design
+
+pub record IsStimulusFault (tells : Bool) (job : Job) (before : Register) (old : Contents) (now : Register) (place : ℕ) : Type 0 where
+  pub lane : ℕ
+  pub is_lane : lane < length job.stimuli
+  pub place_is : place ≡ place_of lane
+  pub fails : StimulusFails (with_design before job.design) job.stimuli now lane
+  pub earlier : IsTrue tells → AreEarlierOpened job old lane
+
+-- Why a run can't begin, where the desk told this before and tells that now.
+abbrev pub IsUnprepared : Bool → Job → Register → Contents → Register → Contents → SetupError → Type 0
+IsUnprepared tells job before old now new TooLong = (now ≡ with_design before job.design) × (IsTrue tells → IsTooLong (old.files job.design) (new.left 1))
+IsUnprepared tells job before old now new NotAccepted = (now ≡ with_design before job.design) × (IsTrue tells → (d : Design) → ¬ (IsDesignOf job old d))
+IsUnprepared tells job before old now new (Stimulus lane error) =
+    (lane < length job.stimuli) × IsHeaderError error × (now ≡ with_texts before job (take (lane + 1) job.stimuli)) × (IsTrue tells → IsHeaderRefusal job old lane error)
+IsUnprepared tells job before old now new (ReadFault place) = IsDesignFault job before now place ⊎ IsStimulusFault tells job before old now place
+IsUnprepared tells job before old now new Memory = (now ≡ before) ⊎ ((lanes : ℕ) × (lanes ≤ length job.stimuli) × (now ≡ with_texts before job (take lanes job.stimuli)))
+
+-- Why a stimulus can't be opened, where the design's inputs are these.
+abbrev pub IsUnopened : Bool → List Input → List (List ℕ) → Register → Contents → Register → SetupError → Type 0
+IsUnopened tells inputs stimuli before old now TooLong = ⊥
+IsUnopened tells inputs stimuli before old now NotAccepted = ⊥
+IsUnopened tells inputs stimuli before old now (Stimulus lane error) =
+    (lane < length stimuli) × IsHeaderError error × (now ≡ with_lanes before (take (lane + 1) stimuli)) × (IsTrue tells → IsFirstRefused inputs old stimuli lane error)
+IsUnopened tells inputs stimuli before old now (ReadFault place) =
+    (lane : ℕ) × (lane < length stimuli) × (place ≡ place_of lane) × StimulusFails before stimuli now lane × (IsTrue tells → HaveHeaders inputs old.files stimuli lane)
+IsUnopened tells inputs stimuli before old now Memory = (lanes : ℕ) × (lanes ≤ length stimuli) × (now ≡ with_lanes before (take lanes stimuli))
+
+-- the error of a stimulus that can't be opened
+abbrev pub error_of : ℕ → StimError → SetupError
+error_of lane E.ReadFault = ReadFault (1000 + lane)
+error_of lane E.Memory = Memory
+error_of lane error = Stimulus lane error
+
+-- a design's text can't be loaded
+abbrev pub IsLoadError : SetupError → Type 0
+IsLoadError NotAccepted = Unit {0}
+IsLoadError Memory = Unit {0}
+IsLoadError _ = ⊥

@@ -1,0 +1,9 @@
+//! What stands before the first vector of a run: the design is read and loaded, the stimuli are opened, and all memory is taken.
+#![tactic(auto)]
+
+mod design_text;
+mod error;
+mod setup;
+
+pub use error::SetupError;
+pub use setup::{Prepared, prepare};

@@ -1,0 +1,179 @@
+//! The set-up of a run.
+
+ghost use Rattle.std.specs.Prelude.{◌≡◌, ◌≤◌, ◌+◌, ℕ, ◌<◌, All, Err, IsNone, IsTrue, IfOk, IfErr, OnOk, length, map, string_bytes};
+ghost use Rattle.vs_desk.specs.declared.desk.Way.TheVariants.{Read};
+ghost use Rattle.vs_design.specs.Designs.{Design};
+ghost use Rattle.vs_engine.specs.Compiled.{fall_stores, rise_stores};
+ghost use Rattle.vs_flat.specs.DesignOf.{design_of};
+ghost use Rattle.vs_front.specs.Accepted.{IsAcceptedText};
+ghost use Rattle.vs_load.specs.Loaded.{IsLoaded};
+ghost use Rattle.vs_stim.specs.Header.{IsInput};
+ghost use Rattle.vs_drive.specs.Lanes.{AreAttached, AreLanes, OtherPlacesKept};
+ghost use Rattle.vs_drive.specs.Opened.{AreFree, AreOpened, with_lanes};
+ghost use Rattle.vs_waves.specs.Wave.{IsNewWave};
+ghost use Rattle.vs_job.specs.Job.{IsJob};
+ghost use Rattle.vs_job.specs.Places.{vcd_path};
+ghost use Rattle.vs_setup.specs.DesignText.{most_bytes, OnlyTaken, with_design};
+ghost use Rattle.vs_setup.specs.Places.{IsFresh};
+ghost use Rattle.vs_setup.specs.Prepared.{AreTextsKept, IsDesignLoaded, IsPrepared};
+ghost use Rattle.vs_setup.specs.Unprepared.{error_of, IsLoadError, IsUnopened, IsUnprepared};
+
+use crate::SetupError;
+use crate::design_text::{DesignError, read_design};
+use std::alloc::{AllocError, Global};
+use vs_desk::Desk;
+use vs_drive::{Drive, Stopped, open};
+use vs_front::AcceptError;
+use vs_job::{Job, stimulus_paths, vcd_paths};
+use vs_load::{Loaded, load};
+use vs_plane::Lanes;
+use vs_rounds::Machine;
+use vs_stim::{Input, StimError};
+use vs_waves::Waves;
+
+/// A run that can begin.
+#[derive(Drop)]
+pub struct Prepared<W: Lanes> {
+    /// The stimuli, the waveforms and the engine.
+    pub machine: Machine<W>,
+    /// The size of the design.
+    pub size: u64,
+    /// How many plane operations a fall and a rise of the clock take, for all lanes together.
+    pub stores: u64,
+    /// The paths of the waveforms, by lane.
+    pub wave_paths: Vec<String>,
+}
+
+/// Prepares a run: reads the design at place 1 and loads it, opens the stimulus of lane i at place 1000 + i by lane, and takes all the
+/// memory that the run needs.
+pub fn prepare<W: Lanes, D: Desk>(
+    alloc: Global,
+    job: &Job,
+    desk: &mut D,
+) -> Result<Prepared<W>, SetupError>
+    requires width { W.LANES ≡ 64 }
+    requires job { IsJob job.now }
+    requires fresh { IsFresh (D.register desk.old) (length job.now.stimuli) }
+    ensures prepared { IfOk result (λ p. IsPrepared W.lane D.tells job.now (D.register desk.old) (D.contents desk.old) (D.register desk.new) (D.contents desk.new) p.machine p.size p.stores (map string_bytes p.wave_paths.items)) }
+    ensures unprepared { IfErr result (IsUnprepared D.tells job.now (D.register desk.old) (D.contents desk.old) (D.register desk.new) (D.contents desk.new)) }
+    ensures kept { IsTrue D.tells → AreTextsKept (D.contents desk.old) (D.contents desk.new) }
+{
+    let loaded = read_and_load::<W, D>(alloc, job, desk)?;
+    let drive = open_stimuli(alloc, job, desk, &loaded.inputs)?;
+    match assemble(alloc, job, loaded, drive) {
+        Ok(prepared) => Ok(prepared),
+        Err(AllocError) => Err(SetupError::Memory),
+    }
+}
+
+/// Reads the design and loads it.
+fn read_and_load<W: Lanes, D: Desk>(
+    alloc: Global,
+    job: &Job,
+    desk: &mut D,
+) -> Result<Loaded<W>, SetupError>
+    requires { IsNone ((D.register desk.old).attached 1) }
+    ensures loaded { IfOk result (λ l. IsDesignLoaded W.lane W.LANES D.tells job.now (D.contents desk.old) l.accepted l.inputs.items l.engine) }
+    ensures register { OnOk result (D.register desk.new ≡ with_design (D.register desk.old) job.now.design) }
+    ensures unprepared { IfErr result (IsUnprepared D.tells job.now (D.register desk.old) (D.contents desk.old) (D.register desk.new) (D.contents desk.new)) }
+    ensures only { IsTrue D.tells → OnlyTaken (D.contents desk.old) (D.contents desk.new) }
+{
+    let Ok(path) = String::from_str(alloc, job.design.as_str()) else {
+        return Err(SetupError::Memory);
+    };
+    match read_design(alloc, desk, path) {
+        Ok(text) => load_text(alloc, job, text.as_slice()),
+        Err(DesignError::TooLong) => Err(SetupError::TooLong),
+        Err(DesignError::ReadFault) => Err(SetupError::ReadFault { place: 1 }),
+        Err(DesignError::Memory) => Err(SetupError::Memory),
+    }
+}
+
+/// Loads the design's text.
+fn load_text<W: Lanes>(alloc: Global, job: &Job, text: &[u8]) -> Result<Loaded<W>, SetupError>
+    requires { length text.now ≤ most_bytes }
+    ensures loaded { IfOk result (λ l. IsLoaded W.lane W.LANES text.now job.now.top job.now.clock l.accepted l.inputs.items l.engine) }
+    ensures errors { IfErr result IsLoadError }
+    ensures refused { result ≡ Err SetupError.NotAccepted → (d : Design) → ¬ (IsAcceptedText text.now job.now.top job.now.clock d) }
+{
+    match load(alloc, text, job.top.as_str(), job.clock.as_str()) {
+        Ok(loaded) => Ok(loaded),
+        Err(AcceptError::Refused) => Err(SetupError::NotAccepted),
+        Err(AcceptError::Memory) => Err(SetupError::Memory),
+    }
+}
+
+/// Opens the stimuli.
+fn open_stimuli<D: Desk>(
+    alloc: Global,
+    job: &Job,
+    desk: &mut D,
+    inputs: &[Input],
+) -> Result<Drive, SetupError>
+    requires lanes { length job.now.stimuli ≤ 64 }
+    requires free { AreFree (D.register desk.old) (length job.now.stimuli) }
+    requires inputs { All IsInput inputs.now }
+    ensures opened { IfOk result (AreOpened D.tells inputs.now (D.contents desk.old) (D.contents desk.new) job.now.stimuli) }
+    ensures numbered { IfOk result AreLanes }
+    ensures register { OnOk result (D.register desk.new ≡ with_lanes (D.register desk.old) job.now.stimuli) }
+    ensures readable { IfOk result (AreAttached (D.register desk.new)) }
+    ensures unopened { IfErr result (IsUnopened D.tells inputs.now job.now.stimuli (D.register desk.old) (D.contents desk.old) (D.register desk.new)) }
+    ensures others { IsTrue D.tells → OtherPlacesKept (length job.now.stimuli) (D.contents desk.old) (D.contents desk.new) }
+{
+    let Ok(paths) = stimulus_paths(alloc, job) else {
+        return Err(SetupError::Memory);
+    };
+    match open(alloc, desk, paths, inputs) {
+        Ok(drive) => Ok(drive),
+        Err(stopped) => Err(stopped_at(stopped)),
+    }
+}
+
+/// The error of a stimulus that can't be opened.
+fn stopped_at(stopped: Stopped) -> SetupError
+    requires { stopped.lane < 64 }
+    ensures { result ≡ error_of stopped.lane stopped.error }
+{
+    match stopped.error {
+        StimError::ReadFault => SetupError::ReadFault {
+            place: 1000 + stopped.lane,
+        },
+        StimError::Memory => SetupError::Memory,
+        error => SetupError::Stimulus {
+            lane: stopped.lane,
+            error,
+        },
+    }
+}
+
+/// Puts the parts of a run together.
+fn assemble<W: Lanes>(
+    alloc: Global,
+    job: &Job,
+    loaded: Loaded<W>,
+    drive: Drive,
+) -> Result<Prepared<W>, AllocError>
+    ensures stimuli { IfOk result (λ p. p.machine.stimuli ≡ drive) }
+    ensures engine { IfOk result (λ p. p.machine.engine ≡ loaded.engine) }
+    ensures lanes { IfOk result (λ p. length p.machine.waves ≡ length drive) }
+    ensures waves { IfOk result (λ p. All (IsNewWave (design_of loaded.accepted.flat) job.now.half) p.machine.waves) }
+    ensures size { IfOk result (λ p. p.size ≡ loaded.accepted.size) }
+    ensures stores { IfOk result (λ p. p.stores ≡ fall_stores loaded.engine.program + rise_stores loaded.engine.program) }
+    ensures paths { IfOk result (λ p. map string_bytes p.wave_paths.items ≡ map vcd_path job.now.stimuli) }
+{
+    let Loaded {
+        accepted,
+        engine,
+        inputs,
+    } = loaded;
+    let _ = inputs;
+    let (fall, rise) = engine.stores();
+    let half = job.half as u64;
+    let waves = Waves::new(alloc, accepted.flat(), half, drive.lanes())?;
+    Ok(Prepared {
+        machine: Machine::new(alloc, drive, waves, engine)?,
+        size: accepted.size(),
+        stores: fall + rise,
+        wave_paths: vcd_paths(alloc, job)?,
+    })
+}
