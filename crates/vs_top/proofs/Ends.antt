@@ -1,0 +1,107 @@
+-- What stays of a run once its line was reported.
+use Rattle.std.proofs.Common.{◌≡◌, ◌≢◌, ◌⊎◌, ℕ, List, inl, inr, IsTrue, Bool, sym, ap, ◌∙◌, subst, arith}
+use Rattle.std.proofs.lemmas.Bool.{ne_eqb, cond-false}
+use Rattle.vs_desk.specs.Desk.{Register, Contents, with_put}
+use Rattle.vs_waves.specs.Puts.{wave_place}
+use Rattle.vs_drive.specs.Opened.{path_at}
+use Rattle.vs_load.specs.Inputs.{data_inputs}
+use Rattle.vs_job.specs.declared.job.Job.{Job}
+use Rattle.vs_top.specs.declared.outcome.Summary.{Summary}
+use Rattle.vs_top.specs.declared.outcome.Outcome.{Outcome}
+use Rattle.vs_stim.specs.declared.error.StimError.{StimError}
+use Rattle.vs_stim.specs.declared.error.StimError.TheVariants as E
+use Rattle.vs_refusal.specs.declared.refusal.Refusal.TheVariants.{Bare, SamePath}
+use Rattle.vs_refusal.specs.declared.names.BareName.TheVariants.{Usage}
+use Rattle.vs_rounds.specs.declared.stop.Stop.{Stop}
+use Rattle.vs_rounds.specs.declared.stop.Stop.TheVariants as R
+use Rattle.vs_setup.specs.declared.error.SetupError.{SetupError}
+use Rattle.vs_setup.specs.declared.error.SetupError.TheVariants as S
+use Rattle.vs_top.specs.declared.outcome.Outcome.TheVariants.{Done, Refused, WriteFault}
+use Rattle.vs_top.specs.Answers.{stimulus_outcome, setup_outcome, stop_outcome}
+use Rattle.vs_top.specs.Ended.{IsEnd}
+use Rattle.vs_top.specs.Ended.IsEnd.{same, setup, first, attached, stopped, whole}
+use Rattle.vs_top.specs.Reports.{IsSimulated}
+use Rattle.vs_top.specs.Outcomes.{outcome_line}
+use Rattle.vs_top.specs.Reported.{ReportsDone, ReportsLine, LosesBoth}
+use Rattle.vs_top.specs.Headline.{IsWritten, IsLaneWritten}
+
+-- the waveforms stay where a line is put at place 0
+kept : (r : Register) (c : Contents) (line : List ℕ) (i : ℕ) → (with_put r c 0 line).put (wave_place i) ≡ c.put (wave_place i)
+kept r c line i = cond-false _ _ _ (ne_eqb (wave_place i) 0 (λ e. omega arith))
+
+written_still : (job : Job) (old mid new : Contents) (r : Register) (line : List ℕ) (s : Summary) → new ≡ with_put r mid 0 line → IsWritten job old mid s → IsWritten job old new s
+written_still job old mid new r line s e w = record {
+  design = w.design;
+  accepted = w.accepted;
+  lanes = λ i h. subst (λ (put : List ℕ). IsLaneWritten w.design w.accepted.accepted.clock.first job.half (data_inputs w.design w.accepted.accepted.clock.first) (old.files (path_at job.stimuli i)) put) (sym (ap (λ (c : Contents). c.put (wave_place i)) e ∙ kept r mid line i)) (w.lanes i h);
+  lanes_are = w.lanes_are;
+  counted = w.counted;
+  size_is = w.size_is;
+}
+
+same_summary : (s t : Summary) → Done s ≡ Done t → s ≡ t
+same_summary s t e = cc
+
+-- a run that is done and reported is written
+pub reported_written : {D : Type 0} (register : D → Register) (tells : Bool) (contents : D → Contents) (job : Job) (old : Contents) (middle new : D) (s t : Summary) (result : Outcome)
+    → ReportsDone register tells contents middle new (Done s) result → result ≡ Done t → IsTrue tells → IsWritten job old (contents middle) s → IsWritten job old (contents new) t
+reported_written register tells contents job old middle new s t result (inl r) e told w =
+    let same : s ≡ t = same_summary s t (sym r.0 ∙ e) in
+    subst (IsWritten job old (contents new)) same (written_still job old (contents middle) (contents new) (register middle) (outcome_line (Done s)) s (r.1.put told) w)
+reported_written register tells contents job old middle new s t result (inr r) e told w = absurd (never (sym r.0 ∙ e))
+  where
+    never : WriteFault 0 ≡ Done t → ⊥
+    never e = cc
+
+-- ---- no job that is one ends as a faulty list of words
+
+stimulus_usage : (i : ℕ) (e : StimError) → stimulus_outcome i e ≡ Refused (Bare Usage) → ⊥
+stimulus_usage i E.BadHeader h = cc
+stimulus_usage i (E.BadVector n) h = cc
+stimulus_usage i E.FirstUnknown h = cc
+stimulus_usage i E.NoVector h = cc
+stimulus_usage i E.TooManyVectors h = cc
+stimulus_usage i E.StimulusTooLong h = cc
+stimulus_usage i (E.LineTooLong n) h = cc
+stimulus_usage i E.ReadFault h = cc
+stimulus_usage i E.Memory h = cc
+
+setup_usage : (e : SetupError) → setup_outcome e ≡ Refused (Bare Usage) → ⊥
+setup_usage S.TooLong h = cc
+setup_usage S.NotAccepted h = cc
+setup_usage (S.Stimulus i e) h = stimulus_usage i e h
+setup_usage (S.ReadFault place) h = cc
+setup_usage S.Memory h = cc
+
+stop_usage : (s : Stop) → stop_outcome s ≡ Refused (Bare Usage) → ⊥
+stop_usage (R.Refused i e) h = stimulus_usage i e h
+stop_usage (R.ReadFault i) h = cc
+stop_usage (R.WriteFault i) h = cc
+
+end_usage : (tells : Bool) (job : Job) (before : Register) (old : Contents) (now : Register) (new : Contents) (o : Outcome) → IsEnd tells job before old now new o → o ≡ Refused (Bare Usage) → ⊥
+end_usage tells job before old now new o (same e) h = same_usage e.first e.second (sym e.outcome_is ∙ h)
+  where
+    same_usage : (a b : ℕ) → Refused (SamePath a b) ≡ Refused (Bare Usage) → ⊥
+    same_usage a b h = cc
+end_usage tells job before old now new o (setup d e) h = setup_usage e.error (sym e.outcome_is ∙ h)
+end_usage tells job before old now new o (first d e) h = stop_usage e.stop (sym e.outcome_is ∙ h)
+end_usage tells job before old now new o (attached d e) h = fault_usage (wave_place e.lane) (sym e.outcome_is ∙ h)
+  where
+    fault_usage : (p : ℕ) → WriteFault p ≡ Refused (Bare Usage) → ⊥
+    fault_usage p h = cc
+end_usage tells job before old now new o (stopped d e) h = stop_usage e.stop (sym e.outcome_is ∙ h)
+end_usage tells job before old now new o (whole d e) h = done_usage e.summary (sym e.outcome_is ∙ h)
+  where
+    done_usage : (s : Summary) → Done s ≡ Refused (Bare Usage) → ⊥
+    done_usage s h = cc
+
+pub simulated_usage : {D : Type 0} (register : D → Register) (tells : Bool) (contents : D → Contents) (job : Job) (old new : D) (result : Outcome) → IsSimulated register tells contents job old new result → result ≢ Refused (Bare Usage)
+simulated_usage register tells contents job old new result s = λ h. by_report s.reported h
+  where
+    fault : WriteFault 0 ≡ Refused (Bare Usage) → ⊥
+    fault h = cc
+
+    by_report : ((result ≡ s.outcome) × ReportsLine register tells contents s.middle new (outcome_line s.outcome)) ⊎ ((result ≡ WriteFault 0) × LosesBoth register tells contents s.middle new (outcome_line s.outcome) (outcome_line (WriteFault 0)))
+        → result ≡ Refused (Bare Usage) → ⊥
+    by_report (inl r) h = end_usage tells job (register old) (contents old) (register s.middle) (contents s.middle) s.outcome s.ended (sym r.0 ∙ h)
+    by_report (inr r) h = fault (sym r.0 ∙ h)

@@ -1,0 +1,86 @@
+-- What each lane has got.
+use Rattle.std.proofs.Common.{◌≡◌, ℕ, suc, ◌<◌, ◌≤◌, List, [], ◌∷◌, length, map, None, All, IsTrue, refl, sym, ap, ◌∙◌, subst, arith, Bool}
+use Rattle.std.specs.List.{filter}
+use Rattle.vs_net.specs.Queue.{start, ends}
+use Rattle.vs_design.specs.Expressions.{Signal}
+use Rattle.vs_design.specs.Designs.{Design}
+use Rattle.vs_design.specs.Networks.{network_of}
+use Rattle.vs_design.specs.Accepted.{IsAcceptedDesign}
+use Rattle.vs_desk.specs.Desk.{Register, Contents}
+use Rattle.vs_front.specs.Source.{Spells}
+use Rattle.vs_front.specs.Accepted.{IsAcceptedText}
+use Rattle.vs_stim.specs.declared.input.Input.{Input}
+use Rattle.vs_stim.specs.Header.{IsInput}
+use Rattle.vs_stim.specs.Reading.{reading, stimulus}
+use Rattle.vs_stim.specs.Laws.{WholeHasVector}
+use Rattle.vs_vcd.specs.Texts.{vcd}
+use Rattle.vs_rounds.specs.Drives.{Vector, vector_state}
+use Rattle.vs_rounds.specs.Given.{IsGiven}
+use Rattle.vs_rounds.specs.Inputs.{AreInputsOf, AreDataInputs}
+use Rattle.vs_rounds.specs.Headline.{IsLawfulLane, TextOfEveryRun, SomeRun}
+use Rattle.vs_rounds.specs.Lanes.{Simulation}
+use Rattle.vs_job.specs.declared.job.Job.{Job}
+use Rattle.vs_load.specs.Inputs.{input_of, is_data_input, data_inputs}
+use Rattle.vs_setup.specs.Prepared.{IsPrepared, run_of}
+use Rattle.vs_top.specs.Headline.{IsLaneWritten}
+use Rattle.vs_top.specs.Ended.{IsRunOf}
+
+inputs_of : (ss : List Signal) → AreInputsOf ss (map input_of ss)
+inputs_of [] = tt
+inputs_of (s ∷ ss) = (record { name_is = refl; length_is = refl }, inputs_of ss)
+
+pub are_data_inputs : (d : Design) (clock : ℕ) → All IsInput (data_inputs d clock) → AreDataInputs d clock (data_inputs d clock)
+are_data_inputs d clock all = record { each = all; inputs_of = inputs_of (filter (is_data_input clock) d.signals) }
+
+-- a lane that has got all is written
+pub lane_written : TextOfEveryRun → SomeRun → WholeHasVector → (d : Design) (name : List ℕ) (a : IsAcceptedDesign d name) (half : ℕ) (inputs : List Input) → AreDataInputs d a.clock.first inputs
+    → (text put : List ℕ) → (reading inputs text).refusal ≡ None → IsGiven d a.clock.first half (reading inputs text) (suc (length (reading inputs text).vectors)) put → IsLaneWritten d a.clock.first half inputs text put
+lane_written every_run some_run has_vector d name a half inputs driven text put whole given = go (reading inputs text).vectors refl
+  where
+    valid : (vs : List Vector) → (reading inputs text).vectors ≡ vs → stimulus text inputs vs
+    valid vs e = λ i. record { vectors = e i; refusal = whole i }
+
+    lawful : (first : Vector) (later : List Vector) → (reading inputs text).vectors ≡ first ∷ later → IsLawfulLane d name inputs text first later
+    lawful first later e = record { accepted = a; inputs_are = driven; valid = valid (first ∷ later) e }
+
+    go : (vs : List Vector) → (reading inputs text).vectors ≡ vs → IsLaneWritten d a.clock.first half inputs text put
+    go [] e =
+        let some = has_vector inputs text whole in
+        let none : length (reading inputs text).vectors ≡ 0 = ap length e in
+        absurd (omega (arith, some, none))
+    go (v ∷ vs) e = record {
+      vectors = v ∷ vs;
+      valid = valid (v ∷ vs) e;
+      every = λ values run.
+          let same : (reading inputs text).vectors ≡ run.first ∷ run.later = e ∙ run.vectors_are in
+          let long : length (reading inputs text).vectors ≡ length (run.first ∷ run.later) = ap length same in
+          let below : length (run.first ∷ run.later) < suc (length (reading inputs text).vectors) = omega (arith, long) in
+          every_run d name half inputs text run.first run.later (lawful run.first run.later same) (suc (length (reading inputs text).vectors)) put below given run.idle run.is_first run.choices run.completed
+          ∙ ap (vcd d half) (sym run.values_are);
+      some =
+          let one = some_run d name inputs text v vs (lawful v vs e) in
+          let n = network_of d a.clock.first in
+          let q = start n n.idle (vector_state d a.clock.first v) (map (vector_state d a.clock.first) vs) in
+          (ends n q one.1.0, record { first = v; later = vs; vectors_are = refl; idle = n.idle; is_first = one.0; choices = one.1.0; completed = one.1.1; values_are = refl });
+    }
+
+-- an equal text is accepted as the same design
+abbrev pub accepted_as : (top clock : List ℕ) (d : Design) (text other : List ℕ) → text ≡ other → IsAcceptedText text top clock d → IsAcceptedText other top clock d
+accepted_as top clock d text other e a = record {
+  source = a.source;
+  short = subst (λ (t : List ℕ). length t ≤ 4194304) e a.short;
+  spelled = subst (λ (t : List ℕ). Spells t a.source) e a.spelled;
+  top_named = a.top_named;
+  declared = a.declared;
+  is_elaborated = a.is_elaborated;
+  accepted = a.accepted;
+}
+
+-- a prepared run is that of the job
+pub run_is : {W : Type 0} (lane : W → ℕ → Bool) (tells : Bool) (job : Job) (before : Register) (old : Contents) (now : Register) (new : Contents) (m : Simulation W) (size stores : ℕ) (paths : List (List ℕ))
+    (p : IsPrepared lane tells job before old now new m size stores paths) → IsTrue tells → IsRunOf job old (run_of job old.files p.design p.accepted.accepted.clock.first)
+run_is lane tells job before old now new m size stores paths p t = record {
+  design = p.design;
+  accepted = accepted_as job.top job.clock p.design p.text (old.files job.design) (p.text_is t) p.accepted;
+  run_is = refl;
+}

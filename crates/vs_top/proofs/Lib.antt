@@ -1,0 +1,4 @@
+pub mod Losing
+pub mod Places
+pub mod Lanes
+pub mod Ends

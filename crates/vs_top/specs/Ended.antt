@@ -1,0 +1,112 @@
+-- How a job ended, before its line is reported.
+use Rattle.std.specs.Prelude.{◌≡◌, ◌≢◌, ℕ, ◌<◌, Bool, IsTrue, List, length, map, take, Some, None}
+use Rattle.vs_desk.specs.declared.desk.Way.TheVariants.{Write}
+use Rattle.vs_desk.specs.Desk.{Register, Contents, Fails}
+use Rattle.vs_desk.specs.Places.{with_places}
+use Rattle.vs_design.specs.Designs.{Design}
+use Rattle.vs_drive.specs.Opened.{path_at}
+use Rattle.vs_waves.specs.Puts.{wave_place}
+use Rattle.vs_waves.specs.Attached.{AreFree}
+use Rattle.vs_rounds.specs.declared.stop.Stop.{Stop}
+use Rattle.vs_rounds.specs.Lanes.{Run}
+use Rattle.vs_rounds.specs.Stops.{ReadStops, StopsIn, IsLaneOf, HasCause}
+use Rattle.vs_refusal.specs.declared.refusal.Refusal.TheVariants.{SamePath}
+use Rattle.vs_job.specs.declared.job.Job.{Job}
+use Rattle.vs_job.specs.Places.{same_paths, vcd_path}
+use Rattle.vs_setup.specs.declared.error.SetupError.{SetupError}
+use Rattle.vs_setup.specs.Places.{IsFresh, with_texts}
+use Rattle.vs_setup.specs.Prepared.{AreTextsKept, run_of}
+use Rattle.vs_setup.specs.Unprepared.{IsUnprepared, IsDesignOf}
+use Rattle.vs_top.specs.declared.outcome.Summary.{Summary}
+use Rattle.vs_top.specs.declared.outcome.Outcome.{Outcome}
+use Rattle.vs_top.specs.declared.outcome.Outcome.TheVariants.{Done, Refused, WriteFault}
+use Rattle.vs_top.specs.Headline.{IsWritten}
+use Rattle.vs_top.specs.Answers.{setup_outcome, stop_outcome}
+
+-- none of a job's places is attached, of so many lanes: those of the design and the stimuli, and those of the waveforms
+pub record IsUnused (register : Register) (lanes : ℕ) : Type 0 where
+  pub texts : IsFresh register lanes
+  pub waves : AreFree register lanes
+
+-- all texts of the job are attached, and the waveforms of its first lanes, with these paths
+abbrev pub with_waves : Register → Job → List (List ℕ) → Register
+with_waves register job paths = with_places (with_texts register job job.stimuli) 2000 Write paths
+
+-- the paths of the job's waveforms, by lane
+abbrev pub wave_paths : Job → List (List ℕ)
+wave_paths job = map vcd_path job.stimuli
+
+-- nothing was put but at the places of so many waveforms
+abbrev pub OnlyWavesPut : ℕ → Contents → Contents → Type 0
+OnlyWavesPut lanes old new = (place : ℕ) → ((i : ℕ) → i < lanes → place ≢ wave_place i) → new.put place ≡ old.put place
+
+-- the design's file is accepted, and the run is that of the job on the stimuli's files
+pub record IsRunOf (job : Job) (old : Contents) (run : Run) : Type 0 where
+  pub design : Design
+  pub accepted : IsDesignOf job old design
+  pub run_is : run ≡ run_of job old.files design accepted.accepted.clock.first
+
+-- Two places have one path. Nothing was called.
+pub record IsSameEnd (job : Job) (before : Register) (old : Contents) (now : Register) (new : Contents) (o : Outcome) : Type 0 where
+  pub first : ℕ
+  pub second : ℕ
+  pub outcome_is : o ≡ Refused (SamePath first second)
+  pub same : same_paths job ≡ Some (first, second)
+  pub register_is : now ≡ before
+  pub contents_are : new ≡ old
+
+-- The run couldn't begin. No waveform's place is attached.
+pub record IsSetupEnd (tells : Bool) (job : Job) (before : Register) (old : Contents) (now : Register) (new : Contents) (o : Outcome) : Type 0 where
+  pub error : SetupError
+  pub outcome_is : o ≡ setup_outcome error
+  pub cause : IsUnprepared tells job before old now new error
+  pub kept : IsTrue tells → AreTextsKept old new
+
+-- A stimulus has no first vector that is known. No waveform's place is attached.
+pub record IsFirstEnd (tells : Bool) (job : Job) (before : Register) (old : Contents) (now : Register) (new : Contents) (o : Outcome) : Type 0 where
+  pub stop : Stop
+  pub outcome_is : o ≡ stop_outcome stop
+  pub lane : IsLaneOf (length job.stimuli) stop
+  pub cause : HasCause (with_texts before job job.stimuli) now stop
+  pub stops : IsTrue tells → (run : Run) × IsRunOf job old run × ReadStops run (length job.stimuli) 0 stop
+  pub puts : IsTrue tells → new.put ≡ old.put
+
+-- A waveform's place can't be attached, behind those of the earlier lanes, where nothing was put.
+pub record IsAttachEnd (tells : Bool) (job : Job) (before : Register) (old : Contents) (now : Register) (new : Contents) (o : Outcome) : Type 0 where
+  pub lane : ℕ
+  pub is_lane : lane < length job.stimuli
+  pub outcome_is : o ≡ WriteFault (wave_place lane)
+  pub fails : Fails (with_waves before job (take lane (wave_paths job))) now (wave_place lane) (path_at (wave_paths job) lane)
+  pub text : IsTrue tells → (run : Run) × IsRunOf job old run
+  pub puts : IsTrue tells → OnlyWavesPut lane old new
+
+-- A round stopped. What each lane has got then is what `StopsIn` says.
+pub record IsRoundEnd (tells : Bool) (job : Job) (before : Register) (old : Contents) (now : Register) (new : Contents) (o : Outcome) : Type 0 where
+  pub stop : Stop
+  pub outcome_is : o ≡ stop_outcome stop
+  pub lane : IsLaneOf (length job.stimuli) stop
+  pub cause : HasCause (with_waves before job (wave_paths job)) now stop
+  pub stops : IsTrue tells → (run : Run) × IsRunOf job old run × ((k : ℕ) × StopsIn run (length job.stimuli) k new stop)
+  pub puts : IsTrue tells → OnlyWavesPut (length job.stimuli) old new
+
+-- All is written.
+pub record IsWholeEnd (tells : Bool) (job : Job) (before : Register) (old : Contents) (now : Register) (new : Contents) (o : Outcome) : Type 0 where
+  pub summary : Summary
+  pub outcome_is : o ≡ Done summary
+  pub register_is : now ≡ with_waves before job (wave_paths job)
+  pub written : IsTrue tells → IsWritten job old new summary
+  pub puts : IsTrue tells → OnlyWavesPut (length job.stimuli) old new
+
+-- How a job ended, where the desk told this before and tells that now: two of its paths are equal, or none are and it went on.
+pub data IsEnd (tells : Bool) (job : Job) (before : Register) (old : Contents) (now : Register) (new : Contents) (o : Outcome) : Type 0 where
+  same : IsSameEnd job before old now new o → IsEnd tells job before old now new o
+  setup : same_paths job ≡ None → IsSetupEnd tells job before old now new o → IsEnd tells job before old now new o
+  first : same_paths job ≡ None → IsFirstEnd tells job before old now new o → IsEnd tells job before old now new o
+  attached : same_paths job ≡ None → IsAttachEnd tells job before old now new o → IsEnd tells job before old now new o
+  stopped : same_paths job ≡ None → IsRoundEnd tells job before old now new o → IsEnd tells job before old now new o
+  whole : same_paths job ≡ None → IsWholeEnd tells job before old now new o → IsEnd tells job before old now new o
+
+-- the job isn't done
+abbrev pub IsStopped : Outcome → Type 0
+IsStopped (Done summary) = ⊥
+IsStopped _ = Unit {0}

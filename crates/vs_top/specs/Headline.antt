@@ -1,0 +1,53 @@
+-- What a run that is done has written, in the words of the event queue (IEEE 1364-2005, 11.3 and 11.4).
+use Rattle.std.specs.Prelude.{◌≡◌, ℕ, ◌<◌, List, ◌∷◌, length, map}
+use Rattle.vs_net.specs.Network.{State}
+use Rattle.vs_net.specs.Queue.{Choice, IsFirst, IsCompleted, start, ends}
+use Rattle.vs_design.specs.Designs.{Design}
+use Rattle.vs_design.specs.Networks.{network_of}
+use Rattle.vs_design.specs.Sizes.{size as size_of}
+use Rattle.vs_desk.specs.Desk.{Contents}
+use Rattle.vs_front.specs.Accepted.{IsAcceptedText}
+use Rattle.vs_stim.specs.declared.input.Input.{Input}
+use Rattle.vs_stim.specs.Reading.{stimulus}
+use Rattle.vs_drive.specs.Opened.{path_at}
+use Rattle.vs_vcd.specs.Texts.{vcd}
+use Rattle.vs_waves.specs.Puts.{wave_place}
+use Rattle.vs_rounds.specs.Drives.{Vector, vector_state}
+use Rattle.vs_rounds.specs.Counts.{AreCounted}
+use Rattle.vs_job.specs.declared.job.Job.{Job}
+use Rattle.vs_load.specs.Inputs.{data_inputs}
+use Rattle.vs_setup.specs.Prepared.{run_of}
+use Rattle.vs_top.specs.declared.outcome.Summary.{Summary}
+
+-- These are the values at the ends of the slots of a completed run of the event queue on these vectors alone, in whatever order of its
+-- steps, and whatever x or z its driven nets begin with.
+pub record IsRunOn (d : Design) (clock : ℕ) (vectors : List Vector) (values : List State) : Type 0 where
+  pub first : Vector
+  pub later : List Vector
+  pub vectors_are : vectors ≡ first ∷ later
+  -- the values before the first step
+  pub idle : State
+  pub is_first : IsFirst (network_of d clock) idle
+  -- the steps, each possible when it is taken, until none is left
+  pub choices : List Choice
+  pub completed : IsCompleted (network_of d clock) (start (network_of d clock) idle (vector_state d clock first) (map (vector_state d clock) later)) choices
+  pub values_are : values ≡ ends (network_of d clock) (start (network_of d clock) idle (vector_state d clock first) (map (vector_state d clock) later)) choices
+
+-- The stimulus of a lane is valid, and what was put is the VCD of the slot-end values that every completed run of the event queue on that
+-- stimulus alone has; and there is such a run.
+pub record IsLaneWritten (d : Design) (clock half : ℕ) (inputs : List Input) (text put : List ℕ) : Type 0 where
+  pub vectors : List Vector
+  pub valid : stimulus text inputs vectors
+  pub every : (values : List State) → IsRunOn d clock vectors values → put ≡ vcd d half values
+  pub some : (values : List State) × IsRunOn d clock vectors values
+
+-- The design's text is accepted, each lane is written, and the counts are those of the design and of the stimuli, where the desk had these
+-- contents before and after.
+pub record IsWritten (job : Job) (old new : Contents) (s : Summary) : Type 0 where
+  pub design : Design
+  pub accepted : IsAcceptedText (old.files job.design) job.top job.clock design
+  pub lanes : (i : ℕ) → i < length job.stimuli
+      → IsLaneWritten design accepted.accepted.clock.first job.half (data_inputs design accepted.accepted.clock.first) (old.files (path_at job.stimuli i)) (new.put (wave_place i))
+  pub lanes_are : s.lanes ≡ length job.stimuli
+  pub counted : AreCounted (run_of job old.files design accepted.accepted.clock.first) (length job.stimuli) s.vectors s.settlings
+  pub size_is : s.size ≡ size_of design

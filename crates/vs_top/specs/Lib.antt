@@ -1,0 +1,6 @@
+pub mod Outcomes
+pub mod Reported
+pub mod Headline
+pub mod Ended
+pub mod Answers
+pub mod Reports

@@ -1,0 +1,40 @@
+-- The line and the status of each outcome.
+use Rattle.std.specs.Prelude.{ℕ, nat_le, List, if◌then◌else◌}
+use Rattle.vs_refusal.specs.declared.ending.Ending.TheVariants as ending
+use Rattle.vs_refusal.specs.Refusals.{number, line}
+use Rattle.vs_refusal.specs.Endings.{ending_line}
+use Rattle.vs_top.specs.declared.outcome.Summary.{Summary}
+use Rattle.vs_top.specs.declared.outcome.Outcome.{Outcome}
+use Rattle.vs_top.specs.declared.outcome.Outcome.TheVariants.{Done, Refused, ReadFault, WriteFault, Memory}
+
+-- `ok lanes=1 vectors=2 settlings=4 size=5`, with the end of the line
+abbrev pub done_line : Summary → List ℕ
+done_line s = ending_line (ending.Done s.lanes s.vectors s.settlings s.size)
+
+abbrev pub read_fault_line : ℕ → List ℕ
+read_fault_line place = ending_line (ending.ReadFault place)
+
+abbrev pub write_fault_line : ℕ → List ℕ
+write_fault_line place = ending_line (ending.WriteFault place)
+
+abbrev pub memory_line : List ℕ
+memory_line = ending_line ending.Memory
+
+-- the report line of an outcome
+abbrev pub outcome_line : Outcome → List ℕ
+outcome_line (Done summary) = done_line summary
+outcome_line (Refused refusal) = line refusal
+outcome_line (ReadFault place) = read_fault_line place
+outcome_line (WriteFault place) = write_fault_line place
+outcome_line Memory = memory_line
+
+-- 2 for the words and the paths, 3 for the design, 4 for the stimuli
+abbrev pub refused_status : ℕ → ℕ
+refused_status n = if nat_le n 2 then 2 else (if nat_le n 65 then 3 else 4)
+
+abbrev pub status : Outcome → ℕ
+status (Done summary) = 0
+status (Refused refusal) = refused_status (number refusal)
+status (ReadFault place) = 5
+status (WriteFault place) = 6
+status Memory = 7

@@ -1,0 +1,64 @@
+//! The outcomes of errors.
+
+ghost use Rattle.std.specs.Prelude.{◌≡◌, ◌<◌};
+ghost use Rattle.vs_rounds.specs.Stops.{IsLaneOf};
+ghost use Rattle.vs_top.specs.Answers as spec;
+ghost use Rattle.vs_top.specs.Ended.{IsStopped};
+
+use crate::outcome::Outcome;
+use vs_refusal::{AtName, BareName, LaneName, LineName, Refusal};
+use vs_rounds::Stop;
+use vs_setup::SetupError;
+use vs_stim::StimError;
+
+/// The stimulus of a lane can't be read on.
+pub(crate) fn stimulus_outcome(lane: u32, error: StimError) -> Outcome
+    requires { lane < 64 }
+    ensures outcome { result ≡ spec.stimulus_outcome lane error }
+    ensures stopped { IsStopped result }
+{
+    let name = match error {
+        StimError::BadHeader => LaneName::BadHeader,
+        StimError::FirstUnknown => LaneName::FirstUnknown,
+        StimError::NoVector => LaneName::NoVector,
+        StimError::TooManyVectors => LaneName::TooManyVectors,
+        StimError::StimulusTooLong => LaneName::StimulusTooLong,
+        StimError::BadVector { line } => {
+            return Outcome::Refused(Refusal::Line(LineName::BadVector, lane, line));
+        }
+        StimError::LineTooLong { line } => {
+            return Outcome::Refused(Refusal::Line(LineName::LineTooLong, lane, line));
+        }
+        StimError::ReadFault => return Outcome::ReadFault { place: 1000 + lane },
+        StimError::Memory => return Outcome::Memory,
+    };
+    Outcome::Refused(Refusal::Lane(name, lane))
+}
+
+/// A run can't begin.
+pub(crate) fn setup_outcome(error: SetupError) -> Outcome
+    requires { spec.IsSmallError error }
+    ensures outcome { result ≡ spec.setup_outcome error }
+    ensures stopped { IsStopped result }
+{
+    match error {
+        SetupError::TooLong => Outcome::Refused(Refusal::Bare(BareName::TooLong)),
+        SetupError::NotAccepted => Outcome::Refused(Refusal::At(AtName::Syntax, 0)),
+        SetupError::Stimulus { lane, error } => stimulus_outcome(lane, error),
+        SetupError::ReadFault { place } => Outcome::ReadFault { place },
+        SetupError::Memory => Outcome::Memory,
+    }
+}
+
+/// A run stops in a round.
+pub(crate) fn stop_outcome(stop: Stop) -> Outcome
+    requires { IsLaneOf 64 stop }
+    ensures outcome { result ≡ spec.stop_outcome stop }
+    ensures stopped { IsStopped result }
+{
+    match stop {
+        Stop::Refused { lane, error } => stimulus_outcome(lane, error),
+        Stop::ReadFault { lane } => Outcome::ReadFault { place: 1000 + lane },
+        Stop::WriteFault { lane } => Outcome::WriteFault { place: 2000 + lane },
+    }
+}

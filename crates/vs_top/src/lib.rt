@@ -1,0 +1,17 @@
+//! The top call: a job from its words to its waveforms and its report line.
+#![tactic(auto)]
+
+mod errors;
+mod exit_status;
+mod outcome;
+mod report_line;
+mod run_call;
+mod simulation;
+
+pub use exit_status::status;
+pub use outcome::{Outcome, Summary};
+pub use report_line::report;
+pub use run_call::{run, simulate};
+
+#[cfg(test)]
+mod tests;

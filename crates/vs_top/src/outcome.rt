@@ -1,0 +1,33 @@
+//! How a run ends.
+
+use vs_refusal::Refusal;
+
+/// What a run that is done has done.
+#[derive(Clone, Copy, PartialEq, Eq, Debug)]
+pub struct Summary {
+    /// The number of lanes.
+    pub lanes: u32,
+    /// The number of vectors, of all lanes together.
+    pub vectors: u64,
+    /// The number of half-periods settled: twice the greatest number of vectors of a lane.
+    pub settlings: u64,
+    /// The size of the design: at most how many plane operations a half-period takes.
+    pub size: u64,
+    /// How many plane operations were executed.
+    pub operations: u64,
+}
+
+/// How a run ended.
+#[derive(Drop)]
+pub enum Outcome {
+    /// Each lane's waveform was written whole, and the report line too.
+    Done(Summary),
+    /// The words, the design or a stimulus was refused.
+    Refused(Refusal),
+    /// A call that reads failed at this place.
+    ReadFault { place: u32 },
+    /// A call that writes failed at this place.
+    WriteFault { place: u32 },
+    /// There was no memory.
+    Memory,
+}

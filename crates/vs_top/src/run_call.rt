@@ -1,0 +1,77 @@
+//! The run of a job, and of the words that call for it.
+
+ghost use Rattle.std.specs.Prelude.{◌≡◌, ◌≢◌, ◌+◌, ◌*◌, ◌≤◌, ◌⊎◌, None, Some, IsTrue, length, map, string_bytes};
+ghost use Rattle.vs_desk.specs.Desk.{Contents};
+ghost use Rattle.vs_job.specs.declared.job.Job.{Job};
+ghost use Rattle.vs_job.specs.Job.{IsJob, job};
+ghost use Rattle.vs_refusal.specs.declared.names.BareName.TheVariants.{Usage};
+ghost use Rattle.vs_refusal.specs.declared.refusal.Refusal.TheVariants.{Bare};
+ghost use Rattle.vs_top.specs.declared.outcome.Summary.{Summary};
+ghost use Rattle.vs_top.specs.declared.outcome.Outcome.TheVariants.{Done, Memory, Refused};
+ghost use Rattle.vs_top.specs.Ended.{IsUnused};
+ghost use Rattle.vs_top.specs.Reports.{IsSimulated, IsReported};
+ghost use Rattle.vs_top.specs.Headline.{IsWritten};
+
+use crate::outcome::Outcome;
+use crate::report_line::report;
+use crate::simulation::run_job;
+use std::alloc::Global;
+use std::sync::ledger::Ledger;
+use vs_desk::Desk;
+use vs_job::{Job, JobError, read_job};
+use vs_plane::Steps;
+use vs_refusal::{BareName, Refusal};
+
+/// Runs a job, and puts its report line on place 0 of the desk.
+///
+/// The design is read at place 1, the stimulus of lane i at place 1000 + i, and the waveform of lane i is put at place 2000 + i.
+pub fn simulate<D: Desk, L: Ledger>(
+    alloc: Global,
+    job: &Job,
+    desk: &mut D,
+    steps: &mut Steps<L>,
+) -> Outcome
+    requires job { IsJob job.now }
+    requires unused { IsUnused (D.register desk.old) (length job.now.stimuli) }
+    ensures operations { (s : Summary) → result ≡ Done s → (steps.new ≡ steps.old + s.operations) × (s.operations ≤ s.size * s.settlings) }
+    ensures ended { IsSimulated D.register D.tells D.contents job.now desk.old desk.new result }
+    ensures not_usage { result ≢ Refused (Bare Usage) }
+    ensures written { IsTrue D.tells → (s : Summary) → result ≡ Done s → IsWritten job.now (D.contents desk.old) (D.contents desk.new) s }
+{
+    match run_job(alloc, job, desk, steps) {
+        Ok(summary) => report(desk, Outcome::Done(summary)),
+        Err(outcome) => report(desk, outcome),
+    }
+}
+
+/// Runs the job that the words of the command line call for, the program's own name first: `cyclesim run --top T --clock C [--half H] DESIGN
+/// STIM..`.
+///
+/// Where the design is accepted and every stimulus is valid, a run that ends `Done` has written, for each lane, exactly the VCD text of the
+/// slot-end values that every completed run of the event queue (IEEE 1364-2005, clause 11) on that lane's stimulus alone has, and has executed
+/// at most as many plane operations as the design's size for each half-period of the clock, for all lanes together.
+pub fn run<D: Desk, L: Ledger>(
+    alloc: Global,
+    words: &[String],
+    desk: &mut D,
+    steps: &mut Steps<L>,
+) -> Outcome
+    requires unused { IsUnused (D.register desk.old) 64 }
+
+    // The headline.
+    ensures written { IsTrue D.tells → (s : Summary) → result ≡ Done s
+        → (j : Job) × (job (map string_bytes words.now) ≡ Some j) × IsWritten j (D.contents desk.old) (D.contents desk.new) s }
+    ensures operations { (s : Summary) → result ≡ Done s → (steps.new ≡ steps.old + s.operations) × (s.operations ≤ s.size * s.settlings) }
+
+    // Every answer has its cause.
+    ensures usage { job (map string_bytes words.now) ≡ None → (result ≡ Refused (Bare Usage)) × IsReported D.register D.tells D.contents desk.old desk.new result }
+    ensures usage_only { result ≡ Refused (Bare Usage) → job (map string_bytes words.now) ≡ None }
+    ensures ended { (j : Job) → job (map string_bytes words.now) ≡ Some j
+        → IsSimulated D.register D.tells D.contents j desk.old desk.new result ⊎ ((result ≡ Memory) × IsReported D.register D.tells D.contents desk.old desk.new result) }
+{
+    match read_job(alloc, words) {
+        Ok(job) => simulate(alloc, &job, desk, steps),
+        Err(JobError::Usage) => report(desk, Outcome::Refused(Refusal::Bare(BareName::Usage))),
+        Err(JobError::Memory) => report(desk, Outcome::Memory),
+    }
+}

@@ -1,0 +1,73 @@
+//! A job from its paths to its waveforms.
+
+ghost use Rattle.std.specs.Prelude.{◌≡◌, ◌+◌, ◌*◌, ◌≤◌, ℕ, IsTrue, IfOk, IfErr, length};
+ghost use Rattle.vs_job.specs.Job.{IsJob};
+ghost use Rattle.vs_top.specs.declared.outcome.Outcome.TheVariants.{Done};
+ghost use Rattle.vs_top.specs.Headline.{IsWritten};
+ghost use Rattle.vs_top.specs.Ended.{IsEnd, IsStopped, IsUnused};
+
+use crate::errors::{setup_outcome, stop_outcome};
+use crate::outcome::{Outcome, Summary};
+use std::alloc::Global;
+use std::sync::ledger::Ledger;
+use vs_desk::Desk;
+use vs_job::{Job, same_paths};
+use vs_plane::{Steps, Words};
+use vs_refusal::Refusal;
+use vs_rounds::headline_law;
+use vs_setup::{Prepared, prepare};
+use vs_stim::laws::known_law;
+use vs_waves::attach;
+
+/// Runs a job to the end of its rounds.
+///
+/// The order is: two equal paths; the design; the stimuli's headers, by lane; all memory; the first vectors, by lane; the waveforms'
+/// places, by lane; the rounds.
+pub(crate) fn run_job<D: Desk, L: Ledger>(
+    alloc: Global,
+    job: &Job,
+    desk: &mut D,
+    steps: &mut Steps<L>,
+) -> Result<Summary, Outcome>
+    requires job { IsJob job.now }
+    requires unused { IsUnused (D.register desk.old) (length job.now.stimuli) }
+    ensures done { IfOk result (λ s. IsEnd D.tells job.now (D.register desk.old) (D.contents desk.old) (D.register desk.new) (D.contents desk.new) (Done s)) }
+    ensures stopped { IfErr result (IsEnd D.tells job.now (D.register desk.old) (D.contents desk.old) (D.register desk.new) (D.contents desk.new)) }
+    ensures written { IsTrue D.tells → IfOk result (IsWritten job.now (D.contents desk.old) (D.contents desk.new)) }
+    ensures not_done { IfErr result IsStopped }
+    ensures counted { IfOk result (λ s. steps.new ≡ steps.old + s.operations) }
+    ensures within { IfOk result (λ s. s.operations ≤ s.size * s.settlings) }
+{
+    headline_law();
+    known_law();
+    if let Some((first, second)) = same_paths(job) {
+        return Err(Outcome::Refused(Refusal::SamePath { first, second }));
+    }
+    let prepared = match prepare::<Words<1>, D>(alloc, job, desk) {
+        Ok(prepared) => prepared,
+        Err(error) => return Err(setup_outcome(error)),
+    };
+    let Prepared {
+        mut machine,
+        size,
+        stores,
+        wave_paths,
+    } = prepared;
+    if let Err(stop) = machine.begin(desk) {
+        return Err(stop_outcome(stop));
+    }
+    if let Err(fault) = attach(desk, wave_paths) {
+        let place = 2000 + fault.lane;
+        return Err(Outcome::WriteFault { place });
+    }
+    match machine.rounds(desk, steps) {
+        Ok(counts) => Ok(Summary {
+            lanes: job.stimuli.len() as u32,
+            vectors: counts.vectors,
+            settlings: counts.settlings,
+            size,
+            operations: counts.settlings / 2 * stores,
+        }),
+        Err(stop) => Err(stop_outcome(stop)),
+    }
+}

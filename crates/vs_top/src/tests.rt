@@ -1,0 +1,67 @@
+//! Outcomes and their lines, written by hand.
+
+mod faults;
+mod lanes;
+mod runs;
+
+use crate::{Outcome, Summary, report, status};
+use std::alloc::Global;
+use std::process::Abort;
+use std::test::Fail;
+use vs_desk::MemoryDesk;
+use vs_refusal::{AtName, BareName, LineName, Refusal};
+
+const SUMMARY: Summary = Summary {
+    lanes: 1,
+    vectors: 2,
+    settlings: 4,
+    size: 5,
+    operations: 20,
+};
+
+/// Reports an outcome on a desk on which so many calls from the first one on fail.
+fn expect_report(
+    rt: &impl Abort,
+    alloc: Global,
+    outcome: Outcome,
+    failing: &[u64],
+    code: u8,
+    text: &str,
+) -> Result<(), Fail> {
+    let mut desk = MemoryDesk::new(alloc, 16);
+    desk.fail_at(failing)?;
+    let outcome = report(&mut desk, outcome);
+    assert_eq!(rt; status(&outcome), code, "{text}");
+    assert_eq!(rt; desk.written(0), text.as_bytes());
+    Ok(())
+}
+
+#[test]
+fn reports_of_outcomes(rt: HostRuntime) -> Result<(), Fail> {
+    let a = rt.alloc();
+    let ok = "ok lanes=1 vectors=2 settlings=4 size=5\n";
+    expect_report(&rt, a, Outcome::Done(SUMMARY), &[], 0, ok)?;
+    let lost = "refused 5 WriteFault place=0\n";
+    expect_report(&rt, a, Outcome::Done(SUMMARY), &[0], 6, lost)?;
+    let part = "ok lanes=1refused 5 WriteFault place=0\n";
+    expect_report(&rt, a, Outcome::Done(SUMMARY), &[3], 6, part)?;
+    let usage = Outcome::Refused(Refusal::Bare(BareName::Usage));
+    expect_report(&rt, a, usage, &[], 2, "refused 1 Usage\n")?;
+    let usage = Outcome::Refused(Refusal::Bare(BareName::Usage));
+    expect_report(&rt, a, usage, &[0], 2, "")?;
+    let syntax = Outcome::Refused(Refusal::At(AtName::Syntax, 22));
+    expect_report(&rt, a, syntax, &[], 3, "refused 21 Syntax at=22\n")?;
+    let vector = Outcome::Refused(Refusal::Line(LineName::BadVector, 0, 4));
+    expect_report(
+        &rt,
+        a,
+        vector,
+        &[],
+        4,
+        "refused 71 BadVector lane=0 line=4\n",
+    )?;
+    let fault = Outcome::ReadFault { place: 1005 };
+    expect_report(&rt, a, fault, &[], 5, "refused 4 ReadFault place=1005\n")?;
+    expect_report(&rt, a, Outcome::Memory, &[], 7, "refused 6 Memory\n")?;
+    Ok(())
+}

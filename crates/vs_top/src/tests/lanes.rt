@@ -1,0 +1,96 @@
+//! Runs of many lanes, and of long lines.
+
+ghost use Rattle.std.specs.Prelude.{◌+◌, ◌<◌, ◌≤◌};
+
+use super::runs::{AND, desk_with, run_words, words};
+use std::alloc::{AllocError, Global};
+use std::process::Abort;
+use std::test::Fail;
+use vs_desk::MemoryDesk;
+
+/// The words in front of the stimuli's.
+const LINE: &str = "c run --top top --clock clk d.v";
+
+/// Lane n's stimulus: 1 to 5 vectors, which depend on the lane.
+fn stimulus(alloc: Global, n: usize) -> Result<String, AllocError>
+    requires { n < 128 }
+{
+    let mut text = String::from_str(alloc, "inputs a b\n")?;
+    for k in 0..n % 5 + 1 {
+        text.push_str(match (n + k) % 3 {
+            0 => "1 0\n",
+            1 => "1 1\n",
+            _ => "0 1\n",
+        })?;
+    }
+    Ok(text)
+}
+
+/// Runs so many stimuli, from this one on, over a new desk, and answers the status.
+fn run_lanes(alloc: Global, first: usize, count: usize) -> Result<(u8, MemoryDesk), AllocError>
+    requires { first + count ≤ 128 }
+{
+    let mut desk = desk_with(alloc, 4096, &[("d.v", AND)])?;
+    let mut words = words(alloc, LINE)?;
+    for n in first..first + count {
+        let text = stimulus(alloc, n)?;
+        desk.add_file(format!(in alloc; "s{n}")?, text.as_bytes().to_vec(alloc)?)?;
+        words.push(format!(in alloc; "s{n}")?)?;
+    }
+    let code = run_words(alloc, &mut desk, &words);
+    Ok((code, desk))
+}
+
+#[test]
+fn each_lane_alone(rt: HostRuntime) -> Result<(), Fail> {
+    let (code, all) = run_lanes(rt.alloc(), 0, 64)?;
+    assert_eq!(rt; code, 0);
+    assert_eq!(rt;
+        all.written(0),
+        b"ok lanes=64 vectors=190 settlings=10 size=5\n".as_slice()
+    );
+    for n in 0..64 {
+        let (code, alone) = run_lanes(rt.alloc(), n, 1)?;
+        assert_eq!(rt; code, 0);
+        assert_eq!(rt;
+            all.written(2000 + n as u32),
+            alone.written(2000),
+            "lane {n}"
+        );
+    }
+    let (code, desk) = run_lanes(rt.alloc(), 0, 65)?;
+    assert_eq!(rt; code, 2);
+    assert_eq!(rt; desk.written(0), b"refused 1 Usage\n".as_slice());
+    Ok(())
+}
+
+/// A stimulus whose third line has so many bytes.
+fn expect_long(rt: &impl Abort, alloc: Global, length: usize, report: &str) -> Result<(), Fail> {
+    let mut text = String::from_str(alloc, "inputs a b\n1 0\n")?;
+    for _ in 0..length {
+        text.push('1')?;
+    }
+    let mut desk = desk_with(alloc, 4096, &[("d.v", AND)])?;
+    desk.add_file(
+        String::from_str(alloc, "s")?,
+        text.as_bytes().to_vec(alloc)?,
+    )?;
+    let mut words = words(alloc, LINE)?;
+    words.push(String::from_str(alloc, "s")?)?;
+    let code = run_words(alloc, &mut desk, &words);
+    assert_eq!(rt; code, 4);
+    assert_eq!(rt; desk.written(0), report.as_bytes());
+    Ok(())
+}
+
+#[test]
+fn long_lines(rt: HostRuntime) -> Result<(), Fail> {
+    let rows = [
+        (65536, "refused 71 BadVector lane=0 line=3\n"),
+        (65537, "refused 76 LineTooLong lane=0 line=3\n"),
+    ];
+    for (length, report) in rows {
+        expect_long(&rt, rt.alloc(), length, report)?;
+    }
+    Ok(())
+}
