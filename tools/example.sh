@@ -1,6 +1,6 @@
 #!/usr/bin/env bash
 # Proves and builds the program, runs it on the example of crates/cyclesim/data, shows the report and the waveform, and compares the
-# waveform with the one worked by hand. From nothing it takes some minutes.
+# waveform with the one worked by hand. From nothing it takes long, since all below is proved first.
 set -eu
 top=$(cd "$(dirname "$0")/.." && pwd)
 work=$(mktemp -d)
