@@ -19,7 +19,7 @@ use Rattle.vs_setup.specs.declared.error.SetupError.{SetupError}
 use Rattle.vs_setup.specs.declared.error.SetupError.TheVariants.{TooLong, NotAccepted, Stimulus, ReadFault, Memory}
 use Rattle.vs_setup.specs.DesignText.{with_design}
 use Rattle.vs_setup.specs.Prepared.{IsDesignLoaded}
-use Rattle.vs_setup.specs.Unprepared.{IsUnopened, IsUnprepared, IsDesignOf, IsLoadError, IsFirstRefused, StimulusFails, error_of}
+use Rattle.vs_setup.specs.Unprepared.{IsUnopened, IsUnprepared, IsDesignOf, IsLoadError, IsTextRefusal, IsFirstRefused, StimulusFails, error_of}
 
 -- what is known of the lane that stopped the opening
 pub record HasStopped (tells : Bool) (inputs : List Input) (stimuli : List (List ℕ)) (before : Register) (old : Contents) (now : Register) (lane : ℕ) (error : StimError) : Type 0 where
@@ -31,11 +31,23 @@ pub record HasStopped (tells : Bool) (inputs : List Input) (stimuli : List (List
   pub memory : error ≡ E.Memory → (now ≡ with_lanes before (take lane stimuli)) ⊎ (now ≡ with_lanes before (take (lane + 1) stimuli))
   pub fault : error ≡ E.ReadFault → StimulusFails before stimuli now lane
 
+-- what is no fault and no want of memory is a refusal
+text_refusal : (error : StimError) → IsHeaderError error → error ≢ E.ReadFault → error ≢ E.Memory → IsTextRefusal error
+text_refusal E.BadHeader h r m = h
+text_refusal (E.BadVector line) h r m = h
+text_refusal E.FirstUnknown h r m = h
+text_refusal E.NoVector h r m = h
+text_refusal E.TooManyVectors h r m = h
+text_refusal E.StimulusTooLong h r m = h
+text_refusal (E.LineTooLong line) h r m = h
+text_refusal E.ReadFault h r m = absurd (r refl)
+text_refusal E.Memory h r m = absurd (m refl)
+
 refusal : (tells : Bool) (inputs : List Input) (stimuli : List (List ℕ)) (before : Register) (old : Contents) (now : Register) (lane : ℕ) (error : StimError)
     → HasStopped tells inputs stimuli before old now lane error → error ≢ E.ReadFault → error ≢ E.Memory
-    → (lane < length stimuli) × IsHeaderError error × (now ≡ with_lanes before (take (lane + 1) stimuli)) × (IsTrue tells → IsFirstRefused inputs old stimuli lane error)
+    → (lane < length stimuli) × IsTextRefusal error × (now ≡ with_lanes before (take (lane + 1) stimuli)) × (IsTrue tells → IsFirstRefused inputs old stimuli lane error)
 refusal tells inputs stimuli before old now lane error s r m =
-    (s.is_lane, s.is_header_error, s.register r m, λ t. record { refused = s.refused t r m; earlier = s.earlier t })
+    (s.is_lane, text_refusal error s.is_header_error r m, s.register r m, λ t. record { refused = s.refused t r m; earlier = s.earlier t })
 
 pub unopened : (tells : Bool) (inputs : List Input) (stimuli : List (List ℕ)) (before : Register) (old : Contents) (now : Register) (lane : ℕ) (error : StimError)
     → HasStopped tells inputs stimuli before old now lane error → IsUnopened tells inputs stimuli before old now (error_of lane error)

@@ -58,12 +58,18 @@ pub record IsStimulusFault (tells : Bool) (job : Job) (before : Register) (old :
   pub fails : StimulusFails (with_design before job.design) job.stimuli now lane
   pub earlier : IsTrue tells → AreEarlierOpened job old lane
 
+-- a text is refused up to its header; a fault isn't that, nor is want of memory
+abbrev pub IsTextRefusal : StimError → Type 0
+IsTextRefusal E.ReadFault = ⊥
+IsTextRefusal E.Memory = ⊥
+IsTextRefusal error = IsHeaderError error
+
 -- Why a run can't begin, where the desk told this before and tells that now.
 abbrev pub IsUnprepared : Bool → Job → Register → Contents → Register → Contents → SetupError → Type 0
 IsUnprepared tells job before old now new TooLong = (now ≡ with_design before job.design) × (IsTrue tells → IsTooLong (old.files job.design) (new.left 1))
 IsUnprepared tells job before old now new NotAccepted = (now ≡ with_design before job.design) × (IsTrue tells → (d : Design) → ¬ (IsDesignOf job old d))
 IsUnprepared tells job before old now new (Stimulus lane error) =
-    (lane < length job.stimuli) × IsHeaderError error × (now ≡ with_texts before job (take (lane + 1) job.stimuli)) × (IsTrue tells → IsHeaderRefusal job old lane error)
+    (lane < length job.stimuli) × IsTextRefusal error × (now ≡ with_texts before job (take (lane + 1) job.stimuli)) × (IsTrue tells → IsHeaderRefusal job old lane error)
 IsUnprepared tells job before old now new (ReadFault place) = IsDesignFault job before now place ⊎ IsStimulusFault tells job before old now place
 IsUnprepared tells job before old now new Memory = (now ≡ before) ⊎ ((lanes : ℕ) × (lanes ≤ length job.stimuli) × (now ≡ with_texts before job (take lanes job.stimuli)))
 
@@ -72,7 +78,7 @@ abbrev pub IsUnopened : Bool → List Input → List (List ℕ) → Register →
 IsUnopened tells inputs stimuli before old now TooLong = ⊥
 IsUnopened tells inputs stimuli before old now NotAccepted = ⊥
 IsUnopened tells inputs stimuli before old now (Stimulus lane error) =
-    (lane < length stimuli) × IsHeaderError error × (now ≡ with_lanes before (take (lane + 1) stimuli)) × (IsTrue tells → IsFirstRefused inputs old stimuli lane error)
+    (lane < length stimuli) × IsTextRefusal error × (now ≡ with_lanes before (take (lane + 1) stimuli)) × (IsTrue tells → IsFirstRefused inputs old stimuli lane error)
 IsUnopened tells inputs stimuli before old now (ReadFault place) =
     (lane : ℕ) × (lane < length stimuli) × (place ≡ place_of lane) × StimulusFails before stimuli now lane × (IsTrue tells → HaveHeaders inputs old.files stimuli lane)
 IsUnopened tells inputs stimuli before old now Memory = (lanes : ℕ) × (lanes ≤ length stimuli) × (now ≡ with_lanes before (take lanes stimuli))

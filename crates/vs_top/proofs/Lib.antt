@@ -2,3 +2,5 @@ pub mod Losing
 pub mod Places
 pub mod Lanes
 pub mod Ends
+pub mod Causes
+pub mod Lawful

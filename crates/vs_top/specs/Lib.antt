@@ -4,3 +4,4 @@ pub mod Headline
 pub mod Ended
 pub mod Answers
 pub mod Reports
+pub mod Causes

@@ -8,6 +8,7 @@ ghost use Rattle.vs_refusal.specs.declared.names.BareName.TheVariants.{Usage};
 ghost use Rattle.vs_refusal.specs.declared.refusal.Refusal.TheVariants.{Bare};
 ghost use Rattle.vs_top.specs.declared.outcome.Summary.{Summary};
 ghost use Rattle.vs_top.specs.declared.outcome.Outcome.TheVariants.{Done, Memory, Refused};
+ghost use Rattle.vs_top.specs.Causes.{IsDoneOrMemory, IsFaultless, IsLawful, ShowsCause};
 ghost use Rattle.vs_top.specs.Ended.{IsUnused};
 ghost use Rattle.vs_top.specs.Reports.{IsSimulated, IsReported};
 ghost use Rattle.vs_top.specs.Headline.{IsWritten};
@@ -35,6 +36,8 @@ pub fn simulate<D: Desk, L: Ledger>(
     requires unused { IsUnused (D.register desk.old) (length job.now.stimuli) }
     ensures operations { (s : Summary) → result ≡ Done s → (steps.new ≡ steps.old + s.operations) × (s.operations ≤ s.size * s.settlings) }
     ensures ended { IsSimulated D.register D.tells D.contents job.now desk.old desk.new result }
+    ensures causes { ShowsCause (D.register desk.old) (D.register desk.new) result }
+    ensures complete { IsTrue D.tells → IsLawful job.now (D.contents desk.old) → IsFaultless (D.register desk.old) (D.register desk.new) → IsDoneOrMemory result }
     ensures not_usage { result ≢ Refused (Bare Usage) }
     ensures written { IsTrue D.tells → (s : Summary) → result ≡ Done s → IsWritten job.now (D.contents desk.old) (D.contents desk.new) s }
 {
@@ -66,8 +69,13 @@ pub fn run<D: Desk, L: Ledger>(
     // Every answer has its cause.
     ensures usage { job (map string_bytes words.now) ≡ None → (result ≡ Refused (Bare Usage)) × IsReported D.register D.tells D.contents desk.old desk.new result }
     ensures usage_only { result ≡ Refused (Bare Usage) → job (map string_bytes words.now) ≡ None }
+    ensures causes { ShowsCause (D.register desk.old) (D.register desk.new) result }
     ensures ended { (j : Job) → job (map string_bytes words.now) ≡ Some j
         → IsSimulated D.register D.tells D.contents j desk.old desk.new result ⊎ ((result ≡ Memory) × IsReported D.register D.tells D.contents desk.old desk.new result) }
+
+    // And nothing but want of memory keeps a lawful job from its end.
+    ensures complete { IsTrue D.tells → (j : Job) → job (map string_bytes words.now) ≡ Some j → IsLawful j (D.contents desk.old)
+        → IsFaultless (D.register desk.old) (D.register desk.new) → IsDoneOrMemory result }
 {
     match read_job(alloc, words) {
         Ok(job) => simulate(alloc, &job, desk, steps),

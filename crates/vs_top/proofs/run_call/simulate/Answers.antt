@@ -1,6 +1,28 @@
 use Rattle.vs_top.proofs.Ends.{reported_written}
+use Rattle.vs_top.proofs.Causes.{stopped_cause, done_cause}
+use Rattle.vs_top.proofs.Lawful.{stopped_complete, done_complete}
 use Rattle.vs_top.proofs.run_call.simulate.Goals as goal
 
 pub returns-in-Ok-clause-written : goal.returns-in-Ok-clause-written
 returns-in-Ok-clause-written g c = λ t s e.
     reported_written g.D.Desk.register g.D.Desk.tells g.D.Desk.contents c.args.job.now (g.D.Desk.contents c.args.desk.now) c.run_job.new.desk c.report.new.desk c.in-Ok.summary s c.report.result c.report.ensures.done e t (c.in-Ok.ensures.written t)
+
+pub returns-in-Ok-clause-causes : goal.returns-in-Ok-clause-causes
+returns-in-Ok-clause-causes g c =
+    done_cause g.D.Desk.register g.D.Desk.tells g.D.Desk.contents c.args.job.now c.args.desk.now c.run_job.new.desk c.report.new.desk c.in-Ok.summary c.report.result
+    c.in-Ok.ensures.done c.report.ensures.done
+
+pub returns-in-Ok-clause-complete : goal.returns-in-Ok-clause-complete
+returns-in-Ok-clause-complete g c = λ told lawful faultless.
+    done_complete g.D.Desk.register g.D.Desk.tells g.D.Desk.contents c.args.desk.now c.run_job.new.desk c.report.new.desk c.in-Ok.summary c.report.result
+    c.report.ensures.done (returns-in-Ok-clause-causes g c) faultless
+
+pub returns-in-Err-clause-causes : goal.returns-in-Err-clause-causes
+returns-in-Err-clause-causes g c =
+    stopped_cause g.D.Desk.register g.D.Desk.tells g.D.Desk.contents c.args.job.now c.args.desk.now c.run_job.new.desk c.report-in-Err.new.desk c.in-Err.outcome c.report-in-Err.result
+    c.in-Err.ensures.not_done c.in-Err.ensures.stopped c.report-in-Err.ensures.stopped c.report-in-Err.ensures.stopped_line
+
+pub returns-in-Err-clause-complete : goal.returns-in-Err-clause-complete
+returns-in-Err-clause-complete g c = λ told lawful faultless.
+    stopped_complete g.D.Desk.register g.D.Desk.tells g.D.Desk.contents c.args.job.now c.args.desk.now c.run_job.new.desk c.report-in-Err.new.desk c.in-Err.outcome c.report-in-Err.result
+    c.in-Err.ensures.not_done c.in-Err.ensures.stopped c.report-in-Err.ensures.stopped (returns-in-Err-clause-causes g c) told lawful faultless
