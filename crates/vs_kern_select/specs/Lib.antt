@@ -1,0 +1,4 @@
+pub mod Operators
+pub mod Costs
+pub mod Matches
+pub mod Moves
