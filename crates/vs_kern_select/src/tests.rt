@@ -431,12 +431,16 @@ fn check_lengths<W: Chunked + Lanes, L: Ledger>(
     requires lanes { W.LANES ≤ 256 }
 {
     let mut steps: Steps<L> = Steps::new(blank);
-    for length in [1, 7, 8, 9, 63, 64] {
-        check_choice_length::<W, L>(rt, alloc, 1, length, &mut steps)?;
-        check_choice_length::<W, L>(rt, alloc, 9, length, &mut steps)?;
-        check_selects::<W, L>(rt, alloc, length, 1, 1, &mut steps)?;
-        check_selects::<W, L>(rt, alloc, length, 3, 2, &mut steps)?;
-        check_selects::<W, L>(rt, alloc, length, 7, 9, &mut steps)?;
+    for (length, base, width) in [
+        (1, 1, 1),
+        (7, 3, 2),
+        (8, 3, 1),
+        (9, 7, 9),
+        (63, 7, 3),
+        (64, 7, 9),
+    ] {
+        check_choice_length::<W, L>(rt, alloc, base, length, &mut steps)?;
+        check_selects::<W, L>(rt, alloc, length, base, width, &mut steps)?;
     }
     Ok(())
 }

@@ -1,5 +1,5 @@
-use Rattle.std.proofs.Common.{◌≡◌, ◌+◌, ◌*◌, ◌<◌, ℕ, [], length, arith}
-use Rattle.vs_kern_select.proofs.Runs.{IsRun, run_none, run_targets, run_argument}
+use Rattle.std.proofs.Common.{◌+◌, ◌*◌, [], length, arith}
+use Rattle.vs_kern_select.proofs.Runs.{run_none, run_targets, run_argument}
 use Rattle.vs_kern_select.proofs.tests.check_choice_runs.Goals as goal
 
 pub check_choices-requires-clause-targets : goal.check_choices-requires-clause-targets
