@@ -1,16 +1,18 @@
 //! Whole texts.
 
-ghost use Rattle.std.specs.Prelude.{◌≡◌, ◌≤◌, length, IfOk, IfErr, Ok, MatchOption};
+ghost use Rattle.std.specs.Prelude.{◌≡◌, ◌≤◌, ℕ, length, IfOk, IfErr, Ok, MatchOption, MatchResult, IsErrOf, IsErrAnd};
 ghost use Rattle.vs_lexer.specs.Cuts.{cut_text};
-ghost use Rattle.vs_grammar.specs.Spelled.{LeftOutAt, NoneLeftOut, Spells};
+ghost use Rattle.vs_grammar.specs.Spelled.{HasSyntaxFault, IsTooDeep, LeftOutAt, NoneLeftOut, Spells};
+ghost use Rattle.vs_grammar.specs.Trees as tree;
 ghost use Rattle.vs_ast.specs.Views as view;
-ghost use Rattle.vs_parser.specs.Faults.{Fault};
+ghost use Rattle.vs_parser.specs.Faults.{Fault, IsDepthAnswer, IsSyntaxAnswer};
 
 use crate::error::ParseError;
 use crate::input::Input;
 use crate::modules::source;
 use std::alloc::Global;
 use vs_ast::Source;
+use vs_grammar::laws::spelled_law;
 use vs_lexer::{Token, is_left_out};
 
 /// The first token that is left out, if there is one.
@@ -26,15 +28,37 @@ fn first_left_out(tokens: &[Token]) -> Option<u32>
     None
 }
 
+/// The syntax tree of a text without tokens that are left out.
+fn read_all(input: &Input<'_>) -> Result<Source, ParseError>
+    requires lexed { cut_text input.now.text.now ≡ Ok input.now.tokens.now }
+    requires kept { NoneLeftOut input.now.tokens.now }
+    ensures found { IfOk result (λ s. Spells input.now.text.now (view.source s)) }
+    ensures fault { IfErr result (λ e. Fault input.now.tokens.now e) }
+{
+    let found = source(input, 0, 0)?;
+    if (found.to as usize) < input.tokens.len() {
+        return Err(ParseError::Syntax(found.to));
+    }
+    Ok(found.value)
+}
+
 /// The syntax tree that a text spells, by its tokens, in time linear in their number (IEEE 1364-2005, annex A). The tokens are those that
 /// the text is cut into. `LeftOut` names the first token that is left out of the language. Where none is, `Syntax` names the first token
 /// with which no list of tokens that the grammar derives goes on, whatever its length, and `TooDeep` one with which such a list goes on,
-/// but none of at most 200 levels. The end of the text counts as a token.
+/// but none of at most 200 levels. The end of the text counts as a token. A text that spells a tree is refused only where there is not
+/// enough memory.
 pub fn parse(alloc: Global, text: &[u8], tokens: &[Token]) -> Result<Source, ParseError>
     requires { cut_text text.now ≡ Ok tokens.now }
     ensures found { IfOk result (λ s. Spells text.now (view.source s)) }
+    // what the text spells is read, where there is memory
+    ensures complete { (s : tree.Source) → Spells text.now s → MatchResult result (λ v. view.source v ≡ s) (λ e. e ≡ ParseError.Memory) }
     ensures fault { IfErr result (λ e. Fault tokens.now e) }
+    // a token that is left out is told, whatever else is wrong, and without memory
+    ensures left_out { (k : ℕ) → LeftOutAt tokens.now k → IsErrOf result (ParseError.LeftOut k) }
+    ensures syntax { (k : ℕ) → HasSyntaxFault tokens.now k → IsErrAnd result (λ e. IsSyntaxAnswer k e) }
+    ensures deep { (k : ℕ) → IsTooDeep tokens.now k → IsErrAnd result (λ e. IsDepthAnswer e) }
 {
+    spelled_law();
     if let Some(at) = first_left_out(tokens) {
         return Err(ParseError::LeftOut(at));
     }
@@ -43,9 +67,5 @@ pub fn parse(alloc: Global, text: &[u8], tokens: &[Token]) -> Result<Source, Par
         text,
         tokens,
     };
-    let found = source(&input, 0, 0)?;
-    if (found.to as usize) < tokens.len() {
-        return Err(ParseError::Syntax(found.to));
-    }
-    Ok(found.value)
+    read_all(&input)
 }

@@ -1,16 +1,18 @@
-use Rattle.std.proofs.Common.{◌≡◌, ◌<◌, ◌≤◌, ℕ, sym, ◌∙◌, arith, length}
 use Rattle.vs_parser.proofs.Places.{few}
-use Rattle.vs_parser.proofs.Ends.{text_fault, rest_fault, text_read, fault_exit}
+use Rattle.vs_parser.proofs.Verdicts.{complete_of, syntax_of, deep_of, none_of, first_of}
 use Rattle.vs_parser.proofs.whole.parse.Goals as goal
 
 pub first_left_out-requires : goal.first_left_out-requires
 first_left_out-requires c = few c.args.text.now c.args.tokens.now c.requires
 
-pub returns-in_err-found-clause-fault : goal.returns-in_err-found-clause-fault
-returns-in_err-found-clause-fault c = fault_exit c.args.tokens.now c.from_residual.result c.in_err-found.field-0.0 c.from_residual.ensures.1 (text_fault c.in_default.ensures c.in_err-found.ensures.refused)
+pub returns-clause-complete : goal.returns-clause-complete
+returns-clause-complete c = complete_of c.spelled_law.ensures.one c.spelled_law.ensures.none c.args.text.now c.args.tokens.now c.requires c.read_all.result c.read_all.ensures.found c.read_all.ensures.fault
 
-pub returns-then-found-tokens-clause-fault : goal.returns-then-found-tokens-clause-fault
-returns-then-found-tokens-clause-fault c = rest_fault c.in_default.ensures c.in_ok-found.ensures.found c.if-found-tokens.true
+pub returns-clause-left_out : goal.returns-clause-left_out
+returns-clause-left_out c k h = none_of c.in_default.ensures h
 
-pub returns-clause-found : goal.returns-clause-found
-returns-clause-found c = text_read c.requires c.in_default.ensures c.in_ok-found.ensures.found c.if-found-tokens.false
+pub returns-clause-syntax : goal.returns-clause-syntax
+returns-clause-syntax c = syntax_of c.spelled_law.ensures.none c.spelled_law.ensures.fault c.args.text.now c.args.tokens.now c.requires c.read_all.result c.read_all.ensures.found c.read_all.ensures.fault
+
+pub returns-clause-deep : goal.returns-clause-deep
+returns-clause-deep c = deep_of c.spelled_law.ensures.none c.args.text.now c.args.tokens.now c.requires c.read_all.result c.read_all.ensures.found c.read_all.ensures.fault
