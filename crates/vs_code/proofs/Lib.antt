@@ -1,0 +1,5 @@
+pub mod Arguments
+pub mod Counts
+pub mod Runs
+pub mod Weights
+pub mod Layouts

@@ -1,0 +1,64 @@
+-- Calls one after the other, and the lanes that they change.
+use Rattle.std.proofs.Common.{◌≡◌, ℕ, zero, suc, ◌<◌, Bool, List, [], ◌∷◌, ◌++◌, length, get_or, take, ◌+◌, ◌≤◌, sym, ap, ◌∙◌, subst, refl, arith}
+use Rattle.std.proofs.lemmas.List.{take_more, take_all}
+use Rattle.std.proofs.lemmas.List.Sums.{sum_by_more}
+use Rattle.std.specs.List.{All, Contains, flat_map}
+use Rattle.std.proofs.lemmas.List.Elements.{All-contains, Contains-get_or, Contains-append_left, Contains-append_right}
+use mathlib.Core.Path.{fun_ext}
+use Rattle.vs_plane.specs.declared.pairs.Pair.{Pair}
+use Rattle.vs_plane.specs.Lanes.{slot_lane, lane_or_x}
+use Rattle.vs_plane.specs.Kernels.{Computes}
+use Rattle.vs_code.specs.Kernels.{operator_of}
+use Rattle.vs_code.specs.Calls.{Call, State, IsCalled, AreCalled, call_cost, length_of}
+
+-- calls, and then others from the state that they led to
+pub called-append : (first second : List Call) (before middle after : State) → AreCalled first before middle → AreCalled second middle after → AreCalled (first ++ second) before after
+called-append [] second before middle after h k = subst (λ (s : State). AreCalled second s after) (fun_ext h) k
+called-append (call ∷ first) second before middle after h k = (h.0, h.1, called-append first second h.0 middle after h.2 k)
+
+pub called_parts : (first second : List Call) (before after : State) → AreCalled (first ++ second) before after → (middle : State) × AreCalled first before middle × AreCalled second middle after
+called_parts [] second before after h = (before, (λ slot. refl), h)
+called_parts (call ∷ first) second before after h =
+    let rest = called_parts first second h.0 after h.2 in
+    (rest.0, (h.0, h.1, rest.1), rest.2)
+
+-- one call
+pub called_one : (call : Call) (before after : State) → IsCalled call before after → AreCalled (call ∷ []) before after
+called_one call before after h = (after, h, λ slot. refl)
+
+pub one_called : (call : Call) (before after : State) → AreCalled (call ∷ []) before after → IsCalled call before after
+one_called call before after h = subst (λ (s : State). IsCalled call before s) (sym (fun_ext h.2)) h.1
+
+-- one call more
+pub called_more : (calls : List Call) (n : ℕ) (call : Call) (before middle after : State) → n < length calls → call ≡ get_or calls n call
+    → AreCalled (take n calls) before middle → IsCalled call middle after → AreCalled (take (n + 1) calls) before after
+called_more calls n call before middle after l e h k =
+    subst (λ (cs : List Call). AreCalled cs before after)
+    (ap (λ (c : Call). take n calls ++ c ∷ []) e ∙ sym (take_more calls n call l))
+    (called-append (take n calls) (call ∷ []) before middle after h (called_one call middle after k))
+
+-- all of them
+pub called_all : (calls : List Call) (n : ℕ) (before after : State) → length calls ≤ n → AreCalled (take n calls) before after → AreCalled calls before after
+called_all calls n before after l h = subst (λ (cs : List Call). AreCalled cs before after) (take_all n calls l) h
+
+pub length_more : (calls : List Call) (n : ℕ) (call : Call) → n < length calls → call ≡ get_or calls n call → length_of (take (n + 1) calls) ≡ length_of (take n calls) + call_cost call
+length_more calls n call l e = sum_by_more call_cost calls n call l ∙ ap (λ (c : Call). length_of (take n calls) + call_cost c) (sym e)
+
+-- what a kernel computes in all lanes it does in each
+pub lane_called : {W : Type 0} (lane : W → ℕ → Bool) (lanes : ℕ) (call : Call) (before after : List (Pair W)) (i : ℕ) → i < lanes
+    → Computes lane lanes (operator_of call.kernel (length call.to)) call.args call.to call.scratch before after
+    → IsCalled call (λ slot. slot_lane lane before slot i) (λ slot. slot_lane lane after slot i)
+lane_called lane lanes call before after i l h = record {
+  value = h.value i l;
+  kept = λ slot t s. ap (λ p. lane_or_x lane p i) (h.others.kept slot t s);
+}
+
+-- a number in the list of one element is in the list of all
+pub in_all : {X : Type 0} (f : X → List ℕ) (xs : List X) (n : ℕ) (x : X) (slot : ℕ) → n < length xs → x ≡ get_or xs n x → Contains (f x) slot → Contains (flat_map f xs) slot
+in_all f [] n x slot l e h = absurd (omega arith)
+in_all f (y ∷ ys) zero x slot l e h = Contains-append_left (f y) (flat_map f ys) slot (subst (λ z. Contains (f z) slot) e h)
+in_all f (y ∷ ys) (suc n) x slot l e h = Contains-append_right (f y) (flat_map f ys) slot (in_all f ys n x slot (omega arith) e h)
+
+-- what holds of all numbers of the lists holds of those of one
+pub all_of_one : {X : Type 0} (P : ℕ → Type 0) (f : X → List ℕ) (xs : List X) (n : ℕ) (x : X) → n < length xs → x ≡ get_or xs n x → All P (flat_map f xs) → All P (f x)
+all_of_one P f xs n x l e h = λ k d m. All-contains P (flat_map f xs) (get_or (f x) k d) h (in_all f xs n x (get_or (f x) k d) l e (Contains-get_or (f x) k d m))

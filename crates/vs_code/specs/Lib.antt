@@ -1,0 +1,4 @@
+pub mod Kernels
+pub mod Calls
+pub mod Kept
+pub mod Laws

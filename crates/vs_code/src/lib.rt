@@ -1,0 +1,16 @@
+//! Straight programs: lists of kernel calls, and their execution in every lane at once.
+#![tactic(auto)]
+
+mod kernels;
+mod laws;
+mod lists;
+mod ops;
+mod program;
+#[cfg(test)]
+mod tests;
+
+pub use kernels::AnyKernel;
+pub use laws::{sequence_law, weight_law};
+pub use lists::List;
+pub use ops::Op;
+pub use program::Program;
