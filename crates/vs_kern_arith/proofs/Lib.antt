@@ -3,3 +3,7 @@ pub mod OrderLaws
 pub mod Still
 pub mod ProductLaws
 pub mod Runs
+pub mod PartLaws
+pub mod CarryLaws
+pub mod SumTurns
+pub mod RowTurns

@@ -2,3 +2,4 @@ pub mod Digits
 pub mod Operators
 pub mod Costs
 pub mod Rows
+pub mod Parts

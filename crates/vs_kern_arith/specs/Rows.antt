@@ -12,6 +12,10 @@ use Rattle.vs_kern_arith.specs.Digits.{summed}
 abbrev pub row_bit : Bool → Bool → Bit4 → Bit4
 row_bit unknown digit x = if unknown then X else of_bool (value_bit x && digit)
 
+-- bit k of the row of a number with digits x
+abbrev pub row_digit : Bool → Bool → (ℕ → Bool) → ℕ → Bit4
+row_digit unknown digit x k = if unknown then X else of_bool (x k && digit)
+
 abbrev pub row : Bool → Bool → BitList → BitList
 row unknown digit a = map (row_bit unknown digit) a
 

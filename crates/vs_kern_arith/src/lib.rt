@@ -2,7 +2,9 @@
 #![tactic(auto)]
 
 mod calls;
+mod carries;
 mod costs;
+mod laws;
 mod orders;
 mod products;
 mod sums;

@@ -1,19 +1,22 @@
 //! Products modulo 2^w (IEEE 1364-2005, 5.1.5): from the most significant place down, the product so far is doubled, and a row is added.
-ghost use Rattle.std.specs.Prelude.{◌≡◌, ◌≢◌, ℕ, ◌+◌, ◌*◌, ◌<◌, ◌≤◌, length, slice_get, slice_index, [], ◌∷◌};
+ghost use Rattle.std.specs.Prelude.{◌≡◌, ◌≢◌, ℕ, ◌+◌, ◌*◌, ◌<◌, ◌≤◌, ◌^◌, false, length, slice_get, slice_index, [], ◌∷◌};
 ghost use Rattle.vs_four.specs.Numbers.{mul};
 ghost use Rattle.vs_plane.specs.Kernels.{AreTargets, Computes, Fills, IsArgument, binary, lane_bits};
 ghost use Rattle.vs_plane.specs.Lanes.{slot_lane, value_bit};
 ghost use Rattle.vs_kern_arith.specs.declared.costs.Kernel.TheVariants.{Mul};
 ghost use Rattle.vs_kern_arith.specs.Costs.{cost_of};
-ghost use Rattle.vs_kern_arith.specs.Rows.{IsLayout, row, turned};
+ghost use Rattle.vs_kern_arith.specs.Digits.{digits_from, first_bits};
+ghost use Rattle.vs_kern_arith.specs.Rows.{IsLayout, row, row_digit, turned};
 
+use crate::carries::{digits_at, spread};
+use crate::laws::row_places;
 use crate::sums::sum_bits;
 use crate::words::{known_bits, unknown_lanes};
 use std::sync::ledger::Ledger;
-use vs_plane::{PlaneFile, Steps, Word, filling_law};
+use vs_plane::{Chunked, PlaneFile, Steps, Word, filling_law, parts_law, turns_law};
 
 /// `a * b` (IEEE 1364-2005, 5.1.5): the product modulo 2^w, or all x where a bit of the operands is unknown. It takes 2w slots of `scratch`.
-pub fn mul<W: Word, L: Ledger>(
+pub fn mul<W: Chunked, L: Ledger>(
     file: &mut PlaneFile<W>,
     a: &[u32],
     b: &[u32],
@@ -37,7 +40,7 @@ pub fn mul<W: Word, L: Ledger>(
 }
 
 /// The product, with the slots of the double and of the row.
-fn product_bits<W: Word, L: Ledger>(
+fn product_bits<W: Chunked, L: Ledger>(
     file: &mut PlaneFile<W>,
     a: &[u32],
     b: &[u32],
@@ -70,7 +73,7 @@ fn product_bits<W: Word, L: Ledger>(
 }
 
 /// The product so far, doubled, and the row of place `k`.
-fn product_turn<W: Word, L: Ledger>(
+fn product_turn<W: Chunked, L: Ledger>(
     unknown: W,
     file: &mut PlaneFile<W>,
     a: &[u32],
@@ -102,8 +105,9 @@ fn product_turn<W: Word, L: Ledger>(
     sum_bits(false, file, doubled, rows, to, &[], steps);
 }
 
-/// A row: the vector in the lanes where the digit is 1, 0 in the others, and x in the unknown ones.
-fn row_bits<W: Word, L: Ledger>(
+/// A row: the vector in the lanes where the digit is 1, 0 in the others, and x in the unknown ones. It goes eight slots a turn, and the
+/// rest one by one.
+fn row_bits<W: Chunked, L: Ledger>(
     unknown: W,
     digit: W,
     file: &mut PlaneFile<W>,
@@ -118,8 +122,34 @@ fn row_bits<W: Word, L: Ledger>(
     ensures ticked { steps.new ≡ steps.old + length to.now }
 {
     filling_law::<W>();
-    for (k, slot) in to.iter().enumerate() {
-        let pair = known_bits(unknown, file.load(a[k]).value.and(digit));
-        file.store(*slot, pair, steps);
+    turns_law::<W>();
+    let (chunks, rest) = to.as_chunks::<8>();
+    for (n, slots) in chunks.iter().enumerate() {
+        row_chunk(unknown, digit, file, a, 8 * n, slots, steps);
     }
+    let done = 8 * chunks.len();
+    row_places(unknown, digit, file, a, done, rest, steps);
+}
+
+/// The bits of a row at eight places from place `k` on.
+fn row_chunk<W: Chunked, L: Ledger>(
+    unknown: W,
+    digit: W,
+    file: &mut PlaneFile<W>,
+    a: &[u32],
+    k: usize,
+    to: &[u32; 8],
+    steps: &mut Steps<L>,
+)
+    requires targets { AreTargets (length file.old) to.now [] }
+    requires a { IsArgument (length file.old) a.now to.now [] }
+    requires fits { k + 8 < 2 ^ 64 }
+    ensures fills { Fills W.lane W.LANES (λ i. first_bits (row_digit (W.lane unknown i) (W.lane digit i) (digits_from false (lane_bits W.lane file.old a.now i) k)) 8) to.now 8 file.old file.new }
+    ensures ticked { steps.new ≡ steps.old + 8 }
+{
+    parts_law::<W>();
+    turns_law::<W>();
+    let bits = digits_at(file, a, k).and(spread(digit));
+    let eight = known_bits(spread(unknown), bits);
+    file.store_chunk(to, eight, steps);
 }

@@ -1,7 +1,8 @@
-// Every kernel against the operators of vectors, lane by lane.
+// Every kernel, and the plain body of each that has one, against the operators of vectors, lane by lane.
 ghost use Rattle.std.specs.Prelude.{◌≡◌, ℕ, ◌+◌, ◌*◌, ◌<◌, ◌≤◌, length, slice_index, IfOk, All, []};
 ghost use Rattle.vs_plane.specs.Kernels.{AreTargets, IsArgument};
 
+use crate::laws::{row_places, sum_places, unknown_places};
 use crate::*;
 use std::alloc::{AllocError, Global};
 use std::marker::Brand;
@@ -9,7 +10,7 @@ use std::process::Abort;
 use std::sync::ledger::{Blank, Ledger};
 use std::test::Fail;
 use vs_four::{self as four, Bit4, Bits};
-use vs_plane::{Lanes, Pair, PlaneFile, Steps, Word, Words};
+use vs_plane::{Chunked, Lanes, Pair, PlaneFile, Steps, Word, Words};
 
 const KERNELS: [Kernel; 12] = [
     Kernel::Add,
@@ -55,7 +56,7 @@ fn lane_bits<W: Lanes>(file: &PlaneFile<W>, slots: &[u32], lane: u32) -> Bits
 }
 
 // Runs a kernel.
-fn apply<W: Word, L: Ledger>(
+fn apply<W: Chunked, L: Ledger>(
     kernel: Kernel,
     file: &mut PlaneFile<W>,
     a: &[u32],
@@ -82,6 +83,32 @@ fn apply<W: Word, L: Ledger>(
         _ if to.len() == 1 => run_two(kernel, file, a, b, to, scratch, steps),
         _ => {}
     }
+}
+
+// The plain body of a kernel whose value is a sum; the other kernels are left out.
+fn apply_plain<W: Word, L: Ledger>(
+    kernel: Kernel,
+    file: &mut PlaneFile<W>,
+    a: &[u32],
+    b: &[u32],
+    to: &[u32],
+    steps: &mut Steps<L>,
+) -> bool
+    requires targets { AreTargets (length file.old) to.now [] }
+    requires a { IsArgument (length file.old) a.now to.now [] }
+    requires b { IsArgument (length file.old) b.now to.now [] }
+    ensures { length file.new ≡ length file.old }
+{
+    let none = W::none();
+    let unknown_a = unknown_places(none, file, a);
+    let unknown = unknown_places(unknown_a, file, b);
+    match kernel {
+        Kernel::Add => sum_places(false, unknown, none, file, a, b, 0, to, steps),
+        Kernel::Sub => sum_places(true, unknown, none.not(), file, a, b, 0, to, steps),
+        Kernel::Neg => sum_places(true, unknown_a, none.not(), file, &[], a, 0, to, steps),
+        _ => return false,
+    }
+    true
 }
 
 // What the plain operators give.
@@ -178,7 +205,7 @@ fn check<W: Lanes>(
 }
 
 // Every kernel whose value is a vector, or every other one.
-fn check_kernels<W: Lanes, L: Ledger>(
+fn check_kernels<W: Lanes + Chunked, L: Ledger>(
     rt: &impl Abort,
     vector: bool,
     file: &mut PlaneFile<W>,
@@ -207,8 +234,61 @@ fn check_kernels<W: Lanes, L: Ledger>(
     }
 }
 
-// The same, where the arguments, the value and the slots on the way lie one after the other.
-fn check_runs<W: Lanes, L: Ledger>(
+// Every plain body.
+fn check_plain<W: Lanes, L: Ledger>(
+    rt: &impl Abort,
+    file: &mut PlaneFile<W>,
+    a: &[u32],
+    b: &[u32],
+    to: &[u32],
+    steps: &mut Steps<L>,
+)
+    requires some { 1 ≤ length a.now }
+    requires at_most_64 { length a.now ≤ 64 }
+    requires to_some { 1 ≤ length to.now }
+    requires to_at_most_64 { length to.now ≤ 64 }
+    requires targets { AreTargets (length file.old) to.now [] }
+    requires a { IsArgument (length file.old) a.now to.now [] }
+    requires b { IsArgument (length file.old) b.now to.now [] }
+    requires same_length { length b.now ≡ length a.now }
+    ensures { length file.new ≡ length file.old }
+{
+    for kernel in KERNELS {
+        if to.len() == a.len() && apply_plain(kernel, file, a, b, to, steps) {
+            check(rt, kernel, file, a, b, to);
+        }
+    }
+}
+
+// The plain body of rows: one whose digit is 1 in every lane is the vector, as `-` of `-` is.
+fn check_row<W: Lanes, L: Ledger>(
+    rt: &impl Abort,
+    file: &mut PlaneFile<W>,
+    a: &[u32],
+    to: &[u32],
+    steps: &mut Steps<L>,
+)
+    requires some { 1 ≤ length a.now }
+    requires at_most_64 { length a.now ≤ 64 }
+    requires targets { AreTargets (length file.old) to.now [] }
+    requires a { IsArgument (length file.old) a.now to.now [] }
+    requires to_length { length to.now ≡ length a.now }
+    ensures { length file.new ≡ length file.old }
+{
+    let unknown = unknown_places(W::none(), file, a);
+    row_places(unknown, W::all(), file, a, 0, to, steps);
+    for lane in 0..W::LANES {
+        let want = four::neg(four::neg(lane_bits(file, a, lane)));
+        let got = lane_bits(file, to, lane);
+        assert!(rt; got.len() == want.len(), "row, lane {lane}");
+        for n in 0..want.len() {
+            assert_eq!(rt; got.get(n), want.get(n), "row, lane {lane} bit {n}");
+        }
+    }
+}
+
+// All of these, where the arguments, the value and the slots on the way lie one after the other.
+fn check_runs<W: Lanes + Chunked, L: Ledger>(
     rt: &impl Abort,
     vector: bool,
     file: &mut PlaneFile<W>,
@@ -232,10 +312,14 @@ fn check_runs<W: Lanes, L: Ledger>(
     ensures { length file.new ≡ length file.old }
 {
     check_kernels(rt, vector, file, a, b, to, scratch, steps);
+    check_plain(rt, file, a, b, to, steps);
+    if to.len() == a.len() {
+        check_row(rt, file, a, to, steps);
+    }
 }
 
 // Every kernel on vectors of this length.
-fn check_length<W: Lanes, L: Ledger>(
+fn check_length<W: Lanes + Chunked, L: Ledger>(
     rt: &impl Abort,
     alloc: Global,
     length: u32,
@@ -259,7 +343,7 @@ fn check_length<W: Lanes, L: Ledger>(
     Ok(())
 }
 
-fn check_lengths<W: Lanes, L: Ledger>(
+fn check_lengths<W: Lanes + Chunked, L: Ledger>(
     rt: &impl Abort,
     alloc: Global,
     blank: Blank,
@@ -270,7 +354,7 @@ fn check_lengths<W: Lanes, L: Ledger>(
     requires lanes { W.LANES ≤ 256 }
 {
     let mut steps: Steps<L> = Steps::new(blank);
-    for length in [1, 2, 8, 63, 64] {
+    for length in [1, 7, 8, 9, 63, 64] {
         check_length::<W, L>(rt, alloc, length, &mut steps)?;
     }
     Ok(())

@@ -1,44 +1,56 @@
-use Rattle.std.proofs.Common.{◌≡◌, ℕ, ◌+◌, ◌<◌, Bool, ◌&&◌, if◌then◌else◌, List, length, sym, ap, ◌∙◌, subst, arith, get_or}
-use Rattle.std.proofs.lemmas.List.{get_or-map}
-use Rattle.vs_four.specs.declared.Bit4.TheVariants.{X}
-use Rattle.vs_four.specs.Tables.{of_bool}
+use Rattle.std.proofs.Common.{◌≡◌, ℕ, ◌+◌, ◌-◌, ◌*◌, ◌/◌, ◌<◌, Bool, false, List, [], length, get_or, subst, arith}
 use Rattle.vs_four.specs.Logic.{BitList}
-use Rattle.vs_plane.specs.declared.pairs.Pair.{Pair}
-use Rattle.vs_plane.specs.Lanes.{pair_lane, value_bit}
 use Rattle.vs_plane.specs.Kernels.{lane_bits, Fills}
-use Rattle.vs_kern_arith.specs.Rows.{row, row_bit}
-use Rattle.vs_kern_arith.proofs.ProductLaws.{plane_is}
+use Rattle.vs_plane.specs.Turns.{IsPart}
+use Rattle.vs_kern_arith.specs.Digits.{digits_from, first_bits}
+use Rattle.vs_kern_arith.specs.Rows.{row, row_digit}
+use Rattle.vs_kern_arith.proofs.RowTurns.{row_more}
 use Rattle.vs_kern_arith.proofs.products.row_bits.Goals as goal
 
-pub loop-k-preserved : goal.loop-k-preserved
-loop-k-preserved g c =
-    let law = c.filling_law.ensures in
+pub loop-n-init : goal.loop-n-init
+loop-n-init g c = record {
+  fills = c.filling_law.ensures.begins _ c.args.to.now c.args.file.now;
+  ticked = omega arith;
+}
+
+pub loop-n-preserved : goal.loop-n-preserved
+loop-n-preserved g c =
     let lane = g.W.Word.lane in
+    let lanes = g.W.Word.LANES in
     let before = c.args.file.now in
-    let file = c.loop-k.file in
     let to = c.args.to.now in
-    let k = c.loop-k.k in
+    let n = c.loop-n.n in
     let u : ℕ → Bool = λ i. lane c.args.unknown i in
     let d : ℕ → Bool = λ i. lane c.args.digit i in
-    let value : ℕ → BitList = λ i. row (u i) (d i) (lane_bits lane before c.args.a.now i) in
-    let fills = c.loop-k.invariant.fills in
-    let in_to : k < length to = c.loop-k-test.true in
-    let in_a : k < length c.args.a.now = omega arith in
-    let read : (i : ℕ) → lane c.load.result.value i ≡ value_bit (get_or (lane_bits lane before c.args.a.now i) k X) = λ i.
-    plane_is (lane c.load.result.value i) (lane c.load.result.unknown i)
-    ∙ ap value_bit (c.load.ensures.lanes i ∙ law.reads value to k before file c.args.a.now k i c.requires.a.to_apart (omega arith) in_a fills) in
-    let holds : (i : ℕ) → i < g.W.Word.LANES → pair_lane lane c.known_bits-pair.result i ≡ get_or (value i) k X = λ i h.
-    c.known_bits-pair.ensures i h
-    ∙ ap (λ (b : Bool). if u i then X else of_bool b) (c.and.ensures i h ∙ ap (λ (b : Bool). b && d i) (read i))
-    ∙ sym (get_or-map (row_bit (u i) (d i)) (lane_bits lane before c.args.a.now i) k X X (omega (arith, law.long before c.args.a.now i))) in
+    let slots : List ℕ = get_or c.as_chunks.result.0.now n [] in
+    let small : n < length to / 8 = omega (arith, c.as_chunks.ensures.front_len, c.loop-n-test.true) in
+    let part : IsPart to slots (8 * n) 8 = c.turns_law.ensures.chunk to c.as_chunks.result.0.now n c.as_chunks.ensures.front small in
+    let next : 8 * n + 8 ≡ 8 * (n + 1) = omega arith in
     record {
-      fills = subst (λ (f : List (Pair _)). Fills lane g.W.Word.LANES value to (k + 1) before f) (sym c.store.ensures.stored)
-          (law.grows value to k before file c.known_bits-pair.result c.requires.targets.to_differ in_to (omega arith) fills holds);
-      ticked = omega (arith, c.store.ensures.ticked);
+      fills = subst (λ (m : ℕ). Fills lane lanes (λ i. row (u i) (d i) (lane_bits lane before c.args.a.now i)) to m before c.row_chunk.new.file) next
+          (row_more lane lanes c.filling_law.ensures u d c.args.a.now to slots (8 * n) 8 before c.loop-n.file c.row_chunk.new.file
+          c.requires.targets.to_differ c.requires.a.to_apart c.requires.a_length part c.loop-n.invariant.fills c.row_chunk.ensures.fills);
+      ticked = omega (arith, c.row_chunk.ensures.ticked);
     }
 
 pub returns-clause-fills : goal.returns-clause-fills
 returns-clause-fills g c =
     let lane = g.W.Word.lane in
-    let all : c.loop-k.k ≡ length c.args.to.now = omega arith in
-    subst (λ (n : ℕ). Fills lane g.W.Word.LANES (λ i. row (lane c.args.unknown i) (lane c.args.digit i) (lane_bits lane c.args.file.now c.args.a.now i)) c.args.to.now n c.args.file.now c.loop-k.file) all c.loop-k.invariant.fills
+    let lanes = g.W.Word.LANES in
+    let before = c.args.file.now in
+    let to = c.args.to.now in
+    let rest = c.as_chunks.result.1.now in
+    let u : ℕ → Bool = λ i. lane c.args.unknown i in
+    let d : ℕ → Bool = λ i. lane c.args.digit i in
+    let value : ℕ → BitList = λ i. row (u i) (d i) (lane_bits lane before c.args.a.now i) in
+    let done : ℕ = 8 * length c.as_chunks.result.0.now in
+    let count : ℕ = length to - done in
+    let all : done + count ≡ length to = omega (arith, c.as_chunks.ensures.front_len) in
+    let last : 8 * c.loop-n.n ≡ done = omega arith in
+    let part : IsPart to rest done count = c.turns_law.ensures.rest to rest done count c.as_chunks.ensures.back (omega (arith, c.as_chunks.ensures.front_len)) all in
+    let so_far : Fills lane lanes value to done before c.loop-n.file = subst (λ (m : ℕ). Fills lane lanes value to m before c.loop-n.file) last c.loop-n.invariant.fills in
+    let next = subst (λ (m : ℕ). Fills lane lanes (λ i. first_bits (row_digit (u i) (d i) (digits_from false (lane_bits lane c.loop-n.file c.args.a.now i) done)) m) rest m c.loop-n.file c.row_places.new.file)
+    part.long c.row_places.ensures.fills in
+    subst (λ (m : ℕ). Fills lane lanes value to m before c.row_places.new.file) all
+    (row_more lane lanes c.filling_law.ensures u d c.args.a.now to rest done count before c.loop-n.file c.row_places.new.file
+    c.requires.targets.to_differ c.requires.a.to_apart c.requires.a_length part so_far next)

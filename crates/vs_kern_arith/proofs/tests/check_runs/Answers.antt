@@ -1,4 +1,4 @@
-use Rattle.std.proofs.Common.{◌*◌, length, arith}
+use Rattle.std.proofs.Common.{◌*◌, [], length, arith}
 use Rattle.vs_kern_arith.proofs.Runs.{run_targets, run_argument}
 use Rattle.vs_kern_arith.proofs.tests.check_runs.Goals as goal
 
@@ -16,3 +16,28 @@ pub check_kernels-requires-clause-b : goal.check_kernels-requires-clause-b
 check_kernels-requires-clause-b g c =
     let w = length c.args.a.now in
     run_argument (length c.args.file.now) c.args.b.now c.args.to.now c.args.scratch.now w (2 * w) (3 * w) c.requires.b_each c.requires.to_each c.requires.scratch_each (omega arith) (omega arith) (omega arith)
+
+pub check_plain-requires-clause-targets : goal.check_plain-requires-clause-targets
+check_plain-requires-clause-targets g c =
+    let w = length c.args.a.now in
+    run_targets (length c.check_kernels.new.file) c.args.to.now [] (2 * w) (3 * w) c.requires.to_each (λ k h. absurd (let none : ⊥ = omega arith in none)) (omega arith) (omega (arith, c.check_kernels.ensures))
+
+pub check_plain-requires-clause-a : goal.check_plain-requires-clause-a
+check_plain-requires-clause-a g c =
+    let w = length c.args.a.now in
+    run_argument (length c.check_kernels.new.file) c.args.a.now c.args.to.now [] 0 (2 * w) (3 * w) c.requires.a_each c.requires.to_each (λ k h. absurd (let none : ⊥ = omega arith in none)) (omega arith) (omega arith) (omega (arith, c.check_kernels.ensures))
+
+pub check_plain-requires-clause-b : goal.check_plain-requires-clause-b
+check_plain-requires-clause-b g c =
+    let w = length c.args.a.now in
+    run_argument (length c.check_kernels.new.file) c.args.b.now c.args.to.now [] w (2 * w) (3 * w) c.requires.b_each c.requires.to_each (λ k h. absurd (let none : ⊥ = omega arith in none)) (omega arith) (omega arith) (omega (arith, c.check_kernels.ensures))
+
+pub check_row-requires-clause-targets : goal.check_row-requires-clause-targets
+check_row-requires-clause-targets g c =
+    let w = length c.args.a.now in
+    run_targets (length c.check_plain.new.file) c.args.to.now [] (2 * w) (3 * w) c.requires.to_each (λ k h. absurd (let none : ⊥ = omega arith in none)) (omega arith) (omega (arith, c.check_kernels.ensures, c.check_plain.ensures))
+
+pub check_row-requires-clause-a : goal.check_row-requires-clause-a
+check_row-requires-clause-a g c =
+    let w = length c.args.a.now in
+    run_argument (length c.check_plain.new.file) c.args.a.now c.args.to.now [] 0 (2 * w) (3 * w) c.requires.a_each c.requires.to_each (λ k h. absurd (let none : ⊥ = omega arith in none)) (omega arith) (omega arith) (omega (arith, c.check_kernels.ensures, c.check_plain.ensures))

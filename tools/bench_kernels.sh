@@ -1,0 +1,546 @@
+#!/usr/bin/env bash
+# Prints how many millions of stores a second each kernel makes in the built program, at 1, 8, 32 and 64 bits and slots of 1, 2 and 4 words,
+# and in parentheses what its plain body makes, where it has one. A kernel whose value is one bit makes one store a call, so there the
+# rate is that of whole calls. The time is the processor's, so that other work on the machine counts for little. It is no part of the gate.
+# It proves and builds everything first, since the plain bodies are made public in a copy.
+#
+# A further kernel is a line of LOGIC or ARITH in the program below. A further crate is a name in `crates`, and in the program a table of
+# its kernels, a variant of Body, an arm of each of its matches, and a loop in `bench`.
+set -eu
+top=$(cd "$(dirname "$0")/.." && pwd)
+crates='vs_kern_logic vs_kern_arith'
+work=$(mktemp -d)
+trap 'rm -rf "$work"' EXIT
+mkdir "$work/crates"
+cd "$work"
+for crate in vs_four vs_plane $crates; do
+    mkdir "crates/$crate"
+    cp -r "$top/crates/$crate/src" "$top/crates/$crate/specs" "$top/crates/$crate/proofs" "crates/$crate/"
+done
+printf 'vs_four:\nvs_plane: vs_four\n' > crates.txt
+for crate in $crates; do
+    grep "^$crate:" "$top/crates.txt" >> crates.txt
+    sed -i 's/pub(crate)/pub/' "crates/$crate"/src/*.rt
+    sed -i '/^mod tests/!s/^mod /pub mod /' "crates/$crate/src/lib.rt"
+done
+echo "bench_kernels: vs_four vs_plane $crates anyhow" >> crates.txt
+mkdir -p crates/bench_kernels/src crates/bench_kernels/specs
+cd crates/bench_kernels
+for function in main rate slots time; do mkdir -p "proofs/$function"; done
+
+cat > src/main.rt <<'END'
+//! Times the kernels.
+#![tactic(auto)]
+
+ghost use Rattle.std.specs.Prelude.{◌≡◌, ℕ, ◌+◌, ◌*◌, ◌<◌, ◌≤◌, length, slice_index, IfOk, All, []};
+ghost use Rattle.vs_plane.specs.Kernels.{AreTargets, IsArgument};
+
+use anyhow::Result;
+use std::alloc::{AllocError, Global};
+use std::marker::Brand;
+use std::sync::ledger::{Blank, Ledger};
+use std::time::CpuClock;
+use vs_four::Bit4;
+use vs_kern_arith as arith;
+use vs_kern_arith::laws::{sum_places, unknown_places};
+use vs_kern_logic as logic;
+use vs_kern_logic::gates::{Fold, Gate, output};
+use vs_kern_logic::laws::{fold_places, gate_places, match_places, output_places};
+use vs_plane::{Chunked, Pair, PlaneFile, Steps, Word, Words};
+
+// How many slots a measurement stores or reads, and how many measurements the best is taken of.
+const WORK: u64 = 300_000;
+
+const TRIES: u32 = 5;
+
+const LOGIC: [logic::Kernel; 21] = [
+    logic::Kernel::Copy,
+    logic::Kernel::Not,
+    logic::Kernel::And,
+    logic::Kernel::Or,
+    logic::Kernel::Xor,
+    logic::Kernel::Xnor,
+    logic::Kernel::ReduceAnd,
+    logic::Kernel::ReduceNand,
+    logic::Kernel::ReduceOr,
+    logic::Kernel::ReduceNor,
+    logic::Kernel::ReduceXor,
+    logic::Kernel::ReduceXnor,
+    logic::Kernel::LogicalNot,
+    logic::Kernel::LogicalAnd,
+    logic::Kernel::LogicalOr,
+    logic::Kernel::Equal,
+    logic::Kernel::NotEqual,
+    logic::Kernel::CaseEqual,
+    logic::Kernel::CaseNotEqual,
+    logic::Kernel::MatchesZ,
+    logic::Kernel::MatchesX,
+];
+
+const ARITH: [arith::Kernel; 6] = [
+    arith::Kernel::Add,
+    arith::Kernel::Sub,
+    arith::Kernel::Neg,
+    arith::Kernel::Mul,
+    arith::Kernel::Less(false),
+    arith::Kernel::Less(true),
+];
+
+// What is timed: a kernel, or its plain body.
+#[derive(Clone, Copy)]
+enum Body {
+    Logic(logic::Kernel),
+    PlainLogic(logic::Kernel),
+    Arith(arith::Kernel),
+    PlainArith(arith::Kernel),
+}
+
+impl Body {
+    fn label(self, alloc: Global) -> Result<String, AllocError> {
+        match self {
+            Body::Logic(kernel) | Body::PlainLogic(kernel) => format!(in alloc; "{kernel:?}"),
+            Body::Arith(kernel) | Body::PlainArith(kernel) => format!(in alloc; "{kernel:?}"),
+        }
+    }
+
+    fn gives_vector(self) -> bool {
+        match self {
+            Body::Logic(kernel) | Body::PlainLogic(kernel) => kernel.gives_vector(),
+            Body::Arith(kernel) | Body::PlainArith(kernel) => kernel.gives_vector(),
+        }
+    }
+
+    // How many stores a call makes on vectors of this width.
+    fn stores(self, width: u32) -> u64
+        requires { width ≤ 64 }
+    {
+        let width = u64::from(width);
+        match self {
+            Body::Arith(arith::Kernel::Mul) => width + 3 * width * width,
+            _ if self.gives_vector() => width,
+            _ => 1,
+        }
+    }
+}
+
+// The gate of a kernel that takes two vectors place by place.
+fn gate_of(kernel: logic::Kernel) -> Option<Gate> {
+    match kernel {
+        logic::Kernel::And => Some(Gate::And),
+        logic::Kernel::Or => Some(Gate::Or),
+        logic::Kernel::Xor => Some(Gate::Xor),
+        logic::Kernel::Xnor | logic::Kernel::Equal | logic::Kernel::NotEqual => Some(Gate::Xnor),
+        logic::Kernel::CaseEqual | logic::Kernel::CaseNotEqual => Some(Gate::Same),
+        logic::Kernel::MatchesZ => Some(Gate::MatchesZ),
+        logic::Kernel::MatchesX => Some(Gate::MatchesX),
+        _ => None,
+    }
+}
+
+// The fold of a kernel that folds one vector.
+fn fold_of(kernel: logic::Kernel) -> Fold {
+    match kernel {
+        logic::Kernel::ReduceAnd | logic::Kernel::ReduceNand => Fold::All,
+        logic::Kernel::ReduceXor | logic::Kernel::ReduceXnor => Fold::Parity,
+        _ => Fold::Any,
+    }
+}
+
+// Runs a kernel of vs_kern_logic.
+fn run_logic<W: Chunked, L: Ledger>(
+    kernel: logic::Kernel,
+    file: &mut PlaneFile<W>,
+    a: &[u32],
+    b: &[u32],
+    to: &[u32],
+    steps: &mut Steps<L>,
+) -> bool
+    requires some { 1 ≤ length a.now }
+    requires targets { AreTargets (length file.old) to.now [] }
+    requires a { IsArgument (length file.old) a.now to.now [] }
+    requires b { IsArgument (length file.old) b.now to.now [] }
+    requires same_length { length b.now ≡ length a.now }
+    ensures { length file.new ≡ length file.old }
+{
+    let vector = to.len() == a.len();
+    let bit = to.len() == 1;
+    match kernel {
+        logic::Kernel::Copy | logic::Kernel::Not if vector => {
+            logic::run_one(kernel, file, a, to, &[], steps)
+        }
+        logic::Kernel::And | logic::Kernel::Or | logic::Kernel::Xor | logic::Kernel::Xnor
+            if vector => { logic::run_two(kernel, file, a, b, to, &[], steps) }
+        logic::Kernel::ReduceAnd
+        | logic::Kernel::ReduceNand
+        | logic::Kernel::ReduceOr
+        | logic::Kernel::ReduceNor
+        | logic::Kernel::ReduceXor
+        | logic::Kernel::ReduceXnor
+        | logic::Kernel::LogicalNot
+            if bit => { logic::run_one(kernel, file, a, to, &[], steps) }
+        logic::Kernel::LogicalAnd
+        | logic::Kernel::LogicalOr
+        | logic::Kernel::Equal
+        | logic::Kernel::NotEqual
+        | logic::Kernel::CaseEqual
+        | logic::Kernel::CaseNotEqual
+        | logic::Kernel::MatchesZ
+        | logic::Kernel::MatchesX
+            if bit => { logic::run_two(kernel, file, a, b, to, &[], steps) }
+        _ => return false,
+    }
+    true
+}
+
+// Runs the plain body of a kernel of vs_kern_logic.
+fn run_plain_logic<W: Word, L: Ledger>(
+    kernel: logic::Kernel,
+    file: &mut PlaneFile<W>,
+    a: &[u32],
+    b: &[u32],
+    to: &[u32],
+    steps: &mut Steps<L>,
+) -> bool
+    requires targets { AreTargets (length file.old) to.now [] }
+    requires a { IsArgument (length file.old) a.now to.now [] }
+    requires b { IsArgument (length file.old) b.now to.now [] }
+    requires same_length { length b.now ≡ length a.now }
+    ensures { length file.new ≡ length file.old }
+{
+    if kernel.gives_vector() {
+        if to.len() != a.len() {
+            return false;
+        }
+        match gate_of(kernel) {
+            Some(gate) => gate_places(gate, file, a, b, to, steps),
+            None => output_places(false, file, a, to, steps),
+        }
+    } else if 0 < to.len() {
+        let fold = fold_of(kernel);
+        let first = Pair::of_bit(fold.first());
+        let pair = match gate_of(kernel) {
+            Some(gate) => match_places(gate, Pair::of_bit(Bit4::One), file, a, b),
+            None => fold_places(fold, first, file, a),
+        };
+        file.store(to[0], output(false, pair), steps);
+    }
+    true
+}
+
+// Runs a kernel of vs_kern_arith.
+fn run_arith<W: Chunked, L: Ledger>(
+    kernel: arith::Kernel,
+    file: &mut PlaneFile<W>,
+    a: &[u32],
+    b: &[u32],
+    to: &[u32],
+    scratch: &[u32],
+    steps: &mut Steps<L>,
+) -> bool
+    requires some { 1 ≤ length a.now }
+    requires targets { AreTargets (length file.old) to.now scratch.now }
+    requires a { IsArgument (length file.old) a.now to.now scratch.now }
+    requires b { IsArgument (length file.old) b.now to.now scratch.now }
+    requires same_length { length b.now ≡ length a.now }
+    requires scratch_length { 2 * length a.now ≤ length scratch.now }
+    ensures { length file.new ≡ length file.old }
+{
+    let vector = to.len() == a.len();
+    match kernel {
+        arith::Kernel::Neg if vector => arith::run_one(kernel, file, a, to, scratch, steps),
+        arith::Kernel::Add | arith::Kernel::Sub | arith::Kernel::Mul if vector => {
+            arith::run_two(kernel, file, a, b, to, scratch, steps)
+        }
+        arith::Kernel::Add | arith::Kernel::Sub | arith::Kernel::Mul | arith::Kernel::Neg => {
+            return false;
+        }
+        _ if to.len() == 1 => arith::run_two(kernel, file, a, b, to, scratch, steps),
+        _ => return false,
+    }
+    true
+}
+
+// Runs the plain body of a kernel of vs_kern_arith.
+fn run_plain_arith<W: Word, L: Ledger>(
+    kernel: arith::Kernel,
+    file: &mut PlaneFile<W>,
+    a: &[u32],
+    b: &[u32],
+    to: &[u32],
+    steps: &mut Steps<L>,
+) -> bool
+    requires targets { AreTargets (length file.old) to.now [] }
+    requires a { IsArgument (length file.old) a.now to.now [] }
+    requires b { IsArgument (length file.old) b.now to.now [] }
+    ensures { length file.new ≡ length file.old }
+{
+    let none = W::none();
+    match kernel {
+        arith::Kernel::Add => {
+            let unknown = unknown_places(unknown_places(none, file, a), file, b);
+            sum_places(false, unknown, none, file, a, b, 0, to, steps);
+        }
+        arith::Kernel::Sub => {
+            let unknown = unknown_places(unknown_places(none, file, a), file, b);
+            sum_places(true, unknown, none.not(), file, a, b, 0, to, steps);
+        }
+        arith::Kernel::Neg => {
+            let unknown = unknown_places(none, file, a);
+            sum_places(true, unknown, none.not(), file, &[], a, 0, to, steps);
+        }
+        _ => return false,
+    }
+    true
+}
+
+// Runs a body, and says whether there is one.
+fn run<W: Chunked, L: Ledger>(
+    body: Body,
+    file: &mut PlaneFile<W>,
+    a: &[u32],
+    b: &[u32],
+    to: &[u32],
+    scratch: &[u32],
+    steps: &mut Steps<L>,
+) -> bool
+    requires some { 1 ≤ length a.now }
+    requires targets { AreTargets (length file.old) to.now scratch.now }
+    requires a { IsArgument (length file.old) a.now to.now scratch.now }
+    requires b { IsArgument (length file.old) b.now to.now scratch.now }
+    requires targets_alone { AreTargets (length file.old) to.now [] }
+    requires a_alone { IsArgument (length file.old) a.now to.now [] }
+    requires b_alone { IsArgument (length file.old) b.now to.now [] }
+    requires same_length { length b.now ≡ length a.now }
+    requires scratch_length { 2 * length a.now ≤ length scratch.now }
+    ensures { length file.new ≡ length file.old }
+{
+    match body {
+        Body::Logic(kernel) => run_logic(kernel, file, a, b, to, steps),
+        Body::PlainLogic(kernel) => run_plain_logic(kernel, file, a, b, to, steps),
+        Body::Arith(kernel) => run_arith(kernel, file, a, b, to, scratch, steps),
+        Body::PlainArith(kernel) => run_plain_arith(kernel, file, a, b, to, steps),
+    }
+}
+
+// The nanoseconds of the processor that so many calls take, or none where there is no such body. The slots lie one after the other.
+fn time<W: Chunked, L: Ledger>(
+    rt: &impl CpuClock,
+    body: Body,
+    calls: u64,
+    file: &mut PlaneFile<W>,
+    a: &[u32],
+    b: &[u32],
+    to: &[u32],
+    scratch: &[u32],
+    steps: &mut Steps<L>,
+) -> Result<Option<u64>>
+    requires some { 1 ≤ length a.now }
+    requires slots { length file.old ≡ 5 * length a.now }
+    requires b_length { length b.now ≡ length a.now }
+    requires to_length { length to.now ≤ length a.now }
+    requires scratch_length { length scratch.now ≡ 2 * length a.now }
+    requires a_each { (k : ℕ) → k < length a.now → slice_index a.now k ≡ 0 + k }
+    requires b_each { (k : ℕ) → k < length b.now → slice_index b.now k ≡ length a.now + k }
+    requires to_each { (k : ℕ) → k < length to.now → slice_index to.now k ≡ 2 * length a.now + k }
+    requires scratch_each { (k : ℕ) → k < length scratch.now → slice_index scratch.now k ≡ 3 * length a.now + k }
+    ensures { length file.new ≡ length file.old }
+{
+    let mut runs = true;
+    let start = rt.thread_cpu_time()?;
+    'calls: for _ in 0..calls {
+        runs = run(body, file, a, b, to, scratch, steps);
+    }
+    let spent = rt.thread_cpu_time()?.saturating_sub(start).as_nanos();
+    if runs {
+        Ok(Some(u64::try_from(spent).unwrap_or(u64::MAX)))
+    } else {
+        Ok(None)
+    }
+}
+
+// `count` slots from `first` on.
+fn slots(alloc: Global, first: u32, count: u32) -> Result<Vec<u32>, AllocError>
+    requires { first + count < 1000 }
+    ensures long { IfOk result (λ v. length v.items ≡ count) }
+    ensures each { IfOk result (λ v. (k : ℕ) → k < count → slice_index v.items k ≡ first + k) }
+{
+    let mut slots = Vec::new(alloc);
+    for k in 0..count {
+        slots.push(first + k)?;
+    }
+    Ok(slots)
+}
+
+// The bit of a slot in every lane.
+fn pattern(place: usize) -> Bit4 {
+    match place % 3 {
+        0 => Bit4::One,
+        _ => Bit4::Zero,
+    }
+}
+
+// How many millions of stores a second a body makes on vectors of this width, or none where there is no such body.
+fn rate<W: Chunked, L: Ledger>(
+    rt: &impl CpuClock,
+    alloc: Global,
+    body: Body,
+    width: u32,
+    steps: &mut Steps<L>,
+) -> Result<Option<u64>>
+    requires some { 1 ≤ width }
+    requires most { width ≤ 64 }
+{
+    let a = slots(alloc, 0, width)?;
+    let b = slots(alloc, width, width)?;
+    let count = if body.gives_vector() { width } else { 1 };
+    let to = slots(alloc, 2 * width, count)?;
+    let scratch = slots(alloc, 3 * width, 2 * width)?;
+    let mut initial = vec![in alloc; Bit4::Zero; 5 * width as usize]?;
+    for (place, bit) in initial.iter_mut().enumerate() {
+        *bit = pattern(place);
+    }
+    let mut file: PlaneFile<W> = PlaneFile::new(alloc, &initial)?;
+    let stores = body.stores(width);
+    let calls = WORK / u64::from(width).max(stores) + 1;
+    let mut best = None;
+    'tries: for _ in 0..TRIES {
+        let spent = time(rt, body, calls, &mut file, &a, &b, &to, &scratch, steps)?;
+        best = match (best, spent) {
+            (Some(least), Some(next)) if least < next => Some(least),
+            (_, spent) => spent,
+        };
+    }
+    Ok(best.map(|spent| calls.saturating_mul(stores).saturating_mul(1000) / spent.max(1)))
+}
+
+// A line for a kernel: the rates at each width, with those of its plain body in parentheses.
+fn line<W: Chunked, L: Ledger>(
+    rt: &(impl CpuClock + Print),
+    alloc: Global,
+    words: u32,
+    body: Body,
+    plain: Body,
+    steps: &mut Steps<L>,
+) -> Result<()> {
+    let label = body.label(alloc)?;
+    print!(rt; "{words} {label:<14}")?;
+    for width in [1, 8, 32, 64] {
+        let rate_here = rate::<W, L>(rt, alloc, body, width, steps)?.unwrap_or(0);
+        match rate::<W, L>(rt, alloc, plain, width, steps)? {
+            Some(plain_rate) => print!(rt; "{rate_here:>7} ({plain_rate:>4})")?,
+            None => print!(rt; "{rate_here:>7}       ")?,
+        }
+    }
+    println!(rt; "")?;
+    Ok(())
+}
+
+// All kernels, on slots of so many words.
+fn bench<W: Chunked, L: Ledger>(
+    rt: &(impl CpuClock + Print),
+    alloc: Global,
+    words: u32,
+    blank: Blank,
+) -> Result<()>
+    requires name { blank.name ≡ L.name }
+    requires parts { blank.parts ≡ L.parts }
+    requires some { 0 < blank.parts }
+{
+    let mut steps: Steps<L> = Steps::new(blank);
+    for kernel in LOGIC {
+        let plain = Body::PlainLogic(kernel);
+        line::<W, L>(rt, alloc, words, Body::Logic(kernel), plain, &mut steps)?;
+    }
+    for kernel in ARITH {
+        let plain = Body::PlainArith(kernel);
+        line::<W, L>(rt, alloc, words, Body::Arith(kernel), plain, &mut steps)?;
+    }
+    Ok(())
+}
+
+fn main(rt: HostRuntime) -> Result<()> {
+    println!(rt; "K kernel        1 bit         8 bits        32 bits       64 bits")?;
+    bench::<Words<1>, Brand>(&rt, rt.alloc(), 1, Blank::new(1))?;
+    bench::<Words<2>, Brand>(&rt, rt.alloc(), 2, Blank::new(1))?;
+    bench::<Words<4>, Brand>(&rt, rt.alloc(), 4, Blank::new(1))
+}
+END
+
+# The slots of a call lie one after the other.
+cp ../vs_kern_arith/proofs/Runs.antt proofs/
+echo 'pub mod Runs' > proofs/Lib.antt
+cat > proofs/slots/Invariants.antt <<'END'
+use Rattle.std.proofs.Common.{◌≡◌, ℕ, ◌+◌, ◌<◌, length, get_or}
+use Rattle.bench_kernels.proofs.slots.Given as goal
+
+abbrev pub invariant-loop-k : goal.invariant-loop-k
+invariant-loop-k l = record {
+  long : length l.slots.items ≡ l.k;
+  each : (j : ℕ) → j < l.k → get_or l.slots.items j 0 ≡ l.first + j;
+}
+END
+cat > proofs/time/Invariants.antt <<'END'
+use Rattle.std.proofs.Common.{◌≡◌, length}
+use Rattle.bench_kernels.proofs.time.Given as goal
+
+abbrev pub invariant-calls : goal.invariant-calls
+invariant-calls g l = length l.file ≡ length l.initial.file
+END
+cat > proofs/time/Answers.antt <<'END'
+use Rattle.std.proofs.Common.{◌*◌, [], length, arith}
+use Rattle.bench_kernels.proofs.Runs.{run_targets, run_argument}
+use Rattle.bench_kernels.proofs.time.Goals as goal
+
+pub run-runs-requires-clause-targets : goal.run-runs-requires-clause-targets
+run-runs-requires-clause-targets g c =
+    let w = length c.args.a.now in
+    run_targets (length c.calls.file) c.args.to.now c.args.scratch.now (2 * w) (3 * w) c.requires.to_each c.requires.scratch_each (omega arith) (omega arith)
+
+pub run-runs-requires-clause-a : goal.run-runs-requires-clause-a
+run-runs-requires-clause-a g c =
+    let w = length c.args.a.now in
+    run_argument (length c.calls.file) c.args.a.now c.args.to.now c.args.scratch.now 0 (2 * w) (3 * w) c.requires.a_each c.requires.to_each c.requires.scratch_each (omega arith) (omega arith) (omega arith)
+
+pub run-runs-requires-clause-b : goal.run-runs-requires-clause-b
+run-runs-requires-clause-b g c =
+    let w = length c.args.a.now in
+    run_argument (length c.calls.file) c.args.b.now c.args.to.now c.args.scratch.now w (2 * w) (3 * w) c.requires.b_each c.requires.to_each c.requires.scratch_each (omega arith) (omega arith) (omega arith)
+
+pub run-runs-requires-clause-targets_alone : goal.run-runs-requires-clause-targets_alone
+run-runs-requires-clause-targets_alone g c =
+    let w = length c.args.a.now in
+    run_targets (length c.calls.file) c.args.to.now [] (2 * w) (3 * w) c.requires.to_each (λ k h. absurd (let none : ⊥ = omega arith in none)) (omega arith) (omega arith)
+
+pub run-runs-requires-clause-a_alone : goal.run-runs-requires-clause-a_alone
+run-runs-requires-clause-a_alone g c =
+    let w = length c.args.a.now in
+    run_argument (length c.calls.file) c.args.a.now c.args.to.now [] 0 (2 * w) (3 * w) c.requires.a_each c.requires.to_each (λ k h. absurd (let none : ⊥ = omega arith in none)) (omega arith) (omega arith) (omega arith)
+
+pub run-runs-requires-clause-b_alone : goal.run-runs-requires-clause-b_alone
+run-runs-requires-clause-b_alone g c =
+    let w = length c.args.a.now in
+    run_argument (length c.calls.file) c.args.b.now c.args.to.now [] w (2 * w) (3 * w) c.requires.b_each c.requires.to_each (λ k h. absurd (let none : ⊥ = omega arith in none)) (omega arith) (omega arith) (omega arith)
+END
+cat > proofs/rate/Invariants.antt <<'END'
+use Rattle.std.proofs.Common.{◌≡◌, ◌*◌, length}
+use Rattle.bench_kernels.proofs.rate.Given as goal
+
+abbrev pub invariant-tries : goal.invariant-tries
+invariant-tries g l = length l.file ≡ 5 * l.width
+END
+cat > proofs/main/Invariants.antt <<'END'
+use Rattle.bench_kernels.proofs.main.Given as goal
+
+abbrev pub ghosts-bench : goal.ghosts-bench
+ghosts-bench a = record { name = a.blank.name; parts = a.blank.parts }
+
+abbrev pub ghosts-bench-2 : goal.ghosts-bench-2
+ghosts-bench-2 a = record { name = a.blank.name; parts = a.blank.parts }
+
+abbrev pub ghosts-bench-3 : goal.ghosts-bench-3
+ghosts-bench-3 a = record { name = a.blank.name; parts = a.blank.parts }
+END
+
+echo 'proving and building ..' >&2
+rt run > "$work/log" 2>&1 || { tail -20 "$work/log" >&2; exit 1; }
+sed -n '/^K kernel /,$p' "$work/log"
