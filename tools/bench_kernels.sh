@@ -1,21 +1,21 @@
 #!/usr/bin/env bash
 # Prints how many millions of stores a second each kernel makes in the built program, at 1, 8, 32 and 64 bits and slots of 1, 2 and 4 words,
 # and in parentheses what its plain body makes, where it has one. A kernel whose value is one bit makes one store a call, so there the
-# rate is that of whole calls. The time is the processor's, so that other work on the machine counts for little. It is no part of the gate.
-# It proves and builds everything first, since the plain bodies are made public in a copy.
+# rate is that of whole calls. Amounts and bases have 6 bits, conditions 1. The time is the processor's, so that other work on the machine
+# counts for little. It is no part of the gate. It proves and builds everything first, since the plain bodies are made public in a copy,
+# which begins with what the checks here kept.
 #
-# A further kernel is a line of LOGIC or ARITH in the program below. A further crate is a name in `crates`, and in the program a table of
-# its kernels, a variant of Body, an arm of each of its matches, and a loop in `bench`.
+# A further kernel is a line of LOGIC, ARITH or SELECT in the program below. A further crate is a name in `crates`, and in the program a
+# table of its kernels, two variants of Body, an arm of each match of one, and a loop in `bench`.
 set -eu
 top=$(cd "$(dirname "$0")/.." && pwd)
-crates='vs_kern_logic vs_kern_arith'
+crates='vs_kern_logic vs_kern_arith vs_kern_select'
 work=$(mktemp -d)
 trap 'rm -rf "$work"' EXIT
 mkdir "$work/crates"
 cd "$work"
 for crate in vs_four vs_plane $crates; do
-    mkdir "crates/$crate"
-    cp -r "$top/crates/$crate/src" "$top/crates/$crate/specs" "$top/crates/$crate/proofs" "crates/$crate/"
+    cp -a "$top/crates/$crate" crates/
 done
 printf 'vs_four:\nvs_plane: vs_four\n' > crates.txt
 for crate in $crates; do
@@ -40,12 +40,15 @@ use std::alloc::{AllocError, Global};
 use std::marker::Brand;
 use std::sync::ledger::{Blank, Ledger};
 use std::time::CpuClock;
-use vs_four::Bit4;
+use vs_four::{Bit4, Range};
 use vs_kern_arith as arith;
 use vs_kern_arith::laws::{sum_places, unknown_places};
 use vs_kern_logic as logic;
 use vs_kern_logic::gates::{Fold, Gate, output};
 use vs_kern_logic::laws::{fold_places, gate_places, match_places, output_places};
+use vs_kern_logic::truth;
+use vs_kern_select as select;
+use vs_kern_select::laws::choose_places;
 use vs_plane::{Chunked, Pair, PlaneFile, Steps, Word, Words};
 
 // How many slots a measurement stores or reads, and how many measurements the best is taken of.
@@ -86,6 +89,29 @@ const ARITH: [arith::Kernel; 6] = [
     arith::Kernel::Less(true),
 ];
 
+// A kernel of vs_kern_select. A select takes so many bits at most, and a write changes one.
+#[derive(Clone, Copy, Debug)]
+enum Select {
+    ShiftLeft,
+    ShiftRight,
+    ShiftArith,
+    Part(u32),
+    Write,
+    Choose,
+    Branch,
+}
+
+const SELECT: [Select; 8] = [
+    Select::ShiftLeft,
+    Select::ShiftRight,
+    Select::ShiftArith,
+    Select::Part(1),
+    Select::Part(8),
+    Select::Write,
+    Select::Choose,
+    Select::Branch,
+];
+
 // What is timed: a kernel, or its plain body.
 #[derive(Clone, Copy)]
 enum Body {
@@ -93,6 +119,8 @@ enum Body {
     PlainLogic(logic::Kernel),
     Arith(arith::Kernel),
     PlainArith(arith::Kernel),
+    Select(Select),
+    PlainSelect(Select),
 }
 
 impl Body {
@@ -100,26 +128,66 @@ impl Body {
         match self {
             Body::Logic(kernel) | Body::PlainLogic(kernel) => format!(in alloc; "{kernel:?}"),
             Body::Arith(kernel) | Body::PlainArith(kernel) => format!(in alloc; "{kernel:?}"),
+            Body::Select(kernel) | Body::PlainSelect(kernel) => format!(in alloc; "{kernel:?}"),
         }
     }
 
-    fn gives_vector(self) -> bool {
+    // How many bits the second argument has, where the first is a vector of this width.
+    fn second_length(self, width: u32) -> u32
+        requires some { 1 ≤ width }
+        requires most { width ≤ 64 }
+        ensures some { 1 ≤ result }
+        ensures most { result ≤ 64 }
+    {
         match self {
-            Body::Logic(kernel) | Body::PlainLogic(kernel) => kernel.gives_vector(),
-            Body::Arith(kernel) | Body::PlainArith(kernel) => kernel.gives_vector(),
+            Body::Select(Select::Choose | Select::Branch) => width,
+            Body::Select(_) => 6,
+            _ => width,
+        }
+    }
+
+    // How many bits the value has.
+    fn value_length(self, width: u32) -> u32
+        requires some { 1 ≤ width }
+        ensures some { 1 ≤ result }
+        ensures most { result ≤ width }
+    {
+        match self {
+            Body::Logic(kernel) | Body::PlainLogic(kernel) if !kernel.gives_vector() => 1,
+            Body::Arith(kernel) | Body::PlainArith(kernel) if !kernel.gives_vector() => 1,
+            Body::Select(Select::Part(most)) => most.max(1).min(width),
+            _ => width,
         }
     }
 
     // How many stores a call makes on vectors of this width.
     fn stores(self, width: u32) -> u64
-        requires { width ≤ 64 }
+        requires some { 1 ≤ width }
+        requires most { width ≤ 64 }
     {
-        let width = u64::from(width);
+        let length = u64::from(self.value_length(width));
         match self {
-            Body::Arith(arith::Kernel::Mul) => width + 3 * width * width,
-            _ if self.gives_vector() => width,
-            _ => 1,
+            Body::Arith(arith::Kernel::Mul) => length + 3 * length * length,
+            Body::Select(Select::ShiftLeft | Select::ShiftRight | Select::ShiftArith) => {
+                length * (1 + moves(width))
+            }
+            _ => length,
         }
+    }
+}
+
+// How many of the distances 1, 2, 4, 8, 16 and 32, by each of which a shift moves a vector, are below its width.
+fn moves(width: u32) -> u64
+    ensures { result ≤ 6 }
+{
+    match width {
+        0..=1 => 0,
+        2 => 1,
+        3..=4 => 2,
+        5..=8 => 3,
+        9..=16 => 4,
+        17..=32 => 5,
+        _ => 6,
     }
 }
 
@@ -293,32 +361,106 @@ fn run_plain_arith<W: Word, L: Ledger>(
     true
 }
 
+// Runs a kernel of vs_kern_select.
+fn run_select<W: Chunked, L: Ledger>(
+    kernel: Select,
+    file: &mut PlaneFile<W>,
+    a: &[u32],
+    b: &[u32],
+    c: &[u32],
+    to: &[u32],
+    steps: &mut Steps<L>,
+) -> bool
+    requires some { 1 ≤ length a.now }
+    requires most { length a.now ≤ 64 }
+    requires targets { AreTargets (length file.old) to.now [] }
+    requires a { IsArgument (length file.old) a.now to.now [] }
+    requires b { IsArgument (length file.old) b.now to.now [] }
+    requires c { IsArgument (length file.old) c.now to.now [] }
+    ensures { length file.new ≡ length file.old }
+{
+    let vector = to.len() == a.len();
+    let choice = vector && b.len() == a.len();
+    let left = a.len() as u32 - 1;
+    let range = Range { left, right: 0 };
+    match kernel {
+        Select::ShiftLeft if vector => select::shift_left(file, a, b, to, &[], steps),
+        Select::ShiftRight if vector => select::shift_right(file, a, b, to, &[], steps),
+        Select::ShiftArith if vector => select::shift_arith(file, a, b, to, &[], steps),
+        Select::Part(_) => select::select(file, a, b, range, false, true, to, &[], steps),
+        Select::Write if vector => {
+            select::write(file, a, b, c, range, false, true, to, &[], steps)
+        }
+        Select::Choose if choice => select::choose(file, c, a, b, to, &[], steps),
+        Select::Branch if choice => select::branch(file, c, a, b, to, &[], steps),
+        _ => return false,
+    }
+    true
+}
+
+// Runs the plain body of a kernel of vs_kern_select.
+fn run_plain_select<W: Chunked, L: Ledger>(
+    kernel: Select,
+    file: &mut PlaneFile<W>,
+    a: &[u32],
+    b: &[u32],
+    c: &[u32],
+    to: &[u32],
+    steps: &mut Steps<L>,
+) -> bool
+    requires targets { AreTargets (length file.old) to.now [] }
+    requires a { IsArgument (length file.old) a.now to.now [] }
+    requires b { IsArgument (length file.old) b.now to.now [] }
+    requires c { IsArgument (length file.old) c.now to.now [] }
+    requires same_length { length b.now ≡ length a.now }
+    ensures { length file.new ≡ length file.old }
+{
+    let condition = truth(file, c);
+    let one = condition.one();
+    let rest = match kernel {
+        Select::Choose => condition.not().one(),
+        Select::Branch => one.not(),
+        _ => return false,
+    };
+    if to.len() != a.len() {
+        return false;
+    }
+    choose_places(one, rest, file, a, b, to, steps);
+    true
+}
+
 // Runs a body, and says whether there is one.
 fn run<W: Chunked, L: Ledger>(
     body: Body,
     file: &mut PlaneFile<W>,
     a: &[u32],
     b: &[u32],
+    c: &[u32],
     to: &[u32],
     scratch: &[u32],
     steps: &mut Steps<L>,
 ) -> bool
     requires some { 1 ≤ length a.now }
+    requires most { length a.now ≤ 64 }
     requires targets { AreTargets (length file.old) to.now scratch.now }
     requires a { IsArgument (length file.old) a.now to.now scratch.now }
     requires b { IsArgument (length file.old) b.now to.now scratch.now }
     requires targets_alone { AreTargets (length file.old) to.now [] }
     requires a_alone { IsArgument (length file.old) a.now to.now [] }
     requires b_alone { IsArgument (length file.old) b.now to.now [] }
-    requires same_length { length b.now ≡ length a.now }
+    requires c_alone { IsArgument (length file.old) c.now to.now [] }
     requires scratch_length { 2 * length a.now ≤ length scratch.now }
     ensures { length file.new ≡ length file.old }
 {
+    let same = b.len() == a.len();
     match body {
-        Body::Logic(kernel) => run_logic(kernel, file, a, b, to, steps),
-        Body::PlainLogic(kernel) => run_plain_logic(kernel, file, a, b, to, steps),
-        Body::Arith(kernel) => run_arith(kernel, file, a, b, to, scratch, steps),
-        Body::PlainArith(kernel) => run_plain_arith(kernel, file, a, b, to, steps),
+        Body::Logic(kernel) if same => run_logic(kernel, file, a, b, to, steps),
+        Body::PlainLogic(kernel) if same => run_plain_logic(kernel, file, a, b, to, steps),
+        Body::Arith(kernel) if same => run_arith(kernel, file, a, b, to, scratch, steps),
+        Body::PlainArith(kernel) if same => run_plain_arith(kernel, file, a, b, to, steps),
+        Body::Select(kernel) => run_select(kernel, file, a, b, c, to, steps),
+        Body::PlainSelect(kernel) if same => run_plain_select(kernel, file, a, b, c, to, steps),
+        _ => false,
     }
 }
 
@@ -330,25 +472,26 @@ fn time<W: Chunked, L: Ledger>(
     file: &mut PlaneFile<W>,
     a: &[u32],
     b: &[u32],
+    c: &[u32],
     to: &[u32],
     scratch: &[u32],
     steps: &mut Steps<L>,
 ) -> Result<Option<u64>>
     requires some { 1 ≤ length a.now }
-    requires slots { length file.old ≡ 5 * length a.now }
-    requires b_length { length b.now ≡ length a.now }
-    requires to_length { length to.now ≤ length a.now }
+    requires most { length a.now ≤ 64 }
     requires scratch_length { length scratch.now ≡ 2 * length a.now }
+    requires slots { length file.old ≡ length a.now + length b.now + length c.now + length to.now + length scratch.now }
     requires a_each { (k : ℕ) → k < length a.now → slice_index a.now k ≡ 0 + k }
     requires b_each { (k : ℕ) → k < length b.now → slice_index b.now k ≡ length a.now + k }
-    requires to_each { (k : ℕ) → k < length to.now → slice_index to.now k ≡ 2 * length a.now + k }
-    requires scratch_each { (k : ℕ) → k < length scratch.now → slice_index scratch.now k ≡ 3 * length a.now + k }
+    requires c_each { (k : ℕ) → k < length c.now → slice_index c.now k ≡ length a.now + length b.now + k }
+    requires to_each { (k : ℕ) → k < length to.now → slice_index to.now k ≡ length a.now + length b.now + length c.now + k }
+    requires scratch_each { (k : ℕ) → k < length scratch.now → slice_index scratch.now k ≡ length a.now + length b.now + length c.now + length to.now + k }
     ensures { length file.new ≡ length file.old }
 {
     let mut runs = true;
     let start = rt.thread_cpu_time()?;
     'calls: for _ in 0..calls {
-        runs = run(body, file, a, b, to, scratch, steps);
+        runs = run(body, file, a, b, c, to, scratch, steps);
     }
     let spent = rt.thread_cpu_time()?.saturating_sub(start).as_nanos();
     if runs {
@@ -390,12 +533,16 @@ fn rate<W: Chunked, L: Ledger>(
     requires some { 1 ≤ width }
     requires most { width ≤ 64 }
 {
+    let second = body.second_length(width);
+    let value = body.value_length(width);
+    let given = width + second + 1;
+    let all = given + value + 2 * width;
     let a = slots(alloc, 0, width)?;
-    let b = slots(alloc, width, width)?;
-    let count = if body.gives_vector() { width } else { 1 };
-    let to = slots(alloc, 2 * width, count)?;
-    let scratch = slots(alloc, 3 * width, 2 * width)?;
-    let mut initial = vec![in alloc; Bit4::Zero; 5 * width as usize]?;
+    let b = slots(alloc, width, second)?;
+    let c = slots(alloc, width + second, 1)?;
+    let to = slots(alloc, given, value)?;
+    let scratch = slots(alloc, given + value, 2 * width)?;
+    let mut initial = vec![in alloc; Bit4::Zero; all as usize]?;
     for (place, bit) in initial.iter_mut().enumerate() {
         *bit = pattern(place);
     }
@@ -404,7 +551,9 @@ fn rate<W: Chunked, L: Ledger>(
     let calls = WORK / u64::from(width).max(stores) + 1;
     let mut best = None;
     'tries: for _ in 0..TRIES {
-        let spent = time(rt, body, calls, &mut file, &a, &b, &to, &scratch, steps)?;
+        let spent = time(
+            rt, body, calls, &mut file, &a, &b, &c, &to, &scratch, steps,
+        )?;
         best = match (best, spent) {
             (Some(least), Some(next)) if least < next => Some(least),
             (_, spent) => spent,
@@ -455,6 +604,10 @@ fn bench<W: Chunked, L: Ledger>(
         let plain = Body::PlainArith(kernel);
         line::<W, L>(rt, alloc, words, Body::Arith(kernel), plain, &mut steps)?;
     }
+    for kernel in SELECT {
+        let plain = Body::PlainSelect(kernel);
+        line::<W, L>(rt, alloc, words, Body::Select(kernel), plain, &mut steps)?;
+    }
     Ok(())
 }
 
@@ -467,7 +620,7 @@ fn main(rt: HostRuntime) -> Result<()> {
 END
 
 # The slots of a call lie one after the other.
-cp ../vs_kern_arith/proofs/Runs.antt proofs/
+cp ../vs_kern_select/proofs/Runs.antt proofs/
 echo 'pub mod Runs' > proofs/Lib.antt
 cat > proofs/slots/Invariants.antt <<'END'
 use Rattle.std.proofs.Common.{◌≡◌, ℕ, ◌+◌, ◌<◌, length, get_or}
@@ -487,46 +640,72 @@ abbrev pub invariant-calls : goal.invariant-calls
 invariant-calls g l = length l.file ≡ length l.initial.file
 END
 cat > proofs/time/Answers.antt <<'END'
-use Rattle.std.proofs.Common.{◌*◌, [], length, arith}
-use Rattle.bench_kernels.proofs.Runs.{run_targets, run_argument}
+use Rattle.std.proofs.Common.{◌+◌, [], length, arith}
+use Rattle.bench_kernels.proofs.Runs.{run_none, run_targets, run_argument}
 use Rattle.bench_kernels.proofs.time.Goals as goal
 
 pub run-runs-requires-clause-targets : goal.run-runs-requires-clause-targets
 run-runs-requires-clause-targets g c =
     let w = length c.args.a.now in
-    run_targets (length c.calls.file) c.args.to.now c.args.scratch.now (2 * w) (3 * w) c.requires.to_each c.requires.scratch_each (omega arith) (omega arith)
+    let p = w + length c.args.b.now in
+    let q = p + length c.args.c.now in
+    let r = q + length c.args.to.now in
+    run_targets (length c.calls.file) c.args.to.now c.args.scratch.now q r c.requires.to_each c.requires.scratch_each (omega arith) (omega arith)
 
 pub run-runs-requires-clause-a : goal.run-runs-requires-clause-a
 run-runs-requires-clause-a g c =
     let w = length c.args.a.now in
-    run_argument (length c.calls.file) c.args.a.now c.args.to.now c.args.scratch.now 0 (2 * w) (3 * w) c.requires.a_each c.requires.to_each c.requires.scratch_each (omega arith) (omega arith) (omega arith)
+    let p = w + length c.args.b.now in
+    let q = p + length c.args.c.now in
+    let r = q + length c.args.to.now in
+    run_argument (length c.calls.file) c.args.a.now c.args.to.now c.args.scratch.now 0 q r c.requires.a_each c.requires.to_each c.requires.scratch_each (omega arith) (omega arith) (omega arith)
 
 pub run-runs-requires-clause-b : goal.run-runs-requires-clause-b
 run-runs-requires-clause-b g c =
     let w = length c.args.a.now in
-    run_argument (length c.calls.file) c.args.b.now c.args.to.now c.args.scratch.now w (2 * w) (3 * w) c.requires.b_each c.requires.to_each c.requires.scratch_each (omega arith) (omega arith) (omega arith)
+    let p = w + length c.args.b.now in
+    let q = p + length c.args.c.now in
+    let r = q + length c.args.to.now in
+    run_argument (length c.calls.file) c.args.b.now c.args.to.now c.args.scratch.now w q r c.requires.b_each c.requires.to_each c.requires.scratch_each (omega arith) (omega arith) (omega arith)
 
 pub run-runs-requires-clause-targets_alone : goal.run-runs-requires-clause-targets_alone
 run-runs-requires-clause-targets_alone g c =
     let w = length c.args.a.now in
-    run_targets (length c.calls.file) c.args.to.now [] (2 * w) (3 * w) c.requires.to_each (λ k h. absurd (let none : ⊥ = omega arith in none)) (omega arith) (omega arith)
+    let p = w + length c.args.b.now in
+    let q = p + length c.args.c.now in
+    let r = q + length c.args.to.now in
+    run_targets (length c.calls.file) c.args.to.now [] q r c.requires.to_each (run_none r) (omega arith) (omega arith)
 
 pub run-runs-requires-clause-a_alone : goal.run-runs-requires-clause-a_alone
 run-runs-requires-clause-a_alone g c =
     let w = length c.args.a.now in
-    run_argument (length c.calls.file) c.args.a.now c.args.to.now [] 0 (2 * w) (3 * w) c.requires.a_each c.requires.to_each (λ k h. absurd (let none : ⊥ = omega arith in none)) (omega arith) (omega arith) (omega arith)
+    let p = w + length c.args.b.now in
+    let q = p + length c.args.c.now in
+    let r = q + length c.args.to.now in
+    run_argument (length c.calls.file) c.args.a.now c.args.to.now [] 0 q r c.requires.a_each c.requires.to_each (run_none r) (omega arith) (omega arith) (omega arith)
 
 pub run-runs-requires-clause-b_alone : goal.run-runs-requires-clause-b_alone
 run-runs-requires-clause-b_alone g c =
     let w = length c.args.a.now in
-    run_argument (length c.calls.file) c.args.b.now c.args.to.now [] w (2 * w) (3 * w) c.requires.b_each c.requires.to_each (λ k h. absurd (let none : ⊥ = omega arith in none)) (omega arith) (omega arith) (omega arith)
+    let p = w + length c.args.b.now in
+    let q = p + length c.args.c.now in
+    let r = q + length c.args.to.now in
+    run_argument (length c.calls.file) c.args.b.now c.args.to.now [] w q r c.requires.b_each c.requires.to_each (run_none r) (omega arith) (omega arith) (omega arith)
+
+pub run-runs-requires-clause-c_alone : goal.run-runs-requires-clause-c_alone
+run-runs-requires-clause-c_alone g c =
+    let w = length c.args.a.now in
+    let p = w + length c.args.b.now in
+    let q = p + length c.args.c.now in
+    let r = q + length c.args.to.now in
+    run_argument (length c.calls.file) c.args.c.now c.args.to.now [] p q r c.requires.c_each c.requires.to_each (run_none r) (omega arith) (omega arith) (omega arith)
 END
 cat > proofs/rate/Invariants.antt <<'END'
-use Rattle.std.proofs.Common.{◌≡◌, ◌*◌, length}
+use Rattle.std.proofs.Common.{◌≡◌, length}
 use Rattle.bench_kernels.proofs.rate.Given as goal
 
 abbrev pub invariant-tries : goal.invariant-tries
-invariant-tries g l = length l.file ≡ 5 * l.width
+invariant-tries g l = length l.file ≡ l.all
 END
 cat > proofs/main/Invariants.antt <<'END'
 use Rattle.bench_kernels.proofs.main.Given as goal
