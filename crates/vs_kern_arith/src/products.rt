@@ -11,7 +11,7 @@ ghost use Rattle.vs_kern_arith.specs.Rows.{IsLayout, row, row_digit, turned};
 use crate::carries::{digits_at, spread};
 use crate::laws::row_places;
 use crate::sums::sum_bits;
-use crate::words::{known_bits, unknown_lanes};
+use crate::words::{goes_by_eights, known_bits, unknown_lanes};
 use std::sync::ledger::Ledger;
 use vs_plane::{Chunked, PlaneFile, Steps, Word, filling_law, parts_law, turns_law};
 
@@ -105,8 +105,8 @@ fn product_turn<W: Chunked, L: Ledger>(
     sum_bits(false, file, doubled, rows, to, &[], steps);
 }
 
-/// A row: the vector in the lanes where the digit is 1, 0 in the others, and x in the unknown ones. It goes eight slots a turn, and the
-/// rest one by one.
+/// A row: the vector in the lanes where the digit is 1, 0 in the others, and x in the unknown ones. Where that is faster it goes
+/// eight slots a turn, and the rest one by one.
 fn row_bits<W: Chunked, L: Ledger>(
     unknown: W,
     digit: W,
@@ -123,6 +123,9 @@ fn row_bits<W: Chunked, L: Ledger>(
 {
     filling_law::<W>();
     turns_law::<W>();
+    if !goes_by_eights::<W>() {
+        return row_places(unknown, digit, file, a, 0, to, steps);
+    }
     let (chunks, rest) = to.as_chunks::<8>();
     for (n, slots) in chunks.iter().enumerate() {
         row_chunk(unknown, digit, file, a, 8 * n, slots, steps);

@@ -8,7 +8,7 @@ ghost use Rattle.vs_kern_arith.specs.Digits.{digits_from, first_bits, sum_carry,
 
 use crate::carries::{carries, digits_at, spread};
 use crate::laws::sum_places;
-use crate::words::{flipped, known_bits, unknown_lanes};
+use crate::words::{flipped, goes_by_eights, known_bits, unknown_lanes};
 use std::sync::ledger::Ledger;
 use vs_plane::{Chunked, PlaneFile, Steps, Word, filling_law, parts_law, turns_law};
 
@@ -72,7 +72,7 @@ pub fn neg<W: Chunked, L: Ledger>(
     sum_bits(true, file, &[], a, to, scratch, steps);
 }
 
-/// `a + b`, or `a - b` where `b` is to be inverted: eight slots a turn, and the rest one by one. A vector `a` that is too short is extended
+/// `a + b`, or `a - b` where `b` is to be inverted: where that is faster eight slots a turn, and the rest one by one. A vector `a` that is too short is extended
 /// by 0.
 pub(crate) fn sum_bits<W: Chunked, L: Ledger>(
     inverted: bool,
@@ -95,6 +95,9 @@ pub(crate) fn sum_bits<W: Chunked, L: Ledger>(
     turns_law::<W>();
     let unknown = unknown_lanes(unknown_lanes(W::none(), file, a), file, b);
     let mut carry = flipped(inverted, W::none());
+    if !goes_by_eights::<W>() {
+        return sum_places(inverted, unknown, carry, file, a, b, 0, to, steps);
+    }
     let (chunks, rest) = to.as_chunks::<8>();
     for (n, slots) in chunks.iter().enumerate() {
         carry = sum_chunk(inverted, unknown, carry, file, a, b, 8 * n, slots, steps);

@@ -15,7 +15,7 @@ ghost use Rattle.vs_kern_arith.specs.Parts.{part_bit};
 use crate::laws::unknown_places;
 use vs_plane::{Chunked, Pair, PlaneFile, Word, parts_law, turns_law};
 
-/// The lanes in which a vector has an unknown bit, and those of `first`: eight slots a turn, and the rest one by one.
+/// The lanes in which a vector has an unknown bit, and those of `first`: where that is faster eight slots a turn, and the rest one by one.
 pub(crate) fn unknown_lanes<W: Chunked>(first: W, file: &PlaneFile<W>, a: &[u32]) -> W
     requires { All (λ slot. slot < length file.now) a.now }
     ensures { (i : ℕ) → i < W.LANES
@@ -23,7 +23,7 @@ pub(crate) fn unknown_lanes<W: Chunked>(first: W, file: &PlaneFile<W>, a: &[u32]
 {
     parts_law::<W>();
     turns_law::<W>();
-    if a.len() < 8 {
+    if a.len() < 8 || !goes_by_eights::<W>() {
         return unknown_places(first, file, a);
     }
     let (chunks, rest) = a.as_chunks::<8>();
@@ -32,6 +32,12 @@ pub(crate) fn unknown_lanes<W: Chunked>(first: W, file: &PlaneFile<W>, a: &[u32]
         eight = eight.or(file.load_chunk(slots).unknown);
     }
     unknown_places(some_part(first, eight), file, rest)
+}
+
+/// Whether eight slots a turn are faster than one: eight words of more than 64 lanes don't fit into the processor's registers.
+#[inline]
+pub(crate) fn goes_by_eights<W: Word>() -> bool {
+    W::LANES <= 64
 }
 
 /// The lanes that some part of a wide word has, and those of `first`.

@@ -6,7 +6,7 @@ ghost use Rattle.vs_plane.specs.Kernels.{AreTargets, Computes, Fills, IsArgument
 ghost use Rattle.vs_kern_logic.specs.Costs.{cost_of};
 ghost use Rattle.vs_kern_logic.specs.Gates.{gate_bit, output_bit};
 
-use crate::gates::{Gate, output};
+use crate::gates::{Gate, goes_by_eights, output};
 use crate::laws::{gate_places, output_places};
 use std::sync::ledger::Ledger;
 use vs_plane::{Chunked, PlaneFile, Steps, filling_law, parts_law, turns_law};
@@ -125,7 +125,7 @@ pub fn xnor<W: Chunked, L: Ledger>(
     gate_bits(Gate::Xnor, file, a, b, to, scratch, steps);
 }
 
-/// The bits of an argument, inverted where this says so: eight slots a turn, and the rest one by one.
+/// The bits of an argument, inverted where this says so: where that is faster eight slots a turn, and the rest one by one.
 fn output_bits<W: Chunked, L: Ledger>(
     inverted: bool,
     file: &mut PlaneFile<W>,
@@ -142,6 +142,9 @@ fn output_bits<W: Chunked, L: Ledger>(
 {
     filling_law::<W>();
     turns_law::<W>();
+    if !goes_by_eights::<W>() {
+        return output_places(inverted, file, a, to, steps);
+    }
     let (a_chunks, a_rest) = a.as_chunks::<8>();
     let (to_chunks, to_rest) = to.as_chunks::<8>();
     for (n, slots) in to_chunks.iter().enumerate() {
@@ -169,7 +172,7 @@ fn output_chunk<W: Chunked, L: Ledger>(
     file.store_chunk(to, eight, steps);
 }
 
-/// A gate of the bits of two arguments: eight slots a turn, and the rest one by one.
+/// A gate of the bits of two arguments: where that is faster eight slots a turn, and the rest one by one.
 fn gate_bits<W: Chunked, L: Ledger>(
     gate: Gate,
     file: &mut PlaneFile<W>,
@@ -189,6 +192,9 @@ fn gate_bits<W: Chunked, L: Ledger>(
 {
     filling_law::<W>();
     turns_law::<W>();
+    if !goes_by_eights::<W>() {
+        return gate_places(gate, file, a, b, to, steps);
+    }
     let (a_chunks, a_rest) = a.as_chunks::<8>();
     let (b_chunks, b_rest) = b.as_chunks::<8>();
     let (to_chunks, to_rest) = to.as_chunks::<8>();

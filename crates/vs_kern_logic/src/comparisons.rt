@@ -7,7 +7,7 @@ ghost use Rattle.vs_kern_logic.specs.Costs.{cost_of};
 ghost use Rattle.vs_kern_logic.specs.Gates.{gate_bit, output_bit};
 ghost use Rattle.vs_kern_logic.specs.Operators.{not_equal, not_identical};
 
-use crate::gates::{Fold, Gate, output, store_bit};
+use crate::gates::{Fold, Gate, goes_by_eights, output, store_bit};
 use crate::laws::match_places;
 use std::sync::ledger::Ledger;
 use vs_four::Bit4;
@@ -166,6 +166,9 @@ fn match_bits<W: Chunked>(gate: Gate, file: &PlaneFile<W>, a: &[u32], b: &[u32])
 {
     parts_law::<W>();
     turns_law::<W>();
+    if !goes_by_eights::<W>() {
+        return match_places(gate, Pair::of_bit(Bit4::One), file, a, b);
+    }
     let (a_chunks, a_rest) = a.as_chunks::<8>();
     let (b_chunks, b_rest) = b.as_chunks::<8>();
     let mut eight: Pair<W::Eight> = Pair::of_bit(Bit4::One);

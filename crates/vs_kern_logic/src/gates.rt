@@ -97,6 +97,12 @@ impl Fold {
     }
 }
 
+/// Whether eight slots a turn are faster than one: eight words of more than 64 lanes don't fit into the processor's registers.
+#[inline]
+pub(crate) fn goes_by_eights<W: Word>() -> bool {
+    W::LANES <= 64
+}
+
 /// The bits, inverted where this says so, in each lane.
 #[inline]
 pub(crate) fn output<W: Word>(inverted: bool, pair: Pair<W>) -> Pair<W>

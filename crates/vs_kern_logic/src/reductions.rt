@@ -7,7 +7,7 @@ ghost use Rattle.vs_kern_logic.specs.Costs.{cost_of};
 ghost use Rattle.vs_kern_logic.specs.Gates.{first_bit, fold_bit, gate_bit, output_bit};
 ghost use Rattle.vs_kern_logic.specs.Operators.{logical_and, logical_not, logical_or, reduce_nand, reduce_nor, reduce_xnor};
 
-use crate::gates::{Fold, Gate, output, store_bit};
+use crate::gates::{Fold, Gate, goes_by_eights, output, store_bit};
 use crate::laws::fold_places;
 use std::sync::ledger::Ledger;
 use vs_plane::{Chunked, Pair, PlaneFile, Steps, parts_law, turns_law};
@@ -226,6 +226,9 @@ fn fold_bits<W: Chunked>(fold: Fold, file: &PlaneFile<W>, a: &[u32]) -> Pair<W>
 {
     parts_law::<W>();
     turns_law::<W>();
+    if !goes_by_eights::<W>() {
+        return fold_places(fold, Pair::of_bit(fold.first()), file, a);
+    }
     let (chunks, rest) = a.as_chunks::<8>();
     let mut eight: Pair<W::Eight> = Pair::of_bit(fold.first());
     for slots in chunks {

@@ -75,7 +75,7 @@ pub fn branch<W: Chunked, L: Ledger>(
 }
 
 /// The bits of `p` in the lanes of `first`, those of `q` in the other lanes of `second`, and in the rest the known bits in which both are
-/// equal, and else x: eight slots a turn, and the rest one by one.
+/// equal, and else x: where that is faster eight slots a turn, and the rest one by one.
 fn choose_bits<W: Chunked, L: Ledger>(
     first: W,
     second: W,
@@ -97,6 +97,9 @@ fn choose_bits<W: Chunked, L: Ledger>(
     filling_law::<W>();
     turns_law::<W>();
     parts_law::<W>();
+    if !goes_by_eights::<W>() {
+        return choose_places(first, second, file, p, q, to, steps);
+    }
     let wide_first = spread(first);
     let wide_second = spread(second);
     let (p_chunks, p_rest) = p.as_chunks::<8>();
@@ -109,6 +112,12 @@ fn choose_bits<W: Chunked, L: Ledger>(
         file.store_chunk(slots, eight, steps);
     }
     choose_places(first, second, file, p_rest, q_rest, to_rest, steps);
+}
+
+/// Whether eight slots a turn are faster than one: eight words of more than 64 lanes don't fit into the processor's registers.
+#[inline]
+fn goes_by_eights<W: Word>() -> bool {
+    W::LANES <= 64
 }
 
 /// The bits of `p` in the lanes of `first`, those of `q` in the other lanes of `second`, and in the rest the two merged.

@@ -1,4 +1,4 @@
-use Rattle.std.proofs.Common.{◌≡◌, ℕ, ◌+◌, ◌-◌, ◌*◌, ◌/◌, ◌<◌, ◌≤◌, Bool, false, not, ◌||◌, List, [], ◌∷◌, length, get_or, refl, ap, ◌∙◌, subst, arith}
+use Rattle.std.proofs.Common.{◌≡◌, ℕ, ◌+◌, ◌-◌, ◌*◌, ◌/◌, ◌<◌, ◌≤◌, Bool, false, not, ◌||◌, List, [], ◌∷◌, length, get_or, refl, sym, ap, ◌∙◌, subst, arith}
 use Rattle.vs_four.specs.Logic.{BitList, all_known}
 use Rattle.vs_plane.specs.Kernels.{lane_bits, Fills, binary}
 use Rattle.vs_plane.specs.Turns.{IsPart}
@@ -73,10 +73,10 @@ returns-clause-fills g c =
     let unknown : (i : ℕ) → i < lanes → u i ≡ some_unknown (all_known (a i)) (all_known (b i)) = λ i h.
     c.unknown_lanes-unknown.ensures i h ∙ ap (λ (v : Bool). v || not (all_known (b i))) (c.unknown_lanes.ensures i h ∙ ap (λ (v : Bool). v || not (all_known (a i))) (c.none.ensures i h)) in
     let so_far : Fills lane lanes value to done before c.loop-n.file = subst (λ (m : ℕ). Fills lane lanes value to m before c.loop-n.file) last c.loop-n.invariant.fills in
-    let next = subst (λ (m : ℕ). Fills lane lanes (λ i. first_bits (sum_digit (u i) (digits_from false (lane_bits lane c.loop-n.file c.args.a.now i) done) (digits_from inverted (lane_bits lane c.loop-n.file c.args.b.now i) done) (carry i)) m) rest m c.loop-n.file c.sum_places.new.file)
-    part.long c.sum_places.ensures.fills in
-    subst (λ (m : ℕ). Fills lane lanes value to m before c.sum_places.new.file) all
-    (sum_more lane lanes law inverted u carry c.args.a.now c.args.b.now to rest done count before c.loop-n.file c.sum_places.new.file
+    let next = subst (λ (m : ℕ). Fills lane lanes (λ i. first_bits (sum_digit (u i) (digits_from false (lane_bits lane c.loop-n.file c.args.a.now i) done) (digits_from inverted (lane_bits lane c.loop-n.file c.args.b.now i) done) (carry i)) m) rest m c.loop-n.file c.sum_places-2.new.file)
+    part.long c.sum_places-2.ensures.fills in
+    subst (λ (m : ℕ). Fills lane lanes value to m before c.sum_places-2.new.file) all
+    (sum_more lane lanes law inverted u carry c.args.a.now c.args.b.now to rest done count before c.loop-n.file c.sum_places-2.new.file
     c.requires.targets.to_differ c.requires.a.to_apart c.requires.b.to_apart c.requires.b_length part
     unknown (λ i h. c.loop-n.invariant.carried i h ∙ ap (λ (m : ℕ). carry_at inverted (a i) (b i) m) last) so_far next)
 
@@ -85,7 +85,41 @@ returns-clause-computes g c =
     let lane = g.W.Word.lane in
     let before = c.args.file.now in
     let to = c.args.to.now in
-    c.filling_law.ensures.ends (binary (summed c.args.inverted (length to))) (c.args.a.now ∷ c.args.b.now ∷ []) to c.args.scratch.now (length to) before c.sum_places.new.file
+    c.filling_law.ensures.ends (binary (summed c.args.inverted (length to))) (c.args.a.now ∷ c.args.b.now ∷ []) to c.args.scratch.now (length to) before c.sum_places-2.new.file
     (λ i h. length-summed c.args.inverted (length to) (lane_bits lane before c.args.a.now i) (lane_bits lane before c.args.b.now i))
     refl
     (returns-clause-fills g c)
+
+same_place : (j : ℕ) → j ≡ 0 + j
+same_place j = omega arith
+
+pub returns-then-not-goes_by_eights-clause-fills : goal.returns-then-not-goes_by_eights-clause-fills
+returns-then-not-goes_by_eights-clause-fills g c =
+    let law = c.filling_law.ensures in
+    let lane = g.W.Word.lane in
+    let lanes = g.W.Word.LANES in
+    let before = c.args.file.now in
+    let to = c.args.to.now in
+    let inverted = c.args.inverted in
+    let a : ℕ → BitList = λ i. lane_bits lane before c.args.a.now i in
+    let b : ℕ → BitList = λ i. lane_bits lane before c.args.b.now i in
+    let u : ℕ → Bool = λ i. lane c.unknown_lanes-unknown.result i in
+    let carry : ℕ → Bool = λ i. lane c.flipped-carry.result i in
+    let value : ℕ → BitList = λ i. summed inverted (length to) (a i) (b i) in
+    let part : IsPart to to 0 (length to) = record { long = refl; within = omega arith; at = λ j h. ap (λ (k : ℕ). get_or to k 0) (same_place j) } in
+    let unknown : (i : ℕ) → i < lanes → u i ≡ some_unknown (all_known (a i)) (all_known (b i)) = λ i h.
+    c.unknown_lanes-unknown.ensures i h ∙ ap (λ (v : Bool). v || not (all_known (b i))) (c.unknown_lanes.ensures i h ∙ ap (λ (v : Bool). v || not (all_known (a i))) (c.none.ensures i h)) in
+    subst (λ (m : ℕ). Fills lane lanes value to m before c.sum_places.new.file) (sym (same_place (length to)))
+    (sum_more lane lanes law inverted u carry c.args.a.now c.args.b.now to to 0 (length to) before before c.sum_places.new.file
+    c.requires.targets.to_differ c.requires.a.to_apart c.requires.b.to_apart c.requires.b_length part
+    unknown (λ i h. carry_begins inverted (lane c.none-2.result i) (carry i) (a i) (b i) (c.flipped-carry.ensures i h) (c.none-2.ensures i h)) (law.begins value to before) c.sum_places.ensures.fills)
+
+pub returns-then-not-goes_by_eights-clause-computes : goal.returns-then-not-goes_by_eights-clause-computes
+returns-then-not-goes_by_eights-clause-computes g c =
+    let lane = g.W.Word.lane in
+    let before = c.args.file.now in
+    let to = c.args.to.now in
+    c.filling_law.ensures.ends (binary (summed c.args.inverted (length to))) (c.args.a.now ∷ c.args.b.now ∷ []) to c.args.scratch.now (length to) before c.sum_places.new.file
+    (λ i h. length-summed c.args.inverted (length to) (lane_bits lane before c.args.a.now i) (lane_bits lane before c.args.b.now i))
+    refl
+    (returns-then-not-goes_by_eights-clause-fills g c)

@@ -57,14 +57,26 @@ returns-clause-computes g c =
     let a_rest = c.turns_law.ensures.rest c.args.a.now c.as_chunks.result.1.now done count c.as_chunks.ensures.back (omega arith) (omega arith) in
     let b_rest = c.turns_law.ensures.rest c.args.b.now c.as_chunks-2.result.1.now done count c.as_chunks-2.ensures.back (omega arith) (omega arith) in
     let to_rest = c.turns_law.ensures.rest to c.as_chunks-3.result.1.now done count c.as_chunks-3.ensures.back from (omega arith) in
-    let next = subst (λ (m : ℕ). Fills lane g.W.Word.LANES (λ i. map2 f (lane_bits lane c.loop-n.file c.as_chunks.result.1.now i) (lane_bits lane c.loop-n.file c.as_chunks-2.result.1.now i)) c.as_chunks-3.result.1.now m c.loop-n.file c.gate_places.new.file) to_rest.long c.gate_places.ensures.fills in
-    law.ends (binary (map2 f)) (c.args.a.now ∷ c.args.b.now ∷ []) to c.args.scratch.now (done + count) before c.gate_places.new.file
+    let next = subst (λ (m : ℕ). Fills lane g.W.Word.LANES (λ i. map2 f (lane_bits lane c.loop-n.file c.as_chunks.result.1.now i) (lane_bits lane c.loop-n.file c.as_chunks-2.result.1.now i)) c.as_chunks-3.result.1.now m c.loop-n.file c.gate_places-2.new.file) to_rest.long c.gate_places-2.ensures.fills in
+    law.ends (binary (map2 f)) (c.args.a.now ∷ c.args.b.now ∷ []) to c.args.scratch.now (done + count) before c.gate_places-2.new.file
     (λ i h. length-map2 f (lane_bits lane before c.args.a.now i) (lane_bits lane before c.args.b.now i)
     (omega (arith, law.long before c.args.a.now i, law.long before c.args.b.now i))
     ∙ law.long before c.args.a.now i ∙ c.requires.a_length)
     (omega arith)
     (c.turns_law.ensures.two f c.args.a.now c.args.b.now to
     c.as_chunks.result.1.now c.as_chunks-2.result.1.now c.as_chunks-3.result.1.now done count
-    before c.loop-n.file c.gate_places.new.file
+    before c.loop-n.file c.gate_places-2.new.file
     c.requires.targets.to_differ c.requires.a.to_apart c.requires.b.to_apart
     a_rest b_rest to_rest c.loop-n.invariant.fills next)
+
+pub returns-then-not-goes_by_eights-clause-computes : goal.returns-then-not-goes_by_eights-clause-computes
+returns-then-not-goes_by_eights-clause-computes g c =
+    let law = c.filling_law.ensures in
+    let lane = g.W.Word.lane in
+    let before = c.args.file.now in
+    let f = gate_bit c.args.gate in
+    law.ends (binary (map2 f)) (c.args.a.now ∷ c.args.b.now ∷ []) c.args.to.now c.args.scratch.now (length c.args.to.now) before c.gate_places.new.file
+    (λ i h. length-map2 f (lane_bits lane before c.args.a.now i) (lane_bits lane before c.args.b.now i)
+    (omega (arith, law.long before c.args.a.now i, law.long before c.args.b.now i))
+    ∙ law.long before c.args.a.now i ∙ c.requires.a_length)
+    (omega arith) c.gate_places.ensures.fills

@@ -48,12 +48,22 @@ returns-clause-computes g c =
     let from : done ≡ length to / 8 * 8 = omega arith in
     let a_rest = c.turns_law.ensures.rest c.args.a.now c.as_chunks.result.1.now done count c.as_chunks.ensures.back (omega arith) (omega arith) in
     let to_rest = c.turns_law.ensures.rest to c.as_chunks-2.result.1.now done count c.as_chunks-2.ensures.back from (omega arith) in
-    let next = subst (λ (m : ℕ). Fills lane g.W.Word.LANES (λ i. map f (lane_bits lane c.loop-n.file c.as_chunks.result.1.now i)) c.as_chunks-2.result.1.now m c.loop-n.file c.output_places.new.file) to_rest.long c.output_places.ensures.fills in
-    law.ends (unary (map f)) (c.args.a.now ∷ []) to c.args.scratch.now (done + count) before c.output_places.new.file
+    let next = subst (λ (m : ℕ). Fills lane g.W.Word.LANES (λ i. map f (lane_bits lane c.loop-n.file c.as_chunks.result.1.now i)) c.as_chunks-2.result.1.now m c.loop-n.file c.output_places-2.new.file) to_rest.long c.output_places-2.ensures.fills in
+    law.ends (unary (map f)) (c.args.a.now ∷ []) to c.args.scratch.now (done + count) before c.output_places-2.new.file
     (λ i h. length-map (lane_bits lane before c.args.a.now i) f ∙ law.long before c.args.a.now i ∙ c.requires.a_length)
     (omega arith)
     (c.turns_law.ensures.one f c.args.a.now to
     c.as_chunks.result.1.now c.as_chunks-2.result.1.now done count
-    before c.loop-n.file c.output_places.new.file
+    before c.loop-n.file c.output_places-2.new.file
     c.requires.targets.to_differ c.requires.a.to_apart
     a_rest to_rest c.loop-n.invariant.fills next)
+
+pub returns-then-not-goes_by_eights-clause-computes : goal.returns-then-not-goes_by_eights-clause-computes
+returns-then-not-goes_by_eights-clause-computes g c =
+    let law = c.filling_law.ensures in
+    let lane = g.W.Word.lane in
+    let before = c.args.file.now in
+    let f = output_bit c.args.inverted in
+    law.ends (unary (map f)) (c.args.a.now ∷ []) c.args.to.now c.args.scratch.now (length c.args.to.now) before c.output_places.new.file
+    (λ i h. length-map (lane_bits lane before c.args.a.now i) f ∙ law.long before c.args.a.now i ∙ c.requires.a_length)
+    (omega arith) c.output_places.ensures.fills

@@ -77,7 +77,7 @@ returns g c = λ i h.
     let all : BitList = parts g.W.Eight.Word.lane g.W.Word.LANES c.loop-n.eight i in
     let a_last : n ≡ length c.args.a.now / 8 = omega (arith, c.as_chunks.ensures.front_len, c.loop-n-test.false) in
     let b_last : n ≡ length c.args.b.now / 8 = omega (arith, c.as_chunks.ensures.front_len, c.loop-n-test.false, c.requires.lengths) in
-    c.match_places.ensures i h
+    c.match_places-2.ensures i h
     ∙ ap (λ (b : Bit4). fold_with and_bit b (map2 f (lane_bits lane file c.as_chunks.result.1.now i) (lane_bits lane file c.as_chunks-2.result.1.now i))) (c.parts.ensures i h)
     ∙ ap (λ (xs : List ℕ). fold_with and_bit (fold_with and_bit One all) (map2 f (lane_bits lane file xs i) (lane_bits lane file c.as_chunks-2.result.1.now i))) (c.turns_law.ensures.rest_is c.args.a.now c.as_chunks.result.1.now n c.as_chunks.ensures.back a_last)
     ∙ ap (λ (ys : List ℕ). fold_with and_bit (fold_with and_bit One all) (map2 f (lane_bits lane file (drop (8 * n) c.args.a.now) i) (lane_bits lane file ys i))) (c.turns_law.ensures.rest_is c.args.b.now c.as_chunks-2.result.1.now n c.as_chunks-2.ensures.back b_last)

@@ -13,7 +13,7 @@ loop-slots-init g c = λ i h.
     let f = fold_bit c.args.fold in
     let bits : BitList = lane_bits g.W.Word.lane c.args.file.now c.args.a.now i in
     ap (λ (v : BitList). fold_with f (fold_with f (first_bit c.args.fold) v) bits)
-    (c.parts_law.ensures.parts.all (first_bit c.args.fold) c.of_bit-eight.result i h (λ n k. c.of_bit-eight.ensures n (omega (arith, c.parts_law.ensures.lanes)) ∙ c.first.ensures))
+    (c.parts_law.ensures.parts.all (first_bit c.args.fold) c.of_bit-eight.result i h (λ n k. c.of_bit-eight.ensures n (omega (arith, c.parts_law.ensures.lanes)) ∙ c.first-2.ensures))
     ∙ ap (λ (b : Bit4). fold_with f b bits) (fold_with-first c.args.fold)
 
 pub load_chunk-requires : goal.load_chunk-requires
@@ -51,7 +51,7 @@ returns g c = λ i h.
     let f = fold_bit c.args.fold in
     let all : BitList = parts g.W.Eight.Word.lane g.W.Word.LANES c.loop-slots.eight i in
     let last : c.loop-slots.slots-index ≡ length c.args.a.now / 8 = omega (arith, c.as_chunks.ensures.front_len, c.loop-slots-test.false) in
-    c.fold_places.ensures i h
+    c.fold_places-2.ensures i h
     ∙ ap (λ (b : Bit4). fold_with f b (lane_bits lane c.args.file.now c.as_chunks.result.1.now i)) (c.parts.ensures i h)
     ∙ ap (λ (xs : List ℕ). fold_with f (fold_with f (first_bit c.args.fold) all) (lane_bits lane c.args.file.now xs i)) (c.turns_law.ensures.rest_is c.args.a.now c.as_chunks.result.1.now c.loop-slots.slots-index c.as_chunks.ensures.back last)
     ∙ c.loop-slots.invariant i h

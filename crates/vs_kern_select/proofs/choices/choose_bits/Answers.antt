@@ -59,11 +59,11 @@ returns-clause-fills g c =
     let q_rest = turns.rest c.args.q.now c.as_chunks-2.result.1.now done count c.as_chunks-2.ensures.back (omega arith) (omega arith) in
     let to_rest = turns.rest to c.as_chunks-3.result.1.now done count c.as_chunks-3.ensures.back from all in
     let part : ℕ → BitList = chosen_bits lane bit file c.as_chunks.result.1.now c.as_chunks-2.result.1.now in
-    let next = subst (λ (m : ℕ). Fills lane lanes part c.as_chunks-3.result.1.now m file c.choose_places.new.file) to_rest.long c.choose_places.ensures.fills in
-    subst (λ (m : ℕ). Fills lane lanes (chosen_bits lane bit before c.args.p.now c.args.q.now) to m before c.choose_places.new.file) all
+    let next = subst (λ (m : ℕ). Fills lane lanes part c.as_chunks-3.result.1.now m file c.choose_places-2.new.file) to_rest.long c.choose_places-2.ensures.fills in
+    subst (λ (m : ℕ). Fills lane lanes (chosen_bits lane bit before c.args.p.now c.args.q.now) to m before c.choose_places-2.new.file) all
     (chosen_next lane lanes law turns bit part c.args.p.now c.args.q.now to
     c.as_chunks.result.1.now c.as_chunks-2.result.1.now c.as_chunks-3.result.1.now done count
-    before file c.choose_places.new.file
+    before file c.choose_places-2.new.file
     c.requires.targets.to_differ c.requires.p.to_apart c.requires.q.to_apart c.requires.p_length c.requires.q_length
     p_rest q_rest to_rest
     (λ j i in_part h. turns.pair_at (bit i) (lane_bits lane file c.as_chunks.result.1.now i) (lane_bits lane file c.as_chunks-2.result.1.now i) j
