@@ -16,6 +16,7 @@ use Rattle.vs_design.specs.Levels.{needs, is_order_after}
 use Rattle.vs_design.specs.Sets.{Set4, has}
 use Rattle.vs_design.specs.Lifted.{Family, assigned_sets}
 use Rattle.vs_design.specs.LiftedBodies.{put_each, write_sets, assign_sets}
+use Rattle.vs_design.specs.Sleepers.{is_sleeping}
 use Rattle.vs_design.specs.TimeZero.{Families, before_run, block_sets, settle_early, settle_late, settle, settle_some, families_along}
 use Rattle.vs_design.specs.Fits.{fits_target, fits_statement, is_fit}
 use Rattle.vs_design.specs.Elaborated.{has_constant_selects}
@@ -53,13 +54,13 @@ write_other (Both high low) ss sets b h =
     let k = neither (target_bits high) (target_bits low) b h in
     write_other low (take (target_width low) ss) (write_sets high (drop (target_width low) ss) sets) b k.1 ∙ write_other high (drop (target_width low) ss) sets b k.0
 
-early_other : (x : Process) (sets : Family) (b : ℕ) → contains (writes_of x) b ≡ false → settle_early x sets b ≡ sets b
-early_other (Continuous place port target_place target e) sets b h = write_other target (assigned_sets e (target_width target) sets) sets b h
-early_other (Always place star events st) sets b h = rw h refl
+early_other : (asleep : Bool) (x : Process) (sets : Family) (b : ℕ) → contains (writes_of x) b ≡ false → settle_early asleep x sets b ≡ sets b
+early_other asleep (Continuous place port target_place target e) sets b h = write_other target (assigned_sets e (target_width target) sets) sets b h
+early_other asleep (Always place star events st) sets b h = rw h refl
 
-late_other : (x : Process) (sets : Family) (b : ℕ) → contains (writes_of x) b ≡ false → settle_late x sets b ≡ sets b
-late_other (Continuous place port target_place target e) sets b h = write_other target (assigned_sets e (target_width target) sets) sets b h
-late_other (Always place star events st) sets b h = rw h refl
+late_other : (asleep : Bool) (x : Process) (sets : Family) (b : ℕ) → contains (writes_of x) b ≡ false → settle_late asleep x sets b ≡ sets b
+late_other asleep (Continuous place port target_place target e) sets b h = write_other target (assigned_sets e (target_width target) sets) sets b h
+late_other asleep (Always place star events st) sets b h = rw h refl
 
 -- both families agree at the bit
 abbrev pub SameAt : Families → Families → ℕ → Type 0
@@ -69,51 +70,51 @@ SameAt f g b = (f.early b ≡ g.early b) × (f.late b ≡ g.late b)
 abbrev pub AllIn' : Design → List ℕ → ℕ → Type 0
 AllIn' d placed b = (r : ℕ) (x : Process) → slice_get d.processes r ≡ Some x → is_clocked x ≡ false → contains (writes_of x) b ≡ true → contains placed r ≡ true
 
-along_turn : (d : Design) (p : ℕ) (order : List ℕ) (f : Families) (x : Process) → slice_get d.processes p ≡ Some x → families_along d.processes (p ∷ order) f ≡ families_along d.processes order (settle x f)
-along_turn d p order f x e = ap {B = Families} (λ o. families_along d.processes order (settle_some o f)) e
+along_turn : (d : Design) (p : ℕ) (order : List ℕ) (f : Families) (x : Process) → slice_get d.processes p ≡ Some x → families_along d (p ∷ order) f ≡ families_along d order (settle (is_sleeping d x) x f)
+along_turn d p order f x e = ap {B = Families} (λ o. families_along d order (settle_some d o f)) e
 
 more_placed : (d : Design) (placed : List ℕ) (p b : ℕ) → AllIn' d placed b → AllIn' d (p ∷ placed) b
 more_placed d placed p b h r x e c w = Rattle.vs_design.proofs.Lists.or_right (r == p) (contains placed r) (h r x e c w)
 
 -- a bit whose writers are placed isn't changed any more
-kept : (d : Design) (order placed : List ℕ) (f : Families) (b : ℕ) → is_order_after placed d order ≡ true → AllIn' d placed b → SameAt (families_along d.processes order f) f b
+kept : (d : Design) (order placed : List ℕ) (f : Families) (b : ℕ) → is_order_after placed d order ≡ true → AllIn' d placed b → SameAt (families_along d order f) f b
 kept d [] placed f b h a = (refl, refl)
 kept d (p ∷ order) placed f b h a =
     let t = turn_of d placed p order h in
     let none : contains (writes_of t.process) b ≡ false = by_test (contains (writes_of t.process) b) (λ e. absurd (either_way (contains placed p) (a p t.process t.is t.settles e) t.fresh)) (λ e. e) in
-    let r = kept d order (p ∷ placed) (settle t.process f) b t.rest (more_placed d placed p b a) in
+    let r = kept d order (p ∷ placed) (settle (is_sleeping d t.process) t.process f) b t.rest (more_placed d placed p b a) in
     let q = along_turn d p order f t.process t.is in
-    (ap {B = Set4} (λ (g : Families). g.early b) q ∙ r.0 ∙ early_other t.process f.early b none, ap {B = Set4} (λ (g : Families). g.late b) q ∙ r.1 ∙ late_other t.process f.late b none)
+    (ap {B = Set4} (λ (g : Families). g.early b) q ∙ r.0 ∙ early_other (is_sleeping d t.process) t.process f.early b none, ap {B = Set4} (λ (g : Families). g.late b) q ∙ r.1 ∙ late_other (is_sleeping d t.process) t.process f.late b none)
 
 -- the families when a process's turn comes
 pub record Found (d : Design) (final : Families) (x : Process) : Type 0 where
   pub then_ : Families
   pub same : (b : ℕ) → contains (needs x) b ≡ true → SameAt final then_ b
-  pub own : (b : ℕ) → contains (writes_of x) b ≡ true → SameAt final (settle x then_) b
+  pub own : (b : ℕ) → contains (writes_of x) b ≡ true → SameAt final (settle (is_sleeping d x) x then_) b
 
-pub found : (d : Design) (order placed : List ℕ) (f : Families) (p : ℕ) (x : Process) → is_empty (shared_bits d) ≡ true → is_order_after placed d order ≡ true → slice_get d.processes p ≡ Some x → is_clocked x ≡ false → contains placed p ≡ false → Found d (families_along d.processes order f) x
+pub found : (d : Design) (order placed : List ℕ) (f : Families) (p : ℕ) (x : Process) → is_empty (shared_bits d) ≡ true → is_order_after placed d order ≡ true → slice_get d.processes p ≡ Some x → is_clocked x ≡ false → contains placed p ≡ false → Found d (families_along d order f) x
 found d [] placed f p x s h e c n = absurd (either_way (contains placed p) (all_at_end d placed p x h e c) n)
 found d (q ∷ order) placed f p x s h e c n =
     let t = turn_of d placed q order h in
     by_test (p == q)
     (λ k. here t (same_option t.process x (sym t.is ∙ subst (λ m. slice_get d.processes m ≡ Some x) (eqb-true p q k) e)) (eqb-true p q k))
     (λ k.
-    let r = found d order (q ∷ placed) (settle t.process f) p x s t.rest e c (ap (λ z. z || contains placed p) k ∙ n) in
+    let r = found d order (q ∷ placed) (settle (is_sleeping d t.process) t.process f) p x s t.rest e c (ap (λ z. z || contains placed p) k ∙ n) in
     subst (λ g. Found d g x) (sym (along_turn d q order f t.process t.is)) r)
   where
-    here : (t : Turn d placed q order) → t.process ≡ x → p ≡ q → Found d (families_along d.processes (q ∷ order) f) x
+    here : (t : Turn d placed q order) → t.process ≡ x → p ≡ q → Found d (families_along d (q ∷ order) f) x
     here t k m = record {
       then_ = f;
       same = λ b z. kept d (q ∷ order) placed f b h (λ r y i j w. t.ready r y b i j w (subst (λ v. contains (needs v) b ≡ true) (sym k) z));
       own = λ b w.
           let i : slice_get d.processes q ≡ Some x = t.is ∙ ap Some k in
-          let u = kept d order (q ∷ placed) (settle x f) b t.rest (λ r y v g z. Rattle.vs_design.proofs.Lists.or_left (r == q) (contains placed r) (Rattle.std.proofs.Common.eq-eqb r q (one_process d q r x y b s i v w z))) in
+          let u = kept d order (q ∷ placed) (settle (is_sleeping d x) x f) b t.rest (λ r y v g z. Rattle.vs_design.proofs.Lists.or_left (r == q) (contains placed r) (Rattle.std.proofs.Common.eq-eqb r q (one_process d q r x y b s i v w z))) in
           let a = along_turn d q order f x i in
           (ap {B = Set4} (λ (g : Families). g.early b) a ∙ u.0, ap {B = Set4} (λ (g : Families). g.late b) a ∙ u.1);
     }
 
 -- a bit that no assign and no combinational block writes keeps its first sets
-pub unwritten : (d : Design) (order : List ℕ) (f : Families) (b : ℕ) → is_order_after [] d order ≡ true → ((r : ℕ) (x : Process) → slice_get d.processes r ≡ Some x → is_clocked x ≡ false → contains (writes_of x) b ≡ false) → SameAt (families_along d.processes order f) f b
+pub unwritten : (d : Design) (order : List ℕ) (f : Families) (b : ℕ) → is_order_after [] d order ≡ true → ((r : ℕ) (x : Process) → slice_get d.processes r ≡ Some x → is_clocked x ≡ false → contains (writes_of x) b ≡ false) → SameAt (families_along d order f) f b
 unwritten d order f b h a = kept d order [] f b h (λ r x e c w. absurd (either_way (contains (writes_of x) b) w (a r x e c)))
 
 -- ---- what a process makes is in its sets

@@ -11,10 +11,11 @@ use Rattle.vs_design.specs.Fits.{fits_process}
 use Rattle.vs_design.specs.Elaborated.{is_formed_process, are_numbered, have_bits_from}
 use Rattle.vs_design.specs.Sizes.{size}
 use Rattle.vs_design.specs.Rules.{mixed_assigns, missing_bits, latches}
-use Rattle.vs_design.specs.Clocks.{clock_input, clock_nets, reads_clock, has_other_clock}
+use Rattle.vs_design.specs.Clocks.{clock_input, clock_nets, root_of, reads_clock, has_other_clock}
+use Rattle.vs_design.specs.Resets.{has_other_form}
 use Rattle.vs_design.specs.Levels.{level_order}
-use Rattle.vs_design.specs.TimeZero.{families, sleeps}
-use Rattle.vs_design.specs.Refusals.{least_with, least, otherwise, first_found, where_true, WidthRefusal, TooWide, Division, TooLarge, wide_in, divisions_in, earlier, too_large, BlockRefusal, MixedAssign, Sensitivity, Latch, signal_of, block_refusal_of, ClockRefusal, NoClock, ClockRead, NotTheClock, clock_refusal_by, ZeroRefusal, TimeZero, zero_refusal_by}
+use Rattle.vs_design.specs.TimeZero.{families, is_uncertain}
+use Rattle.vs_design.specs.Refusals.{least_with, least, otherwise, first_found, where_true, WidthRefusal, TooWide, Division, TooLarge, wide_in, divisions_in, earlier, too_large, BlockRefusal, MixedAssign, Sensitivity, Latch, signal_of, block_refusal_of, ClockRefusal, NoClock, ClockRead, NotTheClock, ResetForm, clock_refusal_by, ZeroRefusal, TimeZero, zero_refusal_by}
 use Rattle.vs_design.specs.RefusalLaws.{IsLeastOf, IsFirstOf, is_unfit, IsWidthRefusal, WidthRefusalIs, is_some_of, breaks_block, IsBlockRefusal, BlockRefusalIs, IsClockRefusal, ClockRefusalIs, IsZeroRefusal, ZeroRefusalIs}
 use Rattle.vs_design.proofs.Lists.{by_test, and_both, or_left, or_right, or_neither, or_false, contains-append, contains-left, contains_head, contains_filter}
 use Rattle.vs_design.proofs.Writes.{either_way}
@@ -403,7 +404,7 @@ clock_refusal_is d name r h = go (clock_input d name) refl r h
     reads clock = reads_clock (clock_nets d clock.first)
 
     others : Signal → Process → Bool
-    others clock = has_other_clock (clock_nets d clock.first)
+    others clock = has_other_clock (clock_nets d clock.first) (root_of d clock.first)
 
     same_read : (p a q b : ℕ) → ClockRead p a ≡ ClockRead q b → (p ≡ q) × (a ≡ b)
     same_read p a q b e = (cc, cc)
@@ -415,27 +416,42 @@ clock_refusal_is d name r h = go (clock_input d name) refl r h
     by_read clock e NoClock m = cc
     by_read clock e (ClockRead p at) m = let q = same_read m.0 (process_place m.1) p at m.3 in (clock, e, (m.1, subst (λ n. IsFirstOf d (reads_clock (clock_nets d clock.first)) n m.1) q.0 m.2, sym q.1))
     by_read clock e (NotTheClock p at) m = cc
+    by_read clock e (ResetForm p at) m = cc
 
     by_other : (clock : Signal) → clock_input d name ≡ Some clock → (r : ClockRefusal) → list_any (reads_clock (clock_nets d clock.first)) d.processes ≡ false
-        → (p : ℕ) × (process : Process) × IsFirstOf d (has_other_clock (clock_nets d clock.first)) p process × (NotTheClock p (process_place process) ≡ r) → IsClockRefusal d name r
+        → (p : ℕ) × (process : Process) × IsFirstOf d (has_other_clock (clock_nets d clock.first) (root_of d clock.first)) p process × (NotTheClock p (process_place process) ≡ r) → IsClockRefusal d name r
     by_other clock e NoClock u m = cc
     by_other clock e (ClockRead p at) u m = cc
-    by_other clock e (NotTheClock p at) u m = let q = same_other m.0 (process_place m.1) p at m.3 in (clock, e, u, (m.1, subst (λ n. IsFirstOf d (has_other_clock (clock_nets d clock.first)) n m.1) q.0 m.2, sym q.1))
+    by_other clock e (ResetForm p at) u m = cc
+    by_other clock e (NotTheClock p at) u m = let q = same_other m.0 (process_place m.1) p at m.3 in (clock, e, u, (m.1, subst (λ n. IsFirstOf d (has_other_clock (clock_nets d clock.first) (root_of d clock.first)) n m.1) q.0 m.2, sym q.1))
+
+    same_form : (p a q b : ℕ) → ResetForm p a ≡ ResetForm q b → (p ≡ q) × (a ≡ b)
+    same_form p a q b e = (cc, cc)
+
+    by_form : (clock : Signal) → clock_input d name ≡ Some clock → (r : ClockRefusal) → list_any (reads_clock (clock_nets d clock.first)) d.processes ≡ false → list_any (has_other_clock (clock_nets d clock.first) (root_of d clock.first)) d.processes ≡ false
+        → (p : ℕ) × (process : Process) × IsFirstOf d (has_other_form (clock_nets d clock.first) (root_of d clock.first)) p process × (ResetForm p (process_place process) ≡ r) → IsClockRefusal d name r
+    by_form clock e NoClock u v m = cc
+    by_form clock e (ClockRead p at) u v m = cc
+    by_form clock e (NotTheClock p at) u v m = cc
+    by_form clock e (ResetForm p at) u v m = let q = same_form m.0 (process_place m.1) p at m.3 in (clock, e, u, v, (m.1, subst (λ n. IsFirstOf d (has_other_form (clock_nets d clock.first) (root_of d clock.first)) n m.1) q.0 m.2, sym q.1))
 
     go : (o : Option Signal) → clock_input d name ≡ o → (r : ClockRefusal) → clock_refusal_by d o ≡ Some r → IsClockRefusal d name r
     go None e NoClock h = e
     go None e (ClockRead p at) h = cc
     go None e (NotTheClock p at) h = cc
-    go (Some clock) e r h =
-        either (otherwise_some (first_found (λ p process. where_true (reads_clock (clock_nets d clock.first) process) (ClockRead p (process_place process))) 0 d.processes) (first_found (λ p process. where_true (has_other_clock (clock_nets d clock.first) process) (NotTheClock p (process_place process))) 0 d.processes) r h)
+    go None e (ResetForm p at) h = cc
+    go (Some clock) e r h = either (otherwise_some (first_found (λ p process. where_true (reads_clock (clock_nets d clock.first) process) (ClockRead p (process_place process))) 0 d.processes) (otherwise (first_found (λ p process. where_true (has_other_clock (clock_nets d clock.first) (root_of d clock.first) process) (NotTheClock p (process_place process))) 0 d.processes) (first_found (λ p process. where_true (has_other_form (clock_nets d clock.first) (root_of d clock.first) process) (ResetForm p (process_place process))) 0 d.processes)) r h)
       where
-        either : (first_found (λ p process. where_true (reads_clock (clock_nets d clock.first) process) (ClockRead p (process_place process))) 0 d.processes ≡ Some r)
-            ⊎ ((first_found (λ p process. where_true (reads_clock (clock_nets d clock.first) process) (ClockRead p (process_place process))) 0 d.processes ≡ None) × (first_found (λ p process. where_true (has_other_clock (clock_nets d clock.first) process) (NotTheClock p (process_place process))) 0 d.processes ≡ Some r))
-            → IsClockRefusal d name r
+        second : list_any (reads_clock (clock_nets d clock.first)) d.processes ≡ false → ((first_found (λ p process. where_true (has_other_clock (clock_nets d clock.first) (root_of d clock.first) process) (NotTheClock p (process_place process))) 0 d.processes) ≡ Some r) ⊎ (((first_found (λ p process. where_true (has_other_clock (clock_nets d clock.first) (root_of d clock.first) process) (NotTheClock p (process_place process))) 0 d.processes) ≡ None) × ((first_found (λ p process. where_true (has_other_form (clock_nets d clock.first) (root_of d clock.first) process) (ResetForm p (process_place process))) 0 d.processes) ≡ Some r)) → IsClockRefusal d name r
+        second u (inl m) = by_other clock e r u (tested_first d (has_other_clock (clock_nets d clock.first) (root_of d clock.first)) (λ p process. NotTheClock p (process_place process)) r m)
+        second u (inr m) = by_form clock e r u (any_none (λ p process. where_true (has_other_clock (clock_nets d clock.first) (root_of d clock.first) process) (NotTheClock p (process_place process))) (has_other_clock (clock_nets d clock.first) (root_of d clock.first)) 0 d.processes (λ p x f. true_where (has_other_clock (clock_nets d clock.first) (root_of d clock.first) x) (NotTheClock p (process_place x)) f) m.0)
+            (tested_first d (has_other_form (clock_nets d clock.first) (root_of d clock.first)) (λ p process. ResetForm p (process_place process)) r m.1)
+
+        either : ((first_found (λ p process. where_true (reads_clock (clock_nets d clock.first) process) (ClockRead p (process_place process))) 0 d.processes) ≡ Some r) ⊎ (((first_found (λ p process. where_true (reads_clock (clock_nets d clock.first) process) (ClockRead p (process_place process))) 0 d.processes) ≡ None) × (otherwise (first_found (λ p process. where_true (has_other_clock (clock_nets d clock.first) (root_of d clock.first) process) (NotTheClock p (process_place process))) 0 d.processes) (first_found (λ p process. where_true (has_other_form (clock_nets d clock.first) (root_of d clock.first) process) (ResetForm p (process_place process))) 0 d.processes) ≡ Some r)) → IsClockRefusal d name r
         either (inl m) = by_read clock e r (tested_first d (reads_clock (clock_nets d clock.first)) (λ p process. ClockRead p (process_place process)) r m)
         either (inr m) =
-            by_other clock e r (any_none (λ p process. where_true (reads_clock (clock_nets d clock.first) process) (ClockRead p (process_place process))) (reads_clock (clock_nets d clock.first)) 0 d.processes (λ p x f. true_where (reads_clock (clock_nets d clock.first) x) (ClockRead p (process_place x)) f) m.0)
-            (tested_first d (has_other_clock (clock_nets d clock.first)) (λ p process. NotTheClock p (process_place process)) r m.1)
+            second (any_none (λ p process. where_true (reads_clock (clock_nets d clock.first) process) (ClockRead p (process_place process))) (reads_clock (clock_nets d clock.first)) 0 d.processes (λ p x f. true_where (reads_clock (clock_nets d clock.first) x) (ClockRead p (process_place x)) f) m.0)
+            (otherwise_some (first_found (λ p process. where_true (has_other_clock (clock_nets d clock.first) (root_of d clock.first) process) (NotTheClock p (process_place process))) 0 d.processes) (first_found (λ p process. where_true (has_other_form (clock_nets d clock.first) (root_of d clock.first) process) (ResetForm p (process_place process))) 0 d.processes) r m.1)
 
 pub zero_refusal_is : ZeroRefusalIs
 zero_refusal_is d name r h = go (clock_input d name) refl r h
@@ -446,6 +462,6 @@ zero_refusal_is d name r h = go (clock_input d name) refl r h
     go : (o : Option Signal) → clock_input d name ≡ o → (r : ZeroRefusal) → zero_refusal_by d o ≡ Some r → IsZeroRefusal d name r
     go None e r h = cc
     go (Some clock) e (TimeZero p at) h =
-        let m = tested_first d (sleeps (families d clock.first (level_order d))) (λ p process. TimeZero p (process_place process)) (TimeZero p at) h in
+        let m = tested_first d (is_uncertain d (families d clock.first (level_order d))) (λ p process. TimeZero p (process_place process)) (TimeZero p at) h in
         let q = same_zero m.0 (process_place m.1) p at m.3 in
-        (clock, e, (m.1, subst (λ n. IsFirstOf d (sleeps (families d clock.first (level_order d))) n m.1) q.0 m.2, sym q.1))
+        (clock, e, (m.1, subst (λ n. IsFirstOf d (is_uncertain d (families d clock.first (level_order d))) n m.1) q.0 m.2, sym q.1))

@@ -2,7 +2,7 @@
 use Rattle.std.proofs.Common.{◌≡◌, ℕ, ◌+◌, ◌≤◌, Bool, true, false, List, [], ◌∷◌, ◌++◌, ◌||◌, ◌==◌, eqb-true, not, if◌then◌else◌, refl, subst, length, map, Option, Some, None, arith, length-append}
 use Rattle.std.specs.Prelude.{slice_get}
 use Rattle.std.specs.List.{list_any}
-use Rattle.vs_net.specs.Network.{State, Update, Effect, write_all, Network, Kind, AnInput, TheClock, AnAssign, AComb, AClocked, kind, writes, listens, clock_net, updates}
+use Rattle.vs_net.specs.Network.{Reset, reset_of, State, Update, Effect, write_all, Network, Kind, AnInput, TheClock, AnAssign, AComb, AClocked, kind, writes, listens, clock_net, updates}
 use Rattle.vs_net.specs.Network as N
 use Rattle.vs_net.specs.Lawful.{IsLawful}
 use Rattle.vs_net.proofs.Bounded.{slots_end}
@@ -24,7 +24,7 @@ use Rattle.vs_design.proofs.BodyExact.{cond_of}
 use Rattle.vs_design.proofs.TimeBits.{any_bit}
 use Rattle.vs_design.proofs.Parts.{by_kind, at_process}
 use Rattle.vs_design.proofs.Lawful.{lawful}
-use Rattle.vs_design.proofs.Weights.{weight, weighed}
+use Rattle.vs_design.proofs.Weights.{weight, runs, weighed}
 
 -- ---- a run leaves at most one update for each assignment
 
@@ -80,13 +80,13 @@ module _ (d : Design) (name : List ℕ) (a : IsAcceptedDesign d name) where
 
   woken_by : (p : ℕ) (o : Option Process) → slice_get d.processes p ≡ o → (b : ℕ) → contains (wakers o) b ≡ true → listens (net_work.process p) b ≡ true
   woken_by p None h b k = cc
-  woken_by p (Some x) h b k = rw (at_process d.processes (map (writer_of a.clock.first) (top_inputs d)) p x h) (go x k)
+  woken_by p (Some x) h b k = rw (at_process d a.clock.first d.processes (map (writer_of a.clock.first) (top_inputs d)) p x h) (go x k)
     where
-      go : (x : Process) → contains (wakers (Some x)) b ≡ true → listens (process_of x) b ≡ true
+      go : (x : Process) → contains (wakers (Some x)) b ≡ true → listens (process_of d a.clock.first x) b ≡ true
       go (Continuous place port target_place target e) k = k
       go (Always place star events st) k = blocks (is_clocked (Always place star events st)) refl k
         where
-          blocks : (c : Bool) → is_clocked (Always place star events st) ≡ c → contains (waits_of (Always place star events st)) b ≡ true → listens (block_process c (Always place star events st) events st) b ≡ true
+          blocks : (c : Bool) → is_clocked (Always place star events st) ≡ c → contains (waits_of (Always place star events st)) b ≡ true → listens (block_process d a.clock.first c (Always place star events st) events st) b ≡ true
           blocks false e k = k
           blocks true e k = absurd (either_way false (subst (λ (z : Bool). contains (if not z then without (signals_bits (wait_signals (Always place star events st))) (statement_bits st) else []) b ≡ true) e k) refl)
 
@@ -119,12 +119,28 @@ module _ (d : Design) (name : List ℕ) (a : IsAcceptedDesign d name) where
   unfolding master
   mastered p e = mastered_by p (kind (net_work.process p)) refl e
 
+  second_of : (p : ℕ) (o : Option Reset) → reset_of (net_work.process p) ≡ o → ℕ
+  second_of p (Some e) o = (L.roots_written e.net e.input (L.reset_net_is p e o)).0
+  second_of p None o = 0
+
+  second : ℕ → ℕ
+  second p = second_of p (reset_of (net_work.process p)) refl
+
+  seconded_by : (p : ℕ) (o : Option Reset) (e : reset_of (net_work.process p) ≡ o) (r : Reset) → o ≡ Some r → writes (net_work.process (second_of p o e)) r.net ≡ true
+  unfolding second_of
+  seconded_by p (Some x) e r f = let same : x ≡ r = cc in subst (λ (y : Reset). writes (net_work.process (L.roots_written x.net x.input (L.reset_net_is p x e)).0) y.net ≡ true) same (L.roots_written x.net x.input (L.reset_net_is p x e)).1
+  seconded_by p None e r f = cc
+
+  seconded : (p : ℕ) (r : Reset) → reset_of (net_work.process p) ≡ Some r → writes (net_work.process (second p)) r.net ≡ true
+  unfolding second
+  seconded p r e = seconded_by p (reset_of (net_work.process p)) refl r e
+
 pub bound_of : BoundOfDesign
 bound_of d name a =
     let n = network_of d a.clock.first in
-    let w = weight n (lawful d name a) (feeds_of d a.clock.first) (size_of d) (master d name a) (fed d name a) (fed_only d name a) (few d name a) (mastered d name a) in
-    let r = λ (p : ℕ). w (master d name a p) in
-    let h = weighed n (lawful d name a) (feeds_of d a.clock.first) (size_of d) (master d name a) (fed d name a) (fed_only d name a) (few d name a) (mastered d name a) in
+    let w = weight n (lawful d name a) (feeds_of d a.clock.first) (size_of d) (master d name a) (fed d name a) (fed_only d name a) (few d name a) (mastered d name a) (second d name a) (seconded d name a) in
+    let r = runs n (lawful d name a) (feeds_of d a.clock.first) (size_of d) (master d name a) (fed d name a) (fed_only d name a) (few d name a) (mastered d name a) (second d name a) (seconded d name a) in
+    let h = weighed n (lawful d name a) (feeds_of d a.clock.first) (size_of d) (master d name a) (fed d name a) (fed_only d name a) (few d name a) (mastered d name a) (second d name a) (seconded d name a) in
     (w, r, h, slots_end n (lawful d name a) (feeds_of d a.clock.first) (size_of d) w r h)
 
 pub runs_end_of : RunsEndOfDesign

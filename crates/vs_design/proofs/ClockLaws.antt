@@ -1,6 +1,6 @@
 -- The clock nets of an accepted design's network.
 use Rattle.std.proofs.Common.{◌≡◌, ℕ, Bool, true, false, List, [], ◌∷◌, ◌++◌, ◌||◌, ◌&&◌, ◌==◌, eqb-true, eq-eqb, not, if◌then◌else◌, ◌⊎◌, inl, inr, refl, sym, ap, ◌∙◌, subst, map, length, Option, Some, None}
-use Rattle.std.specs.Prelude.{slice_get, unwrap_or}
+use Rattle.std.specs.Prelude.{slice_get, is_some}
 use Rattle.std.specs.List.{list_any}
 use Rattle.vs_net.specs.Network.{State, Update, Effect, Network, Kind, TheClock, AnAssign, AComb, AClocked, kind, writes, listens, updates, clock_net}
 use Rattle.vs_net.specs.Lawful.{IsClockPort}
@@ -8,7 +8,7 @@ use Rattle.vs_design.specs.Expressions.{Expression}
 use Rattle.vs_design.specs.Statements.{Target, Statement}
 use Rattle.vs_design.specs.Designs.{Event, Process, Continuous, Always, is_clocked, Design}
 use Rattle.vs_design.specs.Footprints.{contains, read_bits, target_reads, target_bits, statement_bits, statement_reads, writes_of, reads_of, waits_of, without}
-use Rattle.vs_design.specs.Clocks.{is_clock_net, port_target, port_targets, clock_nets, is_clock_port, reads_clock, posedge_bit, has_other_clock}
+use Rattle.vs_design.specs.Clocks.{edge_bit, is_clock_net, port_target, port_targets, clock_nets, root_of, is_clock_port, reads_clock, is_clock_event, is_reset_event, ByClock, ByBoth, both_events, events_of, clock_bit, has_other_clock}
 use Rattle.vs_design.specs.Levels.{level_order}
 use Rattle.vs_design.specs.Networks.{network_of}
 use Rattle.vs_design.specs.Accepted.{IsAcceptedDesign}
@@ -62,19 +62,45 @@ module _ (d : Design) (name : List ℕ) (a : IsAcceptedDesign d name) where
     none = λ p w. cc;
   }) p
 
+  abbrev pub roots : ℕ → Option ℕ
+  roots = root_of d a.clock.first
+
+  -- a clocked block has its events
+  pub events_there : (p place : ℕ) (star : Bool) (events : List Event) (st : Statement) → slice_get d.processes p ≡ Some (Always place star events st) → is_clocked (Always place star events st) ≡ true → is_some (events_of nets roots events) ≡ true
+  events_there p place star events st h k = not_both (is_some (events_of nets roots events)) (subst (λ c. (c && not (is_some (events_of nets roots events))) ≡ false) k (none_at (has_other_clock nets roots) d.processes p (Always place star events st) a.one_clock h))
+
+  clock_event_net : (e : Event) → is_clock_event nets e ≡ true → contains nets e.signal.first ≡ true
+  clock_event_net e h = by_edge e.edge h
+    where
+      by_edge : (g : Rattle.vs_design.specs.Designs.Edge) → is_clock_net nets (edge_bit g e.signal) ≡ true → contains nets e.signal.first ≡ true
+      by_edge Rattle.vs_design.specs.Designs.Posedge h = by_test (Rattle.vs_design.specs.Expressions.signal_length e.signal == 1) (λ q. subst (λ (c : Bool). is_clock_net nets (if c then Some e.signal.first else None) ≡ true) q h) (λ q. absurd (let z = subst (λ (c : Bool). is_clock_net nets (if c then Some e.signal.first else None) ≡ true) q h in cc))
+      by_edge Rattle.vs_design.specs.Designs.Negedge h = cc
+      by_edge Rattle.vs_design.specs.Designs.Any h = cc
+
+  clock_bit_net : (events : List Event) → is_some (events_of nets roots events) ≡ true → contains nets (clock_bit (events_of nets roots events)) ≡ true
+  clock_bit_net [] h = cc
+  clock_bit_net (e ∷ []) h = by_test (is_clock_event nets e)
+      (λ q. subst (λ (c : Bool). contains nets (clock_bit (if c then Some (ByClock e) else None)) ≡ true) (sym q) (clock_event_net e q))
+      (λ q. absurd (let z = subst (λ (c : Bool). is_some (if c then Some (ByClock e) else None) ≡ true) q h in cc))
+  clock_bit_net (e ∷ f ∷ []) h = by_test (is_clock_event nets e && is_reset_event roots f)
+      (λ q. rw q (clock_event_net e (and_both (is_clock_event nets e) (is_reset_event roots f) q).0))
+      (λ q. by_test (is_clock_event nets f && is_reset_event roots e)
+      (λ r. rw (q, r) (clock_event_net f (and_both (is_clock_event nets f) (is_reset_event roots e) r).0))
+      (λ r. absurd (let z = neither q r h in cc)))
+    where
+      neither : (is_clock_event nets e && is_reset_event roots f) ≡ false → (is_clock_event nets f && is_reset_event roots e) ≡ false → is_some (both_events nets roots e f) ≡ true → false ≡ true
+      neither q r h = subst (λ (c : Bool). is_some (if c then Some (ByBoth f e) else None) ≡ true) r (subst (λ (c : Bool). is_some (if c then Some (ByBoth e f) else (if is_clock_event nets f && is_reset_event roots e then Some (ByBoth f e) else None)) ≡ true) q h)
+  clock_bit_net (e ∷ f ∷ g ∷ es) h = cc
+
   pub clock_net_is : (p : ℕ) → kind (net_work.process p) ≡ AClocked → contains nets (clock_net (net_work.process p)) ≡ true
   clock_net_is p = by_kind d a.clock.first (λ p x. kind x ≡ AClocked → contains nets (clock_net x) ≡ true) (record {
     assigns = λ p place port target_place target e h w. cc;
     combs = λ p place star events st h k w. cc;
-    clocked = λ p place star events st h k w. clock_of (posedge_bit events) (not_both (is_clock_net nets (posedge_bit events)) (subst (λ c. (c && not (is_clock_net nets (posedge_bit events))) ≡ false) k (none_at (has_other_clock nets) d.processes p (Always place star events st) a.one_clock h)));
+    clocked = λ p place star events st h k w. clock_bit_net events (events_there p place star events st h k);
     inputs = λ p i r l e f w. cc;
     clock = λ p i r l e f w. cc;
     none = λ p w. cc;
   }) p
-    where
-      clock_of : (o : Option ℕ) → is_clock_net nets o ≡ true → contains nets (unwrap_or o 0) ≡ true
-      clock_of None h = cc
-      clock_of (Some b) h = h
 
   port_written : (b : ℕ) → (q : PortAt nets d.processes b) → contains (writes_of q.process) b ≡ true
   port_written b q = go q.port
@@ -100,14 +126,14 @@ module _ (d : Design) (name : List ℕ) (a : IsAcceptedDesign d name) where
       go (inr k) =
           let q = port_at nets d.processes b k in
           let w = port_written b q in
-          let at = at_process d.processes (map (Rattle.vs_design.specs.Networks.writer_of a.clock.first) (Rattle.vs_design.specs.Designs.top_inputs d)) q.number q.process q.is in
+          let at = at_process d a.clock.first d.processes (map (Rattle.vs_design.specs.Networks.writer_of a.clock.first) (Rattle.vs_design.specs.Designs.top_inputs d)) q.number q.process q.is in
           (q.number, rw at (written q.process w), inr (rw at (rw q.port.is refl)))
         where
-          written : (x : Process) → contains (writes_of x) b ≡ true → writes (Rattle.vs_design.specs.Networks.process_of x) b ≡ true
+          written : (x : Process) → contains (writes_of x) b ≡ true → writes (Rattle.vs_design.specs.Networks.process_of d a.clock.first x) b ≡ true
           written (Continuous place port target_place target e) w = w
           written (Always place star events st) w = blocks (is_clocked (Always place star events st))
             where
-              blocks : (c : Bool) → writes (Rattle.vs_design.specs.Networks.block_process c (Always place star events st) events st) b ≡ true
+              blocks : (c : Bool) → writes (Rattle.vs_design.specs.Networks.block_process d a.clock.first c (Always place star events st) events st) b ≡ true
               blocks true = w
               blocks false = w
 
@@ -181,8 +207,8 @@ module _ (d : Design) (name : List ℕ) (a : IsAcceptedDesign d name) where
           (λ q. absurd (go q (net_is (length d.processes) d.processes a.clock.first b n)))
           (λ q. q)
         where
-          at : net_work.process p ≡ Rattle.vs_design.specs.Networks.process_of (Continuous place port target_place target e)
-          at = at_process d.processes (map (Rattle.vs_design.specs.Networks.writer_of a.clock.first) (Rattle.vs_design.specs.Designs.top_inputs d)) p (Continuous place port target_place target e) h
+          at : net_work.process p ≡ Rattle.vs_design.specs.Networks.process_of d a.clock.first (Continuous place port target_place target e)
+          at = at_process d a.clock.first d.processes (map (Rattle.vs_design.specs.Networks.writer_of a.clock.first) (Rattle.vs_design.specs.Designs.top_inputs d)) p (Continuous place port target_place target e) h
 
           go : contains (target_bits target) b ≡ true → (b ≡ a.clock.first) ⊎ (contains (port_targets nets d.processes) b ≡ true) → ⊥
           go q (inl m) =

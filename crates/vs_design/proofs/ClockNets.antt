@@ -50,7 +50,7 @@ clock_number d name a = length d.processes + (clock_at d name a).0
 
 pub clock_process : (d : Design) (name : List ℕ) (a : IsAcceptedDesign d name) → (network_of d a.clock.first).process (clock_number d name a) ≡ N.Clock a.clock.first
 unfolding clock_number
-clock_process d name a = at_writer d.processes a.clock.first (top_inputs d) (clock_at d name a).0 (clock_number d name a) a.clock refl (clock_at d name a).1 ∙ rw (eq-eqb a.clock.first a.clock.first refl) refl
+clock_process d name a = at_writer d d.processes a.clock.first (top_inputs d) (clock_at d name a).0 (clock_number d name a) a.clock refl (clock_at d name a).1 ∙ rw (eq-eqb a.clock.first a.clock.first refl) refl
 
 -- ---- nets and ports
 

@@ -8,11 +8,12 @@ use Rattle.vs_design.specs.Fits.{fits_process}
 use Rattle.vs_design.specs.Elaborated.{is_formed_process}
 use Rattle.vs_design.specs.Sizes.{size}
 use Rattle.vs_design.specs.Rules.{mixed_assigns, missing_bits, latches, shared_bits}
-use Rattle.vs_design.specs.Clocks.{clock_input, clock_nets, reads_clock, has_other_clock}
+use Rattle.vs_design.specs.Clocks.{clock_input, clock_nets, root_of, reads_clock, has_other_clock}
+use Rattle.vs_design.specs.Resets.{has_other_form}
 use Rattle.vs_design.specs.Levels.{level_order}
-use Rattle.vs_design.specs.TimeZero.{families, sleeps}
+use Rattle.vs_design.specs.TimeZero.{families, is_uncertain}
 use Rattle.vs_design.specs.Accepted.{is_empty, IsAcceptedDesign}
-use Rattle.vs_design.specs.Refusals.{least, otherwise, first_found, where_true, TooWide, Division, TooLarge, wide_in, divisions_in, earlier, too_large, MixedAssign, Sensitivity, Latch, signal_of, block_refusal_of, ClockRead, NotTheClock, clock_refusal_by, TimeZero, zero_refusal_by, IsUnrefused}
+use Rattle.vs_design.specs.Refusals.{least, otherwise, first_found, where_true, TooWide, Division, TooLarge, wide_in, divisions_in, earlier, too_large, MixedAssign, Sensitivity, Latch, signal_of, block_refusal_of, ClockRead, NotTheClock, ResetForm, clock_refusal_by, TimeZero, zero_refusal_by, IsUnrefused}
 use Rattle.vs_design.specs.Laws.{AcceptedExactly}
 use Rattle.vs_design.proofs.Lists.{and_both, or_false, or_neither}
 use Rattle.vs_design.proofs.Drivers.{empty_is}
@@ -154,27 +155,31 @@ blocks_clear d ps h k l =
 -- what nothing of the clock and of time zero refuses
 record ClockFacts (d : Design) (clock : Signal) : Type 0 where
   pub unread : list_any (reads_clock (clock_nets d clock.first)) d.processes ≡ false
-  pub one : list_any (has_other_clock (clock_nets d clock.first)) d.processes ≡ false
-  pub awake : list_any (sleeps (families d clock.first (level_order d))) d.processes ≡ false
+  pub one : list_any (has_other_clock (clock_nets d clock.first) (root_of d clock.first)) d.processes ≡ false
+  pub forms : list_any (has_other_form (clock_nets d clock.first) (root_of d clock.first)) d.processes ≡ false
+  pub awake : list_any (is_uncertain d (families d clock.first (level_order d))) d.processes ≡ false
 
 clock_clear : (d : Design) (o : Option Signal) → clock_refusal_by d o ≡ None → zero_refusal_by d o ≡ None → (clock : Signal) × (o ≡ Some clock) × ClockFacts d clock
 clock_clear d None h k = cc
 clock_clear d (Some clock) h k =
-    let a = otherwise_none (first_found (λ p process. where_true (reads_clock (clock_nets d clock.first) process) (ClockRead p (process_place process))) 0 d.processes) (first_found (λ p process. where_true (has_other_clock (clock_nets d clock.first) process) (NotTheClock p (process_place process))) 0 d.processes) h in (
+    let a = otherwise_none (first_found (λ p process. where_true (reads_clock (clock_nets d clock.first) process) (ClockRead p (process_place process))) 0 d.processes) (otherwise (first_found (λ p process. where_true (has_other_clock (clock_nets d clock.first) (root_of d clock.first) process) (NotTheClock p (process_place process))) 0 d.processes) (first_found (λ p process. where_true (has_other_form (clock_nets d clock.first) (root_of d clock.first) process) (ResetForm p (process_place process))) 0 d.processes)) h in
+    let b = otherwise_none (first_found (λ p process. where_true (has_other_clock (clock_nets d clock.first) (root_of d clock.first) process) (NotTheClock p (process_place process))) 0 d.processes) (first_found (λ p process. where_true (has_other_form (clock_nets d clock.first) (root_of d clock.first) process) (ResetForm p (process_place process))) 0 d.processes) a.1 in (
       clock,
       refl,
       record {
         unread = any_none (λ p process. where_true (reads_clock (clock_nets d clock.first) process) (ClockRead p (process_place process))) (reads_clock (clock_nets d clock.first)) 0 d.processes (λ p x f. true_where (reads_clock (clock_nets d clock.first) x) (ClockRead p (process_place x)) f) a.0;
-        one = any_none (λ p process. where_true (has_other_clock (clock_nets d clock.first) process) (NotTheClock p (process_place process))) (has_other_clock (clock_nets d clock.first)) 0 d.processes (λ p x f. true_where (has_other_clock (clock_nets d clock.first) x) (NotTheClock p (process_place x)) f) a.1;
-        awake = any_none (λ p process. where_true (sleeps (families d clock.first (level_order d)) process) (TimeZero p (process_place process))) (sleeps (families d clock.first (level_order d))) 0 d.processes (λ p x f. true_where (sleeps (families d clock.first (level_order d)) x) (TimeZero p (process_place x)) f) k;
+        one = any_none (λ p process. where_true (has_other_clock (clock_nets d clock.first) (root_of d clock.first) process) (NotTheClock p (process_place process))) (has_other_clock (clock_nets d clock.first) (root_of d clock.first)) 0 d.processes (λ p x f. true_where (has_other_clock (clock_nets d clock.first) (root_of d clock.first) x) (NotTheClock p (process_place x)) f) b.0;
+        forms = any_none (λ p process. where_true (has_other_form (clock_nets d clock.first) (root_of d clock.first) process) (ResetForm p (process_place process))) (has_other_form (clock_nets d clock.first) (root_of d clock.first)) 0 d.processes (λ p x f. true_where (has_other_form (clock_nets d clock.first) (root_of d clock.first) x) (ResetForm p (process_place x)) f) b.1;
+        awake = any_none (λ p process. where_true (is_uncertain d (families d clock.first (level_order d)) process) (TimeZero p (process_place process))) (is_uncertain d (families d clock.first (level_order d))) 0 d.processes (λ p x f. true_where (is_uncertain d (families d clock.first (level_order d)) x) (TimeZero p (process_place x)) f) k;
       },
     )
 
 clear_clock : (d : Design) (o : Option Signal) (clock : Signal) → o ≡ Some clock → ClockFacts d clock → (clock_refusal_by d o ≡ None) × (zero_refusal_by d o ≡ None)
 clear_clock d o clock e f = subst (λ q. (clock_refusal_by d q ≡ None) × (zero_refusal_by d q ≡ None)) (sym e) (
   none_otherwise _ _ (none_any (λ p process. where_true (reads_clock (clock_nets d clock.first) process) (ClockRead p (process_place process))) (reads_clock (clock_nets d clock.first)) 0 d.processes (λ p x g. where_false (reads_clock (clock_nets d clock.first) x) (ClockRead p (process_place x)) g) f.unread)
-      (none_any (λ p process. where_true (has_other_clock (clock_nets d clock.first) process) (NotTheClock p (process_place process))) (has_other_clock (clock_nets d clock.first)) 0 d.processes (λ p x g. where_false (has_other_clock (clock_nets d clock.first) x) (NotTheClock p (process_place x)) g) f.one),
-  none_any (λ p process. where_true (sleeps (families d clock.first (level_order d)) process) (TimeZero p (process_place process))) (sleeps (families d clock.first (level_order d))) 0 d.processes (λ p x g. where_false (sleeps (families d clock.first (level_order d)) x) (TimeZero p (process_place x)) g) f.awake,
+      (none_otherwise _ _ (none_any (λ p process. where_true (has_other_clock (clock_nets d clock.first) (root_of d clock.first) process) (NotTheClock p (process_place process))) (has_other_clock (clock_nets d clock.first) (root_of d clock.first)) 0 d.processes (λ p x g. where_false (has_other_clock (clock_nets d clock.first) (root_of d clock.first) x) (NotTheClock p (process_place x)) g) f.one)
+      (none_any (λ p process. where_true (has_other_form (clock_nets d clock.first) (root_of d clock.first) process) (ResetForm p (process_place process))) (has_other_form (clock_nets d clock.first) (root_of d clock.first)) 0 d.processes (λ p x g. where_false (has_other_form (clock_nets d clock.first) (root_of d clock.first) x) (ResetForm p (process_place x)) g) f.forms)),
+  none_any (λ p process. where_true (is_uncertain d (families d clock.first (level_order d)) process) (TimeZero p (process_place process))) (is_uncertain d (families d clock.first (level_order d))) 0 d.processes (λ p x g. where_false (is_uncertain d (families d clock.first (level_order d)) x) (TimeZero p (process_place x)) g) f.awake,
 )
 
 -- ---- the law
@@ -184,7 +189,7 @@ accepted_exactly d name lawful = (there, back)
   where
     there : IsAcceptedDesign d name → IsUnrefused d name
     there a =
-        let c = clear_clock d (clock_input d name) a.clock a.clock_found (record { unread = a.clock_unread; one = a.one_clock; awake = a.awake }) in
+        let c = clear_clock d (clock_input d name) a.clock a.clock_found (record { unread = a.clock_unread; one = a.one_clock; forms = a.reset_forms; awake = a.awake }) in
         record {
           widths = none_otherwise _ _ (fit_all d.processes a.fit) (where_false (nat_lt 16777216 (size d)) (TooLarge (size d)) (is_small (size d) 16777216 a.small));
           blocks = blocks_clear d d.processes a.unmixed a.sensitive a.no_latch;
@@ -210,6 +215,7 @@ accepted_exactly d name lawful = (there, back)
           clock_found = c.1;
           clock_unread = c.2.unread;
           one_clock = c.2.one;
+          reset_forms = c.2.forms;
           no_cycle = u.no_cycle;
           awake = c.2.awake;
         }

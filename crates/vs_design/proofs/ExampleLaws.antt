@@ -5,7 +5,7 @@ use Rattle.vs_net.specs.Queue.{change, changes, is_held}
 use Rattle.vs_design.specs.Accepted.{IsAcceptedDesign}
 use Rattle.vs_design.specs.Cycles.{IsCycle, Feeds}
 use Rattle.vs_design.specs.ExampleParts.{clk, clk_signal}
-use Rattle.vs_design.specs.ExampleDesigns.{DesignsComputed, and_gate, counter, if_and_choice, three_registers, woken, set_once, chain, quiet, port, adder, clocked_instance, sum}
+use Rattle.vs_design.specs.ExampleDesigns.{DesignsComputed, and_gate, counter, if_and_choice, three_registers, woken, set_once, chain, quiet, sleeper, never_run, resettable, reset_through_port, port, adder, clocked_instance, sum}
 use Rattle.vs_design.specs.ExampleRefusals.{RefusalsComputed, loop}
 
 and_gate_is_accepted : IsAcceptedDesign and_gate clk
@@ -21,6 +21,7 @@ and_gate_is_accepted = record {
   clock_found = refl;
   clock_unread = refl;
   one_clock = refl;
+  reset_forms = refl;
   no_cycle = refl;
   awake = refl;
 }
@@ -38,6 +39,7 @@ counter_is_accepted = record {
   clock_found = refl;
   clock_unread = refl;
   one_clock = refl;
+  reset_forms = refl;
   no_cycle = refl;
   awake = refl;
 }
@@ -55,6 +57,7 @@ if_and_choice_is_accepted = record {
   clock_found = refl;
   clock_unread = refl;
   one_clock = refl;
+  reset_forms = refl;
   no_cycle = refl;
   awake = refl;
 }
@@ -72,6 +75,7 @@ three_registers_is_accepted = record {
   clock_found = refl;
   clock_unread = refl;
   one_clock = refl;
+  reset_forms = refl;
   no_cycle = refl;
   awake = refl;
 }
@@ -89,6 +93,7 @@ woken_is_accepted = record {
   clock_found = refl;
   clock_unread = refl;
   one_clock = refl;
+  reset_forms = refl;
   no_cycle = refl;
   awake = refl;
 }
@@ -106,6 +111,7 @@ set_once_is_accepted = record {
   clock_found = refl;
   clock_unread = refl;
   one_clock = refl;
+  reset_forms = refl;
   no_cycle = refl;
   awake = refl;
 }
@@ -123,6 +129,79 @@ chain_is_accepted = record {
   clock_found = refl;
   clock_unread = refl;
   one_clock = refl;
+  reset_forms = refl;
+  no_cycle = refl;
+  awake = refl;
+}
+
+sleeper_is_accepted : IsAcceptedDesign sleeper clk
+sleeper_is_accepted = record {
+  lawful = record { scopes = refl; numbered = refl; bits_numbered = refl; declared = refl; formed = refl; few_bits = lit≤ tt; few_processes = lit≤ tt };
+  fit = refl;
+  small = lit≤ tt;
+  unmixed = refl;
+  sensitive = refl;
+  no_latch = refl;
+  one_driver = refl;
+  clock = clk_signal;
+  clock_found = refl;
+  clock_unread = refl;
+  one_clock = refl;
+  reset_forms = refl;
+  no_cycle = refl;
+  awake = refl;
+}
+
+never_run_is_accepted : IsAcceptedDesign never_run clk
+never_run_is_accepted = record {
+  lawful = record { scopes = refl; numbered = refl; bits_numbered = refl; declared = refl; formed = refl; few_bits = lit≤ tt; few_processes = lit≤ tt };
+  fit = refl;
+  small = lit≤ tt;
+  unmixed = refl;
+  sensitive = refl;
+  no_latch = refl;
+  one_driver = refl;
+  clock = clk_signal;
+  clock_found = refl;
+  clock_unread = refl;
+  one_clock = refl;
+  reset_forms = refl;
+  no_cycle = refl;
+  awake = refl;
+}
+
+resettable_is_accepted : IsAcceptedDesign resettable clk
+resettable_is_accepted = record {
+  lawful = record { scopes = refl; numbered = refl; bits_numbered = refl; declared = refl; formed = refl; few_bits = lit≤ tt; few_processes = lit≤ tt };
+  fit = refl;
+  small = lit≤ tt;
+  unmixed = refl;
+  sensitive = refl;
+  no_latch = refl;
+  one_driver = refl;
+  clock = clk_signal;
+  clock_found = refl;
+  clock_unread = refl;
+  one_clock = refl;
+  reset_forms = refl;
+  no_cycle = refl;
+  awake = refl;
+}
+
+reset_through_port_is_accepted : IsAcceptedDesign reset_through_port clk
+reset_through_port_is_accepted = record {
+  lawful = record { scopes = refl; numbered = refl; bits_numbered = refl; declared = refl; formed = refl; few_bits = lit≤ tt; few_processes = lit≤ tt };
+  fit = refl;
+  small = lit≤ tt;
+  unmixed = refl;
+  sensitive = refl;
+  no_latch = refl;
+  one_driver = refl;
+  clock = clk_signal;
+  clock_found = refl;
+  clock_unread = refl;
+  one_clock = refl;
+  reset_forms = refl;
   no_cycle = refl;
   awake = refl;
 }
@@ -140,6 +219,7 @@ quiet_is_accepted = record {
   clock_found = refl;
   clock_unread = refl;
   one_clock = refl;
+  reset_forms = refl;
   no_cycle = refl;
   awake = refl;
 }
@@ -157,6 +237,7 @@ port_is_accepted = record {
   clock_found = refl;
   clock_unread = refl;
   one_clock = refl;
+  reset_forms = refl;
   no_cycle = refl;
   awake = refl;
 }
@@ -174,6 +255,7 @@ adder_is_accepted = record {
   clock_found = refl;
   clock_unread = refl;
   one_clock = refl;
+  reset_forms = refl;
   no_cycle = refl;
   awake = refl;
 }
@@ -191,6 +273,7 @@ clocked_instance_is_accepted = record {
   clock_found = refl;
   clock_unread = refl;
   one_clock = refl;
+  reset_forms = refl;
   no_cycle = refl;
   awake = refl;
 }
@@ -208,6 +291,7 @@ sum_is_accepted = record {
   clock_found = refl;
   clock_unread = refl;
   one_clock = refl;
+  reset_forms = refl;
   no_cycle = refl;
   awake = refl;
 }
@@ -224,6 +308,19 @@ loop_is_cycle = ((feeds_01, feeds_10), (refl, (refl, tt)), (lit≤ tt, tt))
 pub designs_computed : DesignsComputed
 unfolding change changes is_held write_all is_written flatten
 designs_computed = record {
+  reset_through_port_accepted = reset_through_port_is_accepted;
+  reset_through_port_late = refl;
+  reset_through_port_ends = refl;
+  sleeper_size = refl;
+  sleeper_accepted = sleeper_is_accepted;
+  sleeper_asleep = refl;
+  sleeper_woken = refl;
+  never_run_size = refl;
+  never_run_accepted = never_run_is_accepted;
+  never_run_ends = refl;
+  resettable_size = refl;
+  resettable_accepted = resettable_is_accepted;
+  resettable_ends = refl;
   and_gate_size = refl;
   and_gate_accepted = and_gate_is_accepted;
   and_gate_ends = refl;
@@ -275,7 +372,9 @@ designs_computed = record {
 pub refusals_computed : RefusalsComputed
 refusals_computed = record {
   too_large_refused = refl;
-  sleeping_refused = refl;
+  unformed_refused = refl;
+  own_reset_refused = refl;
+  on_net_refused = refl;
   stirred_refused = refl;
   loop_refused = refl;
   loop_is_one = loop_is_cycle;

@@ -48,10 +48,10 @@ pub record CombFacts (x : Process) (st : Statement) : Type 0 where
   pub needed : (b : ℕ) → contains (without (statement_reads st) (statement_bits st)) b ≡ true → contains (reads_of x) b ≡ true
   pub apart : (b : ℕ) → contains (statement_bits st) b ≡ true → contains (waits_of x) b ≡ false
 
-pub comb_facts : (d : Design) (name : List ℕ) → IsAcceptedDesign d name → (p place : ℕ) (star : Bool) (events : List Event) (st : Statement) → slice_get d.processes p ≡ Some (Always place star events st) → is_clocked (Always place star events st) ≡ false → CombFacts (Always place star events st) st
-comb_facts d name a p place star events st h k = record {
-  unmixed = subst (λ c. mixed_in c st ≡ []) k (empty_is (mixed_assigns x) (all_at (λ p. is_empty (mixed_assigns p)) d.processes p x a.unmixed h));
-  no_latch = subst (λ (c : Bool). (if not c then latch_bits st else []) ≡ []) k (empty_is (latches x) (all_at (λ p. is_empty (latches p)) d.processes p x a.no_latch h));
+pub comb_facts_by : (place : ℕ) (star : Bool) (events : List Event) (st : Statement) → is_clocked (Always place star events st) ≡ false → mixed_assigns (Always place star events st) ≡ [] → latches (Always place star events st) ≡ [] → missing_bits (Always place star events st) ≡ [] → CombFacts (Always place star events st) st
+comb_facts_by place star events st k none_mixed no_latches none_missing = record {
+  unmixed = subst (λ c. mixed_in c st ≡ []) k none_mixed;
+  no_latch = subst (λ (c : Bool). (if not c then latch_bits st else []) ≡ []) k no_latches;
   waits = λ b q. subst (λ (c : Bool). contains (if not c then without (signals_bits (wait_signals x)) (statement_bits st) else []) b ≡ true) (sym k) (contains_without (signals_bits (wait_signals x)) (statement_bits st) b (waited b q) (unwritten b q));
   needed = λ b q. subst (λ (c : Bool). contains (if not c then without (statement_reads st) (statement_bits st) else statement_reads st) b ≡ true) (sym k) q;
   apart = λ b q. subst (λ (c : Bool). contains (if not c then without (signals_bits (wait_signals x)) (statement_bits st) else []) b ≡ false) (sym k) (gone (signals_bits (wait_signals x)) (statement_bits st) b q);
@@ -78,7 +78,7 @@ comb_facts d name a p place star events st h k = record {
         and_no false = refl
 
     missing : without (if not (is_clocked x) then without (statement_reads st) (statement_bits st) else statement_reads st) (signals_bits (wait_signals x)) ≡ []
-    missing = subst (λ (c : Bool). (if c then without (reads_of x) (signals_bits (wait_signals x)) else []) ≡ []) (ap not k) (empty_is (missing_bits x) (all_at (λ p. is_empty (missing_bits p)) d.processes p x a.sensitive h))
+    missing = subst (λ (c : Bool). (if c then without (reads_of x) (signals_bits (wait_signals x)) else []) ≡ []) (ap not k) none_missing
 
     waited : (b : ℕ) → contains (without (statement_reads st) (statement_bits st)) b ≡ true → contains (signals_bits (wait_signals x)) b ≡ true
     waited b q =
@@ -87,6 +87,12 @@ comb_facts d name a p place star events st h k = record {
         (λ e.
         let m : without (without (statement_reads st) (statement_bits st)) (signals_bits (wait_signals x)) ≡ [] = subst (λ (c : Bool). without (if not c then without (statement_reads st) (statement_bits st) else statement_reads st) (signals_bits (wait_signals x)) ≡ []) k missing in
         absurd (either_way (contains (without (without (statement_reads st) (statement_bits st)) (signals_bits (wait_signals x))) b) (contains_without (without (statement_reads st) (statement_bits st)) (signals_bits (wait_signals x)) b q e) (ap (λ ys. contains ys b) m)))
+
+pub comb_facts : (d : Design) (name : List ℕ) → IsAcceptedDesign d name → (p place : ℕ) (star : Bool) (events : List Event) (st : Statement) → slice_get d.processes p ≡ Some (Always place star events st) → is_clocked (Always place star events st) ≡ false → CombFacts (Always place star events st) st
+comb_facts d name a p place star events st h k = comb_facts_by place star events st k
+    (empty_is (mixed_assigns (Always place star events st)) (all_at (λ p. is_empty (mixed_assigns p)) d.processes p (Always place star events st) a.unmixed h))
+    (empty_is (latches (Always place star events st)) (all_at (λ p. is_empty (latches p)) d.processes p (Always place star events st) a.no_latch h))
+    (empty_is (missing_bits (Always place star events st)) (all_at (λ p. is_empty (missing_bits p)) d.processes p (Always place star events st) a.sensitive h))
 
 pub clocked_unmixed : (d : Design) (name : List ℕ) → IsAcceptedDesign d name → (p place : ℕ) (star : Bool) (events : List Event) (st : Statement) → slice_get d.processes p ≡ Some (Always place star events st) → is_clocked (Always place star events st) ≡ true → mixed_in true st ≡ []
 clocked_unmixed d name a p place star events st h k = subst (λ c. mixed_in c st ≡ []) k (empty_is (mixed_assigns (Always place star events st)) (all_at (λ p. is_empty (mixed_assigns p)) d.processes p (Always place star events st) a.unmixed h))

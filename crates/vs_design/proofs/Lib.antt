@@ -23,6 +23,8 @@ pub mod LawfulParts
 pub mod ClockNets
 pub mod ClockLaws
 pub mod TimeBits
+pub mod ResetLaws
+pub mod SleepLaws
 pub mod TimeLaws
 pub mod Lawful
 pub mod WidthExact
@@ -34,6 +36,7 @@ pub mod TwoWriters
 pub mod SetReads
 pub mod SetReadsBody
 pub mod Solved
+pub mod SleepingIs
 pub mod Apart
 pub mod LevelTurns
 pub mod CycleFound

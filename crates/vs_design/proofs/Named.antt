@@ -93,7 +93,7 @@ items_named d (e ∷ es) b f h =
     join_bits (read_bits e) (items_reads es) (read_signals e) (items_signals es) b (read_named d e b p.0) (items_named d es b p.1) h
 
 mutual
-  statement_named : (d : Design) (st : Statement) (b : ℕ) → is_formed_statement d st ≡ true → contains (statement_reads st) b ≡ true → contains (signals_bits (statement_signals st)) b ≡ true
+  pub statement_named : (d : Design) (st : Statement) (b : ℕ) → is_formed_statement d st ≡ true → contains (statement_reads st) b ≡ true → contains (signals_bits (statement_signals st)) b ≡ true
   statement_named d Empty b f h = h
   statement_named d (Assignment place target e blocking) b f h =
       let p = and_both (is_formed_target d is_variable target) (is_formed d e) f in

@@ -1,20 +1,22 @@
 -- The equations of a slot on a design are those of its network.
-use Rattle.std.proofs.Common.{◌≡◌, ℕ, ◌+◌, Bool, true, false, List, [], ◌∷◌, ◌++◌, ◌||◌, ◌&&◌, ◌==◌, refl, sym, ap, ◌∙◌, subst, map, length, Some, eqb-true, eq-eqb}
-use Rattle.std.specs.Prelude.{slice_get, unwrap_or}
+use Rattle.std.proofs.Common.{◌≡◌, ℕ, ◌+◌, Bool, true, false, List, [], ◌∷◌, ◌++◌, ◌||◌, ◌&&◌, ◌==◌, if◌then◌else◌, refl, sym, ap, ◌∙◌, subst, map, length, Some, eqb-true, eq-eqb, None, Option}
+use Rattle.std.specs.Prelude.{slice_get}
 use Rattle.vs_four.specs.declared.Bit4.{Bit4}
 use Rattle.vs_net.specs.Network.{State, Write, Update, put, write_all, is_written, flatten, Network, Kind, AnInput, TheClock, AnAssign, AComb, AClocked, kind, writes, made}
 use Rattle.vs_net.specs.Network as N
 use Rattle.vs_net.specs.Queue.{Slot, Fall, Rise}
-use Rattle.vs_net.specs.Solution.{IsWriter, driven, IsSlotEnd}
+use Rattle.vs_net.specs.Solution.{IsWriter, driven, is_asleep, blank, IsSlotEnd}
 use Rattle.vs_net.proofs.Basics.{write_all_other}
-use Rattle.vs_design.specs.Expressions.{Signal, signal_length}
+use Rattle.vs_design.specs.Expressions.{Signal, signal_length, Expression}
 use Rattle.vs_design.specs.Values.{count_from, bits_of_signal}
-use Rattle.vs_design.specs.Statements.{Statement}
+use Rattle.vs_design.specs.Statements.{Target, Statement}
 use Rattle.vs_design.specs.Bodies.{body}
-use Rattle.vs_design.specs.Designs.{Event, Process, Continuous, Always, is_clocked, Design, top_inputs}
+use Rattle.vs_design.specs.Designs.{Event, Port, Process, Continuous, Always, is_clocked, Design, top_inputs}
 use Rattle.vs_design.specs.Footprints.{contains, statement_bits, writes_of, input_bits}
-use Rattle.vs_design.specs.Clocks.{posedge_bit, same_name}
-use Rattle.vs_design.specs.Networks.{network_of, process_of, writer_of, block_process}
+use Rattle.vs_design.specs.Clocks.{clock_bit, same_name}
+use Rattle.vs_design.specs.Resets.{reset_of}
+use Rattle.vs_design.specs.Sleepers.{sleeper_of, sleeper_at}
+use Rattle.vs_design.specs.Networks.{events_in, network_of, process_of, writer_of, block_process}
 use Rattle.vs_design.specs.Accepted.{IsAcceptedDesign}
 use Rattle.vs_design.specs.SlotValues.{clock_value, input_value, register_value, IsSlotValues, SlotValuesAre}
 use Rattle.vs_design.proofs.Lists.{by_test, and_both}
@@ -66,10 +68,10 @@ unfolding write_all flatten
 clock_driven clock (Fall v) before = rw (eq-eqb clock clock refl) refl
 clock_driven clock Rise before = rw (eq-eqb clock clock refl) refl
 
-register_driven : (c : ℕ) (targets : ℕ → Bool) (st : Statement) (slot : Slot) (before : State) → driven (N.Clocked c targets (body st)) slot before ≡ register_value st slot before
+register_driven : (c : ℕ) (reset : Option N.Reset) (targets : ℕ → Bool) (st : Statement) (slot : Slot) (before : State) → driven (N.Clocked c reset targets (body st)) slot before ≡ register_value reset st slot before
 unfolding write_all flatten
-register_driven c targets st (Fall v) before = refl
-register_driven c targets st Rise before = refl
+register_driven c reset targets st (Fall v) before = refl
+register_driven c reset targets st Rise before = refl
 
 nothing_made : (s : State) → write_all s [] ≡ s
 unfolding write_all
@@ -79,24 +81,39 @@ module _ (d : Design) (name : List ℕ) (a : IsAcceptedDesign d name) (before : 
   abbrev net_work : Network
   net_work = network_of d a.clock.first
 
-  process_at : (p : ℕ) (x : Process) → slice_get d.processes p ≡ Some x → net_work.process p ≡ process_of x
-  process_at p x h = at_process d.processes (map (writer_of a.clock.first) (top_inputs d)) p x h
+  process_at : (p : ℕ) (x : Process) → slice_get d.processes p ≡ Some x → net_work.process p ≡ process_of d a.clock.first x
+  process_at p x h = at_process d a.clock.first d.processes (map (writer_of a.clock.first) (top_inputs d)) p x h
 
   writer_at : (i : ℕ) (r : Signal) → slice_get (top_inputs d) i ≡ Some r → net_work.process (length d.processes + i) ≡ writer_of a.clock.first r
-  writer_at i r h = at_writer d.processes a.clock.first (top_inputs d) i (length d.processes + i) r refl h
+  writer_at i r h = at_writer d d.processes a.clock.first (top_inputs d) i (length d.processes + i) r refl h
 
-  block_is : (place : ℕ) (star : Bool) (events : List Event) (st : Statement) (c : Bool) → is_clocked (Always place star events st) ≡ c → process_of (Always place star events st) ≡ block_process c (Always place star events st) events st
-  block_is place star events st c e = ap {B = N.Process} (λ x. block_process x (Always place star events st) events st) e
+  block_is : (place : ℕ) (star : Bool) (events : List Event) (st : Statement) (c : Bool) → is_clocked (Always place star events st) ≡ c → process_of d a.clock.first (Always place star events st) ≡ block_process d a.clock.first c (Always place star events st) events st
+  block_is place star events st c e = ap {B = N.Process} (λ x. block_process d a.clock.first x (Always place star events st) events st) e
+
+  -- what a process gives, where it is the block of this sleeper or none
+  abbrev given_by : Option N.Sleeper → N.Process → List Write
+  given_by o y = if is_asleep o before s then blank (made y s) else made y s
+
+  -- an assign doesn't sleep
+  awake_assign : (p place : ℕ) (port : Port) (target_place : ℕ) (target : Target) (e : Expression) → slice_get d.processes p ≡ Some (Continuous place port target_place target e) → sleeper_at d p ≡ None
+  awake_assign p place port target_place target e i = ap {B = Option N.Sleeper} (sleeper_of d) i
+
+  nothing_given : (o : Option N.Sleeper) (y : N.Process) → made y s ≡ [] → write_all s (given_by o y) ≡ s
+  nothing_given o y e = subst (λ ws. write_all s ws ≡ s) (sym (none (is_asleep o before s) (made y s) e)) (nothing_made s)
+    where
+      none : (t : Bool) (ws : List Write) → ws ≡ [] → (if t then blank ws else ws) ≡ []
+      none true ws h = rw h refl
+      none false ws h = h
 
   -- ---- from the network's equations to the design's
 
   there : IsSlotEnd net_work before slot s → IsSlotValues d a.clock.first before slot s
   there h = record {
-    assign = λ p place port target_place target e i. subst (λ x. write_all s (made x s) ≡ s) (process_at p (Continuous place port target_place target e) i) (h.settled p);
-    block = λ p st i. subst (λ x. write_all s (made x s) ≡ s) (process_at p (Always i.place i.star i.events st) i.is ∙ block_is i.place i.star i.events st false i.combinational) (h.settled p);
+    assign = λ p place port target_place target e i. subst (λ o. write_all s (given_by o (process_of d a.clock.first (Continuous place port target_place target e))) ≡ s) (awake_assign p place port target_place target e i) (subst (λ x. write_all s (given_by (sleeper_at d p) x) ≡ s) (process_at p (Continuous place port target_place target e) i) (h.settled p));
+    block = λ p st i. subst (λ x. write_all s (given_by (sleeper_at d p) x) ≡ s) (process_at p (Always i.place i.star i.events st) i.is ∙ block_is i.place i.star i.events st false i.combinational) (h.settled p);
     register = λ p place star events st i k b w.
         let e = process_at p (Always place star events st) i ∙ block_is place star events st true k in
-        registered p (unwrap_or (posedge_bit events) 0) st e b w;
+        registered p (clock_bit (events_in d a.clock.first events)) (reset_of d a.clock.first (Always place star events st)) st e b w;
     clock_input =
         let c = clock_at d name a in
         clocked (length d.processes + c.0) (writer_at c.0 a.clock c.1 ∙ clock_writer a.clock (eq-eqb a.clock.first a.clock.first refl));
@@ -110,9 +127,9 @@ module _ (d : Design) (name : List ℕ) (a : IsAcceptedDesign d name) (before : 
       input_writer : (r : Signal) → (r.first == a.clock.first) ≡ false → writer_of a.clock.first r ≡ N.Input (bits_of_signal r)
       input_writer r e = rw e refl
 
-      registered : (p c : ℕ) (st : Statement) → net_work.process p ≡ N.Clocked c (contains (statement_bits st)) (body st) → (b : ℕ) → contains (statement_bits st) b ≡ true → s b ≡ register_value st slot before b
-      registered p c st e b w =
-          subst (λ x. IsWriter (kind x) → writes x b ≡ true → s b ≡ driven x slot before b) e (h.updated p b) tt w ∙ ap {B = Bit4} (λ (t : State). t b) (register_driven c (contains (statement_bits st)) st slot before)
+      registered : (p c : ℕ) (reset : Option N.Reset) (st : Statement) → net_work.process p ≡ N.Clocked c reset (contains (statement_bits st)) (body st) → (b : ℕ) → contains (statement_bits st) b ≡ true → s b ≡ register_value reset st slot before b
+      registered p c reset st e b w =
+          subst (λ x. IsWriter (kind x) → writes x b ≡ true → s b ≡ driven x slot before b) e (h.updated p b) tt w ∙ ap {B = Bit4} (λ (t : State). t b) (register_driven c reset (contains (statement_bits st)) st slot before)
 
       clocked : (p : ℕ) → net_work.process p ≡ N.Clock a.clock.first → s a.clock.first ≡ clock_value slot
       clocked p e = subst (λ x. IsWriter (kind x) → writes x a.clock.first ≡ true → s a.clock.first ≡ driven x slot before a.clock.first) e (h.updated p a.clock.first) tt (eq-eqb a.clock.first a.clock.first refl) ∙ clock_driven a.clock.first slot before
@@ -137,18 +154,18 @@ module _ (d : Design) (name : List ℕ) (a : IsAcceptedDesign d name) (before : 
 
   back : IsSlotValues d a.clock.first before slot s → IsSlotEnd net_work before slot s
   back h = record {
-    settled = by_kind d a.clock.first (λ p x. write_all s (made x s) ≡ s) (record {
-      assigns = λ p place port target_place target e i. h.assign p place port target_place target e i;
+    settled = by_kind d a.clock.first (λ p x. write_all s (given_by (sleeper_at d p) x) ≡ s) (record {
+      assigns = λ p place port target_place target e i. subst (λ o. write_all s (given_by o (process_of d a.clock.first (Continuous place port target_place target e))) ≡ s) (sym (awake_assign p place port target_place target e i)) (h.assign p place port target_place target e i);
       combs = λ p place star events st i k. h.block p st (record { place = place; star = star; events = events; is = i; combinational = k });
-      clocked = λ p place star events st i k. subst (λ ws. write_all s ws ≡ s) (sym (body_writes st s (clocked_unmixed d name a p place star events st i k))) (nothing_made s);
-      inputs = λ p j r l e f. nothing_made s;
-      clock = λ p j r l e f. nothing_made s;
-      none = λ p. nothing_made s;
+      clocked = λ p place star events st i k. nothing_given (sleeper_at d p) (N.Clocked (clock_bit (events_in d a.clock.first events)) (reset_of d a.clock.first (Always place star events st)) (contains (statement_bits st)) (body st)) (body_writes st s (clocked_unmixed d name a p place star events st i k));
+      inputs = λ p j r l e f. nothing_given (sleeper_at d p) (N.Input (bits_of_signal r)) refl;
+      clock = λ p j r l e f. nothing_given (sleeper_at d p) (N.Clock a.clock.first) refl;
+      none = λ p. nothing_given (sleeper_at d p) (N.Input []) refl;
     });
     updated = λ p b. by_kind d a.clock.first (λ p x. IsWriter (kind x) → writes x b ≡ true → s b ≡ driven x slot before b) (record {
       assigns = λ p place port target_place target e i w z. absurd w;
       combs = λ p place star events st i k w z. absurd w;
-      clocked = λ p place star events st i k w z. h.register p place star events st i k b z ∙ sym (ap {B = Bit4} (λ (t : State). t b) (register_driven (unwrap_or (posedge_bit events) 0) (contains (statement_bits st)) st slot before));
+      clocked = λ p place star events st i k w z. h.register p place star events st i k b z ∙ sym (ap {B = Bit4} (λ (t : State). t b) (register_driven (clock_bit (events_in d a.clock.first events)) (reset_of d a.clock.first (Always place star events st)) (contains (statement_bits st)) st slot before));
       inputs = λ p j r l e f w z. h.input j r e f b z ∙ sym (input_driven (bits_of_signal r) slot before b z);
       clock = λ p j r l e f w z. subst (λ m. s m ≡ driven (N.Clock a.clock.first) slot before m) (sym (eqb-true b a.clock.first z)) (h.clock_input ∙ sym (clock_driven a.clock.first slot before));
       none = λ p w z. cc;
@@ -156,11 +173,11 @@ module _ (d : Design) (name : List ℕ) (a : IsAcceptedDesign d name) (before : 
     kept = λ b n. h.kept b (λ p x e. not_written b n p x e) (no_input b n);
   }
     where
-      of_process : (x : Process) (b : ℕ) → contains (writes_of x) b ≡ true → writes (process_of x) b ≡ true
+      of_process : (x : Process) (b : ℕ) → contains (writes_of x) b ≡ true → writes (process_of d a.clock.first x) b ≡ true
       of_process (Continuous place port target_place target e) b w = w
       of_process (Always place star events st) b w = go (is_clocked (Always place star events st))
         where
-          go : (c : Bool) → writes (block_process c (Always place star events st) events st) b ≡ true
+          go : (c : Bool) → writes (block_process d a.clock.first c (Always place star events st) events st) b ≡ true
           go true = w
           go false = w
 

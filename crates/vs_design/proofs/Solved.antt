@@ -12,10 +12,10 @@ use Rattle.vs_design.specs.Levels.{needs, is_order_after, is_level_order}
 use Rattle.vs_design.specs.Sets.{Set4, only, union}
 use Rattle.vs_design.specs.Lifted.{Family}
 use Rattle.vs_design.specs.LiftedBodies.{assign_sets}
-use Rattle.vs_design.specs.TimeZero.{Families, families, families_along, early_source, late_source, block_sets, is_quiet}
+use Rattle.vs_design.specs.TimeZero.{Families, families, families_along, early_source, late_source, early_end, late_end, block_sets, is_quiet}
 use Rattle.vs_design.specs.Elaborated.{IsLawfulDesign, has_constant_selects, is_formed, is_formed_target, is_formed_port, is_formed_process}
 use Rattle.vs_design.specs.Accepted.{is_empty}
-use Rattle.vs_design.specs.Equations.{IsBlock, IsSource, IsOrderly, IsSolved}
+use Rattle.vs_design.specs.Equations.{IsBlock, sleeps, IsSource, IsOrderly, IsSolved}
 use Rattle.vs_design.specs.TreeLaws.{SameSets}
 use Rattle.vs_design.specs.Laws.{OneFamilies}
 use Rattle.vs_design.proofs.Lists.{by_test, and_both, contains-left, contains-right}
@@ -64,27 +64,33 @@ solved d o clock order h = record {
         q.0 ∙ assign_settled target e g.then_.early sets.early b c (λ k r. sym (g.same k (needed target e k r)).0) w,
         q.1 ∙ assign_settled target e g.then_.late sets.late b c (λ k r. sym (g.same k (needed target e k r)).1) w,
       );
-  block = λ p st i b w.
+  block = λ p st i n b w.
       let c = block_facts d o p st i in
       let g = at p st i in
-      (g.own b w).1 ∙ own_late st g.then_.late b w ∙ block_same st g.then_.late sets.late b c.unmixed c.no_latch (λ k r. sym (g.same k (block_needs d p st i k r)).1) w;
-  quiet = λ p st i q b w.
-      let c = block_facts d o p st i in
-      let g = at p st i in
-      let k : SameSets (without (statement_reads st) (statement_bits st)) g.then_.early sets.early = λ k r. sym (g.same k (block_needs d p st i k r)).0 in
-      (g.own b w).0 ∙ own_early st g.then_.early b w ∙ quiet_end st g.then_.early (block_sets st g.then_.early b) (quiet_same st g.then_.early sets.early c.unmixed c.no_latch k ∙ q) ∙ block_same st g.then_.early sets.early b c.unmixed c.no_latch k w;
-  stirred = λ p st i q b w.
+      (g.own b w).1 ∙ own_late (sleeps d p st i) st g.then_.late b n w ∙ block_same st g.then_.late sets.late b c.unmixed c.no_latch (λ k r. sym (g.same k (block_needs d p st i k r)).1) w;
+  quiet = λ p st i n q b w.
       let c = block_facts d o p st i in
       let g = at p st i in
       let k : SameSets (without (statement_reads st) (statement_bits st)) g.then_.early sets.early = λ k r. sym (g.same k (block_needs d p st i k r)).0 in
-      (g.own b w).0 ∙ own_early st g.then_.early b w ∙ stirred_end st g.then_.early (block_sets st g.then_.early b) (quiet_same st g.then_.early sets.early c.unmixed c.no_latch k ∙ q) ∙ ap {B = Set4} (union (only X)) (block_same st g.then_.early sets.early b c.unmixed c.no_latch k w);
+      (g.own b w).0 ∙ own_early (sleeps d p st i) st g.then_.early b n w ∙ quiet_end st g.then_.early (block_sets st g.then_.early b) (quiet_same st g.then_.early sets.early c.unmixed c.no_latch k ∙ q) ∙ block_same st g.then_.early sets.early b c.unmixed c.no_latch k w;
+  stirred = λ p st i n q b w.
+      let c = block_facts d o p st i in
+      let g = at p st i in
+      let k : SameSets (without (statement_reads st) (statement_bits st)) g.then_.early sets.early = λ k r. sym (g.same k (block_needs d p st i k r)).0 in
+      (g.own b w).0 ∙ own_early (sleeps d p st i) st g.then_.early b n w ∙ stirred_end st g.then_.early (block_sets st g.then_.early b) (quiet_same st g.then_.early sets.early c.unmixed c.no_latch k ∙ q) ∙ ap {B = Set4} (union (only X)) (block_same st g.then_.early sets.early b c.unmixed c.no_latch k w);
+  asleep = λ p st i n b w.
+      let c = block_facts d o p st i in
+      let g = at p st i in (
+        (g.own b w).0 ∙ asleep_early (sleeps d p st i) st g.then_.early b n w,
+        (g.own b w).1 ∙ asleep_late (sleeps d p st i) st g.then_.late b n w ∙ ap {B = Set4} (union (only X)) (block_same st g.then_.late sets.late b c.unmixed c.no_latch (λ k r. sym (g.same k (block_needs d p st i k r)).1) w),
+      );
 }
   where
     first : Families
     first = record { early = early_source d; late = late_source d clock }
 
     sets : Families
-    sets = families_along d.processes order first
+    sets = families_along d order first
 
     needed : (target : Target) (e : Expression) (k : ℕ) → contains (read_bits e) k ≡ true → contains ((target_reads target ++ read_bits e) ++ []) k ≡ true
     needed target e k r = contains-left (target_reads target ++ read_bits e) [] k (contains-right (target_reads target) (read_bits e) k r)
@@ -92,12 +98,18 @@ solved d o clock order h = record {
     at : (p : ℕ) (st : Statement) (i : IsBlock d p st) → Found d sets (Always i.place i.star i.events st)
     at p st i = found d order [] first p (Always i.place i.star i.events st) o.one_driver h i.is i.combinational refl
 
-    own_late : (st : Statement) (f : Family) (b : ℕ) → contains (statement_bits st) b ≡ true → (if contains (statement_bits st) b then block_sets st f b else f b) ≡ block_sets st f b
-    own_late st f b w = rw w refl
+    own_late : (asleep : Bool) (st : Statement) (f : Family) (b : ℕ) → asleep ≡ false → contains (statement_bits st) b ≡ true → late_end (contains (statement_bits st) b) asleep (block_sets st f b) (f b) ≡ block_sets st f b
+    own_late asleep st f b n w = rw (n, w) refl
 
-    own_early : (st : Statement) (f : Family) (b : ℕ) → contains (statement_bits st) b ≡ true
-        → (if contains (statement_bits st) b then (if is_quiet st f then block_sets st f b else union (only X) (block_sets st f b)) else f b) ≡ (if is_quiet st f then block_sets st f b else union (only X) (block_sets st f b))
-    own_early st f b w = rw w refl
+    own_early : (asleep : Bool) (st : Statement) (f : Family) (b : ℕ) → asleep ≡ false → contains (statement_bits st) b ≡ true
+        → early_end (contains (statement_bits st) b) asleep (is_quiet st f) (block_sets st f b) (f b) ≡ (if is_quiet st f then block_sets st f b else union (only X) (block_sets st f b))
+    own_early asleep st f b n w = rw (n, w) refl
+
+    asleep_late : (asleep : Bool) (st : Statement) (f : Family) (b : ℕ) → asleep ≡ true → contains (statement_bits st) b ≡ true → late_end (contains (statement_bits st) b) asleep (block_sets st f b) (f b) ≡ union (only X) (block_sets st f b)
+    asleep_late asleep st f b n w = rw (n, w) refl
+
+    asleep_early : (asleep : Bool) (st : Statement) (f : Family) (b : ℕ) → asleep ≡ true → contains (statement_bits st) b ≡ true → early_end (contains (statement_bits st) b) asleep (is_quiet st f) (block_sets st f b) (f b) ≡ only X
+    asleep_early asleep st f b n w = rw (n, w) refl
 
     quiet_end : (st : Statement) (f : Family) (s : Set4) → is_quiet st f ≡ true → (if is_quiet st f then s else union (only X) s) ≡ s
     quiet_end st f s q = rw q refl
@@ -154,7 +166,10 @@ module _ (d : Design) (o : IsOrderly d) (clock : ℕ) (f g : Families) (i : IsSo
     where
       needed : (m : ℕ) → contains (read_bits e) m ≡ true → contains ((target_reads target ++ read_bits e) ++ []) m ≡ true
       needed m r = contains-left (target_reads target ++ read_bits e) [] m (contains-right (target_reads target) (read_bits e) m r)
-  own_same p (Always place star events st) h c k b w = (early, i.block p st block b w ∙ block_same st f.late g.late b clean.unmixed clean.no_latch (λ m r. (k m (block_needs d p st block m r)).1) w ∙ sym (j.block p st block b w))
+  own_same p (Always place star events st) h c k b w =
+      by_test (sleeps d p st block)
+      (λ n. ((i.asleep p st block n b w).0 ∙ sym (j.asleep p st block n b w).0, (i.asleep p st block n b w).1 ∙ ap {B = Set4} (union (only X)) late ∙ sym (j.asleep p st block n b w).1))
+      (λ n. (early n, i.block p st block n b w ∙ late ∙ sym (j.block p st block n b w)))
     where
       block : IsBlock d p st
       block = record { place = place; star = star; events = events; is = h; combinational = c }
@@ -165,11 +180,14 @@ module _ (d : Design) (o : IsOrderly d) (clock : ℕ) (f g : Families) (i : IsSo
       same : SameSets (without (statement_reads st) (statement_bits st)) f.early g.early
       same m r = (k m (block_needs d p st block m r)).0
 
-      early : f.early b ≡ g.early b
-      early =
+      late : block_sets st f.late b ≡ block_sets st g.late b
+      late = block_same st f.late g.late b clean.unmixed clean.no_latch (λ m r. (k m (block_needs d p st block m r)).1) w
+
+      early : sleeps d p st block ≡ false → f.early b ≡ g.early b
+      early n =
           by_test (is_quiet st f.early)
-          (λ q. i.quiet p st block q b w ∙ block_same st f.early g.early b clean.unmixed clean.no_latch same w ∙ sym (j.quiet p st block (sym (quiet_same st f.early g.early clean.unmixed clean.no_latch same) ∙ q) b w))
-          (λ q. i.stirred p st block q b w ∙ ap {B = Set4} (union (only X)) (block_same st f.early g.early b clean.unmixed clean.no_latch same w) ∙ sym (j.stirred p st block (sym (quiet_same st f.early g.early clean.unmixed clean.no_latch same) ∙ q) b w))
+          (λ q. i.quiet p st block n q b w ∙ block_same st f.early g.early b clean.unmixed clean.no_latch same w ∙ sym (j.quiet p st block n (sym (quiet_same st f.early g.early clean.unmixed clean.no_latch same) ∙ q) b w))
+          (λ q. i.stirred p st block n q b w ∙ ap {B = Set4} (union (only X)) (block_same st f.early g.early b clean.unmixed clean.no_latch same w) ∙ sym (j.stirred p st block n (sym (quiet_same st f.early g.early clean.unmixed clean.no_latch same) ∙ q) b w))
 
   -- the bits that placed processes write are the same
   abbrev Placed_same : List ℕ → Type 0

@@ -1,9 +1,9 @@
 -- The sets A and E of an accepted design, and the rule of time zero.
-use Rattle.std.proofs.Common.{◌≡◌, ℕ, ◌+◌, Bool, true, false, List, [], ◌++◌, ◌&&◌, ◌==◌, eqb-true, eq-eqb, not, if◌then◌else◌, ◌⊎◌, inl, inr, refl, sym, ◌∙◌, subst, map, length, Some}
+use Rattle.std.proofs.Common.{◌≡◌, ℕ, zero, suc, ◌+◌, Bool, true, false, List, [], ◌∷◌, ◌++◌, ◌&&◌, ◌==◌, eqb-true, eq-eqb, not, if◌then◌else◌, ◌⊎◌, inl, inr, refl, sym, ap, ◌∙◌, subst, map, length, Option, Some, None}
 use Rattle.std.specs.Prelude.{slice_get}
 use Rattle.vs_four.specs.declared.Bit4.{Bit4}
 use Rattle.vs_four.specs.declared.Bit4.TheVariants.{Zero, One, X, Z}
-use Rattle.vs_net.specs.Network.{State, Effect, write_all, Network, Kind, AnInput, TheClock, AnAssign, AComb, AClocked, kind, writes, listens, made}
+use Rattle.vs_net.specs.Network.{State, Effect, write_all, is_written, flatten, Network, Kind, AnInput, TheClock, AnAssign, AComb, AClocked, kind, writes, listens, made}
 use Rattle.vs_net.specs.Network as N
 use Rattle.vs_net.specs.Lawful.{Settles, ReadsIn, WritesIn, IsKnown, IsQuietBlock, IsWokenBlock}
 use Rattle.vs_design.specs.Expressions.{Signal, signal_length}
@@ -15,7 +15,11 @@ use Rattle.vs_design.specs.Footprints.{contains, read_bits, target_reads, statem
 use Rattle.vs_design.specs.Levels.{level_order}
 use Rattle.vs_design.specs.Sets.{Set4, has, only, known_set, union, is_only_x, is_unknown_set, is_known_set}
 use Rattle.vs_design.specs.Lifted.{Family}
-use Rattle.vs_design.specs.TimeZero.{Families, families, early_source, late_source, block_sets, is_quiet, wakes, sleeps}
+use Rattle.vs_design.specs.Resets.{reset_of, with_reset, with_resets}
+use Rattle.vs_net.proofs.Basics.{write_all_covered, write_all_other}
+use Rattle.vs_net.proofs.Nets.{reset_clocked}
+use Rattle.vs_design.specs.Sleepers.{is_sleeping, sleeper_at}
+use Rattle.vs_design.specs.TimeZero.{Families, families, early_source, late_source, block_sets, early_end, late_end, is_quiet, wakes, is_uncertain}
 use Rattle.vs_design.specs.Networks.{network_of, process_of, writer_of, block_process, idle_value}
 use Rattle.vs_design.specs.Accepted.{IsAcceptedDesign}
 use Rattle.vs_design.proofs.Lists.{by_test, and_both, or_left, contains-left, contains-right}
@@ -27,6 +31,7 @@ use Rattle.vs_design.proofs.LawfulParts.{one_writer, first_bit}
 use Rattle.vs_design.proofs.Facts.{assign_facts, block_facts, comb_facts}
 use Rattle.vs_design.proofs.ClockNets.{clock_at, clock_number, clock_process, one_listed}
 use Rattle.vs_design.proofs.ClockLaws.{clock_is}
+use Rattle.vs_design.proofs.SleepLaws.{awake_at, AsleepFacts, asleep_facts, process_is}
 use Rattle.vs_design.proofs.Along.{SameAt, Found, found, unwritten, assign_made, block_made}
 use Rattle.vs_design.proofs.TimeBits.{only_x_is, only_x_has, unknown_set, known_set_is, all_of_bits, any_bit, signal_with, some_is}
 
@@ -42,11 +47,11 @@ module _ (d : Design) (name : List ℕ) (a : IsAcceptedDesign d name) where
 
   -- the network's process of a number
   settling : (r : ℕ) (x : Process) (b : ℕ) → slice_get d.processes r ≡ Some x → is_clocked x ≡ false → contains (writes_of x) b ≡ true → (writes (net_work.process r) b ≡ true) × Settles (kind (net_work.process r))
-  settling r x b h k w = subst (λ y. (writes y b ≡ true) × Settles (kind y)) (sym (at_process d.processes (map (writer_of a.clock.first) (top_inputs d)) r x h)) (go x k w)
+  settling r x b h k w = subst (λ y. (writes y b ≡ true) × Settles (kind y)) (sym (at_process d a.clock.first d.processes (map (writer_of a.clock.first) (top_inputs d)) r x h)) (go x k w)
     where
-      go : (x : Process) → is_clocked x ≡ false → contains (writes_of x) b ≡ true → (writes (process_of x) b ≡ true) × Settles (kind (process_of x))
+      go : (x : Process) → is_clocked x ≡ false → contains (writes_of x) b ≡ true → (writes (process_of d a.clock.first x) b ≡ true) × Settles (kind (process_of d a.clock.first x))
       go (Continuous place port target_place target e) k w = (w, tt)
-      go (Always place star events st) k w = subst (λ c. (writes (block_process c (Always place star events st) events st) b ≡ true) × Settles (kind (block_process c (Always place star events st) events st))) (sym k) (w, tt)
+      go (Always place star events st) k w = subst (λ c. (writes (block_process d a.clock.first c (Always place star events st) events st) b ≡ true) × Settles (kind (block_process d a.clock.first c (Always place star events st) events st))) (sym k) (w, tt)
 
   -- a bit that no settling process writes has its first sets
   first_sets : (b : ℕ) → ((p : ℕ) → writes (net_work.process p) b ≡ true → Settles (kind (net_work.process p)) → ⊥) → SameAt sets (record { early = early_source d; late = late_source d a.clock.first }) b
@@ -61,39 +66,44 @@ module _ (d : Design) (name : List ℕ) (a : IsAcceptedDesign d name) where
   pub early_comb : (p b : ℕ) → kind (net_work.process p) ≡ AComb → writes (net_work.process p) b ≡ true → has (sets.early b) X ≡ true
   early_comb p b = by_kind d a.clock.first (λ p x. kind x ≡ AComb → writes x b ≡ true → has (sets.early b) X ≡ true) (record {
     assigns = λ p place port target_place target e h w z. cc;
-    combs = λ p place star events st h k w z. let g = found_at p (Always place star events st) h k in subst (λ s. has s X ≡ true) (sym (g.own b z).0) (rw z (end st g.then_.early b z));
+    combs = λ p place star events st h k w z. let g = found_at p (Always place star events st) h k in subst (λ s. has s X ≡ true) (sym (g.own b z).0) (end (is_sleeping d (Always place star events st)) st g.then_.early b z);
     clocked = λ p place star events st h k w z. cc;
     inputs = λ p i r l e f w z. cc;
     clock = λ p i r l e f w z. cc;
     none = λ p w z. cc;
   }) p
     where
-      end : (st : Statement) (f : Family) (b : ℕ) → contains (statement_bits st) b ≡ true → has (if is_quiet st f then block_sets st f b else union (only X) (block_sets st f b)) X ≡ true
-      end st f b w =
+      end : (asleep : Bool) (st : Statement) (f : Family) (b : ℕ) → contains (statement_bits st) b ≡ true → has (early_end (contains (statement_bits st) b) asleep (is_quiet st f) (block_sets st f b) (f b)) X ≡ true
+      end true st f b w = rw w refl
+      end false st f b w =
           by_test (is_quiet st f)
-          (λ q. rw q (only_x_has (block_sets st f b) (all_of_bits (λ b. is_only_x (block_sets st f b)) (statement_bits st) b q w)))
-          (λ q. rw q (union_left (only X) (block_sets st f b) X refl))
+          (λ q. rw (w, q) (only_x_has (block_sets st f b) (all_of_bits (λ b. is_only_x (block_sets st f b)) (statement_bits st) b q w)))
+          (λ q. rw (w, q) (union_left (only X) (block_sets st f b) X refl))
 
-  pub early_made : (p : ℕ) → Settles (kind (net_work.process p)) → (s : State) → ReadsIn (λ b. has (sets.early b)) (net_work.process p) s → WritesIn (λ b. has (sets.early b)) (net_work.process p) s
-  early_made p z s = by_kind d a.clock.first (λ p x. Settles (kind x) → ReadsIn (λ b. has (sets.early b)) x s → WritesIn (λ b. has (sets.early b)) x s) (record {
-    assigns = λ p place port target_place target e h z r b w t.
+  pub early_made : (p : ℕ) → Settles (kind (net_work.process p)) → sleeper_at d p ≡ None → (s : State) → ReadsIn (λ b. has (sets.early b)) (net_work.process p) s → WritesIn (λ b. has (sets.early b)) (net_work.process p) s
+  early_made p z n s = by_kind d a.clock.first (λ p x. Settles (kind x) → sleeper_at d p ≡ None → ReadsIn (λ b. has (sets.early b)) x s → WritesIn (λ b. has (sets.early b)) x s) (record {
+    assigns = λ p place port target_place target e h z n r b w t.
         let g = found_at p (Continuous place port target_place target e) h refl in
         let f = assign_facts d name a p place port target_place target e h in
         subst (λ x. has x (write_all t (assignment_writes target e s) b) ≡ true) (sym (g.own b w).0)
         (assign_made target e g.then_.early s t b f.constant f.fit_target f.fit_value
         (λ c k. subst (λ x. has x (s c) ≡ true) (g.same c (contains-left (target_reads target ++ read_bits e) [] c (contains-right (target_reads target) (read_bits e) c k))).0 (r c (contains-right (target_reads target) (read_bits e) c k))) w);
-    combs = λ p place star events st h k z r b w t.
+    combs = λ p place star events st h k z n r b w t.
         let g = found_at p (Always place star events st) h k in
         let f = comb_facts d name a p place star events st h k in
         let in_block : has (block_sets st g.then_.early b) (write_all t (body st s).writes b) ≡ true = block_made st g.then_.early s t b (block_facts d name a p place star events st h).fit f.unmixed f.no_latch
         (λ c q. subst (λ x. has x (s c) ≡ true) (g.same c (contains-right (reads_of (Always place star events st)) (waits_of (Always place star events st)) c (f.waits c q))).0 (r c (f.waits c q))) w in
-        subst (λ x. has x (write_all t (body st s).writes b) ≡ true) (sym (g.own b w).0) (rw w (wider (is_quiet st g.then_.early) (block_sets st g.then_.early b) (write_all t (body st s).writes b) in_block));
-    clocked = λ p place star events st h k z. absurd z;
-    inputs = λ p i r l e f z. absurd z;
-    clock = λ p i r l e f z. absurd z;
-    none = λ p z. absurd z;
-  }) p z
+        subst (λ x. has x (write_all t (body st s).writes b) ≡ true) (sym (g.own b w).0) (own (is_sleeping d (Always place star events st)) st g.then_.early b (write_all t (body st s).writes b) (awake_at d p (Always place star events st) h n) w (wider (is_quiet st g.then_.early) (block_sets st g.then_.early b) (write_all t (body st s).writes b) in_block));
+    clocked = λ p place star events st h k z n. absurd z;
+    inputs = λ p i r l e f z n. absurd z;
+    clock = λ p i r l e f z n. absurd z;
+    none = λ p z n. absurd z;
+  }) p z n
     where
+      own : (asleep : Bool) (st : Statement) (f : Family) (b : ℕ) (v : Bit4) → asleep ≡ false → contains (statement_bits st) b ≡ true → has (if is_quiet st f then block_sets st f b else union (only X) (block_sets st f b)) v ≡ true
+          → has (early_end (contains (statement_bits st) b) asleep (is_quiet st f) (block_sets st f b) (f b)) v ≡ true
+      own asleep st f b v n w h = rw (n, w) h
+
       wider : (q : Bool) (x : Set4) (v : Bit4) → has x v ≡ true → has (if q then x else union (only X) x) v ≡ true
       wider true x v h = h
       wider false x v h = union_right (only X) x v h
@@ -111,12 +121,31 @@ module _ (d : Design) (name : List ℕ) (a : IsAcceptedDesign d name) where
         let f = comb_facts d name a p place star events st h k in
         let in_block : has (block_sets st g.then_.late b) (write_all t (body st s).writes b) ≡ true = block_made st g.then_.late s t b (block_facts d name a p place star events st h).fit f.unmixed f.no_latch
         (λ c q. subst (λ x. has x (s c) ≡ true) (g.same c (contains-right (reads_of (Always place star events st)) (waits_of (Always place star events st)) c (f.waits c q))).1 (r c (f.waits c q))) w in
-        subst (λ x. has x (write_all t (body st s).writes b) ≡ true) (sym (g.own b w).1) (rw w in_block);
+        subst (λ x. has x (write_all t (body st s).writes b) ≡ true) (sym (g.own b w).1) (end (is_sleeping d (Always place star events st)) st g.then_.late b (write_all t (body st s).writes b) w in_block);
     clocked = λ p place star events st h k z. absurd z;
     inputs = λ p i r l e f z. absurd z;
     clock = λ p i r l e f z. absurd z;
     none = λ p z. absurd z;
   }) p z
+    where
+      end : (asleep : Bool) (st : Statement) (f : Family) (b : ℕ) (v : Bit4) → contains (statement_bits st) b ≡ true → has (block_sets st f b) v ≡ true → has (late_end (contains (statement_bits st) b) asleep (block_sets st f b) (f b)) v ≡ true
+      end true st f b v w h = rw w (union_right (only X) (block_sets st f b) v h)
+      end false st f b v w h = rw w h
+
+  -- a sleeping block's bits may be x late
+  pub late_asleep : (p b : ℕ) (x : N.Sleeper) → sleeper_at d p ≡ Some x → writes (net_work.process p) b ≡ true → has (sets.late b) X ≡ true
+  late_asleep p b x n w =
+      let g = found_at p (Always f.place f.star f.events f.statement) f.at f.settles in
+      subst (λ s. has s X ≡ true) (sym (g.own b own).1) (end (is_sleeping d (Always f.place f.star f.events f.statement)) f.statement g.then_.late b f.sleeps own)
+    where
+      f : AsleepFacts d p x
+      f = asleep_facts d p x n
+
+      own : contains (statement_bits f.statement) b ≡ true
+      own = subst (λ y. writes y b ≡ true) (process_is d name a p x f) w
+
+      end : (asleep : Bool) (st : Statement) (f : Family) (b : ℕ) → asleep ≡ true → contains (statement_bits st) b ≡ true → has (late_end (contains (statement_bits st) b) asleep (block_sets st f b) (f b)) X ≡ true
+      end asleep st f b n w = rw (n, w) (union_left (only X) (block_sets st f b) X refl)
 
   -- the signal of the clock's bit is the clock, of one bit
   pub clock_signal : (i : ℕ) (s : Signal) (b : ℕ) → slice_get (top_inputs d) i ≡ Some s → contains (bits_of_signal s) a.clock.first ≡ true → s ≡ a.clock
@@ -161,8 +190,34 @@ module _ (d : Design) (name : List ℕ) (a : IsAcceptedDesign d name) where
       known Z (inl e) = cc
       known Z (inr e) = cc
 
+  -- a reset adds to the sets of a bit
+  reset_keeps : (o : Option N.Reset) (b : ℕ) (s : Set4) (v : Bit4) → has s v ≡ true → has (with_reset o b s) v ≡ true
+  reset_keeps None b s v h = h
+  reset_keeps (Some r) b s v h = by_test (is_written (flatten r.updates) b)
+      (λ e. rw e (union_right (only (write_all (λ m. X) (flatten r.updates) b)) s v h))
+      (λ e. rw e h)
+
+  resets_keep : (ps : List Process) (b : ℕ) (s : Set4) (v : Bit4) → has s v ≡ true → has (with_resets d a.clock.first ps b s) v ≡ true
+  resets_keep [] b s v h = h
+  resets_keep (x ∷ ps) b s v h = reset_keeps (reset_of d a.clock.first x) b (with_resets d a.clock.first ps b s) v (resets_keep ps b s v h)
+
+  resets_have : (ps : List Process) (p : ℕ) (x : Process) (r : N.Reset) (b : ℕ) (s : Set4) → slice_get ps p ≡ Some x → reset_of d a.clock.first x ≡ Some r → is_written (flatten r.updates) b ≡ true → has (with_resets d a.clock.first ps b s) (write_all (λ m. X) (flatten r.updates) b) ≡ true
+  resets_have [] p x r b s h e w = cc
+  resets_have (y ∷ ps) zero x r b s h e w =
+      let same : y ≡ x = cc in
+      ap (λ z. has (with_reset (reset_of d a.clock.first z) b (with_resets d a.clock.first ps b s)) (write_all (λ m. X) (flatten r.updates) b)) same
+      ∙ ap (λ o. has (with_reset o b (with_resets d a.clock.first ps b s)) (write_all (λ m. X) (flatten r.updates) b)) e
+      ∙ rw w (union_left (only (write_all (λ m. X) (flatten r.updates) b)) (with_resets d a.clock.first ps b s) (write_all (λ m. X) (flatten r.updates) b) (only_has (write_all (λ m. X) (flatten r.updates) b)))
+    where
+      only_has : (v : Bit4) → has (only v) v ≡ true
+      only_has Zero = refl
+      only_has One = refl
+      only_has X = refl
+      only_has Z = refl
+  resets_have (y ∷ ps) (suc p) x r b s h e w = reset_keeps (reset_of d a.clock.first y) b (with_resets d a.clock.first ps b s) (write_all (λ m. X) (flatten r.updates) b) (resets_have ps p x r b s h e w)
+
   source_other : (b : ℕ) → (b == a.clock.first) ≡ false → contains (input_bits d) b ≡ false → has (late_source d a.clock.first b) (idle_value d b) ≡ true
-  source_other b e h = rw e (rw h (source_idle b))
+  source_other b e h = rw e (rw h (resets_keep d.processes b (early_source d b) (idle_value d b) (source_idle b)))
 
   pub late_input : (p b : ℕ) (v : Bit4) → kind (net_work.process p) ≡ AnInput → writes (net_work.process p) b ≡ true → IsKnown v → has (sets.late b) v ≡ true
   late_input p b v h w k = subst (λ s. has s v ≡ true) (sym (first_sets b (unsettled p b w (λ s. settles_not (kind (net_work.process p)) h s))).1) (is_input p h w)
@@ -189,15 +244,17 @@ module _ (d : Design) (name : List ℕ) (a : IsAcceptedDesign d name) where
         none = λ p w z. cc;
       })
 
-  pub late_idle : (b : ℕ) → ((p : ℕ) → writes (net_work.process p) b ≡ true → kind (net_work.process p) ≡ AClocked) → has (sets.late b) (net_work.idle b) ≡ true
-  late_idle b h =
-      subst (λ s. has s (idle_value d b) ≡ true) (sym (first_sets b (λ p w s. clocked_not (kind (net_work.process p)) (h p w) s)).1)
-      (by_test (b == a.clock.first)
+  -- the late sets of a bit that clocked blocks alone write
+  late_register : (b : ℕ) → ((p : ℕ) → writes (net_work.process p) b ≡ true → kind (net_work.process p) ≡ AClocked) → ((b == a.clock.first) ≡ false) × (contains (input_bits d) b ≡ false) × (sets.late b ≡ late_source d a.clock.first b)
+  late_register b h =
+      let not_clock : (b == a.clock.first) ≡ false = by_test (b == a.clock.first)
       (λ q. absurd (two_kinds (kind (net_work.process (clock_number d name a))) (clock_is d name a) (h (clock_number d name a) (clock_writes_it (eqb-true b a.clock.first q)))))
-      (λ q.
-      by_test (contains (input_bits d) b)
-      (λ i. absurd (an_input q (signal_with (top_inputs d) b i)))
-      (λ i. source_other b q i)))
+      (λ q. q) in
+      (
+        not_clock,
+        by_test (contains (input_bits d) b) (λ i. absurd (an_input not_clock (signal_with (top_inputs d) b i))) (λ i. i),
+        (first_sets b (λ p w s. clocked_not (kind (net_work.process p)) (h p w) s)).1,
+      )
     where
       clocked_not : (k : Kind) → k ≡ AClocked → Settles k → ⊥
       clocked_not TheClock h s = s
@@ -217,7 +274,7 @@ module _ (d : Design) (name : List ℕ) (a : IsAcceptedDesign d name) where
 
       an_input : (b == a.clock.first) ≡ false → (i : ℕ) × (s : Signal) × (slice_get (top_inputs d) i ≡ Some s) × (contains (bits_of_signal s) b ≡ true) → ⊥
       an_input q r =
-          let at = at_writer d.processes a.clock.first (top_inputs d) r.0 (length d.processes + r.0) r.1 refl r.2 in
+          let at = at_writer d d.processes a.clock.first (top_inputs d) r.0 (length d.processes + r.0) r.1 refl r.2 in
           by_test (r.1.first == a.clock.first)
           (λ e.
           let same : r.1 ≡ a.clock = clock_signal r.0 r.1 b r.2 (subst (λ m. contains (bits_of_signal r.1) m ≡ true) (eqb-true r.1.first a.clock.first e) (first_bit r.1)) in
@@ -232,33 +289,60 @@ module _ (d : Design) (name : List ℕ) (a : IsAcceptedDesign d name) where
           clock_bit : (b : ℕ) → contains (bits_of_signal a.clock) b ≡ true → b ≡ a.clock.first
           clock_bit b k = one_listed a.clock.first b (subst (λ n. contains (count_from a.clock.first n) b ≡ true) one_long k)
 
-  pub quiet_or_woken : (p : ℕ) → kind (net_work.process p) ≡ AComb → IsQuietBlock (λ b. has (sets.early b)) (net_work.process p) ⊎ IsWokenBlock (λ b. has (sets.early b)) (λ b. has (sets.late b)) (net_work.process p)
-  quiet_or_woken p = by_kind d a.clock.first (λ p x. kind x ≡ AComb → IsQuietBlock (λ b. has (sets.early b)) x ⊎ IsWokenBlock (λ b. has (sets.early b)) (λ b. has (sets.late b)) x) (record {
-    assigns = λ p place port target_place target e h w. cc;
-    combs = λ p place star events st h k w.
+  pub late_idle : (b : ℕ) → ((p : ℕ) → writes (net_work.process p) b ≡ true → kind (net_work.process p) ≡ AClocked) → has (sets.late b) (net_work.idle b) ≡ true
+  late_idle b h = let r = late_register b h in subst (λ s. has s (idle_value d b) ≡ true) (sym r.2) (source_other b r.0 r.1)
+
+  -- what a reset gives a register last
+  pub late_reset : (p b : ℕ) (r : N.Reset) → N.reset_of (net_work.process p) ≡ Some r → writes (net_work.process p) b ≡ true → has (sets.late b) (write_all net_work.idle (flatten r.updates) b) ≡ true
+  late_reset p b r e w =
+      let clocked = reset_clocked (net_work.process p) r e in
+      let only_clocked : (q : ℕ) → writes (net_work.process q) b ≡ true → kind (net_work.process q) ≡ AClocked = λ q v. subst (λ m. kind (net_work.process m) ≡ AClocked) (sym (one_writer d name a a.clock.first p q b w v)) clocked in
+      let g = late_register b only_clocked in
+      by_test (is_written (flatten r.updates) b)
+      (λ z. let m = has_reset p e in
+      subst (λ s. has s (write_all net_work.idle (flatten r.updates) b) ≡ true) (sym (g.2 ∙ (rw g.0 (rw g.1 refl))))
+      (subst (λ v. has (with_resets d a.clock.first d.processes b (early_source d b)) v ≡ true) (write_all_covered (flatten r.updates) (λ m. X) net_work.idle b z)
+      (resets_have d.processes p m.0 r b (early_source d b) m.1 m.2 z)))
+      (λ z. subst (λ v. has (sets.late b) v ≡ true) (sym (write_all_other (flatten r.updates) net_work.idle b z)) (late_idle b only_clocked))
+    where
+      has_reset : (p : ℕ) → N.reset_of (net_work.process p) ≡ Some r → (x : Process) × (slice_get d.processes p ≡ Some x) × (reset_of d a.clock.first x ≡ Some r)
+      has_reset = by_kind d a.clock.first (λ p y. N.reset_of y ≡ Some r → (x : Process) × (slice_get d.processes p ≡ Some x) × (reset_of d a.clock.first x ≡ Some r)) (record {
+        assigns = λ p place port target_place target e h k. cc;
+        combs = λ p place star events st h k l. cc;
+        clocked = λ p place star events st h k l. (Always place star events st, h, l);
+        inputs = λ p i s l e f k. cc;
+        clock = λ p i s l e f k. cc;
+        none = λ p k. cc;
+      })
+
+  pub quiet_or_woken : (p : ℕ) → kind (net_work.process p) ≡ AComb → sleeper_at d p ≡ None → IsQuietBlock (λ b. has (sets.early b)) (net_work.process p) ⊎ IsWokenBlock (λ b. has (sets.early b)) (λ b. has (sets.late b)) (net_work.process p)
+  quiet_or_woken p = by_kind d a.clock.first (λ p x. kind x ≡ AComb → sleeper_at d p ≡ None → IsQuietBlock (λ b. has (sets.early b)) x ⊎ IsWokenBlock (λ b. has (sets.early b)) (λ b. has (sets.late b)) x) (record {
+    assigns = λ p place port target_place target e h w n. cc;
+    combs = λ p place star events st h k w n.
         by_test (is_quiet st sets.early)
         (λ q. inl (λ s t r b z.
         let f = comb_facts d name a p place star events st h k in
         only_x_is (block_sets st sets.early b) (write_all t (body st s).writes b) (all_of_bits (λ b. is_only_x (block_sets st sets.early b)) (statement_bits st) b q z)
         (block_made st sets.early s t b (block_facts d name a p place star events st h).fit f.unmixed f.no_latch (λ c u. r c (f.waits c u)) z)))
-        (λ q. inr (woken p place star events st h k q));
-    clocked = λ p place star events st h k w. cc;
-    inputs = λ p i r l e f w. cc;
-    clock = λ p i r l e f w. cc;
-    none = λ p w. cc;
+        (λ q. inr (woken p place star events st h k (awake_at d p (Always place star events st) h n) q));
+    clocked = λ p place star events st h k w n. cc;
+    inputs = λ p i r l e f w n. cc;
+    clock = λ p i r l e f w n. cc;
+    none = λ p w n. cc;
   }) p
     where
-      woken : (p place : ℕ) (star : Bool) (events : List Event) (st : Statement) → slice_get d.processes p ≡ Some (Always place star events st) → is_clocked (Always place star events st) ≡ false → is_quiet st sets.early ≡ false
+      woken : (p place : ℕ) (star : Bool) (events : List Event) (st : Statement) → slice_get d.processes p ≡ Some (Always place star events st) → is_clocked (Always place star events st) ≡ false → is_sleeping d (Always place star events st) ≡ false → is_quiet st sets.early ≡ false
           → IsWokenBlock (λ b. has (sets.early b)) (λ b. has (sets.late b)) (N.Comb (contains (waits_of (Always place star events st))) (contains (statement_bits st)) (body st))
-      woken p place star events st h k q =
-          let s : (not (is_clocked (Always place star events st)) && not (is_quiet st sets.early) && not (wakes sets (Always place star events st))) ≡ false = none_at (sleeps sets) d.processes p (Always place star events st) a.awake h in
-          let w : wakes sets (Always place star events st) ≡ true = awake (is_clocked (Always place star events st)) (is_quiet st sets.early) (wakes sets (Always place star events st)) k q s in
+      woken p place star events st h k n q =
+          let s : (not (is_clocked (Always place star events st)) && not (is_sleeping d (Always place star events st)) && not (is_quiet st sets.early) && not (wakes sets (Always place star events st))) ≡ false = none_at (is_uncertain d sets) d.processes p (Always place star events st) a.awake h in
+          let w : wakes sets (Always place star events st) ≡ true = awake (is_clocked (Always place star events st)) (is_sleeping d (Always place star events st)) (is_quiet st sets.early) (wakes sets (Always place star events st)) k n q s in
           let r = any_bit (λ b. is_unknown_set (sets.early b) && is_known_set (sets.late b)) (waits_of (Always place star events st)) w in
           let z = and_both (is_unknown_set (sets.early r.0)) (is_known_set (sets.late r.0)) r.2 in
           record { bit = r.0; listened = r.1; unknown = λ v. unknown_set (sets.early r.0) v z.0; known = λ v. known_set_is (sets.late r.0) v z.1 }
         where
-          awake : (c q w : Bool) → c ≡ false → q ≡ false → (not c && not q && not w) ≡ false → w ≡ true
-          awake true q w e f g = cc
-          awake false true w e f g = cc
-          awake false false true e f g = refl
-          awake false false false e f g = cc
+          awake : (c n q w : Bool) → c ≡ false → n ≡ false → q ≡ false → (not c && not n && not q && not w) ≡ false → w ≡ true
+          awake false false false true e m f g = refl
+          awake false false false false e m f g = cc
+          awake false false true w e m f g = cc
+          awake false true q w e m f g = cc
+          awake true n q w e m f g = cc

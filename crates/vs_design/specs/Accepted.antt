@@ -7,9 +7,10 @@ use Rattle.vs_design.specs.Fits.{fits_process}
 use Rattle.vs_design.specs.Elaborated.{IsLawfulDesign}
 use Rattle.vs_design.specs.Sizes.{size}
 use Rattle.vs_design.specs.Rules.{mixed_assigns, missing_bits, latches, shared_bits}
-use Rattle.vs_design.specs.Clocks.{clock_input, clock_nets, reads_clock, has_other_clock}
+use Rattle.vs_design.specs.Clocks.{clock_input, clock_nets, root_of, reads_clock, has_other_clock}
+use Rattle.vs_design.specs.Resets.{has_other_form}
 use Rattle.vs_design.specs.Levels.{level_order, has_no_cycle}
-use Rattle.vs_design.specs.TimeZero.{families, sleeps}
+use Rattle.vs_design.specs.TimeZero.{families, is_uncertain}
 
 abbrev pub is_empty : List ℕ → Bool
 is_empty [] = true
@@ -36,8 +37,10 @@ pub record IsAcceptedDesign (d : Design) (name : List ℕ) : Type 0 where
   -- ClockRead
   pub clock_unread : list_any (reads_clock (clock_nets d clock.first)) d.processes ≡ false
   -- NotTheClock
-  pub one_clock : list_any (has_other_clock (clock_nets d clock.first)) d.processes ≡ false
+  pub one_clock : list_any (has_other_clock (clock_nets d clock.first) (root_of d clock.first)) d.processes ≡ false
+  -- ResetForm
+  pub reset_forms : list_any (has_other_form (clock_nets d clock.first) (root_of d clock.first)) d.processes ≡ false
   -- Cycle
   pub no_cycle : has_no_cycle d ≡ true
   -- TimeZero
-  pub awake : list_any (sleeps (families d clock.first (level_order d))) d.processes ≡ false
+  pub awake : list_any (is_uncertain d (families d clock.first (level_order d))) d.processes ≡ false

@@ -1,9 +1,9 @@
--- The clock nets, and the rules NoClock, ClockRead and NotTheClock.
-use Rattle.std.specs.Prelude.{ℕ, zero, suc, Bool, true, false, not, ◌&&◌, List, [], ◌∷◌, ◌++◌, find, length, if◌then◌else◌, ◌==◌, Option, Some, None}
+-- The clock nets and the reset nets, and the rules NoClock, ClockRead and NotTheClock.
+use Rattle.std.specs.Prelude.{ℕ, zero, suc, Bool, true, false, not, ◌&&◌, List, [], ◌∷◌, ◌++◌, find, filter, map, is_some, length, if◌then◌else◌, ◌==◌, Option, Some, None}
 use Rattle.std.specs.List.{list_any}
 use Rattle.vs_design.specs.Expressions.{Signal, signal_length, Expression, Name, At}
 use Rattle.vs_design.specs.Statements.{Whole}
-use Rattle.vs_design.specs.Designs.{Edge, Posedge, Event, InputPort, Process, Continuous, Always, is_clocked, Design}
+use Rattle.vs_design.specs.Designs.{Edge, Posedge, Event, InputPort, Process, Continuous, Always, is_clocked, has_edge, Design, top_inputs}
 use Rattle.vs_design.specs.Footprints.{contains, reads_of, waits_of}
 
 abbrev pub same_name : List ℕ → List ℕ → Bool
@@ -54,19 +54,59 @@ abbrev pub edge_bit : Edge → Signal → Option ℕ
 edge_bit Posedge s = if signal_length s == 1 then Some s.first else None
 edge_bit _ s = None
 
--- the bit of the signal whose posedge is the only event
-abbrev pub posedge_bit : List Event → Option ℕ
-posedge_bit (e ∷ []) = edge_bit e.edge e.signal
-posedge_bit _ = None
-
-abbrev pub block_clock : Process → Option ℕ
-block_clock (Always place star events statement) = posedge_bit events
-block_clock _ = None
-
 abbrev pub is_clock_net : List ℕ → Option ℕ → Bool
 is_clock_net nets (Some b) = contains nets b
 is_clock_net nets None = false
 
--- the rule NotTheClock: the events of a clocked block aren't exactly one posedge of a clock net
-abbrev pub has_other_clock : List ℕ → Process → Bool
-has_other_clock nets p = is_clocked p && not (is_clock_net nets (block_clock p))
+-- ---- resets
+
+-- a data input of the top that has one bit may be a reset
+abbrev pub may_reset : ℕ → Signal → Bool
+may_reset clock s = (signal_length s == 1) && not (s.first == clock)
+
+abbrev pub first_of : Signal → ℕ
+first_of s = s.first
+
+-- these inputs, each by its bit
+abbrev pub one_bit_inputs : Design → ℕ → List ℕ
+one_bit_inputs d clock = map first_of (filter (may_reset clock) (top_inputs d))
+
+-- The reset input that a bit copies. Reset nets are found as clock nets are: the input, and each one-bit net that is the target of an input port's assign whose expression is the name of a reset net alone.
+abbrev pub root_of : Design → ℕ → ℕ → Option ℕ
+root_of d clock b = find (λ i. contains (clock_nets d i) b) (one_bit_inputs d clock)
+
+-- a posedge of a clock net
+abbrev pub is_clock_event : List ℕ → Event → Bool
+is_clock_event nets e = is_clock_net nets (edge_bit e.edge e.signal)
+
+-- a posedge or a negedge of a reset net
+abbrev pub is_reset_event : (ℕ → Option ℕ) → Event → Bool
+is_reset_event roots e = has_edge e && (signal_length e.signal == 1) && is_some (roots e.signal.first)
+
+-- the events of a clocked block, in either order in the text
+pub data Events : Type 0 where
+  ByClock : (clock : Event) → Events
+  ByBoth : (clock reset : Event) → Events
+
+abbrev pub both_events : List ℕ → (ℕ → Option ℕ) → Event → Event → Option Events
+both_events nets roots e f =
+    if is_clock_event nets e && is_reset_event roots f then Some (ByBoth e f) else (if is_clock_event nets f && is_reset_event roots e then Some (ByBoth f e) else None)
+
+abbrev pub events_of : List ℕ → (ℕ → Option ℕ) → List Event → Option Events
+events_of nets roots (e ∷ []) = if is_clock_event nets e then Some (ByClock e) else None
+events_of nets roots (e ∷ f ∷ []) = both_events nets roots e f
+events_of nets roots _ = None
+
+abbrev pub block_events : List ℕ → (ℕ → Option ℕ) → Process → Option Events
+block_events nets roots (Always place star events statement) = events_of nets roots events
+block_events nets roots _ = None
+
+-- the rule NotTheClock: the events of a clocked block aren't exactly one posedge of a clock net, or that and one edge of a reset net
+abbrev pub has_other_clock : List ℕ → (ℕ → Option ℕ) → Process → Bool
+has_other_clock nets roots p = is_clocked p && not (is_some (block_events nets roots p))
+
+-- the clock net of these events
+abbrev pub clock_bit : Option Events → ℕ
+clock_bit (Some (ByClock clock)) = clock.signal.first
+clock_bit (Some (ByBoth clock reset)) = clock.signal.first
+clock_bit None = 0

@@ -11,6 +11,7 @@ use Rattle.vs_design.specs.LiftedBodies.{assign_sets}
 use Rattle.vs_design.specs.Rules.{mixed_assigns, latches, shared_bits}
 use Rattle.vs_design.specs.Elaborated.{IsLawfulDesign}
 use Rattle.vs_design.specs.Accepted.{is_empty}
+use Rattle.vs_design.specs.Sleepers.{is_sleeping}
 use Rattle.vs_design.specs.TimeZero.{Families, early_source, late_source, block_sets, is_quiet}
 
 -- the design's process p is this combinational block
@@ -20,6 +21,10 @@ pub record IsBlock (d : Design) (p : ℕ) (statement : Statement) : Type 0 where
   pub events : List Event
   pub is : slice_get d.processes p ≡ Some (Always place star events statement)
   pub combinational : is_clocked (Always place star events statement) ≡ false
+
+-- and it sleeps
+abbrev pub sleeps : (d : Design) (p : ℕ) (s : Statement) → IsBlock d p s → Bool
+sleeps d p s i = is_sleeping d (Always i.place i.star i.events s)
 
 -- no assign and no combinational block writes the bit
 abbrev pub IsSource : Design → ℕ → Type 0
@@ -39,7 +44,9 @@ pub record IsSolved (d : Design) (clock : ℕ) (f : Families) : Type 0 where
   pub assign : (p place : ℕ) (port : Port) (target_place : ℕ) (target : Target) (e : Expression) → slice_get d.processes p ≡ Some (Continuous place port target_place target e)
       → (b : ℕ) → contains (target_bits target) b ≡ true → (f.early b ≡ assign_sets target e f.early b) × (f.late b ≡ assign_sets target e f.late b)
   -- a block's bits have late what they have at its end
-  pub block : (p : ℕ) (s : Statement) → IsBlock d p s → (b : ℕ) → contains (statement_bits s) b ≡ true → f.late b ≡ block_sets s f.late b
+  pub block : (p : ℕ) (s : Statement) (i : IsBlock d p s) → sleeps d p s i ≡ false → (b : ℕ) → contains (statement_bits s) b ≡ true → f.late b ≡ block_sets s f.late b
   -- and early too, with x added unless it is quiet
-  pub quiet : (p : ℕ) (s : Statement) → IsBlock d p s → is_quiet s f.early ≡ true → (b : ℕ) → contains (statement_bits s) b ≡ true → f.early b ≡ block_sets s f.early b
-  pub stirred : (p : ℕ) (s : Statement) → IsBlock d p s → is_quiet s f.early ≡ false → (b : ℕ) → contains (statement_bits s) b ≡ true → f.early b ≡ union (only X) (block_sets s f.early b)
+  pub quiet : (p : ℕ) (s : Statement) (i : IsBlock d p s) → sleeps d p s i ≡ false → is_quiet s f.early ≡ true → (b : ℕ) → contains (statement_bits s) b ≡ true → f.early b ≡ block_sets s f.early b
+  pub stirred : (p : ℕ) (s : Statement) (i : IsBlock d p s) → sleeps d p s i ≡ false → is_quiet s f.early ≡ false → (b : ℕ) → contains (statement_bits s) b ≡ true → f.early b ≡ union (only X) (block_sets s f.early b)
+  -- a sleeping block's bits are x early, and late x or what they have at its end
+  pub asleep : (p : ℕ) (s : Statement) (i : IsBlock d p s) → sleeps d p s i ≡ true → (b : ℕ) → contains (statement_bits s) b ≡ true → (f.early b ≡ only X) × (f.late b ≡ union (only X) (block_sets s f.late b))

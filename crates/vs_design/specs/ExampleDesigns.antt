@@ -2,14 +2,14 @@
 use Rattle.std.specs.Prelude.{◌≡◌, ℕ, true, false, [], ◌∷◌, None, Some, codes, map, drop, replicate}
 use Rattle.vs_four.specs.declared.Bit4.TheVariants.{Zero, One, X}
 use Rattle.vs_four.specs.Selects.{one_bit}
-use Rattle.vs_design.specs.Expressions.{Signal, BitNot, Add, Multiply, BitAnd, BitOr, BitXor, Name, Unary, Binary, Choice, At}
-use Rattle.vs_design.specs.Statements.{Whole, PartOf, If}
-use Rattle.vs_design.specs.Designs.{InputPort, OutputPort, Process, Continuous, Design}
+use Rattle.vs_design.specs.Expressions.{Signal, BitNot, LogicalNot, Add, Multiply, BitAnd, BitOr, BitXor, Name, Unary, Binary, Choice, At}
+use Rattle.vs_design.specs.Statements.{Whole, PartOf, Empty, If}
+use Rattle.vs_design.specs.Designs.{Posedge, Negedge, InputPort, OutputPort, Process, Continuous, Always, Design}
 use Rattle.vs_design.specs.Footprints.{reads_of, writes_of}
 use Rattle.vs_design.specs.Sizes.{size}
 use Rattle.vs_design.specs.Levels.{level_order}
 use Rattle.vs_design.specs.Clocks.{clock_nets}
-use Rattle.vs_design.specs.Sets.{only, known_set}
+use Rattle.vs_design.specs.Sets.{only, union, known_set}
 use Rattle.vs_design.specs.TimeZero.{families}
 use Rattle.vs_design.specs.Accepted.{IsAcceptedDesign}
 use Rattle.vs_design.specs.ExampleParts.{input_of, wire_of, reg_of, range_of, to_zero, clk, clk_signal, dec, plain, bit, blocking, nonblocking, assign, on_posedge, on_star, top_scope, design_of, slot_ends}
@@ -180,7 +180,78 @@ y64 = wire_of (codes "y") 3 (to_zero 63) 129
 abbrev pub product : Design
 product = design_of (clk_signal ∷ a64 ∷ b64 ∷ y64 ∷ []) (assign 0 (Whole y64) (Binary Multiply (Name a64) (Name b64)) ∷ [])
 
+abbrev pub e1 : Signal
+e1 = input_of (codes "e") 1 None 1
+
+abbrev pub d2_input : Signal
+d2_input = input_of (codes "d") 2 None 2
+
+abbrev pub q3_register : Signal
+q3_register = reg_of (codes "q") 3 None 3
+
+abbrev pub y4_variable : Signal
+y4_variable = reg_of (codes "y") 4 None 4
+
+-- `always @(posedge clk) if (e) q <= d; always @* y = q & 1'b0;`
+abbrev pub sleeper : Design
+sleeper = design_of (clk_signal ∷ e1 ∷ d2_input ∷ q3_register ∷ y4_variable ∷ []) (on_posedge 62 clk_signal (If (Name e1) (nonblocking 84 q3_register (Name d2_input)) Empty) ∷ on_star 92 (blocking 102 y4_variable (Binary BitAnd (Name q3_register) (dec 1 0))) ∷ [])
+
+-- `always @* y = 1'b0;`
+abbrev pub never_run : Design
+never_run = design_of (clk_signal ∷ q1 ∷ []) (on_star 36 (blocking 46 q1 (dec 1 0)) ∷ [])
+
+-- `always @(posedge clk or posedge r) if (r) q <= 1'b0; else q <= d;`
+abbrev pub resettable : Design
+resettable = design_of (clk_signal ∷ r1 ∷ d2_input ∷ q3_register ∷ [])
+    (Always 60 false (record { signal = clk_signal; edge = Posedge } ∷ record { signal = r1; edge = Posedge } ∷ []) (If (Name r1) (nonblocking 98 q3_register (dec 1 0)) (nonblocking 115 q3_register (Name d2_input))) ∷ [])
+
+-- `leaf u(clk, r, d, y);` of `module leaf(input clk, input r, input d, output reg q); always @(posedge clk or negedge r) begin if (!r) q <= 1'b1; else q <= d; end endmodule`
+abbrev pub y3_output : Signal
+y3_output = wire_of (codes "y") 3 None 3
+
+abbrev pub c4_leaf : Signal
+c4_leaf = record { name = codes "clk"; scope = 1; number = 4; net = true; input = false; range = None; signed = false; first = 4 }
+
+abbrev pub r5_leaf : Signal
+r5_leaf = record { name = codes "r"; scope = 1; number = 5; net = true; input = false; range = None; signed = false; first = 5 }
+
+abbrev pub d6_leaf : Signal
+d6_leaf = record { name = codes "d"; scope = 1; number = 6; net = true; input = false; range = None; signed = false; first = 6 }
+
+abbrev pub q7_leaf : Signal
+q7_leaf = record { name = codes "q"; scope = 1; number = 7; net = false; input = false; range = None; signed = false; first = 7 }
+
+abbrev pub reset_through_port : Design
+reset_through_port = record {
+  scopes = top_scope ∷ record { name = codes "u"; parent = Some 0; instance = true } ∷ [];
+  signals = clk_signal ∷ r1 ∷ d2_input ∷ y3_output ∷ c4_leaf ∷ r5_leaf ∷ d6_leaf ∷ q7_leaf ∷ [];
+  processes =
+      Continuous 130 InputPort 130 (Whole c4_leaf) (Name clk_signal) ∷ Continuous 130 InputPort 130 (Whole r5_leaf) (At 133 (Name r1)) ∷ Continuous 130 InputPort 130 (Whole d6_leaf) (Name d2_input) ∷ Continuous 130 OutputPort 145 (Whole y3_output) (Name q7_leaf)
+      ∷ Always 47 false (record { signal = r5_leaf; edge = Negedge } ∷ record { signal = c4_leaf; edge = Posedge } ∷ []) (If (Unary LogicalNot (Name r5_leaf)) (nonblocking 67 q7_leaf (dec 1 1)) (nonblocking 80 q7_leaf (Name d6_leaf))) ∷ [];
+}
+
 pub record DesignsComputed : Type 0 where
+  -- a reset by a falling edge, through a port: bits clk, r, d, y of the top, clk, r, d and q within it
+  pub reset_through_port_accepted : IsAcceptedDesign reset_through_port clk
+  pub reset_through_port_late : (families reset_through_port 0 (level_order reset_through_port)).late 7 ≡ union (only One) (only X)
+  pub reset_through_port_ends : map (drop 3) (slot_ends reset_through_port (Zero ∷ One ∷ Zero ∷ []) ((Zero ∷ Zero ∷ Zero ∷ []) ∷ [])) ≡
+      ((X ∷ Zero ∷ One ∷ Zero ∷ X ∷ []) ∷ (Zero ∷ One ∷ One ∷ Zero ∷ Zero ∷ []) ∷ (One ∷ Zero ∷ Zero ∷ Zero ∷ One ∷ []) ∷ (One ∷ One ∷ Zero ∷ Zero ∷ One ∷ []) ∷ [])
+  -- a block that sleeps until the register is known: bits clk, e, d, q, y
+  pub sleeper_size : size sleeper ≡ 14
+  pub sleeper_accepted : IsAcceptedDesign sleeper clk
+  pub sleeper_asleep : slot_ends sleeper (Zero ∷ Zero ∷ One ∷ []) [] ≡
+      ((Zero ∷ Zero ∷ One ∷ X ∷ X ∷ []) ∷ (One ∷ Zero ∷ One ∷ X ∷ X ∷ []) ∷ [])
+  pub sleeper_woken : slot_ends sleeper (Zero ∷ One ∷ One ∷ []) [] ≡
+      ((Zero ∷ One ∷ One ∷ X ∷ X ∷ []) ∷ (One ∷ One ∷ One ∷ One ∷ Zero ∷ []) ∷ [])
+  -- a block that waits on nothing never runs: bits clk, y
+  pub never_run_size : size never_run ≡ 5
+  pub never_run_accepted : IsAcceptedDesign never_run clk
+  pub never_run_ends : slot_ends never_run (Zero ∷ []) [] ≡ ((Zero ∷ X ∷ []) ∷ (One ∷ X ∷ []) ∷ [])
+  -- an asynchronous reset: bits clk, r, d, q
+  pub resettable_size : size resettable ≡ 9
+  pub resettable_accepted : IsAcceptedDesign resettable clk
+  pub resettable_ends : slot_ends resettable (Zero ∷ Zero ∷ One ∷ []) ((Zero ∷ One ∷ One ∷ []) ∷ (Zero ∷ Zero ∷ One ∷ []) ∷ []) ≡
+      ((Zero ∷ Zero ∷ One ∷ X ∷ []) ∷ (One ∷ Zero ∷ One ∷ One ∷ []) ∷ (Zero ∷ One ∷ One ∷ Zero ∷ []) ∷ (One ∷ One ∷ One ∷ Zero ∷ []) ∷ (Zero ∷ Zero ∷ One ∷ Zero ∷ []) ∷ (One ∷ Zero ∷ One ∷ One ∷ []) ∷ [])
   -- `y = a & b`: bits clk, a, b, y
   pub and_gate_size : size and_gate ≡ 5
   pub and_gate_accepted : IsAcceptedDesign and_gate clk

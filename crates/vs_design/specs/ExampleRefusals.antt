@@ -2,10 +2,10 @@
 use Rattle.std.specs.Prelude.{◌≡◌, false, List, [], ◌∷◌, None, Some, codes, replicate}
 use Rattle.vs_design.specs.Expressions.{Signal, BitNot, Multiply, Divide, BitAnd, BitOr, Name, Unary, Binary, Join, At}
 use Rattle.vs_design.specs.Statements.{Whole, Both, Statement, Exact, Empty, If, Then, Case, Arm, Default}
-use Rattle.vs_design.specs.Designs.{Any, Always, Process, Design}
+use Rattle.vs_design.specs.Designs.{Any, Posedge, Always, Process, Design}
 use Rattle.vs_design.specs.Levels.{has_no_cycle}
 use Rattle.vs_design.specs.Cycles.{IsCycle}
-use Rattle.vs_design.specs.Refusals.{TooWide, Division, TooLarge, width_refusal, MixedAssign, Sensitivity, Latch, block_refusal, TwoDrivers, driver_refusal, NoClock, ClockRead, NotTheClock, clock_refusal, TimeZero, zero_refusal, IsUnrefused}
+use Rattle.vs_design.specs.Refusals.{TooWide, Division, TooLarge, width_refusal, MixedAssign, Sensitivity, Latch, block_refusal, TwoDrivers, driver_refusal, NoClock, ClockRead, NotTheClock, ResetForm, clock_refusal, TimeZero, zero_refusal, IsUnrefused}
 use Rattle.vs_design.specs.ExampleParts.{input_of, wire_of, reg_of, clk, clk_signal, dec, blocking, nonblocking, assign, on_posedge, on_star, design_of}
 use Rattle.vs_design.specs.ExampleDesigns.{a1, d1, b2, y2, y2_net, y3, q2, and_gate, a64, b64, y64}
 
@@ -15,11 +15,21 @@ y1 = reg_of (codes "y") 1 None 1
 abbrev pub w2 : Signal
 w2 = wire_of (codes "w") 2 None 2
 
-abbrev pub sleeping : Design
-sleeping = design_of (clk_signal ∷ y1 ∷ w2 ∷ []) (assign 45 (Whole w2) (dec 1 0) ∷ on_star 62 (blocking 72 y1 (Name w2)) ∷ [])
+-- `assign w = 1'b0; always @* y = w;`
+abbrev pub on_net : Design
+on_net = design_of (clk_signal ∷ y1 ∷ w2 ∷ []) (assign 45 (Whole w2) (dec 1 0) ∷ on_star 62 (blocking 72 y1 (Name w2)) ∷ [])
 
+-- `always @(posedge clk) begin q <= 1'b1; q <= d; end always @* y = q & 1'b0;`
 abbrev pub stirred : Design
-stirred = design_of (clk_signal ∷ d1 ∷ q2 ∷ y3 ∷ []) (on_posedge 60 clk_signal (nonblocking 82 q2 (Name d1)) ∷ on_star 90 (blocking 100 y3 (Binary BitAnd (Name q2) (dec 1 0))) ∷ [])
+stirred = design_of (clk_signal ∷ d1 ∷ q2 ∷ y3 ∷ []) (on_posedge 60 clk_signal (Then (nonblocking 71 q2 (dec 1 1)) (nonblocking 82 q2 (Name d1))) ∷ on_star 90 (blocking 100 y3 (Binary BitAnd (Name q2) (dec 1 0))) ∷ [])
+
+-- `always @(posedge clk or posedge d) if (d) q <= d; else q <= 1'b1;`
+abbrev pub unformed : Design
+unformed = design_of (clk_signal ∷ d1 ∷ q2 ∷ []) (Always 60 false (record { signal = clk_signal; edge = Posedge } ∷ record { signal = d1; edge = Posedge } ∷ []) (If (Name d1) (nonblocking 90 q2 (Name d1)) (nonblocking 95 q2 (dec 1 1))) ∷ [])
+
+-- `always @(posedge clk or posedge q) if (q) q <= 1'b0;`
+abbrev pub own_reset : Design
+own_reset = design_of (clk_signal ∷ d1 ∷ q2 ∷ []) (Always 60 false (record { signal = clk_signal; edge = Posedge } ∷ record { signal = q2; edge = Posedge } ∷ []) (If (Name q2) (nonblocking 90 q2 (dec 1 0)) Empty) ∷ [])
 
 abbrev pub a1_net : Signal
 a1_net = wire_of (codes "a") 1 None 1
@@ -97,9 +107,11 @@ first_in_text = blocks (on_star 0 (Case Exact (Name a1) (Arm (dec 1 1 ∷ []) (n
 pub record RefusalsComputed : Type 0 where
   -- 1,024 products of 64 bits are too large
   pub too_large_refused : width_refusal (design_of (clk_signal ∷ a64 ∷ b64 ∷ y64 ∷ []) (replicate 1024 (assign 0 (Whole y64) (Binary Multiply (Name a64) (Name b64))))) ≡ Some (TooLarge 16842881)
-  -- a sleeping block: `assign w = 1'b0; always @* y = w;`
-  pub sleeping_refused : zero_refusal sleeping clk ≡ Some (TimeZero 1 62)
-  -- `always @(posedge clk) q <= d; always @* y = q & 1'b0;`: its block is neither quiet nor woken
+  -- a block that waits on a net: `assign w = 1'b0; always @* y = w;`
+  pub unformed_refused : clock_refusal unformed clk ≡ Some (ResetForm 0 60)
+  pub own_reset_refused : clock_refusal own_reset clk ≡ Some (NotTheClock 0 60)
+  pub on_net_refused : zero_refusal on_net clk ≡ Some (TimeZero 1 62)
+  -- a block that waits on a register that may be written twice in a run
   pub stirred_refused : zero_refusal stirred clk ≡ Some (TimeZero 1 90)
   -- `assign a = b; assign b = a;` is a cycle
   pub loop_refused : has_no_cycle loop ≡ false

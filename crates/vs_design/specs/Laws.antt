@@ -1,17 +1,18 @@
 -- The laws of a design.
-use Rattle.std.specs.Prelude.{◌≡◌, ℕ, true, ◌&&◌, List, [], ◌∷◌, ◌≤◌, ◌<◌, ◌↔◌, ◌⊎◌, length, ◌++◌, nat_lt, Some, slice_get}
+use Rattle.std.specs.Prelude.{◌≡◌, ℕ, true, not, ◌&&◌, List, [], ◌∷◌, ◌≤◌, ◌<◌, ◌↔◌, ◌⊎◌, length, ◌++◌, nat_lt, Some, slice_get}
+use Rattle.std.specs.List.{list_any, list_all}
 use Rattle.std.specs.List.Sorted.{IsStrictlyIncreasing}
-use Rattle.vs_net.specs.Network.{State}
+use Rattle.vs_net.specs.Network.{State, Sleeper}
 use Rattle.vs_net.specs.Lawful.{IsLawful}
 use Rattle.vs_net.specs.Queue.{Slot, Choice, IsFirst, IsCompleted, start, slots_of, ends}
-use Rattle.vs_net.specs.Solution.{IsSolution, IsSlotEnd}
+use Rattle.vs_net.specs.Solution.{all_x, IsSolution, IsSlotEnd}
 use Rattle.vs_net.specs.Settle.{settle, IsFed}
-use Rattle.vs_net.specs.Laws.{IsKnownVector}
+use Rattle.vs_net.specs.Laws.{IsKnownVector, AreKnownResets, has_run, IsAfterSlot}
 use Rattle.vs_net.specs.LevelRun.{level_run}
 use Rattle.vs_net.specs.Bound.{IsWeighed, bound, IsPartOfRun, HasNoNext}
 use Rattle.vs_design.specs.Statements.{Statement}
 use Rattle.vs_design.specs.Designs.{Event, Process, Always, Design, bit_count}
-use Rattle.vs_design.specs.Footprints.{contains, all_reads, writes_of, waits_of, ascending}
+use Rattle.vs_design.specs.Footprints.{contains, all_reads, writes_of, waits_of, input_bits, ascending}
 use Rattle.vs_design.specs.Rules.{missing_bits}
 use Rattle.vs_design.specs.Clocks.{port_targets, clock_nets}
 use Rattle.vs_design.specs.Networks.{network_of}
@@ -20,9 +21,10 @@ use Rattle.vs_design.specs.Levels.{is_level_order}
 use Rattle.vs_design.specs.Elaborated.{IsLawfulDesign}
 use Rattle.vs_design.specs.Cycles.{IsDecided, IsOrder}
 use Rattle.vs_design.specs.Refusals.{IsUnrefused}
-use Rattle.vs_design.specs.TimeZero.{Families, families}
-use Rattle.vs_design.specs.Equations.{IsOrderly, IsSolved}
-use Rattle.vs_design.specs.Accepted.{IsAcceptedDesign}
+use Rattle.vs_design.specs.Sleepers.{is_still, is_sleeping, sleeper_at}
+use Rattle.vs_design.specs.TimeZero.{Families, families, quiet_process, wakes}
+use Rattle.vs_design.specs.Equations.{IsBlock, IsOrderly, IsSolved}
+use Rattle.vs_design.specs.Accepted.{IsAcceptedDesign, is_empty}
 
 -- where elaboration gives the design, all bits that a process reads, writes and waits on are bits of the design
 abbrev pub BitsOfDesign : Type 0
@@ -49,6 +51,12 @@ abbrev pub OneFamilies : Type 0
 OneFamilies = (d : Design) → IsOrderly d → (clock : ℕ) (order : List ℕ) → is_level_order d order ≡ true → IsSolved d clock (families d clock order)
     × ((f g : Families) → IsSolved d clock f → IsSolved d clock g → (b : ℕ) → (f.early b ≡ g.early b) × (f.late b ≡ g.late b))
 
+-- Where no rule on blocks and drivers is broken a combinational block sleeps exactly where it waits on such bits alone and is neither quiet nor wakes.
+abbrev pub SleepingIs : Type 0
+SleepingIs = (d : Design) → IsOrderly d → list_all (λ p. is_empty (missing_bits p)) d.processes ≡ true → (clock : ℕ) → contains (input_bits d) clock ≡ true → (order : List ℕ) → is_level_order d order ≡ true
+    → (p : ℕ) (s : Statement) (i : IsBlock d p s) → let x = Always i.place i.star i.events s in let f = families d clock order in
+    is_sleeping d x ≡ (list_all (is_still d) (waits_of x) && not (quiet_process f x) && not (wakes f x))
+
 -- the level order is found exactly where there is no cycle: where it isn't there is a cycle, and where there is any level order there is none
 abbrev pub OrderOrCycle : Type 0
 OrderOrCycle = (d : Design) → IsDecided d
@@ -66,7 +74,7 @@ AcceptedIsLawful = (d : Design) (name : List ℕ) (a : IsAcceptedDesign d name) 
 
 -- so every completed run of its event queue, in whatever order of its steps, ends each slot with the one solution
 abbrev pub EveryOrderOfDesign : Type 0
-EveryOrderOfDesign = (d : Design) (name : List ℕ) (a : IsAcceptedDesign d name) → let n = network_of d a.clock.first in (first v : State) (vs : List State) → IsFirst n first → IsKnownVector n v → (choices : List Choice) → IsCompleted n (start n first v vs) choices → IsSolution n n.idle (slots_of (v ∷ vs)) (ends n (start n first v vs) choices)
+EveryOrderOfDesign = (d : Design) (name : List ℕ) (a : IsAcceptedDesign d name) → let n = network_of d a.clock.first in (first v : State) (vs : List State) → IsFirst n first → IsKnownVector n v → AreKnownResets n vs → (choices : List Choice) → IsCompleted n (start n first v vs) choices → IsSolution n n.idle (slots_of (v ∷ vs)) (ends n (start n first v vs) choices)
 
 -- the equations of an accepted design have no second solution
 abbrev pub OneSolutionOfDesign : Type 0
@@ -74,17 +82,23 @@ OneSolutionOfDesign = (d : Design) (name : List ℕ) (a : IsAcceptedDesign d nam
 
 -- in each of its level orders the level run is a completed run, and it ends with the solution
 abbrev pub LevelRunOfDesign : Type 0
-LevelRunOfDesign = (d : Design) (name : List ℕ) (a : IsAcceptedDesign d name) (order : List ℕ) → is_level_order d order ≡ true → let n = network_of d a.clock.first in (first v : State) (vs : List State) → IsFirst n first → IsKnownVector n v → let q = start n first v vs in IsCompleted n q (level_run n order q) × IsSolution n n.idle (slots_of (v ∷ vs)) (ends n q (level_run n order q))
+LevelRunOfDesign = (d : Design) (name : List ℕ) (a : IsAcceptedDesign d name) (order : List ℕ) → is_level_order d order ≡ true → let n = network_of d a.clock.first in (first v : State) (vs : List State) → IsFirst n first → IsKnownVector n v → AreKnownResets n vs → let q = start n first v vs in IsCompleted n q (level_run n order q) × IsSolution n n.idle (slots_of (v ∷ vs)) (ends n q (level_run n order q))
 
 -- where inputs and registers have their values, one pass over any of its level orders gives the values at the slot's end
 abbrev pub OnePassOfDesign : Type 0
-OnePassOfDesign = (d : Design) (name : List ℕ) (a : IsAcceptedDesign d name) (order : List ℕ) → is_level_order d order ≡ true → let n = network_of d a.clock.first in (before : State) (slot : Slot) (s : State) → IsFed n before slot s → IsSlotEnd n before slot (settle n order s)
+OnePassOfDesign = (d : Design) (name : List ℕ) (a : IsAcceptedDesign d name) (order : List ℕ) → is_level_order d order ≡ true → let n = network_of d a.clock.first in (before : State) (slot : Slot) (s : State) → IsFed n before slot s → IsSlotEnd n before slot (settle n before order s)
 
 -- its processes have weights, so between two beginnings of slots there are at most `bound` steps, in any order
 abbrev pub BoundOfDesign : Type 0
 BoundOfDesign = (d : Design) (name : List ℕ) (a : IsAcceptedDesign d name) → let n = network_of d a.clock.first in (w : ℕ → ℕ) × (r : ℕ → ℕ) × IsWeighed n (feeds_of d a.clock.first) (size_of d) w r
-    × ((first v : State) (vs : List State) → IsFirst n first → IsKnownVector n v → (earlier steps : List Choice) → IsPartOfRun n (start n first v vs) (earlier ++ steps) → HasNoNext steps → length steps ≤ bound n w r)
+    × ((first v : State) (vs : List State) → IsFirst n first → IsKnownVector n v → AreKnownResets n vs → (earlier steps : List Choice) → IsPartOfRun n (start n first v vs) (earlier ++ steps) → HasNoNext steps → length steps ≤ bound n w r)
 
 -- every run of its event queue can be continued to a completed one
 abbrev pub RunsEndOfDesign : Type 0
-RunsEndOfDesign = (d : Design) (name : List ℕ) (a : IsAcceptedDesign d name) → let n = network_of d a.clock.first in (first v : State) (vs : List State) → IsFirst n first → IsKnownVector n v → (earlier : List Choice) → IsPartOfRun n (start n first v vs) earlier → (later : List Choice) × IsCompleted n (start n first v vs) (earlier ++ later)
+RunsEndOfDesign = (d : Design) (name : List ℕ) (a : IsAcceptedDesign d name) → let n = network_of d a.clock.first in (first v : State) (vs : List State) → IsFirst n first → IsKnownVector n v → AreKnownResets n vs → (earlier : List Choice) → IsPartOfRun n (start n first v vs) earlier → (later : List Choice) × IsCompleted n (start n first v vs) (earlier ++ later)
+
+-- in every completed run, at the end of each slot, a sleeping block has run exactly where a bit that it waits on wasn't x at the end of that slot or one before it
+abbrev pub SleepersOfDesign : Type 0
+SleepersOfDesign = (d : Design) (name : List ℕ) (a : IsAcceptedDesign d name) → let n = network_of d a.clock.first in (first v : State) (vs : List State) → IsFirst n first → IsKnownVector n v → AreKnownResets n vs
+    → (earlier later : List Choice) → IsCompleted n (start n first v vs) (earlier ++ later) → IsAfterSlot later
+    → (p : ℕ) (x : Sleeper) → sleeper_at d p ≡ Some x → (has_run p earlier ≡ true) ↔ (list_any (λ s. not (all_x s x.on)) (ends n (start n first v vs) earlier) ≡ true)

@@ -20,7 +20,9 @@ pub mod Accepted
 pub mod Refusals
 pub mod Cycles
 pub mod Equations
+pub mod Resets
 pub mod Networks
+pub mod Sleepers
 pub mod Bounds
 pub mod Answers
 pub mod SlotValues

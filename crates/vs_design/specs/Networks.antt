@@ -1,5 +1,5 @@
 -- A design as a network of processes, on which the event queue runs (IEEE 1364-2005, 11.3 and 11.4).
-use Rattle.std.specs.Prelude.{ℕ, zero, suc, Bool, true, false, List, [], ◌∷◌, ◌++◌, map, length, if◌then◌else◌, ◌==◌}
+use Rattle.std.specs.Prelude.{ℕ, zero, suc, Bool, true, false, List, [], ◌∷◌, ◌++◌, map, length, if◌then◌else◌, ◌==◌, Option}
 use Rattle.vs_four.specs.declared.Bit4.TheVariants.{X, Z}
 use Rattle.vs_net.specs.Network.{State, Network}
 use Rattle.vs_net.specs.Network as N
@@ -9,17 +9,21 @@ use Rattle.vs_design.specs.Statements.{Statement}
 use Rattle.vs_design.specs.Bodies.{assignment_writes, body}
 use Rattle.vs_design.specs.Designs.{Event, Process, Continuous, Always, is_clocked, Design, top_inputs}
 use Rattle.vs_design.specs.Footprints.{contains, all_reads, writes_of, waits_of, net_bits}
-use Rattle.vs_design.specs.Clocks.{posedge_bit}
-use Rattle.std.specs.Prelude.{unwrap_or}
+use Rattle.vs_design.specs.Clocks.{Events, events_of, clock_nets, root_of, clock_bit}
+use Rattle.vs_design.specs.Resets.{reset_by}
+use Rattle.vs_design.specs.Sleepers.{sleeper_at}
 
-abbrev pub block_process : Bool → Process → List Event → Statement → N.Process
-block_process true p events statement = N.Clocked (unwrap_or (posedge_bit events) 0) (contains (writes_of p)) (body statement)
-block_process false p events statement = N.Comb (contains (waits_of p)) (contains (writes_of p)) (body statement)
+abbrev pub events_in : Design → ℕ → List Event → Option Events
+events_in d clock events = events_of (clock_nets d clock) (root_of d clock) events
 
-abbrev pub process_of : Process → N.Process
-process_of (Continuous place port target_place target e) =
+abbrev pub block_process : Design → ℕ → Bool → Process → List Event → Statement → N.Process
+block_process d clock true p events statement = N.Clocked (clock_bit (events_in d clock events)) (reset_by (root_of d clock) (events_in d clock events) statement) (contains (writes_of p)) (body statement)
+block_process d clock false p events statement = N.Comb (contains (waits_of p)) (contains (writes_of p)) (body statement)
+
+abbrev pub process_of : Design → ℕ → Process → N.Process
+process_of d clock (Continuous place port target_place target e) =
     N.Assign (contains (all_reads (Continuous place port target_place target e))) (contains (writes_of (Continuous place port target_place target e))) (assignment_writes target e)
-process_of (Always place star events statement) = block_process (is_clocked (Always place star events statement)) (Always place star events statement) events statement
+process_of d clock (Always place star events statement) = block_process d clock (is_clocked (Always place star events statement)) (Always place star events statement) events statement
 
 -- each input of the top is a writer of its own; the clock is the one whose bit is given
 abbrev pub writer_of : ℕ → Signal → N.Process
@@ -27,7 +31,7 @@ writer_of clock s = if s.first == clock then N.Clock clock else N.Input (bits_of
 
 -- the processes by number, then the inputs in order of declaration
 abbrev pub all_processes : Design → ℕ → List N.Process
-all_processes d clock = map process_of d.processes ++ map (writer_of clock) (top_inputs d)
+all_processes d clock = map (process_of d clock) d.processes ++ map (writer_of clock) (top_inputs d)
 
 -- the process of this number, or an input without bits
 abbrev pub at_or_input : List N.Process → ℕ → N.Process
@@ -40,4 +44,4 @@ abbrev pub idle_value : Design → State
 idle_value d b = if contains (net_bits d) b then Z else X
 
 abbrev pub network_of : Design → ℕ → Network
-network_of d clock = record { process = at_or_input (all_processes d clock); count = length (all_processes d clock); idle = idle_value d }
+network_of d clock = record { process = at_or_input (all_processes d clock); count = length (all_processes d clock); idle = idle_value d; sleeper = sleeper_at d }

@@ -9,10 +9,11 @@ use Rattle.vs_design.specs.Fits.{fits_process}
 use Rattle.vs_design.specs.Elaborated.{IsLawfulDesign}
 use Rattle.vs_design.specs.Sizes.{size}
 use Rattle.vs_design.specs.Rules.{mixed_assigns, missing_bits, latches, shared_bits, drivers}
-use Rattle.vs_design.specs.Clocks.{clock_input, clock_nets, reads_clock, has_other_clock}
+use Rattle.vs_design.specs.Clocks.{clock_input, clock_nets, root_of, reads_clock, has_other_clock}
+use Rattle.vs_design.specs.Resets.{has_other_form}
 use Rattle.vs_design.specs.Levels.{level_order}
-use Rattle.vs_design.specs.TimeZero.{families, sleeps}
-use Rattle.vs_design.specs.Refusals.{WidthRefusal, TooWide, Division, TooLarge, wide_in, divisions_in, width_refusal, BlockRefusal, MixedAssign, Sensitivity, Latch, block_refusal, DriverRefusal, TwoDrivers, driver_refusal, ClockRefusal, NoClock, ClockRead, NotTheClock, clock_refusal, ZeroRefusal, TimeZero, zero_refusal}
+use Rattle.vs_design.specs.TimeZero.{families, is_uncertain}
+use Rattle.vs_design.specs.Refusals.{WidthRefusal, TooWide, Division, TooLarge, wide_in, divisions_in, width_refusal, BlockRefusal, MixedAssign, Sensitivity, Latch, block_refusal, DriverRefusal, TwoDrivers, driver_refusal, ClockRefusal, NoClock, ClockRead, NotTheClock, ResetForm, clock_refusal, ZeroRefusal, TimeZero, zero_refusal}
 
 -- n is the least of these numbers
 pub record IsLeastOf (ns : List ℕ) (n : ℕ) : Type 0 where
@@ -82,13 +83,17 @@ IsClockRefusal d name NoClock = clock_input d name ≡ None
 IsClockRefusal d name (ClockRead p at) = (clock : Signal) × (clock_input d name ≡ Some clock) × ((process : Process) × IsFirstOf d (reads_clock (clock_nets d clock.first)) p process × (at ≡ process_place process))
 IsClockRefusal d name (NotTheClock p at) =
     (clock : Signal) × (clock_input d name ≡ Some clock) × (list_any (reads_clock (clock_nets d clock.first)) d.processes ≡ false)
-    × ((process : Process) × IsFirstOf d (has_other_clock (clock_nets d clock.first)) p process × (at ≡ process_place process))
+    × ((process : Process) × IsFirstOf d (has_other_clock (clock_nets d clock.first) (root_of d clock.first)) p process × (at ≡ process_place process))
+IsClockRefusal d name (ResetForm p at) =
+    (clock : Signal) × (clock_input d name ≡ Some clock) × (list_any (reads_clock (clock_nets d clock.first)) d.processes ≡ false)
+    × (list_any (has_other_clock (clock_nets d clock.first) (root_of d clock.first)) d.processes ≡ false)
+    × ((process : Process) × IsFirstOf d (has_other_form (clock_nets d clock.first) (root_of d clock.first)) p process × (at ≡ process_place process))
 
 abbrev pub ClockRefusalIs : Type 0
 ClockRefusalIs = (d : Design) (name : List ℕ) (r : ClockRefusal) → clock_refusal d name ≡ Some r → IsClockRefusal d name r
 
 abbrev pub IsZeroRefusal : Design → List ℕ → ZeroRefusal → Type 0
-IsZeroRefusal d name (TimeZero p at) = (clock : Signal) × (clock_input d name ≡ Some clock) × ((process : Process) × IsFirstOf d (sleeps (families d clock.first (level_order d))) p process × (at ≡ process_place process))
+IsZeroRefusal d name (TimeZero p at) = (clock : Signal) × (clock_input d name ≡ Some clock) × ((process : Process) × IsFirstOf d (is_uncertain d (families d clock.first (level_order d))) p process × (at ≡ process_place process))
 
 abbrev pub ZeroRefusalIs : Type 0
 ZeroRefusalIs = (d : Design) (name : List ℕ) (r : ZeroRefusal) → zero_refusal d name ≡ Some r → IsZeroRefusal d name r

@@ -8,9 +8,10 @@ use Rattle.vs_design.specs.Footprints.{contains}
 use Rattle.vs_design.specs.Fits.{is_division}
 use Rattle.vs_design.specs.Sizes.{size}
 use Rattle.vs_design.specs.Rules.{mixed_assigns, missing_bits, latches, drivers, shared_bits}
-use Rattle.vs_design.specs.Clocks.{clock_input, clock_nets, reads_clock, has_other_clock}
+use Rattle.vs_design.specs.Clocks.{clock_input, clock_nets, root_of, reads_clock, has_other_clock}
+use Rattle.vs_design.specs.Resets.{has_other_form}
 use Rattle.vs_design.specs.Levels.{level_order, has_no_cycle}
-use Rattle.vs_design.specs.TimeZero.{families, sleeps}
+use Rattle.vs_design.specs.TimeZero.{families, is_uncertain}
 
 -- the least of these and n
 abbrev pub least_with : ℕ → List ℕ → ℕ
@@ -166,15 +167,16 @@ driver_refusal d = option_map (λ b. TwoDrivers b (get_or (drivers d b) 0 0) (ge
 
 pub data ClockRefusal : Type 0 where
   NoClock : ClockRefusal
-  ClockRead NotTheClock : (process at : ℕ) → ClockRefusal
+  ClockRead NotTheClock ResetForm : (process at : ℕ) → ClockRefusal
 
 abbrev pub clock_refusal_by : Design → Option Signal → Option ClockRefusal
 clock_refusal_by d None = Some NoClock
 clock_refusal_by d (Some clock) =
     otherwise (first_found (λ p process. where_true (reads_clock (clock_nets d clock.first) process) (ClockRead p (process_place process))) 0 d.processes)
-    (first_found (λ p process. where_true (has_other_clock (clock_nets d clock.first) process) (NotTheClock p (process_place process))) 0 d.processes)
+    (otherwise (first_found (λ p process. where_true (has_other_clock (clock_nets d clock.first) (root_of d clock.first) process) (NotTheClock p (process_place process))) 0 d.processes)
+    (first_found (λ p process. where_true (has_other_form (clock_nets d clock.first) (root_of d clock.first) process) (ResetForm p (process_place process))) 0 d.processes))
 
--- NoClock, then ClockRead, then NotTheClock, each of the least process
+-- NoClock, then ClockRead, then NotTheClock, then ResetForm, each of the least process
 abbrev pub clock_refusal : Design → List ℕ → Option ClockRefusal
 clock_refusal d name = clock_refusal_by d (clock_input d name)
 
@@ -183,7 +185,7 @@ pub data ZeroRefusal : Type 0 where
 
 abbrev pub zero_refusal_by : Design → Option Signal → Option ZeroRefusal
 zero_refusal_by d None = None
-zero_refusal_by d (Some clock) = first_found (λ p process. where_true (sleeps (families d clock.first (level_order d)) process) (TimeZero p (process_place process))) 0 d.processes
+zero_refusal_by d (Some clock) = first_found (λ p process. where_true (is_uncertain d (families d clock.first (level_order d)) process) (TimeZero p (process_place process))) 0 d.processes
 
 -- the least block that breaks TimeZero
 abbrev pub zero_refusal : Design → List ℕ → Option ZeroRefusal

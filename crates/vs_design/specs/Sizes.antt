@@ -5,7 +5,8 @@ use Rattle.vs_design.specs.Expressions.{signal_length, UnaryOp, Plus, Minus, Bit
 use Rattle.vs_design.specs.Values.{left_width, right_width}
 use Rattle.vs_design.specs.Statements.{Target, Whole, PartOf, Both, target_width, Statement, Empty, Assignment, Then, If, Case, Arms, Arm, Default, case_width}
 use Rattle.vs_design.specs.Designs.{Process, Continuous, Always, is_clocked, is_combinational, Design, top_inputs}
-use Rattle.vs_design.specs.Footprints.{contains, statement_bits, arms_bits, writes_of}
+use Rattle.vs_design.specs.Footprints.{contains, statement_bits, arms_bits, writes_of, waits_of}
+use Rattle.vs_design.specs.Sleepers.{is_sleeping}
 
 -- how many different numbers there are
 abbrev pub distinct : List ℕ → ℕ
@@ -100,6 +101,10 @@ abbrev pub register_bits : List Process → List ℕ
 register_bits [] = []
 register_bits (p ∷ ps) = (if is_clocked p then writes_of p else []) ++ register_bits ps
 
+-- a sleeping block costs the bits that it waits on, 1, and the bits that it writes once more
+abbrev pub sleeper_weight : Design → Process → ℕ
+sleeper_weight d p = if is_sleeping d p then distinct (waits_of p) + 1 + distinct (writes_of p) else 0
+
 -- each register bit costs 2, and each input bit of the top 1, the clock too
 abbrev pub size : Design → ℕ
-size d = sum_by process_weight d.processes + 2 * distinct (register_bits d.processes) + sum_by signal_length (top_inputs d)
+size d = sum_by process_weight d.processes + 2 * distinct (register_bits d.processes) + sum_by signal_length (top_inputs d) + sum_by (sleeper_weight d) d.processes

@@ -1,10 +1,13 @@
 -- The equations of a slot, on the processes and signals of a design.
-use Rattle.std.specs.Prelude.{◌≡◌, ℕ, Bool, true, false, List, ◌==◌, ◌↔◌, Some, slice_get}
+use Rattle.std.specs.Prelude.{◌≡◌, ℕ, Bool, true, false, List, ◌==◌, ◌↔◌, if◌then◌else◌, Option, Some, slice_get}
 use Rattle.vs_four.specs.declared.Bit4.{Bit4}
 use Rattle.vs_four.specs.declared.Bit4.TheVariants.{Zero, One}
-use Rattle.vs_net.specs.Network.{State, write_all, flatten}
+use Rattle.vs_net.specs.Network.{State, Write, write_all, flatten}
 use Rattle.vs_net.specs.Queue.{Slot, Fall, Rise}
-use Rattle.vs_net.specs.Solution.{IsSlotEnd}
+use Rattle.vs_net.specs.Solution.{reset_updates, is_asleep, blank, IsSlotEnd}
+use Rattle.vs_net.specs.Network as N
+use Rattle.vs_design.specs.Resets.{reset_of}
+use Rattle.vs_design.specs.Sleepers.{sleeper_at}
 use Rattle.vs_design.specs.Expressions.{Signal, Expression}
 use Rattle.vs_design.specs.Values.{bits_of_signal}
 use Rattle.vs_design.specs.Statements.{Target, Statement}
@@ -24,19 +27,23 @@ abbrev pub input_value : Slot → State → State
 input_value (Fall vector) before = vector
 input_value Rise before = before
 
--- when the clock rises a register gets all updates of its block on the values before, in their order; when it falls it stays
-abbrev pub register_value : Statement → Slot → State → State
-register_value st (Fall vector) before = before
-register_value st Rise before = write_all before (flatten (body st before).updates)
+-- when the clock rises a register gets all updates of its block on the values before, in their order; when it falls it gets those of the reset branch, where there is one and its input is active, and else stays
+abbrev pub register_value : Option N.Reset → Statement → Slot → State → State
+register_value reset st (Fall vector) before = write_all before (flatten (reset_updates reset vector))
+register_value reset st Rise before = write_all before (flatten (body st before).updates)
+
+-- what a combinational block writes: x as long as it sleeps
+abbrev pub block_writes : Option N.Sleeper → Statement → State → State → List Write
+block_writes x st before s = if is_asleep x before s then blank (body st s).writes else (body st s).writes
 
 -- s are the values at the end of the slot, where those at the end of the slot before were these
 pub record IsSlotValues (d : Design) (clock : ℕ) (before : State) (slot : Slot) (s : State) : Type 0 where
   -- an assign's target has the value of its right side, in its bits in range
   pub assign : (p place : ℕ) (port : Port) (target_place : ℕ) (target : Target) (e : Expression) → slice_get d.processes p ≡ Some (Continuous place port target_place target e) → write_all s (assignment_writes target e s) ≡ s
-  -- a combinational block's bits have what its statement gives
-  pub block : (p : ℕ) (st : Statement) → IsBlock d p st → write_all s (body st s).writes ≡ s
+  -- a combinational block's bits have what its statement gives, and x as long as it sleeps
+  pub block : (p : ℕ) (st : Statement) → IsBlock d p st → write_all s (block_writes (sleeper_at d p) st before s) ≡ s
   pub register : (p place : ℕ) (star : Bool) (events : List Event) (st : Statement) → slice_get d.processes p ≡ Some (Always place star events st) → is_clocked (Always place star events st) ≡ true
-      → (b : ℕ) → contains (statement_bits st) b ≡ true → s b ≡ register_value st slot before b
+      → (b : ℕ) → contains (statement_bits st) b ≡ true → s b ≡ register_value (reset_of d clock (Always place star events st)) st slot before b
   pub clock_input : s clock ≡ clock_value slot
   pub input : (i : ℕ) (signal : Signal) → slice_get (top_inputs d) i ≡ Some signal → (signal.first == clock) ≡ false → (b : ℕ) → contains (bits_of_signal signal) b ≡ true → s b ≡ input_value slot before b
   -- a bit that no process writes, and no input has, stays

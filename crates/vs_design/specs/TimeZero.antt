@@ -1,10 +1,12 @@
--- The sets of values at time zero, and the rule TimeZero: a combinational block that might not be started before its nets settle has to be quiet or to be woken.
+-- The sets of values at time zero, and the rule TimeZero: a combinational block that might not be started before its nets settle has to be quiet, to be woken, or surely to sleep.
 use Rattle.std.specs.Prelude.{ℕ, Bool, true, not, ◌&&◌, List, [], ◌∷◌, if◌then◌else◌, Option, Some, None, slice_get}
 use Rattle.std.specs.List.{list_any, list_all}
 use Rattle.vs_four.specs.declared.Bit4.TheVariants.{Zero, X, Z}
 use Rattle.vs_design.specs.Statements.{Statement}
 use Rattle.vs_design.specs.Designs.{Process, Continuous, Always, is_combinational, Design}
 use Rattle.vs_design.specs.Footprints.{contains, waits_of, statement_bits, input_bits, net_bits}
+use Rattle.vs_design.specs.Resets.{with_resets}
+use Rattle.vs_design.specs.Sleepers.{is_sleeping}
 use Rattle.vs_design.specs.Sets.{Set4, only, known_set, any_value, union, is_only_x, is_unknown_set, is_known_set}
 use Rattle.vs_design.specs.Lifted.{Family}
 use Rattle.vs_design.specs.LiftedBodies.{assign_sets, lifted_body}
@@ -18,9 +20,9 @@ pub record Families : Type 0 where
 abbrev pub early_source : Design → Family
 early_source d b = if contains (net_bits d) b then only Z else only X
 
--- its late sets: 0 in the clock, 0 or 1 in any other input, else as early
+-- its late sets: 0 in the clock, 0 or 1 in any other input, else as early, with the value that a reset gives it last
 abbrev pub late_source : Design → ℕ → Family
-late_source d clock b = if contains (clock ∷ []) b then only Zero else (if contains (input_bits d) b then known_set else early_source d b)
+late_source d clock b = if contains (clock ∷ []) b then only Zero else (if contains (input_bits d) b then known_set else with_resets d clock d.processes b (early_source d b))
 
 -- a block's own bits may have any value when it begins: without latches each is assigned before it is read
 abbrev pub before_run : List ℕ → Family → Family
@@ -34,33 +36,37 @@ block_sets s sets = lifted_body s (before_run (statement_bits s) sets)
 abbrev pub is_quiet : Statement → Family → Bool
 is_quiet s early = list_all (λ b. is_only_x (block_sets s early b)) (statement_bits s)
 
--- the early set of a bit after a block's turn: of its own bits that at its end, with x added unless the block is quiet
-abbrev pub early_end : Bool → Bool → Set4 → Set4 → Set4
-early_end own quiet end before = if own then (if quiet then end else union (only X) end) else before
+-- the early set of a bit after a block's turn: of its own bits x alone where the block sleeps, else that at its end, with x added unless the block is quiet
+abbrev pub early_end : Bool → Bool → Bool → Set4 → Set4 → Set4
+early_end own asleep quiet end before = if own then (if asleep then only X else (if quiet then end else union (only X) end)) else before
+
+-- and its late set: of its own bits that at its end, with x added where the block sleeps
+abbrev pub late_end : Bool → Bool → Set4 → Set4 → Set4
+late_end own asleep end before = if own then (if asleep then union (only X) end else end) else before
 
 -- the families after a process's turn
-abbrev pub settle_early : Process → Family → Family
-settle_early (Continuous place port target_place target e) sets b = assign_sets target e sets b
-settle_early (Always place star events s) sets b = early_end (contains (statement_bits s) b) (is_quiet s sets) (block_sets s sets b) (sets b)
+abbrev pub settle_early : Bool → Process → Family → Family
+settle_early asleep (Continuous place port target_place target e) sets b = assign_sets target e sets b
+settle_early asleep (Always place star events s) sets b = early_end (contains (statement_bits s) b) asleep (is_quiet s sets) (block_sets s sets b) (sets b)
 
-abbrev pub settle_late : Process → Family → Family
-settle_late (Continuous place port target_place target e) sets b = assign_sets target e sets b
-settle_late (Always place star events s) sets b = if contains (statement_bits s) b then block_sets s sets b else sets b
+abbrev pub settle_late : Bool → Process → Family → Family
+settle_late asleep (Continuous place port target_place target e) sets b = assign_sets target e sets b
+settle_late asleep (Always place star events s) sets b = late_end (contains (statement_bits s) b) asleep (block_sets s sets b) (sets b)
 
-abbrev pub settle : Process → Families → Families
-settle p f = record { early = settle_early p f.early; late = settle_late p f.late }
+abbrev pub settle : Bool → Process → Families → Families
+settle asleep p f = record { early = settle_early asleep p f.early; late = settle_late asleep p f.late }
 
-abbrev pub settle_some : Option Process → Families → Families
-settle_some None f = f
-settle_some (Some p) f = settle p f
+abbrev pub settle_some : Design → Option Process → Families → Families
+settle_some d None f = f
+settle_some d (Some p) f = settle (is_sleeping d p) p f
 
-abbrev pub families_along : List Process → List ℕ → Families → Families
-families_along ps [] f = f
-families_along ps (p ∷ order) f = families_along ps order (settle_some (slice_get ps p) f)
+abbrev pub families_along : Design → List ℕ → Families → Families
+families_along d [] f = f
+families_along d (p ∷ order) f = families_along d order (settle_some d (slice_get d.processes p) f)
 
 -- the families after all turns of a level order
 abbrev pub families : Design → ℕ → List ℕ → Families
-families d clock order = families_along d.processes order (record { early = early_source d; late = late_source d clock })
+families d clock order = families_along d order (record { early = early_source d; late = late_source d clock })
 
 -- a block wakes where some bit of its waits has an early set within {x, z} and a late one within {0, 1}
 abbrev pub wakes : Families → Process → Bool
@@ -70,6 +76,6 @@ abbrev pub quiet_process : Families → Process → Bool
 quiet_process f (Continuous place port target_place target e) = true
 quiet_process f (Always place star events s) = is_quiet s f.early
 
--- the rule TimeZero: a combinational block is neither quiet nor wakes
-abbrev pub sleeps : Families → Process → Bool
-sleeps f p = is_combinational p && not (quiet_process f p) && not (wakes f p)
+-- the rule TimeZero: a combinational block neither sleeps, nor is quiet, nor wakes
+abbrev pub is_uncertain : Design → Families → Process → Bool
+is_uncertain d f p = is_combinational p && not (is_sleeping d p) && not (quiet_process f p) && not (wakes f p)

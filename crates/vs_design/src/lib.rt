@@ -10,7 +10,7 @@ ghost use Rattle.vs_design.specs.ExampleElaborated.{ElaboratedComputed};
 ghost use Rattle.vs_design.specs.ExampleRefusals.{RefusalsComputed};
 ghost use Rattle.vs_design.specs.ExampleSets.{SetsComputed};
 ghost use Rattle.vs_design.specs.ExampleValues.{ValuesComputed};
-ghost use Rattle.vs_design.specs.Laws.{AcceptedExactly, AcceptedIsLawful, AscendingHas, AscendingRises, BitsOfDesign, BoundOfDesign, ClockNetsAre, EveryOrderOfDesign, LevelOrderIs, LevelRunOfDesign, OneFamilies, OnePassOfDesign, OneSolutionOfDesign, OrderOrCycle, RunsEndOfDesign, StarMissesNone};
+ghost use Rattle.vs_design.specs.Laws.{AcceptedExactly, AcceptedIsLawful, AscendingHas, AscendingRises, BitsOfDesign, BoundOfDesign, ClockNetsAre, EveryOrderOfDesign, LevelOrderIs, LevelRunOfDesign, OneFamilies, OnePassOfDesign, OneSolutionOfDesign, OrderOrCycle, RunsEndOfDesign, SleepersOfDesign, SleepingIs, StarMissesNone};
 ghost use Rattle.vs_design.specs.Paths.{LatchBitsAre};
 ghost use Rattle.vs_design.specs.RefusalLaws.{BlockRefusalIs, ClockRefusalIs, DriverRefusalIs, DriversAre, WidthRefusalIs, ZeroRefusalIs};
 ghost use Rattle.vs_design.specs.SlotValues.{SlotValuesAre};
@@ -66,6 +66,16 @@ pub fn cycle_law()
 /// The sets of values at time zero are the one solution of their equations, and are found along any level order.
 pub fn time_zero_law()
     ensures { OneFamilies }
+{}
+
+/// A combinational block sleeps exactly where it waits on bits alone that clocked blocks may write, once in a run, and is neither quiet nor wakes.
+pub fn sleeping_law()
+    ensures { SleepingIs }
+{}
+
+/// In every completed run, at the end of each slot, a sleeping block has run exactly where a bit that it waits on wasn't x at the end of that slot or one before it.
+pub fn sleep_law()
+    ensures { SleepersOfDesign }
 {}
 
 /// The bits that a process reads, writes and waits on are bits of the design, `@*` misses none of those that are read (IEEE 1364-2005, 9.7.5), and an ascending list has each bit once.

@@ -20,7 +20,7 @@ use Rattle.vs_engine.proofs.Writes.{by_test}
 
 -- each process of the network is one of the design, or a writer of the top, or has nothing
 pub by_process : (d : Design) (clock p : ℕ) (P : N.Process → Type 0)
-    → ((x : Process) → slice_get d.processes p ≡ Some x → P (process_of x))
+    → ((x : Process) → slice_get d.processes p ≡ Some x → P (process_of d clock x))
     → ((i : ℕ) (s : Signal) → slice_get (top_inputs d) i ≡ Some s → P (writer_of clock s))
     → P (N.Input [])
     → P ((network_of d clock).process p)
@@ -31,7 +31,7 @@ by_process d clock p P f g h = walk d.processes p f
     inputs (s ∷ ss) zero g = g 0 s refl
     inputs (s ∷ ss) (suc p) g = inputs ss p (λ i t e. g (suc i) t e)
 
-    walk : (ps : List Process) (p : ℕ) → ((x : Process) → slice_get ps p ≡ Some x → P (process_of x)) → P (at_or_input (map process_of ps ++ map (writer_of clock) (top_inputs d)) p)
+    walk : (ps : List Process) (p : ℕ) → ((x : Process) → slice_get ps p ≡ Some x → P (process_of d clock x)) → P (at_or_input (map (process_of d clock) ps ++ map (writer_of clock) (top_inputs d)) p)
     walk [] p f = inputs (top_inputs d) p g
     walk (x ∷ ps) zero f = f x refl
     walk (x ∷ ps) (suc p) f = walk ps p f
@@ -47,7 +47,7 @@ writer_number d clock i s e = go d.processes (length d.processes + i) refl
     there (t ∷ ss) (suc i) zero l e = absurd (omega arith)
     there (t ∷ ss) (suc i) (suc p) l e = there ss i p (omega arith) e
 
-    go : (ps : List Process) (p : ℕ) → p ≡ length ps + i → at_or_input (map process_of ps ++ map (writer_of clock) (top_inputs d)) p ≡ writer_of clock s
+    go : (ps : List Process) (p : ℕ) → p ≡ length ps + i → at_or_input (map (process_of d clock) ps ++ map (writer_of clock) (top_inputs d)) p ≡ writer_of clock s
     go [] p l = there (top_inputs d) i p (omega arith) e
     go (x ∷ ps) zero l = absurd (omega arith)
     go (x ∷ ps) (suc p) l = go ps p (omega arith)
@@ -118,9 +118,9 @@ data_bit_is d clock b = contains_filter (λ c. not (contains (clock ∷ []) c)) 
     or_false false = refl
 
 -- a gate is no writer
-no_writer : (x : Process) → is_gate x ≡ true → IsWriter (kind (process_of x)) → ⊥
-no_writer (Continuous place port target_place target e) h w = w
-no_writer (Always place star events statement) h w = cc
+no_writer : (d : Design) (clock : ℕ) (x : Process) → is_gate x ≡ true → IsWriter (kind (process_of d clock x)) → ⊥
+no_writer d clock (Continuous place port target_place target e) h w = w
+no_writer d clock (Always place star events statement) h w = cc
 
 one_bit : (s : Signal) (b : ℕ) → is_scalar s ≡ true → contains (bits_of_signal s) b ≡ true → b ≡ s.first
 one_bit s b h k = single (subst (λ n. contains (count_from s.first n) b ≡ true) (eqb-true (signal_length s) 1 h) k)
@@ -171,7 +171,7 @@ module _ (d : Design) (clock number : ℕ) (thin : IsThin d) (is_clock : (networ
   fall_updated : (vector before : State) (p b : ℕ) → IsWriter (kind (n.process p)) → writes (n.process p) b ≡ true → lowered vector before b ≡ driven (n.process p) (Fall vector) before b
   fall_updated vector before p b =
       by_process d clock p (λ x. IsWriter (kind x) → writes x b ≡ true → lowered vector before b ≡ driven x (Fall vector) before b)
-      (λ x e w. absurd (no_writer x (all_at is_gate d.processes p x thin.processes e) w))
+      (λ x e w. absurd (no_writer d clock x (all_at is_gate d.processes p x thin.processes e) w))
       (λ i s e. by_test (s.first == clock)
       (λ k. rw k (λ w h. at_clock h))
       (λ k. rw k (λ w h. at_input i s e k h)))
@@ -213,7 +213,7 @@ module _ (d : Design) (clock number : ℕ) (thin : IsThin d) (is_clock : (networ
   rise_updated : (before : State) (p b : ℕ) → IsWriter (kind (n.process p)) → writes (n.process p) b ≡ true → put before clock One b ≡ driven (n.process p) Rise before b
   rise_updated before p b =
       by_process d clock p (λ x. IsWriter (kind x) → writes x b ≡ true → put before clock One b ≡ driven x Rise before b)
-      (λ x e w. absurd (no_writer x (all_at is_gate d.processes p x thin.processes e) w))
+      (λ x e w. absurd (no_writer d clock x (all_at is_gate d.processes p x thin.processes e) w))
       (λ i s e. by_test (s.first == clock)
       (λ k. rw k (λ w h. at_clock h))
       (λ k. rw k (λ w h.

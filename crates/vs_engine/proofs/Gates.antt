@@ -10,7 +10,7 @@ use Rattle.vs_design.specs.Expressions.{signal_length, Expression, Literal, Name
 use Rattle.vs_design.specs.Values.{count_from, value}
 use Rattle.vs_design.specs.Statements.{Whole, PartOf, Both}
 use Rattle.vs_design.specs.Bodies.{pair_up, last_of_each}
-use Rattle.vs_design.specs.Designs.{Process, Continuous, Always}
+use Rattle.vs_design.specs.Designs.{Process, Continuous, Always, Design}
 use Rattle.vs_design.specs.Networks.{process_of}
 use Rattle.vs_engine.specs.declared.program.And.{And}
 use Rattle.vs_flat.specs.Thin.{is_scalar, is_input_name, is_and, is_gate}
@@ -74,10 +74,10 @@ whole_writes first length e state one h =
     ∙ ap (λ to. record { bit = to; value = and_bit (state (and_of first e).a) (state (and_of first e).b) } ∷ []) (sym (target_is e first h))
 
 -- a gate writes the value of its operation
-pub gate_writes : (x : Process) (state : State) → is_gate x ≡ true → settled_by (kind (process_of x)) (made (process_of x) state) ≡ write_of (operation_of x) state ∷ []
-gate_writes (Continuous place port target_place (Whole signal) e) state h =
+pub gate_writes : (d : Design) (clock : ℕ) (x : Process) (state : State) → is_gate x ≡ true → settled_by (kind (process_of d clock x)) (made (process_of d clock x) state) ≡ write_of (operation_of x) state ∷ []
+gate_writes d clock (Continuous place port target_place (Whole signal) e) state h =
     let parts = and_parts (is_scalar signal) (is_and e) h in
     whole_writes signal.first (signal_length signal) e state (eqb-true (signal_length signal) 1 parts.0) parts.1
-gate_writes (Continuous place port target_place (PartOf signal part index) e) state h = cc
-gate_writes (Continuous place port target_place (Both high low) e) state h = cc
-gate_writes (Always place star events statement) state h = cc
+gate_writes d clock (Continuous place port target_place (PartOf signal part index) e) state h = cc
+gate_writes d clock (Continuous place port target_place (Both high low) e) state h = cc
+gate_writes d clock (Always place star events statement) state h = cc

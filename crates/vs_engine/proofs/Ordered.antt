@@ -1,5 +1,5 @@
 -- The operations of a level order: they are one pass over it, and there are no more of them than processes.
-use Rattle.std.proofs.Common.{◌≡◌, ℕ, zero, suc, ◌≤◌, ◌<◌, Bool, true, false, List, [], ◌∷◌, ◌++◌, ◌&&◌, ◌||◌, not, ◌==◌, eqb, nat_lt, map, length, Some, sym, ap, ◌∙◌, subst, refl, eqb-true, eq-eqb, arith, slice_get}
+use Rattle.std.proofs.Common.{◌≡◌, ℕ, zero, suc, ◌≤◌, ◌<◌, Bool, true, false, List, [], ◌∷◌, ◌++◌, ◌&&◌, ◌||◌, not, ◌==◌, eqb, nat_lt, map, length, if◌then◌else◌, Option, Some, None, sym, ap, ◌∙◌, subst, refl, eqb-true, eq-eqb, arith, slice_get}
 use Rattle.std.specs.List.{list_all, list_any, IsDistinct, AllByRecursion}
 use Rattle.std.proofs.lemmas.Bool.{and_parts, both_ways}
 use Rattle.std.proofs.lemmas.Option.{slice_get_within}
@@ -7,10 +7,12 @@ use Rattle.std.proofs.lemmas.Map.Keys.{IsDistinct-cons}
 use Rattle.std.proofs.lemmas.Map.Steps.{length-le_from_distinct_below}
 use Rattle.vs_net.specs.Network.{State, Write, write_all, kind, made}
 use Rattle.vs_net.specs.Network as N
+use Rattle.vs_net.specs.Solution.{is_asleep, blank}
 use Rattle.vs_net.specs.Settle.{settle, settled_by}
-use Rattle.vs_design.specs.Designs.{Process, is_clocked, Design}
+use Rattle.vs_design.specs.Designs.{Process, Continuous, Always, is_clocked, Design}
 use Rattle.vs_design.specs.Footprints.{contains}
 use Rattle.vs_design.specs.Levels.{is_ready, at_number, is_order_after}
+use Rattle.vs_design.specs.Sleepers.{sleeper_of, sleeper_at}
 use Rattle.vs_design.specs.Networks.{process_of, at_or_input, network_of}
 use Rattle.vs_engine.specs.Program.{after, is_below}
 use Rattle.vs_flat.specs.Thin.{is_gate}
@@ -33,10 +35,10 @@ at_is zero (x ∷ ps) test h = (x, refl)
 at_is (suc p) (x ∷ ps) test h = at_is p ps test h
 
 -- a process of the design is one of the network under the same number
-pub at_process : (ps : List Process) (ws : List N.Process) (p : ℕ) (x : Process) → slice_get ps p ≡ Some x → at_or_input (map process_of ps ++ ws) p ≡ process_of x
-at_process [] ws p x e = cc
-at_process (y ∷ ps) ws zero x e = ap process_of (some_is y x e)
-at_process (y ∷ ps) ws (suc p) x e = at_process ps ws p x e
+pub at_process : (d : Design) (clock : ℕ) (ps : List Process) (ws : List N.Process) (p : ℕ) (x : Process) → slice_get ps p ≡ Some x → at_or_input (map (process_of d clock) ps ++ ws) p ≡ process_of d clock x
+at_process d clock [] ws p x e = cc
+at_process d clock (y ∷ ps) ws zero x e = ap (process_of d clock) (some_is y x e)
+at_process d clock (y ∷ ps) ws (suc p) x e = at_process d clock ps ws p x e
 
 -- the head of a level order is a process that doesn't stand before
 pub record Head (d : Design) (placed : List ℕ) (p : ℕ) (order : List ℕ) : Type 0 where
@@ -57,20 +59,30 @@ head d placed p order h =
     let c = at_is p d.processes test b.1 in
     record { fresh = not_true (contains placed p) b.0; process = c.0; is = c.1; rest = a.1 }
 
+-- a gate doesn't sleep
+gate_awake : (d : Design) (x : Process) → is_gate x ≡ true → sleeper_of d (Some x) ≡ None
+gate_awake d (Continuous place port target_place target e) h = refl
+gate_awake d (Always place star events statement) h = cc
+
+-- what a process gives, where it is the block of this sleeper or none
+abbrev given_by : Option N.Sleeper → N.Process → State → State → List Write
+given_by o x before s = settled_by (kind x) (if is_asleep o before s then blank (made x s) else made x s)
+
 -- the operations are one pass
-pub settle_is : (d : Design) (clock : ℕ) (placed order : List ℕ) → list_all is_gate d.processes ≡ true → is_order_after placed d order ≡ true
-    → (s : State) → after (map (operation_at d) order) s ≡ settle (network_of d clock) order s
+pub settle_is : (d : Design) (clock : ℕ) (before : State) (placed order : List ℕ) → list_all is_gate d.processes ≡ true → is_order_after placed d order ≡ true
+    → (s : State) → after (map (operation_at d) order) s ≡ settle (network_of d clock) before order s
 unfolding write_all
-settle_is d clock placed [] gates h s = refl
-settle_is d clock placed (p ∷ order) gates h s =
+settle_is d clock before placed [] gates h s = refl
+settle_is d clock before placed (p ∷ order) gates h s =
     let first = head d placed p order h in
     let op : operation_at d p ≡ operation_of first.process = ap operation_or first.is in
-    let writes : settled_by (kind ((network_of d clock).process p)) (made ((network_of d clock).process p) s) ≡ write_of (operation_at d p) s ∷ [] =
-    ap (λ (x : N.Process). settled_by (kind x) (made x s)) (at_process d.processes _ p first.process first.is)
-    ∙ gate_writes first.process s (all_at is_gate d.processes p first.process gates first.is)
+    let writes : given_by (sleeper_at d p) ((network_of d clock).process p) before s ≡ write_of (operation_at d p) s ∷ [] =
+    ap {B = List Write} (λ (o : Option N.Sleeper). given_by o ((network_of d clock).process p) before s) (ap {B = Option N.Sleeper} (sleeper_of d) first.is ∙ gate_awake d first.process (all_at is_gate d.processes p first.process gates first.is))
+    ∙ ap (λ (x : N.Process). settled_by (kind x) (made x s)) (at_process d clock d.processes _ p first.process first.is)
+    ∙ gate_writes d clock first.process s (all_at is_gate d.processes p first.process gates first.is)
     ∙ ap (λ o. write_of o s ∷ []) (sym op) in
-    settle_is d clock (p ∷ placed) order gates first.rest (write_all s (write_of (operation_at d p) s ∷ []))
-    ∙ ap (λ (ws : List Write). settle (network_of d clock) order (write_all s ws)) (sym writes)
+    settle_is d clock before (p ∷ placed) order gates first.rest (write_all s (write_of (operation_at d p) s ∷ []))
+    ∙ ap (λ (ws : List Write). settle (network_of d clock) before order (write_all s ws)) (sym writes)
 
 -- no number of the order stands before
 apart : (d : Design) (placed order : List ℕ) → is_order_after placed d order ≡ true → (q : ℕ) → contains placed q ≡ true → AllByRecursion (λ p. eqb q p ≡ false) order

@@ -40,7 +40,7 @@ module _ (pass : OnePassOfDesign) (d : Design) (name : List ℕ) (a : IsAccepted
   place = clock_place d name a.clock a.clock_found
 
   ends : (before : State) (slot : Slot) (s : State) → IsFed (network_of d a.clock.first) before slot s → IsSlotEnd (network_of d a.clock.first) before slot (after (map (operation_at d) order) s)
-  ends before slot s fed = subst (λ (t : State). IsSlotEnd (network_of d a.clock.first) before slot t) (sym (settle_is d a.clock.first [] order thin.processes ordered s)) (pass d name a order ordered before slot s fed)
+  ends before slot s fed = subst (λ (t : State). IsSlotEnd (network_of d a.clock.first) before slot t) (sym (settle_is d a.clock.first before [] order thin.processes ordered s)) (pass d name a order ordered before slot s fed)
 
   small : fall_stores (program d a.clock.first order) ≤ size d
   small = subst (λ n. length (data_bits d a.clock.first) + 1 + n ≤ size d) (sym (length-map order (operation_at d))) (stores_fit d a.clock.first (length order) thin.processes place.input (no_more_than_processes d order ordered))

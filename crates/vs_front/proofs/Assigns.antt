@@ -10,7 +10,7 @@ use Rattle.vs_design.specs.Statements as T
 use Rattle.vs_design.specs.Designs as D
 use Rattle.vs_design.specs.Clocks.{same_name, nets_within, port_targets, reads_clock}
 use Rattle.vs_design.specs.Elaborated.{are_numbered, have_bits_from, is_declared, is_signal, is_this, same_signal, same_flag, is_formed_process}
-use Rattle.vs_design.specs.Sizes.{process_weight, register_bits}
+use Rattle.vs_design.specs.Sizes.{process_weight, register_bits, sleeper_weight}
 use Rattle.vs_front.specs.declared.source.Port.{Port}
 use Rattle.vs_front.specs.declared.source.Item.{Item}
 use Rattle.vs_front.specs.declared.wiring.Gate.{Gate}
@@ -145,6 +145,13 @@ weigh ps d at (i ∷ is) h =
 pub no_registers : (ss : List E.Signal) (at : ℕ) (items : List Item) → register_bits (assigns_from ss at items) ≡ []
 no_registers ss at [] = refl
 no_registers ss at (i ∷ is) = no_registers ss (at + 7) is
+
+-- no assign sleeps
+pub no_sleepers : (d : D.Design) (ss : List E.Signal) (at : ℕ) (items : List Item) → sum_by (sleeper_weight d) (assigns_from ss at items) ≡ 0
+no_sleepers d ss at [] = refl
+no_sleepers d ss at (i ∷ is) =
+    let c = sum_by-cons (sleeper_weight d) (assign_of ss at i) (assigns_from ss (at + 7) is) in
+    let r = no_sleepers d ss (at + 7) is in omega (arith, c, r)
 
 -- ---- the clock
 

@@ -24,7 +24,7 @@ use Rattle.vs_front.specs.Gates.{top_scope, with_ports, with_gate, with_gates}
 use Rattle.vs_flat.specs.Thin.{is_scalar, is_gate, IsThin}
 use Rattle.vs_front.proofs.Bools.{and_left, and_right, and_both}
 use Rattle.vs_front.proofs.Numbers.{port, gate_is, signals_at, number_is}
-use Rattle.vs_front.proofs.Assigns.{each_assign, weigh, no_registers, found_clock}
+use Rattle.vs_front.proofs.Assigns.{each_assign, weigh, no_registers, no_sleepers, found_clock}
 use Rattle.vs_front.proofs.Arenas.{port_signals, base, base_is}
 use Rattle.vs_front.proofs.Gated.{FlatLaws, gates_added, gate_assigns, signals_are, names_base, assigns_same}
 use Rattle.vs_front.proofs.Orders.{text_order}
@@ -87,7 +87,8 @@ size_is s d gs =
     ap (λ (ss : List Signal). length (inputs_from 0 ss)) (signals_stay (with_ports (with_scope empty_arena (top_scope s.name)) 0 s.ports) (4 + 3 * length s.ports) gs ∙ ap (λ (a : Arena). a.signals) (base_is s.name s.ports)) ∙ count_inputs 0 s.ports in
     let w = weigh s.ports d.different (first_item s) s.items d.items in
     let r : distinct (register_bits (elaborated s).processes) ≡ 0 = ap distinct (no_registers (signals_from 0 s.ports) (first_item s) s.items) in
-    omega (arith, i, w, r)
+    let z = no_sleepers (elaborated s) (signals_from 0 s.ports) (first_item s) s.items in
+    omega (arith, i, w, r, z)
 
 -- ---- it is thin
 

@@ -4,14 +4,15 @@ use Rattle.std.specs.Prelude.{Some, None}
 use Rattle.std.specs.List.{list_any, range_with_len}
 use Rattle.vs_design.specs.Expressions as E
 use Rattle.vs_design.specs.Designs as D
-use Rattle.vs_design.specs.Clocks.{clock_nets, reads_clock, has_other_clock}
+use Rattle.vs_design.specs.Clocks.{clock_nets, root_of, reads_clock, has_other_clock}
+use Rattle.vs_design.specs.Resets.{has_other_form}
 use Rattle.vs_design.specs.Cycles.{IsDecided}
 use Rattle.vs_design.specs.Elaborated.{is_formed_process, IsLawfulDesign}
 use Rattle.vs_design.specs.Fits.{fits_process}
 use Rattle.vs_design.specs.Sizes.{size, register_bits, distinct}
 use Rattle.vs_design.specs.Rules.{mixed_assigns, missing_bits, latches}
 use Rattle.vs_design.specs.Levels.{level_order}
-use Rattle.vs_design.specs.TimeZero.{families, sleeps}
+use Rattle.vs_design.specs.TimeZero.{families, is_uncertain}
 use Rattle.vs_design.specs.Accepted.{is_empty, IsAcceptedDesign}
 use Rattle.vs_flat.specs.Lawful as flat
 use Rattle.vs_front.specs.declared.source.Source.{Source}
@@ -20,7 +21,7 @@ use Rattle.vs_front.specs.Elaborated.{signal_of, signals_from, first_item, elabo
 use Rattle.vs_front.specs.Accepted.{IsDeclared}
 use Rattle.vs_front.specs.Wiring.{port_number, gate_of, gate_target, reads_number, IsWired, IsAcceptedSource}
 use Rattle.vs_front.proofs.Numbers.{port}
-use Rattle.vs_front.proofs.Assigns.{each_assign, all_assigns, no_assigns, any_assigns, length-assigns, numbered, bits_from, count_bits, count_inputs, declared_signals, formed_is, weigh, no_registers, one_net, found_clock, reads_is}
+use Rattle.vs_front.proofs.Assigns.{each_assign, all_assigns, no_assigns, any_assigns, length-assigns, numbered, bits_from, count_bits, count_inputs, declared_signals, formed_is, weigh, no_registers, no_sleepers, one_net, found_clock, reads_is}
 use Rattle.vs_front.proofs.Counts.{one_driver, driver_once}
 use Rattle.vs_front.proofs.Orders.{text_order, ordered}
 
@@ -52,7 +53,8 @@ small s d p i =
     let w = weigh s.ports d.different (first_item s) s.items d.items in
     let r : distinct (register_bits (elaborated s).processes) ≡ 0 = ap distinct (no_registers (signals_from 0 s.ports) (first_item s) s.items) in
     let n = count_inputs 0 s.ports in
-    omega (arith, w, r, n)
+    let z = no_sleepers (elaborated s) (signals_from 0 s.ports) (first_item s) s.items in
+    omega (arith, w, r, n, z)
 
 pub wired_accepted : ((d : D.Design) → IsDecided d) → (s : Source) (top clock : List ℕ) (gates : List Gate) (n : ℕ) → IsWired s top clock gates n → IsAcceptedDesign (elaborated s) clock
 wired_accepted decided s top clock gates n w =
@@ -69,9 +71,10 @@ wired_accepted decided s top clock gates n w =
       clock = signal_of n (port true clock);
       clock_found = (found_clock 0 s.ports clock).1 n w.clock_is;
       clock_unread = reads_are s d n ∙ ap (λ gs. list_any (reads_number n) gs) (sym w.gates_are) ∙ w.unread;
-      one_clock = no_assigns (has_other_clock (clock_nets (elaborated s) n)) ss (λ at i. refl) (first_item s) s.items;
+      reset_forms = no_assigns (has_other_form (clock_nets (elaborated s) n) (root_of (elaborated s) n)) ss (λ at i. refl) (first_item s) s.items;
+      one_clock = no_assigns (has_other_clock (clock_nets (elaborated s) n) (root_of (elaborated s) n)) ss (λ at i. refl) (first_item s) s.items;
       no_cycle = ordered (elaborated s) (decided (elaborated s)) (range_with_len 0 (length s.items)) (text_order (elaborated s) s.ports d.different (first_item s) s.items d.items refl);
-      awake = no_assigns (sleeps (families (elaborated s) n (level_order (elaborated s)))) ss (λ at i. refl) (first_item s) s.items;
+      awake = no_assigns (is_uncertain (elaborated s) (families (elaborated s) n (level_order (elaborated s)))) ss (λ at i. refl) (first_item s) s.items;
     }
 
 -- ---- and the other way round

@@ -1,20 +1,23 @@
 -- The end of slot 0: a block that is woken has run.
-use Rattle.std.proofs.Common.{◌≡◌, ℕ, true, false, List, inl, inr, refl, sym, ap, ◌∙◌, subst}
-use Rattle.std.proofs.lemmas.Bool.{both_ways}
+use Rattle.std.proofs.Common.{◌≡◌, ℕ, true, List, [], Option, Some, None, inl, inr, refl, sym, ap, ◌∙◌, subst}
+use Rattle.std.proofs.lemmas.Bool.{both_ways, cond-true, cond-false}
+use Rattle.vs_four.specs.Tables.{same}
 use Rattle.vs_four.specs.declared.Bit4.{Bit4}
-use Rattle.vs_four.specs.declared.Bit4.TheVariants.{Zero}
-use Rattle.vs_net.specs.Network.{State, Update, write_all, flatten, Network, Kind, AnInput, TheClock, AnAssign, AComb, AClocked, kind, writes, listens}
+use Rattle.vs_four.specs.declared.Bit4.TheVariants.{Zero, X}
+use Rattle.vs_net.specs.Network.{to_value, Reset, reset_of, State, Update, write_all, flatten, Network, Kind, AnInput, TheClock, AnAssign, AComb, AClocked, kind, writes, listens}
 use Rattle.vs_net.specs.Queue.{Queue, Fall}
 use Rattle.vs_net.proofs.Quiet.{IsRested}
-use Rattle.vs_net.specs.Solution.{driven, IsWriter}
+use Rattle.vs_net.specs.Solution.{driven, reset_updates, IsWriter}
 use Rattle.vs_net.specs.Lawful.{IsLawful, Settles, IsKnown, IsUnknown, IsWokenBlock, ReadsIn}
 use Rattle.vs_net.specs.Laws.{IsKnownVector}
 use Rattle.vs_net.proofs.Parts.{Agrees, WriterPart}
 use Rattle.vs_net.proofs.Levels.{by_order, no_writer, settles, updates as by_updates, writer_of}
-use Rattle.vs_net.proofs.Settling.{Each, an_assign, an_input, a_comb, a_clocked, comb_due, comb_agrees, comb_sleeps, CombPart, ClockedPart, IsInput, Settling}
-use Rattle.vs_net.proofs.Ends.{assign_rests, writer_rests}
-use Rattle.vs_net.proofs.Drives.{driven_clock, driven_input, driven_drive, clocked_undriven, falls_none}
-use Rattle.vs_net.proofs.Begin.{first_phase, calm_first}
+use Rattle.vs_net.proofs.Settling.{Each, an_assign, an_input, a_comb, a_clocked, comb_due, comb_agrees, comb_sleeps, comb_asleep, CombPart, ClockedPart, IsInput, Settling}
+use Rattle.vs_net.proofs.Ends.{assign_rests, writer_rests, settling_arrived, clocked_rested}
+use Rattle.vs_net.proofs.Nets.{nets}
+use Rattle.vs_net.proofs.Basics.{by_test, write_none}
+use Rattle.vs_net.proofs.Phases.{first_phase, good_first}
+use Rattle.vs_net.proofs.Drives.{driven_clock, driven_input, driven_fall}
 
 never_both : (v : Bit4) → IsKnown v → IsUnknown v → ⊥
 never_both v (inl a) (inl b) = cc
@@ -22,16 +25,16 @@ never_both v (inl a) (inr b) = cc
 never_both v (inr a) (inl b) = cc
 never_both v (inr a) (inr b) = cc
 
-module _ (n : Network) (L : IsLawful n) (v base : State) (known : IsKnownVector n v) (base_in : (b : ℕ) → L.early b (base b) ≡ true) (apart : false ≡ false) where
+module _ (n : Network) (L : IsLawful n) (v base : State) (known : IsKnownVector n v) (base_in : (b : ℕ) → L.early b (base b) ≡ true) where
   abbrev pub Sleeps : ℕ → Type 0
   Sleeps p = IsWokenBlock L.early L.late (n.process p)
 
   abbrev pub SettlingFirst : Queue → Type 0
-  SettlingFirst q = Settling n L (first_phase n.idle v) base Sleeps (calm_first n.idle v) apart q
+  SettlingFirst q = Settling n L (first_phase n.idle v) base Sleeps q
 
   module _ (q : Queue) (over : IsRested q) (h : SettlingFirst q) where
     abbrev EachFirst : ℕ → Type 0
-    EachFirst p = Each n L.clock_nets (first_phase n.idle v) (CombPart n base Sleeps) (ClockedPart n (first_phase n.idle v)) q p
+    EachFirst p = Each n (nets n L) (first_phase n.idle v) (CombPart n (Fall v) n.idle base Sleeps) (ClockedPart n (first_phase n.idle v)) q p
 
     abbrev In : ℕ → Type 0
     In b = L.late b (q.now b) ≡ true
@@ -43,25 +46,34 @@ module _ (n : Network) (L : IsLawful n) (v base : State) (known : IsKnownVector 
     in_as b w e h = subst (λ (x : Bit4). L.late b x ≡ true) (sym e) h
 
     given : (p b : ℕ) → writes (n.process p) b ≡ true → WriterPart n (first_phase n.idle v) q p → q.now b ≡ driven (n.process p) (Fall v) n.idle b
-    given p b w part = writer_rests n L (first_phase n.idle v) base Sleeps (calm_first n.idle v) apart q over.0 over.1 p b part w
+    given p b w part = writer_rests n L (first_phase n.idle v) q over.0 over.1 p b part w
 
     writer_part : (p : ℕ) → IsWriter (kind (n.process p)) → EachFirst p → WriterPart n (first_phase n.idle v) q p
     writer_part p u (an_assign k part) = absurd (subst IsWriter k u)
     writer_part p u (an_input k part) = part.writer
     writer_part p u (a_comb k part) = absurd (subst IsWriter k u)
-    writer_part p u (a_clocked k part) = part.writer
+    writer_part p u (a_clocked k part) = (clocked_rested n L (first_phase n.idle v) base Sleeps (good_first n.idle v) (λ f. refl) q over.0 h (settling_arrived n L (first_phase n.idle v) base Sleeps (good_first n.idle v) (λ f. refl) q over.0 h (λ r i. over.1 r)) p part).0
 
-    -- a clocked block's bits have no update in slot 0
-    undriven : (p b : ℕ) → kind (n.process p) ≡ AClocked → driven (n.process p) (Fall v) n.idle b ≡ n.idle b
-    unfolding write_all flatten
-    undriven p b e = driven_drive (n.process p) (Fall v) n.idle b (falls_none (n.process p) v n.idle) ∙ ap (λ (x : List Update). write_all n.idle (flatten x) b) (clocked_undriven (n.process p) (Fall v) e)
+    -- a register is idle, or has the value of a reset
+    register_in : (p b : ℕ) → kind (n.process p) ≡ AClocked → writes (n.process p) b ≡ true → ((r : ℕ) → writes (n.process r) b ≡ true → r ≡ p) → q.now b ≡ driven (n.process p) (Fall v) n.idle b → In b
+    register_in p b e w only g = by_reset (reset_of (n.process p)) refl
+      where
+        given_as : (us : List Update) → reset_updates (reset_of (n.process p)) v ≡ us → q.now b ≡ write_all n.idle (flatten us) b
+        given_as us x = g ∙ driven_fall (n.process p) v n.idle b e ∙ ap (λ (y : List Update). write_all n.idle (flatten y) b) x
+
+        idle_in : q.now b ≡ n.idle b → In b
+        idle_in x = in_as b (n.idle b) x (L.time_zero.late_idle b (λ r wr. subst (λ (y : ℕ). kind (n.process y) ≡ AClocked) (sym (only r wr)) e))
+
+        by_reset : (o : Option Reset) → reset_of (n.process p) ≡ o → In b
+        by_reset None o = idle_in (given_as [] (ap (λ x. reset_updates x v) o) ∙ write_none n.idle b)
+        by_reset (Some r) o = by_test (same (v r.input) (to_value r.edge))
+            (λ t. in_as b (write_all n.idle (flatten r.updates) b) (given_as r.updates (ap (λ x. reset_updates x v) o ∙ cond-true (same (v r.input) (to_value r.edge)) r.updates [] t)) (L.time_zero.late_reset p b r o w))
+            (λ t. idle_in (given_as [] (ap (λ x. reset_updates x v) o ∙ cond-false (same (v r.input) (to_value r.edge)) r.updates [] t) ∙ write_none n.idle b))
 
     by_kind : (p b : ℕ) → writes (n.process p) b ≡ true → ((r : ℕ) → writes (n.process r) b ≡ true → r ≡ p) → (k : Kind) → kind (n.process p) ≡ k → IsWriter k → WriterPart n (first_phase n.idle v) q p → In b
     by_kind p b w only AnInput e u part = in_as b (v b) (given p b w part ∙ driven_input (n.process p) v n.idle b e w) (L.time_zero.late_input p b (v b) e w (known p b e w))
     by_kind p b w only TheClock e u part = in_as b Zero (given p b w part ∙ driven_clock (n.process p) (Fall v) n.idle b e w) (L.time_zero.late_clock p b e w)
-    by_kind p b w only AClocked e u part =
-        in_as b (n.idle b) (given p b w part ∙ undriven p b e)
-        (L.time_zero.late_idle b (λ r wr. subst (λ (x : ℕ). kind (n.process x) ≡ AClocked) (sym (only r wr)) e))
+    by_kind p b w only AClocked e u part = register_in p b e w only (given p b w part)
     by_kind p b w only AnAssign e u part = absurd u
     by_kind p b w only AComb e u part = absurd u
 
@@ -91,9 +103,10 @@ module _ (n : Network) (L : IsLawful n) (v base : State) (known : IsKnownVector 
         no_input AClocked i b = b
     written_in p reads s (a_clocked k part) = absurd (subst Settles k s)
     written_in p reads s (a_comb k part) = elim part.ok [
-      | comb_due d ↦ absurd (let w = (over.0 p).0 in cc)
-      | comb_agrees m g ↦ agreed_in p s reads g
-      | comb_sleeps m w g ↦ absurd (wakes_up p w reads g)
+      | comb_due d y ↦ absurd (let w = (over.0 p).0 in cc)
+      | comb_agrees m g y ↦ agreed_in p s reads g
+      | comb_sleeps m w none g ↦ absurd (wakes_up p w reads g)
+      | comb_asleep m x e f g ↦ λ b w. in_as b X (g.bits b w) (L.time_zero.late_asleep p b x e w)
     ]
 
     all_late : (b : ℕ) → In b

@@ -4,7 +4,7 @@ use Rattle.std.proofs.lemmas.Bool.{cond-true, cond-false, both_ways, and_parts}
 use Rattle.vs_four.specs.declared.Bit4.{Bit4}
 use Rattle.vs_four.specs.declared.Bit4.TheVariants.{Zero, One, X, Z}
 use Rattle.vs_four.specs.Tables.{same}
-use Rattle.vs_net.specs.Network.{State, Write, put, write_all, is_written}
+use Rattle.vs_net.specs.Network.{State, Write, put, write_all, is_written, flatten}
 use Rattle.vs_net.specs.Queue.{is_held}
 
 pub by_test : {P : Type 0} (b : Bool) → (b ≡ true → P) → (b ≡ false → P) → P
@@ -104,3 +104,15 @@ held_stays (w ∷ ws) s b h =
 pub is_written-one : (b : ℕ) (v : Bit4) → is_written (record { bit = b; value = v } ∷ []) b ≡ true
 unfolding is_written
 is_written-one b v = subst (λ c. (c || false) ≡ true) (sym (eq-eqb b b refl)) refl
+
+pub write_none : (s : State) (b : ℕ) → write_all s (flatten []) b ≡ s b
+unfolding write_all flatten
+write_none s b = refl
+
+pub none_written : (b : ℕ) → is_written (flatten []) b ≡ true → ⊥
+unfolding flatten is_written
+none_written b h = cc
+
+pub unwritten_none : (b : ℕ) → is_written [] b ≡ false
+unfolding is_written
+unwritten_none b = refl

@@ -1,19 +1,17 @@
 -- Between two beginnings of slots a run has few steps.
 use Rattle.std.proofs.Common.{◌≡◌, ◌≢◌, ℕ, zero, suc, ◌+◌, ◌≤◌, Bool, List, [], ◌∷◌, ◌++◌, length, refl, sym, ap, ◌∙◌, subst, Option, None, unwrap_or, IsSome, arith}
-use Rattle.std.proofs.lemmas.Bool.{both_ways}
-use Rattle.vs_net.specs.Network.{State, Write, Update, put, is_written, flatten, Process, Input, Clock, Assign, Comb, Clocked, Network, Kind, AnInput, TheClock, AnAssign, AComb, AClocked, kind, writes, clock_net, made, updates}
+use Rattle.vs_net.specs.Network.{State, Write, Update, put, flatten, Process, Input, Clock, Assign, Comb, Clocked, Network, Kind, AnInput, TheClock, AnAssign, AComb, AClocked, kind, made, updates}
 use Rattle.vs_net.specs.Queue.{Unstarted, Waiting, Due, Queue, Slot, Fall, Rise, changes, Choice, Start, Evaluate, Apply, Run, Take, Activate, Next, IsBlock, after, first_mode, drive, begun, start, slots_of, IsFirst, evaluated, applied, ran, took, started}
 use Rattle.vs_net.proofs.Quiet.{IsStep}
 use Rattle.vs_net.specs.Lawful.{IsLawful, Settles}
 use Rattle.vs_net.specs.Bound.{sum_below, IsWeighed, bound, IsPartOfRun, HasNoNext}
-use Rattle.vs_net.specs.Laws.{IsKnownVector, SlotsEnd}
-use Rattle.vs_net.proofs.Basics.{by_test, put-same, is_written-append}
+use Rattle.vs_net.specs.Laws.{IsKnownVector, AreKnownResets, SlotsEnd}
+use Rattle.vs_net.proofs.Basics.{put-same, is_written-append}
 use Rattle.vs_net.proofs.Waking.{changes_all}
 use Rattle.vs_net.proofs.Parts.{IsInput, inputs_deaf, Own, acts_on, acts_mode, acts_pending, acts_active, acts_waiting, acts_changes}
-use Rattle.vs_net.proofs.Steps.{off_nets}
-use Rattle.vs_net.proofs.Settling.{some_is, full_is}
+use Rattle.vs_net.proofs.Settling.{some_is, full_is, took_waiting}
 use Rattle.vs_net.proofs.Drives.{clocked_undriven}
-use Rattle.vs_net.proofs.Rising.{rising}
+use Rattle.vs_net.proofs.Phases.{risen_phase}
 use Rattle.vs_net.proofs.Begin.{early_first}
 use Rattle.vs_net.proofs.Runs.{InSlot, is_early, over_in, begin_in, slots_stay, Alternates, alternates, next_alternates, step_in, step_of}
 use Rattle.vs_net.proofs.Sound.{SoundAt, sound_of}
@@ -34,7 +32,7 @@ drive_few (Clock bit) (Fall v) = omega arith
 drive_few (Clock bit) Rise = omega arith
 drive_few (Assign reads targets value) slot = omega arith
 drive_few (Comb waits targets run) slot = omega arith
-drive_few (Clocked clock targets run) slot = omega arith
+drive_few (Clocked clock reset targets run) slot = omega arith
 
 first_unstarted : (k : Kind) → unstarted (first_mode k) ≤ blocks k
 first_unstarted AnInput = omega arith
@@ -74,7 +72,7 @@ module _ (n : Network) (L : IsLawful n) (feeds : ℕ → ℕ → Bool) (size w r
         no_evals = λ k. refl;
         no_applies = λ k. refl;
         comb = λ k. (let a = idle p (λ e. cc) in omega arith);
-        clocked = λ k x h. (let a = idle p (λ e. cc) in omega arith);
+        clocked = λ k x y h g. (let a = idle p (λ e. cc) in omega arith);
         no_runs = λ k l. refl;
         input = λ i. (let a = ap length (active p) in let b = ap length (waiting p) in let c = drive_few (n.process p) slot in omega arith);
         updated = λ k. (let a = ap length (active p) in let b = ap length (waiting p ∙ clocked_undriven (n.process p) slot k) in omega arith);
@@ -186,9 +184,7 @@ module _ (n : Network) (L : IsLawful n) (feeds : ℕ → ℕ → Bool) (size w r
         own_mode p u us own ns = by_kind (kind (n.process p)) refl
           where
             by_kind : (z : Kind) → kind (n.process p) ≡ z → (changes n (record q { active = put q.active p us }) u).mode p ≡ q.mode p
-            by_kind AClocked k = (changes_all n u (record q { active = put q.active p us })).calm p k (by_test (is_written u (clock_net (n.process p)))
-                (λ h. absurd (both_ways (writes (n.process p) (clock_net (n.process p))) (off_nets n L (rising n.idle) p (λ x. cc) (λ x. cc) (clock_net (n.process p)) (L.clock_net_is p k)) (own (clock_net (n.process p)) h)))
-                (λ h. h))
+            by_kind AClocked k = took_waiting n L (risen_phase n.idle) q p u us k own
             by_kind AnInput k = (changes_all n u (record q { active = put q.active p us })).deaf p (λ x. cc) (λ b l. absurd (inputs_deaf (n.process p) b (subst IsInput (sym k) tt) l))
             by_kind TheClock k = (changes_all n u (record q { active = put q.active p us })).deaf p (λ x. cc) (λ b l. absurd (inputs_deaf (n.process p) b (subst IsInput (sym k) tt) l))
             by_kind AnAssign k = absurd (ns (subst Settles (sym k) tt))
@@ -265,12 +261,12 @@ module _ (n : Network) (L : IsLawful n) (feeds : ℕ → ℕ → Bool) (size w r
   bound_from [] steps q part local p = let a = count_all p.slot p.before steps q p.steps local part p.inside p.count in omega arith
   bound_from (c ∷ earlier) steps q part local p = bound_from earlier steps (after n q c) part.1 local (place_on q c (step_of n L p.slot p.before q p.inside c part.0) p)
 
-  pub first_place : (first v : State) (vs : List State) → IsFirst n first → IsKnownVector n v → Place (start n first v vs)
-  first_place first v vs firsts known = record {
+  pub first_place : (first v : State) (vs : List State) → IsFirst n first → IsKnownVector n v → AreKnownResets n vs → Place (start n first v vs)
+  first_place first v vs firsts known resets = record {
     slot = Fall v;
     before = n.idle;
     rest = Rise ∷ slots_of vs;
-    alternate = alternates n L vs;
+    alternate = alternates n L vs resets;
     slots = refl;
     inside = is_early refl known (early_first n L first v vs firsts);
     steps = 0;
@@ -278,5 +274,5 @@ module _ (n : Network) (L : IsLawful n) (feeds : ℕ → ℕ → Bool) (size w r
   }
 
 pub slots_end : SlotsEnd
-slots_end n L feeds size w r W first v vs firsts known earlier steps part local =
-    bound_from n L feeds size w r W earlier steps (start n first v vs) part local (first_place n L feeds size w r W first v vs firsts known)
+slots_end n L feeds size w r W first v vs firsts known resets earlier steps part local =
+    bound_from n L feeds size w r W earlier steps (start n first v vs) part local (first_place n L feeds size w r W first v vs firsts known resets)

@@ -6,7 +6,7 @@ use Rattle.vs_net.specs.Queue.{Mode, Unstarted, Waiting, Due, Queue, Slot, Choic
 use Rattle.vs_net.specs.Lawful.{IsLawful}
 use Rattle.vs_net.specs.LevelRun.{after_all}
 use Rattle.vs_net.specs.Bound.{IsWeighed, bound, IsPartOfRun}
-use Rattle.vs_net.specs.Laws.{IsKnownVector, RunsEnd}
+use Rattle.vs_net.specs.Laws.{IsKnownVector, AreKnownResets, RunsEnd}
 use Rattle.vs_net.proofs.Basics.{same_number}
 use Rattle.vs_net.proofs.Quiet.{IsQuiet, IsRested, IsStep, still_of, possible_of}
 use Rattle.vs_net.proofs.Parts.{IsInput}
@@ -131,11 +131,11 @@ module _ (n : Network) (L : IsLawful n) (feeds : ℕ → ℕ → Bool) (size w r
   place_after [] q h at = at
   place_after (c ∷ cs) q h at = place_after cs (after n q c) h.1 (place_on n L feeds size w r W q c (step_of n L at.slot at.before q at.inside c h.0) at)
 
-  pub continued : (first v : State) (vs : List State) → IsFirst n first → IsKnownVector n v → (earlier : List Choice) → IsPartOfRun n (start n first v vs) earlier → (later : List Choice) × IsCompleted n (start n first v vs) (earlier ++ later)
-  continued first v vs firsts known earlier part =
+  pub continued : (first v : State) (vs : List State) → IsFirst n first → IsKnownVector n v → AreKnownResets n vs → (earlier : List Choice) → IsPartOfRun n (start n first v vs) earlier → (later : List Choice) × IsCompleted n (start n first v vs) (earlier ++ later)
+  continued first v vs firsts known resets earlier part =
       let q = start n first v vs in
-      let last = ends_from (after_all n q earlier) (place_after earlier q part (first_place n L feeds size w r W first v vs firsts known)) in
+      let last = ends_from (after_all n q earlier) (place_after earlier q part (first_place n L feeds size w r W first v vs firsts known resets)) in
       (last.0, completed_append earlier last.0 q part last.1)
 
 pub runs_end : RunsEnd
-runs_end n L feeds size w r W first v vs firsts known earlier part = continued n L feeds size w r W first v vs firsts known earlier part
+runs_end n L feeds size w r W first v vs firsts known resets earlier part = continued n L feeds size w r W first v vs firsts known resets earlier part

@@ -1,12 +1,13 @@
 -- How many steps of each kind a slot has seen.
-use Rattle.std.proofs.Common.{◌≡◌, ◌≢◌, ℕ, ◌+◌, ◌*◌, ◌<◌, ◌≤◌, Bool, true, false, List, [], ◌∷◌, ◌++◌, length, ◌⊎◌, inl, inr, refl, sym, ap, ◌∙◌, subst, Option, Some, None, unwrap_or, arith, if◌then◌else◌, mul-le-mul_right, length-append}
+use Rattle.std.proofs.Common.{◌≡◌, ◌≢◌, ℕ, ◌+◌, ◌*◌, ◌<◌, ◌≤◌, Bool, true, false, List, [], ◌∷◌, ◌++◌, length, inl, inr, refl, sym, ap, ◌∙◌, subst, Option, Some, None, unwrap_or, arith, if◌then◌else◌, mul-le-mul_right, length-append}
 use Rattle.std.proofs.lemmas.Bool.{both_ways, cond-true, cond-false, cases_lt}
-use Rattle.vs_net.specs.Network.{Write, Update, put, is_written, Process, Network, Kind, AnInput, TheClock, AnAssign, AComb, AClocked, kind, writes, listens, clock_net, made, updates}
+use Rattle.vs_net.specs.Network.{Reset, reset_of, Write, Update, put, is_written, Process, Network, Kind, AnInput, TheClock, AnAssign, AComb, AClocked, kind, writes, listens, clock_net, made, updates}
 use Rattle.vs_net.specs.Queue.{Mode, Unstarted, Waiting, Due, Queue, changes, to_write, evaluated, applied, ran, started}
 use Rattle.vs_net.proofs.Quiet.{IsQuiet}
-use Rattle.vs_net.specs.Lawful.{IsLawful, IsClockPort, Settles}
+use Rattle.vs_net.specs.Lawful.{IsLawful, Settles}
+use Rattle.vs_net.proofs.Nets.{Family, IsPort, nets, net_writer, some_writer, port_of, clock_net_family, reset_net_family}
 use Rattle.vs_net.specs.Bound.{sum_below, fed_by, IsWeighed, share, bound}
-use Rattle.vs_net.proofs.Levels.{by_order, same_writer}
+use Rattle.vs_net.proofs.Levels.{by_order}
 use Rattle.vs_net.proofs.Basics.{by_test, same_number, put-same, put-other}
 use Rattle.vs_net.proofs.Waking.{Woke, stays, wakes, Changed, changes_all}
 use Rattle.vs_net.proofs.Parts.{IsInput, Acts, Own, not_written}
@@ -57,6 +58,20 @@ due_le Unstarted = omega arith
 due_le Waiting = omega arith
 due_le Due = omega arith
 
+-- whether the process writes the reset net, where there is one
+abbrev pub on_reset : Option Reset → Process → Bool
+on_reset None process = false
+on_reset (Some e) process = writes process e.net
+
+abbrev pub IsOnReset : Option Reset → Process → Type 0
+IsOnReset None process = Unit {0}
+IsOnReset (Some e) process = writes process e.net ≡ true
+
+-- what the writer of the reset net adds
+abbrev pub extra : Option Reset → ℕ → ℕ
+extra None m = 0
+extra (Some e) m = m
+
 module _ (n : Network) (L : IsLawful n) (feeds : ℕ → ℕ → Bool) (size w r : ℕ → ℕ) (W : IsWeighed n feeds size w r) where
   abbrev pub fed : Tally → ℕ → ℕ
   fed t p = sum_below n.count (λ q. if feeds q p then written (kind (n.process q)) t q else 0)
@@ -72,7 +87,7 @@ module _ (n : Network) (L : IsLawful n) (feeds : ℕ → ℕ → Bool) (size w r
     pub no_evals : kind (n.process p) ≢ AnAssign → t.evals p ≡ 0
     pub no_applies : kind (n.process p) ≢ AnAssign → t.applies p ≡ 0
     pub comb : kind (n.process p) ≡ AComb → t.runs p + due (q.mode p) ≤ fed t p
-    pub clocked : kind (n.process p) ≡ AClocked → (x : ℕ) → writes (n.process x) (clock_net (n.process p)) ≡ true → t.runs p + due (q.mode p) ≤ written (kind (n.process x)) t x
+    pub clocked : kind (n.process p) ≡ AClocked → (x y : ℕ) → writes (n.process x) (clock_net (n.process p)) ≡ true → IsOnReset (reset_of (n.process p)) (n.process y) → t.runs p + due (q.mode p) ≤ written (kind (n.process x)) t x + extra (reset_of (n.process p)) (written (kind (n.process y)) t y)
     pub no_runs : kind (n.process p) ≢ AComb → kind (n.process p) ≢ AClocked → t.runs p ≡ 0
     pub input : IsInput (kind (n.process p)) → t.takes p + ups q p ≤ 1
     pub updated : kind (n.process p) ≡ AClocked → t.takes p + ups q p ≤ t.runs p * size p
@@ -89,7 +104,7 @@ module _ (n : Network) (L : IsLawful n) (feeds : ℕ → ℕ → Bool) (size w r
     pub takes : (x : ℕ) → x ≢ p → t'.takes x ≡ t.takes x
     pub unstarts : (x : ℕ) → x ≢ p → unstarted (q'.mode x) ≤ unstarted (q.mode x)
     pub dues : (x : ℕ) → x ≢ p → kind (n.process x) ≢ AClocked → due (q'.mode x) ≤ due (q.mode x) + (if feeds p x then wrote else 0)
-    pub clocked_dues : (x : ℕ) → x ≢ p → kind (n.process x) ≡ AClocked → due (q'.mode x) ≤ due (q.mode x) + (if writes (n.process p) (clock_net (n.process x)) then wrote else 0)
+    pub clocked_dues : (x : ℕ) → x ≢ p → kind (n.process x) ≡ AClocked → due (q'.mode x) ≤ due (q.mode x) + (if writes (n.process p) (clock_net (n.process x)) then wrote else 0) + (if on_reset (reset_of (n.process x)) (n.process p) then wrote else 0)
     pub pending : (x : ℕ) → x ≢ p → q'.pending x ≡ q.pending x
     pub active : (x : ℕ) → x ≢ p → q'.active x ≡ q.active x
     pub waiting : (x : ℕ) → x ≢ p → q'.waiting x ≡ q.waiting x
@@ -119,16 +134,20 @@ module _ (n : Network) (L : IsLawful n) (feeds : ℕ → ℕ → Bool) (size w r
         split true = refl
         split false = omega arith
 
-    writer_up : (x y : ℕ) → kind (n.process x) ≡ AClocked → writes (n.process y) (clock_net (n.process x)) ≡ true → written (kind (n.process y)) t y + (if writes (n.process p) (clock_net (n.process x)) then wrote else 0) ≤ written (kind (n.process y)) t' y
-    writer_up x y k h = same_number y p
+    writer_up : (c y : ℕ) → writes (n.process y) c ≡ true → written (kind (n.process y)) t y + (if writes (n.process p) c then wrote else 0) ≤ written (kind (n.process y)) t' y
+    writer_up c y h = same_number y p
         (λ e. let a = subst (λ (z : ℕ). written (kind (n.process z)) t' z ≡ written (kind (n.process z)) t z + wrote) (sym e) less.wrote_is in
-        let b = most (writes (n.process p) (clock_net (n.process x))) in omega arith)
+        let b = most (writes (n.process p) c) in omega arith)
         (λ ne. let a = same_written y ne in
-        let b = cond-false (writes (n.process p) (clock_net (n.process x))) wrote 0 (not_written n L p y (clock_net (n.process x)) ne h) in omega arith)
+        let b = cond-false (writes (n.process p) c) wrote 0 (not_written n L p y c ne h) in omega arith)
       where
         most : (b : Bool) → (if b then wrote else 0) ≤ wrote
         most true = omega arith
         most false = omega arith
+
+    reset_up : (o : Option Reset) (y : ℕ) → IsOnReset o (n.process y) → extra o (written (kind (n.process y)) t y) + (if on_reset o (n.process p) then wrote else 0) ≤ extra o (written (kind (n.process y)) t' y)
+    reset_up None y h = omega arith
+    reset_up (Some e) y h = writer_up e.net y h
 
     pub spent_other : (x : ℕ) → x ≢ p → Spent q t x → Spent q' t' x
     spent_other x ne s = record {
@@ -138,7 +157,7 @@ module _ (n : Network) (L : IsLawful n) (feeds : ℕ → ℕ → Bool) (size w r
       no_evals = λ k. less.evals x ne ∙ s.no_evals k;
       no_applies = λ k. less.applies x ne ∙ s.no_applies k;
       comb = λ k. (let a = less.runs x ne in let b = less.dues x ne (λ e. cc) in let c = s.comb k in let d = fed_up x in omega arith);
-      clocked = λ k y h. (let a = less.runs x ne in let b = less.clocked_dues x ne k in let c = s.clocked k y h in let d = writer_up x y k h in omega arith);
+      clocked = λ k y z h g. (let a = less.runs x ne in let b = less.clocked_dues x ne k in let c = s.clocked k y z h g in let d = writer_up (clock_net (n.process x)) y h in let e = reset_up (reset_of (n.process x)) z g in omega arith);
       no_runs = λ k l. less.runs x ne ∙ s.no_runs k l;
       input = λ i. (let a = less.takes x ne in let b = ap length (less.active x ne) in let c = ap length (less.waiting x ne) in let d = s.input i in omega arith);
       updated = λ k. (let a = less.takes x ne in let b = ap length (less.active x ne) in let c = ap length (less.waiting x ne) in let d = s.updated k in let e = ap (λ (z : ℕ). z * size x) (less.runs x ne) in omega arith);
@@ -152,10 +171,12 @@ module _ (n : Network) (L : IsLawful n) (feeds : ℕ → ℕ → Bool) (size w r
       (λ e. let b = cond-true {A = ℕ} (feeds p x) 1 0 e in let c = due_le (q'.mode x) in omega arith)
       (λ e. let b = ap due (a.deaf x ne k (λ c l. by_test (writes (n.process p) c) (λ f. absurd (both_ways (feeds p x) e (W.fed x p c l f))) (λ f. f))) in omega arith)
 
-  clocked_dues_of : (p : ℕ) (q q' : Queue) → Acts n p q q' → (x : ℕ) → x ≢ p → kind (n.process x) ≡ AClocked → due (q'.mode x) ≤ due (q.mode x) + (if writes (n.process p) (clock_net (n.process x)) then 1 else 0)
+  clocked_dues_of : (p : ℕ) (q q' : Queue) → Acts n p q q' → (x : ℕ) → x ≢ p → kind (n.process x) ≡ AClocked → due (q'.mode x) ≤ due (q.mode x) + (if writes (n.process p) (clock_net (n.process x)) then 1 else 0) + (if on_reset (reset_of (n.process x)) (n.process p) then 1 else 0)
   clocked_dues_of p q q' a x ne k = by_test (writes (n.process p) (clock_net (n.process x)))
       (λ e. let b = cond-true {A = ℕ} (writes (n.process p) (clock_net (n.process x))) 1 0 e in let c = due_le (q'.mode x) in omega arith)
-      (λ e. let b = ap due (a.calm x ne k e) in omega arith)
+      (λ e. by_test (on_reset (reset_of (n.process x)) (n.process p))
+      (λ f. let b = cond-true {A = ℕ} (on_reset (reset_of (n.process x)) (n.process p)) 1 0 f in let c = due_le (q'.mode x) in omega arith)
+      (λ f. let b = ap due (a.calm x ne k (record { clock = e; reset = λ r o. subst (λ (z : Option Reset). on_reset z (n.process p) ≡ false) o f })) in omega arith))
 
   unstarts_of : (p : ℕ) (q q' : Queue) (x : ℕ) → Woke n q q' x → unstarted (q'.mode x) ≤ unstarted (q.mode x)
   unstarts_of p q q' x (stays e k) = let a = ap unstarted e in omega arith
@@ -178,6 +199,10 @@ module _ (n : Network) (L : IsLawful n) (feeds : ℕ → ℕ → Bool) (size w r
     writer_more y = same_number y p
         (λ e. let a = subst (λ (z : ℕ). written (kind (n.process z)) t' z ≡ written (kind (n.process z)) t z + wrote) (sym e) less.wrote_is in omega arith)
         (λ ne. let a = same_written p wrote q q' t t' less y ne in omega arith)
+
+    extra_more : (o : Option Reset) (y : ℕ) → extra o (written (kind (n.process y)) t y) ≤ extra o (written (kind (n.process y)) t' y)
+    extra_more None y = omega arith
+    extra_more (Some e) y = writer_more y
 
     -- all processes, from p's own account
     pub all_spent : ((x : ℕ) → Spent q t x) → Spent q' t' p → (x : ℕ) → Spent q' t' x
@@ -217,7 +242,7 @@ module _ (n : Network) (L : IsLawful n) (feeds : ℕ → ℕ → Bool) (size w r
           no_evals = s.no_evals;
           no_applies = s.no_applies;
           comb = λ k. (let a = s.comb k in omega arith);
-          clocked = λ k x e. (let a = s.clocked k x e in let b = writer_more p 0 q (started q p) t t_start start_less x in omega arith);
+          clocked = λ k x y e g. (let a = s.clocked k x y e g in let b = writer_more p 0 q (started q p) t t_start start_less x in let d = extra_more p 0 q (started q p) t t_start start_less (reset_of (n.process p)) y in omega arith);
           no_runs = s.no_runs;
           input = s.input;
           updated = s.updated;
@@ -268,7 +293,7 @@ module _ (n : Network) (L : IsLawful n) (feeds : ℕ → ℕ → Bool) (size w r
           no_evals = λ l. absurd (l k);
           no_applies = s.no_applies;
           comb = λ l. absurd cc;
-          clocked = λ l x e. absurd cc;
+          clocked = λ l x y e g. absurd cc;
           no_runs = s.no_runs;
           input = λ i. s.input i;
           updated = λ l. absurd cc;
@@ -328,7 +353,7 @@ module _ (n : Network) (L : IsLawful n) (feeds : ℕ → ℕ → Bool) (size w r
           no_evals = s.no_evals;
           no_applies = λ l. absurd (l k);
           comb = λ l. absurd cc;
-          clocked = λ l x f. absurd cc;
+          clocked = λ l x y f g. absurd cc;
           no_runs = s.no_runs;
           input = λ i. (let b = s.input i in let c = ap length a0 in let d = ap length w0 in omega arith);
           updated = λ l. absurd cc;
@@ -378,7 +403,7 @@ module _ (n : Network) (L : IsLawful n) (feeds : ℕ → ℕ → Bool) (size w r
           no_evals = s.no_evals;
           no_applies = s.no_applies;
           comb = λ l. (let b = s.comb l in let c = ap due h in omega arith);
-          clocked = λ l x f. absurd cc;
+          clocked = λ l x y f g. absurd cc;
           no_runs = λ l x. absurd (l k);
           input = λ i. absurd (subst IsInput k i);
           updated = λ l. absurd cc;
@@ -428,7 +453,7 @@ module _ (n : Network) (L : IsLawful n) (feeds : ℕ → ℕ → Bool) (size w r
           no_evals = s.no_evals;
           no_applies = s.no_applies;
           comb = λ l. absurd cc;
-          clocked = λ l x f. (let b = s.clocked l x f in let c = ap due h in let d = writer_more p 0 q q_k t t_clocked clocked_less x in omega arith);
+          clocked = λ l x y f g. (let b = s.clocked l x y f g in let c = ap due h in let d = writer_more p 0 q q_k t t_clocked clocked_less x in let e = extra_more p 0 q q_k t t_clocked clocked_less (reset_of (n.process p)) y in omega arith);
           no_runs = λ l x. absurd (x k);
           input = λ i. absurd (subst IsInput k i);
           updated = λ l.
@@ -496,7 +521,7 @@ module _ (n : Network) (L : IsLawful n) (feeds : ℕ → ℕ → Bool) (size w r
           no_evals = s.no_evals;
           no_applies = s.no_applies;
           comb = λ l. absurd (k (subst Settles (sym l) tt));
-          clocked = λ l x f. (let b = s.clocked l x f in let d = writer_more p 1 q q_t t t_take take_less x in omega arith);
+          clocked = λ l x y f g. (let b = s.clocked l x y f g in let d = writer_more p 1 q q_t t t_take take_less x in let e = extra_more p 1 q q_t t t_take take_less (reset_of (n.process p)) y in omega arith);
           no_runs = s.no_runs;
           input = λ i. (let b = s.input i in omega arith);
           updated = λ l. (let b = s.updated l in omega arith);
@@ -567,49 +592,57 @@ module _ (n : Network) (L : IsLawful n) (feeds : ℕ → ℕ → Bool) (size w r
         let f = fed_within p h in let a = (s p).evals k in let b = (s p).applies k in let c = W.assign p k in
         (omega arith, omega arith)
 
-    -- an assign that copies a clock net
-    net_writer : (x c : ℕ) → L.clock_nets c ≡ true → writes (n.process x) c ≡ true → (kind (n.process x) ≡ TheClock) ⊎ (kind (n.process x) ≡ AnAssign)
-    net_writer x c net h =
-        let y = L.nets_written c net in
-        let e = same_writer n L y.0 x c y.1 h in
-        elim y.2 [ inl k ↦ inl (subst (λ (z : ℕ). kind (n.process z) ≡ TheClock) (sym e) k) | inr k ↦ inr (subst (λ (z : ℕ). kind (n.process z) ≡ AnAssign) (sym e) k) ]
-
+    -- an assign that copies a net of a family
     abbrev PortWithin : ℕ → Type 0
-    PortWithin p = (c : ℕ) → writes (n.process p) c ≡ true → L.clock_nets c ≡ true → Within p
+    PortWithin p = (c : ℕ) (f : Family) → writes (n.process p) c ≡ true → nets n L c ≡ Some f → Within p
 
     port_step : (p : ℕ) → Settles (kind (n.process p)) → ((b x : ℕ) → listens (n.process p) b ≡ true → writes (n.process x) b ≡ true → Settles (kind (n.process x)) → PortWithin x) → PortWithin p
-    port_step p st below c h net = elim (net_writer p c net h) [
-      | inl k ↦ absurd (subst Settles k st)
-      | inr k ↦ elim (L.assign_nets p k) [
+    port_step p st below c f h net = elim (net_writer n L p c f net h) [
+      | inl k ↦ input_within p (kind (n.process p)) refl k
+      | inr k ↦ elim (port_of n L p k) [
         | inl port ↦ subst (λ (z : Kind). written z t p ≤ w p) (sym k) (assign_within p k (feeder port)).0
-        | inr off ↦ absurd (both_ways (writes (n.process p) c) (off c net).1 h)
+        | inr off ↦ absurd (both_ways (writes (n.process p) c) (off c f net) h)
       ]
     ]
       where
-        feeder : (port : IsClockPort L.clock_nets (n.process p)) → (x : ℕ) → feeds x p ≡ true → Within x
+        feeder : (port : IsPort (nets n L) (n.process p)) → (x : ℕ) → feeds x p ≡ true → Within x
         feeder port x e =
             let f = W.fed_only p x e in
             let is_from = port.reads_one f.0 f.1 in
-            let from_net = subst (λ (z : ℕ). L.clock_nets z ≡ true) (sym is_from) port.from_net in
-            elim (net_writer x f.0 from_net f.2) [
-              | inl k ↦ input_within x (kind (n.process x)) refl (subst IsInput (sym k) tt)
-              | inr k ↦ below f.0 x f.1 f.2 (subst Settles (sym k) tt) f.0 f.2 from_net
+            let from_net = subst (λ (z : ℕ). nets n L z ≡ Some port.family) (sym is_from) port.from_net in
+            elim (net_writer n L x f.0 port.family from_net f.2) [
+              | inl k ↦ input_within x (kind (n.process x)) refl k
+              | inr k ↦ below f.0 x f.1 f.2 (subst Settles (sym k) tt) f.0 port.family f.2 from_net
             ]
 
-    net_within : (x c : ℕ) → L.clock_nets c ≡ true → writes (n.process x) c ≡ true → Within x
-    net_within x c net h = elim (net_writer x c net h) [
-      | inl k ↦ input_within x (kind (n.process x)) refl (subst IsInput (sym k) tt)
-      | inr k ↦ by_order n L PortWithin port_step x (subst Settles (sym k) tt) c h net
+    net_within : (x c : ℕ) (f : Family) → nets n L c ≡ Some f → writes (n.process x) c ≡ true → Within x
+    net_within x c f net h = elim (net_writer n L x c f net h) [
+      | inl k ↦ input_within x (kind (n.process x)) refl k
+      | inr k ↦ by_order n L PortWithin port_step x (subst Settles (sym k) tt) c f h net
     ]
+
+    runs_within : (p : ℕ) → kind (n.process p) ≡ AClocked → (o : Option Reset) → reset_of (n.process p) ≡ o → t.runs p ≤ r p
+    runs_within p k None o =
+        let net = clock_net_family n L p k in
+        let y = some_writer n L (clock_net (n.process p)) None net in
+        let a = (s p).clocked k y.0 y.0 y.1 (subst (λ (z : Option Reset). IsOnReset z (n.process y.0)) (sym o) tt) in
+        let a0 = ap (λ (z : Option Reset). extra z (written (kind (n.process y.0)) t y.0)) o in
+        let b = net_within y.0 (clock_net (n.process p)) None net y.1 in
+        let c = W.clocked_by p y.0 k o y.1 in omega arith
+    runs_within p k (Some e) o =
+        let net = clock_net_family n L p k in
+        let y = some_writer n L (clock_net (n.process p)) None net in
+        let net' = reset_net_family n L p e o in
+        let x = some_writer n L e.net (Some e.input) net' in
+        let a = (s p).clocked k y.0 x.0 y.1 (subst (λ (z : Option Reset). IsOnReset z (n.process x.0)) (sym o) x.1) in
+        let a0 = ap (λ (z : Option Reset). extra z (written (kind (n.process x.0)) t x.0)) o in
+        let b = net_within y.0 (clock_net (n.process p)) None net y.1 in
+        let b' = net_within x.0 e.net (Some e.input) net' x.1 in
+        let c = W.reset_by p y.0 x.0 e o y.1 x.1 in omega arith
 
     clocked_within : (p : ℕ) → kind (n.process p) ≡ AClocked → (t.runs p ≤ r p) × (t.takes p + ups q p ≤ w p)
     clocked_within p k =
-        let net = L.clock_net_is p k in
-        let y = L.nets_written (clock_net (n.process p)) net in
-        let a = (s p).clocked k y.0 y.1 in
-        let b = net_within y.0 (clock_net (n.process p)) net y.1 in
-        let c = W.clocked_by p y.0 k y.1 in
-        let runs_few : t.runs p ≤ r p = omega arith in
+        let runs_few = runs_within p k (reset_of (n.process p)) refl in
         let d = (s p).updated k in
         let e = W.clocked p k in
         let f : t.runs p * size p ≤ r p * size p = mul-le-mul_right (size p) runs_few in

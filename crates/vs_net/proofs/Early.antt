@@ -1,20 +1,23 @@
 -- Slot 0 before the first activation.
-use Rattle.std.proofs.Common.{◌≡◌, ◌≢◌, ℕ, true, false, [], ◌⊎◌, inl, inr, refl, sym, ◌∙◌, subst, IsSome}
+use Rattle.std.proofs.Common.{◌≡◌, ◌≢◌, ℕ, true, false, [], ◌⊎◌, inl, inr, Option, Some, None, refl, sym, ap, ◌∙◌, subst, IsSome}
 use Rattle.std.proofs.lemmas.Bool.{both_ways}
 use Rattle.vs_four.specs.declared.Bit4.{Bit4}
-use Rattle.vs_four.specs.declared.Bit4.TheVariants.{X}
-use Rattle.vs_net.specs.Network.{State, Network, Kind, AnInput, TheClock, AnAssign, AComb, AClocked, kind, writes}
-use Rattle.vs_net.specs.Queue.{Unstarted, Waiting, Due, Queue, Choice, Start, Evaluate, Apply, Run, Take, Activate, Next, after, IsBlock, evaluated, applied, ran, started}
+use Rattle.vs_four.specs.declared.Bit4.TheVariants.{X, Zero}
+use Rattle.vs_net.specs.Network.{Sleeper, Edge, Posedge, Negedge, to_value, Reset, reset_of, clock_net, State, Network, Kind, AnInput, TheClock, AnAssign, AComb, AClocked, kind, writes, listens}
+use Rattle.vs_net.specs.Queue.{Fall, Unstarted, Waiting, Due, Queue, Choice, Start, Evaluate, Apply, Run, Take, Activate, Next, after, IsBlock, evaluated, applied, ran, started}
 use Rattle.vs_net.proofs.Quiet.{IsQuiet, IsRested, IsStep}
 use Rattle.vs_net.specs.Solution.{IsWriter}
-use Rattle.vs_net.specs.Lawful.{IsLawful, Settles, IsWokenBlock, ReadsIn}
-use Rattle.vs_net.proofs.Basics.{same_number, put-same, put-other}
-use Rattle.vs_net.proofs.Waking.{Woke, stays, wakes}
-use Rattle.vs_net.proofs.Parts.{Acts, acts_mode, Agrees, is_due, is_pending, is_settled, Phase, WriterPart, agrees_other, writer_other, not_written}
-use Rattle.vs_net.proofs.Steps.{NetsIn, Calm, Did, did_calm, did_nothing, evaluated_self, evaluated_did, applied_is, applied_self, applied_did, ran_did, ran_mode, ran_agrees, ran_waiting, ran_active, ran_pending}
+use Rattle.vs_net.specs.Lawful.{IsLawful, Settles, IsKnown, IsWokenBlock, ReadsIn}
+use Rattle.vs_net.proofs.Basics.{by_test, same_number, put-same, put-other}
+use Rattle.vs_net.proofs.Waking.{Woke, stays, wakes, woken_calm, fires, fires_none}
+use Rattle.vs_net.proofs.Parts.{Acts, acts_mode, Agrees, is_due, is_pending, is_settled, Phase, PortOk, agrees_other, not_written}
+use Rattle.vs_net.proofs.Steps.{NetsIn, Calm, Apart, Did, edge_calm, did_nothing, evaluated_self, evaluated_did, applied_is, applied_self, applied_did, ran_did, ran_mode, ran_agrees, ran_waiting, ran_active, ran_pending}
 use Rattle.vs_net.proofs.Levels.{by_order, no_writer, settles, updates as by_updates, writer_of, not_both}
-use Rattle.vs_net.proofs.Settling.{Each, an_assign, an_input, a_comb, a_clocked, Holds, holds_on, CombOk, comb_agrees, comb_sleeps, CombRest, rest_other, CombPart, ClockedPart, IsInput, Settling, some_is}
-use Rattle.vs_net.proofs.Ends.{assign_rests}
+use Rattle.vs_net.proofs.Settling.{Each, an_assign, an_input, a_comb, a_clocked, Holds, holds_on, CombOk, comb_agrees, comb_sleeps, comb_asleep, sleepless, CombRest, rest_other, CombPart, ClockedPart, IsInput, Settling, some_is}
+use Rattle.vs_net.proofs.Asleep.{never_sleeps}
+use Rattle.vs_net.proofs.Nets.{IsPort, nets, off_nets, port_of, clock_net_family, reset_net_family, input_writes}
+use Rattle.vs_net.proofs.Phases.{early_phase, calm_early, apart_early, unknown_edge, first_phase, is_unknown, moves, moved_or_not, clocked_begins}
+use Rattle.vs_net.proofs.Ends.{assign_rests, nets_carry, rephase_assign, rephase_input}
 
 -- x in each of its bits
 abbrev pub AllX : Network → State → ℕ → Type 0
@@ -22,76 +25,129 @@ AllX n s p = (b : ℕ) → writes (n.process p) b ≡ true → s b ≡ X
 
 pub data EarlyOk (n : Network) (q : Queue) (p : ℕ) : Type 0 where
   unstarted : q.mode p ≡ Unstarted → AllX n q.now p → EarlyOk n q p
-  early_due : q.mode p ≡ Due → EarlyOk n q p
+  early_due : q.mode p ≡ Due → n.sleeper p ≡ None → EarlyOk n q p
   unrun : q.mode p ≡ Waiting → AllX n q.now p → EarlyOk n q p
-  has_run : q.mode p ≡ Waiting → Agrees n p q.now → EarlyOk n q p
+  has_run : q.mode p ≡ Waiting → Agrees n p q.now → n.sleeper p ≡ None → EarlyOk n q p
 
 pub record EarlyComb (n : Network) (q : Queue) (p : ℕ) : Type 0 where
   pub ok : EarlyOk n q p
   pub rest : CombRest q p
 
-pub record EarlyClocked (n : Network) (ph : Phase) (q : Queue) (p : ℕ) : Type 0 where
+pub record EarlyClocked (q : Queue) (p : ℕ) : Type 0 where
   pub mode : (q.mode p ≡ Unstarted) ⊎ (q.mode p ≡ Waiting)
-  pub writer : WriterPart n ph q p
+  pub rest : CombRest q p
 
 pub record Early (n : Network) (L : IsLawful n) (ph : Phase) (q : Queue) : Type 0 where
-  pub holds : Holds n L ph (EarlyComb n) (EarlyClocked n ph) q
+  pub holds : Holds n L ph (EarlyComb n) EarlyClocked q
   -- no update is active, and the clock's is waiting
   pub none : (p : ℕ) → q.active p ≡ []
   pub ahead : q.waiting L.clock ≢ []
+  -- reset nets are x or z
+  pub unknown : (c i : ℕ) → nets n L c ≡ Some (Some i) → is_unknown (q.now c) ≡ true
   -- what is written by updates is as at first
   pub idle : (p b : ℕ) → IsWriter (kind (n.process p)) → writes (n.process p) b ≡ true → q.now b ≡ n.idle b
 
-module _ (n : Network) (L : IsLawful n) (ph : Phase) (calm : Calm ph) (apart : ph.old ph.fresh ≡ false) where
+module _ (n : Network) (L : IsLawful n) (v : State) where
+  abbrev ph : Phase
+  ph = early_phase n.idle v
+
+  calm : Calm ph
+  calm = calm_early n.idle v
+
+  apart : Apart ph
+  apart = apart_early n.idle v
+
   abbrev EachEarly : Queue → ℕ → Type 0
-  EachEarly q p = Each n L.clock_nets ph (EarlyComb n) (EarlyClocked n ph) q p
+  EachEarly q p = Each n (nets n L) ph (EarlyComb n) EarlyClocked q p
 
   all_x_other : (p r : ℕ) (q q' : Queue) → r ≢ p → Acts n p q q' → AllX n q.now r → AllX n q'.now r
   all_x_other p r q q' ne a x b w = a.now b (not_written n L p r b ne w) ∙ x b w
 
-  early_ok_other : (p r : ℕ) (q q' : Queue) → kind (n.process r) ≡ AComb → r ≢ p → Acts n p q q' → Woke n q q' r → EarlyOk n q r → EarlyOk n q' r
-  early_ok_other p r q q' k ne a (wakes m d) ok = early_due d
-  early_ok_other p r q q' k ne a (stays e same) (unstarted m x) = unstarted (e ∙ m) (all_x_other p r q q' ne a x)
-  early_ok_other p r q q' k ne a (stays e same) (early_due d) = early_due (e ∙ d)
-  early_ok_other p r q q' k ne a (stays e same) (unrun m x) = unrun (e ∙ m) (all_x_other p r q q' ne a x)
-  early_ok_other p r q q' k ne a (stays e same) (has_run m g) = has_run (e ∙ m) (agrees_other n L p r q q' (subst Settles (sym k) tt) ne a (same m) g)
+  early_ok_other : (p r : ℕ) (q q' : Queue) → kind (n.process r) ≡ AComb → r ≢ p → Acts n p q q' → ((x : Sleeper) → n.sleeper r ≡ Some x → q'.mode r ≡ q.mode r) → Woke n q q' r → EarlyOk n q r → EarlyOk n q' r
+  early_ok_other p r q q' k ne a deaf (wakes m d) ok = early_due d (by_sleeper (n.sleeper r) refl)
+    where
+      by_sleeper : (o : Option Sleeper) → n.sleeper r ≡ o → n.sleeper r ≡ None
+      by_sleeper None e = e
+      by_sleeper (Some x) e = absurd (let y = deaf x e in cc)
+  early_ok_other p r q q' k ne a deaf (stays e same) (unstarted m x) = unstarted (e ∙ m) (all_x_other p r q q' ne a x)
+  early_ok_other p r q q' k ne a deaf (stays e same) (early_due d none) = early_due (e ∙ d) none
+  early_ok_other p r q q' k ne a deaf (stays e same) (unrun m x) = unrun (e ∙ m) (all_x_other p r q q' ne a x)
+  early_ok_other p r q q' k ne a deaf (stays e same) (has_run m g none) = has_run (e ∙ m) (agrees_other n L p r q q' (subst Settles (sym k) tt) ne a (same m) g) none
+
+  -- a sleeping block hears no assign and no combinational block
+  sleepers_deaf : (p r : ℕ) (q q' : Queue) → r ≢ p → Acts n p q q' → kind (n.process p) ≢ AClocked → (x : Sleeper) → n.sleeper r ≡ Some x → q'.mode r ≡ q.mode r
+  sleepers_deaf p r q q' ne a k x e =
+      let i = L.sleepers r x e in
+      a.deaf r ne (λ z. let c = i.comb in cc) (λ b l. by_test (writes (n.process p) b) (λ w. absurd (k (i.register b p l w))) (λ z. z))
 
   -- a step by an assign or a block
-  early_on : (p : ℕ) (q q' : Queue) → (IsWriter (kind (n.process p)) → (b : ℕ) → q'.now b ≡ q.now b) → q'.active p ≡ [] → q'.waiting p ≡ q.waiting p → Did n L ph p q q' → EachEarly q' p → Early n L ph q → Early n L ph q'
-  early_on p q q' same no_active no_waiting did self early =
-      record {
-        holds = holds_on n L ph (EarlyComb n) (EarlyClocked n ph) p q q' did
-            (λ r ne k part. record { ok = early_ok_other p r q q' k ne did.acts (did.acts.mode r ne) part.ok; rest = rest_other n L ph p r q q' ne did.acts part.rest })
-            (λ r ne k part. record {
-              mode = (let m = did_calm n L ph calm p q q' early.holds.nets did r ne k in elim part.mode [ inl u ↦ inl (m ∙ u) | inr w ↦ inr (m ∙ w) ]);
-              writer = writer_other n L ph p r q q' ne did.acts part.writer;
-            })
-            self early.holds;
-        none = λ r. same_number r p (λ e. subst (λ (x : ℕ). q'.active x ≡ []) (sym e) no_active) (λ ne. did.acts.active r ne ∙ early.none r);
-        ahead = λ e. early.ahead (sym (same_number L.clock p (λ h. subst (λ (x : ℕ). q'.waiting x ≡ q.waiting x) (sym h) no_waiting) (λ ne. did.acts.waiting L.clock ne)) ∙ e);
-        idle = λ r b w t. same_number r p
-            (λ e. same (subst (λ (x : ℕ). IsWriter (kind (n.process x))) e w) b ∙ early.idle r b w t)
-            (λ ne. did.acts.now b (not_written n L p r b ne t) ∙ early.idle r b w t);
-      }
+  module _ (p : ℕ) (q q' : Queue) (same : IsWriter (kind (n.process p)) → (b : ℕ) → q'.now b ≡ q.now b) (did : Did n L ph p q q') (deafs : (r : ℕ) → r ≢ p → (x : Sleeper) → n.sleeper r ≡ Some x → q'.mode r ≡ q.mode r) (self : EachEarly q' p) (early : Early n L ph q) where
+    still_unknown : (c i : ℕ) → nets n L c ≡ Some (Some i) → is_unknown (q'.now c) ≡ true
+    still_unknown c i net = elim (did.nets c (Some i) net) [ inr o ↦ o | inl f ↦ by_test (writes (n.process p) c) (λ w. own f w) (λ e. as_before (did.acts.now c e)) ]
+      where
+        as_before : q'.now c ≡ q.now c → is_unknown (q'.now c) ≡ true
+        as_before e = ap is_unknown e ∙ early.unknown c i net
 
-  start_did : (q : Queue) (p : ℕ) → NetsIn L.clock_nets ph q → Did n L ph p q (started q p)
+        own : q'.now c ≡ Zero → writes (n.process p) c ≡ true → is_unknown (q'.now c) ≡ true
+        own f w = by_part self
+          where
+            at_port : (d : IsPort (nets n L) (n.process p)) → PortOk ph q' p d.from d.to d.family → ⊥
+            at_port d ok =
+                let to = d.writes_one c w in
+                let from = ok.later (subst (λ (x : ℕ). q'.now x ≡ Zero) to f) in
+                let family : d.family ≡ Some i = (let x = d.to_net in let y = subst (λ (z : ℕ). nets n L z ≡ Some (Some i)) to net in cc) in
+                let stay = did.acts.now d.from (by_test (writes (n.process p) d.from) (λ e. absurd (d.apart (sym (d.writes_one d.from e)))) (λ e. e)) in
+                let u = early.unknown d.from i (d.from_net ∙ ap Some family) in
+                let z = ap is_unknown (sym stay ∙ from) in cc
+
+            by_part : EachEarly q' p → is_unknown (q'.now c) ≡ true
+            by_part (an_assign k part) = elim (port_of n L p k) [ inl d ↦ absurd (at_port d (part.port d)) | inr off ↦ absurd (both_ways (writes (n.process p) c) (off c (Some i) net) w) ]
+            by_part (an_input k part) = as_before (same (input_writes (kind (n.process p)) k) c)
+            by_part (a_comb k part) = absurd (both_ways (writes (n.process p) c) (off_nets n L p (λ e. cc) (λ x. subst IsInput k x) c (Some i) net) w)
+            by_part (a_clocked k part) = absurd (both_ways (writes (n.process p) c) (off_nets n L p (λ e. cc) (λ x. subst IsInput k x) c (Some i) net) w)
+
+    clocked_calm : (r : ℕ) → r ≢ p → kind (n.process r) ≡ AClocked → q'.mode r ≡ q.mode r
+    clocked_calm r ne k = did.clocked r ne k ∙ woken_calm (q.mode r) (fires (n.process r) q.now q'.now) (fires_none (n.process r) q.now q'.now
+        (edge_calm n L ph None Posedge calm p q q' early.holds.nets did (clock_net (n.process r)) (clock_net_family n L r k))
+        (λ e o. unknown_edge e.edge (q.now e.net) (q'.now e.net) (early.unknown e.net e.input (reset_net_family n L r e o)) (still_unknown e.net e.input (reset_net_family n L r e o))))
+
+    early_on : q'.active p ≡ [] → q'.waiting p ≡ q.waiting p → Early n L ph q'
+    early_on no_active no_waiting =
+        record {
+          holds = holds_on n L ph (EarlyComb n) EarlyClocked p q q' did
+              (λ r ne k part. record { ok = early_ok_other p r q q' k ne did.acts (deafs r ne) (did.acts.mode r ne) part.ok; rest = rest_other n L ph p r q q' ne did.acts part.rest })
+              (λ r ne k part. record {
+                mode = (let m = clocked_calm r ne k in elim part.mode [ inl u ↦ inl (m ∙ u) | inr w ↦ inr (m ∙ w) ]);
+                rest = rest_other n L ph p r q q' ne did.acts part.rest;
+              })
+              self early.holds;
+          none = λ r. same_number r p (λ e. subst (λ (x : ℕ). q'.active x ≡ []) (sym e) no_active) (λ ne. did.acts.active r ne ∙ early.none r);
+          ahead = λ e. early.ahead (sym (same_number L.clock p (λ h. subst (λ (x : ℕ). q'.waiting x ≡ q.waiting x) (sym h) no_waiting) (λ ne. did.acts.waiting L.clock ne)) ∙ e);
+          unknown = still_unknown;
+          idle = λ r b w t. same_number r p
+              (λ e. same (subst (λ (x : ℕ). IsWriter (kind (n.process x))) e w) b ∙ early.idle r b w t)
+              (λ ne. did.acts.now b (not_written n L p r b ne t) ∙ early.idle r b w t);
+        }
+
+  start_did : (q : Queue) (p : ℕ) → NetsIn (nets n L) ph q → Did n L ph p q (started q p)
   start_did q p nets = did_nothing n L ph p q (started q p) (acts_mode n p q Waiting) (λ b. refl) (λ r ne. put-other q.mode p Waiting r ne) nets
+
+  started_on : (q : Queue) (p : ℕ) → Early n L ph q → EachEarly (started q p) p → Early n L ph (started q p)
+  started_on q p early self = early_on p q (started q p) (λ w b. refl) (start_did q p early.holds.nets) (λ r ne x e. put-other q.mode p Waiting r ne) self early (early.none p) refl
 
   start_step : (q : Queue) (p : ℕ) → EachEarly q p → q.mode p ≡ Unstarted → Early n L ph q → Early n L ph (started q p)
   start_step q p (an_assign k part) u early = absurd (elim part.ok [ is_due d ↦ cc | is_pending m h ↦ cc | is_settled m h g ↦ cc ])
   start_step q p (an_input k part) u early = absurd (let m = part.mode in cc)
   start_step q p (a_comb k part) u early =
-      early_on p q (started q p) (λ w b. refl) (early.none p) refl (start_did q p early.holds.nets)
-      (a_comb k (record { ok = unrun (put-same q.mode p Waiting) (elim part.ok [ unstarted m x ↦ x | early_due d ↦ absurd cc | unrun m x ↦ x | has_run m g ↦ absurd cc ]); rest = record { pending = part.rest.pending; active = part.rest.active; waiting = part.rest.waiting } }))
-      early
+      started_on q p early
+      (a_comb k (record { ok = unrun (put-same q.mode p Waiting) (elim part.ok [ unstarted m x ↦ x | early_due d none ↦ absurd cc | unrun m x ↦ x | has_run m g none ↦ absurd cc ]); rest = record { pending = part.rest.pending; active = part.rest.active; waiting = part.rest.waiting } }))
   start_step q p (a_clocked k part) u early =
-      early_on p q (started q p) (λ w b. refl) (early.none p) refl (start_did q p early.holds.nets)
-      (a_clocked k (record { mode = inr (put-same q.mode p Waiting); writer = record { pending = part.writer.pending; own = part.writer.own; coming = part.writer.coming } }))
-      early
+      started_on q p early
+      (a_clocked k (record { mode = inr (put-same q.mode p Waiting); rest = record { pending = part.rest.pending; active = part.rest.active; waiting = part.rest.waiting } }))
 
   evaluate_step : (q : Queue) (p : ℕ) → EachEarly q p → kind (n.process p) ≡ AnAssign → Early n L ph q → Early n L ph (evaluated n q p)
   evaluate_step q p (an_assign k part) a early =
-      early_on p q (evaluated n q p) (λ w b. refl) (early.none p) refl (evaluated_did n L ph p q k part early.holds.nets) (an_assign k (evaluated_self n L ph p q k part early.holds.nets)) early
+      early_on p q (evaluated n q p) (λ w b. refl) (evaluated_did n L ph p q k part early.holds.nets) (λ r ne x e. put-other q.mode p Waiting r ne) (an_assign k (evaluated_self n L ph p q k part early.holds.nets)) early (early.none p) refl
   evaluate_step q p (an_input k part) a early = absurd (subst IsInput a k)
   evaluate_step q p (a_comb k part) a early = absurd cc
   evaluate_step q p (a_clocked k part) a early = absurd cc
@@ -101,10 +157,10 @@ module _ (n : Network) (L : IsLawful n) (ph : Phase) (calm : Calm ph) (apart : p
       let o = some_is (q.pending p) s in
       let self = applied_self n L ph p q k part early.holds.nets apart o.0 o.1 in
       subst (λ (x : Queue). Early n L ph x) (sym (applied_is n L ph p q k part early.holds.nets apart o.0 o.1))
-      (early_on p q _ (λ w b. absurd (subst IsWriter k w)) self.active (self.waiting ∙ sym part.waiting) (applied_did n L ph p q k part early.holds.nets apart o.0 o.1) (an_assign k self) early)
+      (early_on p q _ (λ w b. absurd (subst IsWriter k w)) (applied_did n L ph p q k part early.holds.nets apart o.0 o.1) (λ r ne x e. sleepers_deaf p r q _ ne (applied_did n L ph p q k part early.holds.nets apart o.0 o.1).acts (λ z. cc) x e) (an_assign k self) early self.active (self.waiting ∙ sym part.waiting))
   apply_step q p (an_input k part) s early = absurd (let o = some_is (q.pending p) s in let e = part.writer.pending in cc)
   apply_step q p (a_comb k part) s early = absurd (let o = some_is (q.pending p) s in let e = part.rest.pending in cc)
-  apply_step q p (a_clocked k part) s early = absurd (let o = some_is (q.pending p) s in let e = part.writer.pending in cc)
+  apply_step q p (a_clocked k part) s early = absurd (let o = some_is (q.pending p) s in let e = part.rest.pending in cc)
 
   run_step : (q : Queue) (p : ℕ) → EachEarly q p → IsBlock (kind (n.process p)) → q.mode p ≡ Due → Early n L ph q → Early n L ph (ran n q p)
   run_step q p (an_assign k part) b d early = absurd (subst IsBlock k b)
@@ -117,14 +173,14 @@ module _ (n : Network) (L : IsLawful n) (ph : Phase) (calm : Calm ph) (apart : p
       no_block AComb i b = i
       no_block AClocked i b = i
   run_step q p (a_comb k part) b d early =
-      let nets = early.holds.nets in
+      let nets_in = early.holds.nets in
       let w = part.rest.waiting in
-      early_on p q (ran n q p) (λ x c. absurd (subst IsWriter k x)) (ran_active n L ph p q k w nets ∙ part.rest.active) (ran_waiting n L ph p q k w nets ∙ sym w) (ran_did n L ph p q k w nets)
+      early_on p q (ran n q p) (λ x c. absurd (subst IsWriter k x)) (ran_did n L ph p q k w nets_in) (λ r ne x e. sleepers_deaf p r q (ran n q p) ne (ran_did n L ph p q k w nets_in).acts (λ z. cc) x e)
       (a_comb k (record {
-        ok = has_run (ran_mode n L ph p q k w nets) (ran_agrees n L ph p q k w nets);
-        rest = record { pending = ran_pending n L ph p q k w nets ∙ part.rest.pending; active = ran_active n L ph p q k w nets ∙ part.rest.active; waiting = ran_waiting n L ph p q k w nets };
+        ok = has_run (ran_mode n L ph p q k w nets_in) (ran_agrees n L ph p q k w nets_in) (elim part.ok [ unstarted m x ↦ absurd cc | early_due e none ↦ none | unrun m x ↦ absurd cc | has_run m g none ↦ absurd cc ]);
+        rest = record { pending = ran_pending n L ph p q k w nets_in ∙ part.rest.pending; active = ran_active n L ph p q k w nets_in ∙ part.rest.active; waiting = ran_waiting n L ph p q k w nets_in };
       }))
-      early
+      early (ran_active n L ph p q k w nets_in ∙ part.rest.active) (ran_waiting n L ph p q k w nets_in ∙ sym w)
   run_step q p (a_clocked k part) b d early = absurd (elim part.mode [ inl u ↦ cc | inr m ↦ cc ])
 
   -- each step but the activation keeps slot 0 early
@@ -159,11 +215,11 @@ module _ (n : Network) (L : IsLawful n) (ph : Phase) (calm : Calm ph) (apart : p
       abbrev WrittenIn : ℕ → Type 0
       WrittenIn p = (b : ℕ) → writes (n.process p) b ≡ true → In b
 
-      agreed_in : (p : ℕ) → Settles (kind (n.process p)) → ReadsIn L.early (n.process p) q.now → Agrees n p q.now → WrittenIn p
-      agreed_in p s reads g b w = subst (λ (v : Bit4). L.early b v ≡ true) (g b w) (L.time_zero.early_made p s q.now reads b w q.now)
+      agreed_in : (p : ℕ) → Settles (kind (n.process p)) → n.sleeper p ≡ None → ReadsIn L.early (n.process p) q.now → Agrees n p q.now → WrittenIn p
+      agreed_in p s none reads g b w = subst (λ (v : Bit4). L.early b v ≡ true) (g b w) (L.time_zero.early_made p s none q.now reads b w q.now)
 
       written_in : (p : ℕ) → ReadsIn L.early (n.process p) q.now → Settles (kind (n.process p)) → EachEarly q p → WrittenIn p
-      written_in p reads s (an_assign k part) = agreed_in p s reads (assign_rests n L ph q quiet p part)
+      written_in p reads s (an_assign k part) = agreed_in p s (never_sleeps n L p (λ z. cc)) reads (assign_rests n L ph q quiet p part)
       written_in p reads s (an_input k part) = absurd (no_input (kind (n.process p)) s k)
         where
           no_input : (k : Kind) → Settles k → IsInput k → ⊥
@@ -175,9 +231,9 @@ module _ (n : Network) (L : IsLawful n) (ph : Phase) (calm : Calm ph) (apart : p
       written_in p reads s (a_clocked k part) = absurd (subst Settles k s)
       written_in p reads s (a_comb k part) = elim part.ok [
         | unstarted m x ↦ absurd (let w = (quiet p).0 in cc)
-        | early_due d ↦ absurd (let w = (quiet p).0 in cc)
+        | early_due d none ↦ absurd (let w = (quiet p).0 in cc)
         | unrun m x ↦ λ b w. subst (λ (v : Bit4). L.early b v ≡ true) (sym (x b w)) (L.time_zero.early_comb p b k w)
-        | has_run m g ↦ agreed_in p s reads g
+        | has_run m g none ↦ agreed_in p s none reads g
       ]
 
       pub all_early : (b : ℕ) → In b
@@ -187,21 +243,55 @@ module _ (n : Network) (L : IsLawful n) (ph : Phase) (calm : Calm ph) (apart : p
       abbrev Sleeps : ℕ → Type 0
       Sleeps p = IsWokenBlock L.early L.late (n.process p)
 
-      comb_activated : (p : ℕ) → kind (n.process p) ≡ AComb → EarlyOk n q p → CombOk n q.now Sleeps q p
-      comb_activated p k (unstarted m x) = absurd (let w = (quiet p).0 in cc)
-      comb_activated p k (early_due d) = absurd (let w = (quiet p).0 in cc)
-      comb_activated p k (has_run m g) = comb_agrees m g
-      comb_activated p k (unrun m x) = elim (L.quiet_or_woken p k) [
-        | inl quiet_block ↦ comb_agrees m (λ b w. quiet_block q.now q.now (λ c l. all_early c) b w ∙ sym (x b w))
-        | inr woken_block ↦ comb_sleeps m woken_block (λ b l. refl)
+      register_x : (p b : ℕ) (x : Sleeper) → n.sleeper p ≡ Some x → listens (n.process p) b ≡ true → q.now b ≡ X
+      register_x p b x e l = let i = L.sleepers p x e in elim (writer_of n L b) [
+        | no_writer none ↦ before b none ∙ i.idle b l
+        | settles r w s ↦ absurd (subst Settles (i.register b r l w) s)
+        | by_updates r w u only ↦ early.idle r b u w ∙ i.idle b l
       ]
 
-      activated_each : (p : ℕ) → EachEarly q p → Each n L.clock_nets ph (CombPart n q.now Sleeps) (ClockedPart n ph) q p
-      activated_each p (an_assign k part) = an_assign k part
-      activated_each p (an_input k part) = an_input k part
-      activated_each p (a_comb k part) = a_comb k (record { ok = comb_activated p k part.ok; rest = part.rest })
-      activated_each p (a_clocked k part) = a_clocked k (record { mode = (quiet p).0; writer = part.writer })
+      comb_activated : (p : ℕ) → kind (n.process p) ≡ AComb → EarlyOk n q p → CombOk n (Fall v) n.idle q.now Sleeps q p
+      comb_activated p k (unstarted m x) = absurd (let w = (quiet p).0 in cc)
+      comb_activated p k (early_due d none) = absurd (let w = (quiet p).0 in cc)
+      comb_activated p k (has_run m g none) = comb_agrees m g (sleepless none)
+      comb_activated p k (unrun m x) = by_sleeper (n.sleeper p) refl
+        where
+          by_sleeper : (o : Option Sleeper) → n.sleeper p ≡ o → CombOk n (Fall v) n.idle q.now Sleeps q p
+          by_sleeper None none = elim (L.quiet_or_woken p k none) [
+            | inl quiet_block ↦ comb_agrees m (λ b w. quiet_block q.now q.now (λ c l. all_early c) b w ∙ sym (x b w)) (sleepless none)
+            | inr woken_block ↦ comb_sleeps m woken_block none (λ b l. refl)
+          ]
+          by_sleeper (Some y) e = comb_asleep m y e
+              (record { listened = λ b l. (L.sleepers p y e).idle b l; bits = λ b w. L.idle_x p b w (λ z. cc) })
+              (record { listened = λ b l. register_x p b y e l; bits = x })
 
-      -- at the first activation the slot begins to settle
-      pub early_settles : Settling n L ph q.now Sleeps calm apart q
-      early_settles = record { each = λ p. activated_each p (early.holds.each p); kept = early.holds.kept; nets = early.holds.nets }
+      -- each reset net has the x of its input
+      root_x : (c i : ℕ) → nets n L c ≡ Some (Some i) → q.now c ≡ X
+      root_x c i net = nets_carry n L ph (EarlyComb n) EarlyClocked q quiet early.holds (Some i) X
+          (λ p b nb k w. early.idle p b (input_writes (kind (n.process p)) k) w ∙ L.idle_x p b w (λ e. subst IsInput e k)) c net
+
+      nets_first : NetsIn (nets n L) (first_phase n.idle v) q
+      nets_first c None net = early.holds.nets c None net
+      nets_first c (Some i) net = elim (moved_or_not X (v i)) [
+        | inl e ↦ inl (root_x c i net ∙ e)
+        | inr o ↦ inr (subst (λ (x : Bit4). moves X (v i) x ≡ true) (sym (root_x c i net)) o)
+      ]
+
+      module _ (known : (p : ℕ) (e : Reset) → reset_of (n.process p) ≡ Some e → IsKnown (v e.input)) where
+        x_unknown : (e : Edge) → X ≡ to_value e → ⊥
+        x_unknown Posedge h = cc
+        x_unknown Negedge h = cc
+
+        activated_each : (p : ℕ) → EachEarly q p → Each n (nets n L) (first_phase n.idle v) (CombPart n (Fall v) n.idle q.now Sleeps) (ClockedPart n (first_phase n.idle v)) q p
+        activated_each p (an_assign k part) = an_assign k (rephase_assign n L ph (EarlyComb n) EarlyClocked q quiet early.holds (first_phase n.idle v).old (first_phase n.idle v).fresh p part)
+        activated_each p (an_input k part) = an_input k (rephase_input n L ph (EarlyComb n) EarlyClocked q quiet early.holds (first_phase n.idle v).old (first_phase n.idle v).fresh p part)
+        activated_each p (a_comb k part) = a_comb k (record { ok = comb_activated p k part.ok; rest = part.rest })
+        activated_each p (a_clocked k part) = a_clocked k (clocked_begins n is_unknown (λ i. X) n.idle v q p k (quiet p).0
+            (record { pending = (quiet p).1; active = (quiet p).2; waiting = part.rest.waiting; bits = λ b w. early.idle p b (subst IsWriter (sym k) tt) w })
+            (λ e o. root_x e.net e.input (reset_net_family n L p e o))
+            (λ e o. (inr refl, known p e o))
+            (λ e o h. absurd (x_unknown e.edge h)))
+
+        -- at the first activation the slot begins to settle
+        pub early_settles : Settling n L (first_phase n.idle v) q.now Sleeps q
+        early_settles = record { each = λ p. activated_each p (early.holds.each p); kept = early.holds.kept; nets = nets_first }

@@ -1,24 +1,28 @@
 -- The end of a slot.
-use Rattle.std.proofs.Common.{◌≡◌, ℕ, true, false, List, [], ◌++◌, ◌⊎◌, inl, inr, refl, sym, ap, ◌∙◌, subst}
+use Rattle.std.proofs.Common.{◌≡◌, ℕ, ◌≢◌, Bool, true, List, [], ◌++◌, inl, inr, refl, sym, ap, ◌∙◌, subst, Some}
 use mathlib.Core.Path.{fun_ext}
 use Rattle.std.proofs.lemmas.Bool.{both_ways}
 use Rattle.vs_net.specs.Network.{State, Update, write_all, flatten, Process, Input, Clock, Assign, Comb, Clocked, Network, Kind, AnInput, TheClock, AnAssign, AComb, AClocked, kind, writes, listens, made}
 use Rattle.vs_net.specs.Queue.{Queue}
 use Rattle.vs_net.proofs.Quiet.{IsQuiet}
-use Rattle.vs_net.specs.Solution.{IsSlotEnd, driven, IsWriter}
-use Rattle.vs_net.specs.Lawful.{IsLawful, IsClockPort, Settles}
-use Rattle.vs_net.proofs.Basics.{by_test, put-same, write_all_other}
-use Rattle.vs_net.proofs.Parts.{Agrees, is_due, is_pending, is_settled, Phase, AssignPart, WriterPart, settles_assign}
-use Rattle.vs_net.proofs.Steps.{Calm, off_nets}
+use Rattle.vs_net.specs.Solution.{IsSlotEnd, driven, given, is_asleep, IsWriter}
+use Rattle.vs_four.specs.declared.Bit4.TheVariants.{X}
+use Rattle.vs_net.specs.Lawful.{IsLawful, Settles}
+use Rattle.vs_net.proofs.Basics.{by_test, put-same, write_all_other, write_none}
+use Rattle.vs_net.proofs.Parts.{Agrees, is_due, is_pending, is_settled, Phase, AssignPart, WriterPart, InputPart, inputs_deaf, settles_assign}
 use Rattle.vs_net.proofs.Levels.{by_order}
-use Rattle.vs_net.proofs.Settling.{Each, an_assign, an_input, a_comb, a_clocked, Holds, comb_due, comb_agrees, comb_sleeps, CombPart, ClockedPart, IsInput, Settling}
+use Rattle.vs_net.proofs.Settling.{Each, an_assign, an_input, a_comb, a_clocked, Holds, CombOk, comb_due, comb_agrees, comb_sleeps, comb_asleep, Roused, sleepless, agreed, roused, CombPart, ClockedPart, clocked_rests, clocked_fires, clocked_due, Once, Good, IsInput, Settling}
+use Rattle.vs_net.proofs.Nets.{Family, IsPort, nets, net_writer, some_writer, off_nets, port_of, reset_net_family}
+use Rattle.vs_net.proofs.Asleep.{asleep_is, asleep_true, never_sleeps, given_none, asleep_holds, awake_holds, agreed_asleep}
+use Rattle.vs_net.proofs.Drives.{level_of, driven_level}
+use Rattle.vs_four.specs.declared.Bit4.{Bit4}
 
 pub nothing_made : (process : Process) (s : State) → IsInput (kind process) → made process s ≡ []
 nothing_made (Input bits) s i = refl
 nothing_made (Clock bit) s i = refl
 nothing_made (Assign reads targets value) s i = absurd i
 nothing_made (Comb waits targets run) s i = absurd i
-nothing_made (Clocked clock targets run) s i = absurd i
+nothing_made (Clocked clock reset targets run) s i = absurd i
 
 module _ (n : Network) (L : IsLawful n) where
   -- agreement on its own bits is agreement on all
@@ -31,83 +35,152 @@ module _ (n : Network) (L : IsLawful n) where
 
   module _ (ph : Phase) (q : Queue) (quiet : IsQuiet q) where
     -- an assign at rest agrees
-    pub assign_rests : (p : ℕ) → AssignPart n L.clock_nets ph q p → Agrees n p q.now
+    pub assign_rests : (p : ℕ) → AssignPart n (nets n L) ph q p → Agrees n p q.now
     assign_rests p part = elim part.ok [
       | is_due d ↦ absurd (let m = (quiet p).0 in cc)
       | is_pending m h ↦ absurd (let e = (quiet p).1 in cc)
       | is_settled m h g ↦ g
     ]
 
-  module _ (ph : Phase) (base : State) (sleeps : ℕ → Type 0) (calm : Calm ph) (apart : ph.old ph.fresh ≡ false) (q : Queue) (quiet : IsQuiet q) where
-    module _ (none : (p : ℕ) → q.waiting p ≡ []) where
-      nothing_comes : (p : ℕ) → q.active p ++ q.waiting p ≡ []
-      nothing_comes p = ap (λ (x : List Update). x ++ q.waiting p) (quiet p).2 ∙ none p
-
-      pub writer_rests : (p b : ℕ) → WriterPart n ph q p → writes (n.process p) b ≡ true → q.now b ≡ driven (n.process p) ph.slot ph.before b
-      unfolding write_all flatten
-      writer_rests p b part w = sym (ap (λ x. write_all q.now (flatten x) b) (nothing_comes p)) ∙ part.coming b w
-
-      pub settling_end : ((p : ℕ) → sleeps p → ((b : ℕ) → listens (n.process p) b ≡ true → q.now b ≡ base b) → Agrees n p q.now) → Settling n L ph base sleeps calm apart q → IsSlotEnd n ph.before ph.slot q.now
-      settling_end awake h =
-          record {
-            settled = λ p. settled p (h.each p);
-            updated = λ p b w e. updated p b w e (h.each p);
-            kept = h.kept;
-          }
-        where
-          settled : (p : ℕ) → Each n L.clock_nets ph (CombPart n base sleeps) (ClockedPart n ph) q p → write_all q.now (made (n.process p) q.now) ≡ q.now
-          settled p (an_assign k part) = agrees_all p q.now (settles_assign n L p k) (assign_rests ph q quiet p part)
-          settled p (an_input k part) = nothing_agrees p q.now (nothing_made (n.process p) q.now k)
-          settled p (a_clocked k part) = nothing_agrees p q.now (L.clocked_writes p q.now k)
-          settled p (a_comb k part) = agrees_all p q.now (subst Settles (sym k) tt) (elim part.ok [
-            | comb_due d ↦ absurd (let m = (quiet p).0 in cc)
-            | comb_agrees m g ↦ g
-            | comb_sleeps m s g ↦ awake p s g
-          ])
-
-          updated : (p b : ℕ) → IsWriter (kind (n.process p)) → writes (n.process p) b ≡ true → Each n L.clock_nets ph (CombPart n base sleeps) (ClockedPart n ph) q p → q.now b ≡ driven (n.process p) ph.slot ph.before b
-          updated p b w e (an_assign k part) = absurd (subst IsWriter k w)
-          updated p b w e (an_input k part) = writer_rests p b part.writer e
-          updated p b w e (a_comb k part) = absurd (subst IsWriter k w)
-          updated p b w e (a_clocked k part) = writer_rests p b part.writer e
-
-  module _ (ph : Phase) (comb clocked : Queue → ℕ → Type 0) (q : Queue) (quiet : IsQuiet q) (h : Holds n L ph comb clocked q) (from_clock : (p b : ℕ) → kind (n.process p) ≡ TheClock → writes (n.process p) b ≡ true → q.now b ≡ ph.fresh) where
+  module _ (ph : Phase) (comb clocked : Queue → ℕ → Type 0) (q : Queue) (quiet : IsQuiet q) (h : Holds n L ph comb clocked q) where
     -- at rest a port's net has the value of the net that it copies
-    port_rests : (p : ℕ) → kind (n.process p) ≡ AnAssign → (c : IsClockPort L.clock_nets (n.process p)) → Each n L.clock_nets ph comb clocked q p → q.now c.to ≡ q.now c.from
+    pub port_rests : (p : ℕ) → kind (n.process p) ≡ AnAssign → (c : IsPort (nets n L) (n.process p)) → Each n (nets n L) ph comb clocked q p → q.now c.to ≡ q.now c.from
     unfolding write_all
     port_rests p k c (an_assign k' part) = sym (assign_rests ph q quiet p part c.to c.writes_it) ∙ ap (λ ws. write_all q.now ws c.to) (c.copies q.now) ∙ put-same q.now c.to (q.now c.from)
     port_rests p k c (an_input k' part) = absurd (subst IsInput k k')
     port_rests p k c (a_comb k' part) = absurd cc
     port_rests p k c (a_clocked k' part) = absurd cc
 
-    -- once the clock has changed and all is at rest, every clock net has changed
-    pub nets_arrived : (c : ℕ) → L.clock_nets c ≡ true → q.now c ≡ ph.fresh
-    nets_arrived c net = at_net c net (L.nets_written c net)
+    -- at rest every net of a family has the value of the family's input
+    pub nets_carry : (f : Family) (value : Bit4) → ((p b : ℕ) → nets n L b ≡ Some f → IsInput (kind (n.process p)) → writes (n.process p) b ≡ true → q.now b ≡ value) → (c : ℕ) → nets n L c ≡ Some f → q.now c ≡ value
+    nets_carry f value from_input c net = let w = some_writer n L c f net in at_net w.0 c net w.1
       where
         Arrived : ℕ → Type 0
-        Arrived p = (b : ℕ) → writes (n.process p) b ≡ true → L.clock_nets b ≡ true → q.now b ≡ ph.fresh
+        Arrived p = (b : ℕ) → writes (n.process p) b ≡ true → nets n L b ≡ Some f → q.now b ≡ value
 
         step : (p : ℕ) → Settles (kind (n.process p)) → ((b r : ℕ) → listens (n.process p) b ≡ true → writes (n.process r) b ≡ true → Settles (kind (n.process r)) → Arrived r) → Arrived p
         step p s below b w net = by_kind (kind (n.process p)) refl s
           where
-            at_port : kind (n.process p) ≡ AnAssign → (c : IsClockPort L.clock_nets (n.process p)) → q.now c.from ≡ ph.fresh
-            at_port k c = let wr = L.nets_written c.from c.from_net in elim wr.2 [
-              | inl t ↦ from_clock wr.0 c.from t wr.1
-              | inr a ↦ below c.from wr.0 c.reads_it wr.1 (settles_assign n L wr.0 a) c.from wr.1 c.from_net
-            ]
+            same_family : (c : IsPort (nets n L) (n.process p)) → c.family ≡ f
+            same_family c = let x = subst (λ (z : ℕ). nets n L z ≡ Some f) (c.writes_one b w) net in let y = c.to_net in cc
 
-            by_kind : (x : Kind) → kind (n.process p) ≡ x → Settles x → q.now b ≡ ph.fresh
-            by_kind AnAssign k s = elim (L.assign_nets p k) [
+            at_port : kind (n.process p) ≡ AnAssign → (c : IsPort (nets n L) (n.process p)) → q.now c.from ≡ value
+            at_port k c =
+                let from_net = subst (λ (z : Family). nets n L c.from ≡ Some z) (same_family c) c.from_net in
+                let wr = some_writer n L c.from f from_net in
+                elim (net_writer n L wr.0 c.from f from_net wr.1) [
+                  | inl t ↦ from_input wr.0 c.from from_net t wr.1
+                  | inr a ↦ below c.from wr.0 c.reads_it wr.1 (settles_assign n L wr.0 a) c.from wr.1 from_net
+                ]
+
+            by_kind : (x : Kind) → kind (n.process p) ≡ x → Settles x → q.now b ≡ value
+            by_kind AnAssign k s = elim (port_of n L p k) [
               | inl c ↦ ap q.now (c.writes_one b w) ∙ port_rests p k c (h.each p) ∙ at_port k c
-              | inr off ↦ absurd (both_ways (writes (n.process p) b) (off b net).1 w)
+              | inr off ↦ absurd (both_ways (writes (n.process p) b) (off b f net) w)
             ]
-            by_kind AComb k s = absurd (both_ways (writes (n.process p) b) (off_nets n L ph p (λ e. cc) (λ e. cc) b net) w)
+            by_kind AComb k s = absurd (both_ways (writes (n.process p) b) (off_nets n L p (λ e. cc) (λ i. subst IsInput k i) b f net) w)
             by_kind AnInput k s = absurd s
             by_kind TheClock k s = absurd s
             by_kind AClocked k s = absurd s
 
-        at_net : (c : ℕ) → L.clock_nets c ≡ true → ((p : ℕ) × (writes (n.process p) c ≡ true) × ((kind (n.process p) ≡ TheClock) ⊎ (kind (n.process p) ≡ AnAssign))) → q.now c ≡ ph.fresh
-        at_net c net w = elim w.2 [
-          | inl t ↦ from_clock w.0 c t w.1
-          | inr a ↦ by_order n L Arrived step w.0 (settles_assign n L w.0 a) c w.1 net
+        at_net : (p c : ℕ) → nets n L c ≡ Some f → writes (n.process p) c ≡ true → q.now c ≡ value
+        at_net p c net w = elim (net_writer n L p c f net w) [
+          | inl t ↦ from_input p c net t w
+          | inr a ↦ by_order n L Arrived step p (settles_assign n L p a) c w net
         ]
+
+    -- at rest another account of the nets can begin
+    module _ (old : Family → Bit4 → Bool) (fresh : Family → Bit4) where
+      abbrev pub rephased : Phase
+      rephased = record { slot = ph.slot; before = ph.before; old = old; fresh = fresh; goal = ph.goal }
+
+      pub rephase_assign : (p : ℕ) → AssignPart n (nets n L) ph q p → AssignPart n (nets n L) rephased q p
+      rephase_assign p part = record {
+        ok = part.ok;
+        own = part.own;
+        active = part.active;
+        waiting = part.waiting;
+        port = λ c. record { values = λ ws e. absurd (let z = (quiet p).1 in cc); later = λ e. sym (port_at p c (h.each p)) ∙ e };
+      }
+        where
+          port_at : (p : ℕ) (c : IsPort (nets n L) (n.process p)) → Each n (nets n L) ph comb clocked q p → q.now c.to ≡ q.now c.from
+          port_at p c (an_assign k x) = port_rests p k c (an_assign k x)
+          port_at p c (an_input k x) = absurd (inputs_deaf (n.process p) c.from k c.reads_it)
+          port_at p c (a_comb k x) = absurd (both_ways (writes (n.process p) c.to) (off_nets n L p (λ e. cc) (λ i. subst IsInput k i) c.to c.family c.to_net) c.writes_it)
+          port_at p c (a_clocked k x) = absurd (both_ways (writes (n.process p) c.to) (off_nets n L p (λ e. cc) (λ i. subst IsInput k i) c.to c.family c.to_net) c.writes_it)
+
+      pub rephase_input : (p : ℕ) → InputPart n (nets n L) ph q p → InputPart n (nets n L) rephased q p
+      rephase_input p part = record { mode = part.mode; writer = rephase_writer p part.writer; net = part.net }
+        where
+          rephase_writer : (p : ℕ) → WriterPart n ph q p → WriterPart n rephased q p
+          rephase_writer p w = record { pending = w.pending; own = w.own; coming = w.coming }
+
+  nothing_comes : (q : Queue) → IsQuiet q → ((p : ℕ) → q.waiting p ≡ []) → (p : ℕ) → q.active p ++ q.waiting p ≡ []
+  nothing_comes q quiet none p = ap (λ (x : List Update). x ++ q.waiting p) (quiet p).2 ∙ none p
+
+  pub writer_rests : (ph : Phase) (q : Queue) → IsQuiet q → ((p : ℕ) → q.waiting p ≡ []) → (p b : ℕ) → WriterPart n ph q p → writes (n.process p) b ≡ true → q.now b ≡ driven (n.process p) ph.slot ph.before b
+  unfolding write_all flatten
+  writer_rests ph q quiet none p b part w = sym (ap (λ x. write_all q.now (flatten x) b) (nothing_comes q quiet none p)) ∙ part.coming b w
+
+  module _ (ph : Phase) (base : State) (sleeps : ℕ → Type 0) (good : Good ph) (is_level : (f : Family) → ph.fresh f ≡ level_of ph.slot ph.before f) (q : Queue) (quiet : IsQuiet q) (h : Settling n L ph base sleeps q) where
+    -- where each input's update is taken, each net of a family has changed
+    pub settling_arrived : ((p : ℕ) → IsInput (kind (n.process p)) → q.waiting p ≡ []) → (c : ℕ) (f : Family) → nets n L c ≡ Some f → q.now c ≡ ph.fresh f
+    settling_arrived none c f net = nets_carry ph (CombPart n ph.slot ph.before base sleeps) (ClockedPart n ph) q quiet h f (ph.fresh f) (λ p b net i w. taken p b f net i w (h.each p)) c net
+      where
+        taken : (p b : ℕ) (f : Family) → nets n L b ≡ Some f → IsInput (kind (n.process p)) → writes (n.process p) b ≡ true → Each n (nets n L) ph (CombPart n ph.slot ph.before base sleeps) (ClockedPart n ph) q p → q.now b ≡ ph.fresh f
+        taken p b f net i w (an_input k part) = comes (ap (λ (x : List Update). x ++ q.waiting p) (quiet p).2 ∙ none p i) ∙ driven_level n L ph.slot ph.before p b f net i w ∙ sym (is_level f)
+          where
+            comes : q.active p ++ q.waiting p ≡ [] → q.now b ≡ driven (n.process p) ph.slot ph.before b
+            comes e = sym (ap (λ x. write_all q.now (flatten x) b) e ∙ write_none q.now b) ∙ part.writer.coming b w
+        taken p b f net i w (an_assign k' part) = absurd (subst IsInput k' i)
+        taken p b f net i w (a_comb k' part) = absurd (subst IsInput k' i)
+        taken p b f net i w (a_clocked k' part) = absurd (subst IsInput k' i)
+
+    -- then each clocked block has run
+    pub clocked_rested : ((c : ℕ) (f : Family) → nets n L c ≡ Some f → q.now c ≡ ph.fresh f) → (p : ℕ) → ClockedPart n ph q p → WriterPart n ph q p × Once n (flatten (q.active p ++ q.waiting p))
+    clocked_rested arrived p (clocked_rests m w once past) = (w, once)
+    clocked_rested arrived p (clocked_fires e f m o u) = absurd (both_ways (ph.old (Some e.input) (ph.fresh (Some e.input))) (good.apart (Some e.input)) (subst (λ (x : Bit4). ph.old (Some e.input) x ≡ true) (arrived e.net (Some e.input) (reset_net_family n L p e f.is_reset)) o))
+    clocked_rested arrived p (clocked_due e f a o d fr u) = absurd (let m = (quiet p).0 in cc)
+
+    pub settling_end : ((p : ℕ) → q.waiting p ≡ []) → ((p : ℕ) → sleeps p → ((b : ℕ) → listens (n.process p) b ≡ true → q.now b ≡ base b) → Agrees n p q.now) → IsSlotEnd n ph.before ph.slot q.now
+    settling_end none awake =
+        record {
+          settled = λ p. settled p (h.each p);
+          updated = λ p b w e. updated p b w e (h.each p);
+          kept = h.kept;
+        }
+      where
+        updated : (p b : ℕ) → IsWriter (kind (n.process p)) → writes (n.process p) b ≡ true → Each n (nets n L) ph (CombPart n ph.slot ph.before base sleeps) (ClockedPart n ph) q p → q.now b ≡ driven (n.process p) ph.slot ph.before b
+        updated p b w e (an_assign k part) = absurd (subst IsWriter k w)
+        updated p b w e (an_input k part) = writer_rests ph q quiet none p b part.writer e
+        updated p b w e (a_comb k part) = absurd (subst IsWriter k w)
+        updated p b w e (a_clocked k part) = writer_rests ph q quiet none p b (clocked_rested (settling_arrived (λ r i. none r)) p part).0 e
+
+        as_made : (p : ℕ) → kind (n.process p) ≢ AComb → write_all q.now (made (n.process p) q.now) ≡ q.now → write_all q.now (given n ph.before p q.now) ≡ q.now
+        as_made p k e = ap (write_all q.now) (given_none n L ph.before q.now p (never_sleeps n L p k)) ∙ e
+
+        -- at the end a block that sleeps has x, and one that has run what its statement gives
+        comb_settled : (p : ℕ) → kind (n.process p) ≡ AComb → ((b r : ℕ) → writes (n.process r) b ≡ true → kind (n.process r) ≡ AClocked → q.now b ≡ driven (n.process r) ph.slot ph.before b) → CombOk n ph.slot ph.before base sleeps q p → write_all q.now (given n ph.before p q.now) ≡ q.now
+        comb_settled p k as_driven ok = by_ok ok
+          where
+            st : Settles (kind (n.process p))
+            st = subst Settles (sym k) tt
+
+            blanks : Roused n ph.slot ph.before p → Agrees n p q.now → is_asleep (n.sleeper p) ph.before q.now ≡ true → (b : ℕ) → writes (n.process p) b ≡ true → q.now b ≡ X
+            blanks (sleepless none) g t = absurd (let a = asleep_is n L ph.before q.now p t in let e = a.is_sleeper in cc)
+            blanks (agreed before) g t = agreed_asleep n L ph.before q.now p st (asleep_is n L ph.before q.now p t) before g
+            blanks (roused b r l w c ne) g t = absurd (let a = asleep_is n L ph.before q.now p t in ne (sym (as_driven b r w c) ∙ a.listened b l))
+
+            by_ok : CombOk n ph.slot ph.before base sleeps q p → write_all q.now (given n ph.before p q.now) ≡ q.now
+            by_ok (comb_due d y) = absurd (let m = (quiet p).0 in cc)
+            by_ok (comb_agrees m g y) = by_test (is_asleep (n.sleeper p) ph.before q.now)
+                (λ t. asleep_holds n L ph.before q.now p st t (blanks y g t))
+                (λ t. awake_holds n L ph.before q.now p st t g)
+            by_ok (comb_sleeps m s none g) = ap (write_all q.now) (given_none n L ph.before q.now p none) ∙ agrees_all p q.now st (awake p s g)
+            by_ok (comb_asleep m x e f g) = asleep_holds n L ph.before q.now p st (asleep_true n L ph.before q.now p (record { sleeper = x; is_sleeper = e; before_asleep = f; listened = g.listened })) g.bits
+
+        settled : (p : ℕ) → Each n (nets n L) ph (CombPart n ph.slot ph.before base sleeps) (ClockedPart n ph) q p → write_all q.now (given n ph.before p q.now) ≡ q.now
+        settled p (an_assign k part) = as_made p (λ x. cc) (agrees_all p q.now (settles_assign n L p k) (assign_rests ph q quiet p part))
+        settled p (an_input k part) = as_made p (λ x. subst IsInput x k) (nothing_agrees p q.now (nothing_made (n.process p) q.now k))
+        settled p (a_clocked k part) = as_made p (λ x. cc) (nothing_agrees p q.now (L.clocked_writes p q.now k))
+        settled p (a_comb k part) = comb_settled p k (λ b r w u. updated r b (subst IsWriter (sym u) tt) w (h.each r)) part.ok

@@ -1,10 +1,10 @@
 -- The example is lawful.
-use Rattle.std.proofs.Common.{◌≡◌, ◌≢◌, ℕ, zero, suc, ◌≤◌, Bool, true, false, [], ◌∷◌, ◌||◌, ◌==◌, ◌⊎◌, inl, inr, refl, sym, ap, ◌∙◌, subst, eqb-true, arith}
+use Rattle.std.proofs.Common.{◌≡◌, ◌≢◌, ℕ, zero, suc, ◌≤◌, Bool, true, false, [], ◌∷◌, ◌||◌, ◌==◌, ◌⊎◌, inl, inr, Some, None, refl, sym, ap, ◌∙◌, subst, eqb-true, arith}
 use Rattle.std.proofs.lemmas.Bool.{cond-true}
 use Rattle.vs_four.specs.declared.Bit4.{Bit4}
 use Rattle.vs_four.specs.declared.Bit4.TheVariants.{Zero, One, X, Z}
 use Rattle.vs_four.specs.Tables.{not_bit}
-use Rattle.vs_net.specs.Network.{State, write_all, is_written, flatten, Input, AnInput, TheClock, AnAssign, AComb, AClocked, kind, writes, listens, clock_net, made, updates}
+use Rattle.vs_net.specs.Network.{Reset, reset_of, State, write_all, is_written, flatten, Input, AnInput, TheClock, AnAssign, AComb, AClocked, kind, writes, listens, clock_net, made, updates}
 use Rattle.vs_net.specs.Lawful.{IsLawful, IsClockPort, Settles, IsOrdered, ReadsIn, WritesIn, IsUnknown, IsKnown, IsQuietBlock, IsWokenBlock}
 use Rattle.vs_net.specs.Example.{one_write, example_process, example_idle, example}
 use Rattle.vs_net.proofs.Basics.{by_test}
@@ -294,6 +294,15 @@ clock_kind (suc (suc (suc (suc zero)))) k = refl
 clock_kind (suc (suc (suc (suc (suc zero))))) k = cc
 clock_kind (suc (suc (suc (suc (suc (suc p)))))) k = cc
 
+pub no_reset : (p : ℕ) (r : Reset) → reset_of (example_process p) ≡ Some r → ⊥
+no_reset zero r h = cc
+no_reset (suc zero) r h = cc
+no_reset (suc (suc zero)) r h = cc
+no_reset (suc (suc (suc zero))) r h = cc
+no_reset (suc (suc (suc (suc zero)))) r h = cc
+no_reset (suc (suc (suc (suc (suc zero))))) r h = cc
+no_reset (suc (suc (suc (suc (suc (suc p)))))) r h = cc
+
 clocked_own : (b : ℕ) (s : State) → is_written (flatten (updates (example_process 3) s)) b ≡ true → (b == 4) ≡ true
 unfolding flatten is_written
 clocked_own b s h = or_false (b == 4) h
@@ -324,8 +333,15 @@ example_lawful = record {
     | inr e ↦ subst (λ (x : ℕ). listens (example_process x) b ≡ false) (sym e) (at_net b (λ c. (c == 4) ≡ false) refl refl h)
   ];
   clocked_local = λ p s t k h. subst (λ (x : ℕ). updates (example_process x) s ≡ updates (example_process x) t) (sym (clocked_kind p k)) (ap (λ v. one_write 4 v ∷ []) (h 3 refl));
+  roots = λ b. None;
+  roots_written = λ b i h. absurd cc;
+  input_roots = λ p k. inr (λ b w. refl);
+  assign_roots = λ p k. inr (λ b w. refl);
+  reset_net_is = λ p r h. absurd (no_reset p r h);
+  reset_run = λ p r s h e. absurd (no_reset p r h);
+  sleepers = λ p x h. absurd cc;
   early = early;
   late = late;
-  time_zero = record { early_idle = early_idle; early_comb = early_comb; early_made = early_made; late_idle = late_idle; late_input = late_input; late_clock = late_clock; late_made = late_made };
-  quiet_or_woken = quiet_or_woken;
+  time_zero = record { early_idle = early_idle; early_comb = early_comb; early_made = λ p k none. early_made p k; late_idle = late_idle; late_reset = λ p b r h w. absurd (no_reset p r h); late_asleep = λ p b x h w. absurd cc; late_input = late_input; late_clock = late_clock; late_made = late_made };
+  quiet_or_woken = λ p k none. quiet_or_woken p k;
 }

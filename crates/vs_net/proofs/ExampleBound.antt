@@ -1,9 +1,9 @@
 -- The weights of the example.
-use Rattle.std.proofs.Common.{◌≡◌, ℕ, zero, suc, ◌+◌, ◌*◌, ◌≤◌, true, ◌==◌, length, refl, sym, ◌∙◌, subst, eqb-true, eq-eqb, arith}
-use Rattle.vs_net.specs.Network.{State, AnInput, TheClock, AnAssign, AComb, AClocked, kind, writes, listens, clock_net, updates}
+use Rattle.std.proofs.Common.{◌≡◌, ℕ, zero, suc, ◌+◌, ◌*◌, ◌≤◌, true, ◌==◌, None, length, refl, sym, ◌∙◌, subst, eqb-true, eq-eqb, arith}
+use Rattle.vs_net.specs.Network.{reset_of, State, AnInput, TheClock, AnAssign, AComb, AClocked, kind, writes, listens, clock_net, updates}
 use Rattle.vs_net.specs.Bound.{fed_by}
 use Rattle.vs_net.specs.Example.{example_process, example_feeds, example_weight, ExampleIsBounded}
-use Rattle.vs_net.proofs.Example.{owner, at_bit, owner_is}
+use Rattle.vs_net.proofs.Example.{no_reset, owner, at_bit, owner_is}
 
 -- who writes the bit that p is sensitive to feeds p
 feeder : (q b k f : ℕ) → (b == k) ≡ true → owner k ≡ f → writes (example_process q) b ≡ true → (q == f) ≡ true
@@ -69,14 +69,14 @@ comb (suc (suc (suc (suc zero)))) k = cc
 comb (suc (suc (suc (suc (suc zero))))) k = cc
 comb (suc (suc (suc (suc (suc (suc p)))))) k = cc
 
-clocked_by : (p q : ℕ) → kind (example_process p) ≡ AClocked → writes (example_process q) (clock_net (example_process p)) ≡ true → 2 ≡ example_weight q
-clocked_by zero q k w = cc
-clocked_by (suc zero) q k w = cc
-clocked_by (suc (suc zero)) q k w = cc
-clocked_by (suc (suc (suc zero))) q k w = subst (λ (x : ℕ). 2 ≡ example_weight x) (owner_is q 1 w) refl
-clocked_by (suc (suc (suc (suc zero)))) q k w = cc
-clocked_by (suc (suc (suc (suc (suc zero))))) q k w = cc
-clocked_by (suc (suc (suc (suc (suc (suc p)))))) q k w = cc
+clocked_by : (p q : ℕ) → kind (example_process p) ≡ AClocked → reset_of (example_process p) ≡ None → writes (example_process q) (clock_net (example_process p)) ≡ true → 2 ≡ example_weight q
+clocked_by zero q k o w = cc
+clocked_by (suc zero) q k o w = cc
+clocked_by (suc (suc zero)) q k o w = cc
+clocked_by (suc (suc (suc zero))) q k o w = subst (λ (x : ℕ). 2 ≡ example_weight x) (owner_is q 1 w) refl
+clocked_by (suc (suc (suc (suc zero)))) q k o w = cc
+clocked_by (suc (suc (suc (suc (suc zero))))) q k o w = cc
+clocked_by (suc (suc (suc (suc (suc (suc p)))))) q k o w = cc
 
 clocked : (p : ℕ) → kind (example_process p) ≡ AClocked → example_weight p ≡ 2 * 1
 clocked zero k = cc
@@ -89,6 +89,6 @@ clocked (suc (suc (suc (suc (suc (suc p)))))) k = cc
 
 pub example_is_bounded : ExampleIsBounded
 example_is_bounded = record {
-  weighed = record { fed = fed; fed_only = fed_only; few = few; input = input; clock = clock; assign = assign; comb = comb; clocked_by = clocked_by; clocked = clocked };
+  weighed = record { fed = fed; fed_only = fed_only; few = few; input = input; clock = clock; assign = assign; comb = comb; clocked_by = clocked_by; reset_by = λ p q x e o w v. absurd (no_reset p e o); clocked = clocked };
   bounded = refl;
 }

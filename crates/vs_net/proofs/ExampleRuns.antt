@@ -14,8 +14,8 @@ pub example_runs : ExampleRuns
 example_runs = record {
   first = λ b. inl refl;
   known = λ p b k w. inr refl;
-  runs = λ v vs known.
-      let r = level_run_is_one example example_lawful (0 ∷ 1 ∷ 2 ∷ []) ordered example_idle v vs (λ b. inl refl) known in
+  runs = λ v vs known resets.
+      let r = level_run_is_one example example_lawful (0 ∷ 1 ∷ 2 ∷ []) ordered example_idle v vs (λ b. inl refl) known resets in
       (level_run example (0 ∷ 1 ∷ 2 ∷ []) (start example example_idle v vs), r.0, r.1);
   level_order = ordered;
   level_ends = level_ends;

@@ -1,11 +1,14 @@
 pub mod Quiet
 pub mod Basics
 pub mod Waking
+pub mod Nets
 pub mod Parts
+pub mod Asleep
 pub mod Steps
 pub mod Settling
 pub mod Levels
 pub mod Ends
+pub mod Phases
 pub mod Early
 pub mod Drives
 pub mod Rising
@@ -13,6 +16,7 @@ pub mod Begin
 pub mod Awake
 pub mod Runs
 pub mod Unique
+pub mod Histories
 pub mod Paths
 pub mod Sweeps
 pub mod Levelled
@@ -20,6 +24,7 @@ pub mod Sums
 pub mod Sound
 pub mod Counted
 pub mod Bounded
+pub mod Sleeping
 pub mod Example
 pub mod Continued
 pub mod Settled
@@ -29,3 +34,4 @@ pub mod StepRules
 pub mod KindParts
 pub mod ExampleRuns
 pub mod ExampleBound
+pub mod ResetExample

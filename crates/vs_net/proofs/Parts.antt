@@ -5,21 +5,18 @@ use Rattle.vs_four.specs.declared.Bit4.{Bit4}
 use Rattle.vs_net.specs.Network.{State, Write, Update, put, write_all, is_written, flatten, Process, Input, Clock, Assign, Comb, Clocked, Network, Kind, AnInput, TheClock, AnAssign, AComb, AClocked, kind, writes, listens, clock_net, made}
 use Rattle.vs_net.specs.Queue.{Mode, Waiting, Due, Slot, Queue, changes}
 use Rattle.vs_net.specs.Solution.{driven}
-use Rattle.vs_net.specs.Lawful.{IsLawful, IsClockPort, Settles}
+use Rattle.vs_net.specs.Lawful.{IsLawful, Settles}
 use Rattle.vs_net.proofs.Basics.{by_test, put-other, write_all_at, write_all_other}
-use Rattle.vs_net.proofs.Waking.{Woke, stays, wakes, woke_on, changes_all}
-
-abbrev pub IsInput : Kind → Type 0
-IsInput AnInput = Unit {0}
-IsInput TheClock = Unit {0}
-IsInput _ = ⊥
+use Rattle.vs_net.proofs.Waking.{Woke, stays, wakes, woke_on, Spares, changes_all}
+pub use Rattle.vs_net.proofs.Nets.{IsInput}
+use Rattle.vs_net.proofs.Nets.{Family, IsPort, nets}
 
 pub inputs_deaf : (process : Process) (b : ℕ) → IsInput (kind process) → listens process b ≡ true → ⊥
 inputs_deaf (Input bits) b i l = cc
 inputs_deaf (Clock bit) b i l = cc
 inputs_deaf (Assign reads targets value) b i l = i
 inputs_deaf (Comb waits targets run) b i l = i
-inputs_deaf (Clocked clock targets run) b i l = i
+inputs_deaf (Clocked clock reset targets run) b i l = i
 
 pub input_not_clocked : (k : Kind) → IsInput k → k ≢ AClocked
 input_not_clocked AnInput i e = cc
@@ -32,7 +29,7 @@ input_not_clocked AClocked i e = absurd i
 pub record Acts (n : Network) (p : ℕ) (q q' : Queue) : Type 0 where
   pub now : (b : ℕ) → writes (n.process p) b ≡ false → q'.now b ≡ q.now b
   pub mode : (r : ℕ) → r ≢ p → Woke n q q' r
-  pub calm : (r : ℕ) → r ≢ p → kind (n.process r) ≡ AClocked → writes (n.process p) (clock_net (n.process r)) ≡ false → q'.mode r ≡ q.mode r
+  pub calm : (r : ℕ) → r ≢ p → kind (n.process r) ≡ AClocked → Spares (n.process r) (writes (n.process p)) → q'.mode r ≡ q.mode r
   pub deaf : (r : ℕ) → r ≢ p → kind (n.process r) ≢ AClocked → ((b : ℕ) → listens (n.process r) b ≡ true → writes (n.process p) b ≡ false) → q'.mode r ≡ q.mode r
   pub pending : (r : ℕ) → r ≢ p → q'.pending r ≡ q.pending r
   pub active : (r : ℕ) → r ≢ p → q'.active r ≡ q.active r
@@ -77,7 +74,7 @@ acts_changes n p q ws own =
     record {
       now = λ b h. c.now b ∙ write_all_other ws q.now b (unwritten n p ws own b h);
       mode = λ r h. c.mode r;
-      calm = λ r h k w. c.calm r k (unwritten n p ws own (clock_net (n.process r)) w);
+      calm = λ r h k w. c.calm r k (record { clock = unwritten n p ws own (clock_net (n.process r)) w.clock; reset = λ e o. unwritten n p ws own e.net (w.reset e o) });
       deaf = λ r h k w. c.deaf r k (λ b l. unwritten n p ws own b (w b l));
       pending = λ r h. ap (λ (f : ℕ → Option (List Write)). f r) c.pending;
       active = λ r h. ap (λ (f : ℕ → List Update). f r) c.active;
@@ -95,24 +92,25 @@ pub data AssignOk (n : Network) (q : Queue) (p : ℕ) : Type 0 where
   is_pending : q.mode p ≡ Waiting → q.pending p ≡ Some (made (n.process p) q.now) → AssignOk n q p
   is_settled : q.mode p ≡ Waiting → q.pending p ≡ None → Agrees n p q.now → AssignOk n q p
 
--- the values of clock nets before their change in a slot, and after it
+-- the values of the nets of a family before their change in a slot, and after it; and the value that their input is to get
 pub record Phase : Type 0 where
   pub slot : Slot
   pub before : State
-  pub old : Bit4 → Bool
-  pub fresh : Bit4
+  pub old : Family → Bit4 → Bool
+  pub fresh : Family → Bit4
+  pub goal : Family → Bit4
 
 -- a port's net changes after what it copies
-pub record PortOk (ph : Phase) (q : Queue) (p from to : ℕ) : Type 0 where
-  pub values : (ws : List Write) → q.pending p ≡ Some ws → (v : Bit4) × (ws ≡ record { bit = to; value = v } ∷ []) × ((v ≡ ph.fresh) × (q.now from ≡ ph.fresh) ⊎ (ph.old v ≡ true) × (ph.old (q.now to) ≡ true))
-  pub later : q.now to ≡ ph.fresh → q.now from ≡ ph.fresh
+pub record PortOk (ph : Phase) (q : Queue) (p from to : ℕ) (f : Family) : Type 0 where
+  pub values : (ws : List Write) → q.pending p ≡ Some ws → (v : Bit4) × (ws ≡ record { bit = to; value = v } ∷ []) × ((v ≡ ph.fresh f) × (q.now from ≡ ph.fresh f) ⊎ (ph.old f v ≡ true) × (ph.old f (q.now to) ≡ true))
+  pub later : q.now to ≡ ph.fresh f → q.now from ≡ ph.fresh f
 
-pub record AssignPart (n : Network) (nets : ℕ → Bool) (ph : Phase) (q : Queue) (p : ℕ) : Type 0 where
+pub record AssignPart (n : Network) (nets : ℕ → Option Family) (ph : Phase) (q : Queue) (p : ℕ) : Type 0 where
   pub ok : AssignOk n q p
   pub own : (ws : List Write) → q.pending p ≡ Some ws → Own n p ws
   pub active : q.active p ≡ []
   pub waiting : q.waiting p ≡ []
-  pub port : (c : IsClockPort nets (n.process p)) → PortOk ph q p c.from c.to
+  pub port : (c : IsPort nets (n.process p)) → PortOk ph q p c.from c.to c.family
 
 -- updates that are to come make of the bits what they are to be
 pub record WriterPart (n : Network) (ph : Phase) (q : Queue) (p : ℕ) : Type 0 where
@@ -120,14 +118,14 @@ pub record WriterPart (n : Network) (ph : Phase) (q : Queue) (p : ℕ) : Type 0 
   pub own : Own n p (flatten (q.active p ++ q.waiting p))
   pub coming : (b : ℕ) → writes (n.process p) b ≡ true → write_all q.now (flatten (q.active p ++ q.waiting p)) b ≡ driven (n.process p) ph.slot ph.before b
 
-pub record InputPart (n : Network) (ph : Phase) (q : Queue) (p : ℕ) : Type 0 where
+pub record InputPart (n : Network) (nets : ℕ → Option Family) (ph : Phase) (q : Queue) (p : ℕ) : Type 0 where
   pub mode : q.mode p ≡ Waiting
   pub writer : WriterPart n ph q p
-  pub clock : kind (n.process p) ≡ TheClock → (q.active p ++ q.waiting p ≡ []) ⊎ ((b : ℕ) × (q.active p ++ q.waiting p ≡ (record { bit = b; value = ph.fresh } ∷ []) ∷ []))
+  pub net : (b : ℕ) (f : Family) → nets b ≡ Some f → writes (n.process p) b ≡ true → (q.active p ++ q.waiting p ≡ []) ⊎ (q.active p ++ q.waiting p ≡ (record { bit = b; value = ph.goal f } ∷ []) ∷ [])
 
--- a clock net that has changed stays
-abbrev pub Steady : (ℕ → Bool) → Bit4 → Queue → Queue → Type 0
-Steady nets fresh q q' = (b : ℕ) → nets b ≡ true → q.now b ≡ fresh → q'.now b ≡ fresh
+-- a net that has changed stays
+abbrev pub Steady : (ℕ → Option Family) → (Family → Bit4) → Queue → Queue → Type 0
+Steady nets fresh q q' = (b : ℕ) (f : Family) → nets b ≡ Some f → q.now b ≡ fresh f → q'.now b ≡ fresh f
 
 module _ (n : Network) (L : IsLawful n) where
   -- one writer
@@ -153,25 +151,25 @@ module _ (n : Network) (L : IsLawful n) where
   assign_ok_other p r q q' k ne a (stays e same) (is_settled m h g) =
       is_settled (e ∙ m) (a.pending r ne ∙ h) (agrees_other p r q q' (settles_assign r k) ne a (same m) g)
 
-  port_other : (ph : Phase) (p r from to : ℕ) (q q' : Queue) → r ≢ p → Acts n p q q' → (q.now from ≡ ph.fresh → q'.now from ≡ ph.fresh) → writes (n.process r) to ≡ true → PortOk ph q r from to → PortOk ph q' r from to
-  port_other ph p r from to q q' ne a steady w ok =
+  port_other : (ph : Phase) (p r from to : ℕ) (f : Family) (q q' : Queue) → r ≢ p → Acts n p q q' → (q.now from ≡ ph.fresh f → q'.now from ≡ ph.fresh f) → writes (n.process r) to ≡ true → PortOk ph q r from to f → PortOk ph q' r from to f
+  port_other ph p r from to f q q' ne a steady w ok =
       let stay = a.now to (not_written p r to ne w) in
       record {
-        values = λ ws e. let v = ok.values ws (sym (a.pending r ne) ∙ e) in (v.0, v.1, elim v.2 [ inl h ↦ inl (h.0, steady h.1) | inr h ↦ inr (h.0, ap ph.old stay ∙ h.1) ]);
+        values = λ ws e. let v = ok.values ws (sym (a.pending r ne) ∙ e) in (v.0, v.1, elim v.2 [ inl h ↦ inl (h.0, steady h.1) | inr h ↦ inr (h.0, ap (ph.old f) stay ∙ h.1) ]);
         later = λ e. steady (ok.later (sym stay ∙ e));
       }
 
-  pub assign_other : (ph : Phase) (p r : ℕ) (q q' : Queue) → kind (n.process r) ≡ AnAssign → r ≢ p → Acts n p q q' → Steady L.clock_nets ph.fresh q q' → AssignPart n L.clock_nets ph q r → AssignPart n L.clock_nets ph q' r
+  pub assign_other : (ph : Phase) (p r : ℕ) (q q' : Queue) → kind (n.process r) ≡ AnAssign → r ≢ p → Acts n p q q' → Steady (nets n L) ph.fresh q q' → AssignPart n (nets n L) ph q r → AssignPart n (nets n L) ph q' r
   assign_other ph p r q q' k ne a steady part =
       record {
         ok = assign_ok_other p r q q' k ne a (a.mode r ne) part.ok;
         own = λ ws e. part.own ws (sym (a.pending r ne) ∙ e);
         active = a.active r ne ∙ part.active;
         waiting = a.waiting r ne ∙ part.waiting;
-        port = λ c. port_other ph p r c.from c.to q q' ne a (steady c.from c.from_net) c.writes_it (part.port c);
+        port = λ c. port_other ph p r c.from c.to c.family q q' ne a (steady c.from c.family c.from_net) c.writes_it (part.port c);
       }
 
-  coming_same : (p r : ℕ) (q q' : Queue) → r ≢ p → Acts n p q q' → q'.active r ++ q'.waiting r ≡ q.active r ++ q.waiting r
+  pub coming_same : (p r : ℕ) (q q' : Queue) → r ≢ p → Acts n p q q' → q'.active r ++ q'.waiting r ≡ q.active r ++ q.waiting r
   coming_same p r q q' ne a = ap (λ x. x ++ q'.waiting r) (a.active r ne) ∙ ap (λ x. q.active r ++ x) (a.waiting r ne)
 
   pub writer_other : (ph : Phase) (p r : ℕ) (q q' : Queue) → r ≢ p → Acts n p q q' → WriterPart n ph q r → WriterPart n ph q' r
@@ -183,11 +181,11 @@ module _ (n : Network) (L : IsLawful n) where
         coming = λ b w. ap (λ us. write_all q'.now (flatten us) b) e ∙ write_all_at (flatten (q.active r ++ q.waiting r)) q'.now q.now b (a.now b (not_written p r b ne w)) ∙ part.coming b w;
       }
 
-  pub input_other : (ph : Phase) (p r : ℕ) (q q' : Queue) → IsInput (kind (n.process r)) → r ≢ p → Acts n p q q' → InputPart n ph q r → InputPart n ph q' r
+  pub input_other : (ph : Phase) (p r : ℕ) (q q' : Queue) → IsInput (kind (n.process r)) → r ≢ p → Acts n p q q' → InputPart n (nets n L) ph q r → InputPart n (nets n L) ph q' r
   input_other ph p r q q' i ne a part =
       let e = coming_same p r q q' ne a in
       record {
         mode = a.deaf r ne (input_not_clocked (kind (n.process r)) i) (λ b l. absurd (inputs_deaf (n.process r) b i l)) ∙ part.mode;
         writer = writer_other ph p r q q' ne a part.writer;
-        clock = λ k. elim (part.clock k) [ inl h ↦ inl (e ∙ h) | inr h ↦ inr (h.0, e ∙ h.1) ];
+        net = λ b f h w. elim (part.net b f h w) [ inl x ↦ inl (e ∙ x) | inr x ↦ inr (e ∙ x) ];
       }

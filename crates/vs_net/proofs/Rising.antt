@@ -1,24 +1,23 @@
 -- A slot in which the clock rises, until its clocked blocks have run.
-use Rattle.std.proofs.Common.{◌≡◌, ◌≢◌, ℕ, Bool, true, false, List, [], ◌++◌, inl, inr, refl, sym, ap, ◌∙◌, subst, None, IsSome}
+use Rattle.std.proofs.Common.{◌≡◌, ◌≢◌, ℕ, ◌≤◌, Bool, true, false, List, [], ◌++◌, ◌||◌, inl, inr, Some, None, refl, sym, ap, ◌∙◌, subst, IsSome}
 use Rattle.std.proofs.lemmas.Bool.{both_ways}
 use Rattle.vs_four.specs.declared.Bit4.{Bit4}
 use Rattle.vs_four.specs.declared.Bit4.TheVariants.{Zero, One, X, Z}
-use Rattle.vs_net.specs.Network.{posedge, State, Write, Update, put, write_all, is_written, flatten, Network, Kind, AnInput, TheClock, AnAssign, AComb, AClocked, kind, writes, listens, clock_net, updates}
+use Rattle.vs_net.specs.Network.{posedge, reset_of, State, Write, Update, put, write_all, is_written, flatten, Network, Kind, AnInput, TheClock, AnAssign, AComb, AClocked, kind, writes, listens, clock_net, made, updates}
 use Rattle.vs_net.specs.Queue.{Mode, Unstarted, Waiting, Due, Queue, Rise, woken, changes, Choice, Start, Evaluate, Apply, Run, Take, Activate, Next, after, IsBlock, evaluated, applied, ran, took, drive}
 use Rattle.vs_net.proofs.Quiet.{IsQuiet, IsStep}
 use Rattle.vs_net.specs.Solution.{clocked_updates}
-use Rattle.vs_net.specs.Lawful.{IsLawful, IsClockPort, Settles}
-use Rattle.vs_net.proofs.Basics.{by_test, same_number, put-same, put-other, write_all_at}
-use Rattle.vs_net.proofs.Waking.{changes_all}
-use Rattle.vs_net.proofs.Parts.{Acts, acts_on, acts_mode, acts_waiting, Agrees, is_due, is_pending, is_settled, Phase, WriterPart, agrees_other}
-use Rattle.vs_net.proofs.Steps.{Calm, Did, did_nothing, off_nets, evaluated_self, evaluated_did, applied_is, applied_self, applied_did, took_is, took_input, took_clock_did}
-use Rattle.vs_net.proofs.Settling.{Each, an_assign, an_input, a_comb, a_clocked, Holds, holds_on, comb_agrees, CombRest, rest_other, CombPart, ClockedPart, IsInput, Settling, some_is, full_is}
-use Rattle.vs_net.proofs.Ends.{nets_arrived}
-use Rattle.vs_net.proofs.Drives.{driven_clock, clocked_undriven, clocked_rise}
-
-abbrev pub is_zero : Bit4 → Bool
-is_zero Zero = true
-is_zero _ = false
+use Rattle.vs_net.specs.Lawful.{IsLawful, IsClockPort, Settles, times}
+use Rattle.vs_net.proofs.Basics.{by_test, same_number, put-same, put-other, write_all_at, write_none}
+use Rattle.vs_net.proofs.Waking.{changes_all, fires, fires_reset, fires_none}
+use Rattle.vs_net.proofs.Parts.{Acts, acts_on, acts_mode, acts_waiting, is_due, is_pending, is_settled, WriterPart}
+use Rattle.vs_net.proofs.Steps.{NetsIn, Did, did_nothing, edge_calm, evaluated_self, evaluated_did, applied_is, applied_self, applied_did, took_is, took_input}
+use Rattle.vs_net.proofs.Settling.{Each, an_assign, an_input, a_comb, a_clocked, Holds, holds_on, CombOk, comb_agrees, comb_asleep, agreed, CombRest, rest_other, CombPart, ClockedPart, clocked_rests, input_take_did, IsInput, Settling, some_is, full_is}
+use Rattle.vs_net.proofs.Asleep.{Began, awake, asleep}
+use Rattle.vs_net.proofs.Nets.{Family, nets, clock_family, clock_net_family, reset_net_family, off_nets}
+use Rattle.vs_net.proofs.Ends.{nets_carry, rephase_assign, rephase_input}
+use Rattle.vs_net.proofs.Phases.{is_zero, rising, risen_phase, apart_rising}
+use Rattle.vs_net.proofs.Drives.{level_of, driven_level, clocked_undriven, clocked_rise}
 
 zero_is : (v : Bit4) → is_zero v ≡ true → v ≡ Zero
 zero_is Zero h = refl
@@ -26,16 +25,9 @@ zero_is One h = cc
 zero_is X h = cc
 zero_is Z h = cc
 
-abbrev pub rising : State → Phase
-rising before = record { slot = Rise; before = before; old = is_zero; fresh = One }
-
--- the same slot, when each clock net has risen
-abbrev pub risen_phase : State → Phase
-risen_phase before = record { slot = Rise; before = before; old = λ v. false; fresh = One }
-
-pub record RisingComb (n : Network) (q : Queue) (p : ℕ) : Type 0 where
+pub record RisingComb (n : Network) (L : IsLawful n) (before : State) (q : Queue) (p : ℕ) : Type 0 where
   pub mode : q.mode p ≡ Waiting
-  pub agrees : Agrees n p q.now
+  pub began : Began n L before p
   pub rest : CombRest q p
 
 -- a clocked block before its clock net rises, then due, and then run on the old values
@@ -50,7 +42,7 @@ pub record RisingClocked (n : Network) (before : State) (q : Queue) (p : ℕ) : 
   pub run : ClockedRun n before q p
 
 pub record Rising (n : Network) (L : IsLawful n) (before : State) (q : Queue) : Type 0 where
-  pub holds : Holds n L (rising before) (RisingComb n) (RisingClocked n before) q
+  pub holds : Holds n L (rising before) (RisingComb n L before) (RisingClocked n before) q
   -- all but the clock nets is as before
   pub frame : (b : ℕ) → L.clock_nets b ≡ false → q.now b ≡ before b
   pub offs : (p : ℕ) → kind (n.process p) ≡ AnAssign → ((b : ℕ) → L.clock_nets b ≡ true → (listens (n.process p) b ≡ false) × (writes (n.process p) b ≡ false)) → (q.mode p ≡ Waiting) × (q.pending p ≡ None)
@@ -59,7 +51,7 @@ pub record Rising (n : Network) (L : IsLawful n) (before : State) (q : Queue) : 
 
 module _ (n : Network) (L : IsLawful n) (before : State) where
   abbrev EachRising : Queue → ℕ → Type 0
-  EachRising q p = Each n L.clock_nets (rising before) (RisingComb n) (RisingClocked n before) q p
+  EachRising q p = Each n (nets n L) (rising before) (RisingComb n L before) (RisingClocked n before) q p
 
   -- what a step leaves that concerns clock nets alone
   record Still (p : ℕ) (q q' : Queue) : Type 0 where
@@ -78,33 +70,43 @@ module _ (n : Network) (L : IsLawful n) (before : State) where
   comb_off : (r b : ℕ) → kind (n.process r) ≡ AComb → listens (n.process r) b ≡ true → L.clock_nets b ≡ false
   comb_off r b k l = by_test (L.clock_nets b) (λ e. absurd (both_ways (listens (n.process r) b) (L.comb_nets r b k e) l)) (λ e. e)
 
-  comb_other : (p r : ℕ) (q q' : Queue) → r ≢ p → kind (n.process r) ≡ AComb → Acts n p q q' → Still p q q' → RisingComb n q r → RisingComb n q' r
+  comb_other : (p r : ℕ) (q q' : Queue) → r ≢ p → kind (n.process r) ≡ AComb → Acts n p q q' → Still p q q' → RisingComb n L before q r → RisingComb n L before q' r
   comb_other p r q q' ne k a still part = record {
     mode = still.mode r ne (λ e. cc) (λ b l. comb_off r b k l) ∙ part.mode;
-    agrees = agrees_other n L p r q q' (subst Settles (sym k) tt) ne a (λ b l. still.now b (comb_off r b k l)) part.agrees;
+    began = part.began;
     rest = rest_other n L (rising before) p r q q' ne a part.rest;
   }
 
-  run_other : (p r : ℕ) (q q' : Queue) → r ≢ p → kind (n.process r) ≡ AClocked → Did n L (rising before) p q q' → ClockedRun n before q r → ClockedRun n before q' r
-  run_other p r q q' ne k did (to_rise m z w) = elim (did.nets (clock_net (n.process r)) (L.clock_net_is r k)) [
-    | inl f ↦ risen (did.clocked r ne k ∙ woken_by m z f) f (did.acts.waiting r ne ∙ w)
-    | inr o ↦ (let z' = zero_is (q'.now (clock_net (n.process r))) o in to_rise (did.clocked r ne k ∙ not_woken_by m z z') z' (did.acts.waiting r ne ∙ w))
-  ]
+  run_other : (p r : ℕ) (q q' : Queue) → r ≢ p → kind (n.process r) ≡ AClocked → NetsIn (nets n L) (rising before) q → Did n L (rising before) p q q' → ClockedRun n before q r → ClockedRun n before q' r
+  run_other p r q q' ne k nets_in did run = by_run run
     where
-      woken_by : {m : Mode} {a b : Bit4} → m ≡ Waiting → a ≡ Zero → b ≡ One → woken m (posedge a b) ≡ Due
-      woken_by {m} {a} {b} e f g = ap (λ (x : Mode). woken x (posedge a b)) e ∙ ap (λ (x : Bit4). woken Waiting (posedge x b)) f ∙ ap (λ (x : Bit4). woken Waiting (posedge Zero x)) g
+      c : ℕ
+      c = clock_net (n.process r)
 
-      not_woken_by : {m : Mode} {a b : Bit4} → m ≡ Waiting → a ≡ Zero → b ≡ Zero → woken m (posedge a b) ≡ Waiting
-      not_woken_by {m} {a} {b} e f g = ap (λ (x : Mode). woken x (posedge a b)) e ∙ ap (λ (x : Bit4). woken Waiting (posedge x b)) f ∙ ap (λ (x : Bit4). woken Waiting (posedge Zero x)) g
-  run_other p r q q' ne k did (risen m f w) =
-      let f' = did.steady (clock_net (n.process r)) (L.clock_net_is r k) f in
-      risen (did.clocked r ne k ∙ ap (λ (x : Mode). woken x (posedge (q.now (clock_net (n.process r))) (q'.now (clock_net (n.process r))))) m) f' (did.acts.waiting r ne ∙ w)
-  run_other p r q q' ne k did (has_run m f w) =
-      let f' = did.steady (clock_net (n.process r)) (L.clock_net_is r k) f in
-      has_run (did.clocked r ne k ∙ stay m f f') f' (did.acts.waiting r ne ∙ w)
-    where
-      stay : {m : Mode} {a b : Bit4} → m ≡ Waiting → a ≡ One → b ≡ One → woken m (posedge a b) ≡ Waiting
-      stay {m} {a} {b} e f g = ap (λ (x : Mode). woken x (posedge a b)) e ∙ ap (λ (x : Bit4). woken Waiting (posedge x b)) f ∙ ap (λ (x : Bit4). woken Waiting (posedge One x)) g
+      family : nets n L c ≡ Some None
+      family = clock_net_family n L r k
+
+      -- no reset net changes
+      silent : posedge (q.now c) (q'.now c) ≡ false → fires (n.process r) q.now q'.now ≡ false
+      silent h = fires_none (n.process r) q.now q'.now h (λ e o. edge_calm n L (rising before) (Some e.input) e.edge (λ a b x y. absurd cc) p q q' nets_in did e.net (reset_net_family n L r e o))
+
+      sees : q.now c ≡ Zero → q'.now c ≡ One → fires (n.process r) q.now q'.now ≡ true
+      sees f g = ap (λ (t : Bool). t || fires_reset (reset_of (n.process r)) q.now q'.now) (ap (λ (x : Bit4). posedge x (q'.now c)) f ∙ ap (posedge Zero) g)
+
+      mode_on : (m : Mode) (t : Bool) → q.mode r ≡ m → fires (n.process r) q.now q'.now ≡ t → q'.mode r ≡ woken m t
+      mode_on m t e f = did.clocked r ne k ∙ ap (λ (x : Mode). woken x (fires (n.process r) q.now q'.now)) e ∙ ap (woken m) f
+
+      by_run : ClockedRun n before q r → ClockedRun n before q' r
+      by_run (to_rise m z w) = elim (did.nets c None family) [
+        | inl f ↦ risen (mode_on Waiting true m (sees z f)) f (did.acts.waiting r ne ∙ w)
+        | inr o ↦ (let z' = zero_is (q'.now c) o in to_rise (mode_on Waiting false m (silent (ap (λ (x : Bit4). posedge x (q'.now c)) z ∙ ap (posedge Zero) z'))) z' (did.acts.waiting r ne ∙ w))
+      ]
+      by_run (risen m f w) =
+          let f' = did.steady c None family f in
+          risen (mode_on Due (fires (n.process r) q.now q'.now) m refl) f' (did.acts.waiting r ne ∙ w)
+      by_run (has_run m f w) =
+          let f' = did.steady c None family f in
+          has_run (mode_on Waiting false m (silent (ap (λ (x : Bit4). posedge x (q'.now c)) f ∙ ap (posedge One) f'))) f' (did.acts.waiting r ne ∙ w)
 
   off_nets_only : (r : ℕ) → ((b : ℕ) → L.clock_nets b ≡ true → (listens (n.process r) b ≡ false) × (writes (n.process r) b ≡ false)) → (b : ℕ) → listens (n.process r) b ≡ true → L.clock_nets b ≡ false
   off_nets_only r off b l = by_test (L.clock_nets b) (λ e. absurd (both_ways (listens (n.process r) b) (off b e).0 l)) (λ e. e)
@@ -118,9 +120,9 @@ module _ (n : Network) (L : IsLawful n) (before : State) where
 
   rising_on : (p : ℕ) (q q' : Queue) → Did n L (rising before) p q q' → Still p q q' → Self q' p → Rising n L before q → Rising n L before q'
   rising_on p q q' did still self rise = record {
-    holds = holds_on n L (rising before) (RisingComb n) (RisingClocked n before) p q q' did
+    holds = holds_on n L (rising before) (RisingComb n L before) (RisingClocked n before) p q q' did
         (λ r ne k part. comb_other p r q q' ne k did.acts still part)
-        (λ r ne k part. record { pending = did.acts.pending r ne ∙ part.pending; active = did.acts.active r ne ∙ part.active; run = run_other p r q q' ne k did part.run })
+        (λ r ne k part. record { pending = did.acts.pending r ne ∙ part.pending; active = did.acts.active r ne ∙ part.active; run = run_other p r q q' ne k rise.holds.nets did part.run })
         self.each rise.holds;
     frame = λ b h. still.now b h ∙ rise.frame b h;
     offs = λ r k off. same_number r p
@@ -161,10 +163,10 @@ module _ (n : Network) (L : IsLawful n) (before : State) where
   apply_step q p (an_assign k part) s rise =
       let o = some_is (q.pending p) s in
       elim (L.assign_nets p k) [
-        | inl c ↦ (let did = applied_did n L (rising before) p q k part rise.holds.nets refl o.0 o.1 in
-            subst (λ (x : Queue). Rising n L before x) (sym (applied_is n L (rising before) p q k part rise.holds.nets refl o.0 o.1))
+        | inl c ↦ (let did = applied_did n L (rising before) p q k part rise.holds.nets (apart_rising before) o.0 o.1 in
+            subst (λ (x : Queue). Rising n L before x) (sym (applied_is n L (rising before) p q k part rise.holds.nets (apart_rising before) o.0 o.1))
             (rising_on p q _ did (still_on_nets p q _ did.acts (port_nets p c))
-            (record { each = an_assign k (applied_self n L (rising before) p q k part rise.holds.nets refl o.0 o.1); offs = λ x off. not_off p c off; inputs = λ i. absurd (subst IsInput k i); data_inputs = λ i. absurd cc }) rise))
+            (record { each = an_assign k (applied_self n L (rising before) p q k part rise.holds.nets (apart_rising before) o.0 o.1); offs = λ x off. not_off p c off; inputs = λ i. absurd (subst IsInput k i); data_inputs = λ i. absurd cc }) rise))
         | inr off ↦ absurd (let m = (rise.offs p k off).1 in let e = o.1 in cc)
       ]
   apply_step q p (an_input k part) s rise = absurd (let o = some_is (q.pending p) s in let e = part.writer.pending in cc)
@@ -222,10 +224,10 @@ module _ (n : Network) (L : IsLawful n) (before : State) where
       by_kind AnInput e i = absurd (ne (rise.data_inputs p e))
       by_kind TheClock e i =
           let u = full_is (q.active p) ne in
-          let did = took_clock_did n L (rising before) p q u.0 u.1 u.2 rise.holds.nets refl part e in
-          subst (λ (x : Queue). Rising n L before x) (sym (took_is n L (rising before) p q u.0 u.1 u.2 rise.holds.nets refl))
+          let did = input_take_did n L (rising before) q p u.0 u.1 u.2 part rise.holds.nets (apart_rising before) (λ f. refl) TheClock e tt in
+          subst (λ (x : Queue). Rising n L before x) (sym (took_is n L (rising before) p q u.0 u.1 u.2 rise.holds.nets (apart_rising before)))
           (rising_on p q _ did (still_on_nets p q _ did.acts (λ b w. L.clock_bit_is p b e w))
-          (record { each = an_input k (took_input n L (rising before) p q u.0 u.1 u.2 rise.holds.nets refl k part); offs = λ x off. cc; inputs = λ i. ap (λ (f : ℕ → List Update). f p) (changes_all n u.0 (record q { active = put q.active p u.1 })).waiting ∙ rise.inputs p k; data_inputs = λ x. absurd cc }) rise)
+          (record { each = an_input k (took_input n L (rising before) p q u.0 u.1 u.2 rise.holds.nets (apart_rising before) k part); offs = λ x off. cc; inputs = λ i. ap (λ (f : ℕ → List Update). f p) (changes_all n u.0 (record q { active = put q.active p u.1 })).waiting ∙ rise.inputs p k; data_inputs = λ x. absurd cc }) rise)
       by_kind AnAssign e i = absurd i
       by_kind AComb e i = absurd i
       by_kind AClocked e i = absurd i
@@ -241,21 +243,23 @@ module _ (n : Network) (L : IsLawful n) (before : State) where
 
   -- once all is at rest, each clocked block has run
   module _ (q : Queue) (quiet : IsQuiet q) (rise : Rising n L before q) where
-    clock_taken : (p b : ℕ) → kind (n.process p) ≡ TheClock → writes (n.process p) b ≡ true → q.now b ≡ One
-    unfolding write_all flatten
-    clock_taken p b k w = by_part (rise.holds.each p)
+    input_taken : (p b : ℕ) (f : Family) → nets n L b ≡ Some f → IsInput (kind (n.process p)) → writes (n.process p) b ≡ true → q.now b ≡ level_of Rise before f
+    input_taken p b f net i w = by_part (rise.holds.each p)
       where
-        none : IsInput (kind (n.process p)) → q.active p ++ q.waiting p ≡ []
-        none i = ap (λ (x : List Update). x ++ q.waiting p) (quiet p).2 ∙ rise.inputs p i
+        none : q.active p ++ q.waiting p ≡ []
+        none = ap (λ (x : List Update). x ++ q.waiting p) (quiet p).2 ∙ rise.inputs p i
 
-        by_part : EachRising q p → q.now b ≡ One
-        by_part (an_input i part) = sym (ap (λ x. write_all q.now (flatten x) b) (none i)) ∙ part.writer.coming b w ∙ driven_clock (n.process p) Rise before b k w
-        by_part (an_assign k' part) = absurd cc
-        by_part (a_comb k' part) = absurd cc
-        by_part (a_clocked k' part) = absurd cc
+        by_part : EachRising q p → q.now b ≡ level_of Rise before f
+        by_part (an_input x part) = sym (ap (λ x. write_all q.now (flatten x) b) none ∙ write_none q.now b) ∙ part.writer.coming b w ∙ driven_level n L Rise before p b f net i w
+        by_part (an_assign k' part) = absurd (subst IsInput k' i)
+        by_part (a_comb k' part) = absurd (subst IsInput k' i)
+        by_part (a_clocked k' part) = absurd (subst IsInput k' i)
+
+    pub all_arrived : (c : ℕ) (f : Family) → nets n L c ≡ Some f → q.now c ≡ level_of Rise before f
+    all_arrived c f net = nets_carry n L (rising before) (RisingComb n L before) (RisingClocked n before) q quiet rise.holds f (level_of Rise before f) (λ p b x i w. input_taken p b f x i w) c net
 
     all_risen : (c : ℕ) → L.clock_nets c ≡ true → q.now c ≡ One
-    all_risen = nets_arrived n L (rising before) (RisingComb n) (RisingClocked n before) q quiet rise.holds clock_taken
+    all_risen c net = all_arrived c None (clock_family n L c net)
 
     all_run : (p : ℕ) → kind (n.process p) ≡ AClocked → RisingClocked n before q p → q.waiting p ≡ updates (n.process p) before
     all_run p k part = elim part.run [
@@ -272,7 +276,7 @@ module _ (n : Network) (L : IsLawful n) (before : State) where
       comes = ap (λ (x : List Update). x ++ q.waiting p) (quiet p).2 ∙ all_run p k part
 
       off_net : (b : ℕ) → writes (n.process p) b ≡ true → q.now b ≡ before b
-      off_net b w = rise.frame b (by_test (L.clock_nets b) (λ e. absurd (both_ways (writes (n.process p) b) (off_nets n L (rising before) p (λ x. cc) (λ x. cc) b e) w)) (λ e. e))
+      off_net b w = rise.frame b (by_test (L.clock_nets b) (λ e. absurd (both_ways (writes (n.process p) b) (off_nets n L p (λ x. cc) (λ i. subst IsInput k i) b None (clock_family n L b e)) w)) (λ e. e))
 
       clocked_writer : WriterPart n (risen_phase before) q p
       clocked_writer = record {
@@ -281,23 +285,22 @@ module _ (n : Network) (L : IsLawful n) (before : State) where
         coming = λ b w. ap (λ x. write_all q.now (flatten x) b) comes ∙ write_all_at (flatten (updates (n.process p) before)) q.now before b (off_net b w) ∙ sym (ap (λ x. write_all before (flatten x) b) drives);
       }
 
-    calm_risen : Calm (risen_phase before)
-    calm_risen a b e h = cc
+    comb_same : (p b : ℕ) → kind (n.process p) ≡ AComb → writes (n.process p) b ≡ true → q.now b ≡ before b
+    comb_same p b k w = rise.frame b (by_test (L.clock_nets b) (λ e. absurd (both_ways (writes (n.process p) b) (off_nets n L p (λ x. cc) (λ i. subst IsInput k i) b None (clock_family n L b e)) w)) (λ e. e))
 
-    same_writer_part : (p : ℕ) → WriterPart n (rising before) q p → WriterPart n (risen_phase before) q p
-    same_writer_part p part = record { pending = part.pending; own = part.own; coming = part.coming }
+    comb_risen : (p : ℕ) → kind (n.process p) ≡ AComb → q.mode p ≡ Waiting → Began n L before p → CombOk n Rise before before (λ p. ⊥) q p
+    comb_risen p k m (awake g) = comb_agrees m (λ b w.
+        ap (λ ws. write_all q.now ws b) (L.local p q.now before (subst Settles (sym k) tt) (λ c l. rise.frame c (comb_off p c k l)))
+        ∙ write_all_at (made (n.process p) before) q.now before b (comb_same p b k w)
+        ∙ g b w
+        ∙ sym (comb_same p b k w)) (agreed g)
+    comb_risen p k m (asleep x e a) = comb_asleep m x e a (record { listened = λ b l. rise.frame b (comb_off p b k l) ∙ a.listened b l; bits = λ b w. comb_same p b k w ∙ a.bits b w })
 
-    risen_each : (p : ℕ) → EachRising q p → Each n L.clock_nets (risen_phase before) (CombPart n before (λ p. ⊥)) (ClockedPart n (risen_phase before)) q p
-    risen_each p (an_assign k part) = an_assign k (record {
-      ok = part.ok;
-      own = part.own;
-      active = part.active;
-      waiting = part.waiting;
-      port = λ c. record { values = λ ws e. absurd (let z = (quiet p).1 in cc); later = λ e. all_risen c.from c.from_net };
-    })
-    risen_each p (an_input k part) = an_input k (record { mode = part.mode; writer = same_writer_part p part.writer; clock = part.clock })
-    risen_each p (a_comb k part) = a_comb k (record { ok = comb_agrees part.mode part.agrees; rest = part.rest })
-    risen_each p (a_clocked k part) = a_clocked k (record { mode = (quiet p).0; writer = clocked_writer p k part })
+    risen_each : (p : ℕ) → EachRising q p → Each n (nets n L) (risen_phase before) (CombPart n Rise before before (λ p. ⊥)) (ClockedPart n (risen_phase before)) q p
+    risen_each p (an_assign k part) = an_assign k (rephase_assign n L (rising before) (RisingComb n L before) (RisingClocked n before) q quiet rise.holds (risen_phase before).old (risen_phase before).fresh p part)
+    risen_each p (an_input k part) = an_input k (rephase_input n L (rising before) (RisingComb n L before) (RisingClocked n before) q quiet rise.holds (risen_phase before).old (risen_phase before).fresh p part)
+    risen_each p (a_comb k part) = a_comb k (record { ok = comb_risen p k part.mode part.began; rest = part.rest })
+    risen_each p (a_clocked k part) = a_clocked k (clocked_rests (quiet p).0 (clocked_writer p k part) (λ x b y e l. subst (λ (us : List Update). times (flatten us) b ≤ 1) (sym (comes p k part)) ((L.sleepers x y e).once b p before l k)) (λ e o. inl (all_arrived e.net (Some e.input) (reset_net_family n L p e o))))
 
-    pub rising_settles : (calm : Calm (risen_phase before)) (apart : false ≡ false) → Settling n L (risen_phase before) before (λ p. ⊥) calm apart q
-    rising_settles calm apart = record { each = λ p. risen_each p (rise.holds.each p); kept = rise.holds.kept; nets = λ c net. inl (all_risen c net) }
+    pub rising_settles : Settling n L (risen_phase before) before (λ p. ⊥) q
+    rising_settles = record { each = λ p. risen_each p (rise.holds.each p); kept = rise.holds.kept; nets = λ c f net. inl (all_arrived c f net) }

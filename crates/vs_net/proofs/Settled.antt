@@ -3,18 +3,30 @@ use Rattle.std.proofs.Common.{◌≡◌, ◌≢◌, ℕ, true, false, List, [], 
 use Rattle.std.proofs.lemmas.Bool.{both_ways}
 use Rattle.vs_net.specs.Network.{State, write_all, Network, Kind, AnInput, TheClock, AnAssign, AComb, AClocked, kind, writes, listens, made}
 use Rattle.vs_net.specs.Queue.{Slot}
-use Rattle.vs_net.specs.Solution.{IsSlotEnd}
+use mathlib.Core.Path.{fun_ext}
+use Rattle.vs_net.specs.Solution.{given, IsSlotEnd}
+use Rattle.vs_net.proofs.Asleep.{given_exact, given_local, given_none, never_sleeps}
 use Rattle.vs_net.specs.Lawful.{IsLawful, IsOrdered, Settles}
 use Rattle.vs_net.specs.Settle.{settled_by, settle, IsFed}
 use Rattle.vs_net.specs.Laws.{OnePassSettles}
 use Rattle.vs_net.proofs.Basics.{by_test, same_number, write_all_at, write_all_other, write_all_again}
-use Rattle.vs_net.proofs.Parts.{IsInput, Agrees, not_written}
+use Rattle.vs_net.proofs.Parts.{IsInput, not_written}
 use Rattle.vs_net.proofs.Levels.{settles_or_writes, not_both}
-use Rattle.vs_net.proofs.Ends.{agrees_all, nothing_agrees, nothing_made}
+use Rattle.vs_net.proofs.Ends.{nothing_agrees, nothing_made}
 
-module _ (n : Network) (L : IsLawful n) where
+module _ (n : Network) (L : IsLawful n) (before : State) where
+  -- a process agrees with what it is given
+  abbrev Holds : ℕ → State → Type 0
+  Holds p s = (b : ℕ) → writes (n.process p) b ≡ true → write_all s (given n before p s) b ≡ s b
+
   abbrev turn : ℕ → State → State
-  turn p s = write_all s (settled_by (kind (n.process p)) (made (n.process p) s))
+  turn p s = write_all s (settled_by (kind (n.process p)) (given n before p s))
+
+  holds_all : (p : ℕ) (s : State) → Settles (kind (n.process p)) → Holds p s → write_all s (given n before p s) ≡ s
+  holds_all p s k g = fun_ext (λ b. by_test (writes (n.process p) b) (g b) (λ e. write_all_other (given n before p s) s b (given_exact n L before s p b k ∙ e)))
+
+  nothing : (p : ℕ) (s : State) → kind (n.process p) ≢ AComb → made (n.process p) s ≡ [] → write_all s (given n before p s) ≡ s
+  nothing p s k e = ap (write_all s) (given_none n L before s p (never_sleeps n L p k)) ∙ nothing_agrees n L p s e
 
   unwritten : (s : State) (b : ℕ) → write_all s [] b ≡ s b
   unfolding write_all
@@ -24,67 +36,67 @@ module _ (n : Network) (L : IsLawful n) where
   turn_other : (p : ℕ) (s : State) (b : ℕ) → (Settles (kind (n.process p)) → writes (n.process p) b ≡ false) → turn p s b ≡ s b
   turn_other p s b h = by_kind (kind (n.process p)) refl
     where
-      other : Settles (kind (n.process p)) → write_all s (made (n.process p) s) b ≡ s b
-      other k = write_all_other (made (n.process p) s) s b (L.exact p b s k ∙ h k)
+      other : Settles (kind (n.process p)) → write_all s (given n before p s) b ≡ s b
+      other k = write_all_other (given n before p s) s b (given_exact n L before s p b k ∙ h k)
 
-      by_kind : (k : Kind) → kind (n.process p) ≡ k → write_all s (settled_by k (made (n.process p) s)) b ≡ s b
+      by_kind : (k : Kind) → kind (n.process p) ≡ k → write_all s (settled_by k (given n before p s)) b ≡ s b
       by_kind AnAssign e = other (subst Settles (sym e) tt)
       by_kind AComb e = other (subst Settles (sym e) tt)
       by_kind AnInput e = unwritten s b
       by_kind TheClock e = unwritten s b
       by_kind AClocked e = unwritten s b
 
-  turn_is : (p : ℕ) (s : State) → Settles (kind (n.process p)) → turn p s ≡ write_all s (made (n.process p) s)
+  turn_is : (p : ℕ) (s : State) → Settles (kind (n.process p)) → turn p s ≡ write_all s (given n before p s)
   turn_is p s k = by_kind (kind (n.process p)) k
     where
-      by_kind : (z : Kind) → Settles z → write_all s (settled_by z (made (n.process p) s)) ≡ write_all s (made (n.process p) s)
+      by_kind : (z : Kind) → Settles z → write_all s (settled_by z (given n before p s)) ≡ write_all s (given n before p s)
       by_kind AnAssign x = refl
       by_kind AComb x = refl
       by_kind AnInput x = absurd x
       by_kind TheClock x = absurd x
       by_kind AClocked x = absurd x
 
-  turn_own : (p : ℕ) (s : State) → Settles (kind (n.process p)) → Agrees n p (turn p s)
+  turn_own : (p : ℕ) (s : State) → Settles (kind (n.process p)) → Holds p (turn p s)
   turn_own p s k b w =
-      let reads = L.local p (turn p s) s k (λ c l. turn_other p s c (λ x. by_test (writes (n.process p) c) (λ e. absurd (both_ways (listens (n.process p) c) (L.apart p c e) l)) (λ e. e))) in
-      let is : turn p s b ≡ write_all s (made (n.process p) s) b = ap (λ (f : State). f b) (turn_is p s k) in
-      ap (λ ws. write_all (turn p s) ws b) reads ∙ write_all_at (made (n.process p) s) (turn p s) (write_all s (made (n.process p) s)) b is ∙ write_all_again (made (n.process p) s) s b ∙ sym is
+      let reads = given_local n L before (turn p s) s p k (λ c l. turn_other p s c (λ x. by_test (writes (n.process p) c) (λ e. absurd (both_ways (listens (n.process p) c) (L.apart p c e) l)) (λ e. e))) in
+      let is : turn p s b ≡ write_all s (given n before p s) b = ap (λ (f : State). f b) (turn_is p s k) in
+      ap (λ ws. write_all (turn p s) ws b) reads ∙ write_all_at (given n before p s) (turn p s) (write_all s (given n before p s)) b is ∙ write_all_again (given n before p s) s b ∙ sym is
 
   -- where p already agrees its turn changes nothing
-  turn_again : (p : ℕ) (s : State) (b : ℕ) → Settles (kind (n.process p)) → Agrees n p s → turn p s b ≡ s b
-  turn_again p s b k g = ap (λ (f : State). f b) (turn_is p s k ∙ agrees_all n L p s k g)
+  turn_again : (p : ℕ) (s : State) (b : ℕ) → Settles (kind (n.process p)) → Holds p s → turn p s b ≡ s b
+  turn_again p s b k g = ap (λ (f : State). f b) (turn_is p s k ∙ holds_all p s k g)
 
-  turn_placed : (p r : ℕ) (s : State) → r ≢ p → Settles (kind (n.process r)) → Agrees n r s → ((b : ℕ) → listens (n.process r) b ≡ true → writes (n.process p) b ≡ true → Settles (kind (n.process p)) → Agrees n p s) → Agrees n r (turn p s)
+  turn_placed : (p r : ℕ) (s : State) → r ≢ p → Settles (kind (n.process r)) → Holds r s → ((b : ℕ) → listens (n.process r) b ≡ true → writes (n.process p) b ≡ true → Settles (kind (n.process p)) → Holds p s) → Holds r (turn p s)
   turn_placed p r s ne k g below b w =
-      let reads = L.local r (turn p s) s k (λ c l. by_test (writes (n.process p) c)
+      let reads = given_local n L before (turn p s) s r k (λ c l. by_test (writes (n.process p) c)
       (λ e. elim (settles_or_writes (kind (n.process p))) [
         | inl st ↦ turn_again p s c st (below c l e st)
         | inr u ↦ turn_other p s c (λ st. absurd (not_both (kind (n.process p)) st u))
       ])
       (λ e. turn_other p s c (λ st. e))) in
       let own = turn_other p s b (λ st. not_written n L p r b ne w) in
-      ap (λ ws. write_all (turn p s) ws b) reads ∙ write_all_at (made (n.process r) s) (turn p s) s b own ∙ g b w ∙ sym own
+      ap (λ ws. write_all (turn p s) ws b) reads ∙ write_all_at (given n before r s) (turn p s) s b own ∙ g b w ∙ sym own
 
   record Passed (order : List ℕ) (s : State) : Type 0 where
-    agree : (p : ℕ) → Settles (kind (n.process p)) → Agrees n p (settle n order s)
-    stays : (b : ℕ) → ((p : ℕ) → Settles (kind (n.process p)) → writes (n.process p) b ≡ false) → settle n order s b ≡ s b
+    agree : (p : ℕ) → Settles (kind (n.process p)) → Holds p (settle n before order s)
+    stays : (b : ℕ) → ((p : ℕ) → Settles (kind (n.process p)) → writes (n.process p) b ≡ false) → settle n before order s b ≡ s b
 
   pass : (order : List ℕ) (placed : ℕ → Type 0) (s : State)
-      → ((r : ℕ) → placed r → Settles (kind (n.process r)) → Agrees n r s)
+      → ((r : ℕ) → placed r → Settles (kind (n.process r)) → Holds r s)
       → ((r b x : ℕ) → placed r → listens (n.process r) b ≡ true → writes (n.process x) b ≡ true → Settles (kind (n.process x)) → placed x)
       → IsOrdered n placed order → Passed order s
   pass [] placed s done closed o = record { agree = λ p k. done p (o p k) k; stays = λ b h. refl }
   pass (p ∷ order) placed s done closed o =
       let rest = pass order (λ x. placed x ⊎ (x ≡ p)) (turn p s)
       (λ r h k. same_number r p
-      (λ e. subst (λ (x : ℕ). Agrees n x (turn p s)) (sym e) (turn_own p s (subst (λ (x : ℕ). Settles (kind (n.process x))) e k)))
+      (λ e. subst (λ (x : ℕ). Holds x (turn p s)) (sym e) (turn_own p s (subst (λ (x : ℕ). Settles (kind (n.process x))) e k)))
       (λ ne. elim h [ inl h ↦ turn_placed p r s ne k (done r h k) (λ b l w st. done p (closed r b p h l w st) st) | inr e ↦ absurd (ne e) ]))
       (λ x b y h l w st. elim h [ inl h ↦ inl (closed x b y h l w st) | inr f ↦ inl (o.0 b y (subst (λ (z : ℕ). listens (n.process z) b ≡ true) f l) w st) ])
       o.1 in
       record { agree = rest.agree; stays = λ b h. rest.stays b h ∙ turn_other p s b (λ k. h p k) }
 
-  one_pass : (order : List ℕ) → IsOrdered n (λ p. ⊥) order → (before : State) (slot : Slot) (s : State) → IsFed n before slot s → IsSlotEnd n before slot (settle n order s)
-  one_pass order ordered before slot s fed =
+  one_pass : (order : List ℕ) → IsOrdered n (λ p. ⊥) order → (slot : Slot) (s : State) → IsFed n before slot s → IsSlotEnd n before slot (settle n before order s)
+  one_pass order ordered slot s fed =
       let done = pass order (λ p. ⊥) s (λ r h k. absurd h) (λ r b x h l w st. absurd h) ordered in
       record {
         settled = λ p. by_kind p (kind (n.process p)) refl done;
@@ -92,12 +104,12 @@ module _ (n : Network) (L : IsLawful n) where
         kept = λ b none. done.stays b (λ r k. none r) ∙ fed.kept b none;
       }
     where
-      by_kind : (p : ℕ) (k : Kind) → kind (n.process p) ≡ k → Passed order s → write_all (settle n order s) (made (n.process p) (settle n order s)) ≡ settle n order s
-      by_kind p AnAssign e d = agrees_all n L p (settle n order s) (subst Settles (sym e) tt) (d.agree p (subst Settles (sym e) tt))
-      by_kind p AComb e d = agrees_all n L p (settle n order s) (subst Settles (sym e) tt) (d.agree p (subst Settles (sym e) tt))
-      by_kind p AnInput e d = nothing_agrees n L p (settle n order s) (nothing_made (n.process p) (settle n order s) (subst IsInput (sym e) tt))
-      by_kind p TheClock e d = nothing_agrees n L p (settle n order s) (nothing_made (n.process p) (settle n order s) (subst IsInput (sym e) tt))
-      by_kind p AClocked e d = nothing_agrees n L p (settle n order s) (L.clocked_writes p (settle n order s) e)
+      by_kind : (p : ℕ) (k : Kind) → kind (n.process p) ≡ k → Passed order s → write_all (settle n before order s) (given n before p (settle n before order s)) ≡ settle n before order s
+      by_kind p AnAssign e d = holds_all p (settle n before order s) (subst Settles (sym e) tt) (d.agree p (subst Settles (sym e) tt))
+      by_kind p AComb e d = holds_all p (settle n before order s) (subst Settles (sym e) tt) (d.agree p (subst Settles (sym e) tt))
+      by_kind p AnInput e d = nothing p (settle n before order s) (λ x. cc) (nothing_made (n.process p) (settle n before order s) (subst IsInput (sym e) tt))
+      by_kind p TheClock e d = nothing p (settle n before order s) (λ x. cc) (nothing_made (n.process p) (settle n before order s) (subst IsInput (sym e) tt))
+      by_kind p AClocked e d = nothing p (settle n before order s) (λ x. cc) (L.clocked_writes p (settle n before order s) e)
 
 pub one_pass_settles : OnePassSettles
-one_pass_settles n L order ordered before slot s fed = one_pass n L order ordered before slot s fed
+one_pass_settles n L order ordered before slot s fed = one_pass n L before order ordered slot s fed

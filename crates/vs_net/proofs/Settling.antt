@@ -1,47 +1,98 @@
 -- A slot while it settles, with all of its updates under way.
-use Rattle.std.proofs.Common.{◌≡◌, ◌≢◌, ℕ, Bool, true, false, List, [], ◌∷◌, ◌++◌, inl, inr, refl, sym, ap, ◌∙◌, subst, Option, Some, None, IsSome, append-nil}
-use Rattle.std.proofs.lemmas.Bool.{both_ways}
-use Rattle.vs_net.specs.Network.{State, Update, put, write_all, is_written, flatten, Network, Kind, AnInput, TheClock, AnAssign, AComb, AClocked, kind, writes, listens, clock_net}
-use Rattle.vs_net.specs.Queue.{Unstarted, Waiting, Due, Queue, changes, Choice, Start, Evaluate, Apply, Run, Take, Activate, Next, after, IsBlock, evaluated, applied, ran, took}
+use Rattle.std.proofs.Common.{◌≡◌, ◌≢◌, ℕ, Bool, true, false, List, [], ◌∷◌, ◌++◌, ◌⊎◌, inl, inr, refl, sym, ap, ◌∙◌, subst, Option, Some, None, IsSome, append-nil, ◌+◌, ◌≤◌, ◌==◌, ◌||◌, eq-eqb, eqb-true, arith}
+use Rattle.std.proofs.lemmas.Bool.{both_ways, cond-true}
+use Rattle.vs_net.specs.Network.{Sleeper, Reset, reset_of, is_edge, to_value, State, Write, Update, put, write_all, is_written, flatten, Network, Kind, AnInput, TheClock, AnAssign, AComb, AClocked, kind, writes, listens, clock_net, updates}
+use Rattle.vs_net.specs.Queue.{Mode, Unstarted, Waiting, Due, Slot, Queue, woken, change, changes, Choice, Start, Evaluate, Apply, Run, Take, Activate, Next, after, IsBlock, evaluated, applied, ran, took}
 use Rattle.vs_net.proofs.Quiet.{IsQuiet, IsStep}
-use Rattle.vs_net.specs.Lawful.{IsLawful, Settles}
-use Rattle.vs_net.proofs.Basics.{by_test, same_number}
-use Rattle.vs_net.proofs.Waking.{Woke, stays, wakes, changes_all}
+use Rattle.vs_four.specs.declared.Bit4.{Bit4}
+use Rattle.vs_four.specs.declared.Bit4.TheVariants.{X}
+use Rattle.vs_net.specs.Solution.{driven}
+use Rattle.vs_net.specs.Lawful.{IsLawful, Settles, times}
+use Rattle.vs_net.proofs.Basics.{by_test, same_number, put-same, put-other, write_all_at, write_all_other}
+use Rattle.vs_net.proofs.Waking.{Woke, stays, wakes, Changed, change_one, changed_not, changes_all, fires_reset}
 pub use Rattle.vs_net.proofs.Parts.{IsInput}
-use Rattle.vs_net.proofs.Parts.{Acts, Own, Agrees, AssignOk, is_due, is_pending, is_settled, Phase, AssignPart, WriterPart, InputPart, agrees_other, assign_other, writer_other, input_other}
-use Rattle.vs_net.proofs.Steps.{NetsIn, Calm, Did, did_calm, did_off_nets, off_nets, evaluated_self, evaluated_did, applied_is, applied_self, applied_did, took_is, took_acts, took_writer, took_input, took_clock_did, own_u, ran_did, ran_mode, ran_agrees, ran_waiting, ran_active, ran_pending}
+use Rattle.vs_net.proofs.Parts.{Acts, acts_on, acts_mode, acts_waiting, Own, Agrees, AssignOk, is_due, is_pending, is_settled, Phase, AssignPart, WriterPart, InputPart, agrees_other, assign_other, writer_other, input_other, not_written, coming_same}
+use Rattle.vs_net.proofs.Asleep.{AsleepAt, times-append, written_times, unwritten_times}
+use Rattle.vs_net.proofs.Nets.{Family, nets, clock_family, clock_bit, off_nets, input_net, clock_net_family, reset_net_family}
+use Rattle.vs_net.proofs.Steps.{NetsIn, Calm, CalmEdge, Apart, Did, did_reset, edge_calm, edge_fresh, did_nothing, did_off_nets, evaluated_self, evaluated_did, applied_is, applied_self, applied_did, took_is, took_acts, took_flat, coming_took, took_writer, took_input, took_net_did, own_u, ran_did, ran_mode, ran_agrees, ran_waiting, ran_active, ran_pending}
 
 -- what is so of a process, by its kind
-pub data Each (n : Network) (nets : ℕ → Bool) (ph : Phase) (comb clocked : Queue → ℕ → Type 0) (q : Queue) (p : ℕ) : Type 0 where
+pub data Each (n : Network) (nets : ℕ → Option Family) (ph : Phase) (comb clocked : Queue → ℕ → Type 0) (q : Queue) (p : ℕ) : Type 0 where
   an_assign : kind (n.process p) ≡ AnAssign → AssignPart n nets ph q p → Each n nets ph comb clocked q p
-  an_input : IsInput (kind (n.process p)) → InputPart n ph q p → Each n nets ph comb clocked q p
+  an_input : IsInput (kind (n.process p)) → InputPart n nets ph q p → Each n nets ph comb clocked q p
   a_comb : kind (n.process p) ≡ AComb → comb q p → Each n nets ph comb clocked q p
   a_clocked : kind (n.process p) ≡ AClocked → clocked q p → Each n nets ph comb clocked q p
 
 -- what is so of the queue in a phase
 pub record Holds (n : Network) (L : IsLawful n) (ph : Phase) (comb clocked : Queue → ℕ → Type 0) (q : Queue) : Type 0 where
-  pub each : (p : ℕ) → Each n L.clock_nets ph comb clocked q p
+  pub each : (p : ℕ) → Each n (nets n L) ph comb clocked q p
   pub kept : (b : ℕ) → ((p : ℕ) → writes (n.process p) b ≡ false) → q.now b ≡ ph.before b
-  pub nets : NetsIn L.clock_nets ph q
+  pub nets : NetsIn (nets n L) ph q
 
--- a combinational block is due, or agrees, or still sleeps
-pub data CombOk (n : Network) (base : State) (sleeps : ℕ → Type 0) (q : Queue) (p : ℕ) : Type 0 where
-  comb_due : q.mode p ≡ Due → CombOk n base sleeps q p
-  comb_agrees : q.mode p ≡ Waiting → Agrees n p q.now → CombOk n base sleeps q p
-  comb_sleeps : q.mode p ≡ Waiting → sleeps p → ((b : ℕ) → listens (n.process p) b ≡ true → q.now b ≡ base b) → CombOk n base sleeps q p
+-- why a block that runs in the slot isn't taken to sleep at its end: it can't, or agreed at the slot's beginning, or a bit that it waits on gets a value
+pub data Roused (n : Network) (slot : Slot) (before : State) (p : ℕ) : Type 0 where
+  sleepless : n.sleeper p ≡ None → Roused n slot before p
+  agreed : Agrees n p before → Roused n slot before p
+  roused : (b r : ℕ) → listens (n.process p) b ≡ true → writes (n.process r) b ≡ true → kind (n.process r) ≡ AClocked → driven (n.process r) slot before b ≢ X → Roused n slot before p
+
+-- a combinational block is due, or agrees, or waits for slot 0 to wake it, or sleeps
+pub data CombOk (n : Network) (slot : Slot) (before base : State) (sleeps : ℕ → Type 0) (q : Queue) (p : ℕ) : Type 0 where
+  comb_due : q.mode p ≡ Due → Roused n slot before p → CombOk n slot before base sleeps q p
+  comb_agrees : q.mode p ≡ Waiting → Agrees n p q.now → Roused n slot before p → CombOk n slot before base sleeps q p
+  comb_sleeps : q.mode p ≡ Waiting → sleeps p → n.sleeper p ≡ None → ((b : ℕ) → listens (n.process p) b ≡ true → q.now b ≡ base b) → CombOk n slot before base sleeps q p
+  comb_asleep : q.mode p ≡ Waiting → (x : Sleeper) → n.sleeper p ≡ Some x → AsleepAt n before p → AsleepAt n q.now p → CombOk n slot before base sleeps q p
+
+-- the block is roused where it wakes while it sleeps
+abbrev pub Rouses : Network → Slot → State → Queue → Queue → ℕ → Type 0
+Rouses n slot before q q' p = (x : Sleeper) → n.sleeper p ≡ Some x → ((b : ℕ) → listens (n.process p) b ≡ true → q.now b ≡ X) → q.mode p ≡ Waiting → q'.mode p ≡ Due → Roused n slot before p
+
+-- each bit that a sleeping block may wait on is written once at most
+abbrev pub Once : Network → List Write → Type 0
+Once n ws = (p b : ℕ) (x : Sleeper) → n.sleeper p ≡ Some x → listens (n.process p) b ≡ true → times ws b ≤ 1
 
 pub record CombRest (q : Queue) (p : ℕ) : Type 0 where
   pub pending : q.pending p ≡ None
   pub active : q.active p ≡ []
   pub waiting : q.waiting p ≡ []
 
-pub record CombPart (n : Network) (base : State) (sleeps : ℕ → Type 0) (q : Queue) (p : ℕ) : Type 0 where
-  pub ok : CombOk n base sleeps q p
+pub record CombPart (n : Network) (slot : Slot) (before base : State) (sleeps : ℕ → Type 0) (q : Queue) (p : ℕ) : Type 0 where
+  pub ok : CombOk n slot before base sleeps q p
   pub rest : CombRest q p
 
-pub record ClockedPart (n : Network) (ph : Phase) (q : Queue) (p : ℕ) : Type 0 where
-  pub mode : q.mode p ≡ Waiting
-  pub writer : WriterPart n ph q p
+-- the change of a reset net in this slot is past, or isn't the edge of the reset
+abbrev pub Past : Phase → Queue → Reset → Type 0
+Past ph q e = (q.now e.net ≡ ph.fresh (Some e.input)) ⊎ CalmEdge ph (Some e.input) e.edge
+
+-- the change of the reset net is the edge, and so the block is reset in this slot
+pub record Fires (n : Network) (ph : Phase) (p : ℕ) (e : Reset) : Type 0 where
+  pub is_reset : reset_of (n.process p) ≡ Some e
+  pub to_active : ph.fresh (Some e.input) ≡ to_value e.edge
+  pub seen : (a : Bit4) → ph.old (Some e.input) a ≡ true → is_edge e.edge a (ph.fresh (Some e.input)) ≡ true
+  pub unseen : (a b : Bit4) → ph.old (Some e.input) a ≡ true → ph.old (Some e.input) b ≡ true → is_edge e.edge a b ≡ false
+  pub value : (b : ℕ) → driven (n.process p) ph.slot ph.before b ≡ write_all ph.before (flatten e.updates) b
+
+-- the block hasn't run in this slot
+pub record Unrun (n : Network) (ph : Phase) (q : Queue) (p : ℕ) : Type 0 where
+  pub pending : q.pending p ≡ None
+  pub active : q.active p ≡ []
+  pub waiting : q.waiting p ≡ []
+  pub bits : (b : ℕ) → writes (n.process p) b ≡ true → q.now b ≡ ph.before b
+
+-- a clocked block has nothing to run any more, or is to be reset, or is due by its reset
+pub data ClockedPart (n : Network) (ph : Phase) (q : Queue) (p : ℕ) : Type 0 where
+  clocked_rests : q.mode p ≡ Waiting → WriterPart n ph q p → Once n (flatten (q.active p ++ q.waiting p)) → ((e : Reset) → reset_of (n.process p) ≡ Some e → Past ph q e) → ClockedPart n ph q p
+  clocked_fires : (e : Reset) → Fires n ph p e → q.mode p ≡ Waiting → ph.old (Some e.input) (q.now e.net) ≡ true → Unrun n ph q p → ClockedPart n ph q p
+  clocked_due : (e : Reset) → Fires n ph p e → (a : Bit4) → ph.old (Some e.input) a ≡ true → q.mode p ≡ Due → q.now e.net ≡ ph.fresh (Some e.input) → Unrun n ph q p → ClockedPart n ph q p
+
+pub once_none : (n : Network) (us : List Update) → us ≡ [] → Once n (flatten us)
+unfolding times flatten
+once_none n us e p b x h l = subst (λ (vs : List Update). times (flatten vs) b ≤ 1) (sym e) (omega arith)
+
+-- what a settling phase is to keep
+pub record Good (ph : Phase) : Type 0 where
+  pub calm : Calm ph
+  pub apart : Apart ph
+  pub aims : (f : Family) → ph.goal f ≡ ph.fresh f
 
 pub some_is : {A : Type 0} (o : Option A) → IsSome o → (x : A) × (o ≡ Some x)
 some_is None h = cc
@@ -62,42 +113,133 @@ module _ (n : Network) (L : IsLawful n) (ph : Phase) where
   settles_comb : (r : ℕ) → kind (n.process r) ≡ AComb → Settles (kind (n.process r))
   settles_comb r k = subst Settles (sym k) tt
 
-  pub comb_ok_other : (base : State) (sleeps : ℕ → Type 0) (p r : ℕ) (q q' : Queue) → kind (n.process r) ≡ AComb → r ≢ p → Acts n p q q' → Woke n q q' r → CombOk n base sleeps q r → CombOk n base sleeps q' r
-  comb_ok_other base sleeps p r q q' k ne a (wakes m d) ok = comb_due d
-  comb_ok_other base sleeps p r q q' k ne a (stays e same) (comb_due d) = comb_due (e ∙ d)
-  comb_ok_other base sleeps p r q q' k ne a (stays e same) (comb_agrees m g) = comb_agrees (e ∙ m) (agrees_other n L p r q q' (settles_comb r k) ne a (same m) g)
-  comb_ok_other base sleeps p r q q' k ne a (stays e same) (comb_sleeps m s g) = comb_sleeps (e ∙ m) s (λ b l. same m b l ∙ g b l)
+  pub comb_ok_other : (base : State) (sleeps : ℕ → Type 0) (p r : ℕ) (q q' : Queue) → kind (n.process r) ≡ AComb → r ≢ p → Acts n p q q' → Rouses n ph.slot ph.before q q' r → Woke n q q' r → CombOk n ph.slot ph.before base sleeps q r → CombOk n ph.slot ph.before base sleeps q' r
+  comb_ok_other base sleeps p r q q' k ne a rouse (wakes m d) ok = comb_due d (why ok)
+    where
+      why : CombOk n ph.slot ph.before base sleeps q r → Roused n ph.slot ph.before r
+      why (comb_due x y) = y
+      why (comb_agrees x g y) = y
+      why (comb_sleeps x s none g) = sleepless none
+      why (comb_asleep x y e f g) = rouse y e g.listened m d
+  comb_ok_other base sleeps p r q q' k ne a rouse (stays e same) (comb_due d y) = comb_due (e ∙ d) y
+  comb_ok_other base sleeps p r q q' k ne a rouse (stays e same) (comb_agrees m g y) = comb_agrees (e ∙ m) (agrees_other n L p r q q' (settles_comb r k) ne a (same m) g) y
+  comb_ok_other base sleeps p r q q' k ne a rouse (stays e same) (comb_sleeps m s none g) = comb_sleeps (e ∙ m) s none (λ b l. same m b l ∙ g b l)
+  comb_ok_other base sleeps p r q q' k ne a rouse (stays e same) (comb_asleep m x y f g) = comb_asleep (e ∙ m) x y f (record { listened = λ b l. same m b l ∙ g.listened b l; bits = λ b w. a.now b (not_written n L p r b ne w) ∙ g.bits b w })
 
-  each_other : (comb clocked : Queue → ℕ → Type 0) (p r : ℕ) (q q' : Queue) → r ≢ p → Did n L ph p q q' → (kind (n.process r) ≡ AComb → comb q r → comb q' r) → (kind (n.process r) ≡ AClocked → clocked q r → clocked q' r) → Each n L.clock_nets ph comb clocked q r → Each n L.clock_nets ph comb clocked q' r
+  -- a step by a process that is no clocked block rouses none
+  pub rouses_none : (p r : ℕ) (q q' : Queue) → r ≢ p → Acts n p q q' → kind (n.process p) ≢ AClocked → Rouses n ph.slot ph.before q q' r
+  rouses_none p r q q' ne a k x e h m d =
+      let i = L.sleepers r x e in
+      absurd (let same = a.deaf r ne (λ z. let c = i.comb in cc) (λ b l. by_test (writes (n.process p) b) (λ w. absurd (k (i.register b p l w))) (λ z. z)) in cc)
+
+  -- nor one that leaves the modes of all others
+  pub rouses_still : (p r : ℕ) (q q' : Queue) → q'.mode r ≡ q.mode r → Rouses n ph.slot ph.before q q' r
+  rouses_still p r q q' same x e h m d = absurd cc
+
+  each_other : (comb clocked : Queue → ℕ → Type 0) (p r : ℕ) (q q' : Queue) → r ≢ p → Did n L ph p q q' → (kind (n.process r) ≡ AComb → comb q r → comb q' r) → (kind (n.process r) ≡ AClocked → clocked q r → clocked q' r) → Each n (nets n L) ph comb clocked q r → Each n (nets n L) ph comb clocked q' r
   each_other comb clocked p r q q' ne did f g (an_assign k part) = an_assign k (assign_other n L ph p r q q' k ne did.acts did.steady part)
   each_other comb clocked p r q q' ne did f g (an_input k part) = an_input k (input_other n L ph p r q q' k ne did.acts part)
   each_other comb clocked p r q q' ne did f g (a_comb k part) = a_comb k (f k part)
   each_other comb clocked p r q q' ne did f g (a_clocked k part) = a_clocked k (g k part)
 
-  pub holds_on : (comb clocked : Queue → ℕ → Type 0) (p : ℕ) (q q' : Queue) → Did n L ph p q q' → ((r : ℕ) → r ≢ p → kind (n.process r) ≡ AComb → comb q r → comb q' r) → ((r : ℕ) → r ≢ p → kind (n.process r) ≡ AClocked → clocked q r → clocked q' r) → Each n L.clock_nets ph comb clocked q' p → Holds n L ph comb clocked q → Holds n L ph comb clocked q'
+  pub holds_on : (comb clocked : Queue → ℕ → Type 0) (p : ℕ) (q q' : Queue) → Did n L ph p q q' → ((r : ℕ) → r ≢ p → kind (n.process r) ≡ AComb → comb q r → comb q' r) → ((r : ℕ) → r ≢ p → kind (n.process r) ≡ AClocked → clocked q r → clocked q' r) → Each n (nets n L) ph comb clocked q' p → Holds n L ph comb clocked q → Holds n L ph comb clocked q'
   holds_on comb clocked p q q' did f g self h =
       record {
         each = λ r. same_number r p
-            (λ e. subst (λ (x : ℕ). Each n L.clock_nets ph comb clocked q' x) (sym e) self)
+            (λ e. subst (λ (x : ℕ). Each n (nets n L) ph comb clocked q' x) (sym e) self)
             (λ ne. each_other comb clocked p r q q' ne did (f r ne) (g r ne) (h.each r));
         kept = λ b no. did.acts.now b (no p) ∙ h.kept b no;
         nets = did.nets;
       }
 
-  pub input_take_did : (q : Queue) (p : ℕ) (u : Update) (us : List Update) (active : q.active p ≡ u ∷ us) → InputPart n ph q p → (nets : NetsIn L.clock_nets ph q) (apart : ph.old ph.fresh ≡ false) (x : Kind) → kind (n.process p) ≡ x → IsInput x → Did n L ph p q (changes n (record q { active = put q.active p us }) u)
-  input_take_did q p u us active part nets apart TheClock e i = took_clock_did n L ph p q u us active nets apart part e
-  input_take_did q p u us active part nets apart AnInput e i = did_off_nets n L ph p q _ (took_acts n L ph p q u us active nets apart part.writer) (off_nets n L ph p (λ k. cc) (λ k. cc)) nets
-  input_take_did q p u us active part nets apart AnAssign e i = absurd i
-  input_take_did q p u us active part nets apart AComb e i = absurd i
-  input_take_did q p u us active part nets apart AClocked e i = absurd i
+  pub input_take_did : (q : Queue) (p : ℕ) (u : Update) (us : List Update) (active : q.active p ≡ u ∷ us) → InputPart n (nets n L) ph q p → (nets_in : NetsIn (nets n L) ph q) (apart : Apart ph) → ((f : Family) → ph.goal f ≡ ph.fresh f) → (x : Kind) → kind (n.process p) ≡ x → IsInput x → Did n L ph p q (changes n (record q { active = put q.active p us }) u)
+  input_take_did q p u us active part nets_in apart aims TheClock e i =
+      let c = clock_bit (n.process p) e in
+      took_net_did n L ph p q u us active nets_in apart part c.0 None (aims None) (clock_family n L c.0 (L.clock_bit_is p c.0 e c.1)) c.1
+  input_take_did q p u us active part nets_in apart aims AnInput e i = elim (input_net n L p e) [
+    | inl h ↦ took_net_did n L ph p q u us active nets_in apart part h.0 (Some h.0) (aims (Some h.0)) h.1 h.2
+    | inr off ↦ did_off_nets n L ph p q _ (took_acts n L ph p q u us active nets_in apart part.writer) off nets_in
+  ]
+  input_take_did q p u us active part nets_in apart aims AnAssign e i = absurd i
+  input_take_did q p u us active part nets_in apart aims AComb e i = absurd i
+  input_take_did q p u us active part nets_in apart aims AClocked e i = absurd i
 
-  -- a clocked block's own update is to no clock net
-  pub took_waiting : (q : Queue) (p : ℕ) (u : Update) (us : List Update) (active : q.active p ≡ u ∷ us) → kind (n.process p) ≡ AClocked → Own n p u → (changes n (record q { active = put q.active p us }) u).mode p ≡ q.mode p
-  took_waiting q p u us active k own =
-      (changes_all n u (record q { active = put q.active p us })).calm p k
-      (by_test (is_written u (clock_net (n.process p)))
-      (λ e. absurd (both_ways (writes (n.process p) (clock_net (n.process p))) (off_nets n L ph p (λ x. cc) (λ x. cc) (clock_net (n.process p)) (L.clock_net_is p k)) (own (clock_net (n.process p)) e)))
-      (λ e. e))
+  -- a clocked block writes no net of a family
+  pub clocked_off : (p : ℕ) → kind (n.process p) ≡ AClocked → (b : ℕ) (f : Family) → nets n L b ≡ Some f → writes (n.process p) b ≡ false
+  clocked_off p k = off_nets n L p (λ x. cc) (λ i. subst IsInput k i)
+
+  pub took_waiting : (q : Queue) (p : ℕ) (u : Update) (us : List Update) → kind (n.process p) ≡ AClocked → Own n p u → (changes n (record q { active = put q.active p us }) u).mode p ≡ q.mode p
+  took_waiting q p u us k own =
+      (changes_all n u (record q { active = put q.active p us })).calm p k (record {
+        clock = unwritten (clock_net (n.process p)) None (clock_net_family n L p k);
+        reset = λ e o. unwritten e.net (Some e.input) (reset_net_family n L p e o);
+      })
+    where
+      unwritten : (b : ℕ) (f : Family) → nets n L b ≡ Some f → is_written u b ≡ false
+      unwritten b f net = by_test (is_written u b) (λ h. absurd (both_ways (writes (n.process p) b) (clocked_off p k b f net) (own b h))) (λ h. h)
+
+  -- another process acts
+  unrun_other : (p r : ℕ) (q q' : Queue) → r ≢ p → Acts n p q q' → Unrun n ph q r → Unrun n ph q' r
+  unrun_other p r q q' ne a u = record {
+    pending = a.pending r ne ∙ u.pending;
+    active = a.active r ne ∙ u.active;
+    waiting = a.waiting r ne ∙ u.waiting;
+    bits = λ b w. a.now b (not_written n L p r b ne w) ∙ u.bits b w;
+  }
+
+  woken_mode : {m m' : Mode} {t t' : Bool} → m' ≡ woken m t → {x : Mode} → m ≡ x → t ≡ t' → m' ≡ woken x t'
+  woken_mode {m} {m'} {t} {t'} h {x} e f = h ∙ ap (λ (y : Mode). woken y t) e ∙ ap (λ (y : Bool). woken x y) f
+
+  clocked_other : Calm ph → (p r : ℕ) (q q' : Queue) → kind (n.process r) ≡ AClocked → r ≢ p → NetsIn (nets n L) ph q → Did n L ph p q q' → ClockedPart n ph q r → ClockedPart n ph q' r
+  clocked_other calm p r q q' k ne nets_in did (clocked_rests m w once past) =
+      clocked_rests (woken_mode (did_reset n L ph calm p q q' nets_in did r ne k) m (silent (reset_of (n.process r)) refl)) (writer_other n L ph p r q q' ne did.acts w) (λ x b y e l. subst (λ (us : List Update). times (flatten us) b ≤ 1) (sym (coming_same n L p r q q' ne did.acts)) (once x b y e l))
+      (λ e o. elim (past e o) [ inl f ↦ inl (did.steady e.net (Some e.input) (reset_net_family n L r e o) f) | inr c ↦ inr c ])
+    where
+      silent : (o : Option Reset) → reset_of (n.process r) ≡ o → fires_reset o q.now q'.now ≡ false
+      silent None o = refl
+      silent (Some e) o = elim (past e o) [
+        | inl f ↦ edge_fresh n L ph (Some e.input) e.edge p q q' did e.net (reset_net_family n L r e o) f
+        | inr c ↦ edge_calm n L ph (Some e.input) e.edge c p q q' nets_in did e.net (reset_net_family n L r e o)
+      ]
+  clocked_other calm p r q q' k ne nets_in did (clocked_fires e f m o u) =
+      let h = did_reset n L ph calm p q q' nets_in did r ne k ∙ ap (λ (x : Option Reset). woken (q.mode r) (fires_reset x q.now q'.now)) f.is_reset in
+      elim (did.nets e.net (Some e.input) (reset_net_family n L r e f.is_reset)) [
+        | inl fr ↦ clocked_due e f (q.now e.net) o (woken_mode h m (ap (is_edge e.edge (q.now e.net)) fr ∙ f.seen (q.now e.net) o)) fr (unrun_other p r q q' ne did.acts u)
+        | inr o' ↦ clocked_fires e f (woken_mode h m (f.unseen (q.now e.net) (q'.now e.net) o o')) o' (unrun_other p r q q' ne did.acts u)
+      ]
+  clocked_other calm p r q q' k ne nets_in did (clocked_due e f a o d fr u) =
+      clocked_due e f a o (woken_mode (did_reset n L ph calm p q q' nets_in did r ne k) d refl) (did.steady e.net (Some e.input) (reset_net_family n L r e f.is_reset) fr) (unrun_other p r q q' ne did.acts u)
+
+  -- a block that is due by its reset runs
+  module _ (q : Queue) (p : ℕ) (k : kind (n.process p) ≡ AClocked) (nets_in : NetsIn (nets n L) ph q) where
+    abbrev pub q_reset : Queue
+    q_reset = record q { mode = put q.mode p Waiting; waiting = put q.waiting p (q.waiting p ++ updates (n.process p) q.now) }
+
+    pub reset_is : ran n q p ≡ q_reset
+    unfolding changes
+    reset_is = ap (λ (x : List Write). record (changes n q x) { mode = put (changes n q x).mode p Waiting; waiting = put (changes n q x).waiting p ((changes n q x).waiting p ++ updates (n.process p) q.now) }) (L.clocked_writes p q.now k)
+
+    pub reset_did : Did n L ph p q q_reset
+    reset_did = did_nothing n L ph p q q_reset
+        (acts_on n p q (record q { mode = put q.mode p Waiting }) q_reset (acts_mode n p q Waiting) (acts_waiting n p (record q { mode = put q.mode p Waiting }) (q.waiting p ++ updates (n.process p) q.now)))
+        (λ b. refl) (λ r ne. put-other q.mode p Waiting r ne) nets_in
+
+    reset_runs : (e : Reset) → Fires n ph p e → q.now e.net ≡ ph.fresh (Some e.input) → Unrun n ph q p → ClockedPart n ph q_reset p
+    reset_runs e f fr u = clocked_rests (put-same q.mode p Waiting) (record {
+      pending = u.pending;
+      own = λ b h. L.clocked_own p b q.now k (subst (λ (x : List Update). is_written (flatten x) b ≡ true) (comes ∙ sym gives) h);
+      coming = λ b w. ap (λ x. write_all q.now (flatten x) b) comes ∙ write_all_at (flatten e.updates) q.now ph.before b (u.bits b w) ∙ sym (f.value b);
+    }) (λ x b y z l. subst (λ (us : List Update). times (flatten us) b ≤ 1) (sym (comes ∙ sym gives)) ((L.sleepers x y z).once b p q.now l k)) (λ e' o. let same : e ≡ e' = (let z = f.is_reset in cc) in inl (subst (λ (x : Reset). q.now x.net ≡ ph.fresh (Some x.input)) same fr))
+      where
+        gives : updates (n.process p) q.now ≡ e.updates
+        gives = L.reset_run p e q.now f.is_reset (fr ∙ f.to_active)
+
+        comes : q_reset.active p ++ q_reset.waiting p ≡ e.updates
+        comes =
+            ap (λ (x : List Update). x ++ q_reset.waiting p) u.active
+            ∙ put-same q.waiting p (q.waiting p ++ updates (n.process p) q.now)
+            ∙ ap (λ (x : List Update). x ++ updates (n.process p) q.now) u.waiting
+            ∙ gives
 
   module _ (q : Queue) (quiet : IsQuiet q) where
     none_first : (p : ℕ) → q.active p ++ q.waiting p ≡ q.waiting p
@@ -114,15 +256,15 @@ module _ (n : Network) (L : IsLawful n) (ph : Phase) where
           coming = λ b w. ap (λ x. write_all q.now (flatten x) b) (coming_activated p) ∙ part.coming b w;
         }
 
-    pub activated_input : (p : ℕ) → InputPart n ph q p → InputPart n ph (activated q) p
+    pub activated_input : (p : ℕ) → InputPart n (nets n L) ph q p → InputPart n (nets n L) ph (activated q) p
     activated_input p part =
         record {
           mode = part.mode;
           writer = activated_writer p part.writer;
-          clock = λ k. elim (part.clock k) [ inl e ↦ inl (coming_activated p ∙ e) | inr e ↦ inr (e.0, coming_activated p ∙ e.1) ];
+          net = λ b f h w. elim (part.net b f h w) [ inl e ↦ inl (coming_activated p ∙ e) | inr e ↦ inr (coming_activated p ∙ e) ];
         }
 
-    pub activated_assign : (p : ℕ) → AssignPart n L.clock_nets ph q p → AssignPart n L.clock_nets ph (activated q) p
+    pub activated_assign : (p : ℕ) → AssignPart n (nets n L) ph q p → AssignPart n (nets n L) ph (activated q) p
     activated_assign p part = record { ok = assign_again part.ok; own = part.own; active = part.waiting; waiting = refl; port = λ c. record { values = (part.port c).values; later = (part.port c).later } }
       where
         assign_again : AssignOk n q p → AssignOk n (activated q) p
@@ -130,43 +272,118 @@ module _ (n : Network) (L : IsLawful n) (ph : Phase) where
         assign_again (is_pending m h) = is_pending m h
         assign_again (is_settled m h g) = is_settled m h g
 
+  -- a register's update rouses a sleeping block by a bit that it gives a value
+  pub changes_rouse : (ws : List Write) (q : Queue) (r : ℕ) (x : Sleeper) → n.sleeper r ≡ Some x → ((b : ℕ) → listens (n.process r) b ≡ true → q.now b ≡ X) → ((b : ℕ) → listens (n.process r) b ≡ true → times ws b ≤ 1) → q.mode r ≡ Waiting → (changes n q ws).mode r ≡ Due
+      → (b : ℕ) × (listens (n.process r) b ≡ true) × (is_written ws b ≡ true) × ((changes n q ws).now b ≢ X)
+  unfolding changes is_written times
+  changes_rouse [] q r x e h few m d = absurd cc
+  changes_rouse (w ∷ ws) q r x e h few m d = by_mode (λ h' k. changes_rouse ws (change n q w) r x e h' few_later k d) ((change n q w).mode r) refl
+    where
+      one : Changed n q (change n q w) (w ∷ [])
+      one = change_one n q w
+
+      rest : Changed n (change n q w) (changes n (change n q w) ws) ws
+      rest = changes_all n ws (change n q w)
+
+      few_later : (b : ℕ) → listens (n.process r) b ≡ true → times ws b ≤ 1
+      few_later b l = let a = few b l in omega arith
+
+      by_mode : (((b : ℕ) → listens (n.process r) b ≡ true → (change n q w).now b ≡ X) → (change n q w).mode r ≡ Waiting → (b : ℕ) × (listens (n.process r) b ≡ true) × (is_written ws b ≡ true) × ((changes n (change n q w) ws).now b ≢ X)) → (k : Mode) → (change n q w).mode r ≡ k → (b : ℕ) × (listens (n.process r) b ≡ true) × (is_written (w ∷ ws) b ≡ true) × ((changes n (change n q w) ws).now b ≢ X)
+      by_mode go Waiting k =
+          let later = go (λ b l. still b l k) k in
+          (later.0, later.1, any (later.0 == w.bit) later.2, later.3)
+        where
+          any : (t : Bool) → {u : Bool} → u ≡ true → (t || u) ≡ true
+          any true g = refl
+          any false g = g
+
+          still : (b : ℕ) → listens (n.process r) b ≡ true → (change n q w).mode r ≡ Waiting → (change n q w).now b ≡ X
+          still b l k = elim (one.mode r) [ stays z same ↦ same m b l ∙ h b l | wakes z due ↦ absurd cc ]
+      by_mode go Unstarted k = absurd (elim (one.mode r) [ stays z same ↦ (let y = sym k ∙ z ∙ m in cc) | wakes z due ↦ (let y = sym k ∙ due in cc) ])
+      by_mode go Due k =
+          let l = by_test (listens (n.process r) w.bit) (λ l. l) (λ l. absurd (deaf l)) in
+          let unwritten = unwritten_times ws w.bit (let a = few w.bit l in let c = cond-true {A = ℕ} (w.bit == w.bit) 1 0 (eq-eqb w.bit w.bit refl) in omega arith) in
+          (w.bit, l, ap (λ t. t || is_written ws w.bit) (eq-eqb w.bit w.bit refl), λ z. moved l (sym (write_all_other ws (change n q w).now w.bit unwritten) ∙ sym (rest.now w.bit) ∙ z))
+        where
+          deaf : listens (n.process r) w.bit ≡ false → ⊥
+          deaf l = let z = one.deaf r (λ y. let c = (L.sleepers r x e).comb in cc) (λ b lb. by_test (b == w.bit) (λ t. absurd (both_ways (listens (n.process r) b) (subst (λ (y : ℕ). listens (n.process r) y ≡ false) (sym (eqb-true b w.bit t)) l) lb)) (λ t. ap (λ u. u || false) t)) in let y = sym k ∙ z ∙ m in cc
+
+          -- a write that leaves x wakes none
+          moved : listens (n.process r) w.bit ≡ true → (change n q w).now w.bit ≡ X → ⊥
+          moved l z = let y = changed_not n q w r (h w.bit l ∙ sym z) in let u = sym k ∙ y ∙ m in cc
+
+  module _ (q : Queue) (p : ℕ) (u : Update) (us : List Update) (active : q.active p ≡ u ∷ us) (nets_in : NetsIn (nets n L) ph q) (apart : Apart ph) (w : WriterPart n ph q p) (once : Once n (flatten (q.active p ++ q.waiting p))) where
+    abbrev q_fewer : Queue
+    q_fewer = record q { active = put q.active p us }
+
+    split_times : (b : ℕ) → times (flatten (q.active p ++ q.waiting p)) b ≡ times u b + times (flatten (us ++ q.waiting p)) b
+    split_times b = ap (λ ws. times ws b) (took_flat n L ph p q u us active nets_in apart w) ∙ times-append u (flatten (us ++ q.waiting p)) b
+
+    pub took_once : Once n (flatten ((changes n q_fewer u).active p ++ (changes n q_fewer u).waiting p))
+    took_once x b y e l = subst (λ (vs : List Update). times (flatten vs) b ≤ 1) (sym (coming_took n L ph p q u us active nets_in apart)) (let a = split_times b in let c = once x b y e l in omega arith)
+
+    took_rouses' : kind (n.process p) ≡ AClocked → (r : ℕ) → Rouses n ph.slot ph.before q (changes n q_fewer u) r
+    took_rouses' k r x e h m d =
+        let found = changes_rouse u q_fewer r x e h (λ b l. let a = split_times b in let c = once r b x e l in omega arith) m d in
+        let b = found.0 in
+        let own = own_u n L ph p q u us active nets_in apart w b found.2 in
+        let left : is_written (flatten (us ++ q.waiting p)) b ≡ false = unwritten_times (flatten (us ++ q.waiting p)) b (let a = split_times b in let c = once r b x e found.1 in let g = written_times u b found.2 in omega arith) in
+        let after = took_writer n L ph p q u us active nets_in apart w in
+        let as_driven : (changes n q_fewer u).now b ≡ driven (n.process p) ph.slot ph.before b =
+        (sym (write_all_other (flatten (us ++ q.waiting p)) (changes n q_fewer u).now b left) ∙ ap (λ vs. write_all (changes n q_fewer u).now (flatten vs) b) (sym (coming_took n L ph p q u us active nets_in apart)) ∙ after.coming b own) in
+        roused b p found.1 own k (λ z. found.3 (as_driven ∙ z))
+
+  took_rouses : (q : Queue) (p : ℕ) (u : Update) (us : List Update) (active : q.active p ≡ u ∷ us) → kind (n.process p) ≡ AClocked → (nets_in : NetsIn (nets n L) ph q) (apart : Apart ph) (w : WriterPart n ph q p) (once : Once n (flatten (q.active p ++ q.waiting p))) → (r : ℕ) → Rouses n ph.slot ph.before q (changes n (record q { active = put q.active p us }) u) r
+  took_rouses q p u us active k nets_in apart w once r = took_rouses' q p u us active nets_in apart w once k r
+
   -- the settling phase
-  module _ (base : State) (sleeps : ℕ → Type 0) (calm : Calm ph) (apart : ph.old ph.fresh ≡ false) where
+  module _ (base : State) (sleeps : ℕ → Type 0) where
     abbrev pub Settling : Queue → Type 0
-    Settling q = Holds n L ph (CombPart n base sleeps) (ClockedPart n ph) q
+    Settling q = Holds n L ph (CombPart n ph.slot ph.before base sleeps) (ClockedPart n ph) q
+
+  module _ (base : State) (sleeps : ℕ → Type 0) (good : Good ph) where
+    abbrev InSettling : Queue → Type 0
+    InSettling q = Settling base sleeps q
 
     abbrev EachSettling : Queue → ℕ → Type 0
-    EachSettling q p = Each n L.clock_nets ph (CombPart n base sleeps) (ClockedPart n ph) q p
+    EachSettling q p = Each n (nets n L) ph (CombPart n ph.slot ph.before base sleeps) (ClockedPart n ph) q p
 
-    settling_on : (p : ℕ) (q q' : Queue) → Did n L ph p q q' → EachSettling q' p → Settling q → Settling q'
-    settling_on p q q' did self h =
-        holds_on (CombPart n base sleeps) (ClockedPart n ph) p q q' did
-        (λ r ne k part. record { ok = comb_ok_other base sleeps p r q q' k ne did.acts (did.acts.mode r ne) part.ok; rest = rest_other p r q q' ne did.acts part.rest })
-        (λ r ne k part. record { mode = did_calm n L ph calm p q q' h.nets did r ne k ∙ part.mode; writer = writer_other n L ph p r q q' ne did.acts part.writer })
+    settling_on : (p : ℕ) (q q' : Queue) → Did n L ph p q q' → ((r : ℕ) → r ≢ p → Rouses n ph.slot ph.before q q' r) → EachSettling q' p → InSettling q → InSettling q'
+    settling_on p q q' did rouse self h =
+        holds_on (CombPart n ph.slot ph.before base sleeps) (ClockedPart n ph) p q q' did
+        (λ r ne k part. record { ok = comb_ok_other base sleeps p r q q' k ne did.acts (rouse r ne) (did.acts.mode r ne) part.ok; rest = rest_other p r q q' ne did.acts part.rest })
+        (λ r ne k part. clocked_other good.calm p r q q' k ne h.nets did part)
         self h
 
     not_unstarted : (q : Queue) (p : ℕ) → EachSettling q p → q.mode p ≡ Unstarted → ⊥
     not_unstarted q p (an_assign k part) u = elim part.ok [ is_due d ↦ cc | is_pending m h ↦ cc | is_settled m h g ↦ cc ]
     not_unstarted q p (an_input k part) u = let m = part.mode in cc
-    not_unstarted q p (a_comb k part) u = elim part.ok [ comb_due d ↦ cc | comb_agrees m g ↦ cc | comb_sleeps m s g ↦ cc ]
-    not_unstarted q p (a_clocked k part) u = let m = part.mode in cc
+    not_unstarted q p (a_comb k part) u = elim part.ok [ comb_due d y ↦ cc | comb_agrees m g y ↦ cc | comb_sleeps m s none g ↦ cc | comb_asleep m x y f g ↦ cc ]
+    not_unstarted q p (a_clocked k (clocked_rests m w once past)) u = cc
+    not_unstarted q p (a_clocked k (clocked_fires e f m o r)) u = cc
+    not_unstarted q p (a_clocked k (clocked_due e f a o m fr r)) u = cc
 
-    evaluate_step : (q : Queue) (p : ℕ) → EachSettling q p → kind (n.process p) ≡ AnAssign → Settling q → Settling (evaluated n q p)
-    evaluate_step q p (an_assign k part) a h = settling_on p q (evaluated n q p) (evaluated_did n L ph p q k part h.nets) (an_assign k (evaluated_self n L ph p q k part h.nets)) h
+    evaluate_step : (q : Queue) (p : ℕ) → EachSettling q p → kind (n.process p) ≡ AnAssign → InSettling q → InSettling (evaluated n q p)
+    evaluate_step q p (an_assign k part) a h = settling_on p q (evaluated n q p) (evaluated_did n L ph p q k part h.nets) (λ r ne. rouses_none p r q (evaluated n q p) ne (evaluated_did n L ph p q k part h.nets).acts (λ z. cc)) (an_assign k (evaluated_self n L ph p q k part h.nets)) h
     evaluate_step q p (an_input k part) a h = absurd (subst IsInput a k)
     evaluate_step q p (a_comb k part) a h = absurd cc
     evaluate_step q p (a_clocked k part) a h = absurd cc
 
-    apply_step : (q : Queue) (p : ℕ) → EachSettling q p → IsSome (q.pending p) → Settling q → Settling (applied n q p)
+    apply_step : (q : Queue) (p : ℕ) → EachSettling q p → IsSome (q.pending p) → InSettling q → InSettling (applied n q p)
     apply_step q p (an_assign k part) s h =
         let o = some_is (q.pending p) s in
-        subst Settling (sym (applied_is n L ph p q k part h.nets apart o.0 o.1))
-        (settling_on p q _ (applied_did n L ph p q k part h.nets apart o.0 o.1) (an_assign k (applied_self n L ph p q k part h.nets apart o.0 o.1)) h)
+        subst InSettling (sym (applied_is n L ph p q k part h.nets good.apart o.0 o.1))
+        (settling_on p q _ (applied_did n L ph p q k part h.nets good.apart o.0 o.1) (λ r ne. rouses_none p r q _ ne (applied_did n L ph p q k part h.nets good.apart o.0 o.1).acts (λ z. cc)) (an_assign k (applied_self n L ph p q k part h.nets good.apart o.0 o.1)) h)
     apply_step q p (an_input k part) s h = absurd (let o = some_is (q.pending p) s in let e = part.writer.pending in cc)
     apply_step q p (a_comb k part) s h = absurd (let o = some_is (q.pending p) s in let e = part.rest.pending in cc)
-    apply_step q p (a_clocked k part) s h = absurd (let o = some_is (q.pending p) s in let e = part.writer.pending in cc)
+    apply_step q p (a_clocked k part) s h = absurd (let o = some_is (q.pending p) s in by_part part o.0 o.1)
+      where
+        by_part : ClockedPart n ph q p → (ws : List Write) → q.pending p ≡ Some ws → ⊥
+        by_part (clocked_rests m w once past) ws e = let z = w.pending in cc
+        by_part (clocked_fires x f m o u) ws e = let z = u.pending in cc
+        by_part (clocked_due x f a o m fr u) ws e = let z = u.pending in cc
 
-    run_step : (q : Queue) (p : ℕ) → EachSettling q p → IsBlock (kind (n.process p)) → q.mode p ≡ Due → Settling q → Settling (ran n q p)
+    run_step : (q : Queue) (p : ℕ) → EachSettling q p → IsBlock (kind (n.process p)) → q.mode p ≡ Due → InSettling q → InSettling (ran n q p)
     run_step q p (an_assign k part) b d h = absurd (subst IsBlock k b)
     run_step q p (an_input k part) b d h = absurd (no_block (kind (n.process p)) k b)
       where
@@ -177,49 +394,70 @@ module _ (n : Network) (L : IsLawful n) (ph : Phase) where
         no_block AComb i b = i
         no_block AClocked i b = i
     run_step q p (a_comb k part) b d h =
-        settling_on p q (ran n q p) (ran_did n L ph p q k part.rest.waiting h.nets)
+        let did = ran_did n L ph p q k part.rest.waiting h.nets in
+        settling_on p q (ran n q p) did (λ r ne. rouses_none p r q (ran n q p) ne did.acts (λ z. cc))
         (a_comb k (record {
-          ok = comb_agrees (ran_mode n L ph p q k part.rest.waiting h.nets) (ran_agrees n L ph p q k part.rest.waiting h.nets);
+          ok = comb_agrees (ran_mode n L ph p q k part.rest.waiting h.nets) (ran_agrees n L ph p q k part.rest.waiting h.nets) (why part.ok);
           rest = record { pending = ran_pending n L ph p q k part.rest.waiting h.nets ∙ part.rest.pending; active = ran_active n L ph p q k part.rest.waiting h.nets ∙ part.rest.active; waiting = ran_waiting n L ph p q k part.rest.waiting h.nets };
         })) h
-    run_step q p (a_clocked k part) b d h = absurd (let m = part.mode in cc)
+      where
+        why : CombOk n ph.slot ph.before base sleeps q p → Roused n ph.slot ph.before p
+        why (comb_due x y) = y
+        why (comb_agrees m g y) = y
+        why (comb_sleeps m s none g) = absurd cc
+        why (comb_asleep m x y f g) = absurd cc
+    run_step q p (a_clocked k (clocked_rests m w once past)) b d h = absurd cc
+    run_step q p (a_clocked k (clocked_fires e f m o u)) b d h = absurd cc
+    run_step q p (a_clocked k (clocked_due e f a o m fr u)) b d h =
+        subst InSettling (sym (reset_is q p k h.nets)) (settling_on p q (q_reset q p k h.nets) (reset_did q p k h.nets) (λ r ne. rouses_still p r q (q_reset q p k h.nets) (put-other q.mode p Waiting r ne)) (a_clocked k (reset_runs q p k h.nets e f fr u)) h)
 
-    take_step : (q : Queue) (p : ℕ) → EachSettling q p → q.active p ≢ [] → Settling q → Settling (took n q p (q.active p))
+    take_step : (q : Queue) (p : ℕ) → EachSettling q p → q.active p ≢ [] → InSettling q → InSettling (took n q p (q.active p))
     take_step q p (an_assign k part) ne h = absurd (ne part.active)
     take_step q p (a_comb k part) ne h = absurd (ne part.rest.active)
     take_step q p (an_input k part) ne h =
         let u = full_is (q.active p) ne in
-        subst Settling (sym (took_is n L ph p q u.0 u.1 u.2 h.nets apart))
-        (settling_on p q _ (input_take_did q p u.0 u.1 u.2 part h.nets apart (kind (n.process p)) refl k) (an_input k (took_input n L ph p q u.0 u.1 u.2 h.nets apart k part)) h)
-    take_step q p (a_clocked k part) ne h =
+        subst InSettling (sym (took_is n L ph p q u.0 u.1 u.2 h.nets good.apart))
+        (settling_on p q _ (input_take_did q p u.0 u.1 u.2 part h.nets good.apart good.aims (kind (n.process p)) refl k) (λ r ne. rouses_none p r q _ ne (input_take_did q p u.0 u.1 u.2 part h.nets good.apart good.aims (kind (n.process p)) refl k).acts (λ z. subst IsInput z k)) (an_input k (took_input n L ph p q u.0 u.1 u.2 h.nets good.apart k part)) h)
+    take_step q p (a_clocked k (clocked_fires e f m o r)) ne h = absurd (ne r.active)
+    take_step q p (a_clocked k (clocked_due e f a o m fr r)) ne h = absurd (ne r.active)
+    take_step q p (a_clocked k (clocked_rests m w once past)) ne h =
         let u = full_is (q.active p) ne in
-        subst Settling (sym (took_is n L ph p q u.0 u.1 u.2 h.nets apart))
-        (settling_on p q _ (did_off_nets n L ph p q _ (took_acts n L ph p q u.0 u.1 u.2 h.nets apart part.writer) (off_nets n L ph p (λ e. cc) (λ e. cc)) h.nets)
-        (a_clocked k (record {
-          mode = took_waiting q p u.0 u.1 u.2 k (own_u n L ph p q u.0 u.1 u.2 h.nets apart part.writer) ∙ part.mode;
-          writer = took_writer n L ph p q u.0 u.1 u.2 h.nets apart part.writer;
-        })) h)
+        let acts = took_acts n L ph p q u.0 u.1 u.2 h.nets good.apart w in
+        subst InSettling (sym (took_is n L ph p q u.0 u.1 u.2 h.nets good.apart))
+        (settling_on p q _ (did_off_nets n L ph p q _ acts (clocked_off p k) h.nets)
+        (λ r ne. took_rouses q p u.0 u.1 u.2 k h.nets good.apart w once r)
+        (a_clocked k (clocked_rests
+        (took_waiting q p u.0 u.1 k (own_u n L ph p q u.0 u.1 u.2 h.nets good.apart w) ∙ m)
+        (took_writer n L ph p q u.0 u.1 u.2 h.nets good.apart w)
+        (λ x b y e l. took_once q p u.0 u.1 u.2 h.nets good.apart w once x b y e l)
+        (λ e o. elim (past e o) [ inl f ↦ inl (acts.now e.net (clocked_off p k e.net (Some e.input) (reset_net_family n L p e o)) ∙ f) | inr c ↦ inr c ]))) h)
 
     module _ (q : Queue) (quiet : IsQuiet q) where
-      activated_comb : (p : ℕ) → CombPart n base sleeps q p → CombPart n base sleeps (activated q) p
+      activated_comb : (p : ℕ) → CombPart n ph.slot ph.before base sleeps q p → CombPart n ph.slot ph.before base sleeps (activated q) p
       activated_comb p part = record { ok = comb_again part.ok; rest = record { pending = part.rest.pending; active = part.rest.waiting; waiting = refl } }
         where
-          comb_again : CombOk n base sleeps q p → CombOk n base sleeps (activated q) p
-          comb_again (comb_due d) = comb_due d
-          comb_again (comb_agrees m g) = comb_agrees m g
-          comb_again (comb_sleeps m s g) = comb_sleeps m s g
+          comb_again : CombOk n ph.slot ph.before base sleeps q p → CombOk n ph.slot ph.before base sleeps (activated q) p
+          comb_again (comb_due d y) = comb_due d y
+          comb_again (comb_agrees m g y) = comb_agrees m g y
+          comb_again (comb_sleeps m s none g) = comb_sleeps m s none g
+          comb_again (comb_asleep m x y f g) = comb_asleep m x y f (record { listened = g.listened; bits = g.bits })
+
+      activated_unrun : (p : ℕ) → Unrun n ph q p → Unrun n ph (activated q) p
+      activated_unrun p u = record { pending = u.pending; active = u.waiting; waiting = refl; bits = u.bits }
 
       activated_each : (p : ℕ) → EachSettling q p → EachSettling (activated q) p
       activated_each p (an_assign k part) = an_assign k (activated_assign q quiet p part)
       activated_each p (an_input k part) = an_input k (activated_input q quiet p part)
       activated_each p (a_comb k part) = a_comb k (activated_comb p part)
-      activated_each p (a_clocked k part) = a_clocked k (record { mode = part.mode; writer = activated_writer q quiet p part.writer })
+      activated_each p (a_clocked k (clocked_rests m w once past)) = a_clocked k (clocked_rests m (activated_writer q quiet p w) (λ x b y e l. subst (λ (us : List Update). times (flatten us) b ≤ 1) (sym (coming_activated q quiet p)) (once x b y e l)) (λ e o. past e o))
+      activated_each p (a_clocked k (clocked_fires e f m o u)) = a_clocked k (clocked_fires e f m o (activated_unrun p u))
+      activated_each p (a_clocked k (clocked_due e f a o m fr u)) = a_clocked k (clocked_due e f a o m fr (activated_unrun p u))
 
-      activate_step : Settling q → Settling (activated q)
+      activate_step : InSettling q → InSettling (activated q)
       activate_step h = record { each = λ p. activated_each p (h.each p); kept = h.kept; nets = h.nets }
 
     -- each step of the slot keeps the phase
-    pub settling_step : (q : Queue) (c : Choice) → c ≢ Next → IsStep n q c → Settling q → Settling (after n q c)
+    pub settling_step : (q : Queue) (c : Choice) → c ≢ Next → IsStep n q c → InSettling q → InSettling (after n q c)
     settling_step q (Start p) ne h s = absurd (not_unstarted q p (s.each p) h)
     settling_step q (Evaluate p) ne h s = evaluate_step q p (s.each p) h.0 s
     settling_step q (Apply p) ne h s = apply_step q p (s.each p) h s

@@ -5,7 +5,8 @@ use Rattle.vs_net.specs.Queue.{Queue, Slot, Fall, Rise}
 use Rattle.vs_net.specs.Lawful.{IsLawful, Settles}
 use Rattle.vs_net.proofs.Basics.{by_test, is_written-append, is_written-append_right}
 use Rattle.vs_net.proofs.Parts.{IsInput, Phase, Own, WriterPart}
-use Rattle.vs_net.proofs.Settling.{Each, an_assign, an_input, a_comb, a_clocked, CombRest, CombPart, ClockedPart}
+use Rattle.vs_net.proofs.Settling.{Each, an_assign, an_input, a_comb, a_clocked, CombRest, CombPart, ClockedPart, clocked_rests, clocked_fires, clocked_due}
+use Rattle.vs_net.proofs.Nets.{nets}
 use Rattle.vs_net.proofs.Early.{EarlyComb, EarlyClocked}
 use Rattle.vs_net.proofs.Rising.{RisingComb, RisingClocked}
 use Rattle.vs_net.proofs.Runs.{is_early, settles_first, settles_later, is_rising, settles_risen, to_activate, on_rise, InSlot}
@@ -55,7 +56,7 @@ module _ (n : Network) (L : IsLawful n) where
   input_settles_not AComb i s = i
   input_settles_not AClocked i s = i
 
-  of_each : (ph : Phase) (comb clocked : Queue → ℕ → Type 0) (q : Queue) (p : ℕ) → (comb q p → CombRest q p) → (kind (n.process p) ≡ AClocked → clocked q p → SoundAt n q p) → Each n L.clock_nets ph comb clocked q p → SoundAt n q p
+  of_each : (ph : Phase) (comb clocked : Queue → ℕ → Type 0) (q : Queue) (p : ℕ) → (comb q p → CombRest q p) → (kind (n.process p) ≡ AClocked → clocked q p → SoundAt n q p) → Each n (nets n L) ph comb clocked q p → SoundAt n q p
   of_each ph comb clocked q p f g (an_assign k part) = record { pend = λ ws h. (k, part.own ws h); own = no_updates q p part.active; none = λ s. part.active }
   of_each ph comb clocked q p f g (an_input k part) = of_writer ph q p (input_settles_not (kind (n.process p)) k) part.writer
   of_each ph comb clocked q p f g (a_comb k part) = at_rest q p (f part).pending (f part).active
@@ -64,13 +65,18 @@ module _ (n : Network) (L : IsLawful n) where
   clocked_settles_not : (p : ℕ) → kind (n.process p) ≡ AClocked → Settles (kind (n.process p)) → ⊥
   clocked_settles_not p k s = subst Settles k s
 
-  of_settling : (ph : Phase) (base : State) (sleeps : ℕ → Type 0) (q : Queue) (p : ℕ) → Each n L.clock_nets ph (CombPart n base sleeps) (ClockedPart n ph) q p → SoundAt n q p
-  of_settling ph base sleeps q p e = of_each ph (CombPart n base sleeps) (ClockedPart n ph) q p (λ part. part.rest) (λ k part. of_writer ph q p (clocked_settles_not p k) part.writer) e
+  of_clocked : (ph : Phase) (q : Queue) (p : ℕ) → kind (n.process p) ≡ AClocked → ClockedPart n ph q p → SoundAt n q p
+  of_clocked ph q p k (clocked_rests m w once past) = of_writer ph q p (clocked_settles_not p k) w
+  of_clocked ph q p k (clocked_fires e f m o u) = at_rest q p u.pending u.active
+  of_clocked ph q p k (clocked_due e f a o m fr u) = at_rest q p u.pending u.active
+
+  of_settling : (ph : Phase) (base : State) (sleeps : ℕ → Type 0) (q : Queue) (p : ℕ) → Each n (nets n L) ph (CombPart n ph.slot ph.before base sleeps) (ClockedPart n ph) q p → SoundAt n q p
+  of_settling ph base sleeps q p e = of_each ph (CombPart n ph.slot ph.before base sleeps) (ClockedPart n ph) q p (λ part. part.rest) (λ k part. of_clocked ph q p k part) e
 
   pub sound_of : (slot : Slot) (before : State) (q : Queue) → InSlot n L slot before q → (p : ℕ) → SoundAt n q p
-  sound_of (Fall v) before q (is_early e known early) p = of_each _ (EarlyComb n) (EarlyClocked n _) q p (λ part. part.rest) (λ k part. of_writer _ q p (clocked_settles_not p k) part.writer) (early.holds.each p)
+  sound_of (Fall v) before q (is_early e known early) p = of_each _ (EarlyComb n) EarlyClocked q p (λ part. part.rest) (λ k part. at_rest q p part.rest.pending part.rest.active) (early.holds.each p)
   sound_of (Fall v) before q (settles_first e known base base_in s) p = of_settling _ _ _ q p (s.each p)
-  sound_of (Fall v) before q (settles_later s) p = of_settling _ _ _ q p (s.each p)
-  sound_of Rise before q (to_activate quiet r) p = at_rest q p (quiet p).1 (quiet p).2
-  sound_of Rise before q (on_rise (is_rising r)) p = of_each _ (RisingComb n) (RisingClocked n before) q p (λ part. part.rest) (λ k part. at_rest q p part.pending part.active) (r.holds.each p)
-  sound_of Rise before q (on_rise (settles_risen s)) p = of_settling _ _ _ q p (s.each p)
+  sound_of (Fall v) before q (settles_later known s) p = of_settling _ _ _ q p (s.each p)
+  sound_of Rise before q (to_activate ground quiet r) p = at_rest q p (quiet p).1 (quiet p).2
+  sound_of Rise before q (on_rise ground (is_rising r)) p = of_each _ (RisingComb n L before) (RisingClocked n before) q p (λ part. part.rest) (λ k part. at_rest q p part.pending part.active) (r.holds.each p)
+  sound_of Rise before q (on_rise ground (settles_risen s)) p = of_settling _ _ _ q p (s.each p)

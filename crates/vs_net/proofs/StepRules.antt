@@ -1,18 +1,21 @@
 -- What the steps do.
-use Rattle.std.proofs.Common.{◌≡◌, ◌≢◌, ℕ, Bool, true, false, List, [], ◌∷◌, ◌++◌, ◌&&◌, ◌==◌, inl, inr, refl, sym, ap, ◌∙◌, subst, Option, Some, None, unwrap_or, eqb-true, eq-eqb, map}
+use Rattle.std.proofs.Common.{◌≡◌, ◌≢◌, ℕ, Bool, true, false, List, [], ◌∷◌, ◌++◌, ◌||◌, ◌&&◌, ◌==◌, inl, inr, refl, sym, ap, ◌∙◌, subst, Option, Some, None, unwrap_or, eqb-true, eq-eqb, map}
 use Rattle.std.proofs.lemmas.Bool.{cond-true, cond-false, both_ways, and_parts}
 use Rattle.vs_four.specs.declared.Bit4.{Bit4}
 use Rattle.vs_four.specs.declared.Bit4.TheVariants.{Zero, One, X, Z}
 use Rattle.vs_four.specs.Tables.{same}
-use Rattle.vs_net.specs.Network.{posedge, State, Write, Update, put, write_all, flatten, Process, Input, Clock, Assign, Comb, Clocked, Network, listens, made, updates, senses}
+use Rattle.vs_net.specs.Network.{posedge, is_edge, Reset, resets, State, Write, Update, put, write_all, flatten, Process, Input, Clock, Assign, Comb, Clocked, Network, listens, made, updates, senses}
 use Rattle.vs_net.specs.Queue.{Mode, Waiting, Due, Slot, Queue, woken, change, changes, is_held, Choice, Start, Evaluate, Apply, Run, Take, Activate, Next, IsStill, IsPossible, to_write, drive, begun, took, after}
 use Rattle.vs_net.specs.LevelRun.{after_all}
-use Rattle.vs_net.specs.Steps.{PosedgeTable, HasValues, OnePending, IsSensitive, IsWoken, WriteRule, WritesRule, StepWrites, Waking, IsAlone, RegionRule, UpdateRule, Regions}
+use Rattle.vs_net.specs.Steps.{PosedgeTable, NegedgeTable, HasValues, OnePending, IsSensitive, IsWoken, WriteRule, WritesRule, StepWrites, Waking, IsAlone, RegionRule, UpdateRule, Regions}
 use Rattle.vs_net.proofs.Basics.{by_test, put-same, put-other, same_is, write_all_at, write_all-append}
 use Rattle.vs_net.proofs.Waking.{stays, wakes, Changed, woken_or_not, change_one, changes_all}
 
 pub posedge_table : PosedgeTable
 posedge_table = record { from_0 = refl; from_1 = refl; from_x = refl; from_z = refl }
+
+pub negedge_table : NegedgeTable
+negedge_table = record { from_0 = refl; from_1 = refl; from_x = refl; from_z = refl }
 
 same_self : (a : Bit4) → same a a ≡ true
 same_self Zero = refl
@@ -63,21 +66,32 @@ sensitive_of (Input bits) old w h = absurd (let e = h in cc)
 sensitive_of (Clock bit) old w h = absurd (let e = h in cc)
 sensitive_of (Assign reads targets value) old w h = h
 sensitive_of (Comb waits targets run) old w h = h
-sensitive_of (Clocked clock targets run) old w h = let parts = and_parts (clock == w.bit) (posedge old w.value) h in (eqb-true clock w.bit parts.0, parts.1)
+sensitive_of (Clocked clock reset targets run) old w h = by_test ((clock == w.bit) && posedge old w.value)
+    (λ t. let parts = and_parts (clock == w.bit) (posedge old w.value) t in inl (eqb-true clock w.bit parts.0, parts.1))
+    (λ f. inr (by_reset reset refl (subst (λ (t : Bool). (t || resets reset old w) ≡ true) f h)))
+  where
+    by_reset : (o : Option Reset) → reset ≡ o → resets o old w ≡ true → (r : Reset) × (reset ≡ Some r) × (r.net ≡ w.bit) × (is_edge r.edge old w.value ≡ true)
+    by_reset None e g = cc
+    by_reset (Some r) e g = let parts = and_parts (r.net == w.bit) (is_edge r.edge old w.value) g in (r, e, eqb-true r.net w.bit parts.0, parts.1)
 
 senses_of : (process : Process) (old : Bit4) (w : Write) → IsSensitive process old w → senses process old w ≡ true
 senses_of (Input bits) old w h = absurd h
 senses_of (Clock bit) old w h = absurd h
 senses_of (Assign reads targets value) old w h = h
 senses_of (Comb waits targets run) old w h = h
-senses_of (Clocked clock targets run) old w h = subst (λ (t : Bool). (t && posedge old w.value) ≡ true) (sym (eq-eqb clock w.bit h.0)) h.1
+senses_of (Clocked clock reset targets run) old w (inl h) = ap (λ (t : Bool). t || resets reset old w) (subst (λ (t : Bool). (t && posedge old w.value) ≡ true) (sym (eq-eqb clock w.bit h.0)) h.1)
+senses_of (Clocked clock reset targets run) old w (inr h) = either ((clock == w.bit) && posedge old w.value) (ap (λ (o : Option Reset). resets o old w) h.1 ∙ subst (λ (t : Bool). (t && is_edge h.0.edge old w.value) ≡ true) (sym (eq-eqb h.0.net w.bit h.2)) h.3)
+  where
+    either : (a : Bool) → {b : Bool} → b ≡ true → (a || b) ≡ true
+    either true e = refl
+    either false e = e
 
 listens_sensitive : (process : Process) (old : Bit4) (w : Write) → listens process w.bit ≡ true → IsSensitive process old w
 listens_sensitive (Input bits) old w h = absurd (let e = h in cc)
 listens_sensitive (Clock bit) old w h = absurd (let e = h in cc)
 listens_sensitive (Assign reads targets value) old w h = h
 listens_sensitive (Comb waits targets run) old w h = h
-listens_sensitive (Clocked clock targets run) old w h = absurd (let e = h in cc)
+listens_sensitive (Clocked clock reset targets run) old w h = absurd (let e = h in cc)
 
 module _ (n : Network) (q : Queue) (w : Write) where
   abbrev moved : Queue

@@ -263,6 +263,7 @@ module _ (n : Network) (L : IsLawful n) where
     pub active : (p : ℕ) → q.active p ≡ []
     pub begun : (p : ℕ) → q.mode p ≢ Unstarted
     pub unclocked : (p : ℕ) → kind (n.process p) ≢ AClocked → q.mode p ≡ Waiting
+    pub spent : (p : ℕ) → kind (n.process p) ≢ AClocked → q.waiting p ≡ []
     pub beyond : (p : ℕ) → n.count ≤ p → q.waiting p ≡ []
 
   abbrev pub Idle : Queue → ℕ → Type 0
@@ -287,6 +288,7 @@ module _ (n : Network) (L : IsLawful n) where
           active = r.active;
           begun = λ x. same_number x p (λ f u. let m = subst (λ (y : ℕ). put q.mode p Waiting y ≡ Waiting) (sym f) (put-same q.mode p Waiting) in cc) (λ ne u. r.begun x (sym (put-other q.mode p Waiting x ne) ∙ u));
           unclocked = λ x kx. put-other q.mode p Waiting x (λ f. kx (subst (λ (y : ℕ). kind (n.process y) ≡ AClocked) (sym f) k)) ∙ r.unclocked x kx;
+          spent = λ x kx. put-other q.waiting p (q.waiting p ++ updates (n.process p) q.now) x (λ f. kx (subst (λ (y : ℕ). kind (n.process y) ≡ AClocked) (sym f) k)) ∙ r.spent x kx;
           beyond = λ x le. put-other q.waiting p (q.waiting p ++ updates (n.process p) q.now) x (λ f. let w = within p (λ e. cc) in absurd (omega arith)) ∙ r.beyond x le;
         }) (λ u. let m = put-same q.mode p Waiting in cc))
 

@@ -1,9 +1,10 @@
 -- The equations have at most one solution.
 use Rattle.std.proofs.Common.{◌≡◌, ℕ, true, List, [], ◌∷◌, refl, sym, ap, ap₂, ◌∙◌, subst}
 use mathlib.Core.Path.{fun_ext}
-use Rattle.vs_net.specs.Network.{State, write_all, Network, kind, writes, listens, made}
+use Rattle.vs_net.specs.Network.{State, write_all, Network, kind, writes, listens}
 use Rattle.vs_net.specs.Queue.{Slot}
-use Rattle.vs_net.specs.Solution.{IsSlotEnd, IsSolution}
+use Rattle.vs_net.specs.Solution.{given, IsSlotEnd, IsSolution}
+use Rattle.vs_net.proofs.Asleep.{given_local, given_exact}
 use Rattle.vs_net.specs.Lawful.{IsLawful, Settles}
 use Rattle.vs_net.specs.Laws.{OneSolution}
 use Rattle.vs_net.proofs.Basics.{write_all_covered}
@@ -22,10 +23,10 @@ module _ (n : Network) (L : IsLawful n) (before : State) (slot : Slot) (s t : St
 
   same_of : (p : ℕ) → Settles (kind (n.process p)) → ((b r : ℕ) → listens (n.process p) b ≡ true → writes (n.process r) b ≡ true → Settles (kind (n.process r)) → Same r) → Same p
   same_of p k below b w =
-      let reads = L.local p s t k (λ c l. same_at c (λ r wr kr. below c r l wr kr c wr)) in
+      let reads = given_local n L before s t p k (λ c l. same_at c (λ r wr kr. below c r l wr kr c wr)) in
       sym (ap (λ (f : State). f b) (ss.settled p))
       ∙ ap (λ ws. write_all s ws b) reads
-      ∙ write_all_covered (made (n.process p) t) s t b (L.exact p b t k ∙ w)
+      ∙ write_all_covered (given n before p t) s t b (given_exact n L before t p b k ∙ w)
       ∙ ap (λ (f : State). f b) (ts.settled p)
 
   pub one_end : s ≡ t

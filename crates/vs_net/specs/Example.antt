@@ -1,6 +1,6 @@
 -- A small lawful network with a process of each kind, and runs of it.
 -- Bits: 0 clk, 1 a port's net of it, 2 the input a, 3 y, 4 q, 5 r. Processes: 0 the port's assign, 1 a block `y = a` that wakes at time zero, 2 a quiet block `r = ~q`, 3 a block `q <= y` at each posedge of the port's net, 4 the clock, 5 the input a.
-use Rattle.std.specs.Prelude.{◌≡◌, ℕ, zero, suc, Bool, false, List, [], ◌∷◌, ◌==◌, map}
+use Rattle.std.specs.Prelude.{◌≡◌, ℕ, zero, suc, Bool, false, List, [], ◌∷◌, ◌==◌, map, None}
 use Rattle.vs_four.specs.declared.Bit4.{Bit4}
 use Rattle.vs_four.specs.declared.Bit4.TheVariants.{Zero, One, X, Z}
 use Rattle.vs_four.specs.Tables.{not_bit}
@@ -9,7 +9,7 @@ use Rattle.vs_net.specs.Queue.{Queue, Choice, start, slots_of, IsFirst, IsComple
 use Rattle.vs_net.specs.Solution.{IsSolution}
 use Rattle.vs_net.specs.Lawful.{IsLevelOrder}
 use Rattle.vs_net.specs.LevelRun.{level_run}
-use Rattle.vs_net.specs.Laws.{IsKnownVector}
+use Rattle.vs_net.specs.Laws.{IsKnownVector, AreKnownResets}
 use Rattle.vs_net.specs.Bound.{IsWeighed, bound}
 
 abbrev pub one_write : ℕ → Bit4 → List Write
@@ -19,7 +19,7 @@ abbrev pub example_process : ℕ → Process
 example_process zero = Assign (λ b. b == 0) (λ b. b == 1) (λ s. one_write 1 (s 0))
 example_process (suc zero) = Comb (λ b. b == 2) (λ b. b == 3) (λ s. record { writes = one_write 3 (s 2); updates = [] })
 example_process (suc (suc zero)) = Comb (λ b. b == 4) (λ b. b == 5) (λ s. record { writes = one_write 5 (not_bit (s 4)); updates = [] })
-example_process (suc (suc (suc zero))) = Clocked 1 (λ b. b == 4) (λ s. record { writes = []; updates = one_write 4 (s 3) ∷ [] })
+example_process (suc (suc (suc zero))) = Clocked 1 None (λ b. b == 4) (λ s. record { writes = []; updates = one_write 4 (s 3) ∷ [] })
 example_process (suc (suc (suc (suc zero)))) = Clock 0
 example_process (suc (suc (suc (suc (suc zero))))) = Input (2 ∷ [])
 example_process (suc (suc (suc (suc (suc (suc p)))))) = Input []
@@ -29,7 +29,7 @@ example_idle (suc zero) = Z
 example_idle _ = X
 
 abbrev pub example : Network
-example = record { process = example_process; count = 6; idle = example_idle }
+example = record { process = example_process; count = 6; idle = example_idle; sleeper = λ p. None }
 
 -- the values of clk, its port's net, a, y, q and r
 abbrev pub six_bits : State → List Bit4
@@ -52,7 +52,7 @@ example_ends =
 pub record ExampleRuns : Type 0 where
   pub first : IsFirst example example_idle
   pub known : IsKnownVector example (λ b. One)
-  pub runs : (v : State) (vs : List State) → IsKnownVector example v → let q = start example example_idle v vs in (choices : List Choice) × IsCompleted example q choices × IsSolution example example_idle (slots_of (v ∷ vs)) (ends example q choices)
+  pub runs : (v : State) (vs : List State) → IsKnownVector example v → AreKnownResets example vs → let q = start example example_idle v vs in (choices : List Choice) × IsCompleted example q choices × IsSolution example example_idle (slots_of (v ∷ vs)) (ends example q choices)
   pub level_order : IsLevelOrder example (0 ∷ 1 ∷ 2 ∷ [])
   pub level_ends : map six_bits (ends example example_start (level_run example (0 ∷ 1 ∷ 2 ∷ []) example_start)) ≡ example_ends
 

@@ -1,8 +1,9 @@
 -- What the rules for an accepted design give of its network: no latch, complete event lists, one driver for each bit, no combinational cycle, one clock, and the rule of time zero.
-use Rattle.std.specs.Prelude.{◌≡◌, ◌≢◌, ◌≤◌, ℕ, Bool, true, false, List, [], ◌∷◌, ◌⊎◌}
+use Rattle.std.specs.Prelude.{◌≡◌, ◌≢◌, ◌≤◌, ℕ, Bool, true, false, List, [], ◌∷◌, ◌⊎◌, ◌==◌, ◌+◌, if◌then◌else◌, Option, Some, None}
+use Rattle.std.specs.List.{list_any}
 use Rattle.vs_four.specs.declared.Bit4.{Bit4}
 use Rattle.vs_four.specs.declared.Bit4.TheVariants.{Zero, One, X, Z}
-use Rattle.vs_net.specs.Network.{State, write_all, is_written, flatten, Process, Input, Network, Kind, AnInput, TheClock, AnAssign, AComb, AClocked, kind, writes, listens, clock_net, made, updates}
+use Rattle.vs_net.specs.Network.{Reset, to_value, reset_of, Sleeper, State, Write, write_all, is_written, flatten, Process, Input, Network, Kind, AnInput, TheClock, AnAssign, AComb, AClocked, kind, writes, listens, clock_net, made, updates}
 
 -- an assign or a combinational block
 abbrev pub Settles : Kind → Type 0
@@ -16,6 +17,20 @@ pub record IsClockPort (clock_nets : ℕ → Bool) (process : Process) : Type 0 
   pub to : ℕ
   pub from_net : clock_nets from ≡ true
   pub to_net : clock_nets to ≡ true
+  pub apart : to ≢ from
+  pub reads_one : (b : ℕ) → listens process b ≡ true → b ≡ from
+  pub reads_it : listens process from ≡ true
+  pub writes_one : (b : ℕ) → writes process b ≡ true → b ≡ to
+  pub writes_it : writes process to ≡ true
+  pub copies : (s : State) → made process s ≡ record { bit = to; value = s from } ∷ []
+
+-- the assign of an input port that copies one reset net to another
+pub record IsResetPort (roots : ℕ → Option ℕ) (process : Process) : Type 0 where
+  pub from : ℕ
+  pub to : ℕ
+  pub input : ℕ
+  pub from_net : roots from ≡ Some input
+  pub to_net : roots to ≡ Some input
   pub apart : to ≢ from
   pub reads_one : (b : ℕ) → listens process b ≡ true → b ≡ from
   pub reads_it : listens process from ≡ true
@@ -55,10 +70,13 @@ IsKnown v = (v ≡ Zero) ⊎ (v ≡ One)
 pub record IsTimeZero (n : Network) (early late : ℕ → Bit4 → Bool) : Type 0 where
   pub early_idle : (b : ℕ) → ((p : ℕ) → writes (n.process p) b ≡ true → Settles (kind (n.process p)) → ⊥) → early b (n.idle b) ≡ true
   pub early_comb : (p b : ℕ) → kind (n.process p) ≡ AComb → writes (n.process p) b ≡ true → early b X ≡ true
-  pub early_made : (p : ℕ) → Settles (kind (n.process p)) → (s : State) → ReadsIn early (n.process p) s → WritesIn early (n.process p) s
+  pub early_made : (p : ℕ) → Settles (kind (n.process p)) → n.sleeper p ≡ None → (s : State) → ReadsIn early (n.process p) s → WritesIn early (n.process p) s
   pub late_idle : (b : ℕ) → ((p : ℕ) → writes (n.process p) b ≡ true → kind (n.process p) ≡ AClocked) → late b (n.idle b) ≡ true
+  -- where a reset branch gives the bit an update, also the value of the last one
+  pub late_reset : (p b : ℕ) (r : Reset) → reset_of (n.process p) ≡ Some r → writes (n.process p) b ≡ true → late b (write_all n.idle (flatten r.updates) b) ≡ true
   pub late_input : (p b : ℕ) (v : Bit4) → kind (n.process p) ≡ AnInput → writes (n.process p) b ≡ true → IsKnown v → late b v ≡ true
   pub late_clock : (p b : ℕ) → kind (n.process p) ≡ TheClock → writes (n.process p) b ≡ true → late b Zero ≡ true
+  pub late_asleep : (p b : ℕ) (x : Sleeper) → n.sleeper p ≡ Some x → writes (n.process p) b ≡ true → late b X ≡ true
   pub late_made : (p : ℕ) → Settles (kind (n.process p)) → (s : State) → ReadsIn late (n.process p) s → WritesIn late (n.process p) s
 
 -- the block is quiet: on values before the first activation it writes x alone, so it is no matter whether it has run
@@ -71,6 +89,20 @@ pub record IsWokenBlock (early late : ℕ → Bit4 → Bool) (process : Process)
   pub listened : listens process bit ≡ true
   pub unknown : (v : Bit4) → early bit v ≡ true → IsUnknown v
   pub known : (v : Bit4) → late bit v ≡ true → IsKnown v
+
+-- the number of writes to a bit
+unfoldable pub times : List Write → ℕ → ℕ
+times [] b = 0
+times (w ∷ ws) b = (if b == w.bit then 1 else 0) + times ws b
+
+-- A block that may sleep: it waits on variables that clocked blocks alone write, each at most once in a run. So it surely stays unexecuted until one of them first differs from x.
+pub record IsSleeper (n : Network) (p : ℕ) (x : Sleeper) : Type 0 where
+  pub comb : kind (n.process p) ≡ AComb
+  pub on_is : (b : ℕ) → list_any (λ c. b == c) x.on ≡ listens (n.process p) b
+  pub bits_is : (b : ℕ) → list_any (λ c. b == c) x.bits ≡ writes (n.process p) b
+  pub idle : (b : ℕ) → listens (n.process p) b ≡ true → n.idle b ≡ X
+  pub register : (b r : ℕ) → listens (n.process p) b ≡ true → writes (n.process r) b ≡ true → kind (n.process r) ≡ AClocked
+  pub once : (b r : ℕ) (s : State) → listens (n.process p) b ≡ true → kind (n.process r) ≡ AClocked → times (flatten (updates (n.process r) s)) b ≤ 1
 
 pub record IsLawful (n : Network) : Type 0 where
   pub beyond : (p : ℕ) → n.count ≤ p → n.process p ≡ Input []
@@ -101,9 +133,18 @@ pub record IsLawful (n : Network) : Type 0 where
   pub comb_nets : (p b : ℕ) → kind (n.process p) ≡ AComb → clock_nets b ≡ true → listens (n.process p) b ≡ false
   -- a clocked block reads no clock net
   pub clocked_local : (p : ℕ) (s t : State) → kind (n.process p) ≡ AClocked → ((b : ℕ) → clock_nets b ≡ false → s b ≡ t b) → updates (n.process p) s ≡ updates (n.process p) t
-  -- The rule of time zero: each combinational block is quiet, or wakes.
-  -- A third kind, a block that may sleep through time zero, would be a further case of `quiet_or_woken`, with x in its sets.
+  -- Reset nets, with the bit that each copies: this bit is a data input of one bit, and ports copy from reset nets. Others may read them
+  pub roots : ℕ → Option ℕ
+  pub roots_written : (b i : ℕ) → roots b ≡ Some i → (p : ℕ) × (writes (n.process p) b ≡ true) × (((b ≡ i) × (kind (n.process p) ≡ AnInput)) ⊎ (kind (n.process p) ≡ AnAssign))
+  pub input_roots : (p : ℕ) → kind (n.process p) ≡ AnInput → ((i : ℕ) × (n.process p ≡ Input (i ∷ [])) × (roots i ≡ Some i)) ⊎ ((b : ℕ) → writes (n.process p) b ≡ true → roots b ≡ None)
+  pub assign_roots : (p : ℕ) → kind (n.process p) ≡ AnAssign → IsResetPort roots (n.process p) ⊎ ((b : ℕ) → writes (n.process p) b ≡ true → roots b ≡ None)
+  -- each reset is on the reset net of its input; where that is active a run gives the updates of the reset branch, which are to the block's bits
+  pub reset_net_is : (p : ℕ) (r : Reset) → reset_of (n.process p) ≡ Some r → roots r.net ≡ Some r.input
+  pub reset_run : (p : ℕ) (r : Reset) (s : State) → reset_of (n.process p) ≡ Some r → s r.net ≡ to_value r.edge → updates (n.process p) s ≡ r.updates
+  -- the blocks that may sleep
+  pub sleepers : (p : ℕ) (x : Sleeper) → n.sleeper p ≡ Some x → IsSleeper n p x
+  -- The rule of time zero: each combinational block is quiet, or wakes, or may sleep.
   pub early : ℕ → Bit4 → Bool
   pub late : ℕ → Bit4 → Bool
   pub time_zero : IsTimeZero n early late
-  pub quiet_or_woken : (p : ℕ) → kind (n.process p) ≡ AComb → IsQuietBlock early (n.process p) ⊎ IsWokenBlock early late (n.process p)
+  pub quiet_or_woken : (p : ℕ) → kind (n.process p) ≡ AComb → n.sleeper p ≡ None → IsQuietBlock early (n.process p) ⊎ IsWokenBlock early late (n.process p)

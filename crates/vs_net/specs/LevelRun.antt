@@ -2,7 +2,7 @@
 use Rattle.std.specs.Prelude.{ℕ, zero, suc, Bool, true, false, List, [], ◌∷◌, ◌++◌, map, if◌then◌else◌}
 use Rattle.std.specs.List.{list_any}
 use Rattle.vs_net.specs.Network.{Network, Kind, AnAssign, AComb, AClocked, kind, made, Update}
-use Rattle.vs_net.specs.Queue.{Mode, Unstarted, Due, Queue, Slot, Fall, Rise, Choice, Start, Evaluate, Apply, Run, Take, Activate, Next, after, is_held}
+use Rattle.vs_net.specs.Queue.{Mode, Unstarted, Due, Queue, Slot, Choice, Start, Evaluate, Apply, Run, Take, Activate, Next, after, is_held}
 
 -- the queue after these steps
 abbrev pub after_all : Network → Queue → List Choice → Queue
@@ -61,9 +61,8 @@ sweeps n order q (s ∷ ss) = sweep n order q s ++ sweeps n order (after_all n q
 -- the slots after slot 0
 abbrev pub slot_sweeps : List Slot → List Sweep
 slot_sweeps [] = []
-slot_sweeps (Fall v ∷ slots) = Begins ∷ Activates ∷ Takes ∷ Pass ∷ slot_sweeps slots
-slot_sweeps (Rise ∷ slots) = Begins ∷ Activates ∷ Takes ∷ Pass ∷ Runs ∷ Activates ∷ Takes ∷ Pass ∷ slot_sweeps slots
+slot_sweeps (slot ∷ slots) = Begins ∷ Activates ∷ Takes ∷ Pass ∷ Runs ∷ Activates ∷ Takes ∷ Pass ∷ slot_sweeps slots
 
 -- the whole run: slot 0, and then the others
 abbrev pub level_run : Network → List ℕ → Queue → List Choice
-level_run n order q = sweeps n order q (Starts ∷ Pass ∷ Activates ∷ Takes ∷ Pass ∷ slot_sweeps q.slots)
+level_run n order q = sweeps n order q (Starts ∷ Pass ∷ Activates ∷ Takes ∷ Pass ∷ Runs ∷ Activates ∷ Takes ∷ Pass ∷ slot_sweeps q.slots)

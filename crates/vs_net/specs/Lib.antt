@@ -9,4 +9,5 @@ pub mod Laws
 pub mod Steps
 pub mod Checked
 pub mod Example
+pub mod ResetExample
 pub mod Worked

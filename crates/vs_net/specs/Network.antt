@@ -1,6 +1,6 @@
 -- A design as its event queue sees it: the values of its bits, and the processes that read and write them.
 -- Clauses are those of IEEE 1364-2005.
-use Rattle.std.specs.Prelude.{ℕ, Bool, true, false, List, [], ◌∷◌, ◌++◌, if◌then◌else◌, ◌==◌, ◌||◌, ◌&&◌}
+use Rattle.std.specs.Prelude.{ℕ, Bool, true, false, List, [], ◌∷◌, ◌++◌, if◌then◌else◌, ◌==◌, ◌||◌, ◌&&◌, Option, Some, None}
 use Rattle.std.specs.List.{list_any}
 use Rattle.vs_four.specs.declared.Bit4.{Bit4}
 use Rattle.vs_four.specs.declared.Bit4.TheVariants.{Zero, One, X, Z}
@@ -13,6 +13,28 @@ posedge Zero Z = true
 posedge X One = true
 posedge Z One = true
 posedge _ _ = false
+
+-- the change is a negedge: 1 to 0, 1 to x, 1 to z, x to 0 or z to 0 (9.7.2)
+abbrev pub negedge : Bit4 → Bit4 → Bool
+negedge One Zero = true
+negedge One X = true
+negedge One Z = true
+negedge X Zero = true
+negedge Z Zero = true
+negedge _ _ = false
+
+pub data Edge : Type 0 where
+  Posedge Negedge : Edge
+
+-- the change from the first value to the second is this edge
+abbrev pub is_edge : Edge → Bit4 → Bit4 → Bool
+is_edge Posedge old new = posedge old new
+is_edge Negedge old new = negedge old new
+
+-- the value with which this edge ends: a reset is active where it has it
+abbrev pub to_value : Edge → Bit4
+to_value Posedge = One
+to_value Negedge = Zero
 
 -- the value of each bit of all nets and variables, by the bit's number (4.1)
 abbrev pub State : Type 0
@@ -51,6 +73,13 @@ pub record Effect : Type 0 where
   pub writes : List Write
   pub updates : List Update
 
+-- The second event of a clocked block, an asynchronous reset: the edge of a net, and what the solution needs of it, the bit of the data input that the net copies, and the updates that the reset branch gives. The branch reads no signal, so they are fixed.
+pub record Reset : Type 0 where
+  pub net : ℕ
+  pub edge : Edge
+  pub input : ℕ
+  pub updates : List Update
+
 -- A bit that a process writes but that lies out of its signal's range is no bit, and is in none of these lists.
 pub data Process : Type 0 where
   -- a data input of the top, with its bits: the environment is its one writer
@@ -61,9 +90,13 @@ pub data Process : Type 0 where
   Assign : (reads targets : ℕ → Bool) (value : State → List Write) → Process
   -- a combinational block, an `always` whose event control has no edge (9.7.4, 9.7.5): the bits of the signals that it waits on, less those that it writes itself, the bits that it writes, and its run
   Comb : (waits targets : ℕ → Bool) (run : State → Effect) → Process
-  -- a clocked block, an `always` on one posedge (9.7.2): the clock net, the bits that it writes, and its run.
-  -- A block with a second edge, as an asynchronous reset, would be a further constructor: a clock net, a reset net and the edge of it. Each function by cases below would get its case.
-  Clocked : (clock : ℕ) (targets : ℕ → Bool) (run : State → Effect) → Process
+  -- a clocked block, an `always` on one posedge, or on that and the edge of a reset net (9.7.2): the clock net, the reset where it has one, the bits that it writes, and its run
+  Clocked : (clock : ℕ) (reset : Option Reset) (targets : ℕ → Bool) (run : State → Effect) → Process
+
+-- A combinational block that may sleep, so that it is as if it weren't there, until a bit that it waits on first differs from x: the bits that it waits on, less those that it writes itself, and the bits that it writes.
+pub record Sleeper : Type 0 where
+  pub on : List ℕ
+  pub bits : List ℕ
 
 pub record Network : Type 0 where
   -- by number; a number from `count` on is an input without bits, which nothing drives
@@ -71,6 +104,8 @@ pub record Network : Type 0 where
   pub count : ℕ
   -- what a bit holds before anything writes it: x in a variable, z in a net (4.2)
   pub idle : State
+  -- which combinational blocks may sleep; this is for the solution, and no matter to the queue
+  pub sleeper : ℕ → Option Sleeper
 
 pub data Kind : Type 0 where
   AnInput TheClock AnAssign AComb AClocked : Kind
@@ -80,7 +115,7 @@ kind (Input bits) = AnInput
 kind (Clock bit) = TheClock
 kind (Assign reads targets value) = AnAssign
 kind (Comb waits targets run) = AComb
-kind (Clocked clock targets run) = AClocked
+kind (Clocked clock reset targets run) = AClocked
 
 -- the bits that it writes: it is their driver
 abbrev pub writes : Process → ℕ → Bool
@@ -88,7 +123,7 @@ writes (Input bits) b = list_any (λ c. b == c) bits
 writes (Clock bit) b = b == bit
 writes (Assign reads targets value) b = targets b
 writes (Comb waits targets run) b = targets b
-writes (Clocked clock targets run) b = targets b
+writes (Clocked clock reset targets run) b = targets b
 
 -- the bits to whose changes an assign or a combinational block is sensitive
 abbrev pub listens : Process → ℕ → Bool
@@ -98,25 +133,35 @@ listens _ b = false
 
 -- the clock net of a clocked block
 abbrev pub clock_net : Process → ℕ
-clock_net (Clocked clock targets run) = clock
+clock_net (Clocked clock reset targets run) = clock
 clock_net _ = 0
+
+-- the reset of a clocked block, where it has one
+abbrev pub reset_of : Process → Option Reset
+reset_of (Clocked clock reset targets run) = reset
+reset_of _ = None
+
+-- the write makes the edge of the reset net
+abbrev pub resets : Option Reset → Bit4 → Write → Bool
+resets None old w = false
+resets (Some r) old w = (r.net == w.bit) && is_edge r.edge old w.value
 
 -- what it writes at once, on these values: an assign the value of its right side, a block its blocking writes
 abbrev pub made : Process → State → List Write
 made (Assign reads targets value) s = value s
 made (Comb waits targets run) s = (run s).writes
-made (Clocked clock targets run) s = (run s).writes
+made (Clocked clock reset targets run) s = (run s).writes
 made _ s = []
 
 -- its nonblocking updates, on these values
 abbrev pub updates : Process → State → List Update
 updates (Comb waits targets run) s = (run s).updates
-updates (Clocked clock targets run) s = (run s).updates
+updates (Clocked clock reset targets run) s = (run s).updates
 updates _ s = []
 
 -- a write that changes the bit from this value wakes the process where it waits (9.7.2, 11.6.1)
 abbrev pub senses : Process → Bit4 → Write → Bool
 senses (Assign reads targets value) old w = reads w.bit
 senses (Comb waits targets run) old w = waits w.bit
-senses (Clocked clock targets run) old w = (clock == w.bit) && posedge old w.value
+senses (Clocked clock reset targets run) old w = ((clock == w.bit) && posedge old w.value) || resets reset old w
 senses _ old w = false

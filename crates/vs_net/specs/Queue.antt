@@ -108,7 +108,7 @@ drive (Clock bit) (Fall vector) = (record { bit = bit; value = Zero } ∷ []) �
 drive (Clock bit) Rise = (record { bit = bit; value = One } ∷ []) ∷ []
 drive (Assign reads targets value) slot = []
 drive (Comb waits targets run) slot = []
-drive (Clocked clock targets run) slot = []
+drive (Clocked clock reset targets run) slot = []
 
 abbrev pub started : Queue → ℕ → Queue
 started q p = record q { mode = put q.mode p Waiting }

@@ -1,7 +1,9 @@
 -- The equations of a design, slot by slot: the values at the end of each slot, with no queue.
-use Rattle.std.specs.Prelude.{◌≡◌, ℕ, true, false, List, [], ◌∷◌, ◌++◌}
-use Rattle.vs_net.specs.Network.{State, Update, write_all, flatten, Process, Clocked, Network, Kind, AnInput, TheClock, AClocked, kind, writes, made}
-use Rattle.vs_net.specs.Queue.{Slot, Rise, drive}
+use Rattle.std.specs.Prelude.{◌≡◌, ℕ, Bool, true, false, List, [], ◌∷◌, ◌++◌, ◌&&◌, map, Option, Some, None, if◌then◌else◌}
+use Rattle.vs_four.specs.declared.Bit4.TheVariants.{X}
+use Rattle.vs_four.specs.Tables.{same}
+use Rattle.vs_net.specs.Network.{Sleeper, State, Write, Update, write_all, flatten, Reset, to_value, Process, Clocked, Network, Kind, AnInput, TheClock, AClocked, kind, writes, made}
+use Rattle.vs_net.specs.Queue.{Slot, Fall, Rise, drive}
 
 -- a writer: an input or a clocked block, which writes by nonblocking updates (9.2.2)
 abbrev pub IsWriter : Kind → Type 0
@@ -10,20 +12,44 @@ IsWriter TheClock = Unit {0}
 IsWriter AClocked = Unit {0}
 IsWriter _ = ⊥
 
--- Where the clock rises, the updates of a clocked block, on the values at the end of the slot before. A second edge would give it updates in other slots too.
+-- the updates of the reset branch, where the vector has the reset input active
+abbrev pub reset_updates : Option Reset → State → List Update
+reset_updates None vector = []
+reset_updates (Some r) vector = if same (vector r.input) (to_value r.edge) then r.updates else []
+
+-- The updates of a clocked block: where the clock rises those of its run, on the values at the end of the slot before, and where it falls those of its reset.
 abbrev pub clocked_updates : Process → Slot → State → List Update
-clocked_updates (Clocked clock targets run) Rise before = (run before).updates
+clocked_updates (Clocked clock reset targets run) Rise before = (run before).updates
+clocked_updates (Clocked clock reset targets run) (Fall vector) before = reset_updates reset vector
 clocked_updates _ _ _ = []
 
 -- the values after all updates of a writer in a slot, in their order
 abbrev pub driven : Process → Slot → State → State
 driven process slot before = write_all before (flatten (drive process slot ++ clocked_updates process slot before))
 
+-- each of these bits is x
+abbrev pub all_x : State → List ℕ → Bool
+all_x s [] = true
+all_x s (b ∷ bs) = same (s b) X && all_x s bs
+
+-- These values before a slot are those of a block that sleeps, and in the slot what it waits on stays x.
+-- A block that has been woken may have such values too; then its statement gives x from x, and it is no matter whether it sleeps.
+abbrev pub is_asleep : Option Sleeper → State → State → Bool
+is_asleep None before s = false
+is_asleep (Some x) before s = all_x before x.on && all_x before x.bits && all_x s x.on
+
+-- x to each bit that is written
+abbrev pub blank : List Write → List Write
+blank ws = map (λ w. record { bit = w.bit; value = X }) ws
+
+-- what a process gives its bits in a slot: x where it sleeps on, else what it makes of these values
+abbrev pub given : Network → State → ℕ → State → List Write
+given n before p s = if is_asleep (n.sleeper p) before s then blank (made (n.process p) s) else made (n.process p) s
+
 -- s are the values at the end of the slot, where those at its beginning were before
 pub record IsSlotEnd (n : Network) (before : State) (slot : Slot) (s : State) : Type 0 where
-  -- Each assign's target has the value of its right side (6.1), and each combinational block's bits have what its statement gives from what it reads.
-  -- A block that may sleep through time zero would be an exception here: its bits are x as long as it hasn't woken.
-  pub settled : (p : ℕ) → write_all s (made (n.process p) s) ≡ s
+  -- Each assign's target has the value of its right side (6.1), and each combinational block's bits have what its statement gives from what it reads, or x as long as it sleeps.
+  pub settled : (p : ℕ) → write_all s (given n before p s) ≡ s
   -- inputs have the drive's last values, and registers what the updates of their block give
   pub updated : (p b : ℕ) → IsWriter (kind (n.process p)) → writes (n.process p) b ≡ true → s b ≡ driven (n.process p) slot before b
   -- a bit that no process writes stays: z in a net, x in a variable (4.2)

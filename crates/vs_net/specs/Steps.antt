@@ -1,9 +1,9 @@
 -- What the steps do, in words of their own. The laws are about every network and every state, not only about those that a run reaches.
 -- Clauses are those of IEEE 1364-2005.
-use Rattle.std.specs.Prelude.{◌≡◌, ◌≢◌, ℕ, Bool, true, false, List, [], ◌∷◌, ◌++◌, map, Some, None, ◌↔◌, IsSome}
+use Rattle.std.specs.Prelude.{◌≡◌, ◌≢◌, ℕ, Bool, true, false, List, [], ◌∷◌, ◌++◌, map, Some, None, ◌↔◌, ◌⊎◌, IsSome}
 use Rattle.vs_four.specs.declared.Bit4.{Bit4}
 use Rattle.vs_four.specs.declared.Bit4.TheVariants.{Zero, One, X, Z}
-use Rattle.vs_net.specs.Network.{posedge, State, Write, Update, put, write_all, flatten, Process, Input, Clock, Assign, Comb, Clocked, Network, AnInput, TheClock, AnAssign, kind, listens, made, updates}
+use Rattle.vs_net.specs.Network.{posedge, negedge, is_edge, Reset, State, Write, Update, put, write_all, flatten, Process, Input, Clock, Assign, Comb, Clocked, Network, AnInput, TheClock, AnAssign, kind, listens, made, updates}
 use Rattle.vs_net.specs.Queue.{Unstarted, Waiting, Due, Slot, Queue, change, changes, Choice, Evaluate, Apply, Run, Take, Activate, Next, IsBlock, IsPossible, drive, after, start}
 use Rattle.vs_net.specs.Solution.{IsWriter}
 use Rattle.vs_net.specs.Lawful.{IsLawful}
@@ -20,6 +20,17 @@ pub record PosedgeTable : Type 0 where
   pub from_1 : posedges_from One ≡ false ∷ false ∷ false ∷ false ∷ []
   pub from_x : posedges_from X ≡ false ∷ true ∷ false ∷ false ∷ []
   pub from_z : posedges_from Z ≡ false ∷ true ∷ false ∷ false ∷ []
+
+-- whether a change from this value to 0, to 1, to x and to z is a negedge
+abbrev pub negedges_from : Bit4 → List Bool
+negedges_from old = negedge old Zero ∷ negedge old One ∷ negedge old X ∷ negedge old Z ∷ []
+
+-- all sixteen changes: 1 to 0, 1 to x, 1 to z, x to 0 and z to 0 are negedges, and no other (9.7.2)
+pub record NegedgeTable : Type 0 where
+  pub from_0 : negedges_from Zero ≡ false ∷ false ∷ false ∷ false ∷ []
+  pub from_1 : negedges_from One ≡ true ∷ false ∷ true ∷ true ∷ []
+  pub from_x : negedges_from X ≡ true ∷ false ∷ false ∷ false ∷ []
+  pub from_z : negedges_from Z ≡ true ∷ false ∷ false ∷ false ∷ []
 
 -- each bit has the value already that the write gives it
 abbrev pub HasValues : State → List Write → Type 0
@@ -44,13 +55,13 @@ pub record PendingRule (n : Network) (q : Queue) (p : ℕ) : Type 0 where
 abbrev pub OnePending : Type 0
 OnePending = (n : Network) (q : Queue) (p : ℕ) → PendingRule n q p
 
--- The process is sensitive to the change of a bit from the old value to that written: an assign to each bit that it reads, a combinational block to each that it waits on, a clocked block only to a posedge of its clock net, an input to none.
+-- The process is sensitive to the change of a bit from the old value to that written: an assign to each bit that it reads, a combinational block to each that it waits on, a clocked block only to a posedge of its clock net and to the edge of its reset net, an input to none.
 abbrev pub IsSensitive : Process → Bit4 → Write → Type 0
 IsSensitive (Input bits) old w = ⊥
 IsSensitive (Clock bit) old w = ⊥
 IsSensitive (Assign reads targets value) old w = reads w.bit ≡ true
 IsSensitive (Comb waits targets run) old w = waits w.bit ≡ true
-IsSensitive (Clocked clock targets run) old w = (clock ≡ w.bit) × (posedge old w.value ≡ true)
+IsSensitive (Clocked clock reset targets run) old w = ((clock ≡ w.bit) × (posedge old w.value ≡ true)) ⊎ ((r : Reset) × (reset ≡ Some r) × (r.net ≡ w.bit) × (is_edge r.edge old w.value ≡ true))
 
 -- the write wakes the process: that waits, the write changes the bit, and the process is sensitive to this change
 pub record IsWoken (n : Network) (q : Queue) (w : Write) (p : ℕ) : Type 0 where

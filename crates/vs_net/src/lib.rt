@@ -5,9 +5,10 @@
 
 ghost use Rattle.vs_net.specs.Checked.{TestedRunsComplete};
 ghost use Rattle.vs_net.specs.Example.{ExampleIsBounded, ExampleRuns, example};
+ghost use Rattle.vs_net.specs.ResetExample.{ResetIsBounded, ResetRuns, reset_example};
 ghost use Rattle.vs_net.specs.Lawful.{IsLawful};
-ghost use Rattle.vs_net.specs.Laws.{EveryOrder, LevelRunIsOne, OnePassSettles, OneSolution, RunsEnd, SlotsEnd};
-ghost use Rattle.vs_net.specs.Steps.{EachHasItsParts, OnePending, PosedgeTable, Regions, Waking};
+ghost use Rattle.vs_net.specs.Laws.{EveryOrder, HistoryIsInValues, LevelRunIsOne, OnePassSettles, OneSolution, RunsEnd, SleepersWake, SlotsEnd};
+ghost use Rattle.vs_net.specs.Steps.{EachHasItsParts, NegedgeTable, OnePending, PosedgeTable, Regions, Waking};
 ghost use Rattle.vs_net.specs.Worked.{WorkedRun};
 
 /// Every completed run of a lawful network, in whatever order its steps come, ends each slot with the values of the one solution (11.4.2).
@@ -32,6 +33,16 @@ pub fn exists_law()
 /// Where inputs and registers have their values, one pass over a level order solves the equations of a slot.
 pub fn pass_law()
     ensures { OnePassSettles }
+{}
+
+/// The equations of a solution look at the values of one slot and of the slot before it. That is as if they knew all slots before: a block that may sleep has x as long as all bits that it waits on have been x, and from then on what its statement gives.
+pub fn history_law()
+    ensures { HistoryIsInValues }
+{}
+
+/// In every completed run, at the end of each slot, a block that may sleep has run exactly where a bit that it waits on wasn't x at the end of that slot or of one before it.
+pub fn sleep_law()
+    ensures { SleepersWake }
 {}
 
 /// Between two beginnings of slots, before the first and after the last, a run takes at most `bound` steps, in any order.
@@ -59,9 +70,29 @@ pub fn example_bound_law()
     ensures { ExampleIsBounded }
 {}
 
+/// A network with a register that is reset asynchronously and a block that may sleep is lawful.
+pub fn reset_example_law()
+    ensures { IsLawful reset_example }
+{}
+
+/// That network has completed runs, which end with the solution; one of them ends its slots with values that were worked by hand.
+pub fn reset_runs_law()
+    ensures { ResetRuns }
+{}
+
+/// That network has weights, by which a slot of it takes at most 22 steps.
+pub fn reset_bound_law()
+    ensures { ResetIsBounded }
+{}
+
 /// Of the sixteen changes of a bit exactly five are posedges: 0 to 1, 0 to x, 0 to z, x to 1 and z to 1 (9.7.2).
 pub fn posedge_law()
     ensures { PosedgeTable }
+{}
+
+/// Of the sixteen changes of a bit exactly five are negedges: 1 to 0, 1 to x, 1 to z, x to 0 and z to 0 (9.7.2).
+pub fn negedge_law()
+    ensures { NegedgeTable }
 {}
 
 /// An assign has at most one pending update: a new evaluation replaces it, or withdraws it where the target has the value already in its bits in range, and applying it leaves none (11.6.1).

@@ -5,11 +5,11 @@ use Rattle.vs_refusal.specs.declared.names.BareName.TheVariants.{Usage, TooLong,
 use Rattle.vs_refusal.specs.declared.names.AtName.{AtName}
 use Rattle.vs_refusal.specs.declared.names.AtName.TheVariants.{NoToken, OpenComment, BadLiteral, TooManyTokens, LeftOut, Syntax, TooDeep, NotConstant, UnknownConstant, DuplicateModule, UnknownModule, UnknownName, DuplicateName, BadRange, PortCount, UnknownPort, InstanceDepth, TooManyInstances, GenerateTurns, WrongKind, TooManyBits, TooManyProcesses, TooWide, Division, MixedAssign}
 use Rattle.vs_refusal.specs.declared.names.ProcessName.{ProcessName}
-use Rattle.vs_refusal.specs.declared.names.ProcessName.TheVariants.{ClockRead, NotTheClock, TimeZero}
+use Rattle.vs_refusal.specs.declared.names.ProcessName.TheVariants.{ClockRead, NotTheClock, TimeZero, ResetForm}
 use Rattle.vs_refusal.specs.declared.names.LaneName.{LaneName}
 use Rattle.vs_refusal.specs.declared.names.LaneName.TheVariants.{BadHeader, FirstUnknown, NoVector, TooManyVectors, StimulusTooLong}
 use Rattle.vs_refusal.specs.declared.names.LineName.{LineName}
-use Rattle.vs_refusal.specs.declared.names.LineName.TheVariants.{BadVector, LineTooLong}
+use Rattle.vs_refusal.specs.declared.names.LineName.TheVariants.{BadVector, LineTooLong, UnknownReset}
 
 abbrev pub bare_number : BareName → ℕ
 bare_number Usage = 1
@@ -81,11 +81,13 @@ abbrev pub process_number : ProcessName → ℕ
 process_number ClockRead = 62
 process_number NotTheClock = 63
 process_number TimeZero = 65
+process_number ResetForm = 66
 
 abbrev pub process_text : ProcessName → List ℕ
 process_text ClockRead = codes "ClockRead"
 process_text NotTheClock = codes "NotTheClock"
 process_text TimeZero = codes "TimeZero"
+process_text ResetForm = codes "ResetForm"
 
 abbrev pub lane_number : LaneName → ℕ
 lane_number BadHeader = 70
@@ -104,7 +106,9 @@ lane_text StimulusTooLong = codes "StimulusTooLong"
 abbrev pub line_number : LineName → ℕ
 line_number BadVector = 71
 line_number LineTooLong = 76
+line_number UnknownReset = 77
 
 abbrev pub line_text : LineName → List ℕ
 line_text BadVector = codes "BadVector"
 line_text LineTooLong = codes "LineTooLong"
+line_text UnknownReset = codes "UnknownReset"

@@ -75,10 +75,12 @@ pub enum AtName {
 pub enum ProcessName {
     /// The process reads or waits on a clock net.
     ClockRead,
-    /// A clocked block's events aren't one `posedge` of a clock net (9.7.2).
+    /// A clocked block's events aren't one `posedge` of a clock net, or that and one edge of a reset net (9.7.2).
     NotTheClock,
     /// A combinational block may sleep through time zero in one order and not in another (11.4.2).
     TimeZero,
+    /// A clocked block with a reset is no `if` on that reset whose first branch reads no signal (9.7.2).
+    ResetForm,
 }
 
 /// Refusals of a stimulus that carry its lane.
@@ -103,6 +105,8 @@ pub enum LineName {
     BadVector,
     /// The line has more than 65,536 bytes.
     LineTooLong,
+    /// A vector behind the first has an x or z digit of a reset input.
+    UnknownReset,
 }
 
 impl BareName {
@@ -208,6 +212,7 @@ impl ProcessName {
             ProcessName::ClockRead => 62,
             ProcessName::NotTheClock => 63,
             ProcessName::TimeZero => 65,
+            ProcessName::ResetForm => 66,
         }
     }
 
@@ -219,6 +224,7 @@ impl ProcessName {
             ProcessName::ClockRead => "ClockRead",
             ProcessName::NotTheClock => "NotTheClock",
             ProcessName::TimeZero => "TimeZero",
+            ProcessName::ResetForm => "ResetForm",
         }
     }
 }
@@ -259,6 +265,7 @@ impl LineName {
         match self {
             LineName::BadVector => 71,
             LineName::LineTooLong => 76,
+            LineName::UnknownReset => 77,
         }
     }
 
@@ -269,6 +276,7 @@ impl LineName {
         match self {
             LineName::BadVector => "BadVector",
             LineName::LineTooLong => "LineTooLong",
+            LineName::UnknownReset => "UnknownReset",
         }
     }
 }

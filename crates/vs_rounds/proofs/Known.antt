@@ -221,13 +221,13 @@ contains_front [] ys b h = absurd (cc)
 contains_front (x ∷ xs) ys b h = front_case (b == x) (contains xs b) (contains (xs ++ ys) b) h (contains_front xs ys b)
 
 -- a process of the design is no input
-no_block : (b : Bool) (p : Process) (events : List Event) (statement : Statement) → kind (block_process b p events statement) ≡ AnInput → ⊥
-no_block true p events statement h = cc
-no_block false p events statement h = cc
+no_block : (d : Design) (clock : ℕ) (b : Bool) (p : Process) (events : List Event) (statement : Statement) → kind (block_process d clock b p events statement) ≡ AnInput → ⊥
+no_block d clock true p events statement h = cc
+no_block d clock false p events statement h = cc
 
-no_input : (p : Process) → kind (process_of p) ≡ AnInput → ⊥
-no_input (Continuous place port target_place target e) h = cc
-no_input (Always place star events statement) h = no_block _ _ _ _ h
+no_input : (d : Design) (clock : ℕ) (p : Process) → kind (process_of d clock p) ≡ AnInput → ⊥
+no_input d clock (Continuous place port target_place target e) h = cc
+no_input d clock (Always place star events statement) h = no_block d clock _ _ _ _ h
 
 input_bit : (clock : ℕ) (s : Signal) (ss : List Signal) (b : ℕ) (e : Bool) → (s.first == clock) ≡ e → kind (if e then N.Clock clock else N.Input (bits_of_signal s)) ≡ AnInput → writes (if e then N.Clock clock else N.Input (bits_of_signal s)) b ≡ true
     → contains (signals_bits (if not e then s ∷ ss else ss)) b ≡ true
@@ -266,17 +266,17 @@ at_inputs : (clock : ℕ) (ss : List Signal) (p b : ℕ) → let process = at_or
 at_inputs clock [] p b k w = absurd (cc)
 at_inputs clock (s ∷ ss) p b k w = at_signal clock s ss p b s.input refl k w (λ q. at_inputs clock ss q b)
 
-at_process : (ps : List Process) (others : List N.Process) (p b : ℕ) (P : Type 0) → let process = at_or_input (map process_of ps ++ others) p in kind process ≡ AnInput → writes process b ≡ true
+at_process : (d : Design) (clock : ℕ) (ps : List Process) (others : List N.Process) (p b : ℕ) (P : Type 0) → let process = at_or_input (map (process_of d clock) ps ++ others) p in kind process ≡ AnInput → writes process b ≡ true
     → ((q : ℕ) → kind (at_or_input others q) ≡ AnInput → writes (at_or_input others q) b ≡ true → P) → P
-at_process [] others p b P k w rest = rest p k w
-at_process (x ∷ ps) others zero b P k w rest = absurd (no_input x k)
-at_process (x ∷ ps) others (suc p) b P k w rest = at_process ps others p b P k w rest
+at_process d clock [] others p b P k w rest = rest p k w
+at_process d clock (x ∷ ps) others zero b P k w rest = absurd (no_input d clock x k)
+at_process d clock (x ∷ ps) others (suc p) b P k w rest = at_process d clock ps others p b P k w rest
 
 -- an input's bits are data bits
 pub input_bits_are : (d : Design) (name : List ℕ) (a : IsAcceptedDesign d name) (p b : ℕ) → let process = (network_of d a.clock.first).process p in kind process ≡ AnInput → writes process b ≡ true → contains (data_bits d a.clock.first) b ≡ true
 input_bits_are d name a p b k w =
     subst (λ (bs : List ℕ). contains bs b ≡ true) (sym (data_bits_are d name a))
-    (at_process d.processes (map (writer_of a.clock.first) (top_inputs d)) p b (contains (signals_bits (data_inputs d a.clock.first)) b ≡ true) k w (λ q. at_inputs a.clock.first d.signals q b))
+    (at_process d a.clock.first d.processes (map (writer_of a.clock.first) (top_inputs d)) p b (contains (signals_bits (data_inputs d a.clock.first)) b ≡ true) k w (λ q. at_inputs a.clock.first d.signals q b))
 
 -- a known vector of the inputs' lengths is known in every input
 pub vector_is_known : (d : Design) (name : List ℕ) (a : IsAcceptedDesign d name) (inputs : List Input) (v : Vector) → AreDataInputs d a.clock.first inputs → sizes v ≡ lengths inputs → vector_known v ≡ true

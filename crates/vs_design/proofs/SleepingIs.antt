@@ -1,0 +1,189 @@
+-- Which combinational blocks sleep.
+use Rattle.std.proofs.Common.{◌≡◌, ℕ, Bool, true, false, List, [], ◌∷◌, ◌||◌, ◌&&◌, ◌==◌, not, inr, refl, sym, ap, ◌∙◌, subst, eqb-true, Option, Some, None}
+use Rattle.std.specs.List.{list_any, list_all}
+use Rattle.vs_four.specs.declared.Bit4.TheVariants.{X}
+use Rattle.vs_net.specs.Network.{flatten, is_written}
+use Rattle.vs_net.specs.Network as N
+use Rattle.vs_design.specs.Statements.{Statement, Empty, Assignment, Then, If, Case, Arms, Arm, Default}
+use Rattle.vs_design.specs.Designs.{Process, Continuous, Always, is_clocked, Design}
+use Rattle.vs_design.specs.Footprints.{contains, target_bits, statement_bits, statement_reads, waits_of, input_bits, net_bits, variable_bits, is_input, is_net, is_variable}
+use Rattle.vs_design.specs.Latches.{early_reads}
+use Rattle.vs_design.specs.Rules.{mixed_in, mixed_in_arms, mixed_assigns, missing_bits, latches}
+use Rattle.vs_design.specs.Levels.{is_level_order}
+use Rattle.vs_design.specs.Sets.{Set4, has, only, is_only_x, is_unknown_set, is_known_set}
+use Rattle.vs_design.specs.LiftedBodies.{lifted_body}
+use Rattle.vs_design.specs.Resets.{reset_of, with_reset, with_resets}
+use Rattle.vs_design.specs.Sleepers.{at_once, arms_at_once, comb_bits, is_once, is_still, stays_x, is_sleeping}
+use Rattle.vs_design.specs.TimeZero.{Families, families, early_source, before_run, block_sets, is_quiet, wakes}
+use Rattle.vs_design.specs.Elaborated.{is_formed, is_formed_target, is_formed_port, is_formed_process, has_constant_selects}
+use Rattle.vs_design.specs.Accepted.{is_empty}
+use Rattle.vs_design.specs.Equations.{IsBlock, IsSource, IsOrderly}
+use Rattle.vs_design.specs.TreeLaws.{SameSets}
+use Rattle.vs_design.specs.Laws.{SleepingIs}
+use Rattle.vs_design.proofs.Lists.{by_test, and_both, contains_head, or_right}
+use Rattle.vs_design.proofs.Writes.{either_way}
+use Rattle.vs_design.proofs.BodyExact.{append_empty, blocking_is}
+use Rattle.vs_design.proofs.Blocks.{no_latch_at, early_in, contains_without}
+use Rattle.vs_design.proofs.SetBits.{union_right}
+use Rattle.vs_design.proofs.SetReadsBody.{body_sets_read}
+use Rattle.vs_design.proofs.Drivers.{empty_is}
+use Rattle.vs_design.proofs.Parts.{all_at}
+use Rattle.vs_design.proofs.Signals.{kinds_apart}
+use Rattle.vs_design.proofs.Formed.{target_kind}
+use Rattle.vs_design.proofs.Facts.{CombFacts, comb_facts_by}
+use Rattle.vs_design.proofs.SleepLaws.{comb_listed}
+use Rattle.vs_design.proofs.TimeBits.{all_of_bits}
+use Rattle.vs_design.proofs.Solved.{solved}
+
+-- ---- a combinational block has blocking assignments alone
+
+mutual
+  once_same : (st : Statement) → mixed_in false st ≡ [] → at_once st ≡ st
+  once_same Empty m = refl
+  once_same (Assignment place target e blocking) m = ap {B = Statement} (λ b. Assignment place target e b) (sym (blocking_is blocking place m))
+  once_same (Then first rest) m = let n = append_empty (mixed_in false first) (mixed_in false rest) m in
+      ap {B = Statement} (λ s. Then s (at_once rest)) (once_same first n.0) ∙ ap {B = Statement} (Then first) (once_same rest n.1)
+  once_same (If c taken other) m = let n = append_empty (mixed_in false taken) (mixed_in false other) m in
+      ap {B = Statement} (λ s. If c s (at_once other)) (once_same taken n.0) ∙ ap {B = Statement} (If c taken) (once_same other n.1)
+  once_same (Case kind subject arms) m = ap {B = Statement} (Case kind subject) (arms_once_same arms m)
+
+  arms_once_same : (arms : Arms) → mixed_in_arms false arms ≡ [] → arms_at_once arms ≡ arms
+  arms_once_same (Arm items statement rest) m = let n = append_empty (mixed_in false statement) (mixed_in_arms false rest) m in
+      ap {B = Arms} (λ s. Arm items s (arms_at_once rest)) (once_same statement n.0) ∙ ap {B = Arms} (Arm items statement) (arms_once_same rest n.1)
+  arms_once_same (Default statement) m = ap {B = Arms} Default (once_same statement m)
+
+-- ---- the bits that it waits on
+
+reset_keeps : (o : Option N.Reset) (b : ℕ) (s : Set4) → has s X ≡ true → has (with_reset o b s) X ≡ true
+reset_keeps None b s h = h
+reset_keeps (Some r) b s h =
+    by_test (is_written (flatten r.updates) b)
+    (λ e. rw e (union_right (only _) s X h))
+    (λ e. rw e h)
+
+resets_keep : (d : Design) (clock : ℕ) (ps : List Process) (b : ℕ) (s : Set4) → has s X ≡ true → has (with_resets d clock ps b s) X ≡ true
+resets_keep d clock [] b s h = h
+resets_keep d clock (x ∷ ps) b s h = reset_keeps (reset_of d clock x) b (with_resets d clock ps b s) (resets_keep d clock ps b s h)
+
+not_known : (s : Set4) → has s X ≡ true → is_known_set s ≡ false
+not_known s h = rw h refl
+
+module _ (d : Design) (o : IsOrderly d) (clock : ℕ) (clock_in : contains (input_bits d) clock ≡ true) (order : List ℕ) (h : is_level_order d order ≡ true) where
+  abbrev f : Families
+  f = families d clock order
+
+  -- such a bit is a variable's, and no assign and no combinational block writes it
+  record Still (b : ℕ) : Type 0 where
+    pub variable : contains (variable_bits d) b ≡ true
+    pub no_comb : contains (comb_bits d.processes) b ≡ false
+
+  still_is : (b : ℕ) → is_still d b ≡ true → Still b
+  still_is b k =
+      let p = and_both (contains (variable_bits d) b) (not (contains (comb_bits d.processes) b)) (and_both (contains (variable_bits d) b && not (contains (comb_bits d.processes) b)) (is_once d.processes b) k).0 in
+      record { variable = p.0; no_comb = go (contains (comb_bits d.processes) b) p.1 }
+    where
+      go : (c : Bool) → not c ≡ true → c ≡ false
+      go true q = cc
+      go false q = refl
+
+  no_net : (b : ℕ) → Still b → contains (net_bits d) b ≡ false
+  no_net b k = by_test (contains (net_bits d) b) (λ e. absurd (kinds_apart is_variable is_net 0 d.signals b (λ s q. go s.net s.input q) o.lawful.bits_numbered k.variable e)) (λ e. e)
+    where
+      go : (n i : Bool) → (not n && not i) ≡ true → (n && not i) ≡ false
+      go false i q = refl
+      go true i q = cc
+
+  no_input : (b : ℕ) → Still b → contains (input_bits d) b ≡ false
+  no_input b k = by_test (contains (input_bits d) b) (λ e. absurd (kinds_apart is_variable is_input 0 d.signals b (λ s q. go s.net s.input q) o.lawful.bits_numbered k.variable e)) (λ e. e)
+    where
+      go : (n i : Bool) → (not n && not i) ≡ true → i ≡ false
+      go false false q = refl
+      go false true q = sym q
+      go true i q = cc
+
+  source : (b : ℕ) → Still b → IsSource d b
+  source b k p (Continuous place port target_place target e) i c = by_test (contains (target_bits target) b) (λ w. absurd (either_way (contains (net_bits d) b) (target_kind d is_net target b formed w) (no_net b k))) (λ w. w)
+    where
+      formed : is_formed_target d is_net target ≡ true
+      formed =
+          let a = all_at (is_formed_process d) d.processes p (Continuous place port target_place target e) o.lawful.formed i in
+          let g = and_both (is_formed_target d is_net target && has_constant_selects target && is_formed d e) (is_formed_port port target e) a in
+          (and_both (is_formed_target d is_net target) (has_constant_selects target) (and_both (is_formed_target d is_net target && has_constant_selects target) (is_formed d e) g.0).0).0
+  source b k p (Always place star events st) i c = by_test (contains (statement_bits st) b) (λ w. absurd (either_way (contains (comb_bits d.processes) b) (comb_listed d.processes p place star events st b i c w) k.no_comb)) (λ w. w)
+
+  early_is : (b : ℕ) → Still b → f.early b ≡ only X
+  early_is b k = ((solved d o clock order h).source b (source b k)).0 ∙ rw (no_net b k) refl
+
+  late_has : (b : ℕ) → Still b → has (f.late b) X ≡ true
+  late_has b k = subst (λ s. has s X ≡ true) (sym late_is) (resets_keep d clock d.processes b (early_source d b) (rw (no_net b k) refl))
+    where
+      not_clock : contains (clock ∷ []) b ≡ false
+      not_clock = by_test (b == clock) (λ e. absurd (either_way (contains (input_bits d) b) (subst (λ m. contains (input_bits d) m ≡ true) (sym (eqb-true b clock e)) clock_in) (no_input b k))) (λ e. rw e refl)
+
+      late_is : f.late b ≡ with_resets d clock d.processes b (early_source d b)
+      late_is = ((solved d o clock order h).source b (source b k)).1 ∙ rw (not_clock, no_input b k) refl
+
+  -- so it doesn't wake
+  never_wakes : (bs : List ℕ) → list_all (is_still d) bs ≡ true → list_any (λ b. is_unknown_set (f.early b) && is_known_set (f.late b)) bs ≡ false
+  never_wakes [] k = refl
+  never_wakes (b ∷ bs) k =
+      let p = and_both (is_still d b) (list_all (is_still d) bs) k in
+      rw (not_known (f.late b) (late_has b (still_is b p.0)), never_wakes bs p.1) (none (is_unknown_set (f.early b)))
+    where
+      none : (u : Bool) → ((u && false) || false) ≡ false
+      none true = refl
+      none false = refl
+
+  -- and it is quiet where it leaves x alone
+  module _ (p : ℕ) (st : Statement) (i : IsBlock d p st) (sensitive : list_all (λ p. is_empty (missing_bits p)) d.processes ≡ true) where
+    abbrev x : Process
+    x = Always i.place i.star i.events st
+
+    facts : CombFacts x st
+    facts = comb_facts_by i.place i.star i.events st i.combinational
+        (empty_is (mixed_assigns x) (all_at (λ p. is_empty (mixed_assigns p)) d.processes p x o.unmixed i.is))
+        (empty_is (latches x) (all_at (λ p. is_empty (latches p)) d.processes p x o.no_latch i.is))
+        (empty_is (missing_bits x) (all_at (λ p. is_empty (missing_bits p)) d.processes p x sensitive i.is))
+
+    same_sets : list_all (is_still d) (waits_of x) ≡ true → SameSets (early_reads st []) (λ c. only X) (before_run (statement_bits st) f.early)
+    same_sets k c e =
+        by_test (contains (statement_bits st) c)
+        (λ w. absurd (either_way (contains (early_reads st []) c) e (no_latch_at st c facts.no_latch w).0))
+        (λ w. rw w (sym (early_is c (still_is c (all_of_bits (is_still d) (waits_of x) c k (facts.waits c (contains_without (statement_reads st) (statement_bits st) c (early_in st [] c e) w)))))))
+
+    same_end : list_all (is_still d) (waits_of x) ≡ true → (b : ℕ) → contains (statement_bits st) b ≡ true → lifted_body (at_once st) (λ c. only X) b ≡ block_sets st f.early b
+    same_end k b w =
+        ap {B = Set4} (λ s. lifted_body s (λ c. only X) b) (once_same st facts.unmixed)
+        ∙ body_sets_read st (λ c. only X) (before_run (statement_bits st) f.early) facts.unmixed (same_sets k) b (inr (no_latch_at st b facts.no_latch w).1)
+
+    same_quiet : list_all (is_still d) (waits_of x) ≡ true → stays_x st ≡ is_quiet st f.early
+    same_quiet k = go (statement_bits st) (λ b w. w)
+      where
+        go : (bs : List ℕ) → ((b : ℕ) → contains bs b ≡ true → contains (statement_bits st) b ≡ true) → list_all (λ b. is_only_x (lifted_body (at_once st) (λ c. only X) b)) bs ≡ list_all (λ b. is_only_x (block_sets st f.early b)) bs
+        go [] within = refl
+        go (b ∷ bs) within =
+            let rest : list_all (λ b. is_only_x (lifted_body (at_once st) (λ c. only X) b)) bs ≡ list_all (λ b. is_only_x (block_sets st f.early b)) bs = go bs (λ c e. within c (or_right (c == b) (contains bs c) e)) in
+            ap {B = Bool} (λ (s : Set4). is_only_x s && list_all (λ b. is_only_x (lifted_body (at_once st) (λ c. only X) b)) bs) (same_end k b (within b (contains_head b bs)))
+            ∙ ap {B = Bool} (λ t. is_only_x (block_sets st f.early b) && t) rest
+
+    is : is_sleeping d x ≡ (list_all (is_still d) (waits_of x) && not (is_quiet st f.early) && not (wakes f x))
+    is =
+        by_test (list_all (is_still d) (waits_of x))
+        (λ k. sleeps (is_clocked x) (list_all (is_still d) (waits_of x)) (stays_x st) (is_quiet st f.early) (wakes f x) i.combinational k (same_quiet k) (never_wakes (waits_of x) k))
+        (λ k. awake (is_clocked x) (list_all (is_still d) (waits_of x)) (stays_x st) (is_quiet st f.early) (wakes f x) k)
+      where
+        sleeps : (c l s q w : Bool) → c ≡ false → l ≡ true → s ≡ q → w ≡ false → (not c && l && not s) ≡ (l && not q && not w)
+        sleeps false true true true false a b m n = refl
+        sleeps false true false false false a b m n = refl
+        sleeps c false s q w a b m n = cc
+        sleeps true l s q w a b m n = cc
+        sleeps c l s q true a b m n = cc
+        sleeps c l true false w a b m n = cc
+        sleeps c l false true w a b m n = cc
+
+        awake : (c l s q w : Bool) → l ≡ false → (not c && l && not s) ≡ (l && not q && not w)
+        awake true l s q w k = rw k refl
+        awake false l s q w k = rw k refl
+
+pub sleeping_is : SleepingIs
+sleeping_is d o sensitive clock clock_in order h p st i = is d o clock clock_in order h p st i sensitive

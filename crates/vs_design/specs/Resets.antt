@@ -1,0 +1,106 @@
+-- Asynchronous resets: the rule ResetForm, and what a reset does.
+use Rattle.std.specs.Prelude.{ℕ, Bool, true, false, not, ◌&&◌, List, [], ◌∷◌, ◌==◌, if◌then◌else◌, Option, Some, None, is_some, filter}
+use Rattle.std.specs.List.{list_any}
+use Rattle.vs_four.specs.declared.Bit4.TheVariants.{X}
+use Rattle.vs_net.specs.Network.{Update, write_all, flatten, is_written}
+use Rattle.vs_net.specs.Network as N
+use Rattle.vs_design.specs.Expressions.{Signal, signal_length, BitNot, LogicalNot, Expression, Unary, At}
+use Rattle.vs_design.specs.Statements.{Statement, Empty, Assignment, Then, If, Case, Arms, Arm, Default}
+use Rattle.vs_design.specs.Bodies.{body}
+use Rattle.vs_design.specs.Designs.{Edge, Any, Posedge, Negedge, Event, Process, Always, Design}
+use Rattle.vs_design.specs.Footprints.{statement_signals}
+use Rattle.vs_design.specs.Sets.{Set4, only, union}
+use Rattle.vs_design.specs.Clocks.{name_of, Events, ByBoth, events_of, clock_nets, one_bit_inputs, root_of}
+use Rattle.vs_design.specs.Elaborated.{has_constant_selects}
+
+-- the expression is the name of the one-bit signal with this bit
+abbrev pub is_signal : ℕ → Option Signal → Bool
+is_signal b (Some s) = (signal_length s == 1) && (s.first == b)
+is_signal b None = false
+
+-- what `~` or `!` stands before; round brackets are no matter
+abbrev pub inverted : Expression → Option Signal
+inverted (Unary BitNot a) = name_of a
+inverted (Unary LogicalNot a) = name_of a
+inverted (At place e) = inverted e
+inverted _ = None
+
+-- the condition of a reset: the net's name for `posedge`, `!` or `~` and its name for `negedge`
+abbrev pub is_condition : Edge → ℕ → Expression → Bool
+is_condition Posedge b c = is_signal b (name_of c)
+is_condition Negedge b c = is_signal b (inverted c)
+is_condition Any b c = false
+
+abbrev pub has_none : List Signal → Bool
+has_none [] = true
+has_none (s ∷ ss) = false
+
+-- all targets have constant selects
+abbrev mutual
+  pub are_constant : Statement → Bool
+  are_constant Empty = true
+  are_constant (Assignment place target e blocking) = has_constant_selects target
+  are_constant (Then first rest) = are_constant first && are_constant rest
+  are_constant (If c taken other) = are_constant taken && are_constant other
+  are_constant (Case kind subject arms) = arms_constant arms
+
+  pub arms_constant : Arms → Bool
+  arms_constant (Arm items statement rest) = are_constant statement && arms_constant rest
+  arms_constant (Default statement) = are_constant statement
+
+-- the branch names no signal but as a target, and its targets have constant selects
+abbrev pub is_fixed : Statement → Bool
+is_fixed s = has_none (statement_signals s) && are_constant s
+
+-- the first branch of a statement of the form, an `if`. A `begin` and `end` round one statement alone is no statement of its own
+abbrev pub reset_branch : Edge → ℕ → Statement → Option Statement
+reset_branch edge b (If c taken other) = if is_condition edge b c && is_fixed taken then Some taken else None
+reset_branch edge b _ = None
+
+abbrev pub has_form : Option Events → Statement → Bool
+has_form (Some (ByBoth clock reset)) s = is_some (reset_branch reset.edge reset.signal.first s)
+has_form _ s = true
+
+-- the rule ResetForm: a block whose events are right and one of which is a reset has another form
+abbrev pub has_other_form : List ℕ → (ℕ → Option ℕ) → Process → Bool
+has_other_form nets roots (Always place star events s) = not (has_form (events_of nets roots events) s)
+has_other_form nets roots _ = false
+
+-- what the reset branch gives; it reads nothing
+abbrev pub branch_updates : Statement → List Update
+branch_updates s = (body s (λ b. X)).updates
+
+abbrev pub net_edge : Edge → N.Edge
+net_edge Negedge = N.Negedge
+net_edge _ = N.Posedge
+
+abbrev pub reset_with : Event → Option ℕ → Option Statement → Option N.Reset
+reset_with e (Some i) (Some taken) = Some (record { net = e.signal.first; edge = net_edge e.edge; input = i; updates = branch_updates taken })
+reset_with e _ _ = None
+
+-- the reset of a block with these events and this statement
+abbrev pub reset_by : (ℕ → Option ℕ) → Option Events → Statement → Option N.Reset
+reset_by roots (Some (ByBoth clock reset)) s = reset_with reset (roots reset.signal.first) (reset_branch reset.edge reset.signal.first s)
+reset_by roots _ s = None
+
+abbrev pub reset_of : Design → ℕ → Process → Option N.Reset
+reset_of d clock (Always place star events s) = reset_by (root_of d clock) (events_of (clock_nets d clock) (root_of d clock) events) s
+reset_of d clock _ = None
+
+-- the reset copies this input
+abbrev pub has_root : ℕ → Option N.Reset → Bool
+has_root i None = false
+has_root i (Some r) = i == r.input
+
+-- the reset inputs, those at the root of the resets of blocks, each by its bit, in order of declaration
+abbrev pub reset_inputs : Design → ℕ → List ℕ
+reset_inputs d clock = filter (λ i. list_any (λ p. has_root i (reset_of d clock p)) d.processes) (one_bit_inputs d clock)
+
+-- the sets of a bit with the value that a reset gives it last
+abbrev pub with_reset : Option N.Reset → ℕ → Set4 → Set4
+with_reset None b sets = sets
+with_reset (Some r) b sets = if is_written (flatten r.updates) b then union (only (write_all (λ c. X) (flatten r.updates) b)) sets else sets
+
+abbrev pub with_resets : Design → ℕ → List Process → ℕ → Set4 → Set4
+with_resets d clock [] b sets = sets
+with_resets d clock (p ∷ ps) b sets = with_reset (reset_of d clock p) b (with_resets d clock ps b sets)
