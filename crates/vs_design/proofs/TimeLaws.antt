@@ -249,8 +249,7 @@ module _ (d : Design) (name : List ℕ) (a : IsAcceptedDesign d name) where
   late_register b h =
       let not_clock : (b == a.clock.first) ≡ false = by_test (b == a.clock.first)
       (λ q. absurd (two_kinds (kind (net_work.process (clock_number d name a))) (clock_is d name a) (h (clock_number d name a) (clock_writes_it (eqb-true b a.clock.first q)))))
-      (λ q. q) in
-      (
+      (λ q. q) in (
         not_clock,
         by_test (contains (input_bits d) b) (λ i. absurd (an_input not_clock (signal_with (top_inputs d) b i))) (λ i. i),
         (first_sets b (λ p w s. clocked_not (kind (net_work.process p)) (h p w) s)).1,

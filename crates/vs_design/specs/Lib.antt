@@ -34,5 +34,6 @@ pub mod ExampleElaborated
 pub mod ExampleValues
 pub mod ExampleBodies
 pub mod ExampleSets
+pub mod ExampleSizes
 pub mod ExampleDesigns
 pub mod ExampleRefusals

@@ -9,6 +9,7 @@ ghost use Rattle.vs_design.specs.ExampleDesigns.{DesignsComputed};
 ghost use Rattle.vs_design.specs.ExampleElaborated.{ElaboratedComputed};
 ghost use Rattle.vs_design.specs.ExampleRefusals.{RefusalsComputed};
 ghost use Rattle.vs_design.specs.ExampleSets.{SetsComputed};
+ghost use Rattle.vs_design.specs.ExampleSizes.{SizesComputed};
 ghost use Rattle.vs_design.specs.ExampleValues.{ValuesComputed};
 ghost use Rattle.vs_design.specs.Laws.{AcceptedExactly, AcceptedIsLawful, AscendingHas, AscendingRises, BitsOfDesign, BoundOfDesign, ClockNetsAre, EveryOrderOfDesign, LevelOrderIs, LevelRunOfDesign, OneFamilies, OnePassOfDesign, OneSolutionOfDesign, OrderOrCycle, RunsEndOfDesign, SleepersOfDesign, SleepingIs, StarMissesNone};
 ghost use Rattle.vs_design.specs.Paths.{LatchBitsAre};
@@ -166,6 +167,11 @@ pub fn body_examples()
 /// Worked sets of values.
 pub fn set_examples()
     ensures { SetsComputed }
+{}
+
+/// Worked sizes: what each kind of expression, statement and process weighs.
+pub fn size_examples()
+    ensures { SizesComputed }
 {}
 
 /// Worked designs: their sizes, that they are accepted, and the values at the end of each slot.
