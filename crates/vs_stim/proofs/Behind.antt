@@ -70,7 +70,7 @@ vectors_begin : (cs : List Column) (p : Place) (count : ℕ) (ls ms : List Line)
     → Begins (read_vectors limits cs p count (ls ++ last_lines)) (read_vectors limits cs p count (ls ++ ms))
 vectors_begin cs p count [] ms = none_first (read_vectors limits cs p count last_lines) (read_vectors limits cs p count ms) (last_vectors cs p count)
 vectors_begin cs p count (l ∷ ls) ms =
-    go (too_long limits p (length l.bytes) l.ended) (vector_line cs (content l)) (not_taken limits count) _ _ _ _
+    go (too_long limits p (length l.bytes) l.ended) (vector_line cs (content l)) (not_taken limits cs p.number count) _ _ _ _
     (vectors_begin cs (behind p (length l.bytes)) count ls ms) (vectors_begin cs (behind p (length l.bytes)) (count + 1) ls ms)
   where
     turn : Option StimError → Said Vector → (Vector → Option StimError) → Reading → Reading → Reading

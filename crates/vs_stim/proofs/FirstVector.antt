@@ -3,13 +3,13 @@ use Rattle.std.proofs.Common.{◌≡◌, ℕ, ◌+◌, ◌<◌, Bool, true, fals
 use Rattle.std.specs.Prelude.{Option, Some, None}
 use Rattle.vs_four.specs.declared.Bit4.{Bit4}
 use Rattle.vs_stim.specs.declared.error.StimError.{StimError}
-use Rattle.vs_stim.specs.declared.error.StimError.TheVariants.{BadHeader, BadVector, FirstUnknown, TooManyVectors}
+use Rattle.vs_stim.specs.declared.error.StimError.TheVariants.{BadHeader, BadVector, FirstUnknown, UnknownReset, TooManyVectors}
 use Rattle.vs_stim.specs.declared.input.Input.{Input}
 use Rattle.vs_stim.specs.declared.input.Column.{Column}
 use Rattle.vs_stim.specs.Lines.{Line, lines, all_lines, content}
 use Rattle.vs_stim.specs.Reading.{Reading, refused, with_vector, limits, Place, behind, too_long, Said, header_line, vector_line, not_taken, first_place, reading, read_vectors, read_header}
 use Rattle.vs_stim.specs.Reading.Said.{Skipped, Malformed, Given}
-use Rattle.vs_stim.specs.Vectors.{vector_known}
+use Rattle.vs_stim.specs.Vectors.{vector_known, resets_known}
 
 abbrev Vector : Type 0
 Vector = List (List Bit4)
@@ -40,26 +40,36 @@ turn p long s taken skipped given =
       ]
     ]
 
-turn_known : (p : Place) (long : Option StimError) (s : Said Vector) (skipped : Reading) (given : Vector → Reading) → FirstKnown skipped
-    → FirstKnown (turn p long s (not_taken limits 0) skipped given)
+turn_known : (cs : List Column) (p : Place) (long : Option StimError) (s : Said Vector) (skipped : Reading) (given : Vector → Reading) → FirstKnown skipped
+    → FirstKnown (turn p long s (not_taken limits cs p.number 0) skipped given)
 unfolding turn
-turn_known p (Some e) s skipped given h = none_known e
-turn_known p None Skipped skipped given h = h
-turn_known p None Malformed skipped given h = none_known (BadVector p.number)
-turn_known p None (Given v) skipped given h = go (vector_known v) refl
+turn_known cs p (Some e) s skipped given h = none_known e
+turn_known cs p None Skipped skipped given h = h
+turn_known cs p None Malformed skipped given h = none_known (BadVector p.number)
+turn_known cs p None (Given v) skipped given h = go (vector_known v) refl
   where
+    known : (r : Bool) → vector_known v ≡ true → FirstKnown (elim (elim r as (λ _. Option StimError) [
+      | false ↦ Some (UnknownReset p.number)
+      | true ↦ None
+    ]) as (λ _. Reading) [ Some e ↦ refused e | None ↦ with_vector v (given v) ])
+    known false e = none_known (UnknownReset p.number)
+    known true e = record { known = λ first later h. let same : v ≡ first = cc in ap vector_known (sym same) ∙ e }
+
     go : (b : Bool) → vector_known v ≡ b → FirstKnown (elim (elim (nat_eq 0 0 && not b) as (λ _. Option StimError) [
       | true ↦ Some FirstUnknown
-      | false ↦ elim (nat_eq 0 limits.vectors) [ true ↦ Some TooManyVectors | false ↦ None ]
+      | false ↦ elim (resets_known cs v) [
+        | false ↦ Some (UnknownReset p.number)
+        | true ↦ elim (nat_eq 0 limits.vectors) [ true ↦ Some TooManyVectors | false ↦ None ]
+      ]
     ]) as (λ _. Reading) [ Some e ↦ refused e | None ↦ with_vector v (given v) ])
     go false e = none_known FirstUnknown
-    go true e = record { known = λ first later h. let same : v ≡ first = cc in ap vector_known (sym same) ∙ e }
+    go true e = known (resets_known cs v) e
 
 pub vectors_known : (cs : List Column) (p : Place) (ls : List Line) → FirstKnown (read_vectors limits cs p 0 ls)
 unfolding turn
 vectors_known cs p [] = record { known = λ first later h. cc }
 vectors_known cs p (l ∷ ls) =
-    turn_known p (too_long limits p (length l.bytes) l.ended) (vector_line cs (content l)) (read_vectors limits cs (behind p (length l.bytes)) 0 ls)
+    turn_known cs p (too_long limits p (length l.bytes) l.ended) (vector_line cs (content l)) (read_vectors limits cs (behind p (length l.bytes)) 0 ls)
     (λ v. read_vectors limits cs (behind p (length l.bytes)) (0 + 1) ls) (vectors_known cs (behind p (length l.bytes)) ls)
 
 -- lines before the vectors, by the first of them
@@ -107,7 +117,7 @@ vectors_whole : (cs : List Column) (p : Place) (ls : List Line) → HasVector (r
 unfolding turn
 vectors_whole cs p [] = record { some = λ h. cc }
 vectors_whole cs p (l ∷ ls) =
-    turn_whole p (too_long limits p (length l.bytes) l.ended) (vector_line cs (content l)) (not_taken limits 0) (read_vectors limits cs (behind p (length l.bytes)) 0 ls)
+    turn_whole p (too_long limits p (length l.bytes) l.ended) (vector_line cs (content l)) (not_taken limits cs p.number 0) (read_vectors limits cs (behind p (length l.bytes)) 0 ls)
     (λ v. read_vectors limits cs (behind p (length l.bytes)) (0 + 1) ls) (vectors_whole cs (behind p (length l.bytes)) ls)
 
 pub has_vector : (is : List Input) (text : List ℕ) → HasVector (reading is text)

@@ -1,6 +1,9 @@
 pub mod Rows
 pub mod FirstVector
+pub mod Heads
+pub mod EachVector
 pub mod VectorSizes
+pub mod KnownResets
 pub mod Behind
 pub mod Arranged
 pub mod Counted

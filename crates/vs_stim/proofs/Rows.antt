@@ -1,11 +1,11 @@
 -- Worked texts, computed.
-use Rattle.std.proofs.Common.{◌≡◌, ℕ, List, [], ◌∷◌, ◌++◌, refl}
+use Rattle.std.proofs.Common.{◌≡◌, ℕ, true, false, List, [], ◌∷◌, ◌++◌, refl}
 use Rattle.std.specs.Prelude.{codes, Option, Some, None}
 use Rattle.vs_four.specs.declared.Bit4.{Bit4}
 use Rattle.vs_four.specs.declared.Bit4.TheVariants.{Zero, One, X, Z}
 use Rattle.vs_stim.specs.declared.input.Input.{Input}
 use Rattle.vs_stim.specs.declared.error.StimError.{StimError}
-use Rattle.vs_stim.specs.declared.error.StimError.TheVariants.{BadHeader, BadVector, FirstUnknown, NoVector, TooManyVectors, StimulusTooLong, LineTooLong}
+use Rattle.vs_stim.specs.declared.error.StimError.TheVariants.{BadHeader, BadVector, FirstUnknown, UnknownReset, NoVector, TooManyVectors, StimulusTooLong, LineTooLong}
 use Rattle.vs_stim.specs.Reading.{Reading, Limits, reading, reading_within, refused}
 
 -- a line with its LF
@@ -21,10 +21,13 @@ abbrev gives : List (List (List Bit4)) → Option StimError → Reading
 gives vs e = record { vectors = vs; refusal = e }
 
 abbrev two : List Input
-two = record { name = codes "a"; length = 1 } ∷ record { name = codes "b"; length = 1 } ∷ []
+two = record { name = codes "a"; length = 1; reset = false } ∷ record { name = codes "b"; length = 1; reset = false } ∷ []
 
 abbrev wide : List Input
-wide = record { name = codes "a"; length = 4 } ∷ record { name = codes "b"; length = 2 } ∷ []
+wide = record { name = codes "a"; length = 4; reset = false } ∷ record { name = codes "b"; length = 2; reset = false } ∷ []
+
+abbrev with_reset : List Input
+with_reset = record { name = codes "a"; length = 1; reset = false } ∷ record { name = codes "b"; length = 1; reset = true } ∷ []
 
 abbrev small : Limits
 small = record { vectors = 2; line = 10; bytes = 20 }
@@ -96,6 +99,22 @@ first_unknown = refl
 malformed_first : reading two (line (codes "inputs a b") ++ line (codes "x 2")) ≡ refused (BadVector 2)
 malformed_first = refl
 
+-- a reset input is known in later vectors too, and other inputs needn't be
+unknown_reset : reading with_reset (line (codes "inputs b a") ++ line (codes "0 1") ++ line (codes "1 z") ++ line [] ++ line (codes "x 1") ++ line (codes "2"))
+    ≡ gives (one_zero ∷ ((Z ∷ []) ∷ (One ∷ []) ∷ []) ∷ []) (Some (UnknownReset 5))
+unknown_reset = refl
+
+floating_reset : reading with_reset (line (codes "inputs a b") ++ line (codes "1 0") ++ line (codes "1 Z")) ≡ gives (one_zero ∷ []) (Some (UnknownReset 3))
+floating_reset = refl
+
+-- in the first vector it is unknown as any other
+first_reset : reading with_reset (line (codes "inputs a b") ++ line (codes "1 x")) ≡ refused FirstUnknown
+first_reset = refl
+
+-- a malformed line comes before an unknown reset
+malformed_reset : reading with_reset (line (codes "inputs a b") ++ line (codes "1 0") ++ line (codes "2 x")) ≡ gives (one_zero ∷ []) (Some (BadVector 3))
+malformed_reset = refl
+
 -- the limits, small ones
 line_limit : reading_within small [] (line (codes "#") ++ line (codes "# 34567890")) ≡ refused BadHeader
 line_limit = refl
@@ -120,3 +139,7 @@ vectors_limit = refl
 -- a malformed line comes before the limit on vectors
 malformed_past : reading_within small [] (line (codes "inputs") ++ line (codes "-") ++ line (codes "-") ++ line (codes "=")) ≡ gives ([] ∷ [] ∷ []) (Some (BadVector 4))
 malformed_past = refl
+
+-- and so does an unknown reset
+reset_past : reading_within (record { vectors = 1; line = 10; bytes = 40 }) with_reset (line (codes "inputs a b") ++ line (codes "1 0") ++ line (codes "1 x")) ≡ gives (one_zero ∷ []) (Some (UnknownReset 3))
+reset_past = refl

@@ -36,9 +36,9 @@ vector_turn cs o count r s taken =
       ]
     ]
 
-turned : (cs : List Column) (o : Open) (count : ℕ) (r : Option StimError) (s : Said Values) → o.taken ≡ 0 → line_refusal o ≡ r → vector_line cs (says o) ≡ s → vectors_from cs count o ≡ vector_turn cs o count r s (not_taken limits count)
+turned : (cs : List Column) (o : Open) (count : ℕ) (r : Option StimError) (s : Said Values) → o.taken ≡ 0 → line_refusal o ≡ r → vector_line cs (says o) ≡ s → vectors_from cs count o ≡ vector_turn cs o count r s (not_taken limits cs o.at.number count)
 unfolding vector_turn
-turned cs o count r s z e f = λ i. vector_turn cs o count ((refusal_here o z ∙ e) i) (f i) (not_taken limits count)
+turned cs o count r s z e f = λ i. vector_turn cs o count ((refusal_here o z ∙ e) i) (f i) (not_taken limits cs o.at.number count)
 
 -- the lines behind this one
 later_vectors : (cs : List Column) (o p : Open) (count : ℕ) → o.taken ≡ 0 → Passes false o p → read_vectors limits cs (behind o.at (length (lines o.rest).first.bytes)) count (lines o.rest).later ≡ vectors_from cs count p
@@ -69,11 +69,11 @@ fault_skipped is o p z h s =
 last_vectors : (cs : List Column) (o p : Open) (count : ℕ) → Passes true o p → read_vectors limits cs (behind o.at (length (lines o.rest).first.bytes)) count (lines o.rest).later ≡ at_end count
 last_vectors cs o p count h = ap (read_vectors limits cs (behind o.at (length (lines o.rest).first.bytes)) count) (h.none refl)
 
-vectors_given : (cs : List Column) (o : Open) (count : ℕ) (v : Values) → o.taken ≡ 0 → line_refusal o ≡ None → vector_line cs (says o) ≡ Given v → not_taken limits count v ≡ None → vectors_from cs count o ≡ with_vector v (read_vectors limits cs (behind o.at (length (lines o.rest).first.bytes)) (count + 1) (lines o.rest).later)
+vectors_given : (cs : List Column) (o : Open) (count : ℕ) (v : Values) → o.taken ≡ 0 → line_refusal o ≡ None → vector_line cs (says o) ≡ Given v → not_taken limits cs o.at.number count v ≡ None → vectors_from cs count o ≡ with_vector v (read_vectors limits cs (behind o.at (length (lines o.rest).first.bytes)) (count + 1) (lines o.rest).later)
 unfolding vector_turn
 vectors_given cs o count v z h s n = turned cs o count None (Given v) z h s ∙ (λ i. vector_turn cs o count None (Given v) (λ _. n i))
 
-pub vectors_taken : (cs : List Column) (o p : Open) (count : ℕ) (v : Values) → o.taken ≡ 0 → Passes false o p → vector_line cs (says o) ≡ Given v → not_taken limits count v ≡ None → vectors_from cs count o ≡ with_vector v (vectors_from cs (count + 1) p)
+pub vectors_taken : (cs : List Column) (o p : Open) (count : ℕ) (v : Values) → o.taken ≡ 0 → Passes false o p → vector_line cs (says o) ≡ Given v → not_taken limits cs o.at.number count v ≡ None → vectors_from cs count o ≡ with_vector v (vectors_from cs (count + 1) p)
 vectors_taken cs o p count v z h s n = vectors_given cs o count v z h.kept s n ∙ ap (with_vector v) (later_vectors cs o p (count + 1) z h)
 
 -- nothing is left of the text
@@ -83,11 +83,11 @@ nothing_left cs p count e h = ap (λ r. read_vectors limits cs p.at count (all_l
     past : Bool → Reading
     past b = elim (elim b as (λ _. Option StimError) [ true ↦ Some StimulusTooLong | false ↦ None ]) as (λ _. Reading) [ Some e ↦ refused e | None ↦ at_end count ]
 
-pub vectors_taken_last : (cs : List Column) (o p : Open) (count : ℕ) (v : Values) → o.taken ≡ 0 → Passes true o p → p.at.start ≤ 4294967296 → vector_line cs (says o) ≡ Given v → not_taken limits count v ≡ None → vectors_from cs count o ≡ with_vector v (vectors_from cs (count + 1) p)
+pub vectors_taken_last : (cs : List Column) (o p : Open) (count : ℕ) (v : Values) → o.taken ≡ 0 → Passes true o p → p.at.start ≤ 4294967296 → vector_line cs (says o) ≡ Given v → not_taken limits cs o.at.number count v ≡ None → vectors_from cs count o ≡ with_vector v (vectors_from cs (count + 1) p)
 vectors_taken_last cs o p count v z h b s n = vectors_given cs o count v z h.kept s n ∙ ap (with_vector v) (last_vectors cs o p (count + 1) h ∙ sym (nothing_left cs p (count + 1) (h.nothing refl) b))
 
 -- A vector was read.
-pub vectors_found : (cs : List Column) (o p : Open) (count : ℕ) (v : Values) (last : Bool) → o.taken ≡ 0 → Passes last o p → p.at.start ≤ 4294967296 → vector_line cs (says o) ≡ Given v → not_taken limits count v ≡ None → vectors_from cs count o ≡ with_vector v (vectors_from cs (count + 1) p)
+pub vectors_found : (cs : List Column) (o p : Open) (count : ℕ) (v : Values) (last : Bool) → o.taken ≡ 0 → Passes last o p → p.at.start ≤ 4294967296 → vector_line cs (says o) ≡ Given v → not_taken limits cs o.at.number count v ≡ None → vectors_from cs count o ≡ with_vector v (vectors_from cs (count + 1) p)
 vectors_found cs o p count v true z h b s n = vectors_taken_last cs o p count v z h b s n
 vectors_found cs o p count v false z h b s n = vectors_taken cs o p count v z h s n
 

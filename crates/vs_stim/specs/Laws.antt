@@ -1,11 +1,11 @@
 -- What holds of every text's reading.
-use Rattle.std.specs.Prelude.{◌≡◌, ℕ, ◌<◌, List, [], ◌∷◌, ◌++◌, length, take, None, true, All}
+use Rattle.std.specs.Prelude.{◌≡◌, ℕ, ◌<◌, Bool, not, ◌&&◌, ◌||◌, List, [], ◌∷◌, ◌++◌, length, take, None, true, All}
 use Rattle.vs_four.specs.declared.Bit4.{Bit4}
 use Rattle.vs_stim.specs.declared.input.Input.{Input}
 use Rattle.vs_stim.specs.Header.{IsInput, lengths}
 use Rattle.vs_stim.specs.Reading.{reading}
 use Rattle.vs_stim.specs.Row.{sizes}
-use Rattle.vs_stim.specs.Vectors.{vector_known}
+use Rattle.vs_stim.specs.Vectors.{all_known, vector_known}
 
 -- the first vector has no x or z bit
 abbrev pub FirstIsKnown : Type 0
@@ -24,3 +24,13 @@ VectorsFit = (is : List Input) (text : List ℕ) → All IsInput is → All (λ 
 abbrev pub LaterLinesChangeNothing : Type 0
 LaterLinesChangeNothing = (is : List Input) (text later : List ℕ)
     → let vectors = (reading is (text ++ 10 ∷ [])).vectors in take (length vectors) (reading is (text ++ 10 ∷ later)).vectors ≡ vectors
+
+-- these values, one for each input, have no x or z bit in a reset input
+abbrev pub known_in_resets : List Input → List (List Bit4) → Bool
+known_in_resets [] vs = true
+known_in_resets (i ∷ is) [] = true
+known_in_resets (i ∷ is) (v ∷ vs) = (not i.reset || all_known v) && known_in_resets is vs
+
+-- no vector of a text has an x or z bit in a reset input
+abbrev pub ResetsAreKnown : Type 0
+ResetsAreKnown = (is : List Input) (text : List ℕ) → All IsInput is → All (λ vector. known_in_resets is vector ≡ true) (reading is text).vectors

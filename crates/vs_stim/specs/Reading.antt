@@ -4,11 +4,11 @@ use Rattle.vs_four.specs.declared.Bit4.{Bit4}
 use Rattle.vs_stim.specs.declared.input.Input.{Input}
 use Rattle.vs_stim.specs.declared.input.Column.{Column}
 use Rattle.vs_stim.specs.declared.error.StimError.{StimError}
-use Rattle.vs_stim.specs.declared.error.StimError.TheVariants.{BadHeader, BadVector, FirstUnknown, NoVector, TooManyVectors, StimulusTooLong, LineTooLong}
+use Rattle.vs_stim.specs.declared.error.StimError.TheVariants.{BadHeader, BadVector, FirstUnknown, UnknownReset, NoVector, TooManyVectors, StimulusTooLong, LineTooLong}
 use Rattle.vs_stim.specs.Lines.{Line, lines, all_lines, content}
 use Rattle.vs_stim.specs.Fields.{is_skipped, fields}
 use Rattle.vs_stim.specs.Header.{header}
-use Rattle.vs_stim.specs.Vectors.{vector, vector_known}
+use Rattle.vs_stim.specs.Vectors.{vector, vector_known, resets_known}
 
 -- the greatest number of vectors, of bytes in a line before its LF, and of bytes in the text
 pub record Limits : Type 0 where
@@ -74,12 +74,15 @@ header_line is text = elim (is_skipped text) [ true ↦ Skipped | false ↦ said
 abbrev pub vector_line : List Column → List ℕ → Said (List (List Bit4))
 vector_line cs text = elim (is_skipped text) [ true ↦ Skipped | false ↦ said (vector cs (fields text)) ]
 
--- the refusal of a vector that stands behind this many others
-abbrev pub not_taken : Limits → ℕ → List (List Bit4) → Option StimError
-not_taken l count v =
+-- The refusal of a vector that stands on the line of this number, behind this many others. Where a first vector is known, its resets are.
+abbrev pub not_taken : Limits → List Column → ℕ → ℕ → List (List Bit4) → Option StimError
+not_taken l cs number count v =
     elim (nat_eq count 0 && not (vector_known v)) [
       | true ↦ Some FirstUnknown
-      | false ↦ elim (nat_eq count l.vectors) [ true ↦ Some TooManyVectors | false ↦ None ]
+      | false ↦ elim (resets_known cs v) [
+        | false ↦ Some (UnknownReset number)
+        | true ↦ elim (nat_eq count l.vectors) [ true ↦ Some TooManyVectors | false ↦ None ]
+      ]
     ]
 
 -- the end of the text behind this many vectors
@@ -96,7 +99,7 @@ read_vectors l cs p count (line ∷ later) =
       | None ↦ elim (vector_line cs (content line)) [
         | Skipped ↦ read_vectors l cs (behind p (length line.bytes)) count later
         | Malformed ↦ refused (BadVector p.number)
-        | Given v ↦ elim (not_taken l count v) [
+        | Given v ↦ elim (not_taken l cs p.number count v) [
           | Some e ↦ refused e
           | None ↦ with_vector v (read_vectors l cs (behind p (length line.bytes)) (count + 1) later)
         ]

@@ -4,7 +4,7 @@ use Rattle.vs_desk.specs.Desk.{Contents}
 use Rattle.vs_stim.specs.declared.error.StimError.{StimError}
 use Rattle.vs_stim.specs.declared.input.Input.{Input}
 use Rattle.vs_stim.specs.declared.input.Column.{Column}
-use Rattle.vs_stim.specs.declared.error.StimError.TheVariants.{BadHeader, BadVector, FirstUnknown, NoVector, TooManyVectors, StimulusTooLong, LineTooLong, ReadFault, Memory}
+use Rattle.vs_stim.specs.declared.error.StimError.TheVariants.{BadHeader, BadVector, FirstUnknown, UnknownReset, NoVector, TooManyVectors, StimulusTooLong, LineTooLong, ReadFault, Memory}
 use Rattle.vs_stim.specs.declared.source.Source.{Source}
 use Rattle.vs_stim.specs.declared.source.Piece.{Piece}
 use Rattle.vs_stim.specs.declared.source.Piece.TheVariants.{Byte, LineEnd, TextEnd}
@@ -90,6 +90,7 @@ IsReadError number (LineTooLong line) = line ≡ number
 IsReadError number BadHeader = ⊥
 IsReadError number (BadVector line) = ⊥
 IsReadError number FirstUnknown = ⊥
+IsReadError number (UnknownReset line) = ⊥
 IsReadError number NoVector = ⊥
 IsReadError number TooManyVectors = ⊥
 IsReadError number Memory = ⊥
@@ -109,6 +110,7 @@ abbrev pub IsVectorError : StimError → Type 0
 IsVectorError BadHeader = ⊥
 IsVectorError (BadVector line) = Unit {0}
 IsVectorError FirstUnknown = Unit {0}
+IsVectorError (UnknownReset line) = Unit {0}
 IsVectorError NoVector = Unit {0}
 IsVectorError TooManyVectors = Unit {0}
 IsVectorError StimulusTooLong = Unit {0}
@@ -129,6 +131,7 @@ abbrev pub IsHeaderError : StimError → Type 0
 IsHeaderError BadHeader = Unit {0}
 IsHeaderError (BadVector line) = ⊥
 IsHeaderError FirstUnknown = ⊥
+IsHeaderError (UnknownReset line) = ⊥
 IsHeaderError NoVector = ⊥
 IsHeaderError TooManyVectors = ⊥
 IsHeaderError StimulusTooLong = Unit {0}

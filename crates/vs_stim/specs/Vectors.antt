@@ -1,5 +1,5 @@
 -- A vector: for each name of the header as many digits as the input has bits, most significant first.
-use Rattle.std.specs.Prelude.{ℕ, zero, suc, ◌+◌, Bool, true, false, ◌&&◌, ◌||◌, List, [], ◌∷◌, ◌++◌, length, nat_eq, Option, Some, None, codes, bytes_eq}
+use Rattle.std.specs.Prelude.{ℕ, zero, suc, ◌+◌, Bool, true, false, ◌&&◌, ◌||◌, List, [], ◌∷◌, ◌++◌, length, not, nat_eq, slice_index_or, Option, Some, None, codes, bytes_eq}
 use Rattle.vs_four.specs.declared.Bit4.{Bit4}
 use Rattle.vs_four.specs.declared.Bit4.TheVariants.{Zero, One, X, Z}
 use Rattle.vs_four.specs.Tables.{is_known}
@@ -80,3 +80,8 @@ all_known (d ∷ ds) = is_known d && all_known ds
 abbrev pub vector_known : List (List Bit4) → Bool
 vector_known [] = true
 vector_known (v ∷ vs) = all_known v && vector_known vs
+
+-- no value of a reset input has an x or z bit, where the values stand in the design's order
+abbrev pub resets_known : List Column → List (List Bit4) → Bool
+resets_known [] vs = true
+resets_known (c ∷ cs) vs = (not c.reset || all_known (slice_index_or vs c.input [])) && resets_known cs vs

@@ -20,6 +20,9 @@ pub enum StimError {
     /// 74: there are more than 16,777,216 vectors.
     #[error("there are too many vectors")]
     TooManyVectors,
+    /// 77: a vector behind the first has an x or z digit of a reset input.
+    #[error("line {line} has an unknown digit of a reset")]
+    UnknownReset { line: u64 },
     /// 75: a byte behind the first 4,294,967,296 belongs to the line being read.
     #[error("the text has too many bytes")]
     StimulusTooLong,

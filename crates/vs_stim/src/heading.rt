@@ -49,6 +49,7 @@ fn find(inputs: &[Input], name: &[u8]) -> Option<Column>
             return Some(Column {
                 input: number,
                 length: input.length,
+                reset: input.reset,
             });
         }
     }

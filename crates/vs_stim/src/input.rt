@@ -49,18 +49,21 @@ impl Name {
     }
 }
 
-/// A data input of the design: its name, and its length in bits, from 1 to 64.
+/// A data input of the design: its name, its length in bits, from 1 to 64, and whether it is a reset input, one at the root of the
+/// second edge of a clocked block (IEEE 1364-2005, 9.7.2).
 #[derive(Debug, Drop)]
 pub struct Input {
     pub name: Name,
     pub length: u32,
+    pub reset: bool,
 }
 
-/// What a field of each vector holds: the value of this input, which has this length in bits.
+/// What a field of each vector holds: the value of this input, which has this length in bits and may be a reset input.
 ///
 /// Inputs are numbered from 0 in the design's order.
 #[derive(Clone, Copy, PartialEq, Eq, Debug)]
 pub struct Column {
     pub input: usize,
     pub length: u32,
+    pub reset: bool,
 }

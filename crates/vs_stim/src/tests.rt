@@ -41,10 +41,12 @@ fn read(
         Input {
             name: Name::new(text(alloc, "a")?),
             length: 1,
+            reset: false,
         },
         Input {
             name: Name::new(text(alloc, "b")?),
             length: 2,
+            reset: false,
         },
     ];
     let mut shown = String::new(alloc);

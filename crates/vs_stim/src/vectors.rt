@@ -1,18 +1,18 @@
 //! The lines behind the header.
 
-ghost use Rattle.std.specs.Prelude.{Some, None, ◌≡◌, ◌≢◌, ◌≤◌, ◌<◌, ◌+◌, [], length, true, false, IsTrue, IfOk, IfErr, OnOk};
+ghost use Rattle.std.specs.Prelude.{All, Some, None, ◌≡◌, ◌≢◌, ◌≤◌, ◌<◌, ◌+◌, [], length, true, false, IsTrue, IfOk, IfErr, OnOk};
 ghost use Rattle.vs_desk.specs.Desk.{IsAttached, Fails};
 ghost use Rattle.vs_desk.specs.declared.desk.Way.TheVariants.{Read};
 ghost use Rattle.vs_stim.specs.Desk.{OthersKept};
 ghost use Rattle.vs_four.specs.Tables.{is_known};
-ghost use Rattle.vs_stim.specs.Vectors.{all_known, vector_known};
+ghost use Rattle.vs_stim.specs.Vectors.{all_known, vector_known, resets_known};
 ghost use Rattle.vs_stim.specs.Reading.{vector_line, limits, not_taken, at_end, refused, whole, with_vector};
-ghost use Rattle.vs_stim.specs.Row.{row_with, as_said, each_input, IsRow, SameForm};
+ghost use Rattle.vs_stim.specs.Row.{row_with, as_said, sizes, each_input, IsColumn, IsRow, SameForm};
 ghost use Rattle.vs_stim.specs.Source.{open_at, in_block, is_told, text_tells, line_refusal, says, IsSource, IsReadError, IsVectorError, Passes, rest_of, vectors_from};
 
-use crate::StimError;
 use crate::row::{LineKind, Row};
 use crate::source::{Piece, Source};
+use crate::{Column, StimError};
 use vs_desk::Desk;
 use vs_four::{Bit4, Bits};
 
@@ -122,15 +122,32 @@ fn are_known(values: &[Bits]) -> bool
     true
 }
 
-/// Whether these values may be the vector behind this many others.
-fn check_vector(values: &[Bits], count: u32) -> Result<(), StimError>
-    ensures ok { OnOk result (not_taken limits count values.now ≡ None) }
-    ensures err { IfErr result (λ e. not_taken limits count values.now ≡ Some e) }
+/// Whether no value of a reset input has an x or z bit.
+fn are_resets_known(columns: &[Column], values: &[Bits]) -> bool
+    requires { All (IsColumn (sizes values.now)) columns.now }
+    ensures { result ≡ resets_known columns.now values.now }
+{
+    for column in columns {
+        if column.reset && !are_bits_known(values[column.input]) {
+            return false;
+        }
+    }
+    true
+}
+
+/// Whether the row's values may be the vector on the line of this number, behind this many others.
+fn check_vector(row: &Row, number: u64, count: u32) -> Result<(), StimError>
+    requires { IsRow row.now }
+    ensures ok { OnOk result (not_taken limits row.now.columns.items number count row.now.values.items ≡ None) }
+    ensures err { IfErr result (λ e. not_taken limits row.now.columns.items number count row.now.values.items ≡ Some e) }
     ensures errors { IfErr result IsVectorError }
     ensures no_fault { result ≢ Err StimError.ReadFault }
 {
-    if count == 0 && !are_known(values) {
+    if count == 0 && !are_known(&row.values) {
         return Err(StimError::FirstUnknown);
+    }
+    if !are_resets_known(&row.columns, &row.values) {
+        return Err(StimError::UnknownReset { line: number });
     }
     if count == VECTORS {
         return Err(StimError::TooManyVectors);
@@ -192,7 +209,7 @@ pub(crate) fn find_vector<D: Desk>(
         match kind {
             LineKind::Malformed => return Err(StimError::BadVector { line: number }),
             LineKind::Given => {
-                check_vector(&row.values, count)?;
+                check_vector(row, number, count)?;
                 return Ok(true);
             }
             LineKind::Skipped => {

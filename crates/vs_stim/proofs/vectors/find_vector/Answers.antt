@@ -40,7 +40,7 @@ returns-in-Given-clause-found g c =
     let inv = c.lines.invariant in
     let columns = c.lines.row.columns in
     let values = c.read_row.new.row.values.items in
-    let taken = ap (not_taken limits c.args.count) (sym c.deref.ensures.value) ∙ c.in_ok-check_vector-in-Given.ensures.ok in
+    let taken = ap (λ cs. not_taken limits cs.items c.lines.source.number c.args.count values) (sym h.form.columns) ∙ c.in_ok-check_vector-in-Given.ensures.ok in
     λ t _.
     let o = open_at c.lines.source (g.D.Desk.contents c.lines.desk) in
     let p = open_at c.read_row.new.source (g.D.Desk.contents c.read_row.new.desk) in
