@@ -109,7 +109,7 @@ impl Drive {
 
     /// Reads the next vector of each live lane, by lane. Answers whether some lane has one.
     ///
-    /// It takes no memory. The refusals are 71 to 76 (`StimError`), of the least lane that has one in
+    /// It takes no memory. The refusals are 71 to 77 (`StimError`), of the least lane that has one in
     /// this round; that lane is then no longer live, and the lanes behind it weren't read.
     pub fn read<D: Desk>(&mut self, desk: &mut D) -> Result<bool, Stopped>
         requires { AreAttached (D.register desk.old) self.old }

@@ -40,10 +40,12 @@ fn inputs(alloc: Global) -> Result<[Input; 2], AllocError>
         Input {
             name: Name::new(text(alloc, "a")?),
             length: 1,
+            reset: false,
         },
         Input {
             name: Name::new(text(alloc, "b")?),
             length: 2,
+            reset: false,
         },
     ])
 }

@@ -120,7 +120,7 @@ impl Stimulus {
 
     /// Reads the next vector, which then stands in `vector`. Answers false at the end of the text.
     ///
-    /// It takes no memory. The refusals are 71 to 76 (`StimError`). On an end, a refusal or a fault the
+    /// It takes no memory. The refusals are 71 to 77 (`StimError`). On an end, a refusal or a fault the
     /// stimulus is no longer live.
     pub fn next<D: Desk>(&mut self, desk: &mut D) -> Result<bool, StimError>
         requires live { IsTrue self.old.live }
