@@ -4,35 +4,41 @@ use Rattle.std.proofs.lemmas.List.{length-set, get_or-set_same, get_or-set_other
 use Rattle.std.proofs.lemmas.Bool.{cases_eq}
 use Rattle.vs_desk.specs.Desk.{Contents}
 use Rattle.vs_stim.specs.Desk.{OthersKept}
-use Rattle.vs_stim.specs.Known.{Known, place_of, remaining}
+use Rattle.vs_stim.specs.Known.{Known, place_of, remaining, text_left}
 use Rattle.vs_stim.specs.Lines.{lines, all_lines}
 use Rattle.vs_stim.specs.Reading.{limits, read_vectors, with_vector}
 use Rattle.vs_stim.specs.Row.{sizes}
 use Rattle.vs_drive.specs.Lanes.{ended, lane_at, AreLanes, OtherPlacesKept}
 use Rattle.vs_drive.specs.Reading.{Advances, AreRead, SameSizes}
 
--- what remains depends on what is left at the stimulus' place alone
-pub remaining_by_left : (k : Known) (c d : Contents) → d.left (place_of k.lane) ≡ c.left (place_of k.lane) → remaining k d ≡ remaining k c
-remaining_by_left k c d e = ap (λ left. read_vectors limits k.columns k.at k.count (all_lines (lines (k.pending ++ left)))) e
+-- what remains depends on the text that is left alone
+remains_by : (k : Known) (c d : Contents) → text_left k d ≡ text_left k c → remaining k d ≡ remaining k c
+remains_by k c d e = ap (λ text. read_vectors limits k.columns k.at k.count (all_lines (lines text))) e
 
--- an advance, where what remains before and after it is the same by other contents
+-- and that on what is left at the stimulus' place
+pub remaining_by_left : (k : Known) (c d : Contents) → d.left (place_of k.lane) ≡ c.left (place_of k.lane) → remaining k d ≡ remaining k c
+remaining_by_left k c d e = remains_by k c d (ap (λ left. k.pending ++ left) e)
+
+-- an advance, where the text that is left before and after it is the same by other contents
 pub advances_by : (tells : Bool) (c d c' d' : Contents) (old new : Known) → Advances tells c d old new
-    → (IsTrue tells → remaining old c' ≡ remaining old c) → (IsTrue tells → remaining new d' ≡ remaining new d) → Advances tells c' d' old new
+    → (IsTrue tells → text_left old c' ≡ text_left old c) → (IsTrue tells → text_left new d' ≡ text_left new d) → Advances tells c' d' old new
 advances_by tells c d c' d' old new h e f = record {
   lane = h.lane;
   sizes = h.sizes;
   ended = h.ended;
-  vector = λ t was now. e t ∙ h.vector t was now ∙ ap (λ r. with_vector new.vector r) (sym (f t));
-  end = λ t was now. e t ∙ h.end t was now;
+  vector = λ t was now. remains_by old c c' (e t) ∙ h.vector t was now ∙ ap (λ r. with_vector new.vector r) (sym (remains_by new d d' (f t)));
+  end = λ t was now. remains_by old c c' (e t) ∙ h.end t was now;
+  taken = λ t was now. f t ∙ h.taken t was now;
+  kept = λ t was. f t ∙ h.kept t was ∙ sym (e t);
 }
 
 -- another lane's text is left as it was
-pub other_remains : (ks : List Known) (i j : ℕ) (c d : Contents) → AreLanes ks → i < length ks → j < length ks → i ≢ j
-    → OthersKept (place_of (lane_at ks j).lane) c d → remaining (lane_at ks i) d ≡ remaining (lane_at ks i) c
-other_remains ks i j c d lanes h k ne kept =
+pub other_left : (ks : List Known) (i j : ℕ) (c d : Contents) → AreLanes ks → i < length ks → j < length ks → i ≢ j
+    → OthersKept (place_of (lane_at ks j).lane) c d → text_left (lane_at ks i) d ≡ text_left (lane_at ks i) c
+other_left ks i j c d lanes h k ne kept =
     let ie : (lane_at ks i).lane ≡ i = lanes.numbered i h in
     let je : (lane_at ks j).lane ≡ j = lanes.numbered j k in
-    remaining_by_left (lane_at ks i) c d (kept.left (place_of (lane_at ks i).lane) (omega arith))
+    ap (λ left. (lane_at ks i).pending ++ left) (kept.left (place_of (lane_at ks i).lane) (omega arith))
 
 -- what stands at lane i after a write to lane j
 pub at_set : (ks : List Known) (i j : ℕ) (new : Known) (P : Known → Type 0) → j < length ks → (i ≡ j → P new) → (i ≢ j → P (lane_at ks i)) → P (lane_at (set ks j new) i)
@@ -69,11 +75,14 @@ step_rest tells j before mid after olds mids new h lanes read kept = record {
   lanes = length-set mids j new ∙ read.lanes;
   advanced = λ i below. at_set mids i j new (λ k. Advances tells before after (lane_at olds i) k) h (λ e. absurd (omega arith)) (λ ne.
       advances_by tells before mid before after (lane_at olds i) (lane_at mids i) (read.advanced i below) (λ _. refl) (λ t.
-      other_remains mids i j mid after lanes (omega arith) h ne (kept t)));
+      other_left mids i j mid after lanes (omega arith) h ne (kept t)));
   waiting = λ i above. at_set mids i j new (λ k. k ≡ lane_at olds i) h (λ e. absurd (omega arith)) (λ ne. read.waiting i (omega arith));
   left = λ t i above below. at_set mids i j new (λ k. remaining k after ≡ remaining (lane_at olds i) before) h (λ e. absurd (omega arith)) (λ ne.
       let l : length mids ≡ length olds = read.lanes in
-      other_remains mids i j mid after lanes (omega arith) h ne (kept t) ∙ read.left t i (omega arith) below);
+      remains_by (lane_at mids i) mid after (other_left mids i j mid after lanes (omega arith) h ne (kept t)) ∙ read.left t i (omega arith) below);
+  texts = λ t i above below. at_set mids i j new (λ k. text_left k after ≡ text_left (lane_at olds i) before) h (λ e. absurd (omega arith)) (λ ne.
+      let l : length mids ≡ length olds = read.lanes in
+      other_left mids i j mid after lanes (omega arith) h ne (kept t) ∙ read.texts t i (omega arith) below);
 }
 
 -- lane j has advanced too
@@ -85,7 +94,7 @@ step_on tells j before mid after olds mids new h was rest here =
     let same : lane_at mids j ≡ lane_at olds j = was.waiting j (omega arith) in
     let moved : Advances tells before after (lane_at olds j) new =
     advances_by tells mid after before after (lane_at olds j) new (subst (λ k. Advances tells mid after k new) same here) (λ t.
-    sym (subst (λ k. remaining k mid ≡ remaining (lane_at olds j) before) same (was.left t j (omega arith) (omega arith)))) (λ _. refl) in
+    sym (subst (λ k. text_left k mid ≡ text_left (lane_at olds j) before) same (was.texts t j (omega arith) (omega arith)))) (λ _. refl) in
     record {
       lanes = rest.lanes;
       advanced = λ i below. elim (cases_eq i j) [
@@ -94,6 +103,7 @@ step_on tells j before mid after olds mids new h was rest here =
       ];
       waiting = rest.waiting;
       left = rest.left;
+      texts = rest.texts;
     }
 
 -- places behind those of the lanes are as they were

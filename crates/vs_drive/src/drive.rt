@@ -8,7 +8,7 @@ ghost use Rattle.vs_stim.specs.Known.{place_of, remaining};
 ghost use Rattle.vs_stim.specs.Reading.{reading, refused, header_refusal};
 ghost use Rattle.vs_stim.specs.Source.{IsVectorError, IsHeaderError};
 ghost use Rattle.vs_drive.specs.Lanes.{lane_at, AreLanes, some_live, AllEnded, AreAttached, OtherPlacesKept};
-ghost use Rattle.vs_drive.specs.Reading.{AreRead, SameSizes};
+ghost use Rattle.vs_drive.specs.Reading.{AreTaken, AreRead, SameSizes};
 ghost use Rattle.vs_drive.specs.Opened.{texts, path_at, with_lanes, AreFree, HaveHeaders, AreOpened};
 ghost use Rattle.vs_drive.specs.Fed.{driven, HaveBits};
 
@@ -119,6 +119,7 @@ impl Drive {
         ensures some { IfOk result (λ some. some ≡ some_live self.new) }
         ensures none { result ≡ Ok false → AllEnded self.new }
         ensures readable { OnOk result (AreAttached (D.register desk.new) self.new) }
+        ensures taken { IsTrue D.tells → AreTaken (D.contents desk.old) self.old → OnOk result (AreTaken (D.contents desk.new) self.new) }
 
         // The first lane that has no next vector stops it.
         ensures part { IfErr result (λ stopped. AreRead D.tells stopped.lane (stopped.lane + 1) (D.contents desk.old) (D.contents desk.new) self.old self.new) }
