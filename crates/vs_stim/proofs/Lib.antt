@@ -12,3 +12,4 @@ pub mod Stepped
 pub mod Known
 pub mod Sized
 pub mod Turns
+pub mod Untold

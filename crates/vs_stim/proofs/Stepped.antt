@@ -1,8 +1,9 @@
 -- Where a reader is, by its parts; and a line's refusal before and after a CR.
-use Rattle.std.proofs.Common.{◌≡◌, ℕ, ◌+◌, List, ◌∷◌, length, ap, arith}
-use Rattle.vs_stim.specs.Lines.{lines}
+use Rattle.std.proofs.Common.{◌≡◌, ◌≢◌, ℕ, ◌+◌, true, List, [], ◌∷◌, length, refl, ap, arith, inl, inr}
+use Rattle.std.proofs.lemmas.Bool.Decides.{eqb_tells}
+use Rattle.vs_stim.specs.Lines.{lines, no_lf}
 use Rattle.vs_stim.specs.Reading.{Place, limits, too_long}
-use Rattle.vs_stim.specs.Source.{Open, line_refusal}
+use Rattle.vs_stim.specs.Source.{Open, line_refusal, GoesOn}
 
 pub same_open : (a b : Open) → a.at.number ≡ b.at.number → a.at.start ≡ b.at.start → a.taken ≡ b.taken → a.rest ≡ b.rest → a ≡ b
 same_open a b p q r s = λ i. record { at = record { number = p i; start = q i }; taken = r i; rest = s i }
@@ -11,3 +12,16 @@ pub refusal-cr : (at : Place) (n : ℕ) (rest : List ℕ) → line_refusal (reco
 refusal-cr at n rest =
     let more : n + length (13 ∷ (lines rest).first.bytes) ≡ n + 1 + length (lines rest).first.bytes = omega arith in
     ap (λ k. too_long limits at k (lines rest).first.ended) more
+
+-- a byte of the line was read
+pub byte_read : (o p : Open) (byte : ℕ) → byte ≢ 10 → o.rest ≡ byte ∷ p.rest → p.at.number ≡ o.at.number → p.at.start ≡ o.at.start → p.taken ≡ o.taken + 1 → GoesOn o p
+byte_read o p byte h e n s t = record {
+  bytes = byte ∷ [];
+  inner = no_lf_alone;
+  rest = e;
+  taken = t;
+  at = λ i. record { number = n i; start = s i };
+}
+  where
+    no_lf_alone : no_lf (byte ∷ []) ≡ true
+    no_lf_alone = elim (eqb_tells byte 10) [ inl k ↦ absurd (h k.1) | inr k ↦ rw k.0 refl ]

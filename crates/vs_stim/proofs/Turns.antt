@@ -91,16 +91,17 @@ pub vectors_found : (cs : List Column) (o p : Open) (count : ℕ) (v : Values) (
 vectors_found cs o p count v true z h b s n = vectors_taken_last cs o p count v z h b s n
 vectors_found cs o p count v false z h b s n = vectors_taken cs o p count v z h s n
 
-skipped_is : (cs : List Column) (t : List ℕ) → Skipped ≡ vector_line cs t → is_skipped t ≡ true
-skipped_is cs t e = go (is_skipped t) refl
+-- what is skipped
+pub skipped_is : {A : Type 0} (t : List ℕ) (o : Option A) → Skipped ≡ (elim (is_skipped t) as (λ _. Said A) [ true ↦ Skipped | false ↦ said o ]) → is_skipped t ≡ true
+skipped_is {A = A} t o e = go (is_skipped t) e
   where
-    never : (o : Option Values) → Skipped ≡ said o → ⊥
+    never : (o : Option A) → Skipped ≡ said o → ⊥
     never None f = cc
     never (Some v) f = cc
 
-    go : (b : Bool) → is_skipped t ≡ b → is_skipped t ≡ true
-    go true f = f
-    go false f = absurd (never (vector cs (fields t)) (rw (f, vector_line) at e))
+    go : (b : Bool) → Skipped ≡ (elim b as (λ _. Said A) [ true ↦ Skipped | false ↦ said o ]) → b ≡ true
+    go true f = refl
+    go false f = absurd (never o f)
 
 -- whether lines tell, by the first one's refusal, its LF, whether it is skipped, and whether the others tell
 tell : Option StimError → Bool → Bool → Bool → Bool
@@ -127,7 +128,7 @@ tells_on cs o p z h s t =
     let k = lines_tell (behind o.at (length (lines o.rest).first.bytes)) (lines o.rest).later in
     let e = (lines o.rest).first.ended in
     let moved : text_tells p ≡ k = (λ i. lines_tell ((h.at refl ∙ ap (behind o.at) (length_here o z)) i) (h.more refl i)) in
-    let known : tell None e true k ≡ true = (λ i. tell (sym h.kept i) e (sym (skipped_is cs (says o) s) i) k) ∙ told_parts o z t in
+    let known : tell None e true k ≡ true = (λ i. tell (sym h.kept i) e (sym (skipped_is (says o) (vector cs (fields (says o))) s) i) k) ∙ told_parts o z t in
     moved ∙ go e k known
   where
     go : (e k : Bool) → tell None e true k ≡ true → k ≡ true

@@ -1,5 +1,5 @@
 -- What is known of a stimulus that is being read.
-use Rattle.std.specs.Prelude.{ℕ, ◌+◌, Bool, true, false, List, [], ◌∷◌, ◌++◌, length, Some, None}
+use Rattle.std.specs.Prelude.{◌≡◌, ℕ, ◌+◌, Bool, true, false, List, [], ◌∷◌, ◌++◌, length, Some, None}
 use Rattle.vs_desk.specs.Desk.{Contents}
 use Rattle.vs_four.specs.declared.Bit4.{Bit4}
 use Rattle.vs_stim.specs.declared.input.Column.{Column}
@@ -45,3 +45,9 @@ pending_tells k = lines_tell k.at (all_lines (lines k.pending))
 -- what the text that is left gives
 abbrev pub remaining : Known → Contents → Reading
 remaining k contents = read_vectors limits k.columns k.at k.count (all_lines (lines (text_left k contents)))
+
+-- A take failed behind these bytes of the text, and they don't tell what is read next: no byte was asked for without need.
+pub record IsUntold (p : Place) (text left : List ℕ) : Type 0 where
+  pub taken : List ℕ
+  pub text_is : text ≡ taken ++ left
+  pub untold : lines_tell p (all_lines (lines taken)) ≡ false

@@ -1,5 +1,5 @@
 -- The lines of a text.
-use Rattle.std.specs.Prelude.{ℕ, Bool, true, false, List, [], ◌∷◌, nat_eq}
+use Rattle.std.specs.Prelude.{ℕ, Bool, true, false, not, ◌&&◌, List, [], ◌∷◌, nat_eq}
 
 -- a line: its bytes before the LF, and whether it has an LF
 pub record Line : Type 0 where
@@ -35,3 +35,8 @@ without_cr (b ∷ c ∷ bs) = b ∷ without_cr (c ∷ bs)
 -- what a line says: one CR before the LF is dropped
 abbrev pub content : Line → List ℕ
 content line = elim line.ended [ true ↦ without_cr line.bytes | false ↦ line.bytes ]
+
+-- no byte of a text is an LF
+abbrev pub no_lf : List ℕ → Bool
+no_lf [] = true
+no_lf (b ∷ bs) = not (nat_eq b 10) && no_lf bs

@@ -9,7 +9,7 @@ use Rattle.vs_stim.specs.declared.source.Source.{Source}
 use Rattle.vs_stim.specs.declared.source.Piece.{Piece}
 use Rattle.vs_stim.specs.declared.source.Piece.TheVariants.{Byte, LineEnd, TextEnd}
 use Rattle.vs_stim.specs.Known.{lines_tell}
-use Rattle.vs_stim.specs.Lines.{lines, all_lines, content}
+use Rattle.vs_stim.specs.Lines.{lines, all_lines, content, no_lf}
 use Rattle.vs_stim.specs.Reading.{limits, Place, behind, too_long, Reading, read_vectors, read_header, header_fault}
 
 -- where the line stands, how many of its bytes were read, and the text that is left
@@ -56,6 +56,26 @@ abbrev pub Gives : Piece → Open → Open → Type 0
 Gives (Byte b) old new = GivesByte b old new
 Gives LineEnd old new = EndsLine old new
 Gives TextEnd old new = EndsText old new
+
+-- The reader went on in its line by these bytes.
+pub record GoesOn (old new : Open) : Type 0 where
+  pub bytes : List ℕ
+  pub inner : no_lf bytes ≡ true
+  pub rest : old.rest ≡ bytes ++ new.rest
+  pub taken : new.taken ≡ old.taken + length bytes
+  pub at : new.at ≡ old.at
+
+-- The reader passed an LF, behind these bytes of its line.
+pub record PassesLf (old new : Open) : Type 0 where
+  pub bytes : List ℕ
+  pub inner : no_lf bytes ≡ true
+  pub rest : old.rest ≡ bytes ++ 10 ∷ new.rest
+
+-- how a reader came by a piece
+abbrev pub ComesBy : Piece → Open → Open → Type 0
+ComesBy (Byte b) old new = GoesOn old new
+ComesBy LineEnd old new = PassesLf old new
+ComesBy TextEnd old new = Unit {0}
 
 -- the text that is left: what was taken and not yet read, and what is left on the desk
 abbrev pub rest_of : Source → Contents → List ℕ

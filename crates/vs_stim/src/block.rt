@@ -68,6 +68,7 @@ impl Block {
         requires attached { IsAttached (D.register desk.old) place Read }
         ensures same { OnOk result (D.register desk.new ≡ D.register desk.old) }
         ensures failed { OnErr result (Fails (D.register desk.old) (D.register desk.new) place (D.register desk.old).asked) }
+        ensures none { OnErr result (self.new ≡ []) }
         ensures ahead { IsTrue D.tells → self.new ++ (D.contents desk.new).left place ≡ (D.contents desk.old).left place }
         ensures end { IsTrue D.tells → OnOk result (self.new ≡ [] → (D.contents desk.old).left place ≡ []) }
         ensures others { IsTrue D.tells → OthersKept place (D.contents desk.old) (D.contents desk.new) }
@@ -85,6 +86,7 @@ impl Block {
         ensures same { OnOk result (D.register desk.new ≡ D.register desk.old) }
         ensures failed { OnErr result (Fails (D.register desk.old) (D.register desk.new) place (D.register desk.old).asked) }
         ensures ahead { IsTrue D.tells → self.new ++ (D.contents desk.new).left place ≡ self.old ++ (D.contents desk.old).left place }
+        ensures empty { OnErr result ((self.old ≡ []) × (self.new ≡ [])) }
         ensures none { IfOk result (λ byte. IfNone byte (self.new ≡ [])) }
         ensures none_before { IfOk result (λ byte. IfNone byte (self.old ≡ [])) }
         ensures end { IsTrue D.tells → IfOk result (λ byte. IfNone byte ((D.contents desk.new).left place ≡ [])) }

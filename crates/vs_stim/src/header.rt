@@ -8,7 +8,8 @@ ghost use Rattle.vs_stim.specs.Header.{IsInput, lengths, each_once};
 ghost use Rattle.vs_stim.specs.Reading.{header_line, refused};
 ghost use Rattle.vs_stim.specs.Row.{as_said, IsColumn};
 ghost use Rattle.vs_stim.specs.Heading.{heading_with, IsHeading};
-ghost use Rattle.vs_stim.specs.Source.{open_at, line_refusal, says, rest_of, vectors_from, header_from, header_fault_from, IsSource, IsHeaderError, Passes};
+ghost use Rattle.vs_stim.specs.Source.{open_at, line_refusal, says, rest_of, vectors_from, header_from, header_fault_from, IsSource, IsHeaderError, GoesOn, PassesLf, Passes};
+ghost use Rattle.vs_stim.specs.Known.{IsUntold};
 ghost use Rattle.vs_stim.specs.declared.heading.Stage.TheVariants.{Start};
 ghost use Rattle.vs_stim.specs.declared.row.LineKind.TheVariants.{Skipped, Given};
 
@@ -44,6 +45,10 @@ fn feed_heading<D: Desk>(
     ensures same { OnOk result (D.register desk.new ≡ D.register desk.old) }
     ensures failed { result ≡ Err StimError.ReadFault → Fails (D.register desk.old) (D.register desk.new) source.old.place (D.register desk.old).asked }
     ensures others { IsTrue D.tells → OthersKept source.old.place (D.contents desk.old) (D.contents desk.new) }
+
+    ensures went { IsTrue D.tells → result ≡ Err StimError.ReadFault → GoesOn (open_at source.old (D.contents desk.old)) (open_at source.new (D.contents desk.new)) }
+    ensures empty { result ≡ Err StimError.ReadFault → source.new.block ≡ [] }
+    ensures ends { IsTrue D.tells → result ≡ Ok false → PassesLf (open_at source.old (D.contents desk.old)) (open_at source.new (D.contents desk.new)) }
 {
     'line: loop {
         match source.next_piece(desk)? {
@@ -86,6 +91,10 @@ fn read_heading<D: Desk>(
     ensures same { OnOk result (D.register desk.new ≡ D.register desk.old) }
     ensures failed { result ≡ Err StimError.ReadFault → Fails (D.register desk.old) (D.register desk.new) source.old.place (D.register desk.old).asked }
     ensures others { IsTrue D.tells → OthersKept source.old.place (D.contents desk.old) (D.contents desk.new) }
+
+    ensures went { IsTrue D.tells → result ≡ Err StimError.ReadFault → GoesOn (open_at source.old (D.contents desk.old)) (open_at source.new (D.contents desk.new)) }
+    ensures empty { result ≡ Err StimError.ReadFault → source.new.block ≡ [] }
+    ensures ends { IsTrue D.tells → IfOk result (λ line. line.1 ≡ false → PassesLf (open_at source.old (D.contents desk.old)) (open_at source.new (D.contents desk.new))) }
 {
     let last = feed_heading(source, heading, inputs, desk)?;
     match heading.finish(inputs) {
@@ -122,6 +131,8 @@ pub(crate) fn find_header<D: Desk>(
     ensures same { OnOk result (D.register desk.new ≡ D.register desk.old) }
     ensures failed { result ≡ Err StimError.ReadFault → Fails (D.register desk.old) (D.register desk.new) source.old.place (D.register desk.old).asked }
     ensures others { IsTrue D.tells → OthersKept source.old.place (D.contents desk.old) (D.contents desk.new) }
+    ensures needed { IsTrue D.tells → result ≡ Err StimError.ReadFault →
+        let o = open_at source.old (D.contents desk.old) in IsUntold o.at o.rest ((D.contents desk.new).left source.old.place) }
 {
     let mut heading = match Heading::new(alloc, inputs) {
         Ok(heading) => heading,

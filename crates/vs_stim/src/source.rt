@@ -43,7 +43,7 @@ impl Source {
     ghost use Rattle.vs_desk.specs.declared.desk.Way.TheVariants.{Read};
     ghost use Rattle.vs_stim.specs.Desk.{OthersKept};
     ghost use Rattle.vs_stim.specs.Lines.{lines};
-    ghost use Rattle.vs_stim.specs.Source.{open_at, open_before, in_block, is_told, rest_of, line_refusal, Gives, Moves, IsReadError, IsSource};
+    ghost use Rattle.vs_stim.specs.Source.{open_at, open_before, in_block, is_told, rest_of, line_refusal, Gives, GoesOn, ComesBy, Moves, IsReadError, IsSource};
 
     /// The start of the text at this place.
     pub(crate) fn new(alloc: Global, place: u32) -> Result<Source, AllocError>
@@ -129,6 +129,7 @@ impl Source {
         ensures same { OnOk result (D.register desk.new ≡ D.register desk.old) }
         ensures fault { IfErr result (λ e. e ≡ StimError.ReadFault) }
         ensures failed { OnErr result (Fails (D.register desk.old) (D.register desk.new) self.old.place (D.register desk.old).asked) }
+        ensures empty { OnErr result (self.new.block ≡ []) }
         ensures rest { IsTrue D.tells → rest_of self.new (D.contents desk.new) ≡ rest_of self.old (D.contents desk.old) }
         ensures end { IsTrue D.tells → IfOk result (λ byte. IfNone byte (rest_of self.new (D.contents desk.new) ≡ [])) }
         ensures some { IfOk result (λ byte. IfSome byte (λ b. self.new.block ≡ b ∷ drop 1 self.new.block)) }
@@ -160,6 +161,10 @@ impl Source {
         ensures others { IsTrue D.tells → OthersKept self.old.place (D.contents desk.old) (D.contents desk.new) }
         ensures frugal { IsTrue (is_told (in_block self.old)) → desk.new ≡ desk.old }
         ensures told { IsTrue (is_told (in_block self.old)) → IfOk result (λ piece. Gives piece (in_block self.old) (in_block self.new)) }
+
+        ensures comes { IsTrue D.tells → IfOk result (λ piece. ComesBy piece (open_at self.old (D.contents desk.old)) (open_at self.new (D.contents desk.new))) }
+        ensures went { IsTrue D.tells → result ≡ Err StimError.ReadFault → GoesOn (open_at self.old (D.contents desk.old)) (open_at self.new (D.contents desk.new)) }
+        ensures empty { result ≡ Err StimError.ReadFault → self.new.block ≡ [] }
     {
         match self.peek(desk)? {
             None => {
@@ -196,6 +201,10 @@ impl Source {
         ensures others { IsTrue D.tells → OthersKept self.old.place (D.contents desk.old) (D.contents desk.new) }
         ensures frugal { IsTrue (is_told (in_block self.old)) → desk.new ≡ desk.old }
         ensures told { IsTrue (is_told (in_block self.old)) → IfOk result (λ piece. Gives piece (in_block self.old) (in_block self.new)) }
+
+        ensures comes { IsTrue D.tells → IfOk result (λ piece. ComesBy piece (open_at self.old (D.contents desk.old)) (open_at self.new (D.contents desk.new))) }
+        ensures went { IsTrue D.tells → result ≡ Err StimError.ReadFault → GoesOn (open_at self.old (D.contents desk.old)) (open_at self.new (D.contents desk.new)) }
+        ensures empty { result ≡ Err StimError.ReadFault → self.new.block ≡ [] }
     {
         self.read_byte()?;
         match self.peek(desk)? {

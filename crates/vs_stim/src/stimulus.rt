@@ -6,8 +6,8 @@ ghost use Rattle.vs_desk.specs.declared.desk.Way.TheVariants.{Read};
 ghost use Rattle.vs_stim.specs.Desk.{OthersKept};
 ghost use Rattle.vs_stim.specs.Header.{IsInput, lengths};
 ghost use Rattle.vs_stim.specs.Row.{sizes};
-ghost use Rattle.vs_stim.specs.Reading.{reading, header_refusal, refused, whole, with_vector};
-ghost use Rattle.vs_stim.specs.Known.{remaining, pending_tells, text_left, place_of};
+ghost use Rattle.vs_stim.specs.Reading.{first_place, reading, header_refusal, refused, whole, with_vector};
+ghost use Rattle.vs_stim.specs.Known.{remaining, pending_tells, text_left, place_of, IsUntold};
 ghost use Rattle.vs_stim.specs.Source.{IsSource, IsVectorError, IsHeaderError};
 
 use crate::header::find_header;
@@ -85,6 +85,11 @@ impl Stimulus {
         ensures fault { result ≡ Err StimError.ReadFault → Fails (D.register desk.old) (D.register desk.new) (place_of lane) (string_bytes path)
             ⊎ Fails (with_place (D.register desk.old) (place_of lane) Read (string_bytes path)) (D.register desk.new) (place_of lane) (D.register desk.old).asked }
         ensures others { IsTrue D.tells → OthersKept (place_of lane) (D.contents desk.old) (D.contents desk.new) }
+
+        // Nothing is taken where the bytes that were taken tell the answer: a take fails only behind bytes that don't have the LF
+        // of a line that isn't skipped, nor a byte past a limit.
+        ensures needed { IsTrue D.tells → result ≡ Err StimError.ReadFault → Fails (D.register desk.old) (D.register desk.new) (place_of lane) (string_bytes path)
+            ⊎ IsUntold first_place ((D.contents desk.old).files (string_bytes path)) ((D.contents desk.new).left (place_of lane)) }
     {
         let place = FIRST_PLACE + lane;
         let (mut source, values) = match room(alloc, place, inputs) {
@@ -145,9 +150,11 @@ impl Stimulus {
         ensures fault { result ≡ Err StimError.ReadFault → Fails (D.register desk.old) (D.register desk.new) (place_of self.old.lane) (D.register desk.old).asked }
         ensures others { IsTrue D.tells → OthersKept (place_of self.old.lane) (D.contents desk.old) (D.contents desk.new) }
 
-        // Nothing is taken where the pending bytes tell the answer: they have the LF of a line that isn't
-        // skipped, or a byte past a limit.
+        // Nothing is taken where the bytes that were taken tell the answer: they have the LF of a line that isn't skipped, or a
+        // byte past a limit. So none is taken where the pending bytes do, and a take fails only behind bytes that don't.
         ensures frugal { IsTrue (pending_tells self.old) → desk.new ≡ desk.old }
+        ensures needed { IsTrue D.tells → result ≡ Err StimError.ReadFault →
+            IsUntold self.old.at (text_left self.old (D.contents desk.old)) ((D.contents desk.new).left (place_of self.old.lane)) }
     {
         self.live = false;
         let found = find_vector(&mut self.source, &mut self.row, self.count, desk)?;

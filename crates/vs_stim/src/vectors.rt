@@ -8,7 +8,8 @@ ghost use Rattle.vs_four.specs.Tables.{is_known};
 ghost use Rattle.vs_stim.specs.Vectors.{all_known, vector_known, resets_known};
 ghost use Rattle.vs_stim.specs.Reading.{vector_line, limits, not_taken, at_end, refused, whole, with_vector};
 ghost use Rattle.vs_stim.specs.Row.{row_with, as_said, sizes, each_input, IsColumn, IsRow, SameForm};
-ghost use Rattle.vs_stim.specs.Source.{open_at, in_block, is_told, text_tells, line_refusal, says, IsSource, IsReadError, IsVectorError, Passes, rest_of, vectors_from};
+ghost use Rattle.vs_stim.specs.Source.{open_at, in_block, is_told, text_tells, line_refusal, says, IsSource, IsReadError, IsVectorError, GoesOn, PassesLf, Passes, rest_of, vectors_from};
+ghost use Rattle.vs_stim.specs.Known.{IsUntold};
 
 use crate::row::{LineKind, Row};
 use crate::source::{Piece, Source};
@@ -43,6 +44,10 @@ fn feed_row<D: Desk>(source: &mut Source, row: &mut Row, desk: &mut D) -> Result
     ensures told { IsTrue (is_told (in_block source.old)) → IfOk result (λ last. Passes last (in_block source.old) (in_block source.new)) }
     ensures told_last { IsTrue (is_told (in_block source.old)) → IfOk result (λ last. last ≡ false) }
     ensures told_says { IsTrue (is_told (in_block source.old)) → OnOk result (row_with row.new [] ≡ row_with row.old (says (in_block source.old))) }
+
+    ensures went { IsTrue D.tells → result ≡ Err StimError.ReadFault → GoesOn (open_at source.old (D.contents desk.old)) (open_at source.new (D.contents desk.new)) }
+    ensures empty { result ≡ Err StimError.ReadFault → source.new.block ≡ [] }
+    ensures ends { IsTrue D.tells → result ≡ Ok false → PassesLf (open_at source.old (D.contents desk.old)) (open_at source.new (D.contents desk.new)) }
 {
     'line: loop {
         match source.next_piece(desk)? {
@@ -82,6 +87,10 @@ fn read_row<D: Desk>(
     ensures told { IsTrue (is_told (in_block source.old)) → IfOk result (λ line. Passes line.1 (in_block source.old) (in_block source.new)) }
     ensures told_last { IsTrue (is_told (in_block source.old)) → IfOk result (λ line. line.1 ≡ false) }
     ensures told_says { IsTrue (is_told (in_block source.old)) → IfOk result (λ line. as_said line.0 row.new.values.items ≡ vector_line row.old.columns.items (says (in_block source.old))) }
+
+    ensures went { IsTrue D.tells → result ≡ Err StimError.ReadFault → GoesOn (open_at source.old (D.contents desk.old)) (open_at source.new (D.contents desk.new)) }
+    ensures empty { result ≡ Err StimError.ReadFault → source.new.block ≡ [] }
+    ensures ends { IsTrue D.tells → IfOk result (λ line. line.1 ≡ false → PassesLf (open_at source.old (D.contents desk.old)) (open_at source.new (D.contents desk.new))) }
 {
     row.begin();
     let last = feed_row(source, row, desk)?;
@@ -202,6 +211,8 @@ pub(crate) fn find_vector<D: Desk>(
     ensures failed { result ≡ Err StimError.ReadFault → Fails (D.register desk.old) (D.register desk.new) source.old.place (D.register desk.old).asked }
     ensures others { IsTrue D.tells → OthersKept source.old.place (D.contents desk.old) (D.contents desk.new) }
     ensures frugal { IsTrue (text_tells (in_block source.old)) → desk.new ≡ desk.old }
+    ensures needed { IsTrue D.tells → result ≡ Err StimError.ReadFault →
+        let o = open_at source.old (D.contents desk.old) in IsUntold o.at o.rest ((D.contents desk.new).left source.old.place) }
 {
     'lines: loop {
         let number = source.number;

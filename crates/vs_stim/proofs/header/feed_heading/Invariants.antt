@@ -1,7 +1,7 @@
 use Rattle.std.proofs.Common.{◌≡◌, ◌-◌, IsTrue}
 use Rattle.vs_stim.specs.Desk.{OthersKept}
 use Rattle.vs_stim.specs.Heading.{heading_with, IsHeading}
-use Rattle.vs_stim.specs.Source.{open_at, says, IsSource, SameLine}
+use Rattle.vs_stim.specs.Source.{open_at, says, IsSource, SameLine, GoesOn}
 use Rattle.vs_stim.proofs.header.feed_heading.Given as goal
 
 abbrev pub invariant-line : goal.invariant-line
@@ -17,6 +17,7 @@ invariant-line g l =
       register : g.D.Desk.register l.desk ≡ g.D.Desk.register l.initial.desk;
       others : IsTrue g.D.Desk.tells → OthersKept l.initial.source.place (g.D.Desk.contents l.initial.desk) (g.D.Desk.contents l.desk);
       line : IsTrue g.D.Desk.tells → SameLine before now;
+      goes : IsTrue g.D.Desk.tells → GoesOn before now;
       says : IsTrue g.D.Desk.tells → heading_with l.inputs l.heading (says now) ≡ heading_with l.inputs l.initial.heading (says before);
     }
 

@@ -1,7 +1,10 @@
-use Rattle.std.proofs.Common.{rules, Bool, sym, ◌∙◌, subst, arith}
+use Rattle.std.proofs.Common.{rules, ◌≡◌, ◌++◌, refl, Bool, sym, ◌∙◌, subst, arith}
 use Rattle.std.proofs.lemmas.Grind.{common_steps}
-use Rattle.vs_stim.specs.Source.{open_at, Passes}
-use Rattle.vs_stim.proofs.Turns.{fault_skipped}
+use Rattle.vs_stim.specs.Fields.{fields}
+use Rattle.vs_stim.specs.Header.{header}
+use Rattle.vs_stim.specs.Source.{open_at, rest_of, says, Passes}
+use Rattle.vs_stim.proofs.Turns.{skipped_is, fault_skipped}
+use Rattle.vs_stim.proofs.Untold.{none_passed, passed_more, untold_here}
 use Rattle.vs_stim.proofs.header.find_header.Goals as goal
 
 pub lines-preserved : goal.lines-preserved
@@ -16,6 +19,12 @@ lines-preserved g c =
       place = search rules;
       register = search rules;
       others = search rules;
+      passed = λ t.
+          let o = open_at c.lines.source (g.D.Desk.contents c.lines.desk) in
+          let p = open_at c.read_heading.new.source (g.D.Desk.contents c.read_heading.new.desk) in
+          let P : Bool → Type 0 = λ b. Passes b o p in
+          passed_more _ o p (inv.passed t) inv.begins (h.ends t c.if-last.false) (subst P c.if-last.false (h.passes t))
+          (skipped_is (says o) (header c.args.inputs.now (fields (says o))) (rw c.in-Skipped.is at (h.says t)));
       reading = grind (arith, common_steps);
       fault = λ t.
           let o = open_at c.lines.source (g.D.Desk.contents c.lines.desk) in
@@ -23,3 +32,29 @@ lines-preserved g c =
           let P : Bool → Type 0 = λ b. Passes b o p in
           inv.fault t ∙ fault_skipped c.args.inputs.now o p inv.begins (subst P c.if-last.false (h.passes t)) (sym (rw c.in-Skipped.is at (h.says t)));
     }
+
+pub lines-init : goal.lines-init
+lines-init g c = record {
+  source = first_of (search rules, grind (arith, common_steps));
+  begins = first_of (search rules, grind (arith, common_steps));
+  heading = first_of (search rules, grind (arith, common_steps));
+  stage = first_of (search rules, grind (arith, common_steps));
+  place = first_of (search rules, grind (arith, common_steps));
+  register = first_of (search rules, grind (arith, common_steps));
+  others = first_of (search rules, grind (arith, common_steps));
+  passed = λ t. none_passed _;
+  reading = λ t. refl;
+  fault = λ t. refl;
+}
+
+pub returns-in_err-kind-clause-needed : goal.returns-in_err-kind-clause-needed
+returns-in_err-kind-clause-needed g c = λ t e.
+    let h = c.in_err-kind.ensures in
+    let inv = c.lines.invariant in
+    let new = c.read_heading.new.source in
+    let after = g.D.Desk.contents c.read_heading.new.desk in
+    let o = open_at c.lines.source (g.D.Desk.contents c.lines.desk) in
+    let p = open_at new after in
+    let rest : rest_of new after ≡ after.left c.args.source.now.place =
+    (λ i. h.empty (search rules) i ++ after.left ((h.place ∙ inv.place) i)) in
+    untold_here _ o p (after.left c.args.source.now.place) (inv.passed t) inv.begins (h.went t (search rules)) h.source.line h.source.bytes rest

@@ -3,6 +3,7 @@ use Rattle.vs_stim.specs.Desk.{OthersKept}
 use Rattle.vs_stim.specs.Heading.{IsHeading}
 use Rattle.vs_stim.specs.Source.{open_at, IsSource, header_from, header_fault_from}
 use Rattle.vs_stim.specs.declared.heading.Stage.TheVariants.{Start}
+use Rattle.vs_stim.proofs.Untold.{IsPassed}
 use Rattle.vs_stim.proofs.header.find_header.Given as goal
 
 abbrev pub invariant-lines : goal.invariant-lines
@@ -15,6 +16,7 @@ invariant-lines g l =
       place : l.source.place ≡ l.initial.source.place;
       register : g.D.Desk.register l.desk ≡ g.D.Desk.register l.initial.desk;
       others : IsTrue g.D.Desk.tells → OthersKept l.initial.source.place (g.D.Desk.contents l.initial.desk) (g.D.Desk.contents l.desk);
+      passed : IsTrue g.D.Desk.tells → IsPassed (open_at l.initial.source (g.D.Desk.contents l.initial.desk)) (open_at l.source (g.D.Desk.contents l.desk));
       reading : IsTrue g.D.Desk.tells →
           header_from l.inputs (open_at l.initial.source (g.D.Desk.contents l.initial.desk)) ≡ header_from l.inputs (open_at l.source (g.D.Desk.contents l.desk));
       fault : IsTrue g.D.Desk.tells →

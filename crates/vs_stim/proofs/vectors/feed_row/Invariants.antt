@@ -1,7 +1,7 @@
 use Rattle.std.proofs.Common.{◌≡◌, ◌-◌, IsTrue}
 use Rattle.vs_stim.specs.Desk.{OthersKept}
 use Rattle.vs_stim.specs.Row.{row_with, IsRow, SameForm}
-use Rattle.vs_stim.specs.Source.{open_at, in_block, is_told, says, IsSource, SameLine}
+use Rattle.vs_stim.specs.Source.{open_at, in_block, is_told, says, IsSource, SameLine, GoesOn}
 use Rattle.vs_stim.proofs.vectors.feed_row.Given as goal
 
 abbrev pub invariant-line : goal.invariant-line
@@ -18,6 +18,7 @@ invariant-line g l =
       register : g.D.Desk.register l.desk ≡ g.D.Desk.register l.initial.desk;
       others : IsTrue g.D.Desk.tells → OthersKept l.initial.source.place (g.D.Desk.contents l.initial.desk) (g.D.Desk.contents l.desk);
       line : IsTrue g.D.Desk.tells → SameLine before now;
+      goes : IsTrue g.D.Desk.tells → GoesOn before now;
       spoken : IsTrue g.D.Desk.tells → row_with l.row (says now) ≡ row_with l.initial.row (says before);
       frugal : IsTrue (is_told (in_block l.initial.source)) → l.desk ≡ l.initial.desk;
       told_line : IsTrue (is_told (in_block l.initial.source)) → SameLine (in_block l.initial.source) (in_block l.source);

@@ -1,7 +1,11 @@
-use Rattle.std.proofs.Common.{rules, ◌+◌, Bool, IsTrue, sym, ◌∙◌, ap, subst, arith}
+use Rattle.std.proofs.Common.{rules, ◌≡◌, ◌+◌, ◌++◌, Bool, IsTrue, refl, sym, ◌∙◌, ap, subst, arith}
+use Rattle.std.proofs.lemmas.Grind.{common_steps}
+use Rattle.vs_stim.specs.Fields.{fields}
+use Rattle.vs_stim.specs.Vectors.{vector}
 use Rattle.vs_stim.specs.Reading.{limits, not_taken, with_vector}
-use Rattle.vs_stim.specs.Source.{open_at, in_block, is_told, vectors_from, Passes}
-use Rattle.vs_stim.proofs.Turns.{vectors_skipped, vectors_found, tells_line, tells_on}
+use Rattle.vs_stim.specs.Source.{open_at, rest_of, in_block, is_told, says, vectors_from, Passes}
+use Rattle.vs_stim.proofs.Turns.{skipped_is, vectors_skipped, vectors_found, tells_line, tells_on}
+use Rattle.vs_stim.proofs.Untold.{none_passed, passed_more, untold_here}
 use Rattle.vs_stim.proofs.vectors.find_vector.Goals as goal
 
 pub lines-preserved : goal.lines-preserved
@@ -25,6 +29,12 @@ lines-preserved g c =
           let y : IsTrue (is_told (in_block before)) = tells_line (in_block before) inv.begins (inv.told x) in
           let P : Bool → Type 0 = λ b. Passes b (in_block before) (in_block now) in
           tells_on columns.items (in_block before) (in_block now) inv.begins (subst P c.if-last.false (h.told y)) (rw c.in-Skipped.is at (h.told_says y)) (inv.told x);
+      passed = λ t.
+          let o = open_at before (g.D.Desk.contents c.lines.desk) in
+          let p = open_at now (g.D.Desk.contents c.read_row.new.desk) in
+          let P : Bool → Type 0 = λ b. Passes b o p in
+          passed_more _ o p (inv.passed t) inv.begins (h.ends t c.if-last.false) (subst P c.if-last.false (h.passes t))
+          (skipped_is (says o) (vector columns.items (fields (says o))) (rw c.in-Skipped.is at (h.says t)));
       reading = λ t.
           let o = open_at before (g.D.Desk.contents c.lines.desk) in
           let p = open_at now (g.D.Desk.contents c.read_row.new.desk) in
@@ -47,3 +57,31 @@ returns-in-Given-clause-found g c =
     inv.reading t
     ∙ vectors_found columns.items o p c.args.count values c.in_ok-kind.last inv.begins (h.passes t) (omega (arith, h.source.bytes)) (sym (rw c.in-Given.is at (h.says t))) taken
     ∙ ap (λ cs. with_vector values (vectors_from cs.items (c.args.count + 1) p)) inv.form.columns
+
+pub lines-init : goal.lines-init
+lines-init g c = record {
+  source = first_of (search rules, grind (arith, common_steps));
+  begins = first_of (search rules, grind (arith, common_steps));
+  row = first_of (search rules, grind (arith, common_steps));
+  each = first_of (search rules, grind (arith, common_steps));
+  form = first_of (search rules, grind (arith, common_steps));
+  place = first_of (search rules, grind (arith, common_steps));
+  register = first_of (search rules, grind (arith, common_steps));
+  others = first_of (search rules, grind (arith, common_steps));
+  frugal = first_of (search rules, grind (arith, common_steps));
+  told = first_of (search rules, grind (arith, common_steps));
+  passed = λ t. none_passed _;
+  reading = λ t. refl;
+}
+
+pub returns-in_err-kind-clause-needed : goal.returns-in_err-kind-clause-needed
+returns-in_err-kind-clause-needed g c = λ t e.
+    let h = c.in_err-kind.ensures in
+    let inv = c.lines.invariant in
+    let new = c.read_row.new.source in
+    let after = g.D.Desk.contents c.read_row.new.desk in
+    let o = open_at c.lines.source (g.D.Desk.contents c.lines.desk) in
+    let p = open_at new after in
+    let rest : rest_of new after ≡ after.left c.args.source.now.place =
+    (λ i. h.empty (search rules) i ++ after.left ((h.place ∙ inv.place) i)) in
+    untold_here _ o p (after.left c.args.source.now.place) (inv.passed t) inv.begins (h.went t (search rules)) h.source.line h.source.bytes rest

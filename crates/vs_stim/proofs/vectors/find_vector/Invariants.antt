@@ -2,6 +2,7 @@ use Rattle.std.proofs.Common.{◌≡◌, ◌-◌, IsTrue}
 use Rattle.vs_stim.specs.Desk.{OthersKept}
 use Rattle.vs_stim.specs.Row.{IsRow, SameForm, each_input}
 use Rattle.vs_stim.specs.Source.{open_at, in_block, text_tells, IsSource, vectors_from}
+use Rattle.vs_stim.proofs.Untold.{IsPassed}
 use Rattle.vs_stim.proofs.vectors.find_vector.Given as goal
 
 abbrev pub invariant-lines : goal.invariant-lines
@@ -17,6 +18,7 @@ invariant-lines g l =
       others : IsTrue g.D.Desk.tells → OthersKept l.initial.source.place (g.D.Desk.contents l.initial.desk) (g.D.Desk.contents l.desk);
       frugal : IsTrue (text_tells (in_block l.initial.source)) → l.desk ≡ l.initial.desk;
       told : IsTrue (text_tells (in_block l.initial.source)) → IsTrue (text_tells (in_block l.source));
+      passed : IsTrue g.D.Desk.tells → IsPassed (open_at l.initial.source (g.D.Desk.contents l.initial.desk)) (open_at l.source (g.D.Desk.contents l.desk));
       reading : IsTrue g.D.Desk.tells →
           vectors_from l.initial.row.columns.items l.count (open_at l.initial.source (g.D.Desk.contents l.initial.desk)) ≡ vectors_from l.row.columns.items l.count (open_at l.source (g.D.Desk.contents l.desk));
     }
