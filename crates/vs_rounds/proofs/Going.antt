@@ -1,20 +1,22 @@
 -- From round to round.
 use Rattle.std.proofs.Common.{◌≡◌, ◌<◌, ◌*◌, ◌+◌, ◌∙◌, ℕ, Bool, List, length, sym, ap, subst, arith}
 use Rattle.vs_desk.specs.Desk.{Contents}
+use Rattle.vs_drive.specs.Lanes.{OtherPlacesKept}
 use Rattle.vs_engine.specs.Lanes.{Running}
 use Rattle.vs_engine.specs.Compiled.{IsProgramOf, fall_stores, rise_stores}
 use Rattle.vs_engine.specs.Program.{Program}
 use Rattle.vs_rounds.specs.Lanes.{Run, Simulation, HaveNext, HaveVectors, AreBeforeRound, AreInRound}
 use Rattle.vs_rounds.specs.Ready.{Ticks}
-use Rattle.vs_rounds.specs.Stops.{OtherPutsKept}
+use Rattle.vs_rounds.specs.Stops.{OthersStay}
 use Rattle.vs_rounds.specs.Counts.{TicksRounds}
 use Rattle.vs_rounds.proofs.Rereads.{waves_kept}
 
-pub others_on : {lanes here : ℕ} {a b c : Contents} → here ≡ lanes → OtherPutsKept lanes a b → OtherPutsKept here b c → OtherPutsKept lanes a c
-others_on same f s = record { others = λ place ne. s.others place (λ i lt. ne i (omega (arith, same))) ∙ f.others place ne }
+-- two steps keep what each keeps
+pub others_on : {lanes here : ℕ} {a b c : Contents} → here ≡ lanes → OthersStay lanes a b → OthersStay here b c → OthersStay lanes a c
+others_on same f s = record { others = λ place ne. s.others place (λ i lt. ne i (omega (arith, same))) ∙ f.others place ne; left = λ place lt. s.left place lt ∙ f.left place lt }
 
-pub others_put : {lanes : ℕ} {a b c : Contents} → OtherPutsKept lanes a b → c.put ≡ b.put → OtherPutsKept lanes a c
-others_put f same = record { others = λ place ne. ap (λ (put : ℕ → List ℕ). put place) same ∙ f.others place ne }
+pub others_read : {lanes here : ℕ} {a b c : Contents} → OthersStay lanes a b → OtherPlacesKept here b c → OthersStay lanes a c
+others_read f read = record { others = λ place ne. ap (λ (put : ℕ → List ℕ). put place) read.put ∙ f.others place ne; left = λ place lt. read.before place lt ∙ f.left place lt }
 
 -- the next vectors were read
 pub in_next : {W : Type 0} (lane : W → ℕ → Bool) (run : Run) (k : ℕ) (old new : Simulation W) (before after : Contents) → length new.stimuli ≡ length old.stimuli → new.waves ≡ old.waves → new.engine ≡ old.engine → after.put ≡ before.put

@@ -8,7 +8,7 @@ ghost use Rattle.vs_drive.specs.Lanes.{AreAttached, OtherPlacesKept, lane_at};
 ghost use Rattle.vs_waves.specs.Puts.{AreWritable};
 ghost use Rattle.vs_rounds.specs.Lanes.{Run, Simulation, HaveNext, HaveVectors, AreBeforeRound, AreInRound};
 ghost use Rattle.vs_rounds.specs.Ready.{AreParts, IsReady, IsNoted, Settles, Ticks};
-ghost use Rattle.vs_rounds.specs.Stops.{ReadStops, StopsIn, IsLaneOf, HasCause, OtherPutsKept};
+ghost use Rattle.vs_rounds.specs.Stops.{ReadStops, StopsIn, IsLaneOf, HasCause, OthersStay};
 
 use crate::Stop;
 use crate::stop::stop_of;
@@ -78,7 +78,7 @@ impl<W: Lanes> Machine<W> {
             → IfErr result (ReadStops run (length self.old.stimuli) k) }
         ensures lane { IfErr result (IsLaneOf (length self.old.stimuli)) }
         ensures cause { IfErr result (HasCause (D.register desk.old) (D.register desk.new)) }
-        ensures puts { IsTrue D.tells → (D.contents desk.new).put ≡ (D.contents desk.old).put }
+        ensures others { IsTrue D.tells → OtherPlacesKept (length self.old.stimuli) (D.contents desk.old) (D.contents desk.new) }
     {
         if let Err(stopped) = self.drive.read(desk) {
             return Err(stop_of(stopped));
@@ -133,7 +133,7 @@ impl<W: Lanes> Machine<W> {
             → IfErr result (StopsIn run (length self.old.stimuli) round (D.contents desk.new)) }
         ensures lane { IfErr result (IsLaneOf (length self.old.stimuli)) }
         ensures cause { IfErr result (HasCause (D.register desk.old) (D.register desk.new)) }
-        ensures others { IsTrue D.tells → OtherPutsKept (length self.old.stimuli) (D.contents desk.old) (D.contents desk.new) }
+        ensures others { IsTrue D.tells → OthersStay (length self.old.stimuli) (D.contents desk.old) (D.contents desk.new) }
         ensures ticked { Ticks self.old.engine.program (count_by (λ k. k.live) self.old.stimuli) steps.old steps.new }
     {
         let vectors = self.settle(round, steps);

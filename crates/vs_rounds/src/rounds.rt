@@ -4,11 +4,11 @@ ghost use Rattle.std.specs.Prelude.{◌≡◌, ℕ, ◌+◌, ◌*◌, ◌<◌, �
 ghost use Rattle.vs_design.specs.Designs.{Design};
 ghost use Rattle.vs_design.specs.Sizes.{size};
 ghost use Rattle.vs_engine.specs.Compiled.{IsProgramOf};
-ghost use Rattle.vs_drive.specs.Lanes.{AreAttached};
+ghost use Rattle.vs_drive.specs.Lanes.{AreAttached, OtherPlacesKept};
 ghost use Rattle.vs_waves.specs.Puts.{AreWritable};
 ghost use Rattle.vs_rounds.specs.Lanes.{Run, AreInRound, AreOpened, AreBegun};
 ghost use Rattle.vs_rounds.specs.Ready.{IsReady};
-ghost use Rattle.vs_rounds.specs.Stops.{ReadStops, StopsIn, IsLaneOf, HasCause, OtherPutsKept};
+ghost use Rattle.vs_rounds.specs.Stops.{AreUnrefused, ReadStops, StopsIn, IsLaneOf, HasCause, OthersStay};
 ghost use Rattle.vs_rounds.specs.Counts.{AreDone, AreCounted, TicksRounds};
 
 use crate::{Machine, Stop};
@@ -43,6 +43,8 @@ impl<W: Lanes> Machine<W> {
         ensures readable { OnOk result (AreAttached (D.register desk.new) self.new.stimuli) }
         ensures begun { IsTrue D.tells → (run : Run) → AreOpened W.lane run self.old (D.contents desk.old)
             → OnOk result (AreBegun W.lane run self.new (D.contents desk.new)) }
+        ensures unrefused { IsTrue D.tells → (run : Run) → AreOpened W.lane run self.old (D.contents desk.old)
+            → OnOk result (AreUnrefused run 0 (length self.old.stimuli) 1) }
 
         // The first lane without a known first vector stops it.
         ensures stops { IsTrue D.tells → (run : Run) → AreOpened W.lane run self.old (D.contents desk.old)
@@ -50,7 +52,7 @@ impl<W: Lanes> Machine<W> {
         ensures lane { IfErr result (IsLaneOf (length self.old.stimuli)) }
         ensures cause { IfErr result (HasCause (D.register desk.old) (D.register desk.new)) }
         ensures same { OnOk result (D.register desk.new ≡ D.register desk.old) }
-        ensures puts { IsTrue D.tells → (D.contents desk.new).put ≡ (D.contents desk.old).put }
+        ensures others { IsTrue D.tells → OtherPlacesKept (length self.old.stimuli) (D.contents desk.old) (D.contents desk.new) }
     {
         self.read(desk)
     }
@@ -88,12 +90,12 @@ impl<W: Lanes> Machine<W> {
             → IfOk result (λ counts. steps.new ≤ steps.old + size d * counts.settlings) }
         ensures ticked_always { (n : ℕ) × TicksRounds self.old.engine.program n steps.old steps.new }
 
-        // A stimulus or a call on the desk stops it, in some round.
+        // A stimulus or a call on the desk stops it, in some round; a stimulus not in the first, whose vectors were read before.
         ensures stops { IsTrue D.tells → (run : Run) → AreInRound W.lane run 0 self.old (D.contents desk.old)
             → IfErr result (λ stop. (k : ℕ) × StopsIn run (length self.old.stimuli) k (D.contents desk.new) stop) }
         ensures lane { IfErr result (IsLaneOf (length self.old.stimuli)) }
         ensures cause { IfErr result (HasCause (D.register desk.old) (D.register desk.new)) }
-        ensures others { IsTrue D.tells → OtherPutsKept (length self.old.stimuli) (D.contents desk.old) (D.contents desk.new) }
+        ensures others { IsTrue D.tells → OthersStay (length self.old.stimuli) (D.contents desk.old) (D.contents desk.new) }
     {
         let mut vectors = 0;
         for round in 0..MOST_ROUNDS {

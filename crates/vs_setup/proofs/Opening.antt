@@ -19,7 +19,7 @@ use Rattle.vs_setup.specs.declared.error.SetupError.{SetupError}
 use Rattle.vs_setup.specs.declared.error.SetupError.TheVariants.{TooLong, NotAccepted, Stimulus, ReadFault, Memory}
 use Rattle.vs_setup.specs.DesignText.{with_design}
 use Rattle.vs_setup.specs.Prepared.{IsDesignLoaded}
-use Rattle.vs_setup.specs.Unprepared.{IsUnopened, IsUnprepared, IsDesignOf, IsLoadError, IsTextRefusal, IsFirstRefused, StimulusFails, error_of}
+use Rattle.vs_setup.specs.Unprepared.{IsUnopened, IsUnprepared, IsDesignOf, IsNotAccepted, IsLoadError, IsTextRefusal, IsFirstRefused, StimulusFails, error_of}
 
 -- what is known of the lane that stopped the opening
 pub record HasStopped (tells : Bool) (inputs : List Input) (stimuli : List (List ℕ)) (before : Register) (old : Contents) (now : Register) (lane : ℕ) (error : StimError) : Type 0 where
@@ -83,7 +83,7 @@ err_is {A = A} Q (Err d) e is h = subst Q (err_same {A = A} d e is) h
 
 -- a text that can't be loaded
 pub unloaded : (tells : Bool) (job : Job) (before : Register) (old : Contents) (now : Register) (new : Contents) (e : SetupError) → IsLoadError e → now ≡ with_design before job.design
-    → (e ≡ NotAccepted → IsTrue tells → (d : Design) → ¬ (IsDesignOf job old d)) → IsUnprepared tells job before old now new e
+    → (e ≡ NotAccepted → IsTrue tells → IsNotAccepted job old new) → IsUnprepared tells job before old now new e
 unloaded tells job before old now new TooLong h at none = absurd h
 unloaded tells job before old now new NotAccepted h at none = (at, none refl)
 unloaded tells job before old now new (Stimulus lane error) h at none = absurd h

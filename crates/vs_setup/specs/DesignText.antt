@@ -1,5 +1,5 @@
 -- The text of the design, taken from its place.
-use Rattle.std.specs.Prelude.{◌≡◌, ◌≢◌, ◌⊎◌, ℕ, ◌+◌, ◌<◌, List, length, drop}
+use Rattle.std.specs.Prelude.{◌≡◌, ◌≢◌, ◌⊎◌, ℕ, ◌+◌, ◌<◌, ◌≤◌, Bool, IsTrue, List, length, drop}
 use Rattle.vs_desk.specs.declared.desk.Way.TheVariants.{Read}
 use Rattle.vs_desk.specs.Desk.{Register, Contents, with_place, Fails}
 
@@ -22,6 +22,13 @@ pub record IsTooLong (text left : List ℕ) : Type 0 where
 abbrev pub with_design : Register → List ℕ → Register
 with_design register path = with_place register 1 Read path
 
--- The attach of place 1 failed, or a take there did.
-abbrev pub DesignFails : Register → Register → List ℕ → Type 0
-DesignFails old new path = Fails old new 1 path ⊎ Fails (with_design old path) new 1 old.asked
+-- Some first bytes of the text were taken, not more than it may have.
+pub record IsPartTaken (text left : List ℕ) : Type 0 where
+  pub count : ℕ
+  pub few : count ≤ most_bytes
+  pub left_is : left ≡ drop count text
+
+-- The attach of place 1 failed, or a take there did, behind a part of the path's text.
+abbrev pub DesignFails : Bool → Register → Contents → Register → Contents → List ℕ → Type 0
+DesignFails tells old before new after path =
+    Fails old new 1 path ⊎ (Fails (with_design old path) new 1 old.asked × (IsTrue tells → IsPartTaken (before.files path) (after.left 1)))

@@ -1,5 +1,5 @@
 -- A run that can begin.
-use Rattle.std.specs.Prelude.{◌≡◌, ℕ, ◌+◌, Bool, IsTrue, List, All, length, map}
+use Rattle.std.specs.Prelude.{◌≡◌, ℕ, ◌+◌, Bool, IsTrue, List, [], All, length, map}
 use Rattle.vs_desk.specs.Desk.{Register, Contents}
 use Rattle.vs_design.specs.Designs.{Design}
 use Rattle.vs_design.specs.Sizes.{size as size_of}
@@ -7,7 +7,7 @@ use Rattle.vs_engine.specs.Compiled.{IsProgramOf, fall_stores, rise_stores}
 use Rattle.vs_front.specs.Accepted.{IsAcceptedText}
 use Rattle.vs_stim.specs.Header.{IsInput}
 use Rattle.vs_drive.specs.Lanes.{AreAttached}
-use Rattle.vs_drive.specs.Opened.{path_at}
+use Rattle.vs_drive.specs.Opened.{path_at, HaveHeaders}
 use Rattle.vs_job.specs.declared.job.Job.{Job}
 use Rattle.vs_job.specs.Places.{vcd_path}
 use Rattle.vs_load.specs.Inputs.{data_inputs}
@@ -28,13 +28,14 @@ pub record AreTextsKept (old new : Contents) : Type 0 where
   pub files : new.files ≡ old.files
   pub put : new.put ≡ old.put
 
--- The design is accepted and loaded, each lane's stimulus is about to give its first vector, and nothing of the waveforms was begun,
--- where the desk told this before and tells that now, and `lane` reads a lane of a word.
+-- The design's text was taken to its end, accepted and loaded, each lane's stimulus is about to give its first vector, and nothing of the
+-- waveforms was begun, where the desk told this before and tells that now, and `lane` reads a lane of a word.
 pub record IsPrepared {W : Type 0} (lane : W → ℕ → Bool) (tells : Bool) (job : Job) (before : Register) (old : Contents) (now : Register) (new : Contents)
     (m : Simulation W) (size stores : ℕ) (wave_paths : List (List ℕ)) : Type 0 where
   -- the design
   pub text : List ℕ
   pub text_is : IsTrue tells → text ≡ old.files job.design
+  pub taken : IsTrue tells → new.left 1 ≡ []
   pub design : Design
   pub accepted : IsAcceptedText text job.top job.clock design
   pub size_is : size ≡ size_of design
@@ -43,6 +44,7 @@ pub record IsPrepared {W : Type 0} (lane : W → ℕ → Bool) (tells : Bool) (j
   pub all_inputs : All IsInput (data_inputs design accepted.accepted.clock.first)
   -- the lanes
   pub lanes : length m.stimuli ≡ length job.stimuli
+  pub headers : IsTrue tells → HaveHeaders (data_inputs design accepted.accepted.clock.first) old.files job.stimuli (length job.stimuli)
   pub ready : IsReady 0 m
   pub opened : IsTrue tells → AreOpened lane (run_of job old.files design accepted.accepted.clock.first) m new
   pub paths : wave_paths ≡ map vcd_path job.stimuli

@@ -1,5 +1,5 @@
 -- Why a run can't begin, by the error.
-use Rattle.std.specs.Prelude.{◌≡◌, ℕ, ◌<◌, ◌≤◌, ◌+◌, ◌⊎◌, Bool, IsTrue, List, length, take, Some}
+use Rattle.std.specs.Prelude.{◌≡◌, ℕ, ◌<◌, ◌≤◌, ◌+◌, ◌⊎◌, Bool, IsTrue, List, [], length, take, Some}
 use Rattle.vs_desk.specs.Desk.{Register, Contents, Fails}
 use Rattle.vs_design.specs.Designs.{Design}
 use Rattle.vs_front.specs.Accepted.{IsAcceptedText}
@@ -14,12 +14,18 @@ use Rattle.vs_job.specs.declared.job.Job.{Job}
 use Rattle.vs_load.specs.Inputs.{data_inputs}
 use Rattle.vs_setup.specs.declared.error.SetupError.{SetupError}
 use Rattle.vs_setup.specs.declared.error.SetupError.TheVariants.{TooLong, NotAccepted, Stimulus, ReadFault, Memory}
-use Rattle.vs_setup.specs.DesignText.{with_design, IsTooLong, DesignFails}
+use Rattle.vs_setup.specs.DesignText.{most_bytes, with_design, IsTooLong, DesignFails}
 use Rattle.vs_setup.specs.Places.{with_texts}
 
 -- the design's file is accepted as this design
 abbrev pub IsDesignOf : Job → Contents → Design → Type 0
 IsDesignOf job c d = IsAcceptedText (c.files job.design) job.top job.clock d
+
+-- The design's text has at most as many bytes as it may, all of it was taken, and it is accepted as no design.
+pub record IsNotAccepted (job : Job) (old new : Contents) : Type 0 where
+  pub short : length (old.files job.design) ≤ most_bytes
+  pub taken : new.left 1 ≡ []
+  pub none : (d : Design) → ¬ (IsDesignOf job old d)
 
 -- the text of lane i's stimulus
 abbrev pub text_of : Contents → List (List ℕ) → ℕ → List ℕ
@@ -36,6 +42,7 @@ pub record AreEarlierOpened (job : Job) (c : Contents) (lane : ℕ) : Type 0 whe
   pub accepted : IsDesignOf job c design
   pub headers : HaveHeaders (data_inputs design accepted.accepted.clock.first) c.files job.stimuli lane
 
+-- The design is accepted, and this lane's stimulus is the first that is refused up to its header.
 pub record IsHeaderRefusal (job : Job) (c : Contents) (lane : ℕ) (error : StimError) : Type 0 where
   pub design : Design
   pub accepted : IsDesignOf job c design
@@ -46,11 +53,12 @@ abbrev pub StimulusFails : Register → List (List ℕ) → Register → ℕ →
 StimulusFails before stimuli now lane = Fails (with_lanes before (take lane stimuli)) now (place_of lane) (path_at stimuli lane)
     ⊎ Fails (with_lanes before (take (lane + 1) stimuli)) now (place_of lane) before.asked
 
--- a fault at the place of the design, or of a stimulus
-pub record IsDesignFault (job : Job) (before now : Register) (place : ℕ) : Type 0 where
+-- a fault at the place of the design
+pub record IsDesignFault (tells : Bool) (job : Job) (before : Register) (old : Contents) (now : Register) (new : Contents) (place : ℕ) : Type 0 where
   pub place_is : place ≡ 1
-  pub fails : DesignFails before now job.design
+  pub fails : DesignFails tells before old now new job.design
 
+-- a fault at the place of a stimulus, behind the earlier ones
 pub record IsStimulusFault (tells : Bool) (job : Job) (before : Register) (old : Contents) (now : Register) (place : ℕ) : Type 0 where
   pub lane : ℕ
   pub is_lane : lane < length job.stimuli
@@ -67,10 +75,10 @@ IsTextRefusal error = IsHeaderError error
 -- Why a run can't begin, where the desk told this before and tells that now.
 abbrev pub IsUnprepared : Bool → Job → Register → Contents → Register → Contents → SetupError → Type 0
 IsUnprepared tells job before old now new TooLong = (now ≡ with_design before job.design) × (IsTrue tells → IsTooLong (old.files job.design) (new.left 1))
-IsUnprepared tells job before old now new NotAccepted = (now ≡ with_design before job.design) × (IsTrue tells → (d : Design) → ¬ (IsDesignOf job old d))
+IsUnprepared tells job before old now new NotAccepted = (now ≡ with_design before job.design) × (IsTrue tells → IsNotAccepted job old new)
 IsUnprepared tells job before old now new (Stimulus lane error) =
     (lane < length job.stimuli) × IsTextRefusal error × (now ≡ with_texts before job (take (lane + 1) job.stimuli)) × (IsTrue tells → IsHeaderRefusal job old lane error)
-IsUnprepared tells job before old now new (ReadFault place) = IsDesignFault job before now place ⊎ IsStimulusFault tells job before old now place
+IsUnprepared tells job before old now new (ReadFault place) = IsDesignFault tells job before old now new place ⊎ IsStimulusFault tells job before old now place
 IsUnprepared tells job before old now new Memory = (now ≡ before) ⊎ ((lanes : ℕ) × (lanes ≤ length job.stimuli) × (now ≡ with_texts before job (take lanes job.stimuli)))
 
 -- Why a stimulus can't be opened, where the design's inputs are these.

@@ -3,7 +3,7 @@
 ghost use Rattle.std.specs.Prelude.{◌≡◌, ◌≢◌, ◌<◌, ◌≤◌, ◌++◌, [], length, take, IsTrue, IsNone, IfOk, OnOk, OnErr, string_bytes};
 ghost use Rattle.vs_desk.specs.Desk.{IsAttached, Fails};
 ghost use Rattle.vs_desk.specs.declared.desk.Way.TheVariants.{Read};
-ghost use Rattle.vs_setup.specs.DesignText.{most_bytes, OnlyTaken, IsTooLong, DesignFails, with_design};
+ghost use Rattle.vs_setup.specs.DesignText.{most_bytes, OnlyTaken, IsTooLong, IsPartTaken, DesignFails, with_design};
 
 use std::alloc::{AllocError, Global};
 use thiserror::Error;
@@ -44,6 +44,7 @@ fn take_front<D: Desk>(desk: &mut D, block: &mut [u8], most: usize) -> Result<us
     ensures only { IsTrue D.tells → OnlyTaken (D.contents desk.old) (D.contents desk.new) }
     ensures same { OnOk result (D.register desk.new ≡ D.register desk.old) }
     ensures failed { OnErr result (Fails (D.register desk.old) (D.register desk.new) 1 (D.register desk.old).asked) }
+    ensures kept { IsTrue D.tells → OnErr result (D.contents desk.new ≡ D.contents desk.old) }
 {
     let room = block.len().min(most);
     desk.take(PLACE, &mut block[..room])
@@ -59,6 +60,7 @@ fn take_text<D: Desk>(alloc: Global, desk: &mut D) -> Result<Vec<u8>, DesignErro
     ensures only { IsTrue D.tells → OnlyTaken (D.contents desk.old) (D.contents desk.new) }
     ensures same { result ≢ Err DesignError.ReadFault → D.register desk.new ≡ D.register desk.old }
     ensures failed { result ≡ Err DesignError.ReadFault → Fails (D.register desk.old) (D.register desk.new) 1 (D.register desk.old).asked }
+    ensures part { IsTrue D.tells → result ≡ Err DesignError.ReadFault → IsPartTaken ((D.contents desk.old).left 1) ((D.contents desk.new).left 1) }
 {
     let mut text = Vec::new(alloc);
     let mut block = [0; BLOCK];
@@ -95,7 +97,7 @@ pub fn read_design<D: Desk>(
         → IsTooLong ((D.contents desk.old).files (string_bytes path)) ((D.contents desk.new).left 1) }
     ensures only { IsTrue D.tells → OnlyTaken (D.contents desk.old) (D.contents desk.new) }
     ensures attached { result ≢ Err DesignError.ReadFault → D.register desk.new ≡ with_design (D.register desk.old) (string_bytes path) }
-    ensures failed { result ≡ Err DesignError.ReadFault → DesignFails (D.register desk.old) (D.register desk.new) (string_bytes path) }
+    ensures failed { result ≡ Err DesignError.ReadFault → DesignFails D.tells (D.register desk.old) (D.contents desk.old) (D.register desk.new) (D.contents desk.new) (string_bytes path) }
 {
     match desk.attach(PLACE, path, Way::Read) {
         Ok(()) => take_text(alloc, desk),

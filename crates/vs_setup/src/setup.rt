@@ -1,6 +1,6 @@
 //! The set-up of a run.
 
-ghost use Rattle.std.specs.Prelude.{◌≡◌, ◌≤◌, ◌+◌, ℕ, ◌<◌, All, Err, IsNone, IsTrue, IfOk, IfErr, OnOk, length, map, string_bytes};
+ghost use Rattle.std.specs.Prelude.{◌≡◌, ◌≤◌, ◌+◌, ℕ, ◌<◌, [], All, Err, IsNone, IsTrue, IfOk, IfErr, OnOk, length, map, string_bytes};
 ghost use Rattle.vs_desk.specs.declared.desk.Way.TheVariants.{Read};
 ghost use Rattle.vs_design.specs.Designs.{Design};
 ghost use Rattle.vs_engine.specs.Compiled.{fall_stores, rise_stores};
@@ -9,7 +9,7 @@ ghost use Rattle.vs_front.specs.Accepted.{IsAcceptedText};
 ghost use Rattle.vs_load.specs.Loaded.{IsLoaded};
 ghost use Rattle.vs_stim.specs.Header.{IsInput};
 ghost use Rattle.vs_drive.specs.Lanes.{AreAttached, AreLanes, OtherPlacesKept};
-ghost use Rattle.vs_drive.specs.Opened.{AreFree, AreOpened, with_lanes};
+ghost use Rattle.vs_drive.specs.Opened.{AreFree, AreOpened, HaveHeaders, with_lanes};
 ghost use Rattle.vs_waves.specs.Wave.{IsNewWave};
 ghost use Rattle.vs_job.specs.Job.{IsJob};
 ghost use Rattle.vs_job.specs.Places.{vcd_path};
@@ -76,6 +76,7 @@ fn read_and_load<W: Lanes, D: Desk>(
     ensures loaded { IfOk result (λ l. IsDesignLoaded W.lane W.LANES D.tells job.now (D.contents desk.old) l.accepted l.inputs.items l.engine) }
     ensures register { OnOk result (D.register desk.new ≡ with_design (D.register desk.old) job.now.design) }
     ensures unprepared { IfErr result (IsUnprepared D.tells job.now (D.register desk.old) (D.contents desk.old) (D.register desk.new) (D.contents desk.new)) }
+    ensures taken { IsTrue D.tells → OnOk result ((D.contents desk.new).left 1 ≡ []) }
     ensures only { IsTrue D.tells → OnlyTaken (D.contents desk.old) (D.contents desk.new) }
 {
     let Ok(path) = String::from_str(alloc, job.design.as_str()) else {
@@ -114,6 +115,7 @@ fn open_stimuli<D: Desk>(
     requires free { AreFree (D.register desk.old) (length job.now.stimuli) }
     requires inputs { All IsInput inputs.now }
     ensures opened { IfOk result (AreOpened D.tells inputs.now (D.contents desk.old) (D.contents desk.new) job.now.stimuli) }
+    ensures headers { IsTrue D.tells → OnOk result (HaveHeaders inputs.now (D.contents desk.old).files job.now.stimuli (length job.now.stimuli)) }
     ensures numbered { IfOk result AreLanes }
     ensures register { OnOk result (D.register desk.new ≡ with_lanes (D.register desk.old) job.now.stimuli) }
     ensures readable { IfOk result (AreAttached (D.register desk.new)) }

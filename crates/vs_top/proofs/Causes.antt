@@ -15,7 +15,7 @@ use Rattle.vs_rounds.specs.Stops.{HasCause, IsLineRefusal}
 use Rattle.vs_job.specs.declared.job.Job.{Job}
 use Rattle.vs_setup.specs.declared.error.SetupError.{SetupError}
 use Rattle.vs_setup.specs.declared.error.SetupError.TheVariants as S
-use Rattle.vs_setup.specs.DesignText.{with_design}
+use Rattle.vs_setup.specs.DesignText.{with_design, DesignFails}
 use Rattle.vs_setup.specs.Places.{with_texts}
 use Rattle.vs_setup.specs.Unprepared.{IsUnprepared, IsTextRefusal, IsDesignFault, IsStimulusFault}
 use Rattle.vs_top.specs.declared.outcome.Summary.{Summary}
@@ -119,12 +119,12 @@ stop_ends old mid new (R.Refused i e) q h = refusal_ends old new i e (line_refus
 stop_ends old mid new (R.ReadFault i) q h = read_ends old mid new (place_of i) mid.asked q (λ e. omega arith) h
 stop_ends old mid new (R.WriteFault i) q h = write_ends old mid new (wave_place i) mid.asked q (λ e. omega arith) h
 
-design_ends : (job : Job) (old new : Register) (place : ℕ) → IsDesignFault job old new place → Ends old new (ReadFault place)
-design_ends job old new place h = subst (λ (p : ℕ). Ends old new (ReadFault p)) (sym h.place_is) (by h.fails)
+design_ends : (tells : Bool) (job : Job) (old : Register) (before : Contents) (new : Register) (after : Contents) (place : ℕ) → IsDesignFault tells job old before new after place → Ends old new (ReadFault place)
+design_ends tells job old before new after place h = subst (λ (p : ℕ). Ends old new (ReadFault p)) (sym h.place_is) (by h.fails)
   where
-    by : (Fails old new 1 job.design) ⊎ (Fails (with_design old job.design) new 1 old.asked) → Ends old new (ReadFault 1)
+    by : DesignFails tells old before new after job.design → Ends old new (ReadFault 1)
     by (inl f) = read_ends old old new 1 job.design (quiet old) (λ e. omega arith) f
-    by (inr f) = read_ends old (with_design old job.design) new 1 old.asked (placed old 1 Read (job.design ∷ [])) (λ e. omega arith) f
+    by (inr f) = read_ends old (with_design old job.design) new 1 old.asked (placed old 1 Read (job.design ∷ [])) (λ e. omega arith) f.0
 
 stimulus_ends : (tells : Bool) (job : Job) (old : Register) (before : Contents) (new : Register) (place : ℕ) → IsStimulusFault tells job old before new place → Ends old new (ReadFault place)
 stimulus_ends tells job old before new place h = subst (λ (p : ℕ). Ends old new (ReadFault p)) (sym h.place_is) (by h.fails)
@@ -139,7 +139,7 @@ setup_ends tells job old before new after S.TooLong h = let q = quiet_at old (wi
 setup_ends tells job old before new after S.NotAccepted h = let q = quiet_at old (with_design old job.design) new (placed old 1 Read (job.design ∷ [])) h.0 in record { fault = q.faults; losses = q.losses }
 setup_ends tells job old before new after (S.Stimulus i e) h =
     refusal_ends old new i e (text_refusal e h.1) (quiet_at old (with_texts old job (take (i + 1) job.stimuli)) new (texts old job (take (i + 1) job.stimuli)) h.2)
-setup_ends tells job old before new after (S.ReadFault place) (inl h) = design_ends job old new place h
+setup_ends tells job old before new after (S.ReadFault place) (inl h) = design_ends tells job old before new after place h
 setup_ends tells job old before new after (S.ReadFault place) (inr h) = stimulus_ends tells job old before new place h
 setup_ends tells job old before new after S.Memory (inl h) = let q = quiet_at old old new (quiet old) h in record { fault = q.faults; losses = q.losses }
 setup_ends tells job old before new after S.Memory (inr h) =

@@ -16,13 +16,13 @@ use Rattle.vs_rounds.specs.declared.stop.Stop.{Stop}
 use Rattle.vs_rounds.specs.declared.stop.Stop.TheVariants as R
 use Rattle.vs_setup.specs.declared.error.SetupError.{SetupError}
 use Rattle.vs_setup.specs.declared.error.SetupError.TheVariants as S
-use Rattle.vs_top.specs.declared.outcome.Outcome.TheVariants.{Done, Refused, WriteFault}
+use Rattle.vs_top.specs.declared.outcome.Outcome.TheVariants.{Done, Refused, ReadFault, WriteFault, Memory}
 use Rattle.vs_top.specs.Answers.{stimulus_outcome, setup_outcome, stop_outcome}
 use Rattle.vs_top.specs.Ended.{IsEnd}
 use Rattle.vs_top.specs.Ended.IsEnd.{same, setup, first, attached, stopped, whole}
 use Rattle.vs_top.specs.Reports.{IsSimulated}
 use Rattle.vs_top.specs.Outcomes.{outcome_line}
-use Rattle.vs_top.specs.Reported.{ReportsDone, ReportsLine, LosesBoth}
+use Rattle.vs_top.specs.Reported.{OnDone, OnStopped, ReportsDone}
 use Rattle.vs_top.specs.Headline.{IsWritten, IsLaneWritten}
 
 -- the waveforms stay where a line is put at place 0
@@ -33,6 +33,7 @@ written_still : (job : Job) (old mid new : Contents) (r : Register) (line : List
 written_still job old mid new r line s e w = record {
   design = w.design;
   accepted = w.accepted;
+  taken = ap (λ (c : Contents). c.left 1) e ∙ w.taken;
   lanes = λ i h. subst (λ (put : List ℕ). IsLaneWritten w.design w.accepted.accepted.clock.first job.half (data_inputs w.design w.accepted.accepted.clock.first) (old.files (path_at job.stimuli i)) put) (sym (ap (λ (c : Contents). c.put (wave_place i)) e ∙ kept r mid line i)) (w.lanes i h);
   lanes_are = w.lanes_are;
   counted = w.counted;
@@ -96,12 +97,22 @@ end_usage tells job before old now new o (whole d e) h = done_usage e.summary (s
     done_usage s h = cc
 
 pub simulated_usage : {D : Type 0} (register : D → Register) (tells : Bool) (contents : D → Contents) (job : Job) (old new : D) (result : Outcome) → IsSimulated register tells contents job old new result → result ≢ Refused (Bare Usage)
-simulated_usage register tells contents job old new result s = λ h. by_report s.reported h
+simulated_usage register tells contents job old new result s = λ h. by_outcome s.outcome s.ended s.done s.stopped h
   where
-    fault : WriteFault 0 ≡ Refused (Bare Usage) → ⊥
-    fault h = cc
+    by_end : (o : Outcome) → IsEnd tells job (register old) (contents old) (register s.middle) (contents s.middle) o → result ≡ o → result ≡ Refused (Bare Usage) → ⊥
+    by_end o e is h = end_usage tells job (register old) (contents old) (register s.middle) (contents s.middle) o e (sym is ∙ h)
 
-    by_report : ((result ≡ s.outcome) × ReportsLine register tells contents s.middle new (outcome_line s.outcome)) ⊎ ((result ≡ WriteFault 0) × LosesBoth register tells contents s.middle new (outcome_line s.outcome) (outcome_line (WriteFault 0)))
-        → result ≡ Refused (Bare Usage) → ⊥
-    by_report (inl r) h = end_usage tells job (register old) (contents old) (register s.middle) (contents s.middle) s.outcome s.ended (sym r.0 ∙ h)
-    by_report (inr r) h = fault (sym r.0 ∙ h)
+    done_usage : (t : Summary) → Done t ≡ Refused (Bare Usage) → ⊥
+    done_usage t h = cc
+
+    fault_usage : WriteFault 0 ≡ Refused (Bare Usage) → ⊥
+    fault_usage h = cc
+
+    by_outcome : (o : Outcome) → IsEnd tells job (register old) (contents old) (register s.middle) (contents s.middle) o
+        → OnDone o (ReportsDone register tells contents s.middle new o result) → OnStopped o (result ≡ o) → result ≡ Refused (Bare Usage) → ⊥
+    by_outcome (Done t) e (inl r) is h = done_usage t (sym r.0 ∙ h)
+    by_outcome (Done t) e (inr r) is h = fault_usage (sym r.0 ∙ h)
+    by_outcome (Refused r) e d is h = by_end (Refused r) e is h
+    by_outcome (ReadFault p) e d is h = by_end (ReadFault p) e is h
+    by_outcome (WriteFault p) e d is h = by_end (WriteFault p) e is h
+    by_outcome Memory e d is h = by_end Memory e is h

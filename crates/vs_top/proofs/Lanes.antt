@@ -114,4 +114,5 @@ run_is lane tells job before old now new m size stores paths p t = record {
   design = p.design;
   accepted = accepted_as job.top job.clock p.design p.text (old.files job.design) (p.text_is t) p.accepted;
   run_is = refl;
+  headers = p.headers t;
 }

@@ -110,7 +110,7 @@ no_setup tells job before old now new told l S.TooLong r c e =
     let long = (c.1 told).long in
     let short = l.accepted.short in
     omega (arith, long, short)
-no_setup tells job before old now new told l S.NotAccepted r c e = c.1 told l.design l.accepted
+no_setup tells job before old now new told l S.NotAccepted r c e = (c.1 told).none l.design l.accepted
 no_setup tells job before old now new told l (S.Stimulus i error) r c e =
     let h = c.3 told in
     no_text_refusal job old l h.design h.accepted i error c.0 h.first.refused
@@ -125,7 +125,7 @@ no_stop job old l run is k (R.WriteFault i) r lane s e = cc
 
 no_round : (job : Job) (old : Contents) (l : IsLawful job old) (run : Run) → IsRunOf job old run → (k : ℕ) (new : Contents) (stop : Stop) (r : Refusal) → IsLaneOf (length job.stimuli) stop
     → StopsIn run (length job.stimuli) k new stop → Refused r ≡ stop_outcome stop → ⊥
-no_round job old l run is k new (R.Refused i error) r lane s e = no_line_refusal job old l run is i error lane s.0.refusal
+no_round job old l run is k new (R.Refused i error) r lane s e = no_line_refusal job old l run is i error lane s.1.refusal
 no_round job old l run is k new (R.ReadFault i) r lane s e = cc
 no_round job old l run is k new (R.WriteFault i) r lane s e = cc
 

@@ -1,15 +1,15 @@
 -- How a job ended, before its line is reported.
-use Rattle.std.specs.Prelude.{◌≡◌, ◌≢◌, ℕ, ◌<◌, Bool, IsTrue, List, length, map, take, Some, None}
+use Rattle.std.specs.Prelude.{◌≡◌, ◌≢◌, ℕ, ◌<◌, Bool, IsTrue, List, [], length, map, take, Some, None}
 use Rattle.vs_desk.specs.declared.desk.Way.TheVariants.{Write}
 use Rattle.vs_desk.specs.Desk.{Register, Contents, Fails}
 use Rattle.vs_desk.specs.Places.{with_places}
 use Rattle.vs_design.specs.Designs.{Design}
-use Rattle.vs_drive.specs.Opened.{path_at}
+use Rattle.vs_drive.specs.Opened.{path_at, HaveHeaders}
 use Rattle.vs_waves.specs.Puts.{wave_place}
 use Rattle.vs_waves.specs.Attached.{AreFree}
 use Rattle.vs_rounds.specs.declared.stop.Stop.{Stop}
 use Rattle.vs_rounds.specs.Lanes.{Run}
-use Rattle.vs_rounds.specs.Stops.{ReadStops, StopsIn, IsLaneOf, HasCause}
+use Rattle.vs_rounds.specs.Stops.{AreUnrefused, ReadStops, StopsIn, IsLaneOf, HasCause}
 use Rattle.vs_refusal.specs.declared.refusal.Refusal.TheVariants.{SamePath}
 use Rattle.vs_job.specs.declared.job.Job.{Job}
 use Rattle.vs_job.specs.Places.{same_paths, vcd_path}
@@ -40,11 +40,12 @@ wave_paths job = map vcd_path job.stimuli
 abbrev pub OnlyWavesPut : ℕ → Contents → Contents → Type 0
 OnlyWavesPut lanes old new = (place : ℕ) → ((i : ℕ) → i < lanes → place ≢ wave_place i) → new.put place ≡ old.put place
 
--- the design's file is accepted, and the run is that of the job on the stimuli's files
+-- The design's file is accepted, the run is that of the job on the stimuli's files, and none of these is refused up to its header.
 pub record IsRunOf (job : Job) (old : Contents) (run : Run) : Type 0 where
   pub design : Design
   pub accepted : IsDesignOf job old design
   pub run_is : run ≡ run_of job old.files design accepted.accepted.clock.first
+  pub headers : HaveHeaders run.inputs old.files job.stimuli (length job.stimuli)
 
 -- Two places have one path. Nothing was called.
 pub record IsSameEnd (job : Job) (before : Register) (old : Contents) (now : Register) (new : Contents) (o : Outcome) : Type 0 where
@@ -62,25 +63,26 @@ pub record IsSetupEnd (tells : Bool) (job : Job) (before : Register) (old : Cont
   pub cause : IsUnprepared tells job before old now new error
   pub kept : IsTrue tells → AreTextsKept old new
 
--- A stimulus has no first vector that is known. No waveform's place is attached.
+-- A stimulus has no first vector that is known, or it can't be read. No waveform's place is attached.
 pub record IsFirstEnd (tells : Bool) (job : Job) (before : Register) (old : Contents) (now : Register) (new : Contents) (o : Outcome) : Type 0 where
   pub stop : Stop
   pub outcome_is : o ≡ stop_outcome stop
   pub lane : IsLaneOf (length job.stimuli) stop
   pub cause : HasCause (with_texts before job job.stimuli) now stop
   pub stops : IsTrue tells → (run : Run) × IsRunOf job old run × ReadStops run (length job.stimuli) 0 stop
-  pub puts : IsTrue tells → new.put ≡ old.put
+  pub kept : IsTrue tells → AreTextsKept old new
 
--- A waveform's place can't be attached, behind those of the earlier lanes, where nothing was put.
+-- Each stimulus has a known first vector, and a waveform's place can't be attached, behind those of the earlier lanes, where nothing was put.
 pub record IsAttachEnd (tells : Bool) (job : Job) (before : Register) (old : Contents) (now : Register) (new : Contents) (o : Outcome) : Type 0 where
   pub lane : ℕ
   pub is_lane : lane < length job.stimuli
   pub outcome_is : o ≡ WriteFault (wave_place lane)
   pub fails : Fails (with_waves before job (take lane (wave_paths job))) now (wave_place lane) (path_at (wave_paths job) lane)
-  pub text : IsTrue tells → (run : Run) × IsRunOf job old run
+  pub texts : IsTrue tells → (run : Run) × IsRunOf job old run × AreUnrefused run 0 (length job.stimuli) 1
+  pub empty : IsTrue tells → (i : ℕ) → i < lane → new.put (wave_place i) ≡ []
   pub puts : IsTrue tells → OnlyWavesPut lane old new
 
--- A round stopped. What each lane has got then is what `StopsIn` says.
+-- A round stopped, by a stimulus only behind the first one. What each lane has got then is what `StopsIn` says.
 pub record IsRoundEnd (tells : Bool) (job : Job) (before : Register) (old : Contents) (now : Register) (new : Contents) (o : Outcome) : Type 0 where
   pub stop : Stop
   pub outcome_is : o ≡ stop_outcome stop

@@ -1,5 +1,5 @@
 -- What a run that is done has written, in the words of the event queue (IEEE 1364-2005, 11.3 and 11.4).
-use Rattle.std.specs.Prelude.{◌≡◌, ℕ, ◌<◌, List, ◌∷◌, length, map}
+use Rattle.std.specs.Prelude.{◌≡◌, ℕ, ◌<◌, List, [], ◌∷◌, length, map}
 use Rattle.vs_net.specs.Network.{State}
 use Rattle.vs_net.specs.Queue.{Choice, IsFirst, IsCompleted, start, ends}
 use Rattle.vs_design.specs.Designs.{Design}
@@ -41,11 +41,12 @@ pub record IsLaneWritten (d : Design) (clock half : ℕ) (inputs : List Input) (
   pub every : (values : List State) → IsRunOn d clock vectors values → put ≡ vcd d half values
   pub some : (values : List State) × IsRunOn d clock vectors values
 
--- The design's text is accepted, each lane is written, and the counts are those of the design and of the stimuli, where the desk had these
+-- The design's text is accepted and was taken to its end, each lane is written, and the counts are those of the design and of the stimuli, where the desk had these
 -- contents before and after.
 pub record IsWritten (job : Job) (old new : Contents) (s : Summary) : Type 0 where
   pub design : Design
   pub accepted : IsAcceptedText (old.files job.design) job.top job.clock design
+  pub taken : new.left 1 ≡ []
   pub lanes : (i : ℕ) → i < length job.stimuli
       → IsLaneWritten design accepted.accepted.clock.first job.half (data_inputs design accepted.accepted.clock.first) (old.files (path_at job.stimuli i)) (new.put (wave_place i))
   pub lanes_are : s.lanes ≡ length job.stimuli

@@ -1,23 +1,25 @@
 -- How a job ended, and what was reported of it.
-use Rattle.std.specs.Prelude.{◌≡◌, ◌⊎◌, Bool}
+use Rattle.std.specs.Prelude.{◌≡◌, Bool}
 use Rattle.vs_desk.specs.Desk.{Register, Contents}
 use Rattle.vs_job.specs.declared.job.Job.{Job}
 use Rattle.vs_top.specs.declared.outcome.Outcome.{Outcome}
-use Rattle.vs_top.specs.declared.outcome.Outcome.TheVariants.{WriteFault}
 use Rattle.vs_top.specs.Outcomes.{outcome_line}
-use Rattle.vs_top.specs.Reported.{LosesBoth, ReportsLine}
+use Rattle.vs_top.specs.Reported.{OnDone, OnStopped, ReportsDone, ReportsLine}
 use Rattle.vs_top.specs.Ended.{IsEnd}
 
 -- the outcome's line was put at place 0, or lost with some first bytes of it put
 abbrev pub IsReported : {D : Type 0} → (D → Register) → Bool → (D → Contents) → D → D → Outcome → Type 0
 IsReported register tells contents old new o = ReportsLine register tells contents old new (outcome_line o)
 
--- The job ended so on the desk, and then its line was reported. Where the line of a run that is done was lost, the answer is a fault at
--- place 0, and that has its line put behind.
+-- The job ended so on the desk, and then its line was reported. Where the line of a run that is done was lost, and only there, the answer is
+-- a fault at place 0, and that has its line put behind.
 pub record IsSimulated {D : Type 0} (register : D → Register) (tells : Bool) (contents : D → Contents) (job : Job) (old new : D) (result : Outcome) : Type 0 where
   -- the desk when the job had ended
   pub middle : D
   pub outcome : Outcome
   pub ended : IsEnd tells job (register old) (contents old) (register middle) (contents middle) outcome
-  pub reported : ((result ≡ outcome) × ReportsLine register tells contents middle new (outcome_line outcome))
-      ⊎ ((result ≡ WriteFault 0) × LosesBoth register tells contents middle new (outcome_line outcome) (outcome_line (WriteFault 0)))
+  -- a run that is done stays so where its whole line was put
+  pub done : OnDone outcome (ReportsDone register tells contents middle new outcome result)
+  -- every other outcome stays, whether its line was put or lost
+  pub stopped : OnStopped outcome (result ≡ outcome)
+  pub stopped_line : OnStopped outcome (IsReported register tells contents middle new outcome)

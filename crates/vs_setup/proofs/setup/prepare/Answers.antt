@@ -1,4 +1,4 @@
-use Rattle.std.proofs.Common.{rules, ◌+◌, ◌≤◌, List, All, length, inr, sym, subst, ap, ◌∙◌, arith}
+use Rattle.std.proofs.Common.{rules, ◌+◌, ◌≤◌, ℕ, List, All, length, inr, sym, subst, ap, ◌∙◌, arith}
 use Rattle.std.proofs.lemmas.List.{take_all}
 use Rattle.vs_desk.specs.Desk.{Register}
 use Rattle.vs_flat.specs.DesignOf.{design_of}
@@ -6,7 +6,7 @@ use Rattle.vs_engine.specs.Compiled.{fall_stores, rise_stores}
 use Rattle.vs_engine.specs.Lanes.{Running}
 use Rattle.vs_stim.specs.Header.{IsInput}
 use Rattle.vs_drive.specs.Opened as drive
-use Rattle.vs_drive.specs.Opened.{with_lanes}
+use Rattle.vs_drive.specs.Opened.{with_lanes, HaveHeaders}
 use Rattle.vs_drive.specs.Lanes.{AreLanes, AreAttached}
 use Rattle.vs_stim.specs.declared.input.Input.{Input}
 use Rattle.vs_setup.specs.DesignText.{with_design}
@@ -62,6 +62,7 @@ returns-in-Ok-clause-prepared g c =
     record {
       text = parts.loaded.text;
       text_is = parts.loaded.text_is;
+      taken = λ t. (c.in_ok-drive.ensures.others t).before 1 (omega arith) ∙ c.in_ok-loaded.ensures.taken t;
       design = design_of l.accepted.flat;
       accepted = parts.loaded.loaded.accepted;
       size_is = c.in-Ok.ensures.size ∙ parts.loaded.loaded.size;
@@ -69,6 +70,9 @@ returns-in-Ok-clause-prepared g c =
       all_inputs = subst (All IsInput) parts.loaded.loaded.inputs_are parts.loaded.loaded.are_inputs;
       stores_are = c.in-Ok.ensures.stores ∙ ap (λ (e : Running _). fall_stores e.program + rise_stores e.program) (sym c.in-Ok.ensures.engine);
       lanes = parts.opened.lanes;
+      headers = λ t.
+          subst (λ (is : List Input). HaveHeaders is old.files job.stimuli (length job.stimuli)) (c.deref.ensures.value ∙ parts.loaded.loaded.inputs_are)
+          (subst (λ (files : List ℕ → List ℕ). HaveHeaders c.deref.result.now files job.stimuli (length job.stimuli)) (c.in_ok-loaded.ensures.only t).files (c.in_ok-drive.ensures.headers t));
       ready = ready g.W.Word.lane g.W.Word.LANES tells job old mid new l.accepted l.inputs.items l.engine m parts;
       opened = begins g.W.Word.lane g.W.Word.LANES tells job old mid new l.accepted l.inputs.items l.engine m parts;
       paths = c.in-Ok.ensures.paths;

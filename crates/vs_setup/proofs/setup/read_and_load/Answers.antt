@@ -1,7 +1,7 @@
-use Rattle.std.proofs.Common.{rules, ◌≡◌, Err, sym, ap, ◌∙◌}
+use Rattle.std.proofs.Common.{rules, ◌≡◌, ◌≤◌, ℕ, List, length, Err, sym, ap, subst, ◌∙◌}
 use Rattle.std.specs.Prelude.{string_bytes}
 use Rattle.vs_setup.specs.declared.error.SetupError.{SetupError}
-use Rattle.vs_setup.specs.DesignText.{with_design}
+use Rattle.vs_setup.specs.DesignText.{most_bytes, with_design}
 use Rattle.vs_setup.specs.Unprepared.{IsLoadError, IsUnprepared}
 use Rattle.vs_setup.proofs.Opening.{on_err, unloaded, with_text}
 use Rattle.vs_setup.proofs.setup.read_and_load.Goals as goal
@@ -16,6 +16,11 @@ returns-in-Ok-read_design-clause-unprepared g c =
     let attached : now ≡ with_design before job.design = search rules in
     let path : string_bytes c.in-Ok.path ≡ job.design = search rules in
     on_err IsLoadError (IsUnprepared g.D.Desk.tells job before old now new) c.load_text.result c.load_text.ensures.errors
-    (λ e is load_error. unloaded g.D.Desk.tells job before old now new e load_error attached (λ not_accepted t d a.
-    c.load_text.ensures.refused (is ∙ ap (λ (x : SetupError). Err x) not_accepted) d
-    (with_text job.top job.clock d (old.files job.design) c.as_slice.result.now (sym (c.as_slice.ensures.value ∙ c.in-Ok-read_design.ensures.text t ∙ ap old.files path)) a)))
+    (λ e is load_error. unloaded g.D.Desk.tells job before old now new e load_error attached (λ not_accepted t.
+    let text = c.in-Ok-read_design.ensures.text t ∙ ap old.files path in
+    record {
+      short = subst (λ (xs : List ℕ). length xs ≤ most_bytes) text c.in-Ok-read_design.ensures.short;
+      taken = c.in-Ok-read_design.ensures.end t;
+      none = λ d a. c.load_text.ensures.refused (is ∙ ap (λ (x : SetupError). Err x) not_accepted) d
+          (with_text job.top job.clock d (old.files job.design) c.as_slice.result.now (sym (c.as_slice.ensures.value ∙ text)) a);
+    }))

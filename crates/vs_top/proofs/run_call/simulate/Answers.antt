@@ -1,7 +1,28 @@
+use Rattle.vs_top.specs.declared.outcome.Outcome.TheVariants.{Done}
 use Rattle.vs_top.proofs.Ends.{reported_written}
 use Rattle.vs_top.proofs.Causes.{stopped_cause, done_cause}
 use Rattle.vs_top.proofs.Lawful.{stopped_complete, done_complete}
 use Rattle.vs_top.proofs.run_call.simulate.Goals as goal
+
+pub returns-in-Ok-clause-ended : goal.returns-in-Ok-clause-ended
+returns-in-Ok-clause-ended g c = record {
+  middle = c.run_job.new.desk;
+  outcome = Done c.in-Ok.summary;
+  ended = c.in-Ok.ensures.done;
+  done = c.report.ensures.done;
+  stopped = c.report.ensures.stopped;
+  stopped_line = c.report.ensures.stopped_line;
+}
+
+pub returns-in-Err-clause-ended : goal.returns-in-Err-clause-ended
+returns-in-Err-clause-ended g c = record {
+  middle = c.run_job.new.desk;
+  outcome = c.in-Err.outcome;
+  ended = c.in-Err.ensures.stopped;
+  done = c.report-in-Err.ensures.done;
+  stopped = c.report-in-Err.ensures.stopped;
+  stopped_line = c.report-in-Err.ensures.stopped_line;
+}
 
 pub returns-in-Ok-clause-written : goal.returns-in-Ok-clause-written
 returns-in-Ok-clause-written g c = λ t s e.

@@ -11,7 +11,7 @@ use Rattle.vs_design.specs.Sizes.{size as size_of}
 use Rattle.vs_drive.specs.Lanes.{AreAttached}
 use Rattle.vs_drive.specs.Opened.{path_at}
 use Rattle.vs_waves.specs.Puts.{wave_place}
-use Rattle.vs_rounds.specs.Stops.{IsLaneOf, HasCause, ReadStops, StopsIn}
+use Rattle.vs_rounds.specs.Stops.{AreUnrefused, IsLaneOf, HasCause, ReadStops, StopsIn}
 use Rattle.vs_rounds.specs.Counts.{AreDone, AreCounted}
 use Rattle.vs_job.specs.Places.{vcd_path}
 use Rattle.vs_setup.specs.Prepared.{run_of}
@@ -36,7 +36,7 @@ returns-in-Err-begin-clause-stopped g c =
       lane = subst (λ (n : ℕ). IsLaneOf n stop) p.lanes c.in-Err-begin.ensures.lane;
       cause = subst (λ (r : Register). HasCause r (g.D.Desk.register c.begin.new.desk) stop) p.register_is c.in-Err-begin.ensures.cause;
       stops = λ t. (run, run_is _ _ _ _ _ _ _ _ _ _ _ p t, subst (λ (n : ℕ). ReadStops run n 0 stop) p.lanes (c.in-Err-begin.ensures.stops t run (p.opened t)));
-      puts = λ t. c.begin.ensures.puts t ∙ (p.kept t).put;
+      kept = λ t. let begun = c.begin.ensures.others t in record { files = begun.files ∙ (p.kept t).files; put = begun.put ∙ (p.kept t).put };
     })
 
 pub attach-requires-clause-free : goal.attach-requires-clause-free
@@ -69,8 +69,9 @@ returns-in-Err-attach-clause-stopped g c =
       is_lane = omega (arith, within, held, lanes);
       outcome_is = refl;
       fails = subst (λ (all : List (List ℕ)). P (with_texts before job job.stimuli) (take lane all) all) p.paths mapped;
-      text = λ t. (run, run_is _ _ _ _ _ _ _ _ _ _ _ p t);
-      puts = λ t place other. (c.in-Err-attach.ensures.bytes_before t).others place other ∙ ap (λ (f : ℕ → List ℕ). f place) (c.begin.ensures.puts t ∙ (p.kept t).put);
+      texts = λ t. (run, run_is _ _ _ _ _ _ _ _ _ _ _ p t, subst (λ (n : ℕ). AreUnrefused run 0 n 1) p.lanes (c.in_default-begin.ensures.unrefused t run (p.opened t)));
+      empty = λ t. (c.in-Err-attach.ensures.bytes_before t).lanes;
+      puts = λ t place other. (c.in-Err-attach.ensures.bytes_before t).others place other ∙ ap (λ (f : ℕ → List ℕ). f place) ((c.begin.ensures.others t).put ∙ (p.kept t).put);
     })
 
 pub rounds-requires-clause-readable : goal.rounds-requires-clause-readable
@@ -115,6 +116,7 @@ all_written g c =
       written = λ t. record {
         design = p.design;
         accepted = accepted_as job.top job.clock p.design p.text (old.files job.design) (p.text_is t) p.accepted;
+        taken = (c.rounds.ensures.others t).left 1 (omega arith) ∙ ap (λ (left : ℕ → List ℕ). left 1) (empty t).left ∙ (c.begin.ensures.others t).before 1 (omega arith) ∙ p.taken t;
         lanes = λ i h. lane_written c.headline_law.ensures.every c.headline_law.ensures.some c.known_law.ensures.some p.design job.clock p.accepted.accepted (resets_known p.text job.top job.clock p.design p.accepted p.accepted.accepted.clock.first) job.half run.inputs (are_data_inputs p.design clock p.all_inputs)
             (run.texts i) (new.put (wave_place i)) ((done t).valid i h) ((done t).given i h);
         lanes_are = search rules;
@@ -124,7 +126,7 @@ all_written g c =
       puts = λ t place other.
           (c.rounds.ensures.others t).others place (λ i h. other i (subst (λ n. i < n) lanes h))
           ∙ (empty t).others place (λ i h. other i (omega (arith, h, held, paths)))
-          ∙ ap (λ (f : ℕ → List ℕ). f place) (c.begin.ensures.puts t ∙ (p.kept t).put);
+          ∙ ap (λ (f : ℕ → List ℕ). f place) ((c.begin.ensures.others t).put ∙ (p.kept t).put);
     }
 
 pub returns-in-Ok-rounds-clause-done : goal.returns-in-Ok-rounds-clause-done
@@ -176,7 +178,7 @@ returns-clause-stopped g c =
       puts = λ t place other.
           (c.rounds.ensures.others t).others place (λ i h. other i (subst (λ n. i < n) lanes h))
           ∙ (empty t).others place (λ i h. other i (omega (arith, h, held, paths)))
-          ∙ ap (λ (f : ℕ → List ℕ). f place) (c.begin.ensures.puts t ∙ (p.kept t).put);
+          ∙ ap (λ (f : ℕ → List ℕ). f place) ((c.begin.ensures.others t).put ∙ (p.kept t).put);
     })
 
 pub returns-in-Ok-rounds-clause-written : goal.returns-in-Ok-rounds-clause-written

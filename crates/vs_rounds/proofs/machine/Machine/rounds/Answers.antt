@@ -12,7 +12,7 @@ use Rattle.vs_rounds.specs.Stops.{ReadStops}
 use Rattle.vs_rounds.specs.Counts.{AreCounted}
 use Rattle.vs_rounds.proofs.Counting.{AreTaken, none_taken, taken_next, all_taken, done_before, done_at_last, few_at_last, none_more, ticks_within}
 use Rattle.vs_rounds.proofs.Rereads.{stops_in}
-use Rattle.vs_rounds.proofs.Going.{others_on, others_put, in_next, ticked_more}
+use Rattle.vs_rounds.proofs.Going.{others_on, others_read, in_next, ticked_more}
 use Rattle.vs_rounds.proofs.machine.Machine.rounds.Goals as goal
 
 pub loop-round-init : goal.loop-round-init
@@ -26,7 +26,7 @@ loop-round-init g c = record {
   program = refl;
   few = omega arith;
   ticked = record { ticked = omega arith };
-  others = λ t. record { others = λ place ne. refl };
+  others = λ t. record { others = λ place ne. refl; left = λ place lt. refl };
   in_round = λ t run h. h;
   taken = λ t run h. none_taken run (length c.args.self.now.stimuli);
 }
@@ -38,7 +38,7 @@ pub returns-then-live-eq0-clause-others : goal.returns-then-live-eq0-clause-othe
 returns-then-live-eq0-clause-others g c = λ t. others_on c.loop-round.invariant.lanes (c.loop-round.invariant.others t) (c.round.ensures.others t)
 
 pub returns-in_err-read-clause-others : goal.returns-in_err-read-clause-others
-returns-in_err-read-clause-others g c = λ t. others_put (others_on c.loop-round.invariant.lanes (c.loop-round.invariant.others t) (c.round.ensures.others t)) (c.read.ensures.puts t)
+returns-in_err-read-clause-others g c = λ t. others_read (others_on c.loop-round.invariant.lanes (c.loop-round.invariant.others t) (c.round.ensures.others t)) (c.read.ensures.others t)
 
 pub returns-then-live-eq0-clause-done : goal.returns-then-live-eq0-clause-done
 returns-then-live-eq0-clause-done g c =
@@ -74,7 +74,7 @@ returns-in_err-read-clause-stops g c =
     λ t run h. rw (is.1, is.2)
     (let before = ran.done t run (inv.in_round t run h) in (
       suc c.loop-round.round,
-      stops_in g.W.Word.lane run (suc c.loop-round.round) (length c.args.self.now.stimuli) c.round.new.self (g.D.Desk.contents c.round.new.desk) (g.D.Desk.contents c.read.new.desk) _ lanes (c.in_err-read.ensures.puts t) before.waves
+      stops_in g.W.Word.lane run (suc c.loop-round.round) (length c.args.self.now.stimuli) c.round.new.self (g.D.Desk.contents c.round.new.desk) (g.D.Desk.contents c.read.new.desk) _ (omega arith) lanes (c.in_err-read.ensures.others t).put before.waves
           (subst (λ (n : ℕ). ReadStops run n (suc c.loop-round.round) c.in_err-read.field-0.0) lanes (c.in_err-read.ensures.stops t run (suc c.loop-round.round) before.next)),
     ))
 
@@ -100,9 +100,9 @@ loop-round-preserved g c =
       program = ap (λ e. e.program) read.engine ∙ ran.program ∙ inv.program;
       few = omega (arith, inv.few, ran.count, count, inv.ready.alike.lanes.at_most_64);
       ticked = ticked_more c.args.self.now.engine.program c.loop-round.self.engine.program k (count_by (λ s. s.live) c.loop-round.self.stimuli) c.args.steps.now c.loop-round.steps c.round.new.steps inv.program (omega (arith, some, ran.count)) inv.ticked ran.ticked;
-      others = λ t. others_put (others_on inv.lanes (inv.others t) (ran.others t)) (read.puts t);
+      others = λ t. others_read (others_on inv.lanes (inv.others t) (ran.others t)) (read.others t);
       in_round = λ t run h. subst (λ (n : ℕ). AreInRound g.W.Word.lane run n c.read.new.self (g.D.Desk.contents c.read.new.desk)) next
-          (in_next g.W.Word.lane run (suc k) c.round.new.self c.read.new.self (g.D.Desk.contents c.round.new.desk) (g.D.Desk.contents c.read.new.desk) read.lanes read.waves read.engine (read.puts t) (ran.done t run (inv.in_round t run h)) (read.read t run (suc k)));
+          (in_next g.W.Word.lane run (suc k) c.round.new.self c.read.new.self (g.D.Desk.contents c.round.new.desk) (g.D.Desk.contents c.read.new.desk) read.lanes read.waves read.engine (read.others t).put (ran.done t run (inv.in_round t run h)) (read.read t run (suc k)));
       taken = λ t run h. subst (λ (n : ℕ). AreTaken run (length c.args.self.now.stimuli) n (c.loop-round.vectors + c.in_ok-live.live)) next
           (taken_next run (length c.args.self.now.stimuli) k c.loop-round.vectors c.in_ok-live.live c.loop-round.self.stimuli (g.D.Desk.contents c.loop-round.desk) inv.lanes (inv.in_round t run h).read ran.count some (inv.taken t run h));
     }

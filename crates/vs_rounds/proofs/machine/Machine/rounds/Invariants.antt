@@ -3,7 +3,7 @@ use Rattle.vs_drive.specs.Lanes.{AreAttached}
 use Rattle.vs_waves.specs.Puts.{AreWritable}
 use Rattle.vs_rounds.specs.Lanes.{Run, AreInRound}
 use Rattle.vs_rounds.specs.Ready.{IsReady}
-use Rattle.vs_rounds.specs.Stops.{OtherPutsKept}
+use Rattle.vs_rounds.specs.Stops.{OthersStay}
 use Rattle.vs_rounds.specs.Counts.{TicksRounds}
 use Rattle.vs_rounds.proofs.Counting.{AreTaken}
 use Rattle.vs_rounds.proofs.machine.Machine.rounds.Given as goal
@@ -20,7 +20,7 @@ invariant-loop-round g l =
       program : l.self.engine.program ≡ l.initial.self.engine.program;
       few : l.vectors ≤ 64 * l.round;
       ticked : TicksRounds l.initial.self.engine.program l.round l.initial.steps l.steps;
-      others : IsTrue g.D.Desk.tells → OtherPutsKept (length l.initial.self.stimuli) (g.D.Desk.contents l.initial.desk) (g.D.Desk.contents l.desk);
+      others : IsTrue g.D.Desk.tells → OthersStay (length l.initial.self.stimuli) (g.D.Desk.contents l.initial.desk) (g.D.Desk.contents l.desk);
       in_round : IsTrue g.D.Desk.tells → (run : Run) → AreInRound g.W.Word.lane run 0 l.initial.self (g.D.Desk.contents l.initial.desk) → AreInRound g.W.Word.lane run l.round l.self (g.D.Desk.contents l.desk);
       taken : IsTrue g.D.Desk.tells → (run : Run) → AreInRound g.W.Word.lane run 0 l.initial.self (g.D.Desk.contents l.initial.desk) → AreTaken run (length l.initial.self.stimuli) l.round l.vectors;
     }
