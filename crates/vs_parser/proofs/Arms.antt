@@ -17,7 +17,7 @@ use Rattle.vs_ast.specs.declared.statements.CaseArm.{CaseArm}
 use Rattle.vs_ast.specs.Views as view
 use Rattle.vs_parser.specs.declared.input.Input.{Input}
 use Rattle.vs_parser.specs.Parts as part
-use Rattle.vs_parser.specs.Reading.{bytes_in, Parsed, Measured, MeasuredList}
+use Rattle.vs_parser.specs.Reading.{bytes_in, MeasuredList}
 use Rattle.vs_parser.proofs.Places.{ap2}
 
 abbrev targets_from : List Target → Targets → Targets

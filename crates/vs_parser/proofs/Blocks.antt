@@ -1,23 +1,22 @@
 -- Lists of items and of arms of generate cases, as the plain tree has them.
-use Rattle.std.proofs.Common.{◌≡◌, ℕ, ◌≤◌, true, false, List, [], ◌∷◌, ◌++◌, map, append-nil, refl, sym, ◌∙◌, ap}
-use Rattle.vs_lexer.specs.declared.token.TokenKind.TheVariants as kind
-use Rattle.vs_grammar.specs.Grammars.{Terminal, star}
+use Rattle.std.proofs.Common.{◌≡◌, ℕ, ◌≤◌, true, false, List, [], ◌∷◌, ◌++◌, map, refl, sym, ◌∙◌, ap}
+use Rattle.vs_grammar.specs.Grammars.{star}
 use Rattle.vs_grammar.specs.Grammars.Phrase.{eps}
-use Rattle.vs_grammar.specs.Grammars.Tree.{leaf, nothing, both, nested, start, grown, named, former, latter}
+use Rattle.vs_grammar.specs.Grammars.Tree.{leaf, nothing, both, start, grown, named, former, latter}
 use Rattle.vs_grammar.specs.Predictive.{is_member, firsts_of}
-use Rattle.vs_grammar.specs.Verilog.{◌⨾◌, verilog, t, r, separated}
+use Rattle.vs_grammar.specs.Verilog.{verilog, r}
 use Rattle.vs_grammar.specs.Verilog.{Rule as rule}
 use Rattle.vs_grammar.specs.Trees as tree
 use Rattle.vs_grammar.specs.Trees.{Expr, Item, Items, GenerateBlock, GenerateArms}
 use Rattle.vs_grammar.specs.Meaning as meaning
-use Rattle.vs_grammar.specs.Meaning.{D, each_onto, behind_sign, list_of}
+use Rattle.vs_grammar.specs.Meaning.{D, each_onto}
 use Rattle.vs_ast.specs.declared.items.Item.{Item as ItemNode}
 use Rattle.vs_ast.specs.declared.items.GenerateBlock.{GenerateBlock as BlockNode}
 use Rattle.vs_ast.specs.declared.items.GenerateArm.{GenerateArm}
 use Rattle.vs_ast.specs.Views as view
 use Rattle.vs_parser.specs.declared.input.Input.{Input}
 use Rattle.vs_parser.specs.Parts as part
-use Rattle.vs_parser.specs.Reading.{kind_at, bytes_in, Read, Grown, Parsed, ItemRead, ItemsGrown, items_from}
+use Rattle.vs_parser.specs.Reading.{kind_at, bytes_in, Read, Parsed, ItemRead, ItemsGrown, items_from}
 use Rattle.vs_parser.proofs.Places.{ap2, parsed, read_eps, read_many, grown_start, grown_more}
 
 -- ---- arms of a generate case

@@ -1,19 +1,18 @@
 -- Operators and their operands.
-use Rattle.std.proofs.Common.{◌≡◌, ℕ, Bool, true, false, ◌||◌, List, [], ◌∷◌, ◌++◌, map, append-nil, refl, sym, ◌∙◌, ap, subst, arith, suc, ◌+◌, ◌<◌, ◌≤◌, max, length, ◌⊎◌, inl, inr}
+use Rattle.std.proofs.Common.{◌≡◌, ℕ, true, false, List, [], ◌∷◌, ◌++◌, map, append-nil, refl, sym, ◌∙◌, ap, subst, arith, ◌+◌, ◌<◌, ◌≤◌, max, length, inl, inr}
 use Rattle.vs_lexer.specs.declared.token.Token.{Token}
 use Rattle.vs_lexer.specs.declared.token.TokenKind.TheVariants as kind
-use Rattle.vs_grammar.specs.Grammars.{Phrase, Terminal, depth, star}
-use Rattle.vs_grammar.specs.Grammars.Phrase.{tok, seq, many, post, var}
-use Rattle.vs_grammar.specs.Grammars.Tree.{leaf, nothing, former, latter, both, start, grown, behind, named}
+use Rattle.vs_grammar.specs.Grammars.{Phrase, depth, star}
+use Rattle.vs_grammar.specs.Grammars.Phrase.{tok, many, post, var}
+use Rattle.vs_grammar.specs.Grammars.Tree.{leaf, nothing, latter, both, start, grown, behind, named}
 use Rattle.vs_grammar.specs.Predictive.{is_member, firsts_of, can_be_empty, Reads, Grows, Stops, Sinks}
 use Rattle.vs_grammar.specs.Predictive.Reads.{r_seq, r_many, r_behind}
 use Rattle.vs_grammar.specs.Predictive.Grows.{g_start, g_grown}
-use Rattle.vs_grammar.specs.Predictive.Stops.{s_seq, s_then, s_start, s_grown, s_behind}
-use Rattle.vs_grammar.specs.Predictive.Sinks.{k_tok, k_seq, k_then, k_start, k_grown, k_behind}
-use Rattle.vs_grammar.specs.Verilog.{◌⨾◌, verilog, t, r, product_operator, sum_operator, shift_operator, relation_operator, equality_operator, xor_operator}
+use Rattle.vs_grammar.specs.Predictive.Stops.{s_then, s_grown, s_behind}
+use Rattle.vs_grammar.specs.Predictive.Sinks.{k_tok, k_seq, k_then, k_grown, k_behind}
+use Rattle.vs_grammar.specs.Verilog.{◌⨾◌, verilog, t, r}
 use Rattle.vs_grammar.specs.Verilog.{Rule as rule}
 use Rattle.vs_grammar.specs.Trees.{Expr, BinaryOp}
-use Rattle.vs_grammar.specs.Trees.{BinaryOp as plain}
 use Rattle.vs_grammar.specs.Trees.{Binary, Exprs, NoExpr, AndExpr}
 use Rattle.vs_grammar.specs.Meaning as meaning
 use Rattle.vs_grammar.specs.Meaning.{D, each_onto, behind_sign}
@@ -26,7 +25,7 @@ use Rattle.vs_parser.specs.declared.levels.Level.TheVariants as level
 use Rattle.vs_parser.specs.declared.error.ParseError.{ParseError}
 use Rattle.vs_parser.specs.declared.error.ParseError.TheVariants.{TooDeep}
 use Rattle.vs_parser.specs.Levels.{is_unary_level, below_of, table_of, level_phrase, level_operator, level_op, level_of, Chain}
-use Rattle.vs_parser.specs.Reading.{kind_at, kinds_in, from, Took, Read, Grown, Refused, Measured, Growing, Chosen, Picked, IsBeside, Gathering, MeasuredList, terminal_at, bytes_in}
+use Rattle.vs_parser.specs.Reading.{kind_at, kinds_in, from, Took, Read, Refused, Measured, Growing, Chosen, Picked, IsBeside, Gathering, MeasuredList, terminal_at, bytes_in}
 use Rattle.vs_parser.specs.Reading.Refused.{stopped, too_deep, out_of_memory}
 use Rattle.vs_parser.proofs.Places.{at_head, to_head, refused_var, refused_start, read_var, read_eps, read_seq, read_tok, read_many, grown_start, grown_more, first_took, known}
 use Rattle.vs_parser.proofs.Tables.{chosen_tok, chosen_former, chosen_latter}

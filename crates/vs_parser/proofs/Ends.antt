@@ -1,6 +1,6 @@
 -- From places to whole texts.
-use Rattle.std.proofs.Common.{◌≡◌, ℕ, zero, suc, ◌+◌, ◌<◌, ◌≤◌, ◌≢◌, Bool, true, false, List, [], ◌∷◌, ◌++◌, drop, length, get_or, refl, sym, ◌∙◌, ap, subst, arith, ◌⊎◌, inl, inr}
-use Rattle.std.specs.Prelude.{Result, Ok, Err, IfErr, IsErrAnd, Option, Some, None}
+use Rattle.std.proofs.Common.{◌≡◌, ℕ, zero, suc, ◌+◌, ◌<◌, ◌≤◌, ◌≢◌, true, false, List, [], ◌∷◌, ◌++◌, drop, length, get_or, refl, sym, ◌∙◌, ap, subst, arith, ◌⊎◌, inl, inr}
+use Rattle.std.specs.Prelude.{Result, Ok, IfErr, IsErrAnd, Option, Some, None}
 use Rattle.std.specs.Prelude.{ltb}
 use Rattle.std.proofs.lemmas.Bool.Decides.{nat_tests}
 use Rattle.std.proofs.lemmas.List.{drop_all}
@@ -10,8 +10,8 @@ use Rattle.vs_lexer.specs.declared.token.TokenKind.{TokenKind}
 use Rattle.vs_lexer.specs.declared.token.TokenKind.TheVariants as kind
 use Rattle.vs_lexer.specs.Cuts.{cut_text}
 use Rattle.vs_lexer.specs.LeftOut as out
-use Rattle.vs_grammar.specs.Grammars.{Terminal, depth, Derives, SyntaxAt, TooDeepAt}
-use Rattle.vs_grammar.specs.Grammars.Phrase.{tok, seq}
+use Rattle.vs_grammar.specs.Grammars.{Terminal, SyntaxAt, TooDeepAt}
+use Rattle.vs_grammar.specs.Grammars.Phrase.{tok}
 use Rattle.vs_grammar.specs.Grammars.Tree.{leaf, both}
 use Rattle.vs_grammar.specs.Predictive.{Reads, Stops, Sinks}
 use Rattle.vs_grammar.specs.Predictive.Reads.{r_seq, r_tok}
@@ -22,18 +22,17 @@ use Rattle.vs_grammar.specs.Verilog.{verilog, phrase_of, r}
 use Rattle.vs_grammar.specs.Verilog.{Rule as rule}
 use Rattle.vs_grammar.specs.Trees.{Source}
 use Rattle.vs_grammar.specs.Meaning as meaning
-use Rattle.vs_grammar.specs.Spelled.{NoneLeftOut, Spells, SpelledBy, HasSyntaxFault, IsTooDeep}
+use Rattle.vs_grammar.specs.Spelled.{NoneLeftOut, Spells}
 use Rattle.vs_grammar.proofs.Stopped.{stopping, sinking}
 use Rattle.vs_grammar.proofs.Whole.{derived, stops, sinks}
-use Rattle.vs_grammar.proofs.SpelledFacts.{spelled_has_no_fault}
 use Rattle.vs_grammar.proofs.Decided.{verilog_is_predictive}
 use Rattle.vs_parser.specs.declared.input.Input.{Input}
 use Rattle.vs_parser.specs.declared.error.ParseError.{ParseError}
-use Rattle.vs_parser.specs.declared.error.ParseError.TheVariants.{LeftOut, Syntax, TooDeep, Memory}
+use Rattle.vs_parser.specs.declared.error.ParseError.TheVariants.{Syntax}
 use Rattle.vs_parser.specs.Faults.{Fault}
 use Rattle.vs_parser.specs.Reading.{kind_at, from, terminal_at, Refused, Parsed}
 use Rattle.vs_parser.specs.Reading.Refused.{stopped, too_deep, out_of_memory}
-use Rattle.vs_parser.proofs.Places.{from_head, later, kind_end, kind_in, below_end, at_head}
+use Rattle.vs_parser.proofs.Places.{from_head, kind_end, kind_in, below_end, at_head}
 
 -- ---- places and terminals
 

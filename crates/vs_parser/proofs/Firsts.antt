@@ -1,18 +1,18 @@
 -- What the first token alone decides: that a phrase takes it, or that it stops at it.
-use Rattle.std.proofs.Common.{◌≡◌, ℕ, ◌≢◌, Bool, true, false, ◌&&◌, ◌||◌, List, [], ◌∷◌, nat_eq, refl, sym, ◌∙◌, ap, subst, arith, ◌⊎◌, inl, inr, suc, zero, ◌+◌, ◌<◌, ◌≤◌}
+use Rattle.std.proofs.Common.{◌≡◌, ℕ, ◌≢◌, Bool, true, false, ◌&&◌, ◌||◌, List, [], ◌∷◌, nat_eq, refl, sym, ◌∙◌, subst, arith, ◌⊎◌, inl, inr, suc, zero, ◌+◌, ◌≤◌}
 use Rattle.std.proofs.lemmas.Bool.{and_parts}
 use Rattle.vs_lexer.specs.declared.token.Token.{Token}
-use Rattle.vs_grammar.specs.Grammars.{Phrase, Terminal}
+use Rattle.vs_grammar.specs.Grammars.{Phrase}
 use Rattle.vs_grammar.specs.Grammars.Phrase.{tok, eps, seq, alt, last, many, post, level, var}
 use Rattle.vs_grammar.specs.Predictive.{is_member, is_subset, firsts_of, Stops, Sinks}
 use Rattle.vs_grammar.specs.Predictive.Stops.{s_tok, s_seq, s_latter, s_start, s_alone, s_level, s_var}
 use Rattle.vs_grammar.specs.Predictive.Sinks.{k_tok, k_seq, k_former, k_latter, k_last, k_start, k_alone, k_level, k_var}
 use Rattle.vs_grammar.specs.Verilog.{verilog}
-use Rattle.vs_parser.specs.Reading.{kind_at, from, terminal_at, Refused}
-use Rattle.vs_parser.specs.Reading.Refused.{stopped, too_deep, out_of_memory}
+use Rattle.vs_parser.specs.Reading.{kind_at, from, Refused}
+use Rattle.vs_parser.specs.Reading.Refused.{stopped, too_deep}
 use Rattle.vs_parser.specs.declared.error.ParseError.{ParseError}
 use Rattle.vs_parser.specs.declared.error.ParseError.TheVariants.{Syntax, TooDeep}
-use Rattle.vs_parser.proofs.Places.{at_head, to_head, same_number, other_number, later}
+use Rattle.vs_parser.proofs.Places.{at_head, to_head, same_number}
 
 unlike : {P : Type 0} → false ≡ true → P
 unlike e = absurd (no e)

@@ -1,11 +1,10 @@
 -- The ports and parameters of headers.
-use Rattle.std.proofs.Common.{◌≡◌, ℕ, ◌≤◌, Bool, true, false, List, [], ◌∷◌, ◌++◌, map, append-nil, append_assoc, refl, sym, ◌∙◌, ap}
+use Rattle.std.proofs.Common.{◌≡◌, ℕ, ◌≤◌, true, false, List, [], ◌∷◌, ◌++◌, map, append-nil, append_assoc, refl, sym, ◌∙◌, ap}
 use Rattle.vs_lexer.specs.declared.token.TokenKind.TheVariants as kind
-use Rattle.vs_grammar.specs.Grammars.{Phrase, opt, star}
-use Rattle.vs_grammar.specs.Grammars.Phrase.{eps}
+use Rattle.vs_grammar.specs.Grammars.{opt, star}
 use Rattle.vs_grammar.specs.Grammars.Tree.{leaf, nothing, both, former, latter, start, grown, named}
-use Rattle.vs_grammar.specs.Predictive.{is_member, firsts_of}
-use Rattle.vs_grammar.specs.Verilog.{◌⨾◌, verilog, t, r}
+use Rattle.vs_grammar.specs.Predictive.{is_member}
+use Rattle.vs_grammar.specs.Verilog.{◌⨾◌, t, r}
 use Rattle.vs_grammar.specs.Verilog.{Rule as rule}
 use Rattle.vs_grammar.specs.Trees.{Signals, Declarator, Parameters, Setting}
 use Rattle.vs_grammar.specs.Meaning as meaning
@@ -18,8 +17,8 @@ use Rattle.vs_parser.specs.declared.error.ParseError.{ParseError}
 use Rattle.vs_parser.specs.declared.error.ParseError.TheVariants.{Memory}
 use Rattle.vs_parser.specs.declared.input.Input.{Input}
 use Rattle.vs_parser.specs.Headings as part
-use Rattle.vs_parser.specs.Headings.{PortRead, PortsStep, PortsGrown, PortsRead, GivesPorts, ParametersStep, ParametersGrown, ParametersRead, GivesParameters}
-use Rattle.vs_parser.specs.Reading.{kind_at, bytes_in, Read, Grown}
+use Rattle.vs_parser.specs.Headings.{PortRead, PortsStep, PortsGrown, PortsRead, ParametersStep, ParametersGrown, ParametersRead}
+use Rattle.vs_parser.specs.Reading.{kind_at, bytes_in, Read}
 use Rattle.vs_parser.proofs.Places.{read_eps, read_many, grown_start, grown_more}
 
 names_nil : (s : Signals) → part.with_names s [] ≡ s

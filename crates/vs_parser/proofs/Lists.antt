@@ -1,22 +1,19 @@
 -- Lists that are read by loops.
-use Rattle.std.proofs.Common.{◌≡◌, ℕ, Bool, true, false, not, ◌&&◌, ◌||◌, List, [], ◌∷◌, ◌++◌, refl, sym, ◌∙◌, ap, subst, arith, suc, zero, ◌+◌, ◌-◌, ◌<◌, ◌≤◌, length, length-append, length-drop, append_assoc, map, drop, nat_eq, append-nil, ◌⊎◌, inl, inr}
-use Rattle.std.specs.Prelude.{ltb}
+use Rattle.std.proofs.Common.{◌≡◌, ℕ, Bool, true, false, not, ◌&&◌, ◌||◌, List, [], ◌∷◌, ◌++◌, refl, sym, ◌∙◌, ap, subst, arith, suc, ◌+◌, ◌-◌, ◌<◌, ◌≤◌, length, length-append, length-drop, map, drop, append-nil, ◌⊎◌, inl, inr}
 use Rattle.std.proofs.lemmas.Bool.{and_parts}
-use Rattle.std.proofs.lemmas.Bool.Decides.{nat_tests}
 use Rattle.vs_lexer.specs.declared.token.Token.{Token}
 use Rattle.vs_lexer.specs.declared.token.TokenKind.TheVariants as kind
-use Rattle.vs_grammar.specs.Grammars.{Phrase, Tree, Terminal, onto, star}
-use Rattle.vs_grammar.specs.Grammars.Phrase.{tok, eps, seq, alt, last, many, post, level, var}
+use Rattle.vs_grammar.specs.Grammars.{Phrase, Tree, onto, star}
 use Rattle.vs_grammar.specs.Grammars.Tree.{leaf, nothing, both, former, latter, without, within, start, grown, alone, behind, nested, named}
-use Rattle.vs_grammar.specs.Predictive.{is_member, firsts_of, can_be_empty, is_decided, is_subset, Reads}
-use Rattle.vs_grammar.specs.Kinds.{end_of_text, terminals_from}
+use Rattle.vs_grammar.specs.Predictive.{is_member, firsts_of, can_be_empty, is_decided, is_subset}
+use Rattle.vs_grammar.specs.Kinds.{terminals_from}
 use Rattle.vs_grammar.specs.Verilog.{◌⨾◌, verilog, t}
-use Rattle.vs_grammar.specs.Meaning.{D, each_onto, behind_sign, list_of}
+use Rattle.vs_grammar.specs.Meaning.{D, each_onto, list_of}
 use Rattle.vs_grammar.proofs.Stopped.{says, onto_front}
 use Rattle.vs_grammar.proofs.Decided.{verilog_is_predictive}
 use Rattle.vs_parser.specs.declared.input.Input.{Input}
-use Rattle.vs_parser.specs.Reading.{kind_at, from, Read, Grown, Parsed, bytes_in, Listing, Listed}
-use Rattle.vs_parser.proofs.Places.{read_eps, read_seq, read_many, grown_start, grown_more, parsed, inside_at, same_number}
+use Rattle.vs_parser.specs.Reading.{kind_at, from, Read, Parsed, bytes_in, Listing, Listed}
+use Rattle.vs_parser.proofs.Places.{read_eps, read_seq, read_many, grown_start, grown_more, parsed}
 
 -- ---- each step of a loop takes a token
 

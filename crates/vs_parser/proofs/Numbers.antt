@@ -1,22 +1,20 @@
 -- Numbers.
-use Rattle.std.proofs.Common.{◌≡◌, ℕ, Bool, true, false, ◌||◌, List, [], ◌∷◌, refl, sym, ◌∙◌, ap, subst, arith, suc, zero, ◌+◌, ◌<◌, length, drop, nat_eq}
+use Rattle.std.proofs.Common.{◌≡◌, ℕ, Bool, true, false, ◌||◌, List, [], ◌∷◌, refl, sym, suc, zero, ◌+◌, drop, nat_eq}
 use Rattle.vs_lexer.specs.declared.token.Token.{Token}
 use Rattle.vs_lexer.specs.declared.token.TokenKind.{TokenKind}
 use Rattle.vs_lexer.specs.declared.token.TokenKind.TheVariants as kind
 use Rattle.vs_lexer.specs.Cuts.{is_number}
 use Rattle.vs_lexer.specs.Tokens.{is_number_kind}
-use Rattle.vs_lexer.specs.Literals.{literal_bits}
 use Rattle.vs_four.specs.declared.Bit4.{Bit4}
 use Rattle.vs_grammar.specs.Kinds.{number_of}
 use Rattle.vs_grammar.specs.Grammars.Tree.{former, latter}
 use Rattle.vs_grammar.specs.Predictive.{is_member}
 use Rattle.vs_grammar.specs.Trees.{Literal}
 use Rattle.vs_grammar.specs.Meaning.{literal_at, literal_of}
-use Rattle.vs_ast.specs.Views as view
 use Rattle.vs_parser.specs.declared.input.Input.{Input}
 use Rattle.vs_parser.specs.Parts as part
 use Rattle.vs_parser.specs.Reading.{kind_at, first_kind, terminal_at, bytes_in, Chosen}
-use Rattle.vs_parser.proofs.Places.{known, inside_of, same_number}
+use Rattle.vs_parser.proofs.Places.{inside_of, same_number}
 use Rattle.vs_parser.proofs.Tables.{chosen_leaf, chosen_former, chosen_latter}
 
 unlike : {P : Type 0} → false ≡ true → P

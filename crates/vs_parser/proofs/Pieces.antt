@@ -1,12 +1,12 @@
 -- What pieces of declarations and event controls stand for.
-use Rattle.std.proofs.Common.{◌≡◌, ℕ, Bool, true, false, List, [], ◌∷◌, ◌++◌, map, append-nil, refl, sym, ◌∙◌, ap, arith, ◌+◌, ◌<◌, ◌≤◌, length}
+use Rattle.std.proofs.Common.{◌≡◌, ℕ, Bool, true, false, List, [], ◌∷◌, ◌++◌, map, refl, sym, ◌∙◌, ap, arith, ◌<◌, length}
 use Rattle.std.specs.Prelude.{Option, Some, None}
 use Rattle.vs_lexer.specs.declared.token.Token.{Token}
 use Rattle.vs_lexer.specs.declared.token.TokenKind.TheVariants as kind
-use Rattle.vs_grammar.specs.Grammars.{Phrase, Terminal, onto, opt, star}
-use Rattle.vs_grammar.specs.Grammars.Tree.{leaf, nothing, both, former, latter, named}
+use Rattle.vs_grammar.specs.Grammars.{Phrase, Terminal, onto, opt}
+use Rattle.vs_grammar.specs.Grammars.Tree.{both, former, latter, named}
 use Rattle.vs_grammar.specs.Predictive.{can_be_empty}
-use Rattle.vs_grammar.specs.Verilog.{◌⨾◌, verilog, t, r}
+use Rattle.vs_grammar.specs.Verilog.{verilog, t, r}
 use Rattle.vs_grammar.specs.Verilog.{Rule as rule}
 use Rattle.vs_grammar.specs.Trees as tree
 use Rattle.vs_grammar.specs.Trees.{Expr}
@@ -17,7 +17,7 @@ use Rattle.vs_ast.specs.declared.items.Event.{Event}
 use Rattle.vs_ast.specs.declared.items.SignalKind.{SignalKind}
 use Rattle.vs_ast.specs.Views as view
 use Rattle.vs_parser.specs.Parts as part
-use Rattle.vs_parser.specs.Reading.{kind_at, from, terminal_at, Read}
+use Rattle.vs_parser.specs.Reading.{from, terminal_at, Read}
 use Rattle.vs_parser.proofs.Places.{from_head, later}
 use Rattle.vs_parser.proofs.Lists.{some}
 

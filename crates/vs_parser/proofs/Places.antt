@@ -1,5 +1,5 @@
 -- Reading by places.
-use Rattle.std.proofs.Common.{◌≡◌, ℕ, ◌≢◌, Bool, true, false, ◌&&◌, ◌||◌, List, [], ◌∷◌, nat_eq, refl, sym, ◌∙◌, ap, subst, arith, ◌⊎◌, inl, inr, suc, zero, ◌+◌, ◌<◌, ◌≤◌, max, drop, length, drop-cons, add-one, get_or}
+use Rattle.std.proofs.Common.{◌≡◌, ℕ, ◌≢◌, Bool, true, false, ◌&&◌, ◌||◌, List, [], ◌∷◌, nat_eq, refl, sym, ◌∙◌, ap, subst, arith, ◌⊎◌, inl, inr, ◌+◌, ◌<◌, ◌≤◌, max, drop, length, drop-cons, add-one, get_or}
 use Rattle.std.specs.Prelude.{Result, Ok, Err, IfOk, IfErr, IsErrAnd}
 use Rattle.std.proofs.lemmas.Bool.Decides.{nat_tests}
 use Rattle.std.proofs.lemmas.Bool.{and_parts}
@@ -11,14 +11,14 @@ use Rattle.vs_lexer.specs.declared.token.TokenKind.{TokenKind}
 use Rattle.vs_lexer.specs.declared.token.TokenKind.TheVariants as kind
 use Rattle.vs_lexer.specs.Cuts.{cut_text, token_limit}
 use Rattle.vs_lexer.proofs.Spans.{tokens_stand}
-use Rattle.vs_grammar.specs.Grammars.{Phrase, Tree, Terminal, depth}
+use Rattle.vs_grammar.specs.Grammars.{Phrase, Terminal, depth}
 use Rattle.vs_grammar.specs.Grammars.Phrase.{tok, eps, seq, alt, last, many, post, level, var}
-use Rattle.vs_grammar.specs.Grammars.Tree.{leaf, nothing, both, former, latter, without, within, start, grown, alone, behind, nested, named}
+use Rattle.vs_grammar.specs.Grammars.Tree.{leaf, nothing, both, former, latter, without, within, start, grown, alone, nested, named}
 use Rattle.vs_grammar.specs.Predictive.{is_member, firsts_of, Reads, Grows, Stops, Sinks}
-use Rattle.vs_grammar.specs.Predictive.Reads.{r_tok, r_eps, r_seq, r_former, r_latter, r_without, r_within, r_many, r_alone, r_behind, r_level, r_var}
+use Rattle.vs_grammar.specs.Predictive.Reads.{r_tok, r_eps, r_seq, r_former, r_latter, r_without, r_within, r_many, r_alone, r_level, r_var}
 use Rattle.vs_grammar.specs.Predictive.Grows.{g_start, g_grown}
-use Rattle.vs_grammar.specs.Predictive.Stops.{s_tok, s_seq, s_then, s_former, s_latter, s_within, s_start, s_grown, s_alone, s_behind, s_level, s_var}
-use Rattle.vs_grammar.specs.Predictive.Sinks.{k_tok, k_seq, k_then, k_former, k_latter, k_last, k_within, k_start, k_grown, k_alone, k_behind, k_level, k_var}
+use Rattle.vs_grammar.specs.Predictive.Stops.{s_tok, s_seq, s_then, s_former, s_latter, s_within, s_start, s_grown, s_alone, s_level, s_var}
+use Rattle.vs_grammar.specs.Predictive.Sinks.{k_seq, k_then, k_former, k_latter, k_within, k_start, k_grown, k_alone, k_level, k_var}
 use Rattle.vs_grammar.specs.Kinds.{number_of, end_of_text, terminals_from}
 use Rattle.vs_grammar.specs.Verilog.{verilog}
 use Rattle.vs_grammar.specs.Meaning.{D}
@@ -27,7 +27,7 @@ use Rattle.vs_parser.specs.declared.input.Input.{Input}
 use Rattle.vs_parser.specs.Reading.Missing.{missing, no_memory}
 use Rattle.vs_parser.specs.Reading.Refused.{stopped, too_deep, out_of_memory}
 use Rattle.vs_parser.specs.declared.error.ParseError.{ParseError}
-use Rattle.vs_parser.specs.declared.error.ParseError.TheVariants.{Syntax, TooDeep, Memory}
+use Rattle.vs_parser.specs.declared.error.ParseError.TheVariants.{Syntax, Memory}
 
 -- ---- kinds by place
 

@@ -1,19 +1,15 @@
 -- Tables of tokens.
-use Rattle.std.proofs.Common.{◌≡◌, ℕ, Bool, true, false, ◌||◌, List, [], ◌∷◌, ◌++◌, nat_eq, ◌≤◌, refl, sym, ◌∙◌, ap, subst, arith, suc, ◌+◌, ◌<◌, length, get_or, drop, drop-cons, ◌⊎◌, inl, inr}
+use Rattle.std.proofs.Common.{◌≡◌, ℕ, Bool, true, false, ◌||◌, List, [], ◌∷◌, ◌++◌, nat_eq, ◌≤◌, refl, sym, ◌∙◌, ap, subst, arith, suc, ◌+◌, ◌<◌, length, get_or, drop, drop-cons}
 use Rattle.vs_lexer.specs.declared.token.Token.{Token}
-use Rattle.vs_lexer.specs.declared.token.TokenKind.{TokenKind}
-use Rattle.vs_grammar.specs.Grammars.{Phrase, Terminal, depth}
+use Rattle.vs_grammar.specs.Grammars.{Phrase}
 use Rattle.vs_grammar.specs.Grammars.Phrase.{tok, alt}
 use Rattle.vs_grammar.specs.Grammars.Tree.{leaf, former, latter}
 use Rattle.vs_grammar.specs.Predictive.{is_member, firsts_of, Reads, Sinks}
 use Rattle.vs_grammar.specs.Predictive.Sinks.{k_tok, k_former, k_latter}
-use Rattle.vs_grammar.specs.Predictive.Reads.{r_tok, r_former, r_latter}
+use Rattle.vs_grammar.specs.Predictive.Reads.{r_former, r_latter}
 use Rattle.vs_grammar.specs.Verilog.{verilog}
-use Rattle.vs_grammar.specs.Meaning.{D, first_place}
-use Rattle.vs_parser.specs.Reading.{kind_at, from, terminal_at, Picked, Chosen, Read, Refused}
-use Rattle.vs_parser.specs.Reading.Refused.{stopped, too_deep}
-use Rattle.vs_parser.specs.declared.error.ParseError.{ParseError}
-use Rattle.vs_parser.specs.declared.error.ParseError.TheVariants.{TooDeep}
+use Rattle.vs_grammar.specs.Meaning.{D}
+use Rattle.vs_parser.specs.Reading.{kind_at, from, terminal_at, Chosen, Read}
 use Rattle.vs_parser.proofs.Places.{at_head, to_head, took, known, first_own}
 
 pub table_at : {T : Type 0} (table : List T) (n : ℕ) (e : T) → e ≡ get_or table n e → n < length table → drop n table ≡ e ∷ drop (n + 1) table

@@ -2,7 +2,7 @@
 use Rattle.std.specs.Prelude.{◌≡◌, ℕ, Bool, false, Option, List, [], ◌∷◌, ◌++◌}
 use Rattle.vs_lexer.specs.declared.token.TokenKind.TheVariants as kind
 use Rattle.vs_grammar.specs.Grammars.{Phrase, opt, star}
-use Rattle.vs_grammar.specs.Grammars.Phrase.{seq, alt, eps}
+use Rattle.vs_grammar.specs.Grammars.Phrase.{eps}
 use Rattle.vs_grammar.specs.Grammars.Tree.{leaf, both, former, latter, grown}
 use Rattle.vs_grammar.specs.Verilog.{◌⨾◌, ◌∣◌, t, r}
 use Rattle.vs_grammar.specs.Verilog.{Rule as rule}

@@ -2,8 +2,8 @@
 use Rattle.std.specs.Prelude.{ℕ, Bool, true, false, Option, None, List, [], ◌∷◌, map}
 use Rattle.vs_lexer.specs.declared.token.TokenKind.TheVariants as kind
 use Rattle.vs_grammar.specs.Grammars.{Phrase, opt, star}
-use Rattle.vs_grammar.specs.Grammars.Phrase.{seq, alt, last, level, many, eps}
-use Rattle.vs_grammar.specs.Grammars.Tree.{leaf, nothing, both, former, latter, nested, named}
+use Rattle.vs_grammar.specs.Grammars.Phrase.{last, level}
+use Rattle.vs_grammar.specs.Grammars.Tree.{leaf, both, former, latter, nested, named}
 use Rattle.vs_grammar.specs.Kinds.{number_of, numbers_of}
 use Rattle.vs_grammar.specs.Verilog.{◌⨾◌, ◌∣◌, t, r, separated, signed_range, block_name}
 use Rattle.vs_grammar.specs.Verilog as grammar

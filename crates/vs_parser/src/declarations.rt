@@ -1,17 +1,15 @@
 //! Declarations (IEEE 1364-2005, A.2).
 
-ghost use Rattle.std.specs.Prelude.{◌≡◌, ◌≤◌, MatchOption, IfOk, IfErr, Ok, false, [], ◌∷◌, ◌++◌, map};
+ghost use Rattle.std.specs.Prelude.{◌≡◌, ◌≤◌, IfOk, IfErr, Ok, false, map};
 ghost use Rattle.vs_lexer.specs.Cuts.{cut_text};
 ghost use Rattle.vs_lexer.specs.declared.token.TokenKind.TheVariants as kind;
-ghost use Rattle.vs_grammar.specs.Grammars.{opt, star};
+ghost use Rattle.vs_grammar.specs.Grammars.{opt};
 ghost use Rattle.vs_grammar.specs.Verilog.{Rule as rule, r, t, separated, ◌⨾◌};
 ghost use Rattle.vs_grammar.specs.Meaning as meaning;
-ghost use Rattle.vs_grammar.specs.Trees as tree;
-ghost use Rattle.vs_grammar.specs.Predictive.{is_member};
 ghost use Rattle.vs_grammar.specs.Verilog as grammar;
 ghost use Rattle.vs_ast.specs.Views as view;
 ghost use Rattle.vs_parser.specs.Parts as part;
-ghost use Rattle.vs_parser.specs.Reading.{Chosen, Parsed, Refused, kind_at};
+ghost use Rattle.vs_parser.specs.Reading.{Parsed, Refused};
 
 use crate::error::ParseError;
 use crate::expressions::expression;

@@ -9,7 +9,7 @@ ghost use Rattle.vs_grammar.specs.Kinds.{numbers_of};
 ghost use Rattle.vs_lexer.specs.declared.token.TokenKind.TheVariants as kind;
 ghost use Rattle.vs_grammar.specs.Meaning as meaning;
 ghost use Rattle.vs_ast.specs.Views as view;
-ghost use Rattle.vs_parser.specs.Levels.{below_of, is_unary_level, level_of, level_op, level_operator, level_phrase, table_of};
+ghost use Rattle.vs_parser.specs.Levels.{level_of, level_op, level_operator, level_phrase, table_of};
 ghost use Rattle.vs_parser.specs.Parts as part;
 ghost use Rattle.vs_parser.specs.Reading.{Chosen, Measured, MeasuredList, Parsed, Refused, kind_at, kinds_in};
 

@@ -1,10 +1,9 @@
 //! The items of modules and of generate blocks (IEEE 1364-2005, A.1.4 and A.4.2).
 
-ghost use Rattle.std.specs.Prelude.{◌≡◌, ◌≤◌, MatchOption, IfOk, IfErr, Ok, false, [], ◌∷◌, ◌++◌, map};
+ghost use Rattle.std.specs.Prelude.{◌≡◌, ◌≤◌, IfOk, IfErr, Ok, [], ◌++◌, map};
 ghost use Rattle.vs_lexer.specs.Cuts.{cut_text};
-ghost use Rattle.vs_lexer.specs.declared.token.TokenKind.TheVariants as kind;
-ghost use Rattle.vs_grammar.specs.Grammars.{opt, star};
-ghost use Rattle.vs_grammar.specs.Verilog.{Rule as rule, r, t, separated, ◌⨾◌};
+ghost use Rattle.vs_grammar.specs.Grammars.{star};
+ghost use Rattle.vs_grammar.specs.Verilog.{Rule as rule, r};
 ghost use Rattle.vs_grammar.specs.Meaning as meaning;
 ghost use Rattle.vs_grammar.specs.Trees as tree;
 ghost use Rattle.vs_grammar.specs.Predictive.{is_member};

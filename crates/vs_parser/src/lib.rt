@@ -11,8 +11,6 @@ mod levels;
 mod modules;
 mod processes;
 mod statements;
-#[cfg(test)]
-mod tests;
 mod tokens;
 mod whole;
 mod words;

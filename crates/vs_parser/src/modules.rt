@@ -1,14 +1,11 @@
 //! Modules (IEEE 1364-2005, A.1.2).
 
-ghost use Rattle.std.specs.Prelude.{◌≡◌, ◌≤◌, MatchOption, IfOk, IfErr, Ok, false, [], ◌∷◌, ◌++◌, map};
+ghost use Rattle.std.specs.Prelude.{◌≡◌, ◌≤◌, IfOk, IfErr, Ok, false, [], ◌∷◌, ◌++◌, map};
 ghost use Rattle.vs_lexer.specs.Cuts.{cut_text};
 ghost use Rattle.vs_lexer.specs.declared.token.TokenKind.TheVariants as kind;
 ghost use Rattle.vs_grammar.specs.Grammars.{opt, star};
-ghost use Rattle.vs_grammar.specs.Verilog.{Rule as rule, r, t, separated, ◌⨾◌};
+ghost use Rattle.vs_grammar.specs.Verilog.{Rule as rule, r};
 ghost use Rattle.vs_grammar.specs.Meaning as meaning;
-ghost use Rattle.vs_grammar.specs.Trees as tree;
-ghost use Rattle.vs_grammar.specs.Predictive.{is_member};
-ghost use Rattle.vs_grammar.specs.Verilog as grammar;
 ghost use Rattle.vs_ast.specs.Views as view;
 ghost use Rattle.vs_parser.specs.Headings as part;
 ghost use Rattle.vs_parser.specs.Headings.{ParametersRead, ParametersStep, PortRead, PortsRead, PortsStep};

@@ -2,9 +2,8 @@
 
 ghost use Rattle.std.specs.Prelude.{◌≡◌, ◌≤◌, MatchOption, IfOk, IfErr, Ok, false, [], ◌++◌, map};
 ghost use Rattle.vs_lexer.specs.Cuts.{cut_text};
-ghost use Rattle.vs_lexer.specs.declared.token.TokenKind.TheVariants as kind;
-ghost use Rattle.vs_grammar.specs.Grammars.{opt, star};
-ghost use Rattle.vs_grammar.specs.Verilog.{Rule as rule, r, t, separated, ◌⨾◌};
+ghost use Rattle.vs_grammar.specs.Grammars.{star};
+ghost use Rattle.vs_grammar.specs.Verilog.{Rule as rule, r, separated};
 ghost use Rattle.vs_grammar.specs.Meaning as meaning;
 ghost use Rattle.vs_grammar.specs.Trees as tree;
 ghost use Rattle.vs_grammar.specs.Predictive.{is_member};

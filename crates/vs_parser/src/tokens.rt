@@ -1,6 +1,6 @@
 //! Single tokens.
 
-ghost use Rattle.std.specs.Prelude.{◌≡◌, ◌+◌, ◌<◌, ◌≤◌, nat_eq, max, IfOk, IfErr, Ok, MatchOption, false, map};
+ghost use Rattle.std.specs.Prelude.{◌≡◌, ◌+◌, ◌<◌, ◌≤◌, nat_eq, max, IfOk, IfErr, Ok, MatchOption, false};
 ghost use Rattle.vs_lexer.specs.Cuts.{cut_text};
 ghost use Rattle.vs_grammar.specs.Grammars.{opt};
 ghost use Rattle.vs_grammar.specs.Grammars.Phrase.{tok};

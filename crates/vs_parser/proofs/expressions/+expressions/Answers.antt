@@ -1,13 +1,13 @@
-use Rattle.std.proofs.Common.{◌≡◌, ◌+◌, ◌<◌, ◌≤◌, IfOk, IfErr, ℕ, refl, sym, ◌∙◌, ap, subst, Bool, true, false, List, [], ◌∷◌, ◌++◌, arith, map, length}
+use Rattle.std.proofs.Common.{◌+◌, refl, sym, ◌∙◌, ap, subst, [], ◌∷◌, arith}
 use Rattle.vs_grammar.specs.Trees as tree
 use Rattle.vs_ast.specs.Views as view
 use Rattle.vs_parser.specs.declared.error.ParseError.TheVariants.{Memory}
 use Rattle.vs_parser.specs.declared.levels.Level.{Level}
 use Rattle.vs_parser.specs.Parts as part
 use Rattle.vs_parser.specs.Levels.{level_phrase, level_of}
-use Rattle.vs_parser.specs.Reading.{kind_at, bytes_in, Measured, Refused}
+use Rattle.vs_parser.specs.Reading.{bytes_in, Measured, Refused}
 use Rattle.vs_parser.specs.Reading.Refused.{out_of_memory}
-use Rattle.vs_parser.proofs.Places.{refused_exit, refused_memory, refused_var, refused_seq, refused_then, refused_missing, refused_level, refused_former, refused_latter, refused_more, refused_alone, read_tok, read_eps, read_var, read_seq, read_level, read_former, read_latter, read_alone, one_true, one_false, ok_more, err_more, ap2, ap3, took_kind, first_took, inside_of}
+use Rattle.vs_parser.proofs.Places.{refused_exit, refused_memory, refused_var, refused_seq, refused_then, refused_missing, refused_level, refused_former, refused_latter, refused_more, refused_alone, read_tok, read_eps, read_var, read_seq, read_level, read_former, read_latter, read_alone, one_true, one_false, ok_more, err_more, ap2, ap3, took_kind, first_took}
 use Rattle.vs_parser.proofs.Firsts.{too_deep_first, stopped_first}
 use Rattle.vs_parser.proofs.Tables.{read_chosen}
 use Rattle.vs_parser.proofs.Lists.{shorter, not_back}

@@ -1,5 +1,4 @@
-use Rattle.std.proofs.Common.{ℕ, ◌+◌, ◌-◌, ◌*◌, ◌≤◌, ◌≡◌, length}
-use Rattle.vs_grammar.specs.Grammars.{star}
+use Rattle.std.proofs.Common.{◌+◌, ◌-◌, ◌*◌, length}
 use Rattle.vs_ast.specs.Views as view
 use Rattle.vs_parser.specs.Levels.{rank_of, Chain}
 use Rattle.vs_parser.specs.Reading.{Gathering}

@@ -1,4 +1,4 @@
-use Rattle.std.proofs.Common.{◌≡◌, ℕ, false, List, subst}
+use Rattle.std.proofs.Common.{◌≡◌, false, List, subst}
 use Rattle.std.specs.Prelude.{MatchOption}
 use Rattle.vs_lexer.specs.declared.token.TokenKind.{TokenKind}
 use Rattle.vs_grammar.specs.Predictive.{is_member}

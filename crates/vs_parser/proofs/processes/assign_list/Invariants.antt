@@ -1,14 +1,8 @@
-use Rattle.std.proofs.Common.{◌≡◌, ℕ, ◌+◌, ◌-◌, ◌*◌, length, map, List, [], ◌∷◌, ◌++◌}
-use Rattle.vs_lexer.specs.declared.token.TokenKind.TheVariants as kind
-use Rattle.vs_grammar.specs.Verilog.{Rule as rule, r, t}
-use Rattle.vs_grammar.specs.Trees as tree
-use Rattle.vs_grammar.specs.Verilog.{◌⨾◌}
+use Rattle.std.proofs.Common.{◌-◌, length}
 use Rattle.vs_grammar.specs.Verilog as grammar
-use Rattle.vs_grammar.specs.Grammars.{opt}
 use Rattle.vs_grammar.specs.Meaning as meaning
 use Rattle.vs_ast.specs.Views as view
-use Rattle.vs_parser.specs.Parts as part
-use Rattle.vs_parser.specs.Reading.{Listed, Listing, bytes_in}
+use Rattle.vs_parser.specs.Reading.{Listed}
 use Rattle.vs_parser.proofs.processes.assign_list.Given as goal
 
 abbrev pub invariant-loop-list : goal.invariant-loop-list

@@ -1,11 +1,9 @@
-use Rattle.std.proofs.Common.{◌≡◌, ℕ, ◌+◌, ◌-◌, ◌*◌, length, map, List, [], ◌∷◌, ◌++◌}
-use Rattle.vs_lexer.specs.declared.token.TokenKind.TheVariants as kind
-use Rattle.vs_grammar.specs.Verilog.{Rule as rule, r, t}
-use Rattle.vs_grammar.specs.Trees as tree
+use Rattle.std.proofs.Common.{◌+◌, ◌-◌, ◌*◌, length, []}
+use Rattle.vs_grammar.specs.Verilog.{Rule as rule, r}
 use Rattle.vs_grammar.specs.Meaning as meaning
 use Rattle.vs_ast.specs.Views as view
 use Rattle.vs_parser.specs.Parts as part
-use Rattle.vs_parser.specs.Reading.{Listed, Listing, bytes_in}
+use Rattle.vs_parser.specs.Reading.{Listing}
 use Rattle.vs_parser.proofs.statements.+statements.Given as goal
 
 abbrev pub invariant-statements-loop-list : goal.invariant-statements-loop-list

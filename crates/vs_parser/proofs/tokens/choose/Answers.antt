@@ -1,4 +1,4 @@
-use Rattle.std.proofs.Common.{◌≡◌, ◌<◌, ◌≤◌, ◌+◌, ℕ, sym, ◌∙◌, ap, subst, refl, inl, inr, true, false, arith, length, nat_eq, drop, List, ◌||◌}
+use Rattle.std.proofs.Common.{◌≡◌, ◌<◌, ◌≤◌, sym, ◌∙◌, ap, subst, refl, inl, inr, arith, length}
 use Rattle.vs_grammar.specs.Kinds.{number_of}
 use Rattle.vs_grammar.specs.Predictive.{is_member}
 use Rattle.vs_parser.specs.Reading.{kind_at, kinds_in, IsBeside}

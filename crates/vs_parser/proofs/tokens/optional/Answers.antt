@@ -1,4 +1,4 @@
-use Rattle.std.proofs.Common.{◌≡◌, ◌<◌, ◌≤◌, ℕ, sym, ◌∙◌, refl, arith, length}
+use Rattle.std.proofs.Common.{◌≡◌, ◌<◌, ◌≤◌, sym, ◌∙◌, refl, arith, length}
 use Rattle.vs_grammar.specs.Kinds.{number_of}
 use Rattle.vs_parser.specs.Reading.{kind_at}
 use Rattle.vs_parser.proofs.Places.{same_number, kind_inside, few, took, read_tok, read_eps, read_former, read_latter, parsed, one_true, one_false}

@@ -1,6 +1,5 @@
-use Rattle.std.proofs.Common.{◌≡◌, ◌<◌, ◌≤◌, ℕ, ap, sym, ◌∙◌, arith, nat_eq, false, length}
-use Rattle.vs_lexer.specs.declared.token.TokenKind.{TokenKind}
-use Rattle.vs_grammar.specs.Kinds.{number_of, end_of_text}
+use Rattle.std.proofs.Common.{ℕ, ap, sym, ◌∙◌, arith, nat_eq}
+use Rattle.vs_grammar.specs.Kinds.{number_of}
 use Rattle.vs_parser.specs.Reading.{kind_at}
 use Rattle.vs_parser.proofs.Places.{kind_in, kind_end, end_is_none}
 use Rattle.vs_parser.proofs.tokens.stands.Goals as goal

@@ -1,5 +1,5 @@
-use Rattle.std.proofs.Common.{◌≡◌, ◌<◌, ◌≤◌, ℕ, sym, ◌∙◌, arith, length}
-use Rattle.vs_grammar.specs.Kinds.{number_of, end_of_text}
+use Rattle.std.proofs.Common.{◌≡◌, ◌<◌, ◌≤◌, sym, ◌∙◌, arith, length}
+use Rattle.vs_grammar.specs.Kinds.{number_of}
 use Rattle.vs_parser.specs.Reading.{kind_at}
 use Rattle.vs_parser.proofs.Places.{same_number, other_number, kind_inside, few, took, untook}
 use Rattle.vs_parser.proofs.tokens.take.Goals as goal

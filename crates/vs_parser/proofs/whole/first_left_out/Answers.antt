@@ -1,5 +1,4 @@
-use Rattle.std.proofs.Common.{◌≡◌, ◌<◌, ◌≤◌, ℕ, sym, ◌∙◌, subst, arith, length, below_more, false}
-use Rattle.vs_lexer.specs.LeftOut.{is_left_out}
+use Rattle.std.proofs.Common.{sym, ◌∙◌, arith, below_more}
 use Rattle.vs_parser.proofs.Ends.{none_out}
 use Rattle.vs_parser.proofs.whole.first_left_out.Goals as goal
 

@@ -1,5 +1,5 @@
 use Rattle.vs_parser.proofs.Places.{few}
-use Rattle.vs_parser.proofs.Verdicts.{complete_of, syntax_of, deep_of, none_of, first_of}
+use Rattle.vs_parser.proofs.Verdicts.{complete_of, syntax_of, deep_of, none_of}
 use Rattle.vs_parser.proofs.whole.parse.Goals as goal
 
 pub first_left_out-requires : goal.first_left_out-requires

@@ -1,4 +1,3 @@
-use Rattle.std.proofs.Common.{◌≡◌, refl, ap}
 use Rattle.vs_lexer.specs.declared.token.TokenKind.TheVariants as kind
 use Rattle.vs_parser.proofs.Places.{kind_inside, took_kind, missing_exit}
 use Rattle.vs_parser.specs.Reading.Missing.{no_memory}

@@ -1,5 +1,4 @@
-use Rattle.std.proofs.Common.{◌≡◌, ◌<◌, ◌≤◌, ◌+◌, ℕ, refl, ap, length, arith, List, [], ◌∷◌}
-use Rattle.vs_grammar.specs.Trees.{Literal}
+use Rattle.std.proofs.Common.{◌<◌, ◌≤◌, refl, length, arith, [], ◌∷◌}
 use Rattle.vs_parser.proofs.Places.{few, inside_of}
 use Rattle.vs_parser.proofs.Numbers.{is_number_there, number_chosen, same_literal}
 use Rattle.vs_parser.proofs.words.literal.Goals as goal

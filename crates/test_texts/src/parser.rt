@@ -5,11 +5,11 @@ mod printer;
 mod refusals;
 mod trees;
 
-use crate::{ParseError, parse};
 use printer::Printer;
 use std::alloc::Global;
 use std::test::Fail;
 use vs_lexer::{LexError, MAX_BYTES, lex};
+use vs_parser::{ParseError, parse};
 
 /// Why a text that is cut into tokens is refused; nothing where it is read.
 fn refusal(alloc: Global, text: &[u8]) -> Result<Option<ParseError>, Fail> {
