@@ -17,3 +17,4 @@ pub mod Gated
 pub mod Built
 pub mod Lawful
 pub mod LawfulBuilt
+pub mod Resets

@@ -1,12 +1,14 @@
 //! The acceptance of a text.
 
-ghost use Rattle.std.specs.Prelude.{◌≡◌, ◌≢◌, ◌≤◌, ℕ, List, Ok, Err, IfOk, All, true, length, slice_get};
+ghost use Rattle.std.specs.Prelude.{◌≡◌, ◌≢◌, ◌≤◌, ℕ, List, [], Ok, Err, IfOk, All, true, length, slice_get};
 ghost use Rattle.std.specs.List.{range_with_len};
 ghost use Rattle.vs_lexer.specs.declared.token.Token.{Token};
 ghost use Rattle.vs_lexer.specs.Cuts.{cut_text};
 ghost use Rattle.vs_lexer.specs.Laws.{StandsIn};
 ghost use Rattle.vs_design.specs.Designs.{Design};
+ghost use Rattle.vs_design.specs.Expressions.{Signal};
 ghost use Rattle.vs_design.specs.Clocks.{clock_input};
+ghost use Rattle.vs_design.specs.Resets.{reset_inputs};
 ghost use Rattle.vs_design.specs.Levels.{is_level_order};
 ghost use Rattle.vs_design.specs.Sizes.{size as size_of};
 ghost use Rattle.vs_flat.specs.DesignOf.{design_of};
@@ -37,6 +39,7 @@ pub struct Accepted {
     clock: u32,
     order: Vec<u32>,
     size: u64,
+    resets: Vec<u32>,
 }
 
 impl Model for Accepted {
@@ -44,7 +47,7 @@ impl Model for Accepted {
 
     ghost Value = { Acceptance };
 
-    ghost view = { λ a. record { flat = a.flat; clock = a.clock; order = a.order.items; size = a.size } };
+    ghost view = { λ a. record { flat = a.flat; clock = a.clock; order = a.order.items; size = a.size; resets = a.resets.items } };
 }
 
 impl Accepted {
@@ -74,6 +77,14 @@ impl Accepted {
         ensures { result ≡ self.now.size }
     {
         self.size
+    }
+
+    /// The reset inputs, those at the root of the second edge of a clocked block (IEEE 1364-2005, 9.7.2), each by its one bit, in order of
+    /// declaration.
+    pub fn reset_inputs(&self) -> &[u32]
+        ensures { result.now ≡ self.now.resets }
+    {
+        self.resets.as_slice()
     }
 }
 
@@ -121,6 +132,7 @@ fn design(alloc: Global, source: Source, wiring: Wiring) -> Result<Accepted, All
     ensures clock { IfOk result (λ a. a.clock ≡ wiring.clock) }
     ensures order { IfOk result (λ a. a.order ≡ range_with_len 0 (length source.items)) }
     ensures size { IfOk result (λ a. a.size ≡ size_of (elaborated source)) }
+    ensures resets { IfOk result (λ a. a.resets ≡ []) }
 {
     adding_law();
     trees_law();
@@ -135,6 +147,7 @@ fn design(alloc: Global, source: Source, wiring: Wiring) -> Result<Accepted, All
         clock,
         order,
         size,
+        resets: Vec::new(alloc),
     })
 }
 
@@ -148,6 +161,7 @@ pub fn accept(alloc: Global, text: &[u8], top: &str, clock: &str) -> Result<Acce
     ensures clock { IfOk result (λ a. clock_input (design_of a.flat) clock.now ≡ slice_get (design_of a.flat).signals a.clock) }
     ensures order { IfOk result (λ a. is_level_order (design_of a.flat) a.order ≡ true) }
     ensures size { IfOk result (λ a. a.size ≡ size_of (design_of a.flat)) }
+    ensures resets { IfOk result (λ a. (s : Signal) → clock_input (design_of a.flat) clock.now ≡ Some s → a.resets ≡ reset_inputs (design_of a.flat) s.first) }
     ensures refused { result ≡ Err Refused → (d : Design) → ¬ (IsAcceptedText text.now top.now clock.now d) }
 {
     cycle_law();

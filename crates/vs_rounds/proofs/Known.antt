@@ -20,6 +20,7 @@ use Rattle.vs_design.specs.Designs.{Event, Design, Process, Continuous, Always, 
 use Rattle.vs_design.specs.Values.{count_from, bits_of_signal}
 use Rattle.vs_design.specs.Footprints.{contains, without, signals_bits, is_input}
 use Rattle.vs_design.specs.Elaborated.{have_bits_from}
+use Rattle.vs_design.specs.Resets.{reset_inputs}
 use Rattle.vs_design.specs.Accepted.{IsAcceptedDesign}
 use Rattle.vs_design.specs.Networks.{process_of, block_process, writer_of, at_or_input, network_of}
 use Rattle.vs_engine.specs.Compiled.{data_bits}
@@ -28,23 +29,23 @@ use Rattle.vs_stim.specs.Header.{lengths}
 use Rattle.vs_stim.specs.Row.{sizes}
 use Rattle.vs_stim.specs.Vectors.{all_known, vector_known}
 use Rattle.vs_rounds.specs.Drives.{Vector, bits_of, write_to, vector_state}
-use Rattle.vs_rounds.specs.Inputs.{data_inputs, AreInputsOf, AreDataInputs}
+use Rattle.vs_rounds.specs.Inputs.{is_data_input, input_of, AreDataInputs}
 use Rattle.vs_rounds.proofs.Settled.{length-count_from}
 
 -- ---- the bits of the data inputs
 
 -- The signal is the clock's, of one bit, or has not the clock's bit.
-abbrev IsApart : ℕ → Signal → Type 0
+abbrev pub IsApart : ℕ → Signal → Type 0
 IsApart clock s = ((s.first ≡ clock) × (signal_length s ≡ 1)) ⊎ ((clock < s.first) ⊎ (s.first + signal_length s ≤ clock))
 
-abbrev AreApart : ℕ → List Signal → Type 0
+abbrev pub AreApart : ℕ → List Signal → Type 0
 AreApart clock [] = Unit {0}
 AreApart clock (s ∷ ss) = IsApart clock s × AreApart clock ss
 
-first_is : (base : ℕ) (s : Signal) (ss : List Signal) → have_bits_from base (s ∷ ss) ≡ true → (s.first ≡ base) × (have_bits_from (base + signal_length s) ss ≡ true)
+pub first_is : (base : ℕ) (s : Signal) (ss : List Signal) → have_bits_from base (s ∷ ss) ≡ true → (s.first ≡ base) × (have_bits_from (base + signal_length s) ss ≡ true)
 first_is base s ss h = let p = and_parts (s.first == base) (have_bits_from (base + signal_length s) ss) h in (eqb-true s.first base p.0, p.1)
 
-apart_past : (clock base : ℕ) (ss : List Signal) → have_bits_from base ss ≡ true → clock < base → AreApart clock ss
+pub apart_past : (clock base : ℕ) (ss : List Signal) → have_bits_from base ss ≡ true → clock < base → AreApart clock ss
 apart_past clock base [] h past = tt
 apart_past clock base (s ∷ ss) h past =
     let p = first_is base s ss h in
@@ -119,14 +120,11 @@ joined : (b : Bool) (s : Signal) (ss : List Signal) → (if b then bits_of_signa
 joined true s ss = refl
 joined false s ss = refl
 
-abbrev is_data : ℕ → Signal → Bool
-is_data clock s = s.input && not (s.first == clock)
-
-bits_step : (clock : ℕ) (s : Signal) (ss : List Signal) (i : Bool) → s.input ≡ i → IsApart clock s → without (signals_bits (filter is_input ss)) (clock ∷ []) ≡ signals_bits (filter (is_data clock) ss)
-    → without (signals_bits (filter is_input (s ∷ ss))) (clock ∷ []) ≡ signals_bits (filter (is_data clock) (s ∷ ss))
+bits_step : (clock : ℕ) (s : Signal) (ss : List Signal) (i : Bool) → s.input ≡ i → IsApart clock s → without (signals_bits (filter is_input ss)) (clock ∷ []) ≡ signals_bits (filter (is_data_input clock) ss)
+    → without (signals_bits (filter is_input (s ∷ ss))) (clock ∷ []) ≡ signals_bits (filter (is_data_input clock) (s ∷ ss))
 bits_step clock s ss true is h rest =
     let others = filter is_input ss in
-    let those = filter (is_data clock) ss in
+    let those = filter (is_data_input clock) ss in
     ap (λ (b : Bool). without (signals_bits (if b then s ∷ others else others)) (clock ∷ [])) is
     ∙ without_append clock (bits_of_signal s) (signals_bits others)
     ∙ ap (λ (bs : List ℕ). bs ++ without (signals_bits others) (clock ∷ [])) (signal_bits_are clock s h)
@@ -135,12 +133,12 @@ bits_step clock s ss true is h rest =
     ∙ sym (ap (λ (b : Bool). signals_bits (if b && not (s.first == clock) then s ∷ those else those)) is)
 bits_step clock s ss false is h rest =
     let others = filter is_input ss in
-    let those = filter (is_data clock) ss in
+    let those = filter (is_data_input clock) ss in
     ap (λ (b : Bool). without (signals_bits (if b then s ∷ others else others)) (clock ∷ [])) is
     ∙ rest
     ∙ sym (ap (λ (b : Bool). signals_bits (if b && not (s.first == clock) then s ∷ those else those)) is)
 
-bits_are : (clock : ℕ) (ss : List Signal) → AreApart clock ss → without (signals_bits (filter is_input ss)) (clock ∷ []) ≡ signals_bits (filter (is_data clock) ss)
+bits_are : (clock : ℕ) (ss : List Signal) → AreApart clock ss → without (signals_bits (filter is_input ss)) (clock ∷ []) ≡ signals_bits (filter (is_data_input clock) ss)
 bits_are clock [] h = refl
 bits_are clock (s ∷ ss) h = bits_step clock s ss s.input refl h.0 (bits_are clock ss h.1)
 
@@ -148,24 +146,24 @@ one_bit : (name : List ℕ) (s : Signal) → (s.input && same_name s.name name &
 one_bit name s h = eqb-true (signal_length s) 1 (and_parts (s.input && same_name s.name name) (signal_length s == 1) h).1
 
 -- the data bits are the bits of the data inputs
-pub data_bits_are : (d : Design) (name : List ℕ) (a : IsAcceptedDesign d name) → data_bits d a.clock.first ≡ signals_bits (data_inputs d a.clock.first)
+pub data_bits_are : (d : Design) (name : List ℕ) (a : IsAcceptedDesign d name) → data_bits d a.clock.first ≡ signals_bits (filter (is_data_input a.clock.first) d.signals)
 data_bits_are d name a = bits_are a.clock.first d.signals (apart (λ s. s.input && same_name s.name name && (signal_length s == 1)) a.clock.first 0 d.signals a.clock a.lawful.bits_numbered a.clock_found refl (one_bit name))
 
-inputs_sum : (ss : List Signal) (is : List Input) → AreInputsOf ss is → sum (lengths is) ≡ length (signals_bits ss)
-inputs_sum [] [] h = refl
-inputs_sum [] (i ∷ is) h = absurd h
-inputs_sum (s ∷ ss) [] h = absurd h
-inputs_sum (s ∷ ss) (i ∷ is) h =
-    let rest = inputs_sum ss is h.1 in
+inputs_sum : (resets : List ℕ) (ss : List Signal) → sum (lengths (map (input_of resets) ss)) ≡ length (signals_bits ss)
+inputs_sum resets [] = refl
+inputs_sum resets (s ∷ ss) =
+    let rest = inputs_sum resets ss in
     let first = length-count_from s.first (signal_length s) in
-    sum_by-cons (λ x. x) i.length (lengths is) ∙ omega (arith, length-append (bits_of_signal s) (signals_bits ss), h.0.length_is)
+    sum_by-cons (λ x. x) (signal_length s) (lengths (map (input_of resets) ss)) ∙ omega (arith, length-append (bits_of_signal s) (signals_bits ss))
 
 pub inputs_fit : (d : Design) (name : List ℕ) (a : IsAcceptedDesign d name) (inputs : List Input) → AreDataInputs d a.clock.first inputs → sum (lengths inputs) ≡ length (data_bits d a.clock.first)
-inputs_fit d name a inputs h = inputs_sum (data_inputs d a.clock.first) inputs h.inputs_of ∙ ap length (sym (data_bits_are d name a))
+inputs_fit d name a inputs h =
+    ap (λ (is : List Input). sum (lengths is)) h.inputs_are
+    ∙ inputs_sum (reset_inputs d a.clock.first) (filter (is_data_input a.clock.first) d.signals) ∙ ap length (sym (data_bits_are d name a))
 
 -- ---- the bits of a vector
 
-bits_long : (v : Vector) → length (bits_of v) ≡ sum (sizes v)
+pub bits_long : (v : Vector) → length (bits_of v) ≡ sum (sizes v)
 bits_long [] = refl
 bits_long (x ∷ v) = let rest = bits_long v in omega (arith, length-append x (bits_of v), sum_by-cons (λ n. n) (length x) (sizes v))
 
@@ -177,7 +175,7 @@ bits_known : (v : Vector) → vector_known v ≡ true → all_known (bits_of v) 
 bits_known [] h = refl
 bits_known (x ∷ v) h = let p = and_parts (all_known x) (vector_known v) h in known_append x (bits_of v) p.0 (bits_known v p.1)
 
-known_bit : (x : Bit4) → is_known x ≡ true → IsKnown x
+pub known_bit : (x : Bit4) → is_known x ≡ true → IsKnown x
 known_bit Zero h = inl refl
 known_bit One h = inr refl
 known_bit X h = absurd (cc)
@@ -204,7 +202,7 @@ written_known (c ∷ bs) (x ∷ xs) s b long known h =
 
 -- ---- the inputs of the network
 
-or_true : (b : Bool) → (b || true) ≡ true
+pub or_true : (b : Bool) → (b || true) ≡ true
 or_true true = refl
 or_true false = refl
 
@@ -216,7 +214,7 @@ front_case : (e f g : Bool) → (e || f) ≡ true → (f ≡ true → g ≡ true
 front_case true f g h k = refl
 front_case false f g h k = k h
 
-contains_front : (xs ys : List ℕ) (b : ℕ) → contains xs b ≡ true → contains (xs ++ ys) b ≡ true
+pub contains_front : (xs ys : List ℕ) (b : ℕ) → contains xs b ≡ true → contains (xs ++ ys) b ≡ true
 contains_front [] ys b h = absurd (cc)
 contains_front (x ∷ xs) ys b h = front_case (b == x) (contains xs b) (contains (xs ++ ys) b) h (contains_front xs ys b)
 
@@ -234,7 +232,7 @@ input_bit : (clock : ℕ) (s : Signal) (ss : List Signal) (b : ℕ) (e : Bool) �
 input_bit clock s ss b true is k w = absurd (cc)
 input_bit clock s ss b false is k w = contains_front (bits_of_signal s) (signals_bits ss) b w
 
-skip_bit : (e : Bool) (s : Signal) (ss : List Signal) (b : ℕ) → contains (signals_bits ss) b ≡ true → contains (signals_bits (if e then s ∷ ss else ss)) b ≡ true
+pub skip_bit : (e : Bool) (s : Signal) (ss : List Signal) (b : ℕ) → contains (signals_bits ss) b ≡ true → contains (signals_bits (if e then s ∷ ss else ss)) b ≡ true
 skip_bit true s ss b h = contains_append (bits_of_signal s) (signals_bits ss) b h
 skip_bit false s ss b h = h
 
@@ -246,23 +244,23 @@ at_place clock s ss others (suc p) b k w rest = skip_bit (not (s.first == clock)
 
 at_signal : (clock : ℕ) (s : Signal) (ss : List Signal) (p b : ℕ) (i : Bool) → s.input ≡ i
     → let process = at_or_input (map (writer_of clock) (filter (λ s. s.input) (s ∷ ss))) p in kind process ≡ AnInput → writes process b ≡ true
-    → ((q : ℕ) → let other = at_or_input (map (writer_of clock) (filter (λ s. s.input) ss)) q in kind other ≡ AnInput → writes other b ≡ true → contains (signals_bits (filter (is_data clock) ss)) b ≡ true)
-    → contains (signals_bits (filter (is_data clock) (s ∷ ss))) b ≡ true
+    → ((q : ℕ) → let other = at_or_input (map (writer_of clock) (filter (λ s. s.input) ss)) q in kind other ≡ AnInput → writes other b ≡ true → contains (signals_bits (filter (is_data_input clock) ss)) b ≡ true)
+    → contains (signals_bits (filter (is_data_input clock) (s ∷ ss))) b ≡ true
 at_signal clock s ss p b true is k w rest =
     let inputs = filter (λ (x : Signal). x.input) ss in
-    let those = filter (is_data clock) ss in
+    let those = filter (is_data_input clock) ss in
     let at = λ (i : Bool). at_or_input (map (writer_of clock) (if i then s ∷ inputs else inputs)) p in
     subst (λ (i : Bool). contains (signals_bits (if i && not (s.first == clock) then s ∷ those else those)) b ≡ true) (sym is)
     (at_place clock s those inputs p b (subst (λ (i : Bool). kind (at i) ≡ AnInput) is k) (subst (λ (i : Bool). writes (at i) b ≡ true) is w) rest)
 at_signal clock s ss p b false is k w rest =
     let inputs = filter (λ (x : Signal). x.input) ss in
-    let those = filter (is_data clock) ss in
+    let those = filter (is_data_input clock) ss in
     let at = λ (i : Bool). at_or_input (map (writer_of clock) (if i then s ∷ inputs else inputs)) p in
     subst (λ (i : Bool). contains (signals_bits (if i && not (s.first == clock) then s ∷ those else those)) b ≡ true) (sym is)
     (rest p (subst (λ (i : Bool). kind (at i) ≡ AnInput) is k) (subst (λ (i : Bool). writes (at i) b ≡ true) is w))
 
 at_inputs : (clock : ℕ) (ss : List Signal) (p b : ℕ) → let process = at_or_input (map (writer_of clock) (filter (λ s. s.input) ss)) p in kind process ≡ AnInput → writes process b ≡ true
-    → contains (signals_bits (filter (is_data clock) ss)) b ≡ true
+    → contains (signals_bits (filter (is_data_input clock) ss)) b ≡ true
 at_inputs clock [] p b k w = absurd (cc)
 at_inputs clock (s ∷ ss) p b k w = at_signal clock s ss p b s.input refl k w (λ q. at_inputs clock ss q b)
 
@@ -276,7 +274,7 @@ at_process d clock (x ∷ ps) others (suc p) b P k w rest = at_process d clock p
 pub input_bits_are : (d : Design) (name : List ℕ) (a : IsAcceptedDesign d name) (p b : ℕ) → let process = (network_of d a.clock.first).process p in kind process ≡ AnInput → writes process b ≡ true → contains (data_bits d a.clock.first) b ≡ true
 input_bits_are d name a p b k w =
     subst (λ (bs : List ℕ). contains bs b ≡ true) (sym (data_bits_are d name a))
-    (at_process d a.clock.first d.processes (map (writer_of a.clock.first) (top_inputs d)) p b (contains (signals_bits (data_inputs d a.clock.first)) b ≡ true) k w (λ q. at_inputs a.clock.first d.signals q b))
+    (at_process d a.clock.first d.processes (map (writer_of a.clock.first) (top_inputs d)) p b (contains (signals_bits (filter (is_data_input a.clock.first) d.signals)) b ≡ true) k w (λ q. at_inputs a.clock.first d.signals q b))
 
 -- a known vector of the inputs' lengths is known in every input
 pub vector_is_known : (d : Design) (name : List ℕ) (a : IsAcceptedDesign d name) (inputs : List Input) (v : Vector) → AreDataInputs d a.clock.first inputs → sizes v ≡ lengths inputs → vector_known v ≡ true

@@ -18,6 +18,7 @@ use Rattle.vs_stim.specs.Lines.{lines, all_lines}
 use Rattle.vs_stim.specs.Known.{Known, place_of, remaining}
 use Rattle.vs_stim.specs.Reading.{Reading, limits, read_vectors}
 use Rattle.vs_drive.specs.Lanes.{lane_at, ended}
+use Rattle.vs_drive.specs.Reading.{AreTaken}
 use Rattle.vs_vcd.specs.Texts.{values_of}
 use Rattle.vs_waves.specs.Wave.{Wave}
 use Rattle.vs_waves.specs.Puts.{wave_place, PutsLanes, PutsUpTo}
@@ -44,6 +45,12 @@ signal_values_are d clock p s h = ap (map (λ (x : Span). read s (span_bits x)))
 -- what is left of a text depends on what is left on the desk alone
 pub remaining_left : (s : Known) (c new : Contents) → new.left ≡ c.left → remaining s new ≡ remaining s c
 remaining_left s c new same = ap (λ (left : ℕ → List ℕ). read_vectors limits s.columns s.at s.count (all_lines (lines (s.pending ++ left (place_of s.lane))))) same
+
+-- nor does it matter to what is left of the texts that have ended
+pub still_taken : (stimuli : List Known) (c new : Contents) → new.left ≡ c.left → AreTaken c stimuli → AreTaken new stimuli
+still_taken stimuli c new same h = record {
+  each = λ i lt dead. let k = lane_at stimuli i in ap (λ (left : ℕ → List ℕ). k.pending ++ left (place_of k.lane)) same ∙ h.each i lt dead;
+}
 
 -- a lane's round, whether it is live or has ended
 lane_done : (run : Run) (r : Reading) (k : ℕ) (w : Wave) (now mid next : State) (live : Bool) (v : Vector) (rest : Reading) (text : List ℕ) → (r.refusal ≡ None → 0 < length r.vectors)
@@ -98,6 +105,7 @@ round_done lane run k old m c new live waves h lives gone puts = record {
         subst (λ (ks : List Known). IsUnread (reading_of run i) (suc k) (lane_at ks i).live (remaining (lane_at ks i) new)) (sym h.stimuli)
         (subst (λ (r : Reading). IsUnread (reading_of run i) (suc k) (lane_at old.stimuli i).live r) (sym (remaining_left (lane_at old.stimuli i) c new puts.left))
         (read_on (h.began.read.each i (omega (arith, ap length h.stimuli)))));
+    taken = still_taken m.stimuli c new puts.left (subst (λ (ks : List Known). AreTaken c ks) (sym h.stimuli) h.began.read.taken);
   };
   waves = record {
     each = λ i lt.

@@ -1,9 +1,10 @@
 -- What a whole run counts.
-use Rattle.std.specs.Prelude.{◌≡◌, ℕ, zero, suc, ◌+◌, ◌*◌, ◌<◌, length, max, None}
+use Rattle.std.specs.Prelude.{◌≡◌, ℕ, zero, suc, ◌+◌, ◌*◌, ◌<◌, [], length, max, None}
 use Rattle.vs_desk.specs.Desk.{Contents}
 use Rattle.vs_net.specs.Bound.{sum_below}
 use Rattle.vs_engine.specs.Program.{Program}
 use Rattle.vs_engine.specs.Compiled.{fall_stores, rise_stores}
+use Rattle.vs_stim.specs.Known.{place_of}
 use Rattle.vs_waves.specs.Puts.{wave_place}
 use Rattle.vs_rounds.specs.Given.{IsGiven}
 use Rattle.vs_rounds.specs.Lanes.{Run, reading_of}
@@ -17,9 +18,10 @@ abbrev pub greatest_below : ℕ → (ℕ → ℕ) → ℕ
 greatest_below zero f = 0
 greatest_below (suc k) f = max (greatest_below k f) (f k)
 
--- Each lane's stimulus is valid, and the lane has got all: what it gets before the round behind the one in which its end is read.
+-- Each lane's stimulus is valid and was taken to its end, and the lane has got all: what it gets before the round behind the one in which its end is read.
 pub record AreDone (run : Run) (lanes : ℕ) (c : Contents) : Type 0 where
   pub valid : (i : ℕ) → i < lanes → (reading_of run i).refusal ≡ None
+  pub taken : (i : ℕ) → i < lanes → c.left (place_of i) ≡ []
   pub given : (i : ℕ) → i < lanes → IsGiven run.design run.clock run.half (reading_of run i) (suc (vectors_of run i)) (c.put (wave_place i))
 
 -- the vectors of all lanes together, and two settlings of the engine for each vector of a lane that has most

@@ -1,32 +1,33 @@
 -- The data inputs of a design, as the stimuli name them.
-use Rattle.std.specs.Prelude.{◌≡◌, ℕ, not, ◌&&◌, ◌==◌, List, [], ◌∷◌, filter, length, sum, All}
+use Rattle.std.specs.Prelude.{◌≡◌, ℕ, Bool, not, ◌&&◌, ◌==◌, List, map, filter, length, sum, All}
 use Rattle.vs_design.specs.Expressions.{Signal, signal_length}
 use Rattle.vs_design.specs.Designs.{Design}
+use Rattle.vs_design.specs.Footprints.{contains}
+use Rattle.vs_design.specs.Resets.{reset_inputs}
 use Rattle.vs_design.specs.Accepted.{IsAcceptedDesign}
 use Rattle.vs_engine.specs.Compiled.{data_bits}
 use Rattle.vs_stim.specs.declared.input.Input.{Input}
 use Rattle.vs_stim.specs.Header.{IsInput, lengths}
 
--- the inputs of the top but the clock, in order of declaration
-abbrev pub data_inputs : Design → ℕ → List Signal
-data_inputs d clock = filter (λ s. s.input && not (s.first == clock)) d.signals
+-- an input of the top whose bit isn't the clock's
+abbrev pub is_data_input : ℕ → Signal → Bool
+is_data_input clock s = s.input && not (s.first == clock)
 
--- a stimulus names the signal so, and gives it as many digits as it has bits
-pub record IsInputOf (s : Signal) (i : Input) : Type 0 where
-  pub name_is : i.name ≡ s.name
-  pub length_is : i.length ≡ signal_length s
+-- A stimulus names the signal so, and gives it as many digits as it has bits. It is a reset input where its bit is one of these.
+abbrev pub input_of : List ℕ → Signal → Input
+input_of resets s = record { name = s.name; length = signal_length s; reset = contains resets s.first }
 
--- one by one
-abbrev pub AreInputsOf : List Signal → List Input → Type 0
-AreInputsOf [] [] = Unit {0}
-AreInputsOf (s ∷ ss) (i ∷ is) = IsInputOf s i × AreInputsOf ss is
-AreInputsOf [] (i ∷ is) = ⊥
-AreInputsOf (s ∷ ss) [] = ⊥
+abbrev pub inputs_among : List ℕ → ℕ → List Signal → List Input
+inputs_among resets clock signals = map (input_of resets) (filter (is_data_input clock) signals)
+
+-- the inputs of the top but the clock, which has this bit, in order of declaration
+abbrev pub data_inputs : Design → ℕ → List Input
+data_inputs d clock = inputs_among (reset_inputs d clock) clock d.signals
 
 -- the stimuli drive the data inputs of the design
 pub record AreDataInputs (d : Design) (clock : ℕ) (inputs : List Input) : Type 0 where
   pub each : All IsInput inputs
-  pub inputs_of : AreInputsOf (data_inputs d clock) inputs
+  pub inputs_are : inputs ≡ data_inputs d clock
 
 -- They have together as many bits as the design's data inputs.
 abbrev pub InputBitsFit : Type 0

@@ -11,6 +11,7 @@ use Rattle.vs_stim.specs.declared.input.Input.{Input}
 use Rattle.vs_stim.specs.Known.{Known, remaining}
 use Rattle.vs_stim.specs.Reading.{Reading, reading, with_vector}
 use Rattle.vs_drive.specs.Lanes.{lane_at}
+use Rattle.vs_drive.specs.Reading.{AreTaken}
 use Rattle.vs_vcd.specs.Scopes.{head_text}
 use Rattle.vs_vcd.specs.Texts.{values_of}
 use Rattle.vs_waves.specs.Wave.{Wave, IsNewWave}
@@ -75,13 +76,16 @@ pub record IsWaveAt (run : Run) (r : Reading) (k : ℕ) (w : Wave) (now : State)
   pub now_is : k ≤ length r.vectors → now ≡ last_or (network run).idle given.ends
   pub last_is : 0 < k → k ≤ length r.vectors → w.dump.last ≡ values_of run.design now
 
--- the vector of round k is the next that is read of each lane that hasn't ended, where the desk has these contents
+-- The vector of round k is the next that is read of each lane that hasn't ended, and nothing is left of the texts of the others, where the
+-- desk has these contents.
 pub record HaveNext (run : Run) (k : ℕ) (stimuli : List Known) (c : Contents) : Type 0 where
   pub each : (i : ℕ) → i < length stimuli → IsUnread (reading_of run i) k (lane_at stimuli i).live (remaining (lane_at stimuli i) c)
+  pub taken : AreTaken c stimuli
 
--- the vector of round k was read of each lane that hasn't ended
+-- the vector of round k was read of each lane that hasn't ended, and nothing is left of the texts of the others
 pub record HaveVectors (run : Run) (k : ℕ) (stimuli : List Known) (c : Contents) : Type 0 where
   pub each : (i : ℕ) → i < length stimuli → IsRead (reading_of run i) k (lane_at stimuli i).live (lane_at stimuli i).vector (remaining (lane_at stimuli i) c)
+  pub taken : AreTaken c stimuli
 
 -- what each lane has got before the puts of round k, and what is kept of its wave, where `lane` reads a lane of a word
 pub record AreWavesAt {W : Type 0} (lane : W → ℕ → Bool) (run : Run) (k : ℕ) (m : Simulation W) (c : Contents) : Type 0 where

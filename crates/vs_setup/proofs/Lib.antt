@@ -1,3 +1,4 @@
 pub mod Long
 pub mod Opening
 pub mod Readied
+pub mod Signals

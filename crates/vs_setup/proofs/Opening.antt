@@ -14,7 +14,7 @@ use Rattle.vs_front.specs.Lent.{Acceptance}
 use Rattle.vs_front.specs.Source.{Spells}
 use Rattle.vs_front.specs.Accepted.{IsAcceptedText}
 use Rattle.vs_job.specs.declared.job.Job.{Job}
-use Rattle.vs_load.specs.Inputs.{data_inputs}
+use Rattle.vs_rounds.specs.Inputs.{data_inputs}
 use Rattle.vs_setup.specs.declared.error.SetupError.{SetupError}
 use Rattle.vs_setup.specs.declared.error.SetupError.TheVariants.{TooLong, NotAccepted, Stimulus, ReadFault, Memory}
 use Rattle.vs_setup.specs.DesignText.{with_design}
@@ -36,6 +36,7 @@ text_refusal : (error : StimError) → IsHeaderError error → error ≢ E.ReadF
 text_refusal E.BadHeader h r m = h
 text_refusal (E.BadVector line) h r m = h
 text_refusal E.FirstUnknown h r m = h
+text_refusal (E.UnknownReset line) h r m = h
 text_refusal E.NoVector h r m = h
 text_refusal E.TooManyVectors h r m = h
 text_refusal E.StimulusTooLong h r m = h
@@ -54,6 +55,7 @@ pub unopened : (tells : Bool) (inputs : List Input) (stimuli : List (List ℕ)) 
 unopened tells inputs stimuli before old now lane E.BadHeader s = refusal tells inputs stimuli before old now lane E.BadHeader s (λ e. cc) (λ e. cc)
 unopened tells inputs stimuli before old now lane (E.BadVector line) s = refusal tells inputs stimuli before old now lane (E.BadVector line) s (λ e. cc) (λ e. cc)
 unopened tells inputs stimuli before old now lane E.FirstUnknown s = refusal tells inputs stimuli before old now lane E.FirstUnknown s (λ e. cc) (λ e. cc)
+unopened tells inputs stimuli before old now lane (E.UnknownReset line) s = refusal tells inputs stimuli before old now lane (E.UnknownReset line) s (λ e. cc) (λ e. cc)
 unopened tells inputs stimuli before old now lane E.NoVector s = refusal tells inputs stimuli before old now lane E.NoVector s (λ e. cc) (λ e. cc)
 unopened tells inputs stimuli before old now lane E.TooManyVectors s = refusal tells inputs stimuli before old now lane E.TooManyVectors s (λ e. cc) (λ e. cc)
 unopened tells inputs stimuli before old now lane E.StimulusTooLong s = refusal tells inputs stimuli before old now lane E.StimulusTooLong s (λ e. cc) (λ e. cc)

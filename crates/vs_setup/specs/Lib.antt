@@ -2,3 +2,4 @@ pub mod DesignText
 pub mod Places
 pub mod Prepared
 pub mod Unprepared
+pub mod Loaded

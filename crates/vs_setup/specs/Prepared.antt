@@ -10,10 +10,10 @@ use Rattle.vs_drive.specs.Lanes.{AreAttached}
 use Rattle.vs_drive.specs.Opened.{path_at, HaveHeaders}
 use Rattle.vs_job.specs.declared.job.Job.{Job}
 use Rattle.vs_job.specs.Places.{vcd_path}
-use Rattle.vs_load.specs.Inputs.{data_inputs}
+use Rattle.vs_rounds.specs.Inputs.{data_inputs}
 use Rattle.vs_rounds.specs.Lanes.{Run, Simulation, AreOpened}
 use Rattle.vs_rounds.specs.Ready.{IsReady}
-use Rattle.vs_load.specs.Loaded.{IsLoaded}
+use Rattle.vs_setup.specs.Loaded.{IsLoaded}
 use Rattle.vs_front.specs.Lent.{Acceptance}
 use Rattle.vs_stim.specs.declared.input.Input.{Input}
 use Rattle.vs_engine.specs.Lanes.{Running}

@@ -11,7 +11,7 @@ use Rattle.vs_stim.specs.Reading.{header_refusal}
 use Rattle.vs_stim.specs.Source.{IsHeaderError}
 use Rattle.vs_drive.specs.Opened.{path_at, with_lanes, HaveHeaders}
 use Rattle.vs_job.specs.declared.job.Job.{Job}
-use Rattle.vs_load.specs.Inputs.{data_inputs}
+use Rattle.vs_rounds.specs.Inputs.{data_inputs}
 use Rattle.vs_setup.specs.declared.error.SetupError.{SetupError}
 use Rattle.vs_setup.specs.declared.error.SetupError.TheVariants.{TooLong, NotAccepted, Stimulus, ReadFault, Memory}
 use Rattle.vs_setup.specs.DesignText.{most_bytes, with_design, IsTooLong, DesignFails}

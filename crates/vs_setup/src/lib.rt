@@ -3,7 +3,10 @@
 
 mod design_text;
 mod error;
+mod inputs;
+mod loading;
 mod setup;
 
 pub use error::SetupError;
+pub use loading::{Loaded, load};
 pub use setup::{Prepared, prepare};

@@ -6,7 +6,7 @@ ghost use Rattle.vs_design.specs.Designs.{Design};
 ghost use Rattle.vs_engine.specs.Compiled.{fall_stores, rise_stores};
 ghost use Rattle.vs_flat.specs.DesignOf.{design_of};
 ghost use Rattle.vs_front.specs.Accepted.{IsAcceptedText};
-ghost use Rattle.vs_load.specs.Loaded.{IsLoaded};
+ghost use Rattle.vs_setup.specs.Loaded.{IsLoaded};
 ghost use Rattle.vs_stim.specs.Header.{IsInput};
 ghost use Rattle.vs_drive.specs.Lanes.{AreAttached, AreLanes, OtherPlacesKept};
 ghost use Rattle.vs_drive.specs.Opened.{AreFree, AreOpened, HaveHeaders, with_lanes};
@@ -20,12 +20,12 @@ ghost use Rattle.vs_setup.specs.Unprepared.{error_of, IsLoadError, IsUnopened, I
 
 use crate::SetupError;
 use crate::design_text::{DesignError, read_design};
+use crate::loading::{Loaded, load};
 use std::alloc::{AllocError, Global};
 use vs_desk::Desk;
 use vs_drive::{Drive, Stopped, open};
 use vs_front::AcceptError;
 use vs_job::{Job, stimulus_paths, vcd_paths};
-use vs_load::{Loaded, load};
 use vs_plane::Lanes;
 use vs_rounds::Machine;
 use vs_stim::{Input, StimError};

@@ -1,5 +1,5 @@
 -- What the desk's counts say of each answer.
-use Rattle.std.proofs.Common.{◌≡◌, ◌≢◌, ◌⊎◌, ℕ, zero, suc, ◌+◌, ◌<◌, ◌^◌, Bool, IsTrue, List, [], ◌∷◌, take, refl, sym, ap, ◌∙◌, subst, inl, inr, arith}
+use Rattle.std.proofs.Common.{◌≡◌, ◌≢◌, ◌⊎◌, ℕ, suc, ◌+◌, Bool, List, [], ◌∷◌, take, refl, sym, ap, ◌∙◌, subst, inl, inr, arith}
 use Rattle.vs_desk.specs.declared.desk.Way.{Way}
 use Rattle.vs_desk.specs.declared.desk.Way.TheVariants.{Read, Write}
 use Rattle.vs_desk.specs.Desk.{Register, Contents, Rose, Fails, with_place}
@@ -27,7 +27,7 @@ use Rattle.vs_top.specs.Ended.{IsEnd, IsStopped, with_waves, wave_paths}
 use Rattle.vs_top.specs.Ended.IsEnd.{same, setup, first, attached, stopped, whole}
 use Rattle.vs_top.specs.Outcomes.{outcome_line}
 use Rattle.vs_top.specs.Reported.{ReportsLine, ReportsDone, OnStopped}
-use Rattle.vs_top.specs.Causes.{IsFaultAt, IsLoss, ShowsCause}
+use Rattle.vs_top.specs.Causes.{IsFaultAt, ShowsCause}
 
 -- ---- places that are attached
 
@@ -90,6 +90,7 @@ refusal_ends : (old new : Register) (i : ℕ) (e : StimError) → (e ≢ E.ReadF
 refusal_ends old new i E.BadHeader other q = record { fault = q.faults; losses = q.losses }
 refusal_ends old new i (E.BadVector n) other q = record { fault = q.faults; losses = q.losses }
 refusal_ends old new i E.FirstUnknown other q = record { fault = q.faults; losses = q.losses }
+refusal_ends old new i (E.UnknownReset n) other q = record { fault = q.faults; losses = q.losses }
 refusal_ends old new i E.NoVector other q = record { fault = q.faults; losses = q.losses }
 refusal_ends old new i E.TooManyVectors other q = record { fault = q.faults; losses = q.losses }
 refusal_ends old new i E.StimulusTooLong other q = record { fault = q.faults; losses = q.losses }

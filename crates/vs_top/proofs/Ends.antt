@@ -1,10 +1,11 @@
 -- What stays of a run once its line was reported.
-use Rattle.std.proofs.Common.{◌≡◌, ◌≢◌, ◌⊎◌, ℕ, List, inl, inr, IsTrue, Bool, sym, ap, ◌∙◌, subst, arith}
+use Rattle.std.proofs.Common.{◌≡◌, ◌≢◌, ℕ, List, inl, inr, IsTrue, Bool, sym, ap, ◌∙◌, subst, arith}
 use Rattle.std.proofs.lemmas.Bool.{ne_eqb, cond-false}
 use Rattle.vs_desk.specs.Desk.{Register, Contents, with_put}
+use Rattle.vs_stim.specs.Known.{place_of}
 use Rattle.vs_waves.specs.Puts.{wave_place}
 use Rattle.vs_drive.specs.Opened.{path_at}
-use Rattle.vs_load.specs.Inputs.{data_inputs}
+use Rattle.vs_rounds.specs.Inputs.{data_inputs}
 use Rattle.vs_job.specs.declared.job.Job.{Job}
 use Rattle.vs_top.specs.declared.outcome.Summary.{Summary}
 use Rattle.vs_top.specs.declared.outcome.Outcome.{Outcome}
@@ -33,7 +34,8 @@ written_still : (job : Job) (old mid new : Contents) (r : Register) (line : List
 written_still job old mid new r line s e w = record {
   design = w.design;
   accepted = w.accepted;
-  taken = ap (λ (c : Contents). c.left 1) e ∙ w.taken;
+  design_taken = ap (λ (c : Contents). c.left 1) e ∙ w.design_taken;
+  stimuli_taken = λ i h. ap (λ (c : Contents). c.left (place_of i)) e ∙ w.stimuli_taken i h;
   lanes = λ i h. subst (λ (put : List ℕ). IsLaneWritten w.design w.accepted.accepted.clock.first job.half (data_inputs w.design w.accepted.accepted.clock.first) (old.files (path_at job.stimuli i)) put) (sym (ap (λ (c : Contents). c.put (wave_place i)) e ∙ kept r mid line i)) (w.lanes i h);
   lanes_are = w.lanes_are;
   counted = w.counted;
@@ -60,6 +62,7 @@ stimulus_usage : (i : ℕ) (e : StimError) → stimulus_outcome i e ≡ Refused 
 stimulus_usage i E.BadHeader h = cc
 stimulus_usage i (E.BadVector n) h = cc
 stimulus_usage i E.FirstUnknown h = cc
+stimulus_usage i (E.UnknownReset n) h = cc
 stimulus_usage i E.NoVector h = cc
 stimulus_usage i E.TooManyVectors h = cc
 stimulus_usage i E.StimulusTooLong h = cc

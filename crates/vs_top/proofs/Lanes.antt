@@ -1,22 +1,12 @@
 -- What each lane has got.
-use Rattle.std.specs.Prelude.{slice_get}
-use Rattle.std.proofs.Common.{◌≡◌, ℕ, zero, suc, ◌+◌, Some, ◌<◌, ◌≤◌, List, [], ◌∷◌, length, map, None, All, IsTrue, refl, sym, ap, ◌∙◌, subst, arith, Bool}
-use Rattle.std.specs.List.{filter}
-use Rattle.vs_net.specs.Network.{State, Reset, reset_of}
-use Rattle.vs_net.specs.Laws.{AreKnownResets}
+use Rattle.std.proofs.Common.{◌≡◌, ℕ, suc, ◌<◌, ◌≤◌, List, [], ◌∷◌, length, map, None, All, IsTrue, refl, sym, ap, ◌∙◌, subst, arith, Bool}
 use Rattle.vs_net.specs.Queue.{start, ends}
-use Rattle.vs_design.specs.Expressions.{Signal}
-use Rattle.vs_design.specs.Statements.{Statement}
-use Rattle.vs_design.specs.Designs.{Event, Always, Design}
+use Rattle.vs_design.specs.Designs.{Design}
 use Rattle.vs_design.specs.Networks.{network_of}
 use Rattle.vs_design.specs.Accepted.{IsAcceptedDesign}
-use Rattle.vs_design.proofs.Parts.{by_kind}
 use Rattle.vs_desk.specs.Desk.{Register, Contents}
 use Rattle.vs_front.specs.Source.{Spells}
 use Rattle.vs_front.specs.Accepted.{IsAcceptedText}
-use Rattle.vs_front.specs.declared.source.Source.{Source}
-use Rattle.vs_front.specs.declared.source.Item.{Item}
-use Rattle.vs_front.specs.Elaborated.{signals_from, assigns_from, first_item, elaborated}
 use Rattle.vs_stim.specs.declared.input.Input.{Input}
 use Rattle.vs_stim.specs.Header.{IsInput}
 use Rattle.vs_stim.specs.Reading.{reading, stimulus}
@@ -24,55 +14,28 @@ use Rattle.vs_stim.specs.Laws.{WholeHasVector}
 use Rattle.vs_vcd.specs.Texts.{vcd}
 use Rattle.vs_rounds.specs.Drives.{Vector, vector_state}
 use Rattle.vs_rounds.specs.Given.{IsGiven}
-use Rattle.vs_rounds.specs.Inputs.{AreInputsOf, AreDataInputs}
+use Rattle.vs_rounds.specs.Inputs.{AreDataInputs}
 use Rattle.vs_rounds.specs.Headline.{IsLawfulLane, TextOfEveryRun, SomeRun}
 use Rattle.vs_rounds.specs.Lanes.{Simulation}
 use Rattle.vs_job.specs.declared.job.Job.{Job}
-use Rattle.vs_load.specs.Inputs.{input_of, is_data_input, data_inputs}
+use Rattle.vs_rounds.specs.Inputs.{data_inputs}
 use Rattle.vs_setup.specs.Prepared.{IsPrepared, run_of}
 use Rattle.vs_top.specs.Headline.{IsLaneWritten}
 use Rattle.vs_top.specs.Ended.{IsRunOf}
 
-inputs_of : (ss : List Signal) → AreInputsOf ss (map input_of ss)
-inputs_of [] = tt
-inputs_of (s ∷ ss) = (record { name_is = refl; length_is = refl }, inputs_of ss)
-
 pub are_data_inputs : (d : Design) (clock : ℕ) → All IsInput (data_inputs d clock) → AreDataInputs d clock (data_inputs d clock)
-are_data_inputs d clock all = record { each = all; inputs_of = inputs_of (filter (is_data_input clock) d.signals) }
+are_data_inputs d clock all = record { each = all; inputs_are = refl }
 
 -- a lane that has got all is written
--- a source has assigns alone, so there is no reset
-no_block : (ss : List Signal) (at : ℕ) (items : List Item) (p place : ℕ) (star : Bool) (events : List Event) (st : Statement) → slice_get (assigns_from ss at items) p ≡ Some (Always place star events st) → ⊥
-no_block ss at [] p place star events st h = cc
-no_block ss at (i ∷ is) zero place star events st h = cc
-no_block ss at (i ∷ is) (suc p) place star events st h = no_block ss (at + 7) is p place star events st h
-
-no_reset : (s : Source) (clock p : ℕ) (r : Reset) → reset_of ((network_of (elaborated s) clock).process p) ≡ Some r → ⊥
-no_reset s clock p r = by_kind (elaborated s) clock (λ p x. reset_of x ≡ Some r → ⊥) (record {
-  assigns = λ p place port target_place target e h k. cc;
-  combs = λ p place star events st h n k. cc;
-  clocked = λ p place star events st h n k. no_block (signals_from 0 s.ports) (first_item s) s.items p place star events st h;
-  inputs = λ p i t l e f k. cc;
-  clock = λ p i t l e f k. cc;
-  none = λ p k. cc;
-}) p
-
-resets_are_known : (s : Source) (clock : ℕ) (vs : List State) → AreKnownResets (network_of (elaborated s) clock) vs
-resets_are_known s clock [] = tt
-resets_are_known s clock (v ∷ vs) = (λ p r h. absurd (no_reset s clock p r h), resets_are_known s clock vs)
-
-pub resets_known : (text top name : List ℕ) (d : Design) → IsAcceptedText text top name d → (clock : ℕ) (vs : List State) → AreKnownResets (network_of d clock) vs
-resets_known text top name d a clock vs = subst (λ x. AreKnownResets (network_of x clock) vs) (sym a.is_elaborated) (resets_are_known a.source clock vs)
-
-pub lane_written : TextOfEveryRun → SomeRun → WholeHasVector → (d : Design) (name : List ℕ) (a : IsAcceptedDesign d name) → ((vs : List State) → AreKnownResets (network_of d a.clock.first) vs) → (half : ℕ) (inputs : List Input) → AreDataInputs d a.clock.first inputs
+pub lane_written : TextOfEveryRun → SomeRun → WholeHasVector → (d : Design) (name : List ℕ) (a : IsAcceptedDesign d name) (half : ℕ) (inputs : List Input) → AreDataInputs d a.clock.first inputs
     → (text put : List ℕ) → (reading inputs text).refusal ≡ None → IsGiven d a.clock.first half (reading inputs text) (suc (length (reading inputs text).vectors)) put → IsLaneWritten d a.clock.first half inputs text put
-lane_written every_run some_run has_vector d name a resets half inputs driven text put whole given = go (reading inputs text).vectors refl
+lane_written every_run some_run has_vector d name a half inputs driven text put whole given = go (reading inputs text).vectors refl
   where
     valid : (vs : List Vector) → (reading inputs text).vectors ≡ vs → stimulus text inputs vs
     valid vs e = λ i. record { vectors = e i; refusal = whole i }
 
     lawful : (first : Vector) (later : List Vector) → (reading inputs text).vectors ≡ first ∷ later → IsLawfulLane d name inputs text first later
-    lawful first later e = record { accepted = a; inputs_are = driven; valid = valid (first ∷ later) e; resets_known = resets (map (vector_state d a.clock.first) later) }
+    lawful first later e = record { accepted = a; inputs_are = driven; valid = valid (first ∷ later) e }
 
     go : (vs : List Vector) → (reading inputs text).vectors ≡ vs → IsLaneWritten d a.clock.first half inputs text put
     go [] e =

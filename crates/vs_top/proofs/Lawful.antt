@@ -1,7 +1,6 @@
 -- A lawful job on a desk without a fault is done, unless there was no memory.
-use Rattle.std.proofs.Common.{◌≡◌, ◌≢◌, ◌⊎◌, ℕ, ◌<◌, ◌^◌, Bool, IsTrue, List, [], ◌∷◌, length, Option, Some, None, refl, sym, ap, ◌∙◌, subst, inl, inr, arith}
-use Rattle.vs_desk.specs.Desk.{Register, Contents, Rose}
-use Rattle.vs_four.specs.declared.Bit4.{Bit4}
+use Rattle.std.proofs.Common.{◌≡◌, ℕ, ◌<◌, Bool, IsTrue, List, [], ◌∷◌, length, Option, Some, None, sym, ap, ◌∙◌, subst, inl, inr, arith}
+use Rattle.vs_desk.specs.Desk.{Register, Contents}
 use Rattle.vs_stim.specs.declared.input.Input.{Input}
 use Rattle.vs_stim.specs.declared.input.Column.{Column}
 use Rattle.vs_stim.specs.declared.error.StimError.{StimError}
@@ -20,10 +19,9 @@ use Rattle.vs_rounds.specs.declared.stop.Stop.{Stop}
 use Rattle.vs_rounds.specs.declared.stop.Stop.TheVariants as R
 use Rattle.vs_job.specs.declared.job.Job.{Job}
 use Rattle.vs_job.specs.Places.{same_paths}
-use Rattle.vs_load.specs.Inputs.{data_inputs}
+use Rattle.vs_rounds.specs.Inputs.{data_inputs}
 use Rattle.vs_setup.specs.declared.error.SetupError.{SetupError}
 use Rattle.vs_setup.specs.declared.error.SetupError.TheVariants as S
-use Rattle.vs_setup.specs.DesignText.{most_bytes}
 use Rattle.vs_setup.specs.Prepared.{run_of}
 use Rattle.vs_setup.specs.Unprepared.{IsUnprepared, IsDesignOf}
 use Rattle.vs_top.specs.declared.outcome.Summary.{Summary}

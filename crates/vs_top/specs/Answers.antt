@@ -21,6 +21,7 @@ abbrev pub stimulus_outcome : ℕ → StimError → Outcome
 stimulus_outcome i E.BadHeader = Refused (Lane lane.BadHeader i)
 stimulus_outcome i (E.BadVector n) = Refused (Line line.BadVector i n)
 stimulus_outcome i E.FirstUnknown = Refused (Lane lane.FirstUnknown i)
+stimulus_outcome i (E.UnknownReset n) = Refused (Line line.UnknownReset i n)
 stimulus_outcome i E.NoVector = Refused (Lane lane.NoVector i)
 stimulus_outcome i E.TooManyVectors = Refused (Lane lane.TooManyVectors i)
 stimulus_outcome i E.StimulusTooLong = Refused (Lane lane.StimulusTooLong i)

@@ -7,9 +7,8 @@ use Rattle.vs_drive.specs.Opened.{path_at}
 use Rattle.vs_rounds.specs.Drives.{Vector}
 use Rattle.vs_job.specs.declared.job.Job.{Job}
 use Rattle.vs_job.specs.Places.{same_paths}
-use Rattle.vs_load.specs.Inputs.{data_inputs}
+use Rattle.vs_rounds.specs.Inputs.{data_inputs}
 use Rattle.vs_setup.specs.Unprepared.{IsDesignOf}
-use Rattle.vs_top.specs.declared.outcome.Summary.{Summary}
 use Rattle.vs_top.specs.declared.outcome.Outcome.{Outcome}
 use Rattle.vs_top.specs.declared.outcome.Outcome.TheVariants.{Done, Refused, ReadFault, WriteFault, Memory}
 

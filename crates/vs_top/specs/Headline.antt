@@ -8,6 +8,7 @@ use Rattle.vs_design.specs.Sizes.{size as size_of}
 use Rattle.vs_desk.specs.Desk.{Contents}
 use Rattle.vs_front.specs.Accepted.{IsAcceptedText}
 use Rattle.vs_stim.specs.declared.input.Input.{Input}
+use Rattle.vs_stim.specs.Known.{place_of}
 use Rattle.vs_stim.specs.Reading.{stimulus}
 use Rattle.vs_drive.specs.Opened.{path_at}
 use Rattle.vs_vcd.specs.Texts.{vcd}
@@ -15,7 +16,7 @@ use Rattle.vs_waves.specs.Puts.{wave_place}
 use Rattle.vs_rounds.specs.Drives.{Vector, vector_state}
 use Rattle.vs_rounds.specs.Counts.{AreCounted}
 use Rattle.vs_job.specs.declared.job.Job.{Job}
-use Rattle.vs_load.specs.Inputs.{data_inputs}
+use Rattle.vs_rounds.specs.Inputs.{data_inputs}
 use Rattle.vs_setup.specs.Prepared.{run_of}
 use Rattle.vs_top.specs.declared.outcome.Summary.{Summary}
 
@@ -41,14 +42,15 @@ pub record IsLaneWritten (d : Design) (clock half : ℕ) (inputs : List Input) (
   pub every : (values : List State) → IsRunOn d clock vectors values → put ≡ vcd d half values
   pub some : (values : List State) × IsRunOn d clock vectors values
 
--- The design's text is accepted and was taken to its end, each lane is written, and the counts are those of the design and of the stimuli, where the desk had these
+-- The design's text is accepted, each lane is written, all texts were taken to their end, and the counts are those of the design and of the stimuli, where the desk had these
 -- contents before and after.
 pub record IsWritten (job : Job) (old new : Contents) (s : Summary) : Type 0 where
   pub design : Design
   pub accepted : IsAcceptedText (old.files job.design) job.top job.clock design
-  pub taken : new.left 1 ≡ []
   pub lanes : (i : ℕ) → i < length job.stimuli
       → IsLaneWritten design accepted.accepted.clock.first job.half (data_inputs design accepted.accepted.clock.first) (old.files (path_at job.stimuli i)) (new.put (wave_place i))
+  pub design_taken : new.left 1 ≡ []
+  pub stimuli_taken : (i : ℕ) → i < length job.stimuli → new.left (place_of i) ≡ []
   pub lanes_are : s.lanes ≡ length job.stimuli
   pub counted : AreCounted (run_of job old.files design accepted.accepted.clock.first) (length job.stimuli) s.vectors s.settlings
   pub size_is : s.size ≡ size_of design

@@ -26,6 +26,9 @@ pub(crate) fn stimulus_outcome(lane: u32, error: StimError) -> Outcome
         StimError::BadVector { line } => {
             return Outcome::Refused(Refusal::Line(LineName::BadVector, lane, line));
         }
+        StimError::UnknownReset { line } => {
+            return Outcome::Refused(Refusal::Line(LineName::UnknownReset, lane, line));
+        }
         StimError::LineTooLong { line } => {
             return Outcome::Refused(Refusal::Line(LineName::LineTooLong, lane, line));
         }

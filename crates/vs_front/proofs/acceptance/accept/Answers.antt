@@ -1,14 +1,16 @@
-use Rattle.std.proofs.Common.{rules, ◌≡◌, ℕ, true, List, sym, subst}
+use Rattle.std.proofs.Common.{rules, ◌≡◌, ◌∙◌, ℕ, true, List, ap, sym, subst}
 use Rattle.std.specs.Prelude.{slice_get}
 use Rattle.vs_design.specs.Designs.{Design}
 use Rattle.vs_design.specs.Accepted.{IsAcceptedDesign}
 use Rattle.vs_design.specs.Clocks.{clock_input}
 use Rattle.vs_design.specs.Levels.{is_level_order}
+use Rattle.vs_design.specs.Resets.{reset_inputs}
 use Rattle.vs_front.specs.Elaborated.{elaborated}
 use Rattle.vs_flat.specs.Thin.{IsThin}
 use Rattle.vs_front.proofs.Unique.{source_accepted}
 use Rattle.vs_front.proofs.Wired.{wired_accepted}
 use Rattle.vs_front.proofs.Built.{thin_is, clock_is, order_is}
+use Rattle.vs_front.proofs.Resets.{no_reset_inputs}
 use Rattle.vs_front.proofs.acceptance.accept.Goals as goal
 
 pub returns-in_err-source-clause-refused : goal.returns-in_err-source-clause-refused
@@ -47,3 +49,7 @@ returns-clause-order c =
     let P : Design → Type 0 = λ d. is_level_order d c.in_ok-design.field-0.order ≡ true in
     let Q : List ℕ → Type 0 = λ ns. is_level_order (elaborated c.in_ok-source.source) ns ≡ true in
     subst P (sym c.in_ok-design.ensures.flat) (subst Q (sym c.in_ok-design.ensures.order) (order_is c.in_ok-source.source c.in_ok-wiring.ensures.wired.declared))
+
+pub returns-clause-resets : goal.returns-clause-resets
+returns-clause-resets c = λ s e.
+    c.in_ok-design.ensures.resets ∙ sym (no_reset_inputs c.in_ok-source.source s.first) ∙ ap (λ (d : Design). reset_inputs d s.first) (sym c.in_ok-design.ensures.flat)

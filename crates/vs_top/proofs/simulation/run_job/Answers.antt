@@ -21,7 +21,7 @@ use Rattle.vs_top.specs.Ended.{IsWholeEnd, wave_paths, with_waves}
 use Rattle.vs_top.proofs.simulation.run_job.Given.{Over}
 use Rattle.vs_top.specs.Ended.IsEnd.{setup, first, attached, stopped, whole}
 use Rattle.vs_top.proofs.Places.{with_places-at, still_attached, still_free}
-use Rattle.vs_top.proofs.Lanes.{are_data_inputs, resets_known, lane_written, accepted_as, run_is}
+use Rattle.vs_top.proofs.Lanes.{are_data_inputs, lane_written, accepted_as, run_is}
 use Rattle.vs_top.proofs.simulation.run_job.Goals as goal
 
 pub returns-in-Err-begin-clause-stopped : goal.returns-in-Err-begin-clause-stopped
@@ -116,8 +116,9 @@ all_written g c =
       written = λ t. record {
         design = p.design;
         accepted = accepted_as job.top job.clock p.design p.text (old.files job.design) (p.text_is t) p.accepted;
-        taken = (c.rounds.ensures.others t).left 1 (omega arith) ∙ ap (λ (left : ℕ → List ℕ). left 1) (empty t).left ∙ (c.begin.ensures.others t).before 1 (omega arith) ∙ p.taken t;
-        lanes = λ i h. lane_written c.headline_law.ensures.every c.headline_law.ensures.some c.known_law.ensures.some p.design job.clock p.accepted.accepted (resets_known p.text job.top job.clock p.design p.accepted p.accepted.accepted.clock.first) job.half run.inputs (are_data_inputs p.design clock p.all_inputs)
+        stimuli_taken = λ i h. (done t).taken i h;
+        design_taken = (c.rounds.ensures.others t).left 1 (omega arith) ∙ ap (λ (left : ℕ → List ℕ). left 1) (empty t).left ∙ (c.begin.ensures.others t).before 1 (omega arith) ∙ p.taken t;
+        lanes = λ i h. lane_written c.headline_law.ensures.every c.headline_law.ensures.some c.known_law.ensures.some p.design job.clock p.accepted.accepted job.half run.inputs (are_data_inputs p.design clock p.all_inputs)
             (run.texts i) (new.put (wave_place i)) ((done t).valid i h) ((done t).given i h);
         lanes_are = search rules;
         counted = subst (λ (n : ℕ). AreCounted run n counts.vectors counts.settlings) lanes (c.in-Ok-rounds.ensures.counted t run (in_round t));

@@ -46,7 +46,7 @@ returns-then-live-eq0-clause-done g c =
     let e = c.in_ok-live.ensures in
     λ t run h.
     done_before g.W.Word.lane run (length c.args.self.now.stimuli) c.loop-round.round c.loop-round.self c.round.new.self (g.D.Desk.contents c.round.new.desk) inv.lanes e.stimuli
-    (sym c.if-live-eq0.true ∙ e.count) (e.done t run (inv.in_round t run h))
+    (sym c.if-live-eq0.true ∙ e.count) e.ready.alike.lanes (e.done t run (inv.in_round t run h))
 
 pub returns-then-live-eq0-clause-counted : goal.returns-then-live-eq0-clause-counted
 returns-then-live-eq0-clause-counted g c =
@@ -110,7 +110,7 @@ loop-round-preserved g c =
 pub returns-clause-done : goal.returns-clause-done
 returns-clause-done g c =
     let inv = c.loop-round.invariant in
-    λ t run h. done_at_last g.W.Word.lane run (length c.args.self.now.stimuli) c.loop-round.round c.loop-round.self (g.D.Desk.contents c.loop-round.desk) inv.lanes (omega arith) (inv.in_round t run h)
+    λ t run h. done_at_last g.W.Word.lane run (length c.args.self.now.stimuli) c.loop-round.round c.loop-round.self (g.D.Desk.contents c.loop-round.desk) inv.lanes (omega arith) inv.ready.alike.lanes (inv.in_round t run h)
 
 pub returns-clause-counted : goal.returns-clause-counted
 returns-clause-counted g c =

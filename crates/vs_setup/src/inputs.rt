@@ -2,27 +2,33 @@
 
 ghost use Rattle.std.specs.Prelude.{◌≡◌, ◌≤◌, ℕ, ◌&&◌, ◌==◌, not, All, IfOk};
 ghost use Rattle.vs_design.specs.Expressions.{range_or_one};
+ghost use Rattle.vs_design.specs.Footprints.{contains};
 ghost use Rattle.vs_flat.specs.DesignOf.{design_of};
 ghost use Rattle.vs_flat.specs.Thin.{IsThin};
 ghost use Rattle.vs_flat.specs.Trees.{signal_of};
 ghost use Rattle.vs_stim.specs.Header.{IsInput};
-ghost use Rattle.vs_load.specs.Inputs.{data_inputs, input_of, is_data_input};
+ghost use Rattle.vs_rounds.specs.Inputs.{input_of, inputs_among, is_data_input};
 
 use std::alloc::{AllocError, Global};
 use vs_flat::{Flat, Signal};
 use vs_four::Range;
 use vs_stim::{Input, Name};
 
-/// The data inputs of a design whose clock is this bit, in order of declaration.
-pub(crate) fn data_inputs(alloc: Global, flat: &Flat, clock: u32) -> Result<Vec<Input>, AllocError>
+/// The data inputs of a design whose clock and whose reset inputs are these bits, in order of declaration.
+pub(crate) fn data_inputs(
+    alloc: Global,
+    flat: &Flat,
+    clock: u32,
+    resets: &[u32],
+) -> Result<Vec<Input>, AllocError>
     requires { IsThin (design_of flat.now) }
-    ensures { IfOk result (λ inputs. inputs.items ≡ data_inputs (design_of flat.now) clock) }
+    ensures { IfOk result (λ inputs. inputs.items ≡ inputs_among resets.now clock (design_of flat.now).signals) }
 {
     let mut inputs = Vec::new(alloc);
     for n in 0..flat.signal_count() {
         let signal = flat.signal(n);
         if is_data_input(signal, clock) {
-            inputs.push(input_of(alloc, signal)?)?;
+            inputs.push(input_of(alloc, signal, resets)?)?;
         }
     }
     Ok(inputs)
@@ -35,16 +41,24 @@ fn is_data_input(signal: &Signal, clock: u32) -> bool
     signal.input && signal.first_bit != clock
 }
 
-/// A signal's name and length.
-fn input_of(alloc: Global, signal: &Signal) -> Result<Input, AllocError>
+/// A signal's name and length, and whether it is a reset input.
+fn input_of(alloc: Global, signal: &Signal, resets: &[u32]) -> Result<Input, AllocError>
     requires { range_or_one signal.now.range ≤ 64 }
-    ensures { IfOk result (λ input. (n : ℕ) → input ≡ input_of (signal_of n signal.now)) }
+    ensures { IfOk result (λ input. (n : ℕ) → input ≡ input_of resets.now (signal_of n signal.now)) }
 {
     let name = String::from_str(alloc, signal.name.as_str())?;
     Ok(Input {
         name: Name::new(name),
         length: length_of(signal.range),
+        reset: contains(resets, signal.first_bit),
     })
+}
+
+/// Whether the bit is one of these.
+fn contains(bits: &[u32], bit: u32) -> bool
+    ensures { result ≡ contains bits.now bit }
+{
+    bits.iter().any(|b| bit == *b)
 }
 
 /// How many bits a signal has.

@@ -18,7 +18,7 @@ use Rattle.vs_flat.specs.Thin.{is_scalar, IsThin}
 use Rattle.vs_stim.specs.declared.input.Input.{Input}
 use Rattle.vs_stim.specs.Header.{IsInput, lengths}
 use Rattle.vs_engine.specs.Compiled.{data_bits}
-use Rattle.vs_load.specs.Inputs.{is_data_input, input_of, inputs_among, data_inputs}
+use Rattle.vs_rounds.specs.Inputs.{is_data_input, input_of, inputs_among}
 
 some_is : {A : Type 0} (x y : A) → Some x ≡ Some y → x ≡ y
 some_is x y e = cc
@@ -61,32 +61,32 @@ pub scalar_at : (a : Arena) → IsThin (design_of a) → (n : ℕ) (s : F.Signal
 scalar_at a thin n s e = eqb-true (signal_length (signal_of n s)) 1 (all_at is_scalar (arena_signals a) n (signal_of n s) thin.signals (signal_there a n s e))
 
 -- one more signal, which may be a data input
-pub more : (clock : ℕ) (a : Arena) (n : ℕ) (s : F.Signal) (test : Bool) (so_far new : List Input) → slice_get a.signals n ≡ Some s
+pub more : (resets : List ℕ) (clock : ℕ) (a : Arena) (n : ℕ) (s : F.Signal) (test : Bool) (so_far new : List Input) → slice_get a.signals n ≡ Some s
     → test ≡ is_data_input clock (signal_of n s)
-    → new ≡ so_far ++ (if test then (input_of (signal_of n s) ∷ []) else [])
-    → so_far ++ inputs_among clock (drop n (arena_signals a)) ≡ inputs_among clock (arena_signals a)
-    → new ++ inputs_among clock (drop (n + 1) (arena_signals a)) ≡ inputs_among clock (arena_signals a)
-more clock a n s test so_far new at is pushed so_far_is =
-    ap (λ (xs : List Input). xs ++ inputs_among clock rest) pushed
-    ∙ append_assoc so_far (if test then (input_of (signal_of n s) ∷ []) else []) (inputs_among clock rest)
-    ∙ ap (λ (xs : List Input). so_far ++ xs) (one test is ∙ ap (inputs_among clock) (sym (drop_some (arena_signals a) n (signal_of n s) (signal_there a n s at))))
+    → new ≡ so_far ++ (if test then (input_of resets (signal_of n s) ∷ []) else [])
+    → so_far ++ inputs_among resets clock (drop n (arena_signals a)) ≡ inputs_among resets clock (arena_signals a)
+    → new ++ inputs_among resets clock (drop (n + 1) (arena_signals a)) ≡ inputs_among resets clock (arena_signals a)
+more resets clock a n s test so_far new at is pushed so_far_is =
+    ap (λ (xs : List Input). xs ++ inputs_among resets clock rest) pushed
+    ∙ append_assoc so_far (if test then (input_of resets (signal_of n s) ∷ []) else []) (inputs_among resets clock rest)
+    ∙ ap (λ (xs : List Input). so_far ++ xs) (one test is ∙ ap (inputs_among resets clock) (sym (drop_some (arena_signals a) n (signal_of n s) (signal_there a n s at))))
     ∙ so_far_is
   where
     rest : List Signal
     rest = drop (n + 1) (arena_signals a)
 
-    one : (t : Bool) → t ≡ is_data_input clock (signal_of n s) → (if t then (input_of (signal_of n s) ∷ []) else []) ++ inputs_among clock rest ≡ inputs_among clock (signal_of n s ∷ rest)
-    one t e = ap (λ (c : Bool). (if c then (input_of (signal_of n s) ∷ []) else []) ++ inputs_among clock rest) e ∙ both (is_data_input clock (signal_of n s))
+    one : (t : Bool) → t ≡ is_data_input clock (signal_of n s) → (if t then (input_of resets (signal_of n s) ∷ []) else []) ++ inputs_among resets clock rest ≡ inputs_among resets clock (signal_of n s ∷ rest)
+    one t e = ap (λ (c : Bool). (if c then (input_of resets (signal_of n s) ∷ []) else []) ++ inputs_among resets clock rest) e ∙ both (is_data_input clock (signal_of n s))
       where
-        both : (c : Bool) → (if c then (input_of (signal_of n s) ∷ []) else []) ++ inputs_among clock rest ≡ map input_of (if c then (signal_of n s ∷ filter (is_data_input clock) rest) else filter (is_data_input clock) rest)
+        both : (c : Bool) → (if c then (input_of resets (signal_of n s) ∷ []) else []) ++ inputs_among resets clock rest ≡ map (input_of resets) (if c then (signal_of n s ∷ filter (is_data_input clock) rest) else filter (is_data_input clock) rest)
         both true = refl
         both false = refl
 
-pub all : (clock : ℕ) (a : Arena) (n count : ℕ) (so_far : List Input) → count ≡ length a.signals → count ≤ n
-    → so_far ++ inputs_among clock (drop n (arena_signals a)) ≡ inputs_among clock (arena_signals a) → so_far ≡ data_inputs (design_of a) clock
-all clock a n count so_far is past so_far_is =
+pub all : (resets : List ℕ) (clock : ℕ) (a : Arena) (n count : ℕ) (so_far : List Input) → count ≡ length a.signals → count ≤ n
+    → so_far ++ inputs_among resets clock (drop n (arena_signals a)) ≡ inputs_among resets clock (arena_signals a) → so_far ≡ inputs_among resets clock (design_of a).signals
+all resets clock a n count so_far is past so_far_is =
     let end : length (arena_signals a) ≤ n = omega (arith, is, past, length-signals_from 0 a.signals) in
-    sym (append-nil so_far) ∙ ap (λ r. so_far ++ r) (sym (ap (inputs_among clock) (drop_of_length-le (arena_signals a) end))) ∙ so_far_is
+    sym (append-nil so_far) ∙ ap (λ r. so_far ++ r) (sym (ap (inputs_among resets clock) (drop_of_length-le (arena_signals a) end))) ∙ so_far_is
 
 -- ---- of scalars each is an input, and has one bit
 
@@ -102,32 +102,32 @@ sum-cons x xs =
     ap (λ n. fold ◌+◌ n xs) at ∙ fold_from x 0 xs
 
 -- a scalar is an input of one bit
-one_bit : (s : Signal) → is_scalar s ≡ true → IsInput (input_of s)
-one_bit s h =
+one_bit : (resets : List ℕ) (s : Signal) → is_scalar s ≡ true → IsInput (input_of resets s)
+one_bit resets s h =
     let one : signal_length s ≡ 1 = eqb-true (signal_length s) 1 h in
     record { some = omega (arith, one); at_most_64 = omega (arith, one) }
 
-all_one : (clock : ℕ) (ss : List Signal) → list_all is_scalar ss ≡ true → All IsInput (inputs_among clock ss)
-all_one clock [] h = All-nil IsInput
-all_one clock (s ∷ ss) h =
+all_one : (resets : List ℕ) (clock : ℕ) (ss : List Signal) → list_all is_scalar ss ≡ true → All IsInput (inputs_among resets clock ss)
+all_one resets clock [] h = All-nil IsInput
+all_one resets clock (s ∷ ss) h =
     let parts = and_parts (is_scalar s) (list_all is_scalar ss) h in
-    here (is_data_input clock s) parts.0 (all_one clock ss parts.1)
+    here (is_data_input clock s) parts.0 (all_one resets clock ss parts.1)
   where
-    here : (c : Bool) → is_scalar s ≡ true → All IsInput (inputs_among clock ss) → All IsInput (map input_of (if c then (s ∷ filter (is_data_input clock) ss) else filter (is_data_input clock) ss))
-    here true one rest = All-cons IsInput (input_of s) (inputs_among clock ss) (one_bit s one) rest
+    here : (c : Bool) → is_scalar s ≡ true → All IsInput (inputs_among resets clock ss) → All IsInput (map (input_of resets) (if c then (s ∷ filter (is_data_input clock) ss) else filter (is_data_input clock) ss))
+    here true one rest = All-cons IsInput (input_of resets s) (inputs_among resets clock ss) (one_bit resets s one) rest
     here false one rest = rest
 
 -- the bits of the inputs among these signals without the clock's
 abbrev bits_among : ℕ → List Signal → List ℕ
 bits_among clock ss = without (signals_bits (filter is_input ss)) (clock ∷ [])
 
-bits_are : (clock : ℕ) (ss : List Signal) → list_all is_scalar ss ≡ true → sum (lengths (inputs_among clock ss)) ≡ length (bits_among clock ss)
-bits_are clock [] h = refl
-bits_are clock (s ∷ ss) h =
+bits_are : (resets : List ℕ) (clock : ℕ) (ss : List Signal) → list_all is_scalar ss ≡ true → sum (lengths (inputs_among resets clock ss)) ≡ length (bits_among clock ss)
+bits_are resets clock [] h = refl
+bits_are resets clock (s ∷ ss) h =
     let parts = and_parts (is_scalar s) (list_all is_scalar ss) h in
     let one = eqb-true (signal_length s) 1 parts.0 in
     one_more s.input (s.first == clock) one
-    ∙ ap (λ (n : ℕ). count (s.input && not (s.first == clock)) + n) (bits_are clock ss parts.1)
+    ∙ ap (λ (n : ℕ). count (s.input && not (s.first == clock)) + n) (bits_are resets clock ss parts.1)
     ∙ sym (one_less s.input one)
   where
     count : Bool → ℕ
@@ -141,10 +141,10 @@ bits_are clock (s ∷ ss) h =
     next n = omega arith
 
     one_more : (i c : Bool) → signal_length s ≡ 1
-        → sum (lengths (map input_of (if i && not c then (s ∷ filter (is_data_input clock) ss) else filter (is_data_input clock) ss))) ≡ count (i && not c) + sum (lengths (inputs_among clock ss))
-    one_more true true e = none (sum (lengths (inputs_among clock ss)))
-    one_more true false e = sum-cons (signal_length s) (lengths (inputs_among clock ss)) ∙ ap (λ n. n + sum (lengths (inputs_among clock ss))) e
-    one_more false c e = none (sum (lengths (inputs_among clock ss)))
+        → sum (lengths (map (input_of resets) (if i && not c then (s ∷ filter (is_data_input clock) ss) else filter (is_data_input clock) ss))) ≡ count (i && not c) + sum (lengths (inputs_among resets clock ss))
+    one_more true true e = none (sum (lengths (inputs_among resets clock ss)))
+    one_more true false e = sum-cons (signal_length s) (lengths (inputs_among resets clock ss)) ∙ ap (λ n. n + sum (lengths (inputs_among resets clock ss))) e
+    one_more false c e = none (sum (lengths (inputs_among resets clock ss)))
 
     kept : (c : Bool) (rest : List ℕ) → length (if not (c || false) then (s.first ∷ rest) else rest) ≡ count (not c) + length rest
     kept true rest = none (length rest)
@@ -155,11 +155,11 @@ bits_are clock (s ∷ ss) h =
     one_less true e = ap (λ n. length (without (count_from s.first n ++ signals_bits (filter is_input ss)) (clock ∷ []))) e ∙ kept (s.first == clock) (bits_among clock ss)
     one_less false e = none (length (bits_among clock ss))
 
-pub are_inputs : (a : Arena) (clock : ℕ) → IsThin (design_of a) → All IsInput (data_inputs (design_of a) clock)
-are_inputs a clock thin = all_one clock (arena_signals a) thin.signals
+pub are_inputs : (resets : List ℕ) (a : Arena) (clock : ℕ) → IsThin (design_of a) → All IsInput (inputs_among resets clock (design_of a).signals)
+are_inputs resets a clock thin = all_one resets clock (arena_signals a) thin.signals
 
-pub bits_of_inputs : (a : Arena) (clock : ℕ) → IsThin (design_of a) → sum (lengths (inputs_among clock (arena_signals a))) ≡ length (data_bits (design_of a) clock)
-bits_of_inputs a clock thin = bits_are clock (arena_signals a) thin.signals
+pub bits_of_inputs : (resets : List ℕ) (a : Arena) (clock : ℕ) → IsThin (design_of a) → sum (lengths (inputs_among resets clock (design_of a).signals)) ≡ length (data_bits (design_of a) clock)
+bits_of_inputs resets a clock thin = bits_are resets clock (arena_signals a) thin.signals
 
 -- ---- the clock's signal
 

@@ -4,7 +4,7 @@ ghost use Rattle.std.specs.Prelude.{◌≡◌, ◌≤◌, ℕ, Err, IfOk, length
 ghost use Rattle.vs_design.specs.Designs.{Design};
 ghost use Rattle.vs_front.specs.Accepted.{IsAcceptedText};
 ghost use Rattle.vs_front.specs.declared.error.AcceptError.TheVariants.{Refused};
-ghost use Rattle.vs_load.specs.Loaded.{IsLoaded};
+ghost use Rattle.vs_setup.specs.Loaded.{IsLoaded};
 
 use crate::inputs::data_inputs;
 use std::alloc::Global;
@@ -42,7 +42,7 @@ pub fn load<W: Lanes>(
     let bit = accepted.flat().signal(accepted.clock()).first_bit;
     let compiled = compile(alloc, accepted.flat(), accepted.order(), bit)?;
     let engine = Engine::new(alloc, compiled)?;
-    let inputs = data_inputs(alloc, accepted.flat(), bit)?;
+    let inputs = data_inputs(alloc, accepted.flat(), bit, accepted.reset_inputs())?;
     Ok(Loaded {
         accepted,
         engine,

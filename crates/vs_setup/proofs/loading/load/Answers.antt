@@ -5,6 +5,7 @@ use Rattle.vs_flat.specs.DesignOf.{design_of}
 use Rattle.vs_flat.specs.Lawful.{IsLawful}
 use Rattle.vs_flat.specs.Thin.{IsThin}
 use Rattle.vs_design.specs.Clocks.{clock_input}
+use Rattle.vs_design.specs.Resets.{reset_inputs}
 use Rattle.vs_front.specs.Lent.{Acceptance}
 use Rattle.vs_front.specs.Accepted.{IsAcceptedText}
 use Rattle.vs_design.specs.Levels.{is_level_order}
@@ -12,9 +13,9 @@ use Rattle.std.specs.Prelude.{sum}
 use Rattle.vs_design.specs.Networks.{network_of}
 use Rattle.vs_stim.specs.Header.{IsInput, lengths}
 use Rattle.vs_engine.specs.Compiled.{IsAcceptedAt, IsProgramOf}
-use Rattle.vs_load.specs.Inputs.{data_inputs}
-use Rattle.vs_load.proofs.Signals.{clock_below, clock_first, are_inputs, bits_of_inputs}
-use Rattle.vs_load.proofs.loading.load.Goals as goal
+use Rattle.vs_rounds.specs.Inputs.{inputs_among, data_inputs}
+use Rattle.vs_setup.proofs.Signals.{clock_below, clock_first, are_inputs, bits_of_inputs}
+use Rattle.vs_setup.proofs.loading.load.Goals as goal
 
 pub returns-in_err-accepted-clause-refused : goal.returns-in_err-accepted-clause-refused
 returns-in_err-accepted-clause-refused g c = λ e d a. c.in_err-accepted.ensures.refused (search rules) d a
@@ -58,7 +59,11 @@ returns-clause-loaded g c =
     let first : accepted.accepted.clock.first ≡ bit = first_is c.in_ok-accepted.accepted c.args.text.now c.args.top.now c.args.clock.now c.in_ok-accepted.ensures.accepted c.in_ok-accepted.ensures.clock c.flat.result.now c.clock.result c.signal.result.now c.flat.ensures c.clock.ensures c.signal.ensures in
     let compiled : IsProgramOf (design_of a.flat) bit c.in_ok-compiled.compiled = subst (λ (f : Arena). IsProgramOf (design_of f) bit c.in_ok-compiled.compiled) c.flat-2.ensures c.in_ok-compiled.ensures in
     let program : IsProgramOf (design_of a.flat) bit c.in_ok-engine.engine.program = subst (IsProgramOf (design_of a.flat) bit) (sym c.in_ok-engine.ensures.program) compiled in
-    let inputs : c.in_ok-inputs.inputs.items ≡ data_inputs (design_of a.flat) bit = subst (λ (f : Arena). c.in_ok-inputs.inputs.items ≡ data_inputs (design_of f) bit) c.flat-3.ensures c.in_ok-inputs.ensures in
+    let resets : c.reset_inputs.result.now ≡ reset_inputs (design_of a.flat) bit =
+    c.reset_inputs.ensures ∙ c.in_ok-accepted.ensures.resets accepted.accepted.clock accepted.accepted.clock_found ∙ ap (reset_inputs (design_of a.flat)) first in
+    let inputs : c.in_ok-inputs.inputs.items ≡ data_inputs (design_of a.flat) bit =
+    c.in_ok-inputs.ensures ∙ ap (λ (f : Arena). inputs_among c.reset_inputs.result.now bit (design_of f).signals) c.flat-3.ensures
+    ∙ ap (λ (bits : List ℕ). inputs_among bits bit (design_of a.flat).signals) resets in
     let thin = c.in_ok-accepted.ensures.thin in
     record {
       accepted = accepted;
@@ -66,6 +71,6 @@ returns-clause-loaded g c =
       program = subst (λ n. IsProgramOf (design_of a.flat) n c.in_ok-engine.engine.program) (sym first) program;
       idle = λ i h. c.in_ok-engine.ensures.idle (design_of a.flat) bit i compiled h ∙ ap (λ n. (network_of (design_of a.flat) n).idle) (sym first);
       inputs_are = inputs ∙ ap (data_inputs (design_of a.flat)) (sym first);
-      are_inputs = subst (All IsInput) (sym inputs) (are_inputs a.flat bit thin);
-      bits = ap (λ is. sum (lengths is)) inputs ∙ bits_of_inputs a.flat bit thin ∙ ap length (sym program.inputs);
+      are_inputs = subst (All IsInput) (sym inputs) (are_inputs (reset_inputs (design_of a.flat) bit) a.flat bit thin);
+      bits = ap (λ is. sum (lengths is)) inputs ∙ bits_of_inputs (reset_inputs (design_of a.flat) bit) a.flat bit thin ∙ ap length (sym program.inputs);
     }

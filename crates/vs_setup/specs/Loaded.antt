@@ -9,7 +9,7 @@ use Rattle.vs_engine.specs.Compiled.{IsProgramOf}
 use Rattle.vs_engine.specs.Lanes.{Running, state}
 use Rattle.vs_front.specs.Lent.{Acceptance}
 use Rattle.vs_front.specs.Accepted.{IsAcceptedText}
-use Rattle.vs_load.specs.Inputs.{data_inputs}
+use Rattle.vs_rounds.specs.Inputs.{data_inputs}
 
 -- The text is accepted as this design, and the engine runs it: in each of its lanes, of which there are so many and which `lane` reads, the bits
 -- have the values that they have before anything writes them.

@@ -1,0 +1,268 @@
+-- The inputs of resets are known in every vector of a valid stimulus.
+use Rattle.std.proofs.Common.{◌≡◌, ◌<◌, ◌≤◌, ◌+◌, ◌∙◌, ◌==◌, ◌&&◌, ◌||◌, ℕ, zero, suc, Bool, true, false, not, if◌then◌else◌, List, [], ◌∷◌, ◌++◌, length, map, filter, find, sym, ap, refl, subst, arith, Option, Some, None, inl, inr, ◌⊎◌, All, sum}
+use Rattle.std.specs.List.{list_any}
+use Rattle.std.proofs.lemmas.Bool.{and_parts, eqb-true, eq-eqb}
+use Rattle.std.proofs.lemmas.Bool.Decides.{nat_tests}
+use Rattle.std.proofs.lemmas.Option.{same_Some}
+use Rattle.vs_four.specs.declared.Bit4.{Bit4}
+use Rattle.vs_four.specs.declared.Bit4.TheVariants.{X}
+use Rattle.vs_four.specs.Tables.{is_known}
+use Rattle.vs_four.specs.Logic.{BitList, map2}
+use Rattle.vs_net.specs.Network.{State, Reset, put, write_all}
+use Rattle.vs_net.specs.Network as N
+use Rattle.vs_net.specs.Lawful.{IsKnown}
+use Rattle.vs_net.specs.Laws.{HasKnownResets, AreKnownResets}
+use Rattle.vs_design.specs.Expressions.{Signal, signal_length}
+use Rattle.vs_design.specs.Statements.{Statement}
+use Rattle.vs_design.specs.Designs.{Event, Design, Process, Continuous, Always, is_clocked, top_inputs}
+use Rattle.vs_design.specs.Values.{count_from, bits_of_signal}
+use Rattle.vs_design.specs.Footprints.{contains, signals_bits}
+use Rattle.vs_design.specs.Elaborated.{have_bits_from}
+use Rattle.vs_design.specs.Clocks.{Events, ByClock, ByBoth, clock_nets, root_of, may_reset, first_of, one_bit_inputs}
+use Rattle.vs_design.specs.Resets.{reset_branch, reset_with, reset_by, reset_of, has_root, reset_inputs}
+use Rattle.vs_design.specs.Accepted.{IsAcceptedDesign}
+use Rattle.vs_design.specs.Networks.{events_in, block_process, process_of, writer_of, at_or_input, network_of}
+use Rattle.vs_engine.specs.Compiled.{data_bits}
+use Rattle.vs_stim.specs.declared.input.Input.{Input}
+use Rattle.vs_stim.specs.Header.{lengths}
+use Rattle.vs_stim.specs.Row.{sizes}
+use Rattle.vs_stim.specs.Vectors.{all_known}
+use Rattle.vs_stim.specs.Laws.{known_in_resets}
+use Rattle.vs_rounds.specs.Drives.{Vector, bits_of, write_to, vector_state}
+use Rattle.vs_rounds.specs.Inputs.{is_data_input, input_of, AreDataInputs}
+use Rattle.vs_rounds.proofs.Settled.{length-count_from}
+use Rattle.vs_rounds.proofs.Known.{IsApart, AreApart, first_is, apart_past, data_bits_are, inputs_fit, bits_long, known_bit, or_true, contains_front, skip_bit}
+
+-- ---- the input of a reset is a reset input of the design
+
+found_here : (test : ℕ → Bool) (x : ℕ) (xs : List ℕ) (i : ℕ) (b : Bool) → (if b then Some x else find test xs) ≡ Some i → (find test xs ≡ Some i → contains xs i ≡ true) → contains (x ∷ xs) i ≡ true
+found_here test x xs i true h rest =
+    let is : x ≡ i = same_Some x i h in
+    ap (λ (e : Bool). e || contains xs i) (eq-eqb i x (sym is))
+found_here test x xs i false h rest = ap (λ (e : Bool). (i == x) || e) (rest h) ∙ or_true (i == x)
+
+-- what is found is there
+found_in : (test : ℕ → Bool) (xs : List ℕ) (i : ℕ) → find test xs ≡ Some i → contains xs i ≡ true
+found_in test [] i h = absurd (cc)
+found_in test (x ∷ xs) i h = found_here test x xs i (test x) h (found_in test xs i)
+
+kept_here : (x : ℕ) (xs : List ℕ) (i : ℕ) (t e : Bool) → (i == x) ≡ e → (e ≡ true → t ≡ true) → (e ≡ false → contains xs i ≡ true) → contains (if t then x ∷ xs else xs) i ≡ true
+kept_here x xs i true true is first later = ap (λ (e : Bool). e || contains xs i) is
+kept_here x xs i true false is first later = ap (λ (e : Bool). e || contains xs i) is ∙ later refl
+kept_here x xs i false true is first later = absurd (cc (first refl))
+kept_here x xs i false false is first later = later refl
+
+-- what passes a test stays
+kept_in : (test : ℕ → Bool) (xs : List ℕ) (i : ℕ) → contains xs i ≡ true → test i ≡ true → contains (filter test xs) i ≡ true
+kept_in test [] i h k = absurd (cc)
+kept_in test (x ∷ xs) i h k =
+    kept_here x (filter test xs) i (test x) (i == x) refl
+    (λ e. ap test (sym (eqb-true i x e)) ∙ k)
+    (λ e. kept_in test xs i (ap (λ (b : Bool). b || contains xs i) (sym e) ∙ h) k)
+
+-- the reset has its input by the root of a net
+with_root : (e : Event) (root : Option ℕ) (branch : Option Statement) (r : Reset) → reset_with e root branch ≡ Some r → root ≡ Some r.input
+with_root e None branch r h = absurd (cc)
+with_root e (Some i) None r h = absurd (cc)
+with_root e (Some i) (Some taken) r h = ap (λ (x : Reset). Some x.input) (same_Some _ r h)
+
+by_root : (roots : ℕ → Option ℕ) (events : Option Events) (s : Statement) (r : Reset) → reset_by roots events s ≡ Some r → (net : ℕ) × (roots net ≡ Some r.input)
+by_root roots None s r h = absurd (cc)
+by_root roots (Some (ByClock clock)) s r h = absurd (cc)
+by_root roots (Some (ByBoth clock reset)) s r h = (reset.signal.first, with_root reset (roots reset.signal.first) (reset_branch reset.edge reset.signal.first s) r h)
+
+-- the input is at the root of a reset of one of these processes, and may be one
+abbrev IsRoot : Design → ℕ → List Process → ℕ → Type 0
+IsRoot d clock ps i = (list_any (λ p. has_root i (reset_of d clock p)) ps ≡ true) × (contains (one_bit_inputs d clock) i ≡ true)
+
+block_root : (d : Design) (clock : ℕ) (clocked : Bool) (place : ℕ) (star : Bool) (events : List Event) (s : Statement) (ps : List Process) (r : Reset)
+    → N.reset_of (block_process d clock clocked (Always place star events s) events s) ≡ Some r → IsRoot d clock (Always place star events s ∷ ps) r.input
+block_root d clock true place star events s ps r h =
+    let root = by_root (root_of d clock) (events_in d clock events) s r h in
+    let own : has_root r.input (reset_of d clock (Always place star events s)) ≡ true = ap (has_root r.input) h ∙ eq-eqb r.input r.input refl in
+    (ap (λ (e : Bool). e || list_any (λ p. has_root r.input (reset_of d clock p)) ps) own, found_in (λ i. contains (clock_nets d i) root.0) (one_bit_inputs d clock) r.input root.1)
+block_root d clock false place star events s ps r h = absurd (cc)
+
+no_writer : (clock : ℕ) (ss : List Signal) (p : ℕ) (r : Reset) → N.reset_of (at_or_input (map (writer_of clock) ss) p) ≡ Some r → ⊥
+no_writer clock [] p r h = cc
+no_writer clock (s ∷ ss) zero r h = by_clock (s.first == clock) h
+  where
+    by_clock : (b : Bool) → N.reset_of (if b then N.Clock clock else N.Input (bits_of_signal s)) ≡ Some r → ⊥
+    by_clock true h = cc
+    by_clock false h = cc
+no_writer clock (s ∷ ss) (suc p) r h = no_writer clock ss p r h
+
+root_among : (d : Design) (clock : ℕ) (ps : List Process) (ss : List Signal) (p : ℕ) (r : Reset) → N.reset_of (at_or_input (map (process_of d clock) ps ++ map (writer_of clock) ss) p) ≡ Some r → IsRoot d clock ps r.input
+root_among d clock [] ss p r h = absurd (no_writer clock ss p r h)
+root_among d clock (Continuous place port target_place target e ∷ ps) ss zero r h = absurd (cc)
+root_among d clock (Always place star events s ∷ ps) ss zero r h = block_root d clock (is_clocked (Always place star events s)) place star events s ps r h
+root_among d clock (q ∷ ps) ss (suc p) r h =
+    let later = root_among d clock ps ss p r h in
+    (ap (λ (e : Bool). has_root r.input (reset_of d clock q) || e) later.0 ∙ or_true (has_root r.input (reset_of d clock q)), later.1)
+
+-- ---- a one-bit input has a bit of its own
+
+-- the bits of the one-bit inputs among these signals
+abbrev firsts : ℕ → List Signal → List ℕ
+firsts clock ss = map first_of (filter (may_reset clock) (filter (λ s. s.input) ss))
+
+-- the bit is this signal's, or that of a later one
+first_or_later : (clock b : ℕ) (s : Signal) (ss : List Signal) → contains (firsts clock (s ∷ ss)) b ≡ true
+    → ((s.first ≡ b) × (s.input ≡ true) × (may_reset clock s ≡ true)) ⊎ (contains (firsts clock ss) b ≡ true)
+first_or_later clock b s ss h = by_input s.input refl h
+  where
+    inputs : List Signal
+    inputs = filter (λ x. x.input) ss
+
+    by_bit : (e : Bool) → (b == s.first) ≡ e → s.input ≡ true → may_reset clock s ≡ true → (e || contains (map first_of (filter (may_reset clock) inputs)) b) ≡ true
+        → ((s.first ≡ b) × (s.input ≡ true) × (may_reset clock s ≡ true)) ⊎ (contains (map first_of (filter (may_reset clock) inputs)) b ≡ true)
+    by_bit true e is may h = inl (sym (eqb-true b s.first e), is, may)
+    by_bit false e is may h = inr h
+
+    by_reset : (m : Bool) → may_reset clock s ≡ m → s.input ≡ true → contains (map first_of (if m then s ∷ filter (may_reset clock) inputs else filter (may_reset clock) inputs)) b ≡ true
+        → ((s.first ≡ b) × (s.input ≡ true) × (may_reset clock s ≡ true)) ⊎ (contains (map first_of (filter (may_reset clock) inputs)) b ≡ true)
+    by_reset true may is h = by_bit (b == s.first) refl is may h
+    by_reset false may is h = inr h
+
+    by_input : (i : Bool) → s.input ≡ i → contains (map first_of (filter (may_reset clock) (if i then s ∷ inputs else inputs))) b ≡ true
+        → ((s.first ≡ b) × (s.input ≡ true) × (may_reset clock s ≡ true)) ⊎ (contains (map first_of (filter (may_reset clock) inputs)) b ≡ true)
+    by_input true is h = by_reset (may_reset clock s) refl is h
+    by_input false is h = inr h
+
+one_of : (clock : ℕ) (s : Signal) → may_reset clock s ≡ true → signal_length s ≡ 1
+one_of clock s h = eqb-true (signal_length s) 1 (and_parts (signal_length s == 1) (not (s.first == clock)) h).0
+
+firsts_behind : (clock b base : ℕ) (ss : List Signal) → have_bits_from base ss ≡ true → contains (firsts clock ss) b ≡ true → base ≤ b
+firsts_behind clock b base [] h k = absurd (cc)
+firsts_behind clock b base (s ∷ ss) h k =
+    let at = first_is base s ss h in
+    elim (first_or_later clock b s ss k) [
+      | inl here ↦ omega (arith, at.0, here.0)
+      | inr later ↦ let behind = firsts_behind clock b (base + signal_length s) ss at.1 later in omega (arith, behind)
+    ]
+
+firsts_apart : (clock b base : ℕ) (ss : List Signal) → have_bits_from base ss ≡ true → contains (firsts clock ss) b ≡ true → AreApart b ss
+firsts_apart clock b base [] h k = tt
+firsts_apart clock b base (s ∷ ss) h k =
+    let at = first_is base s ss h in
+    elim (first_or_later clock b s ss k) [
+      | inl here ↦ (inl (here.0, one_of clock s here.2), apart_past b (base + signal_length s) ss at.1 (omega (arith, at.0, here.0, one_of clock s here.2)))
+      | inr later ↦
+          let behind = firsts_behind clock b (base + signal_length s) ss at.1 later in
+          (inr (inr (omega (arith, at.0, behind))), firsts_apart clock b (base + signal_length s) ss at.1 later)
+    ]
+
+own_bit : (clock b : ℕ) (s : Signal) → s.first ≡ b → signal_length s ≡ 1 → contains (bits_of_signal s) b ≡ true
+own_bit clock b s is one =
+    ap (λ (n : ℕ). contains (count_from s.first n) b) one ∙ ap (λ (e : Bool). e || false) (eq-eqb b s.first (sym is))
+
+-- a one-bit input's bit is a data bit
+firsts_driven : (clock b : ℕ) (ss : List Signal) → contains (firsts clock ss) b ≡ true → contains (signals_bits (filter (is_data_input clock) ss)) b ≡ true
+firsts_driven clock b [] h = absurd (cc)
+firsts_driven clock b (s ∷ ss) h =
+    let those = filter (is_data_input clock) ss in
+    elim (first_or_later clock b s ss h) [
+      | inl here ↦
+          let other : not (s.first == clock) ≡ true = (and_parts (signal_length s == 1) (not (s.first == clock)) here.2).1 in
+          let is_data : is_data_input clock s ≡ true = ap (λ (i : Bool). i && not (s.first == clock)) here.1 ∙ other in
+          subst (λ (e : Bool). contains (signals_bits (if e then s ∷ those else those)) b ≡ true) (sym is_data)
+          (contains_front (bits_of_signal s) (signals_bits those) b (own_bit clock b s here.0 (one_of clock s here.2)))
+      | inr later ↦ skip_bit (is_data_input clock s) s those b (firsts_driven clock b ss later)
+    ]
+
+data_apart : (clock b : ℕ) (ss : List Signal) → AreApart b ss → AreApart b (filter (is_data_input clock) ss)
+data_apart clock b [] h = tt
+data_apart clock b (s ∷ ss) h = by_test (is_data_input clock s) (data_apart clock b ss h.1)
+  where
+    by_test : (t : Bool) → AreApart b (filter (is_data_input clock) ss) → AreApart b (if t then s ∷ filter (is_data_input clock) ss else filter (is_data_input clock) ss)
+    by_test true later = (h.0, later)
+    by_test false later = later
+
+-- ---- the values that are written to one bit
+
+-- each value for this bit is known
+abbrev known_at : ℕ → List ℕ → BitList → Bool
+known_at b [] xs = true
+known_at b (c ∷ cs) [] = true
+known_at b (c ∷ cs) (x ∷ xs) = (not (b == c) || is_known x) && known_at b cs xs
+
+known_at-append : (b : ℕ) (bs cs : List ℕ) (xs ys : BitList) → length bs ≡ length xs → known_at b bs xs ≡ true → known_at b cs ys ≡ true → known_at b (bs ++ cs) (xs ++ ys) ≡ true
+known_at-append b [] cs [] ys long h k = k
+known_at-append b [] cs (x ∷ xs) ys long h k = absurd (omega (arith, long))
+known_at-append b (c ∷ bs) cs [] ys long h k = absurd (omega (arith, long))
+known_at-append b (c ∷ bs) cs (x ∷ xs) ys long h k =
+    let p = and_parts (not (b == c) || is_known x) (known_at b bs xs) h in
+    ap (λ (y : Bool). y && known_at b (bs ++ cs) (xs ++ ys)) p.0 ∙ known_at-append b bs cs xs ys (omega (arith, long)) p.1 k
+
+known_at-all : (b : ℕ) (bs : List ℕ) (xs : BitList) → all_known xs ≡ true → known_at b bs xs ≡ true
+known_at-all b [] xs h = refl
+known_at-all b (c ∷ bs) [] h = refl
+known_at-all b (c ∷ bs) (x ∷ xs) h =
+    let p = and_parts (is_known x) (all_known xs) h in
+    ap (λ (y : Bool). (not (b == c) || y) && known_at b bs xs) p.0 ∙ ap (λ (y : Bool). y && known_at b bs xs) (or_true (not (b == c))) ∙ known_at-all b bs xs p.1
+
+known_at-none : (b first count : ℕ) (xs : BitList) → (b < first) ⊎ (first + count ≤ b) → known_at b (count_from first count) xs ≡ true
+known_at-none b first zero xs h = refl
+known_at-none b first (suc count) [] h = refl
+known_at-none b first (suc count) (x ∷ xs) h =
+    let other : (b == first) ≡ false = elim h [ inl below ↦ grind (arith, nat_tests) | inr above ↦ grind (arith, nat_tests) ] in
+    let rest = known_at-none b (suc first) count xs (elim h [ inl below ↦ inl (omega arith) | inr above ↦ inr (omega arith) ]) in
+    ap (λ (e : Bool). (not e || is_known x) && known_at b (count_from (suc first) count) xs) other ∙ rest
+
+next_at : (c : ℕ) (x : Bit4) (bs : List ℕ) (s : State) (b : ℕ) (e : Bool) → (b == c) ≡ e → (not e || is_known x) ≡ true → (contains (c ∷ bs) b ≡ true) ⊎ IsKnown (s b) → (contains bs b ≡ true) ⊎ IsKnown (put s c x b)
+next_at c x bs s b true is known h = inr (subst (λ (e : Bool). IsKnown (if e then x else s b)) (sym is) (known_bit x known))
+next_at c x bs s b false is known (inl h) = inl (subst (λ (e : Bool). (e || contains bs b) ≡ true) is h)
+next_at c x bs s b false is known (inr h) = inr (subst (λ (e : Bool). IsKnown (if e then x else s b)) (sym is) h)
+
+written_at : (bs : List ℕ) (xs : BitList) (s : State) (b : ℕ) → length bs ≡ length xs → known_at b bs xs ≡ true → (contains bs b ≡ true) ⊎ IsKnown (s b) → IsKnown (write_all s (map2 write_to bs xs) b)
+unfolding write_all
+written_at [] [] s b long known (inl h) = absurd (cc)
+written_at [] [] s b long known (inr h) = h
+written_at [] (x ∷ xs) s b long known h = absurd (omega (arith, long))
+written_at (c ∷ bs) [] s b long known h = absurd (omega (arith, long))
+written_at (c ∷ bs) (x ∷ xs) s b long known h =
+    let p = and_parts (not (b == c) || is_known x) (known_at b bs xs) known in
+    written_at bs xs (put s c x) b (omega (arith, long)) p.1 (next_at c x bs s b (b == c) refl p.0 h)
+
+-- ---- the values of the reset inputs
+
+signal_known_at : (resets : List ℕ) (b : ℕ) (s : Signal) (x : BitList) → contains resets b ≡ true → IsApart b s → (not (contains resets s.first) || all_known x) ≡ true → known_at b (bits_of_signal s) x ≡ true
+signal_known_at resets b s x on (inl own) known =
+    let is_reset : contains resets s.first ≡ true = ap (contains resets) own.0 ∙ on in
+    known_at-all b (bits_of_signal s) x (subst (λ (e : Bool). (not e || all_known x) ≡ true) is_reset known)
+signal_known_at resets b s x on (inr other) known = known_at-none b s.first (signal_length s) x other
+
+signals_known_at : (resets : List ℕ) (b : ℕ) (ss : List Signal) (v : Vector) → contains resets b ≡ true → AreApart b ss
+    → sizes v ≡ lengths (map (input_of resets) ss) → known_in_resets (map (input_of resets) ss) v ≡ true → known_at b (signals_bits ss) (bits_of v) ≡ true
+signals_known_at resets b [] v on apart fits known = refl
+signals_known_at resets b (s ∷ ss) [] on apart fits known = absurd (cc)
+signals_known_at resets b (s ∷ ss) (x ∷ v) on apart fits known =
+    let first : length x ≡ signal_length s = cc in
+    let later : sizes v ≡ lengths (map (input_of resets) ss) = cc in
+    let k = and_parts (not (contains resets s.first) || all_known x) (known_in_resets (map (input_of resets) ss) v) known in
+    known_at-append b (bits_of_signal s) (signals_bits ss) x (bits_of v) (length-count_from s.first (signal_length s) ∙ sym first)
+    (signal_known_at resets b s x on apart.0 k.0) (signals_known_at resets b ss v on apart.1 later k.1)
+
+-- a vector whose reset inputs are known has known resets
+resets_known : (d : Design) (name : List ℕ) (a : IsAcceptedDesign d name) (inputs : List Input) (v : Vector) → AreDataInputs d a.clock.first inputs → sizes v ≡ lengths inputs → known_in_resets inputs v ≡ true
+    → HasKnownResets (network_of d a.clock.first) (vector_state d a.clock.first v)
+resets_known d name a inputs v h fits known = λ p r is.
+    let clock = a.clock.first in
+    let resets = reset_inputs d clock in
+    let root = root_among d clock d.processes (top_inputs d) p r is in
+    let on : contains resets r.input ≡ true = kept_in (λ i. list_any (λ q. has_root i (reset_of d clock q)) d.processes) (one_bit_inputs d clock) r.input root.1 root.0 in
+    let apart = data_apart clock r.input d.signals (firsts_apart clock r.input 0 d.signals a.lawful.bits_numbered root.1) in
+    let those = filter (is_data_input clock) d.signals in
+    let each = signals_known_at resets r.input those v on apart (subst (λ (is : List Input). sizes v ≡ lengths is) h.inputs_are fits) (subst (λ (is : List Input). known_in_resets is v ≡ true) h.inputs_are known) in
+    let long = sym (bits_long v ∙ ap sum fits ∙ inputs_fit d name a inputs h) in
+    written_at (data_bits d clock) (bits_of v) (λ b. X) r.input long
+    (subst (λ (bs : List ℕ). known_at r.input bs (bits_of v) ≡ true) (sym (data_bits_are d name a)) each)
+    (inl (subst (λ (bs : List ℕ). contains bs r.input ≡ true) (sym (data_bits_are d name a)) (firsts_driven clock r.input d.signals root.1)))
+
+-- and so have all of these
+pub all_resets_known : (d : Design) (name : List ℕ) (a : IsAcceptedDesign d name) (inputs : List Input) (vs : List Vector) → AreDataInputs d a.clock.first inputs
+    → All (λ v. sizes v ≡ lengths inputs) vs → All (λ v. known_in_resets inputs v ≡ true) vs → AreKnownResets (network_of d a.clock.first) (map (vector_state d a.clock.first) vs)
+all_resets_known d name a inputs [] h fits known = tt
+all_resets_known d name a inputs (v ∷ vs) h fits known =
+    (resets_known d name a inputs v h (fits 0 v (omega arith)) (known 0 v (omega arith)),
+     all_resets_known d name a inputs vs h (λ i x lt. fits (suc i) x (omega (arith, lt))) (λ i x lt. known (suc i) x (omega (arith, lt))))
