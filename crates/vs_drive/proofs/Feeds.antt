@@ -11,11 +11,6 @@ use Rattle.vs_plane.specs.Lanes.{pair_lane}
 use Rattle.vs_stim.specs.Known.{Known}
 use Rattle.vs_stim.specs.Row.{sizes}
 use Rattle.vs_drive.specs.Lanes.{ended, lane_at, AreLanes}
-use Rattle.vs_desk.specs.Desk.{Contents}
-use Rattle.vs_stim.specs.declared.input.Input.{Input}
-use Rattle.vs_stim.specs.Header.{lengths}
-use Rattle.vs_drive.specs.Opened.{AreOpened}
-use Rattle.vs_drive.specs.Reading.{SameSizes}
 use Rattle.vs_drive.specs.Fed.{vector_bits, driven, driven_bit, HaveBits, IsPlaced, AreFed}
 
 -- a vector has as many bits as its values together
@@ -141,14 +136,3 @@ pub value_size : (vector now : List (List Bit4)) (value : List Bit4) (number cou
     → count ≡ length value → length (get_or vector number []) ≡ count
 value_size vector now value number count e within read size =
     ap (λ vs. length (get_or vs number [])) (sym e) ∙ ap (λ v. length v) (sym (get_or_read now number value within read [])) ∙ sym size
-
--- the lanes' vectors keep their lengths
-pub bits_kept : (n : ℕ) (olds news : List Known) → SameSizes olds news → HaveBits n olds → HaveBits n news
-bits_kept n olds news same bits = record {
-  each = λ i below. ap sum (same.each i) ∙ bits.each i (omega (arith, same.lanes));
-}
-
--- the inputs have this many bits together
-pub bits_opened : (tells : Bool) (inputs : List Input) (before after : Contents) (paths : List (List ℕ)) (ks : List Known) (n : ℕ) → sum (lengths inputs) ≡ n
-    → AreOpened tells inputs before after paths ks → HaveBits n ks
-bits_opened tells inputs before after paths ks n total h = record { each = λ i below. ap sum ((h.each i below).sizes) ∙ total }

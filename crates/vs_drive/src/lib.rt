@@ -8,6 +8,3 @@ mod reading;
 
 pub use drive::{Drive, open};
 pub use reading::Stopped;
-
-#[cfg(test)]
-mod tests;

@@ -16,6 +16,3 @@ mod vectors;
 pub use error::StimError;
 pub use input::{Column, Input, Name};
 pub use stimulus::Stimulus;
-
-#[cfg(test)]
-mod tests;

@@ -3,7 +3,7 @@ use Rattle.vs_desk.specs.Desk.{IsAttached}
 use Rattle.vs_desk.specs.declared.desk.Way.TheVariants.{Read}
 use Rattle.vs_desk.specs.MemoryDesk as memory
 use Rattle.vs_stim.specs.Known.{place_of}
-use Rattle.vs_stim.proofs.tests.read.Given as goal
+use Rattle.test_streams.proofs.stimuli.read.Given as goal
 
 -- the next vector may be asked for
 abbrev pub invariant-vectors : goal.invariant-vectors

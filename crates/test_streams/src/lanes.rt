@@ -6,10 +6,10 @@ ghost use Rattle.vs_stim.specs.Header.{IsInput, lengths};
 ghost use Rattle.vs_drive.specs.Lanes.{AreAttached};
 ghost use Rattle.vs_drive.specs.Fed.{HaveBits};
 
-use crate::{Drive, Stopped, open};
 use std::alloc::{AllocError, Global};
 use std::test::Fail;
 use vs_desk::MemoryDesk;
+use vs_drive::{Drive, Stopped, open};
 use vs_four::Bit4;
 use vs_plane::{Pair, Words};
 use vs_stim::{Input, Name, StimError};
@@ -18,20 +18,17 @@ fn text(alloc: Global, s: &str) -> Result<String, AllocError> {
     String::from_str(alloc, s)
 }
 
-// A desk that takes 5 bytes a call, with the stimuli of two lanes, the first of which ends first.
-fn desk(alloc: Global) -> Result<MemoryDesk, Fail>
+// A desk that takes 5 bytes a call, with the stimuli of two lanes.
+fn desk(alloc: Global, first: &str, second: &str) -> Result<MemoryDesk, Fail>
     ensures { IfOk result (λ desk. memory.register desk ≡ no_register) }
 {
     let mut desk = MemoryDesk::new(alloc, 5);
-    desk.add_file(text(alloc, "s")?, b"inputs a b\n1 10\n".to_vec(alloc)?)?;
-    desk.add_file(
-        text(alloc, "t")?,
-        b"inputs b a\n01 0\nz0 1\n".to_vec(alloc)?,
-    )?;
+    desk.add_file(text(alloc, "s")?, first.as_bytes().to_vec(alloc)?)?;
+    desk.add_file(text(alloc, "t")?, second.as_bytes().to_vec(alloc)?)?;
     Ok(desk)
 }
 
-// The inputs `a`, of one bit, and `b`, of two.
+// The inputs `a`, of one bit and a reset input, and `b`, of two.
 fn inputs(alloc: Global) -> Result<[Input; 2], AllocError>
     ensures each { IfOk result (All IsInput) }
     ensures bits { IfOk result (λ inputs. sum (lengths inputs) ≡ 3) }
@@ -40,7 +37,7 @@ fn inputs(alloc: Global) -> Result<[Input; 2], AllocError>
         Input {
             name: Name::new(text(alloc, "a")?),
             length: 1,
-            reset: false,
+            reset: true,
         },
         Input {
             name: Name::new(text(alloc, "b")?),
@@ -51,7 +48,7 @@ fn inputs(alloc: Global) -> Result<[Input; 2], AllocError>
 }
 
 // Opens both lanes.
-#[tactic(auto, using(crate::proofs::Feeds::bits_opened))]
+#[tactic(auto, using(crate::proofs::Bits::bits_opened))]
 fn open_both(alloc: Global, desk: &mut MemoryDesk) -> Result<Drive, Fail>
     requires { memory.register desk.old ≡ no_register }
     ensures attached { IfOk result (AreAttached (memory.register desk.new)) }
@@ -63,7 +60,7 @@ fn open_both(alloc: Global, desk: &mut MemoryDesk) -> Result<Drive, Fail>
 }
 
 // Reads a round and packs it.
-#[tactic(auto, using(crate::proofs::Feeds::bits_kept))]
+#[tactic(auto, using(crate::proofs::Bits::bits_kept))]
 fn read_round(
     drive: &mut Drive,
     desk: &mut MemoryDesk,
@@ -98,7 +95,7 @@ fn shown(alloc: Global, pairs: &[Pair<Words<1>>], lane: u32) -> Result<String, A
 #[test]
 fn two_lanes_are_read_and_packed(rt: HostRuntime) -> Result<(), Fail> {
     let alloc = rt.alloc();
-    let mut desk = desk(alloc)?;
+    let mut desk = desk(alloc, "inputs a b\n1 10\n", "inputs b a\n01 0\nz0 1\n")?;
     let mut drive = open_both(alloc, &mut desk)?;
     let mut pairs = [Pair::of_bit(Bit4::Zero); 3];
 
@@ -115,20 +112,53 @@ fn two_lanes_are_read_and_packed(rt: HostRuntime) -> Result<(), Fail> {
     Ok(())
 }
 
+// The second round stops at the first lane that is refused in it, or at a call that fails.
 #[test]
-fn a_fault_has_its_lane(rt: HostRuntime) -> Result<(), Fail> {
+fn a_lane_stops_the_others(rt: HostRuntime) -> Result<(), Fail> {
     let alloc = rt.alloc();
-    let mut desk = desk(alloc)?;
-    desk.fail_at(&[9])?;
-    let mut drive = open_both(alloc, &mut desk)?;
-    let answer = drive.read(&mut desk);
-    assert_eq!(rt;
-        answer,
-        Err(Stopped {
-            lane: 1,
-            error: StimError::ReadFault
-        })
-    );
-    assert_eq!(rt; drive.live(), [true, false].as_slice());
+    for (first, second, failing, lane, error, live) in [
+        (
+            "inputs a b\n1 10\n",
+            "inputs b a\n01 0\n\nz0 X\n",
+            None,
+            1,
+            StimError::UnknownReset { line: 4 },
+            [false, false],
+        ),
+        (
+            "inputs a b\n1 10\nz 00\n",
+            "inputs b a\n01 0\nz0 2\n",
+            None,
+            0,
+            StimError::UnknownReset { line: 3 },
+            [false, true],
+        ),
+        (
+            "inputs a b\n1 10\n0 10\n",
+            "inputs b a\n01 0\nz0 2\n",
+            None,
+            1,
+            StimError::BadVector { line: 3 },
+            [true, false],
+        ),
+        (
+            "inputs a b\n1 10\n0 10\n",
+            "inputs b a\n01 0\nz0 1\n",
+            Some(10),
+            0,
+            StimError::ReadFault,
+            [false, true],
+        ),
+    ] {
+        let mut desk = desk(alloc, first, second)?;
+        if let Some(number) = failing {
+            desk.fail_at(&[number])?;
+        }
+        let mut drive = open_both(alloc, &mut desk)?;
+        assert!(rt; drive.read(&mut desk)?, "of {second:?}");
+        let answer = drive.read(&mut desk);
+        assert_eq!(rt; answer, Err(Stopped { lane, error }), "of {second:?}");
+        assert_eq!(rt; drive.live(), live.as_slice(), "of {second:?}");
+    }
     Ok(())
 }
