@@ -2,4 +2,3 @@ pub mod Arguments
 pub mod Counts
 pub mod Runs
 pub mod Weights
-pub mod Layouts

@@ -6,8 +6,6 @@ mod laws;
 mod lists;
 mod ops;
 mod program;
-#[cfg(test)]
-mod tests;
 
 pub use kernels::AnyKernel;
 pub use laws::{sequence_law, weight_law};

@@ -34,6 +34,3 @@ pub struct Range {
     pub left: u32,
     pub right: u32,
 }
-
-#[cfg(test)]
-mod tests;

@@ -2,7 +2,6 @@ pub mod SumLaws
 pub mod OrderLaws
 pub mod Still
 pub mod ProductLaws
-pub mod Runs
 pub mod PartLaws
 pub mod CarryLaws
 pub mod SumTurns

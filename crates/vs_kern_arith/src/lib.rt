@@ -8,8 +8,6 @@ mod laws;
 mod orders;
 mod products;
 mod sums;
-#[cfg(test)]
-mod tests;
 mod words;
 
 pub use calls::{run_one, run_two};

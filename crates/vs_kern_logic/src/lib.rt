@@ -9,8 +9,6 @@ mod costs;
 mod gates;
 mod laws;
 mod reductions;
-#[cfg(test)]
-mod tests;
 
 pub use bitwise::{and, copy, not, or, xnor, xor};
 pub use calls::{run_one, run_two};

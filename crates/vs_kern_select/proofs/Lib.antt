@@ -1,4 +1,3 @@
-pub mod Runs
 pub mod ChoiceLaws
 pub mod SelectNumbers
 pub mod SelectPlaces

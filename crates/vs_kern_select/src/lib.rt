@@ -8,8 +8,6 @@ mod costs;
 mod laws;
 mod selects;
 mod shifts;
-#[cfg(test)]
-mod tests;
 
 pub use calls::{run_three, run_two};
 pub use choices::{branch, choose};

@@ -11,8 +11,6 @@ mod counting;
 mod file;
 mod pairs;
 mod rows;
-#[cfg(test)]
-mod tests;
 mod traits;
 
 pub use arrays::Words;

@@ -1,4 +1,0 @@
-use Rattle.vs_kern_arith.proofs.tests.each_kernel_is_its_operator_in_256_lanes.Given as goal
-
-abbrev pub ghosts-check_lengths : goal.ghosts-check_lengths
-ghosts-check_lengths g a = record { name = a.blank.name; parts = a.blank.parts }
