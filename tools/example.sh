@@ -1,17 +1,35 @@
 #!/usr/bin/env bash
-# Proves and builds the program, runs it on the example of crates/cyclesim/data, shows the report and the waveform, and compares the
-# waveform with the one worked by hand. From nothing it takes long, since all below is proved first.
+# Proves and builds the program where it stands, runs it on each folder of examples/, and compares the report and the waveforms with those
+# worked by hand. It shows the first example and where the program is. Its first run takes long, since all below is proved first; what was
+# proved is kept in the folders out/.
 set -eu
 top=$(cd "$(dirname "$0")/.." && pwd)
 work=$(mktemp -d)
 trap 'rm -rf "$work"' EXIT
-mkdir "$work/crates"
-cp "$top/crates.txt" "$work/"
-cp -r "$top"/crates/* "$work/crates/"
-cd "$work/crates/cyclesim"
-cp data/and.v data/s1 .
-echo 'proving and building ..' >&2
-rt run -- run --top top --clock clk and.v s1 2> "$work/log" | grep -a '^ok \|^refused ' || { tail -20 "$work/log" >&2; exit 1; }
-cat s1.vcd
-cmp s1.vcd "$top/crates/cyclesim/data/s1.expected.vcd"
-echo 'as expected'
+jobs=$(nproc)
+cd "$top"
+echo 'proving ..' >&2
+rt all check --jobs $((jobs < 4 ? jobs : 4)) > "$work/log" 2>&1 || { tail -40 "$work/log" >&2; exit 1; }
+program=$top/crates/cyclesim/out/cyclesim
+echo 'building ..' >&2
+(cd crates/cyclesim && rt run > "$work/log" 2>&1) || grep -q '^refused 1 Usage' "$work/log" || { tail -40 "$work/log" >&2; exit 1; }
+
+count=0
+for example in and lanes unknown refused refused-start; do
+    cp -r "$top/examples/$example" "$work/$example"
+    cd "$work/$example"
+    read -r _ words < command
+    # (the words of these commands have no blanks in them)
+    "$program" $words > printed || true
+    if [ "$example" = and ]; then
+        echo "> cyclesim $words"
+        cat printed s1.vcd
+    fi
+    cmp printed report
+    for wave in *.expected.vcd; do
+        [ ! -e "$wave" ] || cmp "${wave%.expected.vcd}.vcd" "$wave"
+    done
+    count=$((count + 1))
+done
+echo "$count examples as expected"
+echo "the program is $program"
