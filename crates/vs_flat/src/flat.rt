@@ -146,7 +146,7 @@ impl Flat {
         &self.processes[p as usize]
     }
 
-    /// Adds an expression that begins at this byte of the text, and answers its number. No memory is also answered where 2^32 - 1 expressions were added already.
+    /// Adds an expression whose first token in the text has this number, and answers its number. No memory is also answered where 2^32 - 1 expressions were added already.
     pub fn add_expr(&mut self, node: Node, at: u32) -> Result<u32, AllocError>
         requires { IsTrue (covers_node self.old node) }
         ensures number { IfOk result (λ n. n ≡ length self.old.nodes) }
@@ -167,7 +167,7 @@ impl Flat {
         &self.nodes[e as usize].item
     }
 
-    /// The first byte of expression n.
+    /// The number of the first token of expression n.
     pub fn expr_at(&self, n: u32) -> u32
         requires { n < length self.now.nodes }
         ensures { node_place self.now n ≡ Some result }
@@ -175,7 +175,7 @@ impl Flat {
         self.nodes[n as usize].at
     }
 
-    /// Adds a statement that begins at this byte of the text, and answers its number. No memory is also answered where 2^32 - 1 statements were added already.
+    /// Adds a statement whose first token in the text has this number, and answers its number. No memory is also answered where 2^32 - 1 statements were added already.
     pub fn add_statement(&mut self, statement: Statement, at: u32) -> Result<u32, AllocError>
         requires { IsTrue (covers_statement self.old statement) }
         ensures number { IfOk result (λ n. n ≡ length self.old.statements) }
@@ -199,7 +199,7 @@ impl Flat {
         &self.statements[s as usize].item
     }
 
-    /// The first byte of statement n.
+    /// The number of the first token of statement n.
     pub fn statement_at(&self, n: u32) -> u32
         requires { n < length self.now.statements }
         ensures { statement_place self.now n ≡ Some result }

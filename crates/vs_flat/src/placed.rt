@@ -1,6 +1,6 @@
 //! Where a part of a design begins in its text.
 
-/// An expression or a statement, and its first byte in the text.
+/// An expression or a statement, and the number of its first token in the text.
 #[derive(Drop)]
 pub struct Placed<T> {
     pub item: T,

@@ -33,7 +33,7 @@ pub struct Signal {
 /// An assign or a block.
 #[derive(Drop)]
 pub struct Process {
-    /// The first byte of its item in the text.
+    /// The number of its item's first token in the text.
     pub at: u32,
     pub kind: Kind,
 }
