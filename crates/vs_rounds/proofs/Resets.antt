@@ -263,6 +263,7 @@ resets_known d name a inputs v h fits known = λ p r is.
 pub all_resets_known : (d : Design) (name : List ℕ) (a : IsAcceptedDesign d name) (inputs : List Input) (vs : List Vector) → AreDataInputs d a.clock.first inputs
     → All (λ v. sizes v ≡ lengths inputs) vs → All (λ v. known_in_resets inputs v ≡ true) vs → AreKnownResets (network_of d a.clock.first) (map (vector_state d a.clock.first) vs)
 all_resets_known d name a inputs [] h fits known = tt
-all_resets_known d name a inputs (v ∷ vs) h fits known =
-    (resets_known d name a inputs v h (fits 0 v (omega arith)) (known 0 v (omega arith)),
-     all_resets_known d name a inputs vs h (λ i x lt. fits (suc i) x (omega (arith, lt))) (λ i x lt. known (suc i) x (omega (arith, lt))))
+all_resets_known d name a inputs (v ∷ vs) h fits known = (
+  resets_known d name a inputs v h (fits 0 v (omega arith)) (known 0 v (omega arith)),
+  all_resets_known d name a inputs vs h (λ i x lt. fits (suc i) x (omega (arith, lt))) (λ i x lt. known (suc i) x (omega (arith, lt))),
+)

@@ -12,6 +12,3 @@ pub use exit_status::status;
 pub use outcome::{Outcome, Summary};
 pub use report_line::report;
 pub use run_call::{run, simulate};
-
-#[cfg(test)]
-mod tests;

@@ -1,15 +1,11 @@
 //! Outcomes and their lines, written by hand.
 
-mod faults;
-mod lanes;
-mod runs;
-
-use crate::{Outcome, Summary, report, status};
 use std::alloc::Global;
 use std::process::Abort;
 use std::test::Fail;
 use vs_desk::MemoryDesk;
 use vs_refusal::{AtName, BareName, LineName, Refusal};
+use vs_top::{Outcome, Summary, report, status};
 
 const SUMMARY: Summary = Summary {
     lanes: 1,

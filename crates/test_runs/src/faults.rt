@@ -2,7 +2,7 @@
 
 ghost use Rattle.std.specs.Prelude.{◌<◌, ◌+◌, ◌^◌};
 
-use super::runs::{AND, desk_with, run_words, words};
+use crate::runs::{AND, desk_with, run_words, words};
 use std::alloc::{AllocError, Global};
 use std::process::Abort;
 use std::test::Fail;
@@ -43,7 +43,8 @@ fn run_failing(
 
 /// Where call n fails, one count has risen, each waveform is some first part of the whole one, and the
 /// report is the fault's line, behind some first part of the line that was lost. Where the put behind
-/// it fails too, all is the same but that this line is lost.
+/// it fails too, all is the same but that this line is lost. A read that fails before the first round
+/// has touched no waveform.
 fn expect_fault(
     rt: &impl Abort,
     alloc: Global,
@@ -77,6 +78,11 @@ fn expect_fault(
         assert_eq!(rt; (desk.losses(), desk.faults()), (0, 1), "call {n}");
         assert!(rt;
             desk.written(0).starts_with(b"refused 4 ReadFault place=1"),
+            "call {n}"
+        );
+        assert_eq!(rt;
+            desk.attached(2000).is_some(),
+            !desk.written(2000).is_empty(),
             "call {n}"
         );
     } else {

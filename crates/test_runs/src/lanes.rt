@@ -1,8 +1,8 @@
-//! Runs of many lanes, and of long lines.
+//! Runs of many lanes, of long lines, and of long designs.
 
 ghost use Rattle.std.specs.Prelude.{◌+◌, ◌<◌, ◌≤◌};
 
-use super::runs::{AND, desk_with, run_words, words};
+use crate::runs::{AND, desk_with, run_words, words};
 use std::alloc::{AllocError, Global};
 use std::process::Abort;
 use std::test::Fail;
@@ -91,6 +91,38 @@ fn long_lines(rt: HostRuntime) -> Result<(), Fail> {
     ];
     for (length, report) in rows {
         expect_long(&rt, rt.alloc(), length, report)?;
+    }
+    Ok(())
+}
+
+/// A design of so many bytes, the last of them blanks.
+fn run_long(alloc: Global, length: usize) -> Result<(u8, MemoryDesk), AllocError> {
+    let mut text = String::from_str(alloc, AND)?;
+    for _ in AND.len()..length {
+        text.push(' ')?;
+    }
+    let mut desk = desk_with(alloc, 4096, &[("s", "inputs a b\n1 0\n")])?;
+    desk.add_file(
+        String::from_str(alloc, "d.v")?,
+        text.as_bytes().to_vec(alloc)?,
+    )?;
+    let mut words = words(alloc, LINE)?;
+    words.push(String::from_str(alloc, "s")?)?;
+    let code = run_words(alloc, &mut desk, &words);
+    Ok((code, desk))
+}
+
+#[test]
+fn long_designs(rt: HostRuntime) -> Result<(), Fail> {
+    let rows = [
+        (4_194_304, 0, "ok lanes=1 vectors=1 settlings=2 size=5\n"),
+        (4_194_305, 3, "refused 3 TooLong\n"),
+    ];
+    for (length, status, report) in rows {
+        let (code, desk) = run_long(rt.alloc(), length)?;
+        assert_eq!(rt; code, status, "{length}");
+        assert_eq!(rt; desk.written(0), report.as_bytes(), "{length}");
+        assert_eq!(rt; desk.attached(2000).is_some(), status == 0, "{length}");
     }
     Ok(())
 }

@@ -1,4 +1,4 @@
-use Rattle.vs_top.proofs.tests.runs.run_words.Given as goal
+use Rattle.test_runs.proofs.runs.run_words.Given as goal
 
 abbrev pub ghosts-run_counted : goal.ghosts-run_counted
 ghosts-run_counted a = record { name = a.blank.name; parts = a.blank.parts }

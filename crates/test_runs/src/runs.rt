@@ -4,7 +4,6 @@ ghost use Rattle.std.specs.Prelude.{◌≡◌, ◌<◌, IfOk};
 ghost use Rattle.vs_desk.specs.Desk.{no_register};
 ghost use Rattle.vs_desk.specs.MemoryDesk as memory;
 
-use crate::{run, status};
 use std::alloc::{AllocError, Global};
 use std::marker::Brand;
 use std::process::Abort;
@@ -12,20 +11,31 @@ use std::sync::ledger::{Blank, Ledger};
 use std::test::Fail;
 use vs_desk::MemoryDesk;
 use vs_plane::Steps;
+use vs_top::{run, status};
 
 /// The design of all runs: one gate.
-pub(super) const AND: &str =
+pub(crate) const AND: &str =
     "module top(input clk, input a, input b, output y); assign y = a & b; endmodule\n";
 
 /// What stands before the slots of each waveform.
 const HEAD: &str =
     "$version cyclesim $end\n$timescale 1ns $end\n$scope module top $end\n$var wire 1 ! clk $end\n$var wire 1 \" a $end\n$var wire 1 # b $end\n$var wire 1 $ y $end\n$upscope $end\n$enddefinitions $end\n";
 
+/// The slots of the vector `1 0`, in its round alone.
+const FIRST: &str = "#0\n$dumpvars\n0!\n1\"\n0#\n0$\n$end\n#5\n1!\n";
+
+/// The slots of the vector `1 0`.
+const ONE: &str = "#0\n$dumpvars\n0!\n1\"\n0#\n0$\n$end\n#5\n1!\n#10\n";
+
+/// The slots of the vectors `1 0`, `1 1` and `0 1`.
+const THREE: &str =
+    "#0\n$dumpvars\n0!\n1\"\n0#\n0$\n$end\n#5\n1!\n#10\n0!\n1#\n1$\n#15\n1!\n#20\n0!\n0\"\n0$\n#25\n1!\n#30\n";
+
 /// The slots of the vectors `1 0` and `1 1`.
 const TWO: &str = "#0\n$dumpvars\n0!\n1\"\n0#\n0$\n$end\n#5\n1!\n#10\n0!\n1#\n1$\n#15\n1!\n#20\n";
 
 /// A desk with these files, by name, of which a take moves at most so many bytes.
-pub(super) fn desk_with(
+pub(crate) fn desk_with(
     alloc: Global,
     piece: usize,
     files: &[(&str, &str)],
@@ -44,7 +54,7 @@ pub(super) fn desk_with(
 }
 
 /// The words of a line.
-pub(super) fn words(alloc: Global, line: &str) -> Result<Vec<String>, AllocError> {
+pub(crate) fn words(alloc: Global, line: &str) -> Result<Vec<String>, AllocError> {
     let mut words = Vec::new(alloc);
     for word in line.split(' ') {
         words.push(String::from_str(alloc, word)?)?;
@@ -69,7 +79,7 @@ fn run_counted<L: Ledger>(
 }
 
 /// Runs the words over a new desk, and answers the status.
-pub(super) fn run_words(alloc: Global, desk: &mut MemoryDesk, words: &[String]) -> u8
+pub(crate) fn run_words(alloc: Global, desk: &mut MemoryDesk, words: &[String]) -> u8
     requires { memory.register desk.old ≡ no_register }
 {
     run_counted::<Brand>(alloc, Blank::new(1), desk, words)
@@ -85,13 +95,14 @@ fn wave(alloc: Global, slots: &str) -> Result<String, AllocError> {
     Ok(wave)
 }
 
-/// A run of a line on two stimuli, and what it is to leave: its status, its report, and the slots of lane 0.
+/// A run of a line on two stimuli, and what it is to leave: its status, its report, and the slots of lanes 0 and 1. Where lane 0 has none,
+/// no waveform was touched.
 struct Row {
     line: &'static str,
     stimuli: [&'static str; 2],
     code: u8,
     report: &'static str,
-    slots: &'static str,
+    slots: [&'static str; 2],
 }
 
 fn expect_row(rt: &impl Abort, alloc: Global, piece: usize, row: &Row) -> Result<(), Fail>
@@ -110,132 +121,161 @@ fn expect_row(rt: &impl Abort, alloc: Global, piece: usize, row: &Row) -> Result
     let line = row.line;
     assert_eq!(rt; code, row.code, "{line}");
     assert_eq!(rt; desk.written(0), row.report.as_bytes(), "{line}");
-    let wave = wave(alloc, row.slots)?;
-    assert_eq!(rt; desk.written(2000), wave.as_bytes(), "{line}");
+    let [first, second] = row.slots;
+    for (place, slots) in [(2000, first), (2001, second)] {
+        let wave = wave(alloc, slots)?;
+        assert_eq!(rt; desk.written(place), wave.as_bytes(), "{line}");
+        let touched = !first.is_empty() && (place == 2000 || !second.is_empty());
+        assert_eq!(rt; desk.attached(place).is_some(), touched, "{line}");
+    }
     Ok(())
 }
 
-const ROWS: [Row; 16] = [
+const ROWS: [Row; 18] = [
     Row {
         line: "c run --top top --clock clk d.v s0",
         stimuli: ["inputs a b\n1 0\n1 1\n", ""],
         code: 0,
         report: "ok lanes=1 vectors=2 settlings=4 size=5\n",
-        slots: TWO,
+        slots: [TWO, ""],
     },
     Row {
         line: "c run --top top --clock clk d.v s0",
         stimuli: ["# t\r\n\r\n inputs  a b\r\n1 0\r\n \t\r\n1 1", ""],
         code: 0,
         report: "ok lanes=1 vectors=2 settlings=4 size=5\n",
-        slots: TWO,
+        slots: [TWO, ""],
     },
     Row {
         line: "c run --top top --clock clk --half 1 d.v s0",
         stimuli: ["inputs b a\n0 1\n", ""],
         code: 0,
         report: "ok lanes=1 vectors=1 settlings=2 size=5\n",
-        slots: "#0\n$dumpvars\n0!\n1\"\n0#\n0$\n$end\n#1\n1!\n#2\n",
+        slots: ["#0\n$dumpvars\n0!\n1\"\n0#\n0$\n$end\n#1\n1!\n#2\n", ""],
     },
     Row {
         line: "c run --top top --clock clk d.v s0 s1",
         stimuli: ["inputs a b\n1 0\n", "inputs a b\n1 0\n1 1\n0 1\n"],
         code: 0,
         report: "ok lanes=2 vectors=4 settlings=6 size=5\n",
-        slots: "#0\n$dumpvars\n0!\n1\"\n0#\n0$\n$end\n#5\n1!\n#10\n",
+        slots: [ONE, THREE],
     },
     Row {
         line: "c run --top top --clock clk d.v s1 s0",
         stimuli: ["inputs a b\n1 0\n", "inputs a b\n1 0\n1 1\n0 1\n"],
         code: 0,
         report: "ok lanes=2 vectors=4 settlings=6 size=5\n",
-        slots: "#0\n$dumpvars\n0!\n1\"\n0#\n0$\n$end\n#5\n1!\n#10\n0!\n1#\n1$\n#15\n1!\n#20\n0!\n0\"\n0$\n#25\n1!\n#30\n",
+        slots: [THREE, ONE],
     },
     Row {
         line: "c run --top top --clock clk d.v s0",
         stimuli: ["inputs a b\n1 x\n", ""],
         code: 4,
         report: "refused 72 FirstUnknown lane=0\n",
-        slots: "",
+        slots: ["", ""],
     },
     Row {
         line: "c run --top top --clock clk d.v s0",
         stimuli: ["inputs a b\n1 0\n1 1\n1\n", ""],
         code: 4,
         report: "refused 71 BadVector lane=0 line=4\n",
-        slots: "#0\n$dumpvars\n0!\n1\"\n0#\n0$\n$end\n#5\n1!\n#10\n0!\n1#\n1$\n#15\n1!\n",
+        slots: [
+            "#0\n$dumpvars\n0!\n1\"\n0#\n0$\n$end\n#5\n1!\n#10\n0!\n1#\n1$\n#15\n1!\n",
+            "",
+        ],
     },
     Row {
         line: "c run --top top --clock clk d.v s0 s1",
         stimuli: ["inputs a b\n1 0\n1 1\n", "inputs a b\n1 0\n1\n"],
         code: 4,
         report: "refused 71 BadVector lane=1 line=3\n",
-        slots: "#0\n$dumpvars\n0!\n1\"\n0#\n0$\n$end\n#5\n1!\n",
+        slots: [FIRST, FIRST],
     },
     Row {
         line: "c run --top top --clock clk d.v s0",
         stimuli: ["", ""],
         code: 4,
         report: "refused 70 BadHeader lane=0\n",
-        slots: "",
+        slots: ["", ""],
     },
     Row {
         line: "c run --top top --clock clk d.v s1 s0",
         stimuli: ["inputs a b\n", "inputs a b\n1 0\n"],
         code: 4,
         report: "refused 73 NoVector lane=1\n",
-        slots: "",
+        slots: ["", ""],
     },
     Row {
         line: "c run --top top --clock clk d.v s s",
         stimuli: ["", ""],
         code: 2,
         report: "refused 2 SamePath first=1000 second=1001\n",
-        slots: "",
+        slots: ["", ""],
     },
     Row {
         line: "c run --top top --clock clk d.v s s.vcd",
         stimuli: ["", ""],
         code: 2,
         report: "refused 2 SamePath first=1001 second=2000\n",
-        slots: "",
+        slots: ["", ""],
     },
     Row {
         line: "c run --top top --clock clk d.v",
         stimuli: ["", ""],
         code: 2,
         report: "refused 1 Usage\n",
-        slots: "",
+        slots: ["", ""],
     },
     Row {
         line: "c run --top top --clock clk bad.v s0",
         stimuli: ["", ""],
         code: 3,
         report: "refused 21 Syntax at=0\n",
-        slots: "",
+        slots: ["", ""],
     },
     Row {
         line: "c run --top top --clock clk none.v s0",
         stimuli: ["", ""],
         code: 5,
         report: "refused 4 ReadFault place=1\n",
-        slots: "",
+        slots: ["", ""],
     },
     Row {
         line: "c run --top top --clock clk d.v s0 none",
         stimuli: ["inputs a b\n1 0\n", ""],
         code: 5,
         report: "refused 4 ReadFault place=1001\n",
-        slots: "",
+        slots: ["", ""],
+    },
+    Row {
+        line: "c run --top top --clock clk d.v s0 s1",
+        stimuli: ["inputs a b\n1 x\n", "inputs a\n"],
+        code: 4,
+        report: "refused 70 BadHeader lane=1\n",
+        slots: ["", ""],
+    },
+    Row {
+        line: "c run --top top --clock a d.v s0",
+        stimuli: ["inputs b\n1\n", ""],
+        code: 3,
+        report: "refused 21 Syntax at=0\n",
+        slots: ["", ""],
     },
 ];
+
+fn expect_rows(rt: &impl Abort, alloc: Global, piece: usize) -> Result<(), Fail>
+    requires { 0 < piece }
+{
+    for row in &ROWS {
+        expect_row(rt, alloc, piece, row)?;
+    }
+    Ok(())
+}
 
 #[test]
 fn rows_at_several_pieces(rt: HostRuntime) -> Result<(), Fail> {
     for piece in [1, 2, 4096] {
-        for row in &ROWS {
-            expect_row(&rt, rt.alloc(), piece, row)?;
-        }
+        expect_rows(&rt, rt.alloc(), piece)?;
     }
     Ok(())
 }

@@ -1,0 +1,11 @@
+//! Tests of whole runs, of designs and stimuli given as texts, against reports and waveforms written by hand.
+#![tactic(auto)]
+
+#[cfg(test)]
+mod faults;
+#[cfg(test)]
+mod lanes;
+#[cfg(test)]
+mod reports;
+#[cfg(test)]
+mod runs;
