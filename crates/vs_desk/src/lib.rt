@@ -16,6 +16,3 @@ pub use desk::{Desk, Failed, Way, put_all};
 pub use host::HostDesk;
 pub use laws::{put_law, take_law};
 pub use memory::MemoryDesk;
-
-#[cfg(test)]
-mod tests;

@@ -5,8 +5,6 @@ mod engine;
 mod laws;
 mod lowering;
 mod program;
-#[cfg(test)]
-mod tests;
 
 pub use engine::Engine;
 pub use laws::solution_law;

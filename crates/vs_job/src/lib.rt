@@ -13,6 +13,3 @@ pub use laws::{job_law, places_law, same_paths_law};
 pub use paths::{stimulus_paths, vcd_paths};
 pub use places::same_paths;
 pub use text::{Text, Texts};
-
-#[cfg(test)]
-mod tests;

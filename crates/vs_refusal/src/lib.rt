@@ -6,8 +6,6 @@ mod names;
 mod processes;
 mod refusal;
 mod report;
-#[cfg(test)]
-mod tests;
 
 pub use ending::Ending;
 pub use names::{AtName, BareName, LaneName, LineName, ProcessName};

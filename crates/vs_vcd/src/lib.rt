@@ -11,6 +11,3 @@ mod slot;
 
 pub use dump::Vcd;
 pub use laws::{parts_law, texts_law, unchanged_law};
-
-#[cfg(test)]
-mod tests;

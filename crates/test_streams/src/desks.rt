@@ -1,11 +1,12 @@
-// Each kind of desk at work.
+//! Each kind of desk at work.
+
 ghost use Rattle.std.specs.Prelude.{Bool, true};
 ghost use Rattle.vs_desk.specs.MemoryDesk as memory;
 
-use crate::{Desk, Failed, HostDesk, MemoryDesk, Way, put_all};
 use std::alloc::{AllocError, Global};
 use std::fs;
 use std::test::Fail;
+use vs_desk::{Desk, Failed, HostDesk, MemoryDesk, Way, put_all};
 
 fn text(alloc: Global, s: &str) -> Result<String, AllocError> {
     String::from_str(alloc, s)
@@ -54,7 +55,7 @@ fn memory_keeps_what_was_put(rt: HostRuntime) -> Result<(), Fail> {
     Ok(())
 }
 
-// A desk whose puts take one byte of the piece.
+/// A desk whose puts take one byte of the piece.
 #[derive(Drop)]
 struct ByteByByte {
     desk: MemoryDesk,
@@ -100,10 +101,10 @@ fn put_all_goes_on_after_a_part(rt: HostRuntime) -> Result<(), Fail> {
 #[test]
 fn host_reads_what_it_wrote(rt: HostRuntime) -> Result<(), Fail> {
     let alloc = rt.alloc();
-    let path = "vs_desk_host_test.txt";
+    let path = "test_streams_desk.txt";
     let mut desk = HostDesk::new(rt.clone()?, alloc)?;
     assert_eq!(rt;
-        desk.attach(1, text(alloc, "vs_desk_no_such_file")?, Way::Read),
+        desk.attach(1, text(alloc, "test_streams_no_such_file")?, Way::Read),
         Err(Failed)
     );
     assert_eq!(rt; (desk.faults(), desk.losses()), (1, 0));

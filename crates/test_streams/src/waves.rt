@@ -4,22 +4,23 @@ ghost use Rattle.std.specs.Prelude.{◌≡◌, ◌+◌, ◌*◌, ◌<◌, ◌≤
 ghost use Rattle.vs_desk.specs.Desk.{no_register};
 ghost use Rattle.vs_desk.specs.MemoryDesk as memory;
 ghost use Rattle.vs_flat.specs.DesignOf.{design_of};
-ghost use Rattle.vs_flat.specs.Example.{example_arena, example_ports, net};
 ghost use Rattle.vs_waves.specs.Laws.{AreBefore};
 ghost use Rattle.vs_waves.specs.Puts.{AreWritable};
 ghost use Rattle.vs_waves.specs.Wave.{IsNewWave};
 
-use crate::{LaneFault, Waves, attach, rounds_law};
 use std::alloc::{AllocError, Global};
 use std::marker::Brand;
 use std::process::Abort;
 use std::sync::ledger::{Blank, Ledger};
 use std::test::Fail;
 use vs_desk::MemoryDesk;
-use vs_engine::{Engine, compile};
-use vs_flat::{BinaryOp, Flat, Kind, Node, Port, Process, Scope, Signal, Text, example_law};
+use vs_engine::Engine;
+use vs_flat::Flat;
 use vs_four::Bit4;
+use vs_front::AcceptError;
+use vs_setup::{Loaded, load};
 use vs_plane::{Lanes, Pair, Steps, Words};
+use vs_waves::{LaneFault, Waves, attach, rounds_law};
 
 const HALF: u64 = 5;
 
@@ -27,72 +28,15 @@ const HEAD: &str = "$version cyclesim $end\n$timescale 1ns $end\n$scope module t
     $var wire 1 ! clk $end\n$var wire 1 \" a $end\n$var wire 1 # b $end\n$var wire 1 $ y $end\n\
     $upscope $end\n$enddefinitions $end\n";
 
-fn port(alloc: Global, name: &str, input: bool, first_bit: u32) -> Result<Signal, AllocError>
-    ensures { IfOk result (λ s. s ≡ net name.now input first_bit) }
+/// The design of that text, and an engine of it.
+fn loaded(alloc: Global) -> Result<Loaded<Words<1>>, AcceptError>
+    ensures { IfOk result (λ l. length l.engine.program.signals ≡ length (design_of l.accepted.flat).signals) }
 {
-    Ok(Signal {
-        name: Text::of(String::from_str(alloc, name)?),
-        scope: 0,
-        net: true,
-        input,
-        range: None,
-        signed: false,
-        first_bit,
-    })
+    let text = b"module top(input clk, input a, input b, output y); assign y = a & b; endmodule";
+    load(alloc, text, "top", "clk")
 }
 
-fn ports(alloc: Global) -> Result<Flat, AllocError>
-    ensures { IfOk result (λ f. f ≡ example_ports) }
-{
-    let mut flat = Flat::new(alloc);
-    flat.add_scope(Scope {
-        name: Text::of(String::from_str(alloc, "top")?),
-        parent: None,
-        instance: true,
-    })?;
-    flat.add_signal(port(alloc, "clk", true, 0)?)?;
-    flat.add_signal(port(alloc, "a", true, 1)?)?;
-    flat.add_signal(port(alloc, "b", true, 2)?)?;
-    flat.add_signal(port(alloc, "y", false, 3)?)?;
-    Ok(flat)
-}
-
-fn example(alloc: Global) -> Result<Flat, AllocError>
-    ensures { IfOk result (λ f. f ≡ example_arena) }
-{
-    let mut flat = ports(alloc)?;
-    let target = flat.add_expr(Node::Name { signal: 3 }, 58)?;
-    let a = flat.add_expr(Node::Name { signal: 1 }, 62)?;
-    let b = flat.add_expr(Node::Name { signal: 2 }, 66)?;
-    let expr = flat.add_expr(
-        Node::Binary {
-            op: BinaryOp::BitAnd,
-            a,
-            b,
-        },
-        62,
-    )?;
-    flat.add_process(Process {
-        at: 51,
-        kind: Kind::Assign {
-            target,
-            expr,
-            port: Port::Written,
-        },
-    })?;
-    Ok(flat)
-}
-
-// An engine of that design.
-fn example_engine(alloc: Global, flat: &Flat) -> Result<Engine<Words<1>>, AllocError>
-    requires { flat.now ≡ example_arena }
-    ensures { IfOk result (λ e. length e.program.signals ≡ length (design_of flat.now).signals) }
-{
-    example_law();
-    Engine::new(alloc, compile(alloc, flat, &[0], 0)?)
-}
-
-// A pair with these bits in its first two lanes.
+/// A pair with these bits in its first two lanes.
 fn pair(first: Bit4, second: Bit4) -> Pair<Words<1>> {
     let mut lanes = [Bit4::X; 64];
     lanes[0] = first;
@@ -100,7 +44,7 @@ fn pair(first: Bit4, second: Bit4) -> Pair<Words<1>> {
     Pair::of_lanes(&lanes)
 }
 
-// One round of both lanes.
+/// One round of both lanes.
 fn run_round<W: Lanes, L: Ledger>(
     engine: &mut Engine<W>,
     waves: &mut Waves,
@@ -130,7 +74,7 @@ fn run_round<W: Lanes, L: Ledger>(
     waves.put(engine, live, round, desk)
 }
 
-// The first lane has two vectors, and the second one has one. A round more puts nothing.
+/// The first lane has two vectors, and the second one has one. A round more puts nothing.
 fn run_all<W: Lanes, L: Ledger>(
     engine: &mut Engine<W>,
     waves: &mut Waves,
@@ -152,7 +96,7 @@ fn run_all<W: Lanes, L: Ledger>(
     run_round(engine, waves, 3, &[false, false], second, steps, desk)
 }
 
-// Waves of two lanes at their places, of which nothing was put.
+/// Waves of two lanes at their places, of which nothing was put.
 fn two_waves(alloc: Global, flat: &Flat, desk: &mut MemoryDesk) -> Result<Waves, Fail>
     requires { memory.register desk.old ≡ no_register }
     ensures count { IfOk result (λ waves. length waves ≡ 2) }
@@ -166,7 +110,7 @@ fn two_waves(alloc: Global, flat: &Flat, desk: &mut MemoryDesk) -> Result<Waves,
     Ok(Waves::new(alloc, flat, HALF, 2)?)
 }
 
-// Runs both lanes: a and b are 1 and 1 and then 0 and 1 in the first one, and 1 and 0 in the second one.
+/// Runs both lanes: a and b are 1 and 1 and then 0 and 1 in the first one, and 1 and 0 in the second one.
 fn run<L: Ledger>(
     rt: &impl Abort,
     alloc: Global,
@@ -179,10 +123,13 @@ fn run<L: Ledger>(
     requires register { memory.register desk.old ≡ no_register }
 {
     rounds_law();
-    let flat = example(alloc)?;
-    let mut engine = example_engine(alloc, &flat)?;
+    let Loaded {
+        accepted,
+        mut engine,
+        inputs: _,
+    } = loaded(alloc)?;
     let mut steps: Steps<L> = Steps::new(blank);
-    let mut waves = two_waves(alloc, &flat, desk)?;
+    let mut waves = two_waves(alloc, accepted.flat(), desk)?;
     assert_eq!(rt; engine.compiled().inputs().len(), 2);
     let first = [pair(Bit4::One, Bit4::One), pair(Bit4::One, Bit4::Zero)];
     let second = [pair(Bit4::Zero, Bit4::X), pair(Bit4::One, Bit4::X)];
@@ -202,13 +149,9 @@ fn puts_the_texts_of_two_lanes(rt: HostRuntime) -> Result<(), Fail> {
         let text = format!(in rt.alloc(); "{HEAD}{slots}")?;
         assert_eq!(rt; desk.written(place), text.as_str().as_bytes(), "at {place}");
     }
-    Ok(())
-}
 
-#[test]
-fn tells_the_lane_of_a_failed_put(rt: HostRuntime) -> Result<(), Fail> {
-    let mut desk = MemoryDesk::new(rt.alloc(), 1);
     // Calls 0 and 1 attach, 2 and 3 put round 0, 4 puts the first lane's round 1, and 5 is the second lane's last line.
+    let mut desk = MemoryDesk::new(rt.alloc(), 1);
     desk.fail_at(&[5])?;
     assert_eq!(rt;
         run::<Brand>(&rt, rt.alloc(), Blank::new(1), &mut desk)?,

@@ -1,9 +1,9 @@
 //! Words and jobs, written by hand.
 
-use crate::{Job, JobError, read_job, same_paths, stimulus_paths, vcd_paths};
 use std::alloc::{AllocError, Global};
 use std::process::Abort;
 use std::test::Fail;
+use vs_job::{Job, JobError, read_job, same_paths, stimulus_paths, vcd_paths};
 
 /// The words of a line, and so many more stimuli.
 fn words(alloc: Global, line: &str, more: usize) -> Result<Vec<String>, AllocError> {
@@ -76,36 +76,20 @@ fn jobs_of_words(rt: HostRuntime) -> Result<(), Fail> {
     Ok(())
 }
 
-fn expect_same(
-    rt: &impl Abort,
-    alloc: Global,
-    line: &str,
-    expected: Option<(u32, u32)>,
-) -> Result<(), Fail> {
-    let words = words(alloc, line, 0)?;
-    let job = read_job(alloc, &words)?;
-    assert_eq!(rt; same_paths(&job), expected, "{line}");
-    Ok(())
-}
-
 #[test]
-fn same_paths_of_jobs(rt: HostRuntime) -> Result<(), Fail> {
+fn paths_of_jobs(rt: HostRuntime) -> Result<(), Fail> {
     let rows = [
-        ("x run --top t --clock c d s u", None),
         ("x run --top t --clock c d s s", Some((1000, 1001))),
         ("x run --top t --clock c d s s.vcd", Some((1001, 2000))),
         ("x run --top t --clock c s s s", Some((1, 1000))),
         ("x run --top t --clock c s.vcd s", Some((1, 2000))),
         ("x run --top t --clock c d s.vcd a s a", Some((1001, 1003))),
+        ("x run --top t --clock c d s u", None),
     ];
     for (line, expected) in rows {
-        expect_same(&rt, rt.alloc(), line, expected)?;
+        let job = read_job(rt.alloc(), &words(rt.alloc(), line, 0)?)?;
+        assert_eq!(rt; same_paths(&job), expected, "{line}");
     }
-    Ok(())
-}
-
-#[test]
-fn paths_by_lane(rt: HostRuntime) -> Result<(), Fail> {
     let words = words(rt.alloc(), "x run --top t --clock c d s u", 0)?;
     let job = read_job(rt.alloc(), &words)?;
     let stimuli = stimulus_paths(rt.alloc(), &job)?;

@@ -1,15 +1,15 @@
 //! Worked texts, through pieces of several lengths.
 
-ghost use Rattle.std.specs.Prelude.{◌≡◌, ◌<◌, [], ◌∷◌, ◌++◌, length, IfOk, OnOk};
+ghost use Rattle.std.specs.Prelude.{◌≡◌, ◌<◌, ◌≤◌, ◌+◌, ◌^◌, [], ◌∷◌, ◌++◌, true, false, None, Some, length, IfOk, OnOk};
+ghost use Rattle.vs_flat.specs.Arena.{empty_arena, with_scope, with_signal};
 ghost use Rattle.vs_flat.specs.Example.{net, example_ports};
 ghost use Rattle.vs_vcd.specs.Dump.{Dump};
 
-use crate::Vcd;
-use crate::line::Line;
 use std::alloc::{AllocError, Global};
 use std::test::Fail;
 use vs_flat::{Flat, Scope, Signal, Text};
-use vs_four::{Bit4, Bits};
+use vs_four::{Bit4, Bits, Range};
+use vs_vcd::Vcd;
 
 const ZERO: Bit4 = Bit4::Zero;
 
@@ -33,7 +33,7 @@ fn port(alloc: Global, name: &str, input: bool, first_bit: u32) -> Result<Signal
     })
 }
 
-// `module top(input clk, input a, input b, output y);`
+/// `module top(input clk, input a, input b, output y);`
 fn ports(alloc: Global) -> Result<Flat, AllocError>
     ensures { IfOk result (λ f. f ≡ example_ports) }
 {
@@ -110,11 +110,8 @@ fn writes_the_whole_text(rt: HostRuntime) -> Result<(), Fail> {
         let text = and_text(rt.alloc(), &mut block)?;
         assert_eq!(rt; text.as_slice(), expected.as_bytes(), "by {room}");
     }
-    Ok(())
-}
 
-#[test]
-fn begins_the_head_and_slot_0_as_one(rt: HostRuntime) -> Result<(), Fail> {
+    // The head and slot 0 begun as one.
     let mut block = vec![in rt.alloc(); 0; 300]?;
     let mut text = Vec::new(rt.alloc());
     let mut vcd = Vcd::new(rt.alloc(), &ports(rt.alloc())?, 5)?;
@@ -127,33 +124,103 @@ fn begins_the_head_and_slot_0_as_one(rt: HostRuntime) -> Result<(), Fail> {
     Ok(())
 }
 
-#[test]
-fn writes_values(rt: HostRuntime) {
-    // Bits least significant first, digits most significant first.
-    let table = [
-        ([ZERO, ZERO, ZERO, ZERO], "b0 "),
-        ([ONE, X, ZERO, ZERO], "b0x1 "),
-        ([ONE, ZERO, X, ZERO], "b0x01 "),
-        ([ZERO, ZERO, X, X], "bx00 "),
-        ([ZERO, Z, Z, Z], "bz0 "),
-        ([Z, Z, Z, Z], "bz "),
-        ([ONE, ONE, ONE, ONE], "b1111 "),
-    ];
-    for (bits, expected) in table {
-        let mut line = Line::new();
-        line.push_value(Bits::of(&bits));
-        assert_eq!(rt; line.as_slice(), expected.as_bytes(), "{expected}");
-    }
-    let mut line = Line::new();
-    line.push_value(Bits::of(&[X]));
-    assert_eq!(rt; line.as_slice(), b"x".as_slice());
+/// `module top(..); reg [3:0] v;`
+fn vector(alloc: Global) -> Result<Flat, AllocError>
+    ensures { IfOk result (λ f. f ≡ with_signal (with_scope empty_arena (record { name = 116 ∷ 111 ∷ 112 ∷ []; parent = None; instance = true }))
+        (record (net (118 ∷ []) false 0) { net = false; range = Some (record { left = 3; right = 0 }) })) }
+{
+    let mut flat = Flat::new(alloc);
+    flat.add_scope(Scope {
+        name: Text::of(String::from_str(alloc, "top")?),
+        parent: None,
+        instance: true,
+    })?;
+    flat.add_signal(Signal {
+        name: Text::of(String::from_str(alloc, "v")?),
+        scope: 0,
+        net: false,
+        input: false,
+        range: Some(Range { left: 3, right: 0 }),
+        signed: false,
+        first_bit: 0,
+    })?;
+    Ok(flat)
+}
+
+/// Slot 0 of that vector.
+fn value_text(alloc: Global, v: Bits) -> Result<Vec<u8>, AllocError> {
+    let mut vcd = Vcd::new(alloc, &vector(alloc)?, 5)?;
+    let mut text = Vec::new(alloc);
+    vcd.start_first(&[v]);
+    drain(&mut vcd, &mut [0; 16], &mut text)?;
+    Ok(text)
 }
 
 #[test]
-fn writes_identifier_codes(rt: HostRuntime) {
-    for (number, expected) in [(0, "!"), (93, "~"), (94, "!\""), (95, "\"\""), (188, "!#")] {
-        let mut line = Line::new();
-        line.push_identifier(number);
-        assert_eq!(rt; line.as_slice(), expected.as_bytes(), "{number}");
+fn writes_values(rt: HostRuntime) -> Result<(), Fail> {
+    // Bits least significant first, digits most significant first (18.2.2).
+    let table = [
+        ([ZERO, ZERO, ZERO, ZERO], "b0"),
+        ([ONE, X, ZERO, ZERO], "b0x1"),
+        ([ONE, ZERO, X, ZERO], "b0x01"),
+        ([ZERO, ZERO, X, X], "bx00"),
+        ([ZERO, Z, Z, Z], "bz0"),
+        ([Z, Z, Z, Z], "bz"),
+        ([ONE, ONE, ONE, ONE], "b1111"),
+    ];
+    for (bits, value) in table {
+        let text = value_text(rt.alloc(), Bits::of(&bits))?;
+        let expected = format!(in rt.alloc(); "#0\n$dumpvars\n{value} !\n$end\n")?;
+        assert_eq!(rt; text.as_slice(), expected.as_str().as_bytes());
     }
+    Ok(())
+}
+
+/// A top with so many nets of one bit, each of the name `s`.
+#[tactic(auto, using(std::proofs::lemmas::List::Sums::sum_by_push))]
+fn nets(alloc: Global, count: u32) -> Result<Flat, AllocError>
+    requires { count ≤ 2 ^ 20 }
+{
+    let mut flat = Flat::new(alloc);
+    flat.add_scope(Scope {
+        name: Text::of(String::from_str(alloc, "top")?),
+        parent: None,
+        instance: true,
+    })?;
+    for n in 0..count {
+        flat.add_signal(port(alloc, "s", false, n)?)?;
+    }
+    Ok(flat)
+}
+
+#[test]
+fn writes_identifier_codes(rt: HostRuntime) -> Result<(), Fail> {
+    let mut vcd = Vcd::new(rt.alloc(), &nets(rt.alloc(), 17_673)?, 5)?;
+    let mut text = Vec::new(rt.alloc());
+    vcd.start_head();
+    drain(&mut vcd, &mut [0; 4096], &mut text)?;
+    let head = str::from_utf8(text.as_slice())?;
+    // Numbers in base 94, the least digit first: 8835 is 93 + 93 * 94, and 17671 is 93 + 93 * 94 + 94 * 94.
+    for (number, code) in [
+        (0u16, "!"),
+        (93, "~"),
+        (94, "!\""),
+        (95, "\"\""),
+        (187, "~\""),
+        (188, "!#"),
+        (8835, "~~"),
+        (8836, "!!\""),
+        (8837, "\"!\""),
+        (8929, "~!\""),
+        (8930, "!\"\""),
+        (17671, "~~\""),
+        (17672, "!!#"),
+    ] {
+        let line = format!(in rt.alloc(); "$var wire 1 {code} s $end")?;
+        assert_eq!(rt;
+            head.lines().nth(3 + usize::from(number)),
+            Some(line.as_str())
+        );
+    }
+    Ok(())
 }

@@ -1,7 +1,7 @@
 use Rattle.std.proofs.Common.{◌≡◌, ◌≤◌, ℕ, List, ◌++◌, length, take, drop, sym, ap, ◌∙◌, append_assoc, arith}
 use Rattle.std.proofs.lemmas.List.{take_at, take-append-drop, length-take-le}
 use Rattle.vs_vcd.specs.Dump.{Dump}
-use Rattle.vs_vcd.proofs.tests.drain.Goals as goal
+use Rattle.test_streams.proofs.dumps.drain.Goals as goal
 
 pub pieces-preserved : goal.pieces-preserved
 pieces-preserved c =

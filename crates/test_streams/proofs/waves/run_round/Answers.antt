@@ -1,4 +1,4 @@
-use Rattle.std.proofs.Common.{◌≡◌, ℕ, suc, ◌+◌, ◌*◌, ◌^◌, ◌<◌, Bool, length, refl, sym, ap, ◌∙◌, subst, add-one, arith}
+use Rattle.std.proofs.Common.{◌≡◌, ℕ, zero, suc, List, [], ◌∷◌, ◌+◌, ◌*◌, ◌^◌, ◌<◌, Bool, length, refl, sym, ap, ◌∙◌, subst, add-one, arith}
 use Rattle.std.specs.Prelude.{slice_get, Some, true}
 use Rattle.std.proofs.lemmas.Option.{slice_get_within}
 use Rattle.std.proofs.lemmas.Result.{on_ok_weaker}
@@ -7,8 +7,16 @@ use Rattle.vs_engine.specs.Lanes.{Running, state}
 use Rattle.vs_waves.specs.Wave.{Wave}
 use Rattle.vs_waves.specs.Rounds.{CanBegin, CanPut, EachGoesOn, begun, after_put, lane_values, values_in}
 use Rattle.vs_waves.specs.Laws.{IsBefore, Follows, RoundsFollow}
-use Rattle.vs_waves.proofs.Lists.{element, same_element}
-use Rattle.vs_waves.proofs.tests.run_round.Goals as goal
+use Rattle.test_streams.proofs.waves.run_round.Goals as goal
+
+same_element : {X : Type 0} (xs : List X) (i : ℕ) (x y : X) → slice_get xs i ≡ Some x → slice_get xs i ≡ Some y → x ≡ y
+same_element xs i x y p q = cc
+
+-- within a list there is an element
+element : {X : Type 0} (xs : List X) (i : ℕ) → i < length xs → (x : X) × (slice_get xs i ≡ Some x)
+element [] i h = absurd (omega arith)
+element (x ∷ xs) zero h = (x, refl)
+element (x ∷ xs) (suc i) h = element xs i (omega arith)
 
 -- what a round of one lane needs and leaves, by the engine before it and at the ends of its two slots
 record Round {W : Type 0} (lane : W → ℕ → Bool) (start fallen risen : Running W) (round i : ℕ) (l : Bool) (w : Wave) : Type 0 where
