@@ -8,7 +8,7 @@ use crate::planes::{ones, unknown_digit, value_digit};
 use crate::{Bit4, Bits};
 
 /// The most significant bit.
-pub(crate) fn top(a: Bits) -> Bit4
+pub fn top(a: Bits) -> Bit4
     ensures { result ≡ last_or Zero a }
 {
     a.get(a.len() - 1)

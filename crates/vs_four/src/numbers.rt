@@ -10,14 +10,14 @@ use crate::planes::{ones, unknown_digit, value_digit};
 use crate::{Bit4, Bits};
 
 /// Whether no bit is x or z.
-pub(crate) fn is_known(a: Bits) -> bool
+pub fn is_known(a: Bits) -> bool
     ensures { result ≡ all_known a }
 {
     a.unknown == 0
 }
 
 /// This bit at each place.
-pub(crate) fn repeated(bit: Bit4, len: u32) -> Bits
+pub fn repeated(bit: Bit4, len: u32) -> Bits
     requires some { 1 ≤ len }
     requires at_most_64 { len ≤ 64 }
     ensures { result ≡ replicate len bit }
@@ -30,7 +30,7 @@ pub(crate) fn repeated(bit: Bit4, len: u32) -> Bits
 }
 
 /// The low bits of a number.
-pub(crate) fn of_number(len: u32, number: u64) -> Bits
+pub fn of_number(len: u32, number: u64) -> Bits
     requires some { 1 ≤ len }
     requires at_most_64 { len ≤ 64 }
     ensures { result ≡ bits_of len number }
@@ -51,7 +51,7 @@ pub(crate) fn number(a: Bits) -> u64
 }
 
 /// The number of known bits, in two's complement where it is signed.
-pub(crate) fn integer(a: Bits, signed: bool) -> i128
+pub fn integer(a: Bits, signed: bool) -> i128
     requires { IsTrue (all_known a) }
     ensures value { result ≡ integer signed a }
     ensures fits { unsigned_abs result < 2 ^ 64 }

@@ -1,7 +1,7 @@
 //! A vector of four-valued bits, kept as two words.
 
 ghost use Rattle.std.specs.Prelude.{◌≡◌, ◌≤◌, ◌<◌, ◌^◌, ◌-◌, length, slice_get};
-ghost use Rattle.vs_four.specs.Planes.{decode, value_digit, unknown_digit};
+ghost use Rattle.vs_four.specs.Planes.{decode, value_digit, unknown_digit, bits_of_planes};
 
 use crate::Bit4;
 use std::marker::Model;
@@ -54,6 +54,20 @@ impl Bits {
             value,
             unknown,
             len: list.len() as u32,
+        }
+    }
+
+    /// The vector of the low bits of two planes, where 0 is (0, 0), 1 is (1, 0), z is (0, 1) and x is (1, 1), as value and unknown.
+    pub fn of_planes(len: u32, value: u64, unknown: u64) -> Bits
+        requires some { 1 ≤ len }
+        requires at_most_64 { len ≤ 64 }
+        ensures { result ≡ bits_of_planes len value unknown }
+    {
+        let kept = ones(len);
+        Bits {
+            value: value & kept,
+            unknown: unknown & kept,
+            len,
         }
     }
 
