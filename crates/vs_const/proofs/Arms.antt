@@ -1,0 +1,71 @@
+-- The arms of the recursion over an expression.
+use Rattle.std.proofs.Common.{◌≡◌, ℕ, Bool, true, Result, IfOk, subst}
+use Rattle.std.specs.declared.alloc.AllocError.{AllocError}
+use Rattle.vs_grammar.specs.Trees as tree
+use Rattle.vs_grammar.specs.Trees.{expr_place}
+use Rattle.vs_ast.specs.Views as view
+use Rattle.vs_ast.specs.declared.expressions.Expr.{Expr}
+use Rattle.vs_ast.specs.declared.expressions.BinaryOp.{BinaryOp}
+use Rattle.vs_const.specs.declared.found.Found.{Found}
+use Rattle.vs_const.specs.declared.names.Named.{Named}
+use Rattle.vs_const.specs.declared.ranges.Numbered.{Numbered as NumberedOf}
+use Rattle.vs_const.specs.Operators.{binary_op}
+use Rattle.vs_const.specs.Meanings.{Meaning, Means, Find, IsFair, IsFairMeaning}
+use Rattle.vs_const.specs.Typed.{Typed, noted, binary_typed, number_of}
+use Rattle.vs_const.specs.Selects.{base_of, select_typed, slice_taken, moving}
+use Rattle.vs_const.specs.Expressions.{typed, selected, number, clog2_typed}
+use Rattle.vs_const.specs.Checks.{ChecksNumber}
+use Rattle.vs_const.specs.Found.{Finds, Says}
+
+pub binary_arm : (needed : Bool) (find : Find) (op : BinaryOp) (a b x y z : Expr) (place : ℕ) (p q : Found) (r : Result Found AllocError)
+    → x ≡ a → y ≡ b → z ≡ a → place ≡ expr_place (view.expr z)
+    → Says needed p (typed (view.expr x) find needed) → Says needed q (typed (view.expr y) find needed)
+    → ((t u : Typed) → Says needed p t → Says needed q u → IfOk r (λ s. Finds needed s (noted needed place (binary_typed (binary_op (view.binary_op op)) t u))))
+    → IfOk r (λ s. Finds needed s (typed (tree.Binary (view.binary_op op) (view.expr a) (view.expr b)) find needed))
+binary_arm needed find op a b x y z place p q r i j k l h m f =
+    let h2 = subst (λ v. Says needed p (typed (view.expr v) find needed)) i h in
+    let m2 = subst (λ v. Says needed q (typed (view.expr v) find needed)) j m in
+    let l2 = subst (λ v. place ≡ expr_place (view.expr v)) k l in
+    subst (λ v. IfOk r (λ s. Finds needed s (noted needed v (binary_typed (binary_op (view.binary_op op)) (typed (view.expr a) find needed) (typed (view.expr b) find needed))))) l2
+    (f (typed (view.expr a) find needed) (typed (view.expr b) find needed) h2 m2)
+
+pub clog2_arm : (needed : Bool) (find : Find) (a : Expr) (place : ℕ) (p s : Found) → place ≡ expr_place (view.expr a)
+    → Says true p (typed (view.expr a) find true)
+    → ((n : Bool) (t : Typed) → Says true p t → Finds n s (clog2_typed t.good place t))
+    → Finds needed s (clog2_typed (typed (view.expr a) find true).good (expr_place (view.expr a)) (typed (view.expr a) find true))
+clog2_arm needed find a place p s l h f =
+    subst (λ v. Finds needed s (clog2_typed (typed (view.expr a) find true).good v (typed (view.expr a) find true))) l (f needed (typed (view.expr a) find true) h)
+
+placed : (a z : Expr) (p : ℕ) → z ≡ a → p ≡ expr_place (view.expr z) → p ≡ expr_place (view.expr a)
+placed a z p k h = subst (λ v. p ≡ expr_place (view.expr v)) k h
+
+pub between_arm : (needed : Bool) (find : Find) (name : tree.Name) (bracket : ℕ) (a b x y z w : Expr) (lp rp : ℕ) (named : Named) (m n : NumberedOf) (r : Result Found AllocError)
+    → IsFair find → Means named (find name.bytes)
+    → x ≡ a → y ≡ b → z ≡ a → w ≡ b → lp ≡ expr_place (view.expr z) → rp ≡ expr_place (view.expr w)
+    → ChecksNumber m (number (view.expr x) find) → ChecksNumber n (number (view.expr y) find)
+    → ((o : Meaning) (t u : Typed) → IsFairMeaning o → Means named o → ChecksNumber m (number_of lp t) → ChecksNumber n (number_of rp u)
+    → IfOk r (λ s. Finds needed s (select_typed (base_of needed name.place o) (slice_taken (base_of needed name.place o).range bracket tree.Between lp t rp u))))
+    → IfOk r (λ s. Finds needed s (selected (tree.Slice bracket tree.Between (view.expr a) (view.expr b)) name find needed))
+between_arm needed find name bracket a b x y z w lp rp named m n r fair e i j k l p q u v f =
+    let o = find name.bytes in
+    let t = typed (view.expr a) find true in
+    let s = typed (view.expr b) find true in
+    let P : ℕ → ℕ → Type 0 = λ c d. ChecksNumber m (number_of c t) → ChecksNumber n (number_of d s) → IfOk r (λ k. Finds needed k (select_typed (base_of needed name.place o) (slice_taken (base_of needed name.place o).range bracket tree.Between c t d s))) in
+    let at_left : P (expr_place (view.expr a)) rp = subst (λ c. P c rp) (placed a z lp k p) (f o t s (fair name.bytes) e) in
+    let at_both : P (expr_place (view.expr a)) (expr_place (view.expr b)) = subst (λ d. P (expr_place (view.expr a)) d) (placed b w rp l q) at_left in
+    at_both (subst (λ c. ChecksNumber m (number (view.expr c) find)) i u) (subst (λ c. ChecksNumber n (number (view.expr c) find)) j v)
+
+pub moving_arm : (needed up : Bool) (find : Find) (name : tree.Name) (a b x y w : Expr) (rp : ℕ) (named : Named) (c : Found) (n : NumberedOf) (r : Result Found AllocError)
+    → IsFair find → Means named (find name.bytes)
+    → x ≡ a → y ≡ b → w ≡ b → rp ≡ expr_place (view.expr w)
+    → Says needed c (typed (view.expr x) find needed) → ChecksNumber n (number (view.expr y) find)
+    → ((o : Meaning) (t u : Typed) → IsFairMeaning o → Means named o → Says needed c t → ChecksNumber n (number_of rp u)
+    → IfOk r (λ s. Finds needed s (select_typed (base_of needed name.place o) (moving (base_of needed name.place o).range up t rp u))))
+    → IfOk r (λ s. Finds needed s (select_typed (base_of needed name.place (find name.bytes)) (moving (base_of needed name.place (find name.bytes)).range up (typed (view.expr a) find needed) (expr_place (view.expr b)) (typed (view.expr b) find true))))
+moving_arm needed up find name a b x y w rp named c n r fair e i j l q u v f =
+    let o = find name.bytes in
+    let t = typed (view.expr a) find needed in
+    let s = typed (view.expr b) find true in
+    let P : ℕ → Type 0 = λ d. ChecksNumber n (number_of d s) → IfOk r (λ k. Finds needed k (select_typed (base_of needed name.place o) (moving (base_of needed name.place o).range up t d s))) in
+    let here : P (expr_place (view.expr b)) = subst P (placed b w rp l q) (f o t s (fair name.bytes) e (subst (λ d. Says needed c (typed (view.expr d) find needed)) i u)) in
+    here (subst (λ d. ChecksNumber n (number (view.expr d) find)) j v)

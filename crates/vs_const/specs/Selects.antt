@@ -1,0 +1,150 @@
+-- Selects and ranges (IEEE 1364-2005, 3.3 and 5.2.1).
+use Rattle.std.specs.Prelude.{ℕ, Bool, true, false, not, ◌&&◌, ◌||◌, List, [], ◌++◌, min, ◌==◌, nat_le, is_none, Option, Some, None}
+use Rattle.vs_four.specs.declared.Range.{Range}
+use Rattle.vs_four.specs.Numbers.{bits_of}
+use Rattle.vs_four.specs.Selects.{Part, range_length, is_descending}
+use Rattle.vs_design.specs.Expressions.{Signal, Source, OfSignal, OfConstant, Expression, Literal, Name, Select, At}
+use Rattle.vs_grammar.specs.Trees.{SliceKind, Between, Upward, Downward}
+use Rattle.vs_const.specs.declared.faults.Fault.{Fault}
+use Rattle.vs_const.specs.Faults.{fault, fault_if}
+use Rattle.vs_const.specs.Meanings.{SignalMeaning, Meaning, AValue, Undefined, ASignal, Another, Unknown}
+use Rattle.vs_const.specs.Typed.{Typed, nothing, broken, fine, natural}
+
+-- ---- ranges
+
+-- `[left:right]`, declared or of a select
+pub record Bounds : Type 0 where
+  pub range : Option Range
+  pub faults : List Fault
+
+abbrev pub range_if : (short : Bool) → ℕ → Range → Bounds
+range_if true bracket r = record { range = Some r; faults = [] }
+range_if false bracket r = record { range = None; faults = fault 37 bracket }
+
+abbrev pub up_to_64 : ℕ → Range → Bounds
+up_to_64 bracket r = range_if (nat_le (range_length r) 64) bracket r
+
+abbrev pub range_of : ℕ → Option ℕ → Option ℕ → Bounds
+range_of bracket (Some left) (Some right) = up_to_64 bracket (record { left = left; right = right })
+range_of bracket _ _ = record { range = None; faults = [] }
+
+-- two numbers up to 65,535, at most 64 bits apart; each bound with its place
+abbrev pub bounds : (bracket : ℕ) → (left_place : ℕ) → Typed → (right_place : ℕ) → Typed → Bounds
+bounds bracket left_place left right_place right =
+    let m = natural 0 65535 left_place left in
+    let n = natural 0 65535 right_place right in
+    let r = range_of bracket m.number n.number in
+    record { range = r.range; faults = m.faults ++ (n.faults ++ r.faults) }
+
+-- ---- names
+
+abbrev pub known_signal : (known : Bool) → Signal → Typed
+known_signal true signal = fine (Name signal) []
+known_signal false signal = broken None []
+
+-- a signal is no constant
+abbrev pub signal_typed : Bool → ℕ → SignalMeaning → Typed
+signal_typed true place s = broken None (fault 30 place)
+signal_typed false place s = known_signal s.known s.signal
+
+-- a name alone
+abbrev pub name_typed : Bool → ℕ → Meaning → Typed
+name_typed needed place (AValue v range) = fine (Literal v.bits v.signed true) []
+name_typed needed place (Undefined range) = broken None []
+name_typed needed place (ASignal s) = signal_typed needed place s
+name_typed needed place Another = broken None (fault 43 place)
+name_typed needed place Unknown = broken None (fault 35 place)
+
+-- what a select takes bits of; no range where a select has no meaning
+pub record Base : Type 0 where
+  pub source : Source
+  pub range : Option Range
+  pub good : Bool
+  pub faults : List Fault
+
+abbrev pub no_base : Option Range → List Fault → Base
+no_base range faults = record { source = OfConstant []; range = range; good = false; faults = faults }
+
+-- a select of a scalar is wrong
+abbrev pub is_scalar : SignalMeaning → Bool
+is_scalar s = s.known && is_none s.signal.range
+
+abbrev pub signal_base : List Fault → SignalMeaning → Base
+signal_base faults s = record { source = OfSignal s.signal; range = s.signal.range; good = s.known; faults = faults }
+
+abbrev pub signal_base_of : Bool → ℕ → SignalMeaning → Base
+signal_base_of true place s = no_base None (fault 30 place)
+signal_base_of false place s = signal_base (fault_if (is_scalar s) 43 place) s
+
+abbrev pub base_of : Bool → ℕ → Meaning → Base
+base_of needed place (AValue v range) = record { source = OfConstant v.bits; range = Some range; good = true; faults = [] }
+base_of needed place (Undefined range) = no_base range []
+base_of needed place (ASignal s) = signal_base_of needed place s
+base_of needed place Another = no_base None (fault 43 place)
+base_of needed place Unknown = no_base None (fault 35 place)
+
+-- ---- selects
+
+-- which bits are taken
+pub record Taken : Type 0 where
+  pub part : Part
+  pub index : Expression
+  pub length : Option ℕ
+  pub good : Bool
+  pub faults : List Fault
+
+abbrev pub nowhere : Part
+nowhere = record { range = record { left = 0; right = 0 }; up = true; width = 1 }
+
+abbrev pub not_taken : Option ℕ → List Fault → Taken
+not_taken length faults = record { part = nowhere; index = nothing; length = length; good = false; faults = faults }
+
+-- this many bits from an index on
+abbrev pub taken : Option Range → Bool → ℕ → Typed → List Fault → Taken
+taken None up n index faults = not_taken (Some n) faults
+taken (Some declared) up n index faults = record { part = record { range = declared; up = up; width = n }; index = index.expression; length = Some n; good = index.good; faults = faults }
+
+abbrev pub if_width : Option Range → Bool → Option ℕ → Typed → List Fault → Taken
+if_width declared up None index faults = not_taken None faults
+if_width declared up (Some n) index faults = taken declared up n index faults
+
+-- `[a +: w]` and `[a -: w]`
+abbrev pub moving : Option Range → Bool → Typed → ℕ → Typed → Taken
+moving declared up a place w = let n = natural 1 64 place w in if_width declared up n.number a (a.faults ++ n.faults)
+
+abbrev pub same_direction : Range → Range → Bool
+same_direction a b = (is_descending a && is_descending b) || (not (is_descending a) && not (is_descending b))
+
+-- `[a:b]` against the declared direction
+abbrev pub is_against : Option Range → Range → Bool
+is_against None r = false
+is_against (Some declared) r = not (r.left == r.right) && not (same_direction declared r)
+
+-- the index of `[a:b]` is the lesser bound, 32 bits and signed
+abbrev pub lesser_bound : ℕ → Range → Typed
+lesser_bound place r = fine (At place (Literal (bits_of 32 (min r.left r.right)) true true)) []
+
+abbrev pub along : (against : Bool) → Option Range → ℕ → ℕ → Range → List Fault → Taken
+along true declared bracket place r faults = not_taken (Some (range_length r)) (faults ++ fault 37 bracket)
+along false declared bracket place r faults = taken declared true (range_length r) (lesser_bound place r) faults
+
+abbrev pub between : Option Range → ℕ → ℕ → Option Range → List Fault → Taken
+between declared bracket place None faults = not_taken None faults
+between declared bracket place (Some r) faults = along (is_against declared r) declared bracket place r faults
+
+abbrev pub slice_taken : Option Range → (bracket : ℕ) → SliceKind → (a_place : ℕ) → Typed → (b_place : ℕ) → Typed → Taken
+slice_taken declared bracket Between a_place a b_place b = let r = bounds bracket a_place a b_place b in between declared bracket a_place r.range r.faults
+slice_taken declared bracket Upward a_place a b_place b = moving declared true a b_place b
+slice_taken declared bracket Downward a_place a b_place b = moving declared false a b_place b
+
+-- the bounds of `[a:b]` are constants
+abbrev pub first_needed : SliceKind → Bool → Bool
+first_needed Between needed = true
+first_needed _ needed = needed
+
+abbrev pub select_if : (good : Bool) → Base → Taken → Typed
+select_if true b t = record { expression = Select b.source t.part t.index; length = t.length; good = true; faults = b.faults ++ t.faults }
+select_if false b t = broken t.length (b.faults ++ t.faults)
+
+abbrev pub select_typed : Base → Taken → Typed
+select_typed b t = select_if (b.good && t.good) b t

@@ -1,0 +1,268 @@
+//! Whether an expression breaks a rule, and the value of a constant (IEEE 1364-2005, 4.10 and clause 5).
+
+ghost use Rattle.std.specs.Prelude.{◌≡◌, true, IfOk, ℤ, Option};
+ghost use Rattle.vs_grammar.specs.Trees.{expr_place};
+ghost use Rattle.vs_grammar.specs.Shapes.{IsExpr, IsSelect, AreParts};
+ghost use Rattle.vs_ast.specs.Views as view;
+ghost use Rattle.vs_const.specs.Meanings.{IsFair};
+ghost use Rattle.vs_const.specs.Expressions as expr;
+ghost use Rattle.vs_const.specs.Checks.{ChecksNumber, IsUnsizedAt};
+ghost use Rattle.vs_const.specs.Found.{Finds, Says};
+
+use crate::found::{
+    Found, find_between, find_binary, find_bit, find_brackets, find_cast, find_choice, find_clog2,
+    find_concatenation, find_last, find_literal, find_more, find_moving, find_name, find_number,
+    find_replication, find_unary,
+};
+use crate::names::Env;
+use crate::ranges::Numbered;
+use std::alloc::{AllocError, Global};
+use vs_ast::{Expr, Name, Select, SliceKind, SystemFunction};
+
+/// Where an expression begins.
+pub fn place_of(e: &Expr) -> u32
+    ensures { result ≡ expr_place (view.expr e.now) }
+{
+    match e {
+        Expr::Number(n) => n.place,
+        Expr::Named(name, _) => name.place,
+        Expr::Binary { left, .. } => place_of(left),
+        Expr::Choice { condition, .. } => place_of(condition),
+        Expr::Unary { place, .. }
+        | Expr::Concatenation { place, .. }
+        | Expr::Replication { place, .. }
+        | Expr::Call { place, .. }
+        | Expr::Brackets { place, .. } => *place,
+    }
+}
+
+/// Whether an expression is a literal without a size, in brackets or not.
+fn is_unsized(e: &Expr) -> bool
+    ensures { result ≡ expr.is_unsized (view.expr e.now) }
+{
+    match e {
+        Expr::Number(n) => !n.sized,
+        Expr::Brackets { inner, .. } => is_unsized(inner),
+        _ => false,
+    }
+}
+
+/// Where a part of a concatenation begins, if it is a literal without a size.
+fn unsized_at(e: &Expr) -> Option<u32>
+    ensures { IsUnsizedAt result (expr.unsized_faults (view.expr e.now)) }
+{
+    if is_unsized(e) {
+        Some(place_of(e))
+    } else {
+        None
+    }
+}
+
+/// What an expression says, and itself where a constant is needed whose value no fault leaves undefined.
+#[cycle(evaluation)]
+#[tactic(auto, using(crate::proofs::Short::says))]
+pub fn check<E: Env>(alloc: Global, e: &Expr, env: &E, needed: bool) -> Result<Found, AllocError>
+    requires shaped { IsExpr (view.expr e.now) }
+    requires fair { IsFair (E.names env.now) }
+    ensures { IfOk result (λ c. Says needed c (expr.typed (view.expr e.now) (E.names env.now) needed)) }
+{
+    let c = find(alloc, e, env, needed)?;
+    if needed {
+        Ok(c)
+    } else {
+        Ok(Found {
+            said: c.said,
+            form: None,
+        })
+    }
+}
+
+#[cycle(evaluation)]
+fn find<E: Env>(alloc: Global, e: &Expr, env: &E, needed: bool) -> Result<Found, AllocError>
+    requires shaped { IsExpr (view.expr e.now) }
+    requires fair { IsFair (E.names env.now) }
+    ensures { IfOk result (λ c. Finds needed c (expr.typed (view.expr e.now) (E.names env.now) needed)) }
+{
+    match e {
+        Expr::Number(n) => find_literal(alloc, needed, n),
+        Expr::Named(name, select) => {
+            let c = find_selected(alloc, select, name, env, needed)?;
+            find_brackets(alloc, needed, name.place, c)
+        }
+        Expr::Unary { place, op, operand } => {
+            let a = check(alloc, operand, env, needed)?;
+            find_unary(alloc, needed, *place, *op, a)
+        }
+        Expr::Binary { op, left, right } => {
+            let a = check(alloc, left, env, needed)?;
+            let b = check(alloc, right, env, needed)?;
+            find_binary(alloc, needed, place_of(left), *op, a, b)
+        }
+        Expr::Choice { condition, yes, no } => {
+            let c = check(alloc, condition, env, needed)?;
+            let p = check(alloc, yes, env, needed)?;
+            let q = check(alloc, no, env, needed)?;
+            find_choice(alloc, needed, place_of(condition), c, p, q)
+        }
+        Expr::Concatenation { place, parts } => {
+            let c = find_parts(alloc, parts, env, needed)?;
+            find_concatenation(alloc, needed, *place, c)
+        }
+        Expr::Replication {
+            place,
+            count,
+            parts,
+        } => {
+            let c = find_parts(alloc, parts, env, needed)?;
+            let n = numbered(alloc, count, env)?;
+            find_replication(alloc, needed, *place, place_of(count), n, c)
+        }
+        Expr::Call {
+            place,
+            function,
+            operand,
+        } => {
+            let c = find_call(alloc, *function, operand, env, needed)?;
+            find_brackets(alloc, needed, *place, c)
+        }
+        Expr::Brackets { place, inner } => {
+            let c = find(alloc, inner, env, needed)?;
+            find_brackets(alloc, needed, *place, c)
+        }
+    }
+}
+
+#[cycle(evaluation)]
+fn find_call<E: Env>(
+    alloc: Global,
+    function: SystemFunction,
+    operand: &Expr,
+    env: &E,
+    needed: bool,
+) -> Result<Found, AllocError>
+    requires shaped { IsExpr (view.expr operand.now) }
+    requires fair { IsFair (E.names env.now) }
+    ensures { IfOk result (λ c. Finds needed c (expr.call_typed (view.system_function function) (expr_place (view.expr operand.now)) (expr.typed (view.expr operand.now) (E.names env.now) (expr.argument_needed (view.system_function function) needed)))) }
+{
+    match function {
+        SystemFunction::AsSigned => {
+            let a = check(alloc, operand, env, needed)?;
+            find_cast(alloc, true, a)
+        }
+        SystemFunction::AsUnsigned => {
+            let a = check(alloc, operand, env, needed)?;
+            find_cast(alloc, false, a)
+        }
+        SystemFunction::Clog2 => {
+            let a = check(alloc, operand, env, true)?;
+            Ok(find_clog2(place_of(operand), a))
+        }
+    }
+}
+
+/// A name, with what is selected of it.
+#[cycle(evaluation)]
+fn find_selected<E: Env>(
+    alloc: Global,
+    select: &Select,
+    name: &Name,
+    env: &E,
+    needed: bool,
+) -> Result<Found, AllocError>
+    requires shaped { IsSelect (view.select select.now) }
+    requires fair { IsFair (E.names env.now) }
+    ensures { IfOk result (λ c. Finds needed c (expr.selected (view.select select.now) (view.name name.now) (E.names env.now) needed)) }
+{
+    let named = env.find(name.text.as_bytes());
+    match select {
+        Select::Whole => Ok(find_name(needed, name.place, &named)),
+        Select::Bit { index, .. } => {
+            let i = check(alloc, index, env, needed)?;
+            find_bit(alloc, needed, name.place, &named, i)
+        }
+        Select::Slice {
+            bracket,
+            kind,
+            left,
+            right,
+        } => {
+            let n = numbered(alloc, right, env)?;
+            match kind {
+                SliceKind::Between => {
+                    let m = numbered(alloc, left, env)?;
+                    find_between(
+                        alloc,
+                        needed,
+                        name.place,
+                        &named,
+                        *bracket,
+                        place_of(left),
+                        m,
+                        place_of(right),
+                        n,
+                    )
+                }
+                SliceKind::Upward => {
+                    let a = check(alloc, left, env, needed)?;
+                    find_moving(
+                        alloc,
+                        needed,
+                        name.place,
+                        &named,
+                        true,
+                        a,
+                        place_of(right),
+                        n,
+                    )
+                }
+                SliceKind::Downward => {
+                    let a = check(alloc, left, env, needed)?;
+                    find_moving(
+                        alloc,
+                        needed,
+                        name.place,
+                        &named,
+                        false,
+                        a,
+                        place_of(right),
+                        n,
+                    )
+                }
+            }
+        }
+    }
+}
+
+/// The parts of a concatenation, from the last one back.
+#[cycle(evaluation)]
+fn find_parts<E: Env>(
+    alloc: Global,
+    parts: &[Expr],
+    env: &E,
+    needed: bool,
+) -> Result<Found, AllocError>
+    requires shaped { AreParts (view.exprs parts.now) }
+    requires fair { IsFair (E.names env.now) }
+    ensures { IfOk result (λ c. Finds needed c (expr.typed_parts (view.exprs parts.now) (E.names env.now) needed)) }
+{
+    let mut i = parts.len() - 1;
+    let last = find(alloc, &parts[i], env, needed)?;
+    let mut whole = find_last(unsized_at(&parts[i]), last);
+    while i > 0 {
+        i -= 1;
+        let c = find(alloc, &parts[i], env, needed)?;
+        whole = find_more(alloc, unsized_at(&parts[i]), c, whole)?;
+    }
+    Ok(whole)
+}
+
+/// The number of a needed constant.
+#[cycle(evaluation)]
+pub(crate) fn numbered<E: Env>(alloc: Global, e: &Expr, env: &E) -> Result<Numbered, AllocError>
+    requires shaped { IsExpr (view.expr e.now) }
+    requires fair { IsFair (E.names env.now) }
+    ensures { IfOk result (λ n. ChecksNumber n (expr.number (view.expr e.now) (E.names env.now))) }
+{
+    let c = check(alloc, e, env, true)?;
+    Ok(find_number(place_of(e), c))
+}

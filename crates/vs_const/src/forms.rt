@@ -1,0 +1,198 @@
+//! Constant expressions whose names, counts, bounds and widths are settled, and their values (IEEE 1364-2005, 5.4.1 and 5.5.2).
+
+ghost use Rattle.std.specs.Prelude.{◌≡◌, ◌≤◌, length};
+ghost use Rattle.vs_four.specs.declared.Bit4.TheVariants.{X};
+ghost use Rattle.vs_design.specs.Expressions as E;
+ghost use Rattle.vs_design.specs.Values as V;
+ghost use Rattle.vs_ast.specs.Views as view;
+ghost use Rattle.vs_const.specs.Operators as spec_op;
+ghost use Rattle.vs_const.specs.Forms.{expression, IsForm};
+
+use crate::apply::{Shape, apply_binary, apply_unary, choose, together};
+use crate::bits::{extend_literal, extended, inverted, negated, repeated, taken};
+use crate::operators::{Way, way_of};
+use vs_ast::{BinaryOp, UnaryOp};
+use vs_four::{Bits, Range, join, truth};
+
+/// An expression that names no signal. What a literal stands for is a number of the text, or the value of a parameter.
+#[cycle(forms)]
+#[derive(Drop)]
+pub enum Form {
+    Literal {
+        bits: Bits,
+        signed: bool,
+        sized: bool,
+    },
+    /// `width` bits of a value from an index on, upwards or downwards.
+    Select {
+        bits: Bits,
+        range: Range,
+        up: bool,
+        width: u32,
+        index: Box<Form>,
+    },
+    Unary {
+        op: UnaryOp,
+        operand: Box<Form>,
+    },
+    /// `$signed` or `$unsigned`.
+    Cast {
+        signed: bool,
+        operand: Box<Form>,
+    },
+    Binary {
+        op: BinaryOp,
+        left: Box<Form>,
+        right: Box<Form>,
+    },
+    Choice {
+        condition: Box<Form>,
+        yes: Box<Form>,
+        no: Box<Form>,
+    },
+    Join {
+        high: Box<Form>,
+        low: Box<Form>,
+    },
+    Repeat {
+        count: u32,
+        inner: Box<Form>,
+    },
+    /// An expression with the place where it begins.
+    At {
+        place: u32,
+        inner: Box<Form>,
+    },
+}
+
+/// The length and the sign of an expression by itself.
+pub fn shape(f: &Form) -> Shape
+    requires form { IsForm f.now }
+    requires short { E.width (expression f.now) ≤ 64 }
+    ensures width { result.width ≡ E.width (expression f.now) }
+    ensures signed { result.signed ≡ E.sign (expression f.now) }
+{
+    match f {
+        Form::Literal { bits, signed, .. } => Shape {
+            width: bits.len(),
+            signed: *signed,
+        },
+        Form::Select { width, .. } => Shape {
+            width: *width,
+            signed: false,
+        },
+        Form::Unary { op, operand } => match op {
+            UnaryOp::Plus | UnaryOp::Minus | UnaryOp::BitNot => shape(operand),
+            _ => Shape {
+                width: 1,
+                signed: false,
+            },
+        },
+        Form::Cast { signed, operand } => Shape {
+            width: shape(operand).width,
+            signed: *signed,
+        },
+        Form::Binary { op, left, right } => match way_of(*op) {
+            Way::InContext => together(shape(left), shape(right)),
+            Way::Shifted => shape(left),
+            Way::Own | Way::Compared => Shape {
+                width: 1,
+                signed: false,
+            },
+        },
+        Form::Choice { yes, no, .. } => together(shape(yes), shape(no)),
+        Form::Join { high, low } => Shape {
+            width: shape(high).width + shape(low).width,
+            signed: false,
+        },
+        Form::Repeat { count, inner } => Shape {
+            width: *count * shape(inner).width,
+            signed: false,
+        },
+        Form::At { inner, .. } => shape(inner),
+    }
+}
+
+/// The value of an expression by itself.
+#[cycle(values)]
+pub fn own(f: &Form) -> Bits
+    requires form { IsForm f.now }
+    requires short { E.width (expression f.now) ≤ 64 }
+    ensures value { result ≡ V.constant_value (expression f.now) }
+    ensures length { length result ≡ E.width (expression f.now) }
+{
+    let s = shape(f);
+    value(f, s.width, s.signed)
+}
+
+/// The value of an expression in a length and a sign.
+#[cycle(values)]
+pub fn value(f: &Form, w: u32, signed: bool) -> Bits
+    requires form { IsForm f.now }
+    requires fits { E.width (expression f.now) ≤ w }
+    requires most { w ≤ 64 }
+    ensures value { result ≡ V.value (expression f.now) w signed (λ b. X) }
+    ensures length { length result ≡ w }
+{
+    match f {
+        Form::Literal { bits, sized, .. } => extend_literal(*bits, w, signed, *sized),
+        Form::Select {
+            bits,
+            range,
+            up,
+            width,
+            index,
+        } => {
+            extended(
+                taken(*bits, *range, own(index), shape(index).signed, *up, *width),
+                w,
+                signed,
+            )
+        }
+        Form::Unary { op, operand } => match op {
+            UnaryOp::Plus => extended(value(operand, w, signed), w, signed),
+            UnaryOp::Minus => extended(negated(value(operand, w, signed)), w, signed),
+            UnaryOp::BitNot => extended(inverted(value(operand, w, signed)), w, signed),
+            _ => extended(apply_unary(*op, own(operand)), w, signed),
+        },
+        Form::Cast { operand, .. } => extended(own(operand), w, signed),
+        Form::Binary { op, left, right } => match way_of(*op) {
+            Way::InContext => extended(
+                apply_binary(*op, signed, value(left, w, signed), value(right, w, signed)),
+                w,
+                signed,
+            ),
+            Way::Shifted => extended(
+                apply_binary(*op, signed, value(left, w, signed), own(right)),
+                w,
+                signed,
+            ),
+            Way::Own => extended(
+                apply_binary(*op, shape(left).signed, own(left), own(right)),
+                w,
+                signed,
+            ),
+            Way::Compared => {
+                let s = together(shape(left), shape(right));
+                extended(
+                    apply_binary(
+                        *op,
+                        s.signed,
+                        value(left, s.width, s.signed),
+                        value(right, s.width, s.signed),
+                    ),
+                    w,
+                    signed,
+                )
+            }
+        },
+        Form::Choice { condition, yes, no } => choose(
+            truth(own(condition)),
+            value(yes, w, signed),
+            value(no, w, signed),
+        ),
+        Form::Join { high, low } => extended(join(own(high), own(low)), w, signed),
+        Form::Repeat { count, inner } => extended(repeated(*count, own(inner)), w, signed),
+        Form::At { inner, .. } => value(inner, w, signed),
+    }
+}

@@ -1,0 +1,216 @@
+//! Names, and selects of them (IEEE 1364-2005, 5.2.1).
+
+ghost use Rattle.std.specs.Prelude.{◌≡◌, ◌≤◌, ℕ, Bool, List, Option, None, [], min};
+ghost use Rattle.vs_four.specs.Selects as four;
+ghost use Rattle.vs_design.specs.Expressions as E;
+ghost use Rattle.vs_ast.specs.Views as view;
+ghost use Rattle.vs_const.specs.Faults.{fault, flaws_of};
+ghost use Rattle.vs_const.specs.Meanings.{Meaning, Means, SignalMeaning, IsFairMeaning};
+ghost use Rattle.vs_const.specs.Typed as typed;
+ghost use Rattle.vs_const.specs.Selects as spec;
+ghost use Rattle.vs_const.specs.Checks.{capped, Checks, ChecksNumber, ChecksNatural, ChecksBounds, ChecksBase, ChecksTaken};
+
+use crate::faults::{Fault, Flaws, both, flaw, flaw_if, flawless};
+use crate::found::Checked;
+use crate::names::{Named, SignalShape};
+use crate::operators::{faulty, undefined};
+use crate::ranges::{Bounds, Natural, Numbered, is_descending, natural_of, range_length};
+use vs_ast::SliceKind;
+use vs_four::Range;
+
+/// What a select takes bits of: its range, which is none where a select has no meaning.
+#[derive(Clone, Copy, Debug)]
+pub(crate) struct Base {
+    pub(crate) range: Option<Range>,
+    pub(crate) good: bool,
+    pub(crate) flaws: Flaws,
+}
+
+/// Which bits are taken: how many.
+#[derive(Clone, Copy, Debug)]
+pub(crate) struct Taken {
+    pub(crate) length: Option<u32>,
+    pub(crate) good: bool,
+    pub(crate) flaws: Flaws,
+}
+
+/// How many bits a range has, as far as 65.
+fn short_length(range: Range) -> u32
+    ensures { result ≡ min 65 (four.range_length range) }
+{
+    let length = range_length(range);
+    if length < 65 { length as u32 } else { 65 }
+}
+
+/// How many bits a signal has, as far as 65.
+fn signal_length(range: Option<Range>) -> u32
+    ensures { result ≡ min 65 (E.range_or_one range) }
+{
+    match range {
+        None => 1,
+        Some(range) => short_length(range),
+    }
+}
+
+fn signal_name(needed: bool, place: u32, s: SignalShape) -> Checked
+    ensures { (m : SignalMeaning) → s.range ≡ m.signal.range → s.signed ≡ m.signal.signed → s.known ≡ m.known → Checks result (spec.signal_typed needed place m) }
+{
+    if needed {
+        return faulty(30, place);
+    }
+    if !s.known {
+        return undefined();
+    }
+    Checked {
+        flaws: flawless(),
+        length: Some(signal_length(s.range)),
+        good: true,
+        signed: s.signed,
+    }
+}
+
+/// A name alone.
+pub(crate) fn name_alone(needed: bool, place: u32, named: &Named) -> Checked
+    ensures { (m : Meaning) → IsFairMeaning m → Means named.now m → Checks result (spec.name_typed needed place m) }
+{
+    match named {
+        Named::Value { value, range: _ } => Checked {
+            flaws: flawless(),
+            length: Some(value.bits.len()),
+            good: true,
+            signed: value.signed,
+        },
+        Named::Undefined { range: _ } => undefined(),
+        Named::Signal(s) => signal_name(needed, place, *s),
+        Named::Other => faulty(43, place),
+        Named::Unknown => faulty(35, place),
+    }
+}
+
+fn undefined_base(range: Option<Range>) -> Base
+    ensures { ChecksBase result (spec.no_base range []) }
+{
+    Base {
+        range,
+        good: false,
+        flaws: flawless(),
+    }
+}
+
+fn faulty_base(number: u32, place: u32) -> Base
+    ensures { ChecksBase result (spec.no_base None (fault number place)) }
+{
+    Base {
+        range: None,
+        good: false,
+        flaws: flaw(number, place),
+    }
+}
+
+fn signal_base(needed: bool, place: u32, s: SignalShape) -> Base
+    ensures { (m : SignalMeaning) → s.range ≡ m.signal.range → s.known ≡ m.known → ChecksBase result (spec.signal_base_of needed place m) }
+{
+    if needed {
+        return faulty_base(30, place);
+    }
+    Base {
+        range: s.range,
+        good: s.known,
+        flaws: flaw_if(s.known && s.range.is_none(), 43, place),
+    }
+}
+
+/// What a name gives to a select of it.
+pub(crate) fn base_of(needed: bool, place: u32, named: &Named) -> Base
+    ensures { (m : Meaning) → Means named.now m → ChecksBase result (spec.base_of needed place m) }
+{
+    match named {
+        Named::Value { value: _, range } => Base {
+            range: Some(*range),
+            good: true,
+            flaws: flawless(),
+        },
+        Named::Undefined { range } => undefined_base(*range),
+        Named::Signal(s) => signal_base(needed, place, *s),
+        Named::Other => faulty_base(43, place),
+        Named::Unknown => faulty_base(35, place),
+    }
+}
+
+/// This many bits from an index on.
+pub(crate) fn bits_from(
+    declared: Option<Range>,
+    width: u32,
+    index_good: bool,
+    flaws: Flaws,
+) -> Taken
+    requires { width ≤ 65 }
+    ensures { (up : Bool) (n : ℕ) (t : typed.Typed) (fs : List Fault) → width ≡ min 65 n → index_good ≡ t.good → flaws ≡ flaws_of fs → ChecksTaken result (spec.taken declared up n t fs) }
+{
+    Taken {
+        length: Some(width),
+        good: declared.is_some() && index_good,
+        flaws,
+    }
+}
+
+/// `[a +: w]` and `[a -: w]`.
+#[tactic(auto, using(crate::proofs::Least::flaws_append))]
+pub(crate) fn moving(declared: Option<Range>, a: Checked, place: u32, w: Numbered) -> Taken
+    ensures { (up : Bool) (t u : typed.Typed) → Checks a t → ChecksNumber w (typed.number_of place u) → ChecksTaken result (spec.moving declared up t place u) }
+{
+    let n = natural_of(1, 64, place, w);
+    let flaws = both(a.flaws, n.flaws);
+    match n.number {
+        None => Taken {
+            length: None,
+            good: false,
+            flaws,
+        },
+        Some(width) => bits_from(declared, width, a.good, flaws),
+    }
+}
+
+/// Whether a range goes against the declared direction.
+fn is_against(declared: Option<Range>, range: Range) -> bool
+    ensures { result ≡ spec.is_against declared range }
+{
+    match declared {
+        None => false,
+        Some(declared) => range.left != range.right
+            && is_descending(declared) != is_descending(range),
+    }
+}
+
+/// `[a:b]`.
+#[tactic(auto, using(crate::proofs::Least::flaws_append))]
+pub(crate) fn between(declared: Option<Range>, bracket: u32, r: Bounds) -> Taken
+    ensures { (place : ℕ) (b : spec.Bounds) → ChecksBounds r b → ChecksTaken result (spec.between declared bracket place b.range b.faults) }
+{
+    match r.range {
+        None => Taken {
+            length: None,
+            good: false,
+            flaws: r.flaws,
+        },
+        Some(range) if is_against(declared, range) => Taken {
+            length: Some(short_length(range)),
+            good: false,
+            flaws: both(r.flaws, flaw(37, bracket)),
+        },
+        Some(range) => bits_from(declared, short_length(range), true, r.flaws),
+    }
+}
+
+/// A select.
+#[tactic(auto, using(crate::proofs::Least::flaws_append))]
+pub(crate) fn taken_of(b: Base, t: Taken) -> Checked
+    ensures { (base : spec.Base) (bits : spec.Taken) → ChecksBase b base → ChecksTaken t bits → Checks result (spec.select_typed base bits) }
+{
+    Checked {
+        flaws: both(b.flaws, t.flaws),
+        length: t.length,
+        good: b.good && t.good,
+        signed: false,
+    }
+}
