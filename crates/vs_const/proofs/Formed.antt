@@ -17,21 +17,10 @@ use Rattle.vs_const.specs.declared.faults.Fault.{Fault}
 use Rattle.vs_const.specs.Faults.{fault, fault_if, names_signal}
 use Rattle.vs_const.specs.Operators.{unary_op, binary_op}
 use Rattle.vs_const.specs.Meanings.{SignalMeaning, Meaning, AValue, Undefined, ASignal, Another, Unknown, Find, ConstantValue, IsFairValue}
+use Rattle.vs_const.specs.Sound.{IsSound, AreSound, IsFine}
 use Rattle.vs_const.specs.Typed.{Typed, begins_at, is_over, noted, known_number, number_known, number_if, number_of, natural_if, natural_within, natural, both_lengths, length_map, unary_op_length, unary_typed, binary_way_length, binary_typed, choice_typed, join_typed, copies_typed, fine}
 use Rattle.vs_const.specs.Selects.{range_if, range_of, bounds, known_signal, name_typed, Base, is_scalar, signal_base, base_of, Taken, taken, if_width, moving, is_against, lesser_bound, along, between, slice_taken, first_needed, select_if, select_typed}
 use Rattle.vs_const.specs.Expressions.{unsized_faults, is_clean, part_typed, replicated, replication_typed, clog2_of, clog2_typed, call_typed, argument_needed, typed, selected, typed_parts}
-
--- what a name means where no fault was met: a value with its range, a known signal of the design (in a constant any signal is a fault), or nothing that an expression can name
-abbrev pub IsSoundSignal : Design → Bool → SignalMeaning → Type 0
-IsSoundSignal d true s = Unit {0}
-IsSoundSignal d false s = (is_signal d s.signal ≡ true) × (s.known ≡ true) × (s.signal.input ≡ true → s.input ≡ true)
-
-abbrev pub IsSound : Design → Bool → Meaning → Type 0
-IsSound d needed (AValue v r) = IsFairValue v r × (is_lawful_range (Some r) ≡ true)
-IsSound d needed (Undefined r) = ⊥
-IsSound d needed (ASignal s) = IsSoundSignal d needed s
-IsSound d needed Another = Unit {0}
-IsSound d needed Unknown = Unit {0}
 
 pub sound_needed : (d : Design) (needed : Bool) (m : Meaning) → IsSound d needed m → IsSound d true m
 sound_needed d needed (AValue v r) s = s
@@ -39,9 +28,6 @@ sound_needed d needed (Undefined r) s = s
 sound_needed d needed (ASignal m) s = tt
 sound_needed d needed Another s = tt
 sound_needed d needed Unknown s = tt
-
-abbrev pub AreSound : Design → Bool → Find → Type 0
-AreSound d needed find = (name : List ℕ) → IsSound d needed (find name)
 
 pub first_sound : (d : Design) (kind : tree.SliceKind) (needed : Bool) (find : Find) → AreSound d needed find → AreSound d (first_needed kind needed) find
 first_sound d tree.Between needed find s = λ name. sound_needed d needed (find name) (s name)
@@ -52,13 +38,6 @@ argument_sound : (d : Design) (function : tree.SystemFunction) (needed : Bool) (
 argument_sound d tree.AsSigned needed find s = s
 argument_sound d tree.AsUnsigned needed find s = s
 argument_sound d tree.Clog2 needed find s = λ name. sound_needed d needed (find name) (s name)
-
--- an expression whose value no fault leaves undefined
-pub record IsFine (d : Design) (needed : Bool) (t : Typed) : Type 0 where
-  pub good : t.good ≡ true
-  pub formed : is_formed d t.expression ≡ true
-  pub length : t.length ≡ Some (width t.expression)
-  pub constant : needed ≡ true → is_constant t.expression ≡ true
 
 -- ---- lists of faults, and tests
 

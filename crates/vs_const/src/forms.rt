@@ -1,6 +1,6 @@
 //! Constant expressions whose names, counts, bounds and widths are settled, and their values (IEEE 1364-2005, 5.4.1 and 5.5.2).
 
-ghost use Rattle.std.specs.Prelude.{◌≡◌, ◌≤◌, length};
+ghost use Rattle.std.specs.Prelude.{◌≡◌, ◌≤◌, length, min};
 ghost use Rattle.vs_four.specs.declared.Bit4.TheVariants.{X};
 ghost use Rattle.vs_design.specs.Expressions as E;
 ghost use Rattle.vs_design.specs.Values as V;
@@ -58,19 +58,20 @@ pub enum Form {
         count: u32,
         inner: Box<Form>,
     },
-    /// An expression with the place where it begins.
+    /// An expression with the place where it begins, its length (65 where it is over 64) and its sign.
     At {
         place: u32,
+        shape: Shape,
         inner: Box<Form>,
     },
 }
 
-/// The length and the sign of an expression by itself.
+/// The length and the sign of an expression by itself. A length over 64 is told as 65.
+#[tactic(auto, using(crate::proofs::Copies::min_times))]
 pub fn shape(f: &Form) -> Shape
-    requires form { IsForm f.now }
-    requires short { E.width (expression f.now) ≤ 64 }
-    ensures width { result.width ≡ E.width (expression f.now) }
-    ensures signed { result.signed ≡ E.sign (expression f.now) }
+    ensures width { IsForm f.now → result.width ≡ min 65 (E.width (expression f.now)) }
+    ensures signed { IsForm f.now → result.signed ≡ E.sign (expression f.now) }
+    ensures most { result.width ≤ 65 }
 {
     match f {
         Form::Literal { bits, signed, .. } => Shape {
@@ -78,7 +79,7 @@ pub fn shape(f: &Form) -> Shape
             signed: *signed,
         },
         Form::Select { width, .. } => Shape {
-            width: *width,
+            width: (*width).min(65),
             signed: false,
         },
         Form::Unary { op, operand } => match op {
@@ -102,14 +103,17 @@ pub fn shape(f: &Form) -> Shape
         },
         Form::Choice { yes, no, .. } => together(shape(yes), shape(no)),
         Form::Join { high, low } => Shape {
-            width: shape(high).width + shape(low).width,
+            width: (shape(high).width + shape(low).width).min(65),
             signed: false,
         },
         Form::Repeat { count, inner } => Shape {
-            width: *count * shape(inner).width,
+            width: ((*count).min(65) * shape(inner).width).min(65),
             signed: false,
         },
-        Form::At { inner, .. } => shape(inner),
+        Form::At { shape, .. } => Shape {
+            width: shape.width.min(65),
+            signed: shape.signed,
+        },
     }
 }
 

@@ -17,6 +17,7 @@ ghost use Rattle.vs_const.specs.Checks.{Checks, ChecksNumber, ChecksNatural, IsU
 ghost use Rattle.vs_const.specs.Forms.{expression, IsForm};
 ghost use Rattle.vs_const.specs.Found.{IsOf, Keeps, Finds, Says, AreValued};
 
+use crate::apply::Shape;
 use crate::bits::literal_bits;
 use crate::faults::{Fault, Flaws, both, flaw};
 use crate::forms::{Form, own, shape};
@@ -57,10 +58,19 @@ fn begun(alloc: Global, place: u32, f: Form) -> Result<Form, AllocError>
     ensures well { IsForm f → IfOk result IsForm }
 {
     match f {
-        Form::At { inner, .. } => Ok(Form::At { place, inner }),
+        Form::At { shape, inner, .. } => Ok(Form::At {
+            place,
+            shape,
+            inner,
+        }),
         other => {
+            let shape = shape(&other);
             let inner = Box::new(alloc, other)?;
-            Ok(Form::At { place, inner })
+            Ok(Form::At {
+                place,
+                shape,
+                inner,
+            })
         }
     }
 }
@@ -339,6 +349,10 @@ fn between_form(
                         alloc,
                         Form::At {
                             place: left_place,
+                            shape: Shape {
+                                width: 32,
+                                signed: true,
+                            },
                             inner,
                         },
                     )?;

@@ -1,0 +1,37 @@
+-- What an expression without a fault stands for.
+use Rattle.std.specs.Prelude.{◌≡◌, ℕ, Bool, true, false, List, [], Some}
+use Rattle.vs_design.specs.Expressions.{width, is_constant}
+use Rattle.vs_design.specs.Designs.{Design}
+use Rattle.vs_design.specs.Elaborated.{is_signal, is_lawful_range, is_formed}
+use Rattle.vs_grammar.specs.Trees.{Expr}
+use Rattle.vs_grammar.specs.Shapes.{IsExpr}
+use Rattle.vs_const.specs.Meanings.{SignalMeaning, Meaning, AValue, Undefined, ASignal, Another, Unknown, Find, IsFairValue}
+use Rattle.vs_const.specs.Typed.{Typed}
+use Rattle.vs_const.specs.Expressions.{typed}
+
+-- what a name means where no fault was met: a value with its range, a known signal of the design (in a constant any signal is a fault), or nothing that an expression can name
+abbrev pub IsSoundSignal : Design → Bool → SignalMeaning → Type 0
+IsSoundSignal d true s = Unit {0}
+IsSoundSignal d false s = (is_signal d s.signal ≡ true) × (s.known ≡ true) × (s.signal.input ≡ true → s.input ≡ true)
+
+abbrev pub IsSound : Design → Bool → Meaning → Type 0
+IsSound d needed (AValue v r) = IsFairValue v r × (is_lawful_range (Some r) ≡ true)
+IsSound d needed (Undefined r) = ⊥
+IsSound d needed (ASignal s) = IsSoundSignal d needed s
+IsSound d needed Another = Unit {0}
+IsSound d needed Unknown = Unit {0}
+
+-- of every name
+abbrev pub AreSound : Design → Bool → Find → Type 0
+AreSound d needed find = (name : List ℕ) → IsSound d needed (find name)
+
+-- an expression whose value no fault leaves undefined
+pub record IsFine (d : Design) (needed : Bool) (t : Typed) : Type 0 where
+  pub good : t.good ≡ true
+  pub formed : is_formed d t.expression ≡ true
+  pub length : t.length ≡ Some (width t.expression)
+  pub constant : needed ≡ true → is_constant t.expression ≡ true
+
+-- an expression without a fault stands for a formed one, whose length and value are known; it names no signal where a constant is needed
+abbrev pub FaultlessIsFine : Type 0
+FaultlessIsFine = (d : Design) (e : Expr) (find : Find) (needed : Bool) → AreSound d needed find → IsExpr e → (typed e find needed).faults ≡ [] → IsFine d needed (typed e find needed)
