@@ -1,0 +1,5 @@
+//! Constants of worked texts.
+
+mod names;
+mod rows;
+mod texts;
