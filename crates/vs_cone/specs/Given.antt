@@ -1,0 +1,76 @@
+-- What inputs, registers and clock nets have in a slot before its processes run, and what that slot then comes to.
+use Rattle.std.specs.Prelude.{◌≡◌, ℕ, true, false, List, [], ◌∷◌, ◌++◌, map, if◌then◌else◌, Option, Some, None, slice_get}
+use Rattle.vs_four.specs.declared.Bit4.TheVariants.{Zero, One}
+use Rattle.vs_net.specs.Network.{State, Write, write_all, flatten, updates, Reset}
+use Rattle.vs_net.specs.Queue.{Fall, Rise}
+use Rattle.vs_net.specs.Solution.{reset_updates, IsSlotEnd}
+use Rattle.vs_net.specs.Settle.{settle}
+use Rattle.vs_design.specs.Designs.{Process, is_clocked, Design}
+use Rattle.vs_design.specs.Footprints.{contains, without, input_bits, writes_of}
+use Rattle.vs_design.specs.Clocks.{clock_nets}
+use Rattle.vs_design.specs.Resets.{reset_of}
+use Rattle.vs_design.specs.Sizes.{register_bits}
+use Rattle.vs_design.specs.Levels.{is_level_order}
+use Rattle.vs_design.specs.Networks.{process_of, network_of}
+use Rattle.vs_design.specs.Accepted.{IsAcceptedDesign}
+use Rattle.vs_cone.specs.Cones.{cone, but_ports}
+use Rattle.vs_cone.specs.Laws.{IsSettled, HaveClock}
+
+-- the bits of the data inputs, which are the inputs of the top but the clock, in bit order
+abbrev pub data_bits : Design → ℕ → List ℕ
+data_bits d clock = without (input_bits d) (clock ∷ [])
+
+-- the bits to which this reset's branch gives an update
+abbrev pub bits_of_reset : Option Reset → List ℕ
+bits_of_reset None = []
+bits_of_reset (Some r) = map (λ (w : Write). w.bit) (flatten r.updates)
+
+-- those of the resets of all clocked blocks of the list
+abbrev pub bits_of_resets : Design → ℕ → List Process → List ℕ
+bits_of_resets d clock [] = []
+bits_of_resets d clock (x ∷ xs) = (if is_clocked x then bits_of_reset (reset_of d clock x) else []) ++ bits_of_resets d clock xs
+
+-- those of all resets of the design
+abbrev pub reset_bits : Design → ℕ → List ℕ
+reset_bits d clock = bits_of_resets d clock d.processes
+
+-- the bits that change where the clock falls, before any process runs
+abbrev pub fall_bits : Design → ℕ → List ℕ
+fall_bits d clock = data_bits d clock ++ reset_bits d clock
+
+-- The clock has fallen: the data inputs have the vector's values, the bits that a reset branch sets have the last of its values where the vector has the reset active, the clock nets are 0, and all else is as before.
+pub record HasFallen (d : Design) (clock : ℕ) (vector before s : State) : Type 0 where
+  pub inputs : (b : ℕ) → contains (data_bits d clock) b ≡ true → s b ≡ vector b
+  pub resets : (p : ℕ) (x : Process) → slice_get d.processes p ≡ Some x → is_clocked x ≡ true
+      → (b : ℕ) → contains (bits_of_reset (reset_of d clock x)) b ≡ true
+      → s b ≡ write_all before (flatten (reset_updates (reset_of d clock x) vector)) b
+  pub clock_is : HaveClock d clock Zero s
+  pub others : (b : ℕ) → contains (fall_bits d clock) b ≡ false → contains (clock_nets d clock) b ≡ false → s b ≡ before b
+
+-- The clock has risen: each register has what the updates of its block give from the values before, the clock nets are 1, and all else is as before.
+pub record HasRisen (d : Design) (clock : ℕ) (before s : State) : Type 0 where
+  pub registers : (p : ℕ) (x : Process) → slice_get d.processes p ≡ Some x → is_clocked x ≡ true
+      → (b : ℕ) → contains (writes_of x) b ≡ true → s b ≡ write_all before (flatten (updates (process_of d clock x) before)) b
+  pub clock_is : HaveClock d clock One s
+  pub others : (b : ℕ) → contains (register_bits d.processes) b ≡ false → contains (clock_nets d clock) b ≡ false → s b ≡ before b
+
+-- a first slot in which the clock falls ends once all processes have run but the clock's ports
+abbrev pub FirstFall : Type 0
+FirstFall =
+    (d : Design) (name : List ℕ) (a : IsAcceptedDesign d name) (order : List ℕ) → is_level_order d order ≡ true
+    → (vector before s : State) → HasFallen d a.clock.first vector before s
+    → IsSlotEnd (network_of d a.clock.first) before (Fall vector) (settle (network_of d a.clock.first) before (but_ports d a.clock.first order) s)
+
+-- a later one ends once of these the cone of the data inputs and of what resets set has run
+abbrev pub LaterFall : Type 0
+LaterFall =
+    (d : Design) (name : List ℕ) (a : IsAcceptedDesign d name) (order : List ℕ) → is_level_order d order ≡ true
+    → (vector before s : State) → IsSettled (network_of d a.clock.first) before → HasFallen d a.clock.first vector before s
+    → IsSlotEnd (network_of d a.clock.first) before (Fall vector) (settle (network_of d a.clock.first) before (cone d (fall_bits d a.clock.first) (but_ports d a.clock.first order)) s)
+
+-- a slot in which it rises ends once the cone of the registers has run
+abbrev pub LaterRise : Type 0
+LaterRise =
+    (d : Design) (name : List ℕ) (a : IsAcceptedDesign d name) (order : List ℕ) → is_level_order d order ≡ true
+    → (before s : State) → IsSettled (network_of d a.clock.first) before → HasRisen d a.clock.first before s
+    → IsSlotEnd (network_of d a.clock.first) before Rise (settle (network_of d a.clock.first) before (cone d (register_bits d.processes) (but_ports d a.clock.first order)) s)

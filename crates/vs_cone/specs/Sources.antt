@@ -1,0 +1,28 @@
+-- Where data inputs, clock nets and registers have their bits.
+use Rattle.std.specs.Prelude.{◌≡◌, ℕ, ◌<◌, true, false, List, Some, slice_get}
+use Rattle.vs_net.specs.Network.{Reset}
+use Rattle.vs_design.specs.Designs.{Process, is_clocked, Design, bit_count}
+use Rattle.vs_design.specs.Footprints.{contains, writes_of}
+use Rattle.vs_design.specs.Clocks.{clock_nets}
+use Rattle.vs_design.specs.Resets.{reset_of}
+use Rattle.vs_design.specs.Sizes.{register_bits}
+use Rattle.vs_design.specs.Accepted.{IsAcceptedDesign}
+use Rattle.vs_cone.specs.Given.{data_bits, bits_of_reset, reset_bits}
+
+-- all are bits of the design, and none is of two of these kinds
+pub record SourcesAre (d : Design) (clock : ℕ) : Type 0 where
+  pub data_below : (b : ℕ) → contains (data_bits d clock) b ≡ true → b < bit_count d
+  pub nets_below : (b : ℕ) → contains (clock_nets d clock) b ≡ true → b < bit_count d
+  pub registers_below : (b : ℕ) → contains (register_bits d.processes) b ≡ true → b < bit_count d
+  pub data_apart : (b : ℕ) → contains (data_bits d clock) b ≡ true → contains (clock_nets d clock) b ≡ false
+  pub registers_apart : (b : ℕ) → contains (register_bits d.processes) b ≡ true → contains (clock_nets d clock) b ≡ false
+  pub data_is_no_register : (b : ℕ) → contains (data_bits d clock) b ≡ true → contains (register_bits d.processes) b ≡ false
+  -- a reset sets registers, those of its own block, by a data input
+  pub resets_are : (b : ℕ) → contains (reset_bits d clock) b ≡ true → contains (register_bits d.processes) b ≡ true
+  pub reset_writes : (p : ℕ) (x : Process) (b : ℕ) → slice_get d.processes p ≡ Some x → is_clocked x ≡ true
+      → contains (bits_of_reset (reset_of d clock x)) b ≡ true → contains (writes_of x) b ≡ true
+  pub reset_input : (x : Process) (r : Reset) → reset_of d clock x ≡ Some r → contains (data_bits d clock) r.input ≡ true
+
+-- so they are in an accepted design
+abbrev pub SourcesOfDesign : Type 0
+SourcesOfDesign = (d : Design) (name : List ℕ) (a : IsAcceptedDesign d name) → SourcesAre d a.clock.first

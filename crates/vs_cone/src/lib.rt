@@ -1,0 +1,65 @@
+//! Which processes of a design a time slot has to run, where the slot before it has ended (IEEE 1364-2005, clause 11).
+//!
+//! It is definitions, in specs/, and their laws: each law is a function with an empty body whose `ensures` is the law.
+#![tactic(auto)]
+
+ghost use Rattle.vs_cone.specs.Counts.{StoresFit};
+ghost use Rattle.vs_cone.specs.Given.{FirstFall, LaterFall, LaterRise};
+ghost use Rattle.vs_cone.specs.Laws.{FirstSlots, LaterSlots};
+ghost use Rattle.vs_cone.specs.Sources.{SourcesOfDesign};
+
+use vs_design::{clock_law, cycle_law, footprint_law, lawful_law, pass_law};
+
+/// In any slot it is enough to run the assigns and combinational blocks of a level order but the clock's ports, once the inputs, the registers and all clock nets have their values.
+pub fn first_law()
+    ensures { FirstSlots }
+{
+    pass_law();
+    lawful_law();
+    clock_law();
+}
+
+/// In a slot that begins where another has ended it is enough to run the cone of the bits that changed.
+pub fn later_law()
+    ensures { LaterSlots }
+{
+    pass_law();
+    lawful_law();
+    clock_law();
+}
+
+/// What a slot comes to in which the clock falls: a first one, before which no values are settled, and a later one. Resets act here.
+pub fn fall_law()
+    ensures first { FirstFall }
+    ensures later { LaterFall }
+{
+    pass_law();
+    lawful_law();
+    clock_law();
+}
+
+/// What a slot comes to in which the clock rises: each register has what the updates of its block give from the values before (9.2.2).
+pub fn rise_law()
+    ensures { LaterRise }
+{
+    pass_law();
+    lawful_law();
+    clock_law();
+}
+
+/// The stores of a slot are within the size of the design, where each process and each reset makes no more than it may.
+pub fn stores_law()
+    ensures { StoresFit }
+{
+    lawful_law();
+    cycle_law();
+}
+
+/// Data inputs, clock nets and registers are bits of the design, each of one kind; a reset sets registers of its own block, by a data input.
+pub fn sources_law()
+    ensures { SourcesOfDesign }
+{
+    lawful_law();
+    clock_law();
+    footprint_law();
+}
