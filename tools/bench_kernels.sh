@@ -21,7 +21,7 @@ printf 'vs_four:\nvs_plane: vs_four\n' > crates.txt
 for crate in $crates; do
     grep "^$crate:" "$top/crates.txt" >> crates.txt
     sed -i 's/pub(crate)/pub/' "crates/$crate"/src/*.rt
-    sed -i '/^mod tests/!s/^mod /pub mod /' "crates/$crate/src/lib.rt"
+    sed -i 's/^mod /pub mod /' "crates/$crate/src/lib.rt"
 done
 echo "bench_kernels: vs_four vs_plane $crates anyhow" >> crates.txt
 mkdir -p crates/bench_kernels/src crates/bench_kernels/specs
@@ -620,7 +620,7 @@ fn main(rt: HostRuntime) -> Result<()> {
 END
 
 # The slots of a call lie one after the other.
-cp ../vs_kern_select/proofs/Runs.antt proofs/
+cp "$top/crates/test_values/proofs/Runs.antt" proofs/
 echo 'pub mod Runs' > proofs/Lib.antt
 cat > proofs/slots/Invariants.antt <<'END'
 use Rattle.std.proofs.Common.{◌≡◌, ℕ, ◌+◌, ◌<◌, length, get_or}
