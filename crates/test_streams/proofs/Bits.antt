@@ -1,5 +1,5 @@
 -- How many bits the vectors of all lanes have.
-use Rattle.std.proofs.Common.{◌≡◌, ℕ, Bool, List, length, sum, ap, ◌∙◌, arith}
+use Rattle.std.proofs.Common.{◌≡◌, ℕ, Bool, List, sum, ap, ◌∙◌, arith}
 use Rattle.vs_desk.specs.Desk.{Contents}
 use Rattle.vs_stim.specs.declared.input.Input.{Input}
 use Rattle.vs_stim.specs.Header.{lengths}
