@@ -1,5 +1,4 @@
-use Rattle.std.proofs.Common.{rules, arith}
-use Rattle.std.proofs.lemmas.Grind.{common_steps}
+use Rattle.std.proofs.Common.{rules}
 use Rattle.vs_stim.proofs.Untold.{goes_on, passes_lf}
 use Rattle.vs_stim.proofs.header.feed_heading.Goals as goal
 
@@ -11,15 +10,15 @@ line-preserved g c =
     let inv = c.line.invariant in
     let comes = rw c.in-Byte.is at c.in_ok-byte.ensures.comes in
     record {
-      source = first_of (search rules, grind (arith, common_steps));
-      heading = first_of (search rules, grind (arith, common_steps));
-      place = first_of (search rules, grind (arith, common_steps));
-      number = first_of (search rules, grind (arith, common_steps));
-      start = first_of (search rules, grind (arith, common_steps));
-      register = first_of (search rules, grind (arith, common_steps));
-      others = first_of (search rules, grind (arith, common_steps));
-      line = first_of (search rules, grind (arith, common_steps));
-      says = first_of (search rules, grind (arith, common_steps));
+      source = search rules;
+      heading = search rules;
+      place = search rules;
+      number = search rules;
+      start = search rules;
+      register = search rules;
+      others = search rules;
+      line = search rules;
+      says = search rules;
       goes = λ t. goes_on _ _ _ (inv.goes t) (comes t);
     }
 

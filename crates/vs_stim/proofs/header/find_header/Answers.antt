@@ -35,13 +35,13 @@ lines-preserved g c =
 
 pub lines-init : goal.lines-init
 lines-init g c = record {
-  source = first_of (search rules, grind (arith, common_steps));
-  begins = first_of (search rules, grind (arith, common_steps));
-  heading = first_of (search rules, grind (arith, common_steps));
-  stage = first_of (search rules, grind (arith, common_steps));
-  place = first_of (search rules, grind (arith, common_steps));
-  register = first_of (search rules, grind (arith, common_steps));
-  others = first_of (search rules, grind (arith, common_steps));
+  source = search rules;
+  begins = search rules;
+  heading = search rules;
+  stage = search rules;
+  place = search rules;
+  register = search rules;
+  others = search rules;
   passed = λ t. none_passed _;
   reading = λ t. refl;
   fault = λ t. refl;

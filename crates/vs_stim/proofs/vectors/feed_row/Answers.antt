@@ -11,19 +11,19 @@ line-preserved g c =
     let inv = c.line.invariant in
     let comes = rw c.in-Byte.is at c.in_ok-byte.ensures.comes in
     record {
-      source = first_of (search rules, grind (arith, common_steps));
-      row = first_of (search rules, grind (arith, common_steps));
-      form = first_of (search rules, grind (arith, common_steps));
-      place = first_of (search rules, grind (arith, common_steps));
-      number = first_of (search rules, grind (arith, common_steps));
-      start = first_of (search rules, grind (arith, common_steps));
-      register = first_of (search rules, grind (arith, common_steps));
-      others = first_of (search rules, grind (arith, common_steps));
-      line = first_of (search rules, grind (arith, common_steps));
-      spoken = first_of (search rules, grind (arith, common_steps));
-      frugal = first_of (search rules, grind (arith, common_steps));
-      told_line = first_of (search rules, grind (arith, common_steps));
-      told_says = first_of (search rules, grind (arith, common_steps));
+      source = search rules;
+      row = search rules;
+      form = search rules;
+      place = search rules;
+      number = search rules;
+      start = search rules;
+      register = search rules;
+      others = search rules;
+      line = search rules;
+      spoken = search rules;
+      frugal = search rules;
+      told_line = search rules;
+      told_says = grind (arith, common_steps);
       goes = λ t. goes_on _ _ _ (inv.goes t) (comes t);
     }
 

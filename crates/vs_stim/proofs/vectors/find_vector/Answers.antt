@@ -1,5 +1,4 @@
 use Rattle.std.proofs.Common.{rules, ◌≡◌, ◌+◌, ◌++◌, Bool, IsTrue, refl, sym, ◌∙◌, ap, subst, arith}
-use Rattle.std.proofs.lemmas.Grind.{common_steps}
 use Rattle.vs_stim.specs.Fields.{fields}
 use Rattle.vs_stim.specs.Vectors.{vector}
 use Rattle.vs_stim.specs.Reading.{limits, not_taken, with_vector}
@@ -60,16 +59,16 @@ returns-in-Given-clause-found g c =
 
 pub lines-init : goal.lines-init
 lines-init g c = record {
-  source = first_of (search rules, grind (arith, common_steps));
-  begins = first_of (search rules, grind (arith, common_steps));
-  row = first_of (search rules, grind (arith, common_steps));
-  each = first_of (search rules, grind (arith, common_steps));
-  form = first_of (search rules, grind (arith, common_steps));
-  place = first_of (search rules, grind (arith, common_steps));
-  register = first_of (search rules, grind (arith, common_steps));
-  others = first_of (search rules, grind (arith, common_steps));
-  frugal = first_of (search rules, grind (arith, common_steps));
-  told = first_of (search rules, grind (arith, common_steps));
+  source = search rules;
+  begins = search rules;
+  row = search rules;
+  each = search rules;
+  form = search rules;
+  place = search rules;
+  register = search rules;
+  others = search rules;
+  frugal = search rules;
+  told = search rules;
   passed = λ t. none_passed _;
   reading = λ t. refl;
 }
