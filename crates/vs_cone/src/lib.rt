@@ -6,6 +6,7 @@
 ghost use Rattle.vs_cone.specs.Counts.{StoresFit};
 ghost use Rattle.vs_cone.specs.Given.{FirstFall, LaterFall, LaterRise};
 ghost use Rattle.vs_cone.specs.Laws.{FirstSlots, LaterSlots};
+ghost use Rattle.vs_cone.specs.Lists.{AscendingIsOnce, FewAreApart};
 ghost use Rattle.vs_cone.specs.Sources.{SourcesOfDesign};
 
 use vs_design::{clock_law, cycle_law, footprint_law, lawful_law, pass_law};
@@ -61,5 +62,13 @@ pub fn sources_law()
 {
     lawful_law();
     clock_law();
+    footprint_law();
+}
+
+/// Lists that have each number once: an ascending one has, and none is longer than there are different numbers.
+pub fn list_law()
+    ensures few { FewAreApart }
+    ensures ascending { AscendingIsOnce }
+{
     footprint_law();
 }
