@@ -1,0 +1,236 @@
+-- The slots of a made program are there, and its stores are within the size of the design.
+use Rattle.std.proofs.Common.{◌≡◌, ℕ, zero, suc, ◌+◌, ◌*◌, ◌^◌, ◌<◌, ◌≤◌, Bool, true, false, not, List, [], ◌∷◌, ◌++◌, ◌&&◌, ◌||◌, ◌==◌, if◌then◌else◌, nat_lt, nat_le, map, length, get_or, Option, Some, None, sym, ap, ◌∙◌, subst, refl, arith, eqb-true, slice_get, length-append}
+use Rattle.std.specs.Prelude.{sum_by, All}
+use Rattle.std.specs.List.{list_all, concat}
+use Rattle.std.proofs.lemmas.Bool.{and_parts}
+use Rattle.std.proofs.lemmas.List.{length-map}
+use Rattle.std.proofs.lemmas.List.Sums.{sum_by-append, sum_by-cons}
+use Rattle.std.proofs.lemmas.List.Elements.{All-append, All-weaker, All-nil}
+use Rattle.std.proofs.lemmas.Grind.{flat_map-append}
+use Rattle.vs_four.specs.declared.Range.{Range}
+use Rattle.vs_four.specs.Selects.{range_length, is_descending}
+use Rattle.vs_design.specs.Expressions.{Signal, signal_length, range_or_one}
+use Rattle.vs_design.specs.Designs.{Process, Design, bit_count}
+use Rattle.vs_design.specs.Footprints.{contains}
+use Rattle.vs_design.specs.Sizes.{register_bits, process_weight, size}
+use Rattle.vs_design.specs.Elaborated.{have_bits_from, is_declared, is_lawful_range}
+use Rattle.vs_design.specs.Levels.{is_level_order}
+use Rattle.vs_design.specs.Accepted.{IsAcceptedDesign}
+use Rattle.vs_cone.specs.Cones.{but_ports}
+use Rattle.vs_cone.specs.Given.{data_bits, fall_bits}
+use Rattle.vs_cone.specs.Lists.{FewAreApart}
+use Rattle.vs_cone.specs.Counts.{clocked, stores_of, AreWithin, StoresFit, StoresFitIn}
+use Rattle.vs_cone.specs.Sources.{SourcesAre, SourcesOfDesign}
+use Rattle.vs_code.specs.Calls.{Call, call_cost, call_slots, length_of, slots_of}
+use Rattle.vs_program.specs.declared.compiled.Span.{Span}
+use Rattle.vs_program.specs.Lowered.{Layout, home}
+use Rattle.vs_program.specs.Program.{Program, IsInRange, AreIn, is_below, spans, first_stores, fall_stores, rise_stores}
+use Rattle.vs_program.specs.Compiled.{span_of}
+use Rattle.vs_program.specs.Layouts.{slots_of_design, widest_of}
+use Rattle.vs_program.specs.Layouts.{IsLayoutOf, mask_of}
+use Rattle.vs_program.specs.Made.{AreCallsOf, AreResetsOf, IsMadeOf, copy_shadows, first_processes, fall_processes, rise_processes}
+use Rattle.vs_program.proofs.Lists.{in_first, in_rest}
+use Rattle.vs_program.proofs.Passes.{lt_true}
+use Rattle.vs_program.proofs.Layouts.{few_registers}
+use Rattle.vs_program.proofs.Sleeping.{lowered_stores, lowered_slots, sleepers_small}
+
+-- ---- stores
+
+-- the stores that a process may make, by its number
+abbrev may_or : Design → Option Process → ℕ
+may_or d None = 0
+may_or d (Some x) = stores_of d x
+
+abbrev may : Design → ℕ → ℕ
+may d q = may_or d (slice_get d.processes q)
+
+calls_cost : (d : Design) (l : Layout) (ps : List ℕ) (calls : List Call) → AreCallsOf d l ps calls → length_of calls ≤ sum_by (may d) ps
+calls_cost d l [] calls none = let is : length_of calls ≡ 0 = ap length_of none in omega (arith, is)
+calls_cost d l (p ∷ ps) calls made =
+    let is : length_of calls ≡ length_of made.0 + length_of made.1 = ap length_of made.2 ∙ sum_by-append call_cost made.0 made.1 in
+    let rest = calls_cost d l ps made.1 made.4 in
+    let first : length_of made.0 ≤ may d p = subst (λ o. length_of made.0 ≤ may_or d o) (sym made.3.1) (lowered_stores d l (mask_of d p) made.3.0 made.0 made.3.2) in
+    let sum = sum_by-cons (may d) p ps in
+    omega (arith, is, rest, first, sum)
+
+resets_cost : (d : Design) (clock : ℕ) (l : Layout) (ps : List ℕ) (calls : List Call) → AreResetsOf d clock l ps calls → length_of calls ≤ sum_by (may d) ps
+resets_cost d clock l [] calls none = let is : length_of calls ≡ 0 = ap length_of none in omega (arith, is)
+resets_cost d clock l (p ∷ ps) calls made =
+    let is : length_of calls ≡ length_of made.0 + length_of made.1 = ap length_of made.2 ∙ sum_by-append call_cost made.0 made.1 in
+    let rest = resets_cost d clock l ps made.1 made.4 in
+    let stores = made.3.2.stores in
+    let first : length_of made.0 ≤ may d p = subst (λ o. length_of made.0 ≤ may_or d o) (sym made.3.1) (omega (arith, stores)) in
+    let sum = sum_by-cons (may d) p ps in
+    omega (arith, is, rest, first, sum)
+
+copy_cost : (l : Layout) (bs : List ℕ) → length_of (copy_shadows l bs) ≡ length bs
+copy_cost l [] = refl
+copy_cost l (b ∷ bs) = let long : length (map home (b ∷ bs)) ≡ length (b ∷ bs) = length-map (b ∷ bs) home in omega (arith, long)
+
+within : (d : Design) → AreWithin d (may d)
+within d = record { each = λ p x e. subst (λ o. may_or d o ≤ stores_of d x) (sym e) (same (stores_of d x)) }
+  where
+    same : (n : ℕ) → n ≤ n
+    same n = omega arith
+
+pub record Small (d : Design) (p : Program) : Type 0 where
+  pub first : first_stores p ≤ size d
+  pub fall : fall_stores p ≤ size d
+  pub rise : rise_stores p ≤ size d
+
+pub small : FewAreApart → StoresFit → (d : Design) (name : List ℕ) (a : IsAcceptedDesign d name) (order : List ℕ) → is_level_order d order ≡ true
+    → (l : Layout) → IsLayoutOf d l → (regs : List ℕ) (p : Program) → IsMadeOf d a.clock.first order regs l p → Small d p
+small fewer fit d name a order ordered l low regs p made =
+    let fits : StoresFitIn d a.clock.first order (may d) (may d) = fit d name a order ordered (may d) (may d) (within d) (within d) in
+    let inputs : length p.inputs ≡ length (data_bits d a.clock.first) = ap length made.inputs in
+    let clocks = made.clocks.few in
+    let few = few_registers fewer d regs made.registers in
+    let resets = resets_cost d a.clock.first l (clocked d) made.resets made.resets_are in
+    let first : length_of p.first ≤ sum_by (may d) (clocked d) + sum_by (may d) (but_ports d a.clock.first order) =
+    let is : length_of p.first ≡ length_of made.resets + length_of made.settle_first = ap length_of made.first ∙ sum_by-append call_cost made.resets made.settle_first in
+    let own = calls_cost d l (but_ports d a.clock.first order) made.settle_first made.first_are in omega (arith, is, own, resets) in
+    let fall : length_of p.fall ≤ sum_by (may d) (clocked d) + sum_by (may d) (fall_processes d a.clock.first order) =
+    let is : length_of p.fall ≡ length_of made.resets_again + length_of made.settle_fall = ap length_of made.fall ∙ sum_by-append call_cost made.resets_again made.settle_fall in
+    let again = resets_cost d a.clock.first l (clocked d) made.resets_again made.again_are in
+    let own = calls_cost d l (fall_processes d a.clock.first order) made.settle_fall made.fall_are in omega (arith, is, own, again) in
+    let rise = calls_cost d l (rise_processes d a.clock.first order) p.rise made.rise in
+    let blocks = calls_cost d l (clocked d) made.blocks made.blocks_are in
+    let copy = copy_cost l regs in
+    let next : length_of p.next ≡ length_of made.blocks + length_of (copy_shadows l regs) = ap length_of made.next ∙ sum_by-append call_cost made.blocks (copy_shadows l regs) in
+    let later = fits.cones (fall_bits d a.clock.first) in
+    let risen = fits.cones (register_bits d.processes) in
+    record {
+      first = omega (arith, fits.fall, inputs, clocks, first);
+      fall = omega (arith, fits.fall, inputs, clocks, fall, later);
+      rise = omega (arith, fits.rise, clocks, rise, blocks, copy, next, risen, few);
+    }
+
+-- ---- slots
+
+calls_in : (d : Design) (count : ℕ) (l : Layout) (ps : List ℕ) (calls : List Call) → AreCallsOf d l ps calls
+    → ((q : ℕ) (x : Process) → slice_get d.processes q ≡ Some x → l.first_temp + process_weight x ≤ count) → AreIn count calls
+calls_in d count l [] calls none room = subst (AreIn count) (sym none) (All-nil (λ slot. slot < count))
+calls_in d count l (p ∷ ps) calls made room =
+    subst (AreIn count) (sym made.2)
+    (subst (All (λ slot. slot < count)) (sym (flat_map-append call_slots made.0 made.1))
+    (All-append (λ slot. slot < count) (slots_of made.0) (slots_of made.1)
+    (let enough = room p made.3.0 made.3.1 in All-weaker (λ slot. slot < l.first_temp + process_weight made.3.0) (λ slot. slot < count) (λ slot k. omega (arith, k, enough)) (slots_of made.0) (lowered_slots d l (mask_of d p) made.3.0 made.0 made.3.2))
+    (calls_in d count l ps made.1 made.4 room)))
+
+resets_in : (d : Design) (clock count : ℕ) (l : Layout) (ps : List ℕ) (calls : List Call) → AreResetsOf d clock l ps calls
+    → ((q : ℕ) (x : Process) → slice_get d.processes q ≡ Some x → l.first_temp + process_weight x ≤ count) → AreIn count calls
+resets_in d clock count l [] calls none room = subst (AreIn count) (sym none) (All-nil (λ slot. slot < count))
+resets_in d clock count l (p ∷ ps) calls made room =
+    subst (AreIn count) (sym made.2)
+    (subst (All (λ slot. slot < count)) (sym (flat_map-append call_slots made.0 made.1))
+    (All-append (λ slot. slot < count) (slots_of made.0) (slots_of made.1)
+    (let enough = room p made.3.0 made.3.1 in All-weaker (λ slot. slot < l.first_temp + process_weight made.3.0) (λ slot. slot < count) (λ slot k. omega (arith, k, enough)) (slots_of made.0) made.3.2.slots)
+    (resets_in d clock count l ps made.1 made.4 room)))
+
+-- of calls and more calls
+both_in : (count : ℕ) (calls first rest : List Call) → calls ≡ first ++ rest → AreIn count first → AreIn count rest → AreIn count calls
+both_in count calls first rest is f r =
+    subst (AreIn count) (sym is)
+    (subst (All (λ slot. slot < count)) (sym (flat_map-append call_slots first rest))
+    (All-append (λ slot. slot < count) (slots_of first) (slots_of rest) f r))
+
+-- each number of a list that a function gives
+all_map : (count : ℕ) (f : ℕ → ℕ) (bs : List ℕ) → ((b : ℕ) → contains bs b ≡ true → f b < count) → All (λ slot. slot < count) (map f bs)
+all_map count f [] h = All-nil (λ slot. slot < count)
+all_map count f (b ∷ bs) h = All-append (λ slot. slot < count) (f b ∷ []) (map f bs) (single (f b) (h b (in_first b bs))) (all_map count f bs (λ c k. h c (in_rest b bs c k)))
+  where
+    single : (x : ℕ) → x < count → All (λ slot. slot < count) (x ∷ [])
+    single x h zero d l = h
+    single x h (suc k) d l = absurd (omega arith)
+
+copy_in : (count : ℕ) (l : Layout) (bs : List ℕ) → ((b : ℕ) → contains bs b ≡ true → l.shadow b < count) → ((b : ℕ) → contains bs b ≡ true → home b < count) → AreIn count (copy_shadows l bs)
+copy_in count l [] h k = All-nil (λ slot. slot < count)
+copy_in count l (b ∷ bs) h k =
+    subst (All (λ slot. slot < count)) (sym (shape (map l.shadow (b ∷ bs)) (map home (b ∷ bs))))
+    (All-append (λ slot. slot < count) (map l.shadow (b ∷ bs)) (map home (b ∷ bs)) (all_map count l.shadow (b ∷ bs) h) (all_map count home (b ∷ bs) k))
+  where
+    shape : (xs ys : List ℕ) → (concat (xs ∷ []) ++ (ys ++ [])) ++ [] ≡ xs ++ ys
+    shape xs ys = simp Rattle.std.proofs.Common.append-nil
+
+all_below : (count : ℕ) (bs : List ℕ) → ((b : ℕ) → contains bs b ≡ true → b < count) → list_all (is_below count) bs ≡ true
+all_below count [] h = refl
+all_below count (b ∷ bs) h = ap (λ c. c && list_all (is_below count) bs) (lt_true b count (h b (in_first b bs))) ∙ all_below count bs (λ c k. h c (in_rest b bs c k))
+
+le_true : (m n : ℕ) → m ≤ n → nat_le m n ≡ true
+le_true m n h = grind arith
+
+true_le : (m n : ℕ) → nat_le m n ≡ true → m ≤ n
+true_le m n h = grind arith
+
+positive : (s : Signal) → 1 ≤ signal_length s
+positive s = of_range s.range
+  where
+    of_range : (r : Option Range) → 1 ≤ range_or_one r
+    of_range None = omega arith
+    of_range (Some r) = go (is_descending r)
+      where
+        go : (c : Bool) → 1 ≤ (if c then suc (Rattle.std.proofs.Common.◌-◌ r.left r.right) else suc (Rattle.std.proofs.Common.◌-◌ r.right r.left))
+        go true = omega arith
+        go false = omega arith
+
+few_bits : (s : Signal) → is_lawful_range s.range ≡ true → signal_length s ≤ 64
+few_bits s h = of_range s.range h
+  where
+    of_range : (r : Option Range) → is_lawful_range r ≡ true → range_or_one r ≤ 64
+    of_range None h = omega arith
+    of_range (Some r) h = true_le (range_length r) 64 (and_parts (nat_le r.left 65535 && nat_le r.right 65535) (nat_le (range_length r) 64) h).1
+
+spans_fit : (d : Design) (k count : ℕ) (ss : List Signal) → list_all (is_declared d) ss ≡ true → have_bits_from k ss ≡ true → k + sum_by signal_length ss ≤ count → list_all (spans count) (map span_of ss) ≡ true
+spans_fit d k count [] declared numbered l = refl
+spans_fit d k count (s ∷ ss) declared numbered l =
+    let a = and_parts (is_declared d s) (list_all (is_declared d) ss) declared in
+    let b = and_parts (s.first == k) (have_bits_from (k + signal_length s) ss) numbered in
+    let first : s.first ≡ k = eqb-true s.first k b.0 in
+    let sum = sum_by-cons signal_length s ss in
+    let range = and_parts (nat_lt s.scope (length d.scopes) && is_lawful_range s.range) (not s.input || (s.net && (s.scope == 0))) a.0 in
+    let lawful : is_lawful_range s.range ≡ true = (and_parts (nat_lt s.scope (length d.scopes)) (is_lawful_range s.range) range.0).1 in
+    let few = few_bits s lawful in
+    let some = positive s in
+    let c1 : nat_le 1 (signal_length s) ≡ true = le_true 1 (signal_length s) some in
+    let c2 : nat_le (signal_length s) 64 ≡ true = le_true (signal_length s) 64 few in
+    let c3 : nat_le (s.first + signal_length s) count ≡ true = le_true (s.first + signal_length s) count (omega (arith, first, sum, l)) in
+    let here : spans count (span_of s) ≡ true = ap (λ z. z && nat_le (signal_length s) 64 && nat_le (s.first + signal_length s) count) c1 ∙ ap (λ z. z && nat_le (s.first + signal_length s) count) c2 ∙ c3 in
+    ap (λ z. z && list_all (spans count) (map span_of ss)) here ∙ spans_fit d (k + signal_length s) count ss a.1 b.1 (omega (arith, sum, l))
+
+-- the widest process, and the registers, are within the size
+widest_small : (xs : List Process) → widest_of xs ≤ sum_by process_weight xs
+widest_small [] = omega arith
+widest_small (x ∷ xs) = let rest = widest_small xs in omega (arith, rest, sum_by-cons process_weight x xs)
+
+pub in_range : FewAreApart → StoresFit → SourcesOfDesign → (d : Design) (name : List ℕ) (a : IsAcceptedDesign d name) (order : List ℕ) → is_level_order d order ≡ true
+    → (l : Layout) → IsLayoutOf d l → (regs : List ℕ) (p : Program) → IsMadeOf d a.clock.first order regs l p → IsInRange p
+in_range fewer fit sources d name a order ordered l low regs p made =
+    let from : SourcesAre d a.clock.first = sources d name a in
+    let fits = small fewer fit d name a order ordered l low regs p made in
+    let bits : l.bits ≡ bit_count d = low.bits in
+    let temps = low.layout.temps_above in
+    let homes : home p.bits ≤ length p.initial = subst (λ k. home k ≤ length p.initial) (bits ∙ sym made.bits) (omega (arith, temps, made.slots)) in
+    let fit : length p.initial ≤ slots_of_design d = made.few_slots in
+    let wide = widest_small d.processes in
+    let masks = sleepers_small d 0 d.processes in
+    let few_slots : length p.initial < 2 ^ 32 = omega (arith, fit, wide, masks, a.small, a.lawful.few_bits) in
+    record {
+      count = few_slots;
+      bits = homes;
+      inputs = all_below p.bits p.inputs (λ b h. subst (λ k. b < k) (sym made.bits) (from.data_below b (subst (λ bs. contains bs b ≡ true) made.inputs h)));
+      clocks = all_below p.bits p.clocks (λ b h. subst (λ k. b < k) (sym made.bits) (from.nets_below b (sym (made.clocks.has b) ∙ h)));
+      signals = subst (λ (ss : List Span). list_all (spans p.bits) ss ≡ true) (sym made.signals) (spans_fit d 0 p.bits d.signals a.lawful.declared a.lawful.bits_numbered (omega (arith, made.bits)));
+      first = both_in (length p.initial) p.first made.resets made.settle_first made.first (resets_in d a.clock.first (length p.initial) l (clocked d) made.resets made.resets_are made.room) (calls_in d (length p.initial) l (first_processes d a.clock.first order) made.settle_first made.first_are made.room);
+      fall = both_in (length p.initial) p.fall made.resets_again made.settle_fall made.fall (resets_in d a.clock.first (length p.initial) l (clocked d) made.resets_again made.again_are made.room) (calls_in d (length p.initial) l (fall_processes d a.clock.first order) made.settle_fall made.fall_are made.room);
+      next = subst (AreIn (length p.initial)) (sym made.next)
+          (subst (All (λ slot. slot < length p.initial)) (sym (flat_map-append call_slots made.blocks (copy_shadows l regs)))
+          (All-append (λ slot. slot < length p.initial) (slots_of made.blocks) (slots_of (copy_shadows l regs))
+          (calls_in d (length p.initial) l (clocked d) made.blocks made.blocks_are made.room)
+          (copy_in (length p.initial) l regs
+          (λ b h. let below = low.layout.shadow_below b (sym (made.registers.has b) ∙ h) in omega (arith, below, made.slots))
+          (λ b h. let below = from.registers_below b (sym (made.registers.has b) ∙ h) in omega (arith, below, homes, made.bits)))));
+      rise = calls_in d (length p.initial) l (rise_processes d a.clock.first order) p.rise made.rise made.room;
+      few_first = omega (arith, fits.first, a.small);
+      few_fall = omega (arith, fits.fall, a.small);
+      few_rise = omega (arith, fits.rise, a.small);
+    }

@@ -1,0 +1,91 @@
+-- What a program of a design does in each time slot (IEEE 1364-2005, clause 11).
+use Rattle.std.specs.Prelude.{◌≡◌, ℕ, ◌<◌, ◌≤◌, true, false, List, length, map}
+use Rattle.vs_four.specs.declared.Bit4.{Bit4}
+use Rattle.vs_four.specs.declared.Bit4.TheVariants.{Zero, One}
+use Rattle.vs_net.specs.Network as N
+use Rattle.vs_net.specs.Queue.{Slot, Fall, Rise}
+use Rattle.vs_net.specs.Solution.{IsSlotEnd}
+use Rattle.vs_design.specs.Expressions.{Signal, signal_length}
+use Rattle.vs_design.specs.Values.{count_from}
+use Rattle.vs_design.specs.Designs.{Design}
+use Rattle.vs_design.specs.Footprints.{contains}
+use Rattle.vs_design.specs.Networks.{network_of}
+use Rattle.vs_design.specs.Sizes.{size}
+use Rattle.vs_design.specs.Accepted.{IsAcceptedDesign}
+use Rattle.vs_cone.specs.Laws.{IsSettled}
+use Rattle.vs_cone.specs.Given.{data_bits}
+use Rattle.vs_code.specs.Calls.{State, AreCalled}
+use Rattle.vs_program.specs.declared.compiled.Span.{Span}
+use Rattle.vs_program.specs.Lowered.{home, HasConstants}
+use Rattle.vs_program.specs.Layouts.{slots_of_design}
+use Rattle.vs_program.specs.Masks.{HaveMasks}
+use Rattle.vs_program.specs.Program.{Program, values, initial_slots, first_stores, fall_stores, rise_stores}
+
+-- the bits that a signal has
+abbrev pub span_of : Signal → Span
+span_of s = record { first = s.first; length = signal_length s }
+
+-- the bits of a span, least significant first
+abbrev pub span_bits : Span → List ℕ
+span_bits s = count_from s.first s.length
+
+-- the clock nets have this value
+pub record IsClocked (p : Program) (v : Bit4) (slots : State) : Type 0 where
+  pub nets : (b : ℕ) → contains p.clocks b ≡ true → slots (home b) ≡ v
+
+-- the data inputs have got a vector, and the clock has fallen; all else is as before
+pub record Falls (p : Program) (vector : N.State) (before after : State) : Type 0 where
+  pub constants : (slot : ℕ) → slot < 4 → after slot ≡ before slot
+  pub clock_is : IsClocked p Zero after
+  pub inputs : (b : ℕ) → contains p.inputs b ≡ true → contains p.clocks b ≡ false → after (home b) ≡ vector b
+  pub others : (b : ℕ) → contains p.inputs b ≡ false → contains p.clocks b ≡ false → after (home b) ≡ before (home b)
+  pub behind : (slot : ℕ) → home p.bits ≤ slot → after slot ≡ before slot
+
+-- the clock has risen; all else is as before
+pub record Rises (p : Program) (before after : State) : Type 0 where
+  pub constants : (slot : ℕ) → slot < 4 → after slot ≡ before slot
+  pub clock_is : IsClocked p One after
+  pub others : (b : ℕ) → contains p.clocks b ≡ false → after (home b) ≡ before (home b)
+  pub behind : (slot : ℕ) → home p.bits ≤ slot → after slot ≡ before slot
+
+-- a lane's slots hold the values at the end of this time slot, the constants, and the masks
+pub record IsEnd (d : Design) (clock : ℕ) (p : Program) (before : State) (slot : Slot) (after : State) : Type 0 where
+  pub constants : HasConstants after
+  pub masks : HaveMasks d clock p.bits after
+  pub ends : IsSlotEnd (network_of d clock) (values p.bits before) slot (values p.bits after)
+
+-- a lane's slots hold the constants, settled values of the bits, and the masks: so they do at the end of every slot
+pub record IsReached (d : Design) (clock : ℕ) (p : Program) (slots : State) : Type 0 where
+  pub constants : HasConstants slots
+  pub masks : HaveMasks d clock p.bits slots
+  pub settled : IsSettled (network_of d clock) (values p.bits slots)
+
+-- the program is one of the design whose clock is this bit
+pub record IsProgramOf (d : Design) (clock : ℕ) (p : Program) : Type 0 where
+  pub inputs : p.inputs ≡ data_bits d clock
+  pub signals : p.signals ≡ map span_of d.signals
+  -- it begins with the constants, and with the values that the bits have before anything writes them (4.2)
+  pub constants : HasConstants (initial_slots p)
+  pub idle : values p.bits (initial_slots p) ≡ (network_of d clock).idle
+  pub begins : HaveMasks d clock p.bits (initial_slots p)
+  -- in a first slot the clock falls: whatever the values at its beginning, where the masks fit them the program leaves those at its end
+  pub first : (vector : N.State) (before fallen after : State) → HasConstants before → HaveMasks d clock p.bits before
+      → Falls p vector before fallen → AreCalled p.first fallen after → IsEnd d clock p before (Fall vector) after
+  -- and so in a later one, which begins where another has ended
+  pub falls : (vector : N.State) (before fallen after : State) → IsReached d clock p before
+      → Falls p vector before fallen → AreCalled p.fall fallen after → IsEnd d clock p before (Fall vector) after
+  -- where the clock rises, the registers' next values come from those before it
+  pub rises : (before stepped risen after : State) → IsReached d clock p before
+      → AreCalled p.next before stepped → Rises p stepped risen → AreCalled p.rise risen after → IsEnd d clock p before Rise after
+  -- within the design's size
+  pub first_small : first_stores p ≤ size d
+  pub fall_small : fall_stores p ≤ size d
+  pub rise_small : rise_stores p ≤ size d
+  -- no more slots than the design's bits, a second one for each register bit, one for each sleeping block, and what one process needs on the way
+  pub few_slots : length p.initial ≤ slots_of_design d
+
+-- an accepted design whose clock is this bit
+pub record IsAcceptedAt (d : Design) (clock : ℕ) : Type 0 where
+  pub name : List ℕ
+  pub accepted : IsAcceptedDesign d name
+  pub clock_is : accepted.clock.first ≡ clock

@@ -1,0 +1,32 @@
+//! What holds of programs that are made of lowered processes.
+
+ghost use Rattle.vs_program.specs.Layouts.{LayoutsFit, MasksFit};
+ghost use Rattle.vs_program.specs.Made.{CallsGrow, ProgramsAreInRange, ProgramsAreMade, RegistersInOrder, ResetsGrow, StoresAreFew};
+
+use vs_code::{sequence_law, weight_law};
+use vs_cone::{fall_law, list_law, rise_law, sources_law, stores_law};
+use vs_design::{cycle_law, footprint_law, lawful_law, reads_law};
+
+/// Where each process is lowered, the calls of all of them, put together slot by slot, are a program of the design, within its size (`made`), and all of its slots are there (`in_range`). The rest is what is needed to put them together: a layout, the registers in order, and lists that grow call by call.
+pub fn program_law()
+    ensures made { ProgramsAreMade }
+    ensures in_range { ProgramsAreInRange }
+    ensures layout { LayoutsFit }
+    ensures masks { MasksFit }
+    ensures registers { RegistersInOrder }
+    ensures calls { CallsGrow }
+    ensures resets { ResetsGrow }
+    ensures stores { StoresAreFew }
+{
+    sequence_law();
+    weight_law();
+    fall_law();
+    rise_law();
+    list_law();
+    sources_law();
+    stores_law();
+    cycle_law();
+    footprint_law();
+    lawful_law();
+    reads_law();
+}
