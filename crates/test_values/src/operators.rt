@@ -122,7 +122,6 @@ fn apply_number<W: Chunked, L: Ledger>(
     requires a { IsArgument (length file.old) a.now to.now scratch.now }
     requires b { IsArgument (length file.old) b.now to.now scratch.now }
     requires same_length { length b.now ≡ length a.now }
-    requires scratch_length { 2 * length a.now ≤ length scratch.now }
     ensures { length file.new ≡ length file.old }
 {
     use vs_kern_arith::{run_one, run_two};
@@ -152,7 +151,6 @@ fn apply<W: Chunked, L: Ledger>(
     requires a { IsArgument (length file.old) a.now to.now scratch.now }
     requires b { IsArgument (length file.old) b.now to.now scratch.now }
     requires same_length { length b.now ≡ length a.now }
-    requires scratch_length { 2 * length a.now ≤ length scratch.now }
     ensures { length file.new ≡ length file.old }
 {
     match kernel {
@@ -260,7 +258,6 @@ fn check_kernels<W: Lanes + Chunked, L: Ledger>(
     requires a { IsArgument (length file.old) a.now to.now scratch.now }
     requires b { IsArgument (length file.old) b.now to.now scratch.now }
     requires same_length { length b.now ≡ length a.now }
-    requires scratch_length { 2 * length a.now ≤ length scratch.now }
     ensures { length file.new ≡ length file.old }
 {
     for kernel in KERNELS {

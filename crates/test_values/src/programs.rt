@@ -33,7 +33,7 @@ const LESS: Run = (14, 1);
 
 const PRODUCT: Run = (15, 4);
 
-const ROWS: Run = (19, 8);
+const SPARE: Run = (19, 8);
 
 const SAME: Run = (27, 1);
 
@@ -130,7 +130,7 @@ fn add_arithmetic(rt: &impl Abort, alloc: Global, program: &mut Program) -> Resu
         (SLOTS, 0),
     )?;
     add(rt, program, less)?;
-    let product = call(alloc, AnyKernel::Arith(Arith::Mul), &[A, B], PRODUCT, ROWS)?;
+    let product = call(alloc, AnyKernel::Arith(Arith::Mul), &[A, B], PRODUCT, SPARE)?;
     add(rt, program, product)?;
     let same = call(
         alloc,
@@ -332,7 +332,7 @@ fn a_program_is_its_operators(rt: HostRuntime) -> Result<(), Fail> {
     // The stores of a sum, of a comparison, of a product of 4 bits and of an equality, and the slots up to the last one.
     let mut program = Program::new(rt.alloc());
     add_arithmetic(&rt, rt.alloc(), &mut program)?;
-    assert_eq!(rt; program.length(), 4 + 1 + 52 + 1);
+    assert_eq!(rt; program.length(), 4 + 1 + 14 + 1);
     assert_eq!(rt; program.slots(), 28);
     Ok(())
 }

@@ -1,5 +1,5 @@
 -- The lengths that kernels take, and what a call costs and weighs.
-use Rattle.std.proofs.Common.{◌≡◌, ℕ, suc, ◌+◌, ◌*◌, ◌<◌, ◌≤◌, ◌^◌, Bool, true, false, ◌&&◌, ◌==◌, nat_le, List, [], ◌∷◌, length, if◌then◌else◌, ◌-◌, sym, subst, lit<, arith}
+use Rattle.std.proofs.Common.{◌≡◌, ℕ, suc, ◌+◌, ◌*◌, ◌/◌, ◌<◌, ◌≤◌, ◌^◌, Bool, true, false, ◌&&◌, ◌==◌, nat_le, List, [], ◌∷◌, length, if◌then◌else◌, ◌-◌, sym, subst, lit<, arith}
 use Rattle.std.specs.List.{All}
 use Rattle.std.proofs.lemmas.Bool.{and_parts, leb-true, eqb-true}
 use Rattle.std.proofs.lemmas.List.Elements.{All-head, All-tail}
@@ -84,8 +84,14 @@ arith_shape_weighs A.Comparison (a ∷ b ∷ to ∷ []) h =
 arith_shape_weighs _ _ h = cc
 
 -- a length is at most its square
-product_weighs : (w : ℕ) → 1 ≤ w → w + 3 * (w * w) ≤ 4 * (w * w)
-product_weighs w h = grind arith
+at_most_square : (w : ℕ) → 1 ≤ w → w ≤ w * w
+at_most_square w h = grind arith
+
+rows_are : (w : ℕ) → w * (w + 1) ≡ w * w + w
+rows_are w = grind arith
+
+product_weighs : (w : ℕ) → 1 ≤ w → w + w * (w + 1) / 2 ≤ 4 * (w * w)
+product_weighs w h = omega (arith, at_most_square w h, rows_are w)
 
 arith_weighs : (k : ArithKernel) (ls : List ℕ) → A.takes (A.shape_of k) ls ≡ true → A.cost_of k ls ≤ A.weight_of k ls
 arith_weighs Mul (a ∷ b ∷ to ∷ []) h =
@@ -145,5 +151,5 @@ shape_fits A.Comparison (a ∷ b ∷ to ∷ []) h = omega (arith, h 0 0 (omega a
 shape_fits _ _ h = lit< tt
 
 pub weight_fits : (k : ArithKernel) (ls : List ℕ) → All (λ n. n < 2 ^ 32) ls → A.cost_of k ls ≤ 2 ^ 32 → A.weight_of k ls < 2 ^ 64
-weight_fits Mul (a ∷ b ∷ to ∷ []) h l = omega arith
+weight_fits Mul (a ∷ b ∷ to ∷ []) h l = omega (arith, rows_are to)
 weight_fits k ls h l = shape_fits (A.shape_of k) ls h

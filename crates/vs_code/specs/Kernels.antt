@@ -32,7 +32,7 @@ cost_of (Select kernel) lengths = SelectCosts.cost_of kernel lengths
 -- how many slots it needs for what it keeps on the way
 abbrev pub room_of : AnyKernel → List ℕ → ℕ
 room_of (Logic kernel) lengths = LogicCosts.room_of lengths
-room_of (Arith kernel) lengths = ArithCosts.room_of kernel lengths
+room_of (Arith kernel) lengths = ArithCosts.room_of lengths
 room_of (Select kernel) lengths = SelectCosts.room_of lengths
 
 -- what it weighs in the size of a design

@@ -1,10 +1,11 @@
 -- Arguments stay as they were while a value is stored.
-use Rattle.std.proofs.Common.{◌≡◌, ℕ, ◌<◌, ◌≤◌, Bool, List, length, get_or, slice_get, Option, sym, ap, ◌∙◌, arith}
+use Rattle.std.proofs.Common.{◌≡◌, ℕ, ◌<◌, ◌≤◌, Bool, true, false, refl, List, length, get_or, slice_get, Option, sym, ap, ◌∙◌, arith}
 use Rattle.std.proofs.lemmas.List.{ext_get_or}
 use Rattle.vs_four.specs.declared.Bit4.TheVariants.{X}
 use Rattle.vs_four.specs.Logic.{BitList}
 use Rattle.vs_plane.specs.declared.pairs.Pair.{Pair}
-use Rattle.vs_plane.specs.Lanes.{lane_or_x}
+use Rattle.vs_four.specs.declared.Bit4.{Bit4}
+use Rattle.vs_plane.specs.Lanes.{decode, lane_or_x, pair_lane, value_bit}
 use Rattle.vs_plane.specs.Kernels.{lane_bits, AreApart, Fills, FillingComputes}
 
 pub still : {W : Type 0} (lane : W → ℕ → Bool) (lanes : ℕ) → FillingComputes lane lanes → (value : ℕ → BitList) (to : List ℕ) (done : ℕ) (before file : List (Pair W)) (arg : List ℕ) (i : ℕ)
@@ -25,3 +26,13 @@ unmoved {W} lane lanes law before file arg i same =
     (λ k h.
     let in_arg : k < length arg = omega (arith, h, law.long file arg i) in
     law.bit file arg k i in_arg ∙ ap (λ (o : Option (Pair W)). lane_or_x lane o i) (same k in_arg) ∙ sym (law.bit before arg k i in_arg))
+
+-- a bit's value plane
+plane_is : (v u : Bool) → v ≡ value_bit (decode v u)
+plane_is true true = refl
+plane_is true false = refl
+plane_is false true = refl
+plane_is false false = refl
+
+pub value_plane_is : {W : Type 0} (lane : W → ℕ → Bool) (pair : Pair W) (bit : Bit4) (i : ℕ) → pair_lane lane pair i ≡ bit → lane pair.value i ≡ value_bit bit
+value_plane_is lane pair bit i e = plane_is (lane pair.value i) (lane pair.unknown i) ∙ ap value_bit e

@@ -38,7 +38,7 @@ digits_of a k h =
 
 -- ---- sums of digits
 
-half_of : (x y c : Bool) (p q n : ℕ) → n ≡ bit x + 2 * p + (bit y + 2 * q) + bit c → n / 2 ≡ p + q + bit (carry_of x y c)
+pub half_of : (x y c : Bool) (p q n : ℕ) → n ≡ bit x + 2 * p + (bit y + 2 * q) + bit c → n / 2 ≡ p + q + bit (carry_of x y c)
 half_of true true true p q n h = omega (arith, h)
 half_of true true false p q n h = omega (arith, h)
 half_of true false true p q n h = omega (arith, h)
@@ -48,13 +48,13 @@ half_of false true false p q n h = omega (arith, h)
 half_of false false true p q n h = omega (arith, h)
 half_of false false false p q n h = omega (arith, h)
 
-is_odd : (n : ℕ) → n % 2 ≡ 1 → (n % 2 == 1) ≡ true
+pub is_odd : (n : ℕ) → n % 2 ≡ 1 → (n % 2 == 1) ≡ true
 is_odd n h = ap (λ (m : ℕ). m == 1) h
 
-is_even : (n : ℕ) → n % 2 ≡ 0 → (n % 2 == 1) ≡ false
+pub is_even : (n : ℕ) → n % 2 ≡ 0 → (n % 2 == 1) ≡ false
 is_even n h = ap (λ (m : ℕ). m == 1) h
 
-odd_of : (x y c : Bool) (p q n : ℕ) → n ≡ bit x + 2 * p + (bit y + 2 * q) + bit c → (n % 2 == 1) ≡ sum_of x y c
+pub odd_of : (x y c : Bool) (p q n : ℕ) → n ≡ bit x + 2 * p + (bit y + 2 * q) + bit c → (n % 2 == 1) ≡ sum_of x y c
 odd_of true true true p q n h = is_odd n (omega (arith, h))
 odd_of true true false p q n h = is_even n (omega (arith, h))
 odd_of true false true p q n h = is_even n (omega (arith, h))
@@ -70,16 +70,16 @@ abbrev pub halved : ℕ → ℕ → ℕ
 halved zero n = n
 halved (suc k) n = halved k (n / 2)
 
-halved_once_more : (k n : ℕ) → halved (suc k) n ≡ halved k n / 2
+pub halved_once_more : (k n : ℕ) → halved (suc k) n ≡ halved k n / 2
 halved_once_more zero n = refl
 halved_once_more (suc k) n = halved_once_more k (n / 2)
 
-get_or-bits_of : (w k n : ℕ) → k < w → get_or (bits_of w n) k X ≡ of_bool (halved k n % 2 == 1)
+pub get_or-bits_of : (w k n : ℕ) → k < w → get_or (bits_of w n) k X ≡ of_bool (halved k n % 2 == 1)
 get_or-bits_of zero k n h = absurd (let e : ⊥ = omega arith in e)
 get_or-bits_of (suc w) zero n h = refl
 get_or-bits_of (suc w) (suc k) n h = get_or-bits_of w k (n / 2) (omega arith)
 
-get_or-all_x : (w k : ℕ) → get_or (replicate w X) k X ≡ X
+pub get_or-all_x : (w k : ℕ) → get_or (replicate w X) k X ≡ X
 get_or-all_x zero k = refl
 get_or-all_x (suc w) zero = refl
 get_or-all_x (suc w) (suc k) = get_or-all_x w k
@@ -159,7 +159,7 @@ pub length-bits_of : (w n : ℕ) → length (bits_of w n) ≡ w
 length-bits_of zero n = refl
 length-bits_of (suc w) n = ap suc (length-bits_of w (n / 2))
 
-length-all_x : (w : ℕ) → length (replicate w X) ≡ w
+pub length-all_x : (w : ℕ) → length (replicate w X) ≡ w
 length-all_x zero = refl
 length-all_x (suc w) = ap suc (length-all_x w)
 

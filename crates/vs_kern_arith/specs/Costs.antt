@@ -1,5 +1,5 @@
 -- The lengths that a kernel takes, those of its arguments in their order and then that of its value, and the stores that it makes.
-use Rattle.std.specs.Prelude.{ℕ, ◌+◌, ◌*◌, Bool, true, false, ◌&&◌, List, [], ◌∷◌, ◌==◌, nat_le}
+use Rattle.std.specs.Prelude.{ℕ, ◌+◌, ◌*◌, ◌/◌, Bool, true, false, ◌&&◌, List, [], ◌∷◌, ◌==◌, nat_le}
 use Rattle.vs_four.specs.Lengths.{last_or}
 use Rattle.vs_kern_arith.specs.declared.costs.Kernel.{Kernel}
 use Rattle.vs_kern_arith.specs.declared.costs.Kernel.TheVariants.{Add, Sub, Mul, Neg, Less, LessEqual, Greater, GreaterEqual}
@@ -38,15 +38,14 @@ gives_vector Mul = true
 gives_vector Neg = true
 gives_vector _ = false
 
--- a store for each bit of the value; a product stores its value first and again after each of w rows, and each time the double and the row
+-- a store for each bit of the value; a product stores its value first, and then what each of its w rows changes: w bits, w - 1, and so on to 1
 abbrev pub cost_of : Kernel → List ℕ → ℕ
-cost_of Mul (a ∷ b ∷ to ∷ []) = to + 3 * (to * to)
+cost_of Mul (a ∷ b ∷ to ∷ []) = to + to * (to + 1) / 2
 cost_of kernel lengths = last_or 0 lengths
 
--- the slots of a product's double and row; the others need none
-abbrev pub room_of : Kernel → List ℕ → ℕ
-room_of Mul (a ∷ b ∷ to ∷ []) = 2 * to
-room_of kernel lengths = 0
+-- no slots on the way
+abbrev pub room_of : List ℕ → ℕ
+room_of lengths = 0
 
 -- what an operation of this shape weighs in the size of a design
 abbrev pub weight_of_shape : Shape → List ℕ → ℕ

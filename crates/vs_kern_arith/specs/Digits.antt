@@ -42,6 +42,10 @@ summed inverted w a b = if_known (all_known a && all_known b) w (bits_of w (tota
 
 -- ---- place by place
 
+-- the digits of a vector; those past its end are 0
+abbrev pub digits : BitList → ℕ → Bool
+digits a k = value_bit (slice_index_or a k Zero)
+
 -- the digits of a vector from place k on, inverted where this says so; those past its end are 0, inverted too
 abbrev pub digits_from : Bool → BitList → ℕ → ℕ → Bool
 digits_from inverted a k j = differ inverted (value_bit (slice_index_or a (k + j) Zero))

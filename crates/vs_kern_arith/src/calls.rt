@@ -1,7 +1,7 @@
 //! Kernels called by their names.
-ghost use Rattle.std.specs.Prelude.{◌≡◌, ◌+◌, ◌≤◌, length, true, [], ◌∷◌};
+ghost use Rattle.std.specs.Prelude.{◌≡◌, ◌+◌, length, true, [], ◌∷◌};
 ghost use Rattle.vs_plane.specs.Kernels.{AreTargets, Computes, IsArgument};
-ghost use Rattle.vs_kern_arith.specs.Costs.{cost_of, room_of, shape_of, takes};
+ghost use Rattle.vs_kern_arith.specs.Costs.{cost_of, shape_of, takes};
 ghost use Rattle.vs_kern_arith.specs.Operators.{operator_of};
 
 use crate::costs::Kernel;
@@ -49,7 +49,6 @@ pub fn run_two<W: Chunked, L: Ledger>(
     steps: &mut Steps<L>,
 )
     requires lengths { takes (shape_of kernel) (length a.now ∷ length b.now ∷ length to.now ∷ []) ≡ true }
-    requires room { room_of kernel (length a.now ∷ length b.now ∷ length to.now ∷ []) ≤ length scratch.now }
     requires targets { AreTargets (length file.old) to.now scratch.now }
     requires a { IsArgument (length file.old) a.now to.now scratch.now }
     requires b { IsArgument (length file.old) b.now to.now scratch.now }

@@ -1,5 +1,5 @@
 //! The kernels by name, and what each call takes.
-ghost use Rattle.std.specs.Prelude.{◌≡◌, ◌+◌, ◌*◌, ◌<◌, ◌≤◌, ◌^◌, true};
+ghost use Rattle.std.specs.Prelude.{◌≡◌, ◌+◌, ◌*◌, ◌/◌, ◌<◌, ◌≤◌, ◌^◌, true};
 ghost use Rattle.vs_four.specs.Lengths.{last_or};
 ghost use Rattle.vs_kern_arith.specs.Costs.{cost_of, gives_vector, room_of, shape_of, takes, weight_of};
 
@@ -34,7 +34,7 @@ impl Kernel {
 }
 
 /// How many stores a call makes, by the lengths of its arguments in their order and then that of its value: one a bit of the value, and
-/// for `*` 3w more a bit.
+/// for `*` w(w + 1)/2 more.
 pub fn cost(kernel: Kernel, lengths: &[u32]) -> u64
     requires lengths { takes (shape_of kernel) lengths.now ≡ true }
     requires fits { weight_of kernel lengths.now < 2 ^ 64 }
@@ -53,22 +53,19 @@ pub fn cost(kernel: Kernel, lengths: &[u32]) -> u64
 fn product_cost(width: u64) -> u64
     requires some { 1 ≤ width }
     requires fits { 4 * (width * width) < 2 ^ 64 }
-    ensures exact { result ≡ width + 3 * (width * width) }
+    ensures exact { result ≡ width + width * (width + 1) / 2 }
     ensures weight { result ≤ 4 * (width * width) }
 {
     let square = width * width;
     prove!(width <= square);
-    width + 3 * square
+    width + (square + width) / 2
 }
 
-/// How many slots a call needs for what it keeps on the way: 2w for `*`, and none for the others. The lengths are as for `cost`.
+/// How many slots a call needs for what it keeps on the way: none. The lengths are as for `cost`.
 pub fn room(kernel: Kernel, lengths: &[u32]) -> u64
     requires { takes (shape_of kernel) lengths.now ≡ true }
-    ensures exact { result ≡ room_of kernel lengths.now }
+    ensures exact { result ≡ room_of lengths.now }
     ensures with_value { result + last_or 0 lengths.now ≤ cost_of kernel lengths.now }
 {
-    match kernel {
-        Kernel::Mul => 2 * u64::from(lengths[0]),
-        _ => 0,
-    }
+    0
 }

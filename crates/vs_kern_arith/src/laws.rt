@@ -3,7 +3,6 @@ ghost use Rattle.std.specs.Prelude.{◌≡◌, ℕ, ◌+◌, ◌<◌, ◌^◌, f
 ghost use Rattle.vs_four.specs.Logic.{all_known};
 ghost use Rattle.vs_plane.specs.Kernels.{AreTargets, Fills, IsArgument, lane_bits};
 ghost use Rattle.vs_kern_arith.specs.Digits.{digits_from, first_bits, sum_digit};
-ghost use Rattle.vs_kern_arith.specs.Rows.{row_digit};
 
 use crate::words::{digit_at, digit_sum, flipped, known_bits, next_carry};
 use std::sync::ledger::Ledger;
@@ -49,28 +48,5 @@ pub(crate) fn sum_places<W: Word, L: Ledger>(
         let pair = known_bits(unknown, digit_sum(first, second, into));
         file.store(*slot, pair, steps);
         into = next_carry(first, second, into);
-    }
-}
-
-/// The bits of a row from place `k` on, place by place.
-pub(crate) fn row_places<W: Word, L: Ledger>(
-    unknown: W,
-    digit: W,
-    file: &mut PlaneFile<W>,
-    a: &[u32],
-    k: usize,
-    to: &[u32],
-    steps: &mut Steps<L>,
-)
-    requires targets { AreTargets (length file.old) to.now [] }
-    requires a { IsArgument (length file.old) a.now to.now [] }
-    requires fits { k + length to.now < 2 ^ 64 }
-    ensures fills { Fills W.lane W.LANES (λ i. first_bits (row_digit (W.lane unknown i) (W.lane digit i) (digits_from false (lane_bits W.lane file.old a.now i) k)) (length to.now)) to.now (length to.now) file.old file.new }
-    ensures ticked { steps.new ≡ steps.old + length to.now }
-{
-    filling_law::<W>();
-    for (j, slot) in to.iter().enumerate() {
-        let bits = digit_at(file, a, k + j).and(digit);
-        file.store(*slot, known_bits(unknown, bits), steps);
     }
 }
