@@ -14,10 +14,11 @@ use Rattle.vs_ast.specs.declared.items.Item.{Item as ItemNode}
 use Rattle.vs_ast.specs.declared.items.GenerateBlock.{GenerateBlock as BlockNode}
 use Rattle.vs_ast.specs.declared.items.GenerateArm.{GenerateArm}
 use Rattle.vs_ast.specs.Views as view
-use Rattle.vs_parser.specs.declared.input.Input.{Input}
+use Rattle.vs_phrase.specs.declared.input.Input.{Input}
 use Rattle.vs_parser.specs.Parts as part
-use Rattle.vs_parser.specs.Reading.{kind_at, bytes_in, Read, Parsed, ItemRead, ItemsGrown, items_from}
-use Rattle.vs_parser.proofs.Places.{ap2, parsed, read_eps, read_many, grown_start, grown_more}
+use Rattle.vs_parser.specs.ItemLists.{ItemRead, ItemsGrown, items_from}
+use Rattle.vs_phrase.specs.Reading.{kind_at, bytes_in, Read, Parsed}
+use Rattle.vs_phrase.proofs.Places.{ap2, parsed, read_eps, read_many, grown_start, grown_more}
 
 -- ---- arms of a generate case
 
@@ -41,7 +42,7 @@ block_arms_append [] ys tail = refl
 block_arms_append (x ∷ xs) ys tail = ap (λ z. tree.AndGenerateArm x.0 x.1 z) (block_arms_append xs ys tail)
 
 -- a default and the arms behind it
-pub block_default_first : (b : ℕ → List ℕ) (d : D (r rule.GenerateCaseDefault)) (l : D (star (r rule.GenerateCaseItem))) (empty list : List GenerateArm) (s : BlockNode) → part.generate_default_of b d ≡ tree.OtherwiseBlock (view.block s) → empty ≡ [] → map part.generate_arm_view empty ++ each_onto (part.generate_arm_of b) l [] ≡ map part.generate_arm_view list → part.generate_cases_of b (named (former (both d l))) ≡ (view.generate_arms list, tree.OtherwiseBlock (view.block s))
+pub block_default_first : (b : ℕ → List ℕ) (d : D (r rule.GenerateCaseDefault)) (l : D (star (r rule.GenerateCaseItem))) (empty list : List GenerateArm) (s : BlockNode) → meaning.default_block_of b d ≡ tree.OtherwiseBlock (view.block s) → empty ≡ [] → map part.generate_arm_view empty ++ each_onto (part.generate_arm_of b) l [] ≡ map part.generate_arm_view list → part.generate_cases_of b (named (former (both d l))) ≡ (view.generate_arms list, tree.OtherwiseBlock (view.block s))
 block_default_first b d l empty list s p q m = ap2 (λ x y. (x, y)) (sym (block_arms_of_list b l [] tree.NoGenerateArm) ∙ ap (λ w. block_arms_from w tree.NoGenerateArm) (ap (λ w. map part.generate_arm_view w ++ each_onto (part.generate_arm_of b) l []) (sym q) ∙ m) ∙ sym (block_arms_viewed list)) p
 
 -- arms alone
@@ -52,7 +53,7 @@ block_arms_alone b a l z first begun list p q m = ap (λ x. (x, tree.NoBlockFall
     block_first_arms b a l first begun list p q m = block_arm_put b a (meaning.generate_arms_onto b l tree.NoGenerateArm) ∙ ap (λ w. tree.AndGenerateArm (part.generate_arm_of b a).0 (part.generate_arm_of b a).1 w) (sym (block_arms_of_list b l [] tree.NoGenerateArm)) ∙ ap (λ w. block_arms_from (w ∷ each_onto (part.generate_arm_of b) l []) tree.NoGenerateArm) p ∙ ap (λ w. block_arms_from w tree.NoGenerateArm) (ap (λ w. map part.generate_arm_view w ++ each_onto (part.generate_arm_of b) l []) (sym q) ∙ m) ∙ sym (block_arms_viewed list)
 
 -- arms, a default, and arms again
-pub block_arms_around : (b : ℕ → List ℕ) (a : D (r rule.GenerateCaseItem)) (l : D (star (r rule.GenerateCaseItem))) (d : D (r rule.GenerateCaseDefault)) (n : D (star (r rule.GenerateCaseItem))) (first : GenerateArm) (begun before list : List GenerateArm) (s : BlockNode) → part.generate_arm_of b a ≡ part.generate_arm_view first → begun ≡ first ∷ [] → map part.generate_arm_view begun ++ each_onto (part.generate_arm_of b) l [] ≡ map part.generate_arm_view before → part.generate_default_of b d ≡ tree.OtherwiseBlock (view.block s) → map part.generate_arm_view before ++ each_onto (part.generate_arm_of b) n [] ≡ map part.generate_arm_view list → part.generate_cases_of b (named (latter (both a (both l (former (both d n)))))) ≡ (view.generate_arms list, tree.OtherwiseBlock (view.block s))
+pub block_arms_around : (b : ℕ → List ℕ) (a : D (r rule.GenerateCaseItem)) (l : D (star (r rule.GenerateCaseItem))) (d : D (r rule.GenerateCaseDefault)) (n : D (star (r rule.GenerateCaseItem))) (first : GenerateArm) (begun before list : List GenerateArm) (s : BlockNode) → part.generate_arm_of b a ≡ part.generate_arm_view first → begun ≡ first ∷ [] → map part.generate_arm_view begun ++ each_onto (part.generate_arm_of b) l [] ≡ map part.generate_arm_view before → meaning.default_block_of b d ≡ tree.OtherwiseBlock (view.block s) → map part.generate_arm_view before ++ each_onto (part.generate_arm_of b) n [] ≡ map part.generate_arm_view list → part.generate_cases_of b (named (latter (both a (both l (former (both d n)))))) ≡ (view.generate_arms list, tree.OtherwiseBlock (view.block s))
 block_arms_around b a l d n first begun before list s p q m e o = ap2 (λ x y. (x, y)) all e
   where
     inner : meaning.generate_arms_onto b n tree.NoGenerateArm ≡ block_arms_from (each_onto (part.generate_arm_of b) n []) tree.NoGenerateArm

@@ -1,7 +1,6 @@
 -- From places to whole texts.
 use Rattle.std.proofs.Common.{◌≡◌, ℕ, zero, suc, ◌+◌, ◌<◌, ◌≤◌, ◌≢◌, true, false, List, [], ◌∷◌, ◌++◌, drop, length, get_or, refl, sym, ◌∙◌, ap, subst, arith, ◌⊎◌, inl, inr}
-use Rattle.std.specs.Prelude.{Result, Ok, IfErr, IsErrAnd, Option, Some, None}
-use Rattle.std.specs.Prelude.{ltb}
+use Rattle.std.specs.Prelude.{Result, Ok, IfErr, IsErrAnd, Option, Some, None, ltb}
 use Rattle.std.proofs.lemmas.Bool.Decides.{nat_tests}
 use Rattle.std.proofs.lemmas.List.{drop_all}
 use Rattle.std.proofs.lemmas.Result.{err_from_is_err_and}
@@ -26,13 +25,13 @@ use Rattle.vs_grammar.specs.Spelled.{NoneLeftOut, Spells}
 use Rattle.vs_grammar.proofs.Stopped.{stopping, sinking}
 use Rattle.vs_grammar.proofs.Whole.{derived, stops, sinks}
 use Rattle.vs_grammar.proofs.Decided.{verilog_is_predictive}
-use Rattle.vs_parser.specs.declared.input.Input.{Input}
-use Rattle.vs_parser.specs.declared.error.ParseError.{ParseError}
-use Rattle.vs_parser.specs.declared.error.ParseError.TheVariants.{Syntax}
+use Rattle.vs_phrase.specs.declared.input.Input.{Input}
+use Rattle.vs_phrase.specs.declared.error.ParseError.{ParseError}
+use Rattle.vs_phrase.specs.declared.error.ParseError.TheVariants.{Syntax}
 use Rattle.vs_parser.specs.Faults.{Fault}
-use Rattle.vs_parser.specs.Reading.{kind_at, from, terminal_at, Refused, Parsed}
-use Rattle.vs_parser.specs.Reading.Refused.{stopped, too_deep, out_of_memory}
-use Rattle.vs_parser.proofs.Places.{from_head, kind_end, kind_in, below_end, at_head}
+use Rattle.vs_phrase.specs.Reading.{kind_at, from, terminal_at, Refused, Parsed}
+use Rattle.vs_phrase.specs.Reading.Refused.{stopped, too_deep, out_of_memory}
+use Rattle.vs_phrase.proofs.Places.{from_head, kind_end, kind_in, below_end, at_head}
 
 -- ---- places and terminals
 

@@ -1,11 +1,3 @@
-pub mod Places
-pub mod Firsts
-pub mod Tables
-pub mod Chains
-pub mod Choices
-pub mod Numbers
-pub mod Lists
-pub mod Arms
 pub mod Pieces
 pub mod Blocks
 pub mod Headers

@@ -1,5 +1,5 @@
 -- What pieces of declarations and event controls stand for.
-use Rattle.std.proofs.Common.{◌≡◌, ℕ, Bool, true, false, List, [], ◌∷◌, ◌++◌, map, refl, sym, ◌∙◌, ap, arith, ◌<◌, length}
+use Rattle.std.proofs.Common.{◌≡◌, ℕ, Bool, true, false, List, [], ◌∷◌, ◌++◌, map, refl, sym, ◌∙◌, ap, arith, ◌<◌, length, subst, ◌+◌, inl, inr}
 use Rattle.std.specs.Prelude.{Option, Some, None}
 use Rattle.vs_lexer.specs.declared.token.Token.{Token}
 use Rattle.vs_lexer.specs.declared.token.TokenKind.TheVariants as kind
@@ -17,9 +17,10 @@ use Rattle.vs_ast.specs.declared.items.Event.{Event}
 use Rattle.vs_ast.specs.declared.items.SignalKind.{SignalKind}
 use Rattle.vs_ast.specs.Views as view
 use Rattle.vs_parser.specs.Parts as part
-use Rattle.vs_parser.specs.Reading.{from, terminal_at, Read}
-use Rattle.vs_parser.proofs.Places.{from_head, later}
-use Rattle.vs_parser.proofs.Lists.{some}
+use Rattle.vs_phrase.specs.Reading.{from, terminal_at, Read, kind_at, IsBeside, Picked, Chosen}
+use Rattle.vs_phrase.proofs.Places.{from_head, later, known}
+use Rattle.vs_phrase.proofs.Lists.{some}
+use Rattle.vs_phrase.proofs.Tables.{chosen_tok, chosen_former, chosen_latter}
 
 -- what is read from place i on has its first token there
 pub first_is : {ts : List Token} {d : ℕ} {x : Phrase} {a : D x} {i j : ℕ} → Read ts d x a i j → can_be_empty verilog x ≡ false → first_place a ≡ i
@@ -71,3 +72,12 @@ control_made b a (latter (latter (both o (both (latter (both e l)) z)))) = refl
 
 pub events_made : (b : ℕ → List ℕ) (e : D (r rule.Event)) (l : D part.events_behind) (first : Event) (begun list : List Event) → meaning.event_of b e ≡ view.event first → begun ≡ first ∷ [] → map view.event begun ++ each_onto (behind_sign (meaning.event_of b)) l [] ≡ map view.event list → part.events_of b (both e l) ≡ map view.event list
 events_made b e l first begun list p q m = ap (λ z. z ∷ each_onto (behind_sign (meaning.event_of b)) l []) p ∙ ap (λ z. map view.event z ++ each_onto (behind_sign (meaning.event_of b)) l []) (sym q) ∙ m
+
+abbrev unit : Unit {0} → Unit {0}
+unit b = b
+
+event_beside : (ts : List Token) (i : ℕ) (p : Unit {0}) (j : ℕ) → j ≡ i + 1 → i < length ts → IsBeside (kind_at ts i) p ((kind.KeywordOr, tt) ∷ (kind.Comma, tt) ∷ []) → Chosen ts (part.event_sign) part.nothing_of i (unit p) j
+event_beside ts i p j n h b = elim b [ inl q ↦ subst (λ z. Chosen ts (part.event_sign) part.nothing_of i (unit z) j) (sym q.1) (let e = q.0 in (chosen_former part.nothing_of (λ a. refl) (chosen_tok 37 e h n))) | inr b ↦ elim b [ inl q ↦ subst (λ z. Chosen ts (part.event_sign) part.nothing_of i (unit z) j) (sym q.1) (let e = q.0 in (chosen_latter part.nothing_of (λ a. refl) (known ts i 46 (37 ∷ []) false e refl) (chosen_tok 46 e h n))) | inr b ↦ absurd b ] ]
+
+pub event_picked : {ts : List Token} {i : ℕ} {p : Unit {0}} {j : ℕ} → Picked ts ((kind.KeywordOr, tt) ∷ (kind.Comma, tt) ∷ []) i p j → Chosen ts (part.event_sign) part.nothing_of i (unit p) j
+event_picked {ts} {i} {p} {j} w = event_beside ts i p j w.next w.inside w.beside

@@ -1,5 +1,4 @@
-pub mod Reading
-pub mod Levels
+pub mod ItemLists
 pub mod Parts
 pub mod Headings
 pub mod Faults

@@ -2,149 +2,17 @@
 use Rattle.std.specs.Prelude.{ℕ, Bool, true, false, Option, None, List, [], ◌∷◌, map}
 use Rattle.vs_lexer.specs.declared.token.TokenKind.TheVariants as kind
 use Rattle.vs_grammar.specs.Grammars.{Phrase, opt, star}
-use Rattle.vs_grammar.specs.Grammars.Phrase.{last, level}
+use Rattle.vs_grammar.specs.Grammars.Phrase.{last}
 use Rattle.vs_grammar.specs.Grammars.Tree.{leaf, both, former, latter, nested, named}
 use Rattle.vs_grammar.specs.Kinds.{number_of, numbers_of}
-use Rattle.vs_grammar.specs.Verilog.{◌⨾◌, ◌∣◌, t, r, separated, signed_range, block_name}
+use Rattle.vs_grammar.specs.Verilog.{◌⨾◌, ◌∣◌, t, r, separated, signed_range}
 use Rattle.vs_grammar.specs.Verilog as grammar
 use Rattle.vs_grammar.specs.Verilog.{Rule as rule}
-use Rattle.vs_grammar.specs.Trees.{Literal, Expr, Target, Statement, CaseArms, Fallback, Item, SignalKind, SignalsItem, ParametersItem, Input, InputWire, Output, OutputWire, OutputReg, Connections, Unconnected, ByOrder, Event, Any, EventControl, Star, Listed, GenerateBlock, GenerateArms, BlockFallback}
-use Rattle.vs_grammar.specs.Meaning.{D, primary_of, literal_of, target_of, statement_of, list_of, expr_of, arms_of, default_of, default_statement, signals_of, first_place, port_kind, ended, names_of, parameters_of, setting_of, name_of, event_of, each_onto, behind_sign, block_of, generate_arms, default_block, default_block_of}
-use Rattle.vs_ast.specs.declared.statements.CaseArm.{CaseArm}
+use Rattle.vs_grammar.specs.Trees.{Expr, Item, SignalKind, SignalsItem, ParametersItem, Input, InputWire, Output, OutputWire, OutputReg, Connections, Unconnected, ByOrder, Event, Any, EventControl, Star, Listed, GenerateBlock, GenerateArms, BlockFallback}
+use Rattle.vs_grammar.specs.Meaning.{D, list_of, expr_of, signals_of, first_place, port_kind, ended, names_of, parameters_of, setting_of, name_of, event_of, each_onto, behind_sign, block_of, generate_arms, default_block}
 use Rattle.vs_ast.specs.Views as view
 use Rattle.vs_ast.specs.declared.items.GenerateArm.{GenerateArm}
-use Rattle.vs_parser.specs.declared.statements.CaseParts.{CaseParts}
 use Rattle.vs_parser.specs.declared.items.GenerateParts.{GenerateParts}
-
--- ---- parts of expressions
-
-abbrev pub unary_kinds : List ℕ
-unary_kinds = numbers_of (kind.Plus ∷ kind.Minus ∷ kind.Bang ∷ kind.Tilde ∷ kind.And ∷ kind.Nand ∷ kind.Or ∷ kind.Nor ∷ kind.Caret ∷ kind.Xnor ∷ kind.XnorCaret ∷ [])
-
-abbrev pub slice_kinds : List ℕ
-slice_kinds = numbers_of (kind.Colon ∷ kind.PlusColon ∷ kind.MinusColon ∷ [])
-
-abbrev pub system_kinds : List ℕ
-system_kinds = numbers_of (kind.SystemSigned ∷ kind.SystemUnsigned ∷ kind.SystemClog2 ∷ [])
-
-abbrev pub number_kinds : List ℕ
-number_kinds = numbers_of (kind.Decimal ∷ kind.Based ∷ [])
-
-abbrev pub unary_operator : Phrase
-unary_operator = grammar.unary_operator
-
-abbrev pub slice_sign : Phrase
-slice_sign = t kind.Colon ∣ t kind.PlusColon ∣ t kind.MinusColon
-
-abbrev pub system_function : Phrase
-system_function = t kind.SystemSigned ∣ t kind.SystemUnsigned ∣ t kind.SystemClog2
-
-abbrev pub number_phrase : Phrase
-number_phrase = grammar.number
-
-abbrev pub literal_tree : (ℕ → List ℕ) → D number_phrase → Literal
-literal_tree b d = literal_of b d
-
-abbrev pub number_tree : (ℕ → List ℕ) → D number_phrase → Expr
-number_tree b d = primary_of b (named (former d))
-
-abbrev pub selected_name : Phrase
-selected_name = grammar.selected_name
-
-abbrev pub name_tree : (ℕ → List ℕ) → D selected_name → Expr
-name_tree b d = primary_of b (named (latter (former d)))
-
-abbrev pub brackets : Phrase
-brackets = level (t kind.OpenParen ⨾ r rule.Expression ⨾ t kind.CloseParen)
-
-abbrev pub brackets_tree : (ℕ → List ℕ) → D brackets → Expr
-brackets_tree b d = primary_of b (named (latter (latter (former d))))
-
-abbrev pub braces : Phrase
-braces =
-    level (
-    t kind.OpenBrace ⨾ r rule.Expression
-    ⨾ ((t kind.OpenBrace ⨾ separated (r rule.Expression) ⨾ t kind.CloseBrace ⨾ t kind.CloseBrace)
-    ∣ (star (t kind.Comma ⨾ r rule.Expression) ⨾ t kind.CloseBrace)))
-
-abbrev pub braces_tree : (ℕ → List ℕ) → D braces → Expr
-braces_tree b d = primary_of b (named (latter (latter (latter (former d)))))
-
-abbrev pub call : Phrase
-call = level (system_function ⨾ t kind.OpenParen ⨾ r rule.Expression ⨾ t kind.CloseParen)
-
-abbrev pub call_tree : (ℕ → List ℕ) → D call → Expr
-call_tree b d = primary_of b (named (latter (latter (latter (latter d)))))
-
--- ---- parts of statements
-
-abbrev pub statement_kinds : List ℕ
-statement_kinds = numbers_of grammar.statement_firsts
-
-abbrev pub named_target_tree : (ℕ → List ℕ) → D selected_name → Target
-named_target_tree b d = target_of b (named (former d))
-
-abbrev pub target_braces : Phrase
-target_braces = level (t kind.OpenBrace ⨾ separated (r rule.Target) ⨾ t kind.CloseBrace)
-
-abbrev pub target_braces_tree : (ℕ → List ℕ) → D target_braces → Target
-target_braces_tree b d = target_of b (named (latter d))
-
-abbrev pub conditional : Phrase
-conditional = grammar.conditional (r rule.Statement)
-
-abbrev pub conditional_tree : (ℕ → List ℕ) → D conditional → Statement
-conditional_tree b d = statement_of b (named (nested (latter (former d))))
-
-abbrev pub alternative : Phrase
-alternative = last (number_of kind.KeywordElse) (r rule.Statement)
-
-abbrev pub case_word : Phrase
-case_word = t kind.KeywordCase ∣ t kind.KeywordCasez ∣ t kind.KeywordCasex
-
-abbrev pub case_kinds : List ℕ
-case_kinds = numbers_of (kind.KeywordCase ∷ kind.KeywordCasez ∷ kind.KeywordCasex ∷ [])
-
-abbrev pub case : Phrase
-case = case_word ⨾ t kind.OpenParen ⨾ r rule.Expression ⨾ t kind.CloseParen ⨾ r rule.Cases ⨾ t kind.KeywordEndCase
-
-abbrev pub case_tree : (ℕ → List ℕ) → D case → Statement
-case_tree b d = statement_of b (named (nested (latter (latter (former d)))))
-
-abbrev pub sequence : Phrase
-sequence = t kind.KeywordBegin ⨾ block_name ⨾ star (r rule.Statement) ⨾ t kind.KeywordEnd
-
-abbrev pub sequence_tree : (ℕ → List ℕ) → D sequence → Statement
-sequence_tree b d = statement_of b (named (nested (latter (latter (latter (former d))))))
-
-abbrev pub assignment_sign : Phrase
-assignment_sign = t kind.Assign ∣ t kind.LessEqual
-
-abbrev pub assignment_kinds : List ℕ
-assignment_kinds = numbers_of (kind.Assign ∷ kind.LessEqual ∷ [])
-
-abbrev pub assignment : Phrase
-assignment = r rule.Target ⨾ assignment_sign ⨾ r rule.Expression ⨾ t kind.Semicolon
-
-abbrev pub assignment_tree : (ℕ → List ℕ) → D assignment → Statement
-assignment_tree b d = statement_of b (named (nested (latter (latter (latter (latter d))))))
-
--- an arm of a case: its labels and its statement
-abbrev pub arm_of : (ℕ → List ℕ) → D (r rule.CaseItem) → List Expr × Statement
-arm_of b (named (both l (both c s))) = (list_of (expr_of b) l, statement_of b s)
-
-abbrev pub arm_view : CaseArm → List Expr × Statement
-arm_view a = (map view.expr a.labels.items, view.statement a.statement)
-
--- the arms of a case, and its default
-abbrev pub cases_of : (ℕ → List ℕ) → D (r rule.Cases) → CaseArms × Fallback
-cases_of b d = (arms_of b d, default_of b d)
-
-abbrev pub cases_view : CaseParts → CaseArms × Fallback
-cases_view c = (view.arms c.arms.items, view.fallback c.other)
-
-abbrev pub default_of_rule : (ℕ → List ℕ) → D (r rule.CaseDefault) → Fallback
-default_of_rule b d = default_statement b d
 
 -- ---- declarations and items
 
@@ -237,14 +105,11 @@ abbrev pub inner_control_of : (ℕ → List ℕ) → D inner_control → EventCo
 inner_control_of b (former s) = Star
 inner_control_of b (latter l) = Listed (events_of b l)
 
-abbrev pub bracketed_control : Phrase
-bracketed_control = t kind.OpenParen ⨾ inner_control ⨾ t kind.CloseParen
-
-abbrev pub bracketed_control_of : (ℕ → List ℕ) → D bracketed_control → EventControl
+abbrev pub bracketed_control_of : (ℕ → List ℕ) → D grammar.event_list → EventControl
 bracketed_control_of b (both o (both i z)) = inner_control_of b i
 
 abbrev pub control : Phrase
-control = t kind.Identifier ∣ t kind.Star ∣ bracketed_control
+control = t kind.Identifier ∣ t kind.Star ∣ grammar.event_list
 
 abbrev pub control_of : (ℕ → List ℕ) → D control → EventControl
 control_of b (former n) = single_event b n
@@ -256,10 +121,7 @@ control_of b (latter (latter d)) = bracketed_control_of b d
 abbrev pub other_block : Phrase
 other_block = last (number_of kind.KeywordElse) (r rule.GenerateBlock)
 
-abbrev pub enclosed : Phrase
-enclosed = t kind.KeywordBegin ⨾ block_name ⨾ star (r rule.GenerateItem) ⨾ t kind.KeywordEnd
-
-abbrev pub enclosed_tree : (ℕ → List ℕ) → D enclosed → GenerateBlock
+abbrev pub enclosed_tree : (ℕ → List ℕ) → D grammar.block → GenerateBlock
 enclosed_tree b d = block_of b (named (nested (former d)))
 
 -- an arm of a generate case: its labels and its block
@@ -275,6 +137,3 @@ generate_cases_of b d = (generate_arms b d, default_block b d)
 
 abbrev pub generate_cases_view : GenerateParts → GenerateArms × BlockFallback
 generate_cases_view c = (view.generate_arms c.arms.items, view.block_fallback c.other)
-
-abbrev pub generate_default_of : (ℕ → List ℕ) → D (r rule.GenerateCaseDefault) → BlockFallback
-generate_default_of b d = default_block_of b d

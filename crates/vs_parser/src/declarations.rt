@@ -5,19 +5,19 @@ ghost use Rattle.vs_lexer.specs.Cuts.{cut_text};
 ghost use Rattle.vs_lexer.specs.declared.token.TokenKind.TheVariants as kind;
 ghost use Rattle.vs_grammar.specs.Grammars.{opt};
 ghost use Rattle.vs_grammar.specs.Verilog.{Rule as rule, r, t, separated, ◌⨾◌};
-ghost use Rattle.vs_grammar.specs.Meaning as meaning;
 ghost use Rattle.vs_grammar.specs.Verilog as grammar;
+ghost use Rattle.vs_grammar.specs.Meaning as meaning;
 ghost use Rattle.vs_ast.specs.Views as view;
 ghost use Rattle.vs_parser.specs.Parts as part;
-ghost use Rattle.vs_parser.specs.Reading.{Parsed, Refused};
+ghost use Rattle.vs_phrase.specs.Reading.{Parsed, Refused};
 
-use crate::error::ParseError;
-use crate::expressions::expression;
-use crate::input::{Found, Input};
-use crate::tokens::{optional, stands, take};
-use crate::words::identifier;
 use vs_ast::{Declarator, Expr, Item, Name, Parameters, Range, Setting, SignalKind, Signals};
 use vs_lexer::TokenKind;
+use vs_phrase::ParseError;
+use vs_phrase::expressions::expression;
+use vs_phrase::input::{Found, Input};
+use vs_phrase::tokens::{optional, stands, take};
+use vs_phrase::words::identifier;
 
 /// The bounds of a vector.
 fn range(input: &Input<'_>, at: u32, depth: u32) -> Result<Found<Range>, ParseError>
@@ -171,8 +171,8 @@ fn plain_declarators(
 fn wire_declarator(input: &Input<'_>, at: u32, depth: u32) -> Result<Found<Declarator>, ParseError>
     requires lexed { cut_text input.now.text.now ≡ Ok input.now.tokens.now }
     requires shallow { depth ≤ 200 }
-    ensures found { IfOk result (λ f. Parsed input.now (grammar.wire_name) meaning.wire_of depth at (view.declarator f.value) f.to) }
-    ensures refused { IfErr result (λ e. Refused input.now.tokens.now depth (grammar.wire_name) at e) }
+    ensures found { IfOk result (λ f. Parsed input.now grammar.wire_name meaning.wire_of depth at (view.declarator f.value) f.to) }
+    ensures refused { IfErr result (λ e. Refused input.now.tokens.now depth grammar.wire_name at e) }
 {
     let name = identifier(input, at)?;
     let value = optional_value(input, name.to, depth)?;
@@ -193,8 +193,8 @@ fn wire_declarators(
 ) -> Result<Found<Vec<Declarator>>, ParseError>
     requires lexed { cut_text input.now.text.now ≡ Ok input.now.tokens.now }
     requires shallow { depth ≤ 200 }
-    ensures found { IfOk result (λ f. Parsed input.now (separated (grammar.wire_name)) (λ b d. meaning.list_of (meaning.wire_of b) d) depth at (map view.declarator f.value.items) f.to) }
-    ensures refused { IfErr result (λ e. Refused input.now.tokens.now depth (separated (grammar.wire_name)) at e) }
+    ensures found { IfOk result (λ f. Parsed input.now (separated grammar.wire_name) (λ b d. meaning.list_of (meaning.wire_of b) d) depth at (map view.declarator f.value.items) f.to) }
+    ensures refused { IfErr result (λ e. Refused input.now.tokens.now depth (separated grammar.wire_name) at e) }
 {
     let mut list = Vec::new(input.alloc);
     let first = wire_declarator(input, at, depth)?;
@@ -213,8 +213,8 @@ fn wire_declarators(
 pub(crate) fn regs(input: &Input<'_>, at: u32, depth: u32) -> Result<Found<Item>, ParseError>
     requires lexed { cut_text input.now.text.now ≡ Ok input.now.tokens.now }
     requires shallow { depth ≤ 200 }
-    ensures found { IfOk result (λ f. Parsed input.now (grammar.reg_item) meaning.reg_item_of depth at (view.item f.value) f.to) }
-    ensures refused { IfErr result (λ e. Refused input.now.tokens.now depth (grammar.reg_item) at e) }
+    ensures found { IfOk result (λ f. Parsed input.now grammar.reg_item meaning.reg_item_of depth at (view.item f.value) f.to) }
+    ensures refused { IfErr result (λ e. Refused input.now.tokens.now depth grammar.reg_item at e) }
 {
     let word = take(input, at, TokenKind::KeywordReg)?;
     let signed = optional(input, word, depth, TokenKind::KeywordSigned);
@@ -235,8 +235,8 @@ pub(crate) fn regs(input: &Input<'_>, at: u32, depth: u32) -> Result<Found<Item>
 pub(crate) fn wires(input: &Input<'_>, at: u32, depth: u32) -> Result<Found<Item>, ParseError>
     requires lexed { cut_text input.now.text.now ≡ Ok input.now.tokens.now }
     requires shallow { depth ≤ 200 }
-    ensures found { IfOk result (λ f. Parsed input.now (grammar.wire_item) meaning.wire_item_of depth at (view.item f.value) f.to) }
-    ensures refused { IfErr result (λ e. Refused input.now.tokens.now depth (grammar.wire_item) at e) }
+    ensures found { IfOk result (λ f. Parsed input.now grammar.wire_item meaning.wire_item_of depth at (view.item f.value) f.to) }
+    ensures refused { IfErr result (λ e. Refused input.now.tokens.now depth grammar.wire_item at e) }
 {
     let word = take(input, at, TokenKind::KeywordWire)?;
     let signed = optional(input, word, depth, TokenKind::KeywordSigned);
@@ -430,8 +430,8 @@ pub(crate) fn local_parameters(
 ) -> Result<Found<Item>, ParseError>
     requires lexed { cut_text input.now.text.now ≡ Ok input.now.tokens.now }
     requires shallow { depth ≤ 200 }
-    ensures found { IfOk result (λ f. Parsed input.now (grammar.local_item) meaning.local_item_of depth at (view.item f.value) f.to) }
-    ensures refused { IfErr result (λ e. Refused input.now.tokens.now depth (grammar.local_item) at e) }
+    ensures found { IfOk result (λ f. Parsed input.now grammar.local_item meaning.local_item_of depth at (view.item f.value) f.to) }
+    ensures refused { IfErr result (λ e. Refused input.now.tokens.now depth grammar.local_item at e) }
 {
     let word = take(input, at, TokenKind::KeywordLocalParam)?;
     let signed = optional(input, word, depth, TokenKind::KeywordSigned);

@@ -4,19 +4,19 @@ ghost use Rattle.std.specs.Prelude.{◌≡◌, ◌≤◌, IfOk, IfErr, Ok, map};
 ghost use Rattle.vs_lexer.specs.Cuts.{cut_text};
 ghost use Rattle.vs_grammar.specs.Grammars.{opt};
 ghost use Rattle.vs_grammar.specs.Verilog.{Rule as rule, r, separated};
-ghost use Rattle.vs_grammar.specs.Meaning as meaning;
 ghost use Rattle.vs_grammar.specs.Verilog as grammar;
+ghost use Rattle.vs_grammar.specs.Meaning as meaning;
 ghost use Rattle.vs_ast.specs.Views as view;
 ghost use Rattle.vs_parser.specs.Parts as part;
-ghost use Rattle.vs_parser.specs.Reading.{Parsed, Refused};
+ghost use Rattle.vs_phrase.specs.Reading.{Parsed, Refused};
 
-use crate::error::ParseError;
-use crate::expressions::{expression, is_expression_at};
-use crate::input::{Found, Input};
-use crate::tokens::{stands, take};
-use crate::words::identifier;
 use vs_ast::{Connections, Expr, Instance, Instances, Item, NamedConnection};
 use vs_lexer::TokenKind;
+use vs_phrase::ParseError;
+use vs_phrase::expressions::{expression, is_expression_at};
+use vs_phrase::input::{Found, Input};
+use vs_phrase::tokens::{stands, take};
+use vs_phrase::words::identifier;
 
 /// An expression.
 fn plain_expression(input: &Input<'_>, at: u32, depth: u32) -> Result<Found<Expr>, ParseError>
@@ -88,8 +88,8 @@ fn named_connection(
 ) -> Result<Found<NamedConnection>, ParseError>
     requires lexed { cut_text input.now.text.now ≡ Ok input.now.tokens.now }
     requires shallow { depth ≤ 200 }
-    ensures found { IfOk result (λ f. Parsed input.now (grammar.named_connection) meaning.connection_of depth at (view.named_connection f.value) f.to) }
-    ensures refused { IfErr result (λ e. Refused input.now.tokens.now depth (grammar.named_connection) at e) }
+    ensures found { IfOk result (λ f. Parsed input.now grammar.named_connection meaning.connection_of depth at (view.named_connection f.value) f.to) }
+    ensures refused { IfErr result (λ e. Refused input.now.tokens.now depth grammar.named_connection at e) }
 {
     let dot = take(input, at, TokenKind::Dot)?;
     let name = identifier(input, dot)?;
@@ -113,8 +113,8 @@ fn named_connections(
 ) -> Result<Found<Vec<NamedConnection>>, ParseError>
     requires lexed { cut_text input.now.text.now ≡ Ok input.now.tokens.now }
     requires shallow { depth ≤ 200 }
-    ensures found { IfOk result (λ f. Parsed input.now (separated (grammar.named_connection)) (λ b d. meaning.list_of (meaning.connection_of b) d) depth at (map view.named_connection f.value.items) f.to) }
-    ensures refused { IfErr result (λ e. Refused input.now.tokens.now depth (separated (grammar.named_connection)) at e) }
+    ensures found { IfOk result (λ f. Parsed input.now (separated grammar.named_connection) (λ b d. meaning.list_of (meaning.connection_of b) d) depth at (map view.named_connection f.value.items) f.to) }
+    ensures refused { IfErr result (λ e. Refused input.now.tokens.now depth (separated grammar.named_connection) at e) }
 {
     let mut list = Vec::new(input.alloc);
     let first = named_connection(input, at, depth)?;
@@ -172,8 +172,8 @@ fn connections(input: &Input<'_>, at: u32, depth: u32) -> Result<Found<Connectio
 fn overrides(input: &Input<'_>, at: u32, depth: u32) -> Result<Found<Connections>, ParseError>
     requires lexed { cut_text input.now.text.now ≡ Ok input.now.tokens.now }
     requires shallow { depth ≤ 200 }
-    ensures found { IfOk result (λ f. Parsed input.now (grammar.overrides) meaning.overrides_of depth at (view.connections f.value) f.to) }
-    ensures refused { IfErr result (λ e. Refused input.now.tokens.now depth (grammar.overrides) at e) }
+    ensures found { IfOk result (λ f. Parsed input.now grammar.overrides meaning.overrides_of depth at (view.connections f.value) f.to) }
+    ensures refused { IfErr result (λ e. Refused input.now.tokens.now depth grammar.overrides at e) }
 {
     if !stands(input, at, TokenKind::Hash) {
         return Ok(Found {
@@ -235,8 +235,8 @@ fn instance_list(input: &Input<'_>, at: u32, depth: u32) -> Result<Found<Vec<Ins
 pub(crate) fn instances(input: &Input<'_>, at: u32, depth: u32) -> Result<Found<Item>, ParseError>
     requires lexed { cut_text input.now.text.now ≡ Ok input.now.tokens.now }
     requires shallow { depth ≤ 200 }
-    ensures found { IfOk result (λ f. Parsed input.now (grammar.instance_item) meaning.instance_item_of depth at (view.item f.value) f.to) }
-    ensures refused { IfErr result (λ e. Refused input.now.tokens.now depth (grammar.instance_item) at e) }
+    ensures found { IfOk result (λ f. Parsed input.now grammar.instance_item meaning.instance_item_of depth at (view.item f.value) f.to) }
+    ensures refused { IfErr result (λ e. Refused input.now.tokens.now depth grammar.instance_item at e) }
 {
     let module = identifier(input, at)?;
     let overrides = overrides(input, module.to, depth)?;

@@ -4,24 +4,25 @@ ghost use Rattle.std.specs.Prelude.{◌≡◌, ◌≤◌, IfOk, IfErr, Ok, [], �
 ghost use Rattle.vs_lexer.specs.Cuts.{cut_text};
 ghost use Rattle.vs_grammar.specs.Grammars.{star};
 ghost use Rattle.vs_grammar.specs.Verilog.{Rule as rule, r};
+ghost use Rattle.vs_grammar.specs.Verilog as grammar;
 ghost use Rattle.vs_grammar.specs.Meaning as meaning;
 ghost use Rattle.vs_grammar.specs.Trees as tree;
 ghost use Rattle.vs_grammar.specs.Predictive.{is_member};
-ghost use Rattle.vs_grammar.specs.Verilog as grammar;
 ghost use Rattle.vs_ast.specs.Views as view;
 ghost use Rattle.vs_parser.specs.Parts as part;
-ghost use Rattle.vs_parser.specs.Reading.{ItemRead, Parsed, Refused, kind_at};
+ghost use Rattle.vs_parser.specs.ItemLists.{ItemRead};
+ghost use Rattle.vs_phrase.specs.Reading.{Parsed, Refused, kind_at};
 
 use crate::declarations::{identifiers, local_parameters, parameters, ports_item, regs, wires};
-use crate::error::ParseError;
-use crate::expressions::{expression, expressions, is_expression_at};
-use crate::input::{Found, Input};
 use crate::instances::instances;
 use crate::processes::{always, assigns};
-use crate::tokens::{deeper, optional, stands, stands_any, take};
-use crate::words::{identifier, label};
 use vs_ast::{GenerateArm, GenerateBlock, GenerateHead, Item};
 use vs_lexer::TokenKind;
+use vs_phrase::ParseError;
+use vs_phrase::expressions::{expression, expressions, is_expression_at};
+use vs_phrase::input::{Found, Input};
+use vs_phrase::tokens::{deeper, optional, stands, stands_any, take};
+use vs_phrase::words::{identifier, label};
 
 /// What an item begins with that may stand in a generate block.
 const GENERATE_ITEM_KINDS: [TokenKind; 10] = [
@@ -120,8 +121,8 @@ fn generate_item(input: &Input<'_>, at: u32, depth: u32) -> Result<Found<Item>, 
 fn genvars(input: &Input<'_>, at: u32, depth: u32) -> Result<Found<Item>, ParseError>
     requires lexed { cut_text input.now.text.now ≡ Ok input.now.tokens.now }
     requires shallow { depth ≤ 200 }
-    ensures found { IfOk result (λ f. Parsed input.now (grammar.genvar_item) meaning.genvar_item_of depth at (view.item f.value) f.to) }
-    ensures refused { IfErr result (λ e. Refused input.now.tokens.now depth (grammar.genvar_item) at e) }
+    ensures found { IfOk result (λ f. Parsed input.now grammar.genvar_item meaning.genvar_item_of depth at (view.item f.value) f.to) }
+    ensures refused { IfErr result (λ e. Refused input.now.tokens.now depth grammar.genvar_item at e) }
 {
     let word = take(input, at, TokenKind::KeywordGenvar)?;
     let names = identifiers(input, word, depth)?;
@@ -138,8 +139,8 @@ fn genvars(input: &Input<'_>, at: u32, depth: u32) -> Result<Found<Item>, ParseE
 fn generate_for(input: &Input<'_>, at: u32, depth: u32) -> Result<Found<Item>, ParseError>
     requires lexed { cut_text input.now.text.now ≡ Ok input.now.tokens.now }
     requires shallow { depth ≤ 200 }
-    ensures found { IfOk result (λ f. Parsed input.now (grammar.for_item) meaning.for_item_of depth at (view.item f.value) f.to) }
-    ensures refused { IfErr result (λ e. Refused input.now.tokens.now depth (grammar.for_item) at e) }
+    ensures found { IfOk result (λ f. Parsed input.now grammar.for_item meaning.for_item_of depth at (view.item f.value) f.to) }
+    ensures refused { IfErr result (λ e. Refused input.now.tokens.now depth grammar.for_item at e) }
 {
     let word = take(input, at, TokenKind::KeywordFor)?;
     let open = take(input, word, TokenKind::OpenParen)?;
@@ -174,8 +175,8 @@ fn generate_for(input: &Input<'_>, at: u32, depth: u32) -> Result<Found<Item>, P
 fn generate_if(input: &Input<'_>, at: u32, depth: u32) -> Result<Found<Item>, ParseError>
     requires lexed { cut_text input.now.text.now ≡ Ok input.now.tokens.now }
     requires shallow { depth ≤ 200 }
-    ensures found { IfOk result (λ f. Parsed input.now (grammar.if_item) meaning.if_item_of depth at (view.item f.value) f.to) }
-    ensures refused { IfErr result (λ e. Refused input.now.tokens.now depth (grammar.if_item) at e) }
+    ensures found { IfOk result (λ f. Parsed input.now grammar.if_item meaning.if_item_of depth at (view.item f.value) f.to) }
+    ensures refused { IfErr result (λ e. Refused input.now.tokens.now depth grammar.if_item at e) }
 {
     let word = take(input, at, TokenKind::KeywordIf)?;
     let open = take(input, word, TokenKind::OpenParen)?;
@@ -221,8 +222,8 @@ fn other_block(
 fn generate_case(input: &Input<'_>, at: u32, depth: u32) -> Result<Found<Item>, ParseError>
     requires lexed { cut_text input.now.text.now ≡ Ok input.now.tokens.now }
     requires shallow { depth ≤ 200 }
-    ensures found { IfOk result (λ f. Parsed input.now (grammar.generate_case) meaning.generate_case_of depth at (view.item f.value) f.to) }
-    ensures refused { IfErr result (λ e. Refused input.now.tokens.now depth (grammar.generate_case) at e) }
+    ensures found { IfOk result (λ f. Parsed input.now grammar.generate_case meaning.generate_case_of depth at (view.item f.value) f.to) }
+    ensures refused { IfErr result (λ e. Refused input.now.tokens.now depth grammar.generate_case at e) }
 {
     let word = take(input, at, TokenKind::KeywordCase)?;
     let open = take(input, word, TokenKind::OpenParen)?;
@@ -346,7 +347,7 @@ fn generate_default(
 ) -> Result<Found<GenerateBlock>, ParseError>
     requires lexed { cut_text input.now.text.now ≡ Ok input.now.tokens.now }
     requires shallow { depth ≤ 200 }
-    ensures found { IfOk result (λ f. Parsed input.now (r rule.GenerateCaseDefault) part.generate_default_of depth at (tree.OtherwiseBlock (view.block f.value)) f.to) }
+    ensures found { IfOk result (λ f. Parsed input.now (r rule.GenerateCaseDefault) meaning.default_block_of depth at (tree.OtherwiseBlock (view.block f.value)) f.to) }
     ensures refused { IfErr result (λ e. Refused input.now.tokens.now depth (r rule.GenerateCaseDefault) at e) }
 {
     let word = take(input, at, TokenKind::KeywordDefault)?;
@@ -387,8 +388,8 @@ fn block(input: &Input<'_>, at: u32, depth: u32) -> Result<Found<GenerateBlock>,
 fn enclosed(input: &Input<'_>, at: u32, depth: u32) -> Result<Found<GenerateBlock>, ParseError>
     requires lexed { cut_text input.now.text.now ≡ Ok input.now.tokens.now }
     requires shallow { depth ≤ 200 }
-    ensures found { IfOk result (λ f. Parsed input.now (part.enclosed) part.enclosed_tree depth at (view.block f.value) f.to) }
-    ensures refused { IfErr result (λ e. Refused input.now.tokens.now depth (part.enclosed) at e) }
+    ensures found { IfOk result (λ f. Parsed input.now grammar.block part.enclosed_tree depth at (view.block f.value) f.to) }
+    ensures refused { IfErr result (λ e. Refused input.now.tokens.now depth grammar.block at e) }
 {
     let begin = take(input, at, TokenKind::KeywordBegin)?;
     let label = label(input, begin, depth)?;

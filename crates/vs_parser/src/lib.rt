@@ -2,18 +2,11 @@
 #![tactic(auto)]
 
 mod declarations;
-mod error;
-mod expressions;
-mod input;
 mod instances;
 mod items;
-mod levels;
 mod modules;
 mod processes;
-mod statements;
-mod tokens;
 mod whole;
-mod words;
 
-pub use error::ParseError;
+pub use vs_phrase::ParseError;
 pub use whole::parse;

@@ -9,17 +9,17 @@ ghost use Rattle.vs_grammar.specs.Meaning as meaning;
 ghost use Rattle.vs_ast.specs.Views as view;
 ghost use Rattle.vs_parser.specs.Headings as part;
 ghost use Rattle.vs_parser.specs.Headings.{ParametersRead, ParametersStep, PortRead, PortsRead, PortsStep};
-ghost use Rattle.vs_parser.specs.Reading.{Parsed, Refused};
+ghost use Rattle.vs_phrase.specs.Reading.{Parsed, Refused};
 
 use crate::declarations::{direction, identifiers, optional_range, plain_declarator, setting};
-use crate::error::ParseError;
-use crate::input::{Found, Input};
 use crate::items::items;
-use crate::tokens::{optional, stands, stands_any, take};
-use crate::words::identifier;
 use std::alloc::Global;
 use vs_ast::{Declarator, Header, Module, Parameters, Range, Setting, Signals, Source};
 use vs_lexer::TokenKind;
+use vs_phrase::ParseError;
+use vs_phrase::input::{Found, Input};
+use vs_phrase::tokens::{optional, stands, stands_any, take};
+use vs_phrase::words::identifier;
 
 /// The parameters in a header.
 fn header_parameters(

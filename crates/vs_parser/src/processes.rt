@@ -5,21 +5,21 @@ ghost use Rattle.vs_lexer.specs.Cuts.{cut_text};
 ghost use Rattle.vs_lexer.specs.declared.token.TokenKind.TheVariants as kind;
 ghost use Rattle.vs_grammar.specs.Grammars.{star};
 ghost use Rattle.vs_grammar.specs.Verilog.{Rule as rule, r, t, separated};
+ghost use Rattle.vs_grammar.specs.Verilog as grammar;
 ghost use Rattle.vs_grammar.specs.Meaning as meaning;
 ghost use Rattle.vs_grammar.specs.Predictive.{is_member};
-ghost use Rattle.vs_grammar.specs.Verilog as grammar;
 ghost use Rattle.vs_ast.specs.Views as view;
 ghost use Rattle.vs_parser.specs.Parts as part;
-ghost use Rattle.vs_parser.specs.Reading.{Chosen, Parsed, Refused, kind_at};
+ghost use Rattle.vs_phrase.specs.Reading.{Chosen, Parsed, Refused, kind_at};
 
-use crate::error::ParseError;
-use crate::expressions::expression;
-use crate::input::{Found, Input};
-use crate::statements::{statement, target};
-use crate::tokens::{choose, stands, take};
-use crate::words::identifier;
 use vs_ast::{AlwaysBlock, Assign, Edge, Event, EventControl, Item};
 use vs_lexer::TokenKind;
+use vs_phrase::ParseError;
+use vs_phrase::expressions::expression;
+use vs_phrase::input::{Found, Input};
+use vs_phrase::statements::{statement, target};
+use vs_phrase::tokens::{choose, stands, take};
+use vs_phrase::words::identifier;
 
 /// What stands between two events.
 const EVENT_SIGNS: [(TokenKind, ()); 2] = [(TokenKind::KeywordOr, ()), (TokenKind::Comma, ())];
@@ -28,8 +28,8 @@ const EVENT_SIGNS: [(TokenKind, ()); 2] = [(TokenKind::KeywordOr, ()), (TokenKin
 fn assign(input: &Input<'_>, at: u32, depth: u32) -> Result<Found<Assign>, ParseError>
     requires lexed { cut_text input.now.text.now ≡ Ok input.now.tokens.now }
     requires shallow { depth ≤ 200 }
-    ensures found { IfOk result (λ f. Parsed input.now (grammar.assignment) meaning.assign_of depth at (view.assign f.value) f.to) }
-    ensures refused { IfErr result (λ e. Refused input.now.tokens.now depth (grammar.assignment) at e) }
+    ensures found { IfOk result (λ f. Parsed input.now grammar.assignment meaning.assign_of depth at (view.assign f.value) f.to) }
+    ensures refused { IfErr result (λ e. Refused input.now.tokens.now depth grammar.assignment at e) }
 {
     let target = target(input, at, depth)?;
     let sign = take(input, target.to, TokenKind::Assign)?;
@@ -47,8 +47,8 @@ fn assign(input: &Input<'_>, at: u32, depth: u32) -> Result<Found<Assign>, Parse
 fn assign_list(input: &Input<'_>, at: u32, depth: u32) -> Result<Found<Vec<Assign>>, ParseError>
     requires lexed { cut_text input.now.text.now ≡ Ok input.now.tokens.now }
     requires shallow { depth ≤ 200 }
-    ensures found { IfOk result (λ f. Parsed input.now (separated (grammar.assignment)) (λ b d. meaning.list_of (meaning.assign_of b) d) depth at (map view.assign f.value.items) f.to) }
-    ensures refused { IfErr result (λ e. Refused input.now.tokens.now depth (separated (grammar.assignment)) at e) }
+    ensures found { IfOk result (λ f. Parsed input.now (separated grammar.assignment) (λ b d. meaning.list_of (meaning.assign_of b) d) depth at (map view.assign f.value.items) f.to) }
+    ensures refused { IfErr result (λ e. Refused input.now.tokens.now depth (separated grammar.assignment) at e) }
 {
     let mut list = Vec::new(input.alloc);
     let first = assign(input, at, depth)?;
@@ -67,8 +67,8 @@ fn assign_list(input: &Input<'_>, at: u32, depth: u32) -> Result<Found<Vec<Assig
 pub(crate) fn assigns(input: &Input<'_>, at: u32, depth: u32) -> Result<Found<Item>, ParseError>
     requires lexed { cut_text input.now.text.now ≡ Ok input.now.tokens.now }
     requires shallow { depth ≤ 200 }
-    ensures found { IfOk result (λ f. Parsed input.now (grammar.assign_item) meaning.assign_item_of depth at (view.item f.value) f.to) }
-    ensures refused { IfErr result (λ e. Refused input.now.tokens.now depth (grammar.assign_item) at e) }
+    ensures found { IfOk result (λ f. Parsed input.now grammar.assign_item meaning.assign_item_of depth at (view.item f.value) f.to) }
+    ensures refused { IfErr result (λ e. Refused input.now.tokens.now depth grammar.assign_item at e) }
 {
     let word = take(input, at, TokenKind::KeywordAssign)?;
     let list = assign_list(input, word, depth)?;
@@ -221,8 +221,8 @@ fn bracketed_control(
 ) -> Result<Found<EventControl>, ParseError>
     requires lexed { cut_text input.now.text.now ≡ Ok input.now.tokens.now }
     requires shallow { depth ≤ 200 }
-    ensures found { IfOk result (λ f. Parsed input.now (part.bracketed_control) part.bracketed_control_of depth at (view.event_control f.value) f.to) }
-    ensures refused { IfErr result (λ e. Refused input.now.tokens.now depth (part.bracketed_control) at e) }
+    ensures found { IfOk result (λ f. Parsed input.now grammar.event_list part.bracketed_control_of depth at (view.event_control f.value) f.to) }
+    ensures refused { IfErr result (λ e. Refused input.now.tokens.now depth grammar.event_list at e) }
 {
     let open = take(input, at, TokenKind::OpenParen)?;
     let control = inner_control(input, open, depth)?;
@@ -272,8 +272,8 @@ fn event_control(input: &Input<'_>, at: u32, depth: u32) -> Result<Found<EventCo
 pub(crate) fn always(input: &Input<'_>, at: u32, depth: u32) -> Result<Found<Item>, ParseError>
     requires lexed { cut_text input.now.text.now ≡ Ok input.now.tokens.now }
     requires shallow { depth ≤ 200 }
-    ensures found { IfOk result (λ f. Parsed input.now (grammar.always_item) meaning.always_item_of depth at (view.item f.value) f.to) }
-    ensures refused { IfErr result (λ e. Refused input.now.tokens.now depth (grammar.always_item) at e) }
+    ensures found { IfOk result (λ f. Parsed input.now grammar.always_item meaning.always_item_of depth at (view.item f.value) f.to) }
+    ensures refused { IfErr result (λ e. Refused input.now.tokens.now depth grammar.always_item at e) }
 {
     let word = take(input, at, TokenKind::KeywordAlways)?;
     let control = event_control(input, word, depth)?;

@@ -7,13 +7,13 @@ ghost use Rattle.vs_grammar.specs.Trees as tree;
 ghost use Rattle.vs_ast.specs.Views as view;
 ghost use Rattle.vs_parser.specs.Faults.{Fault, IsDepthAnswer, IsSyntaxAnswer};
 
-use crate::error::ParseError;
-use crate::input::Input;
 use crate::modules::source;
 use std::alloc::Global;
 use vs_ast::Source;
 use vs_grammar::laws::spelled_law;
 use vs_lexer::{Token, is_left_out};
+use vs_phrase::ParseError;
+use vs_phrase::input::Input;
 
 /// The first token that is left out, if there is one.
 fn first_left_out(tokens: &[Token]) -> Option<u32>

@@ -3,7 +3,7 @@ use Rattle.vs_lexer.specs.declared.token.TokenKind.TheVariants as kind
 use Rattle.vs_grammar.specs.Verilog.{t}
 use Rattle.vs_grammar.specs.Meaning as meaning
 use Rattle.vs_ast.specs.Views as view
-use Rattle.vs_parser.specs.Reading.{Listed}
+use Rattle.vs_phrase.specs.Reading.{Listed}
 use Rattle.vs_parser.proofs.declarations.identifiers.Given as goal
 
 abbrev pub invariant-loop-list : goal.invariant-loop-list

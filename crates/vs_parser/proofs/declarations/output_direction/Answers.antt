@@ -1,7 +1,6 @@
-use Rattle.vs_parser.specs.Reading.{bytes_in}
-use Rattle.vs_parser.proofs.Places.{refused_exit, refused_seq, refused_then, refused_missing, read_tok, read_seq, parsed}
+use Rattle.vs_phrase.specs.Reading.{bytes_in, terminal_at}
+use Rattle.vs_phrase.proofs.Places.{refused_exit, refused_seq, refused_then, refused_missing, read_tok, read_seq, parsed}
 use Rattle.vs_grammar.specs.Grammars.Tree.{leaf}
-use Rattle.vs_parser.specs.Reading.{terminal_at}
 use Rattle.vs_parser.proofs.Pieces.{output_made}
 use Rattle.vs_parser.proofs.declarations.output_direction.Goals as goal
 

@@ -1,8 +1,8 @@
 use Rattle.std.proofs.Common.{refl}
-use Rattle.vs_parser.specs.declared.error.ParseError.TheVariants.{Memory}
-use Rattle.vs_parser.specs.Reading.Refused.{out_of_memory}
-use Rattle.vs_parser.proofs.Places.{refused_exit, refused_seq, refused_then, refused_missing, refused_more, read_tok, read_seq, one_true, one_false}
-use Rattle.vs_parser.proofs.Lists.{shorter, listed_start, listed_more, listed_done, pushed_first}
+use Rattle.vs_phrase.specs.declared.error.ParseError.TheVariants.{Memory}
+use Rattle.vs_phrase.specs.Reading.Refused.{out_of_memory}
+use Rattle.vs_phrase.proofs.Places.{refused_exit, refused_seq, refused_then, refused_missing, refused_more, read_tok, read_seq, one_true, one_false}
+use Rattle.vs_phrase.proofs.Lists.{shorter, listed_start, listed_more, listed_done, pushed_first}
 use Rattle.vs_parser.proofs.declarations.settings.Goals as goal
 
 pub returns-in_err-first-clause-refused : goal.returns-in_err-first-clause-refused

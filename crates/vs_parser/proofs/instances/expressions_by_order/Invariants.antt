@@ -3,7 +3,7 @@ use Rattle.vs_grammar.specs.Verilog.{Rule as rule, r}
 use Rattle.vs_grammar.specs.Grammars.{opt}
 use Rattle.vs_grammar.specs.Meaning as meaning
 use Rattle.vs_ast.specs.Views as view
-use Rattle.vs_parser.specs.Reading.{Listed}
+use Rattle.vs_phrase.specs.Reading.{Listed}
 use Rattle.vs_parser.proofs.instances.expressions_by_order.Given as goal
 
 abbrev pub invariant-loop-list : goal.invariant-loop-list

@@ -1,4 +1,4 @@
-use Rattle.vs_parser.proofs.Places.{refused_exit, parsed}
+use Rattle.vs_phrase.proofs.Places.{refused_exit, parsed}
 use Rattle.vs_parser.proofs.instances.plain_expression.Goals as goal
 
 pub returns-in_err-found-clause-refused : goal.returns-in_err-found-clause-refused

@@ -1,5 +1,5 @@
 use Rattle.std.proofs.Common.{◌-◌, length}
-use Rattle.vs_parser.specs.Reading.{ItemsGrown}
+use Rattle.vs_parser.specs.ItemLists.{ItemsGrown}
 use Rattle.vs_parser.proofs.items.items.Given as goal
 
 abbrev pub invariant-loop-list : goal.invariant-loop-list

@@ -1,7 +1,7 @@
 use Rattle.std.proofs.Common.{refl, ap, map}
 use Rattle.vs_ast.specs.Views as view
-use Rattle.vs_parser.specs.declared.error.ParseError.TheVariants.{Memory}
-use Rattle.vs_parser.proofs.Lists.{pushed_first}
+use Rattle.vs_phrase.specs.declared.error.ParseError.TheVariants.{Memory}
+use Rattle.vs_phrase.proofs.Lists.{pushed_first}
 use Rattle.vs_parser.specs.Headings as part
 use Rattle.vs_parser.proofs.Headers.{memory_exit}
 use Rattle.vs_parser.proofs.modules.declaration.Goals as goal

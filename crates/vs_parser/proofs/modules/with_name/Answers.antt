@@ -1,6 +1,6 @@
 use Rattle.std.proofs.Common.{refl, ap}
 use Rattle.vs_ast.specs.Views as view
-use Rattle.vs_parser.specs.declared.error.ParseError.TheVariants.{Memory}
+use Rattle.vs_phrase.specs.declared.error.ParseError.TheVariants.{Memory}
 use Rattle.vs_parser.proofs.Headers.{map_pushed, memory_exit}
 use Rattle.vs_parser.proofs.modules.with_name.Goals as goal
 

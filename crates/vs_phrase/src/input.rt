@@ -1,0 +1,27 @@
+//! The tokens that are read, and what is found in them.
+
+use std::alloc::Global;
+use vs_lexer::Token;
+
+/// A text and its tokens, and where memory comes from.
+#[derive(Clone, Copy)]
+pub struct Input<'a> {
+    pub alloc: Global,
+    pub text: &'a [u8],
+    pub tokens: &'a [Token],
+}
+
+/// What was read, and the place behind it.
+#[derive(Drop)]
+pub struct Found<T: Drop> {
+    pub value: T,
+    pub to: u32,
+}
+
+/// What was read, the place behind it, and how many levels it has.
+#[derive(Drop)]
+pub struct Nested<T: Drop> {
+    pub value: T,
+    pub to: u32,
+    pub height: u32,
+}

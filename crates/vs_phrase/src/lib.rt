@@ -1,0 +1,12 @@
+//! Reads the tokens of a design text as names, numbers, expressions, targets and statements (IEEE 1364-2005, A.6, A.8 and A.9).
+#![tactic(auto)]
+
+mod error;
+pub mod expressions;
+pub mod input;
+mod levels;
+pub mod statements;
+pub mod tokens;
+pub mod words;
+
+pub use error::ParseError;
