@@ -1,7 +1,6 @@
 //! Declarations (IEEE 1364-2005, A.2).
 
 ghost use Rattle.std.specs.Prelude.{◌≡◌, ◌≤◌, IfOk, IfErr, Ok, false, map};
-ghost use Rattle.vs_lexer.specs.Cuts.{cut_text};
 ghost use Rattle.vs_lexer.specs.declared.token.TokenKind.TheVariants as kind;
 ghost use Rattle.vs_grammar.specs.Grammars.{opt};
 ghost use Rattle.vs_grammar.specs.Verilog.{Rule as rule, r, t, separated, ◌⨾◌};
@@ -21,7 +20,6 @@ use vs_phrase::words::identifier;
 
 /// The bounds of a vector.
 fn range(input: &Input<'_>, at: u32, depth: u32) -> Result<Found<Range>, ParseError>
-    requires lexed { cut_text input.now.text.now ≡ Ok input.now.tokens.now }
     requires shallow { depth ≤ 200 }
     ensures found { IfOk result (λ f. Parsed input.now (r rule.Range) meaning.range_of depth at (view.range f.value) f.to) }
     ensures refused { IfErr result (λ e. Refused input.now.tokens.now depth (r rule.Range) at e) }
@@ -45,7 +43,6 @@ pub(crate) fn optional_range(
     at: u32,
     depth: u32,
 ) -> Result<Found<Option<Range>>, ParseError>
-    requires lexed { cut_text input.now.text.now ≡ Ok input.now.tokens.now }
     requires shallow { depth ≤ 200 }
     ensures found { IfOk result (λ f. Parsed input.now (opt (r rule.Range)) (λ b d. meaning.option_of (meaning.range_of b) d) depth at (view.option view.range f.value) f.to) }
     ensures refused { IfErr result (λ e. Refused input.now.tokens.now depth (opt (r rule.Range)) at e) }
@@ -65,7 +62,6 @@ pub(crate) fn optional_range(
 
 /// The value behind a `=`.
 fn value_behind(input: &Input<'_>, at: u32, depth: u32) -> Result<Found<Expr>, ParseError>
-    requires lexed { cut_text input.now.text.now ≡ Ok input.now.tokens.now }
     requires shallow { depth ≤ 200 }
     ensures found { IfOk result (λ f. Parsed input.now (t kind.Assign ⨾ r rule.Expression) (λ b d. meaning.behind_sign (meaning.expr_of b) d) depth at (view.expr f.value) f.to) }
     ensures refused { IfErr result (λ e. Refused input.now.tokens.now depth (t kind.Assign ⨾ r rule.Expression) at e) }
@@ -80,7 +76,6 @@ fn value_behind(input: &Input<'_>, at: u32, depth: u32) -> Result<Found<Expr>, P
 
 /// The value behind a `=`, if there is one.
 fn optional_value(input: &Input<'_>, at: u32, depth: u32) -> Result<Found<Option<Expr>>, ParseError>
-    requires lexed { cut_text input.now.text.now ≡ Ok input.now.tokens.now }
     requires shallow { depth ≤ 200 }
     ensures found { IfOk result (λ f. Parsed input.now (opt (t kind.Assign ⨾ r rule.Expression)) (λ b d. meaning.option_of (meaning.behind_sign (meaning.expr_of b)) d) depth at (view.option view.expr f.value) f.to) }
     ensures refused { IfErr result (λ e. Refused input.now.tokens.now depth (opt (t kind.Assign ⨾ r rule.Expression)) at e) }
@@ -104,7 +99,6 @@ pub(crate) fn identifiers(
     at: u32,
     depth: u32,
 ) -> Result<Found<Vec<Name>>, ParseError>
-    requires lexed { cut_text input.now.text.now ≡ Ok input.now.tokens.now }
     requires shallow { depth ≤ 200 }
     ensures found { IfOk result (λ f. Parsed input.now (separated (t kind.Identifier)) (λ b d. meaning.list_of (meaning.name_of b) d) depth at (map view.name f.value.items) f.to) }
     ensures refused { IfErr result (λ e. Refused input.now.tokens.now depth (separated (t kind.Identifier)) at e) }
@@ -128,7 +122,6 @@ pub(crate) fn plain_declarator(
     at: u32,
     depth: u32,
 ) -> Result<Found<Declarator>, ParseError>
-    requires lexed { cut_text input.now.text.now ≡ Ok input.now.tokens.now }
     requires shallow { depth ≤ 200 }
     ensures found { IfOk result (λ f. Parsed input.now (t kind.Identifier) meaning.plain_name depth at (view.declarator f.value) f.to) }
     ensures refused { IfErr result (λ e. Refused input.now.tokens.now depth (t kind.Identifier) at e) }
@@ -149,7 +142,6 @@ fn plain_declarators(
     at: u32,
     depth: u32,
 ) -> Result<Found<Vec<Declarator>>, ParseError>
-    requires lexed { cut_text input.now.text.now ≡ Ok input.now.tokens.now }
     requires shallow { depth ≤ 200 }
     ensures found { IfOk result (λ f. Parsed input.now (separated (t kind.Identifier)) (λ b d. meaning.list_of (meaning.plain_name b) d) depth at (map view.declarator f.value.items) f.to) }
     ensures refused { IfErr result (λ e. Refused input.now.tokens.now depth (separated (t kind.Identifier)) at e) }
@@ -169,7 +161,6 @@ fn plain_declarators(
 
 /// A declared net, and what it is assigned.
 fn wire_declarator(input: &Input<'_>, at: u32, depth: u32) -> Result<Found<Declarator>, ParseError>
-    requires lexed { cut_text input.now.text.now ≡ Ok input.now.tokens.now }
     requires shallow { depth ≤ 200 }
     ensures found { IfOk result (λ f. Parsed input.now grammar.wire_name meaning.wire_of depth at (view.declarator f.value) f.to) }
     ensures refused { IfErr result (λ e. Refused input.now.tokens.now depth grammar.wire_name at e) }
@@ -191,7 +182,6 @@ fn wire_declarators(
     at: u32,
     depth: u32,
 ) -> Result<Found<Vec<Declarator>>, ParseError>
-    requires lexed { cut_text input.now.text.now ≡ Ok input.now.tokens.now }
     requires shallow { depth ≤ 200 }
     ensures found { IfOk result (λ f. Parsed input.now (separated grammar.wire_name) (λ b d. meaning.list_of (meaning.wire_of b) d) depth at (map view.declarator f.value.items) f.to) }
     ensures refused { IfErr result (λ e. Refused input.now.tokens.now depth (separated grammar.wire_name) at e) }
@@ -211,7 +201,6 @@ fn wire_declarators(
 
 /// A declaration of registers.
 pub(crate) fn regs(input: &Input<'_>, at: u32, depth: u32) -> Result<Found<Item>, ParseError>
-    requires lexed { cut_text input.now.text.now ≡ Ok input.now.tokens.now }
     requires shallow { depth ≤ 200 }
     ensures found { IfOk result (λ f. Parsed input.now grammar.reg_item meaning.reg_item_of depth at (view.item f.value) f.to) }
     ensures refused { IfErr result (λ e. Refused input.now.tokens.now depth grammar.reg_item at e) }
@@ -233,7 +222,6 @@ pub(crate) fn regs(input: &Input<'_>, at: u32, depth: u32) -> Result<Found<Item>
 
 /// A declaration of nets.
 pub(crate) fn wires(input: &Input<'_>, at: u32, depth: u32) -> Result<Found<Item>, ParseError>
-    requires lexed { cut_text input.now.text.now ≡ Ok input.now.tokens.now }
     requires shallow { depth ≤ 200 }
     ensures found { IfOk result (λ f. Parsed input.now grammar.wire_item meaning.wire_item_of depth at (view.item f.value) f.to) }
     ensures refused { IfErr result (λ e. Refused input.now.tokens.now depth grammar.wire_item at e) }
@@ -259,7 +247,6 @@ pub(crate) fn direction(
     at: u32,
     depth: u32,
 ) -> Result<Found<SignalKind>, ParseError>
-    requires lexed { cut_text input.now.text.now ≡ Ok input.now.tokens.now }
     requires shallow { depth ≤ 200 }
     ensures found { IfOk result (λ f. Parsed input.now (r rule.Direction) (λ b d. meaning.port_kind d) depth at (view.signal_kind f.value) f.to) }
     ensures refused { IfErr result (λ e. Refused input.now.tokens.now depth (r rule.Direction) at e) }
@@ -284,7 +271,6 @@ fn input_kind(wire: bool) -> SignalKind
 
 /// An input.
 fn input_direction(input: &Input<'_>, at: u32, depth: u32) -> Result<Found<SignalKind>, ParseError>
-    requires lexed { cut_text input.now.text.now ≡ Ok input.now.tokens.now }
     requires shallow { depth ≤ 200 }
     ensures found { IfOk result (λ f. Parsed input.now (part.input_direction) (λ b d. meaning.port_kind (part.as_input d)) depth at (view.signal_kind f.value) f.to) }
     ensures refused { IfErr result (λ e. Refused input.now.tokens.now depth (part.input_direction) at e) }
@@ -299,7 +285,6 @@ fn input_direction(input: &Input<'_>, at: u32, depth: u32) -> Result<Found<Signa
 
 /// An output.
 fn output_direction(input: &Input<'_>, at: u32, depth: u32) -> Result<Found<SignalKind>, ParseError>
-    requires lexed { cut_text input.now.text.now ≡ Ok input.now.tokens.now }
     requires shallow { depth ≤ 200 }
     ensures found { IfOk result (λ f. Parsed input.now (part.output_direction) (λ b d. meaning.port_kind (part.as_output d)) depth at (view.signal_kind f.value) f.to) }
     ensures refused { IfErr result (λ e. Refused input.now.tokens.now depth (part.output_direction) at e) }
@@ -314,7 +299,6 @@ fn output_direction(input: &Input<'_>, at: u32, depth: u32) -> Result<Found<Sign
 
 /// What an output is, by the word behind it.
 fn output_kind(input: &Input<'_>, at: u32, depth: u32) -> Result<Found<SignalKind>, ParseError>
-    requires lexed { cut_text input.now.text.now ≡ Ok input.now.tokens.now }
     requires shallow { depth ≤ 200 }
     ensures found { IfOk result (λ f. Parsed input.now (part.output_words) part.output_kind depth at (view.signal_kind f.value) f.to) }
     ensures refused { IfErr result (λ e. Refused input.now.tokens.now depth (part.output_words) at e) }
@@ -341,7 +325,6 @@ fn output_kind(input: &Input<'_>, at: u32, depth: u32) -> Result<Found<SignalKin
 
 /// A declaration of ports.
 pub(crate) fn ports_item(input: &Input<'_>, at: u32, depth: u32) -> Result<Found<Item>, ParseError>
-    requires lexed { cut_text input.now.text.now ≡ Ok input.now.tokens.now }
     requires shallow { depth ≤ 200 }
     ensures found { IfOk result (λ f. Parsed input.now (part.ports_item) part.ports_item_tree depth at (view.item f.value) f.to) }
     ensures refused { IfErr result (λ e. Refused input.now.tokens.now depth (part.ports_item) at e) }
@@ -363,7 +346,6 @@ pub(crate) fn ports_item(input: &Input<'_>, at: u32, depth: u32) -> Result<Found
 
 /// A name and the value that it is given.
 pub(crate) fn setting(input: &Input<'_>, at: u32, depth: u32) -> Result<Found<Setting>, ParseError>
-    requires lexed { cut_text input.now.text.now ≡ Ok input.now.tokens.now }
     requires shallow { depth ≤ 200 }
     ensures found { IfOk result (λ f. Parsed input.now (r rule.ParameterSetting) meaning.setting_of depth at (view.setting f.value) f.to) }
     ensures refused { IfErr result (λ e. Refused input.now.tokens.now depth (r rule.ParameterSetting) at e) }
@@ -382,7 +364,6 @@ pub(crate) fn setting(input: &Input<'_>, at: u32, depth: u32) -> Result<Found<Se
 
 /// Settings, with commas between them.
 fn settings(input: &Input<'_>, at: u32, depth: u32) -> Result<Found<Vec<Setting>>, ParseError>
-    requires lexed { cut_text input.now.text.now ≡ Ok input.now.tokens.now }
     requires shallow { depth ≤ 200 }
     ensures found { IfOk result (λ f. Parsed input.now (separated (r rule.ParameterSetting)) (λ b d. meaning.list_of (meaning.setting_of b) d) depth at (map view.setting f.value.items) f.to) }
     ensures refused { IfErr result (λ e. Refused input.now.tokens.now depth (separated (r rule.ParameterSetting)) at e) }
@@ -402,7 +383,6 @@ fn settings(input: &Input<'_>, at: u32, depth: u32) -> Result<Found<Vec<Setting>
 
 /// A declaration of parameters.
 pub(crate) fn parameters(input: &Input<'_>, at: u32, depth: u32) -> Result<Found<Item>, ParseError>
-    requires lexed { cut_text input.now.text.now ≡ Ok input.now.tokens.now }
     requires shallow { depth ≤ 200 }
     ensures found { IfOk result (λ f. Parsed input.now (part.parameters_item) part.parameters_item_tree depth at (view.item f.value) f.to) }
     ensures refused { IfErr result (λ e. Refused input.now.tokens.now depth (part.parameters_item) at e) }
@@ -428,7 +408,6 @@ pub(crate) fn local_parameters(
     at: u32,
     depth: u32,
 ) -> Result<Found<Item>, ParseError>
-    requires lexed { cut_text input.now.text.now ≡ Ok input.now.tokens.now }
     requires shallow { depth ≤ 200 }
     ensures found { IfOk result (λ f. Parsed input.now grammar.local_item meaning.local_item_of depth at (view.item f.value) f.to) }
     ensures refused { IfErr result (λ e. Refused input.now.tokens.now depth grammar.local_item at e) }

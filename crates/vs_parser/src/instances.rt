@@ -1,7 +1,6 @@
 //! Instances of modules, and what their ports and parameters are connected to (IEEE 1364-2005, A.4).
 
 ghost use Rattle.std.specs.Prelude.{◌≡◌, ◌≤◌, IfOk, IfErr, Ok, map};
-ghost use Rattle.vs_lexer.specs.Cuts.{cut_text};
 ghost use Rattle.vs_grammar.specs.Grammars.{opt};
 ghost use Rattle.vs_grammar.specs.Verilog.{Rule as rule, r, separated};
 ghost use Rattle.vs_grammar.specs.Verilog as grammar;
@@ -20,7 +19,6 @@ use vs_phrase::words::identifier;
 
 /// An expression.
 fn plain_expression(input: &Input<'_>, at: u32, depth: u32) -> Result<Found<Expr>, ParseError>
-    requires lexed { cut_text input.now.text.now ≡ Ok input.now.tokens.now }
     requires shallow { depth ≤ 200 }
     ensures found { IfOk result (λ f. Parsed input.now (r rule.Expression) meaning.expr_of depth at (view.expr f.value) f.to) }
     ensures refused { IfErr result (λ e. Refused input.now.tokens.now depth (r rule.Expression) at e) }
@@ -38,7 +36,6 @@ fn optional_expression(
     at: u32,
     depth: u32,
 ) -> Result<Found<Option<Expr>>, ParseError>
-    requires lexed { cut_text input.now.text.now ≡ Ok input.now.tokens.now }
     requires shallow { depth ≤ 200 }
     ensures found { IfOk result (λ f. Parsed input.now (opt (r rule.Expression)) (λ b d. meaning.option_of (meaning.expr_of b) d) depth at (view.option view.expr f.value) f.to) }
     ensures refused { IfErr result (λ e. Refused input.now.tokens.now depth (opt (r rule.Expression)) at e) }
@@ -62,7 +59,6 @@ fn expressions_by_order(
     at: u32,
     depth: u32,
 ) -> Result<Found<Vec<Option<Expr>>>, ParseError>
-    requires lexed { cut_text input.now.text.now ≡ Ok input.now.tokens.now }
     requires shallow { depth ≤ 200 }
     ensures found { IfOk result (λ f. Parsed input.now (separated (opt (r rule.Expression))) (λ b d. meaning.list_of (meaning.option_of (meaning.expr_of b)) d) depth at (map (view.option view.expr) f.value.items) f.to) }
     ensures refused { IfErr result (λ e. Refused input.now.tokens.now depth (separated (opt (r rule.Expression))) at e) }
@@ -86,7 +82,6 @@ fn named_connection(
     at: u32,
     depth: u32,
 ) -> Result<Found<NamedConnection>, ParseError>
-    requires lexed { cut_text input.now.text.now ≡ Ok input.now.tokens.now }
     requires shallow { depth ≤ 200 }
     ensures found { IfOk result (λ f. Parsed input.now grammar.named_connection meaning.connection_of depth at (view.named_connection f.value) f.to) }
     ensures refused { IfErr result (λ e. Refused input.now.tokens.now depth grammar.named_connection at e) }
@@ -111,7 +106,6 @@ fn named_connections(
     at: u32,
     depth: u32,
 ) -> Result<Found<Vec<NamedConnection>>, ParseError>
-    requires lexed { cut_text input.now.text.now ≡ Ok input.now.tokens.now }
     requires shallow { depth ≤ 200 }
     ensures found { IfOk result (λ f. Parsed input.now (separated grammar.named_connection) (λ b d. meaning.list_of (meaning.connection_of b) d) depth at (map view.named_connection f.value.items) f.to) }
     ensures refused { IfErr result (λ e. Refused input.now.tokens.now depth (separated grammar.named_connection) at e) }
@@ -148,7 +142,6 @@ fn by_order(list: Vec<Option<Expr>>) -> Connections
 
 /// What ports or parameters are connected to.
 fn connections(input: &Input<'_>, at: u32, depth: u32) -> Result<Found<Connections>, ParseError>
-    requires lexed { cut_text input.now.text.now ≡ Ok input.now.tokens.now }
     requires shallow { depth ≤ 200 }
     ensures found { IfOk result (λ f. Parsed input.now (r rule.Connections) meaning.connections_of depth at (view.connections f.value) f.to) }
     ensures refused { IfErr result (λ e. Refused input.now.tokens.now depth (r rule.Connections) at e) }
@@ -170,7 +163,6 @@ fn connections(input: &Input<'_>, at: u32, depth: u32) -> Result<Found<Connectio
 
 /// The parameters that instances are given.
 fn overrides(input: &Input<'_>, at: u32, depth: u32) -> Result<Found<Connections>, ParseError>
-    requires lexed { cut_text input.now.text.now ≡ Ok input.now.tokens.now }
     requires shallow { depth ≤ 200 }
     ensures found { IfOk result (λ f. Parsed input.now grammar.overrides meaning.overrides_of depth at (view.connections f.value) f.to) }
     ensures refused { IfErr result (λ e. Refused input.now.tokens.now depth grammar.overrides at e) }
@@ -193,7 +185,6 @@ fn overrides(input: &Input<'_>, at: u32, depth: u32) -> Result<Found<Connections
 
 /// An instance.
 fn instance(input: &Input<'_>, at: u32, depth: u32) -> Result<Found<Instance>, ParseError>
-    requires lexed { cut_text input.now.text.now ≡ Ok input.now.tokens.now }
     requires shallow { depth ≤ 200 }
     ensures found { IfOk result (λ f. Parsed input.now (r rule.Instance) meaning.instance_of depth at (view.instance f.value) f.to) }
     ensures refused { IfErr result (λ e. Refused input.now.tokens.now depth (r rule.Instance) at e) }
@@ -213,7 +204,6 @@ fn instance(input: &Input<'_>, at: u32, depth: u32) -> Result<Found<Instance>, P
 
 /// Instances, with commas between them.
 fn instance_list(input: &Input<'_>, at: u32, depth: u32) -> Result<Found<Vec<Instance>>, ParseError>
-    requires lexed { cut_text input.now.text.now ≡ Ok input.now.tokens.now }
     requires shallow { depth ≤ 200 }
     ensures found { IfOk result (λ f. Parsed input.now (separated (r rule.Instance)) (λ b d. meaning.list_of (meaning.instance_of b) d) depth at (map view.instance f.value.items) f.to) }
     ensures refused { IfErr result (λ e. Refused input.now.tokens.now depth (separated (r rule.Instance)) at e) }
@@ -233,7 +223,6 @@ fn instance_list(input: &Input<'_>, at: u32, depth: u32) -> Result<Found<Vec<Ins
 
 /// Instances of one module.
 pub(crate) fn instances(input: &Input<'_>, at: u32, depth: u32) -> Result<Found<Item>, ParseError>
-    requires lexed { cut_text input.now.text.now ≡ Ok input.now.tokens.now }
     requires shallow { depth ≤ 200 }
     ensures found { IfOk result (λ f. Parsed input.now grammar.instance_item meaning.instance_item_of depth at (view.item f.value) f.to) }
     ensures refused { IfErr result (λ e. Refused input.now.tokens.now depth grammar.instance_item at e) }

@@ -1,7 +1,6 @@
 //! The items of modules and of generate blocks (IEEE 1364-2005, A.1.4 and A.4.2).
 
 ghost use Rattle.std.specs.Prelude.{◌≡◌, ◌≤◌, IfOk, IfErr, Ok, [], ◌++◌, map};
-ghost use Rattle.vs_lexer.specs.Cuts.{cut_text};
 ghost use Rattle.vs_grammar.specs.Grammars.{star};
 ghost use Rattle.vs_grammar.specs.Verilog.{Rule as rule, r};
 ghost use Rattle.vs_grammar.specs.Verilog as grammar;
@@ -89,7 +88,6 @@ fn is_item_at(input: &Input<'_>, at: u32) -> bool
 /// An item that may stand in a generate block.
 #[cycle(items)]
 fn generate_item(input: &Input<'_>, at: u32, depth: u32) -> Result<Found<Item>, ParseError>
-    requires lexed { cut_text input.now.text.now ≡ Ok input.now.tokens.now }
     requires shallow { depth ≤ 200 }
     ensures found { IfOk result (λ f. Parsed input.now (r rule.GenerateItem) meaning.item_of depth at (view.item f.value) f.to) }
     ensures refused { IfErr result (λ e. Refused input.now.tokens.now depth (r rule.GenerateItem) at e) }
@@ -119,7 +117,6 @@ fn generate_item(input: &Input<'_>, at: u32, depth: u32) -> Result<Found<Item>, 
 
 /// A declaration of genvars.
 fn genvars(input: &Input<'_>, at: u32, depth: u32) -> Result<Found<Item>, ParseError>
-    requires lexed { cut_text input.now.text.now ≡ Ok input.now.tokens.now }
     requires shallow { depth ≤ 200 }
     ensures found { IfOk result (λ f. Parsed input.now grammar.genvar_item meaning.genvar_item_of depth at (view.item f.value) f.to) }
     ensures refused { IfErr result (λ e. Refused input.now.tokens.now depth grammar.genvar_item at e) }
@@ -137,7 +134,6 @@ fn genvars(input: &Input<'_>, at: u32, depth: u32) -> Result<Found<Item>, ParseE
 /// A generate `for`.
 #[cycle(items)]
 fn generate_for(input: &Input<'_>, at: u32, depth: u32) -> Result<Found<Item>, ParseError>
-    requires lexed { cut_text input.now.text.now ≡ Ok input.now.tokens.now }
     requires shallow { depth ≤ 200 }
     ensures found { IfOk result (λ f. Parsed input.now grammar.for_item meaning.for_item_of depth at (view.item f.value) f.to) }
     ensures refused { IfErr result (λ e. Refused input.now.tokens.now depth grammar.for_item at e) }
@@ -173,7 +169,6 @@ fn generate_for(input: &Input<'_>, at: u32, depth: u32) -> Result<Found<Item>, P
 /// A generate `if`.
 #[cycle(items)]
 fn generate_if(input: &Input<'_>, at: u32, depth: u32) -> Result<Found<Item>, ParseError>
-    requires lexed { cut_text input.now.text.now ≡ Ok input.now.tokens.now }
     requires shallow { depth ≤ 200 }
     ensures found { IfOk result (λ f. Parsed input.now grammar.if_item meaning.if_item_of depth at (view.item f.value) f.to) }
     ensures refused { IfErr result (λ e. Refused input.now.tokens.now depth grammar.if_item at e) }
@@ -198,7 +193,6 @@ fn other_block(
     at: u32,
     depth: u32,
 ) -> Result<Found<Option<GenerateBlock>>, ParseError>
-    requires lexed { cut_text input.now.text.now ≡ Ok input.now.tokens.now }
     requires shallow { depth ≤ 200 }
     ensures found { IfOk result (λ f. Parsed input.now (part.other_block) meaning.else_block depth at (view.block_fallback f.value) f.to) }
     ensures refused { IfErr result (λ e. Refused input.now.tokens.now depth (part.other_block) at e) }
@@ -220,7 +214,6 @@ fn other_block(
 /// A generate `case`.
 #[cycle(items)]
 fn generate_case(input: &Input<'_>, at: u32, depth: u32) -> Result<Found<Item>, ParseError>
-    requires lexed { cut_text input.now.text.now ≡ Ok input.now.tokens.now }
     requires shallow { depth ≤ 200 }
     ensures found { IfOk result (λ f. Parsed input.now grammar.generate_case meaning.generate_case_of depth at (view.item f.value) f.to) }
     ensures refused { IfErr result (λ e. Refused input.now.tokens.now depth grammar.generate_case at e) }
@@ -255,7 +248,6 @@ fn generate_cases(
     at: u32,
     depth: u32,
 ) -> Result<Found<GenerateParts>, ParseError>
-    requires lexed { cut_text input.now.text.now ≡ Ok input.now.tokens.now }
     requires shallow { depth ≤ 200 }
     ensures found { IfOk result (λ f. Parsed input.now (r rule.GenerateCases) part.generate_cases_of depth at (part.generate_cases_view f.value) f.to) }
     ensures refused { IfErr result (λ e. Refused input.now.tokens.now depth (r rule.GenerateCases) at e) }
@@ -303,7 +295,6 @@ fn generate_arms(
     depth: u32,
     before: Vec<GenerateArm>,
 ) -> Result<Found<Vec<GenerateArm>>, ParseError>
-    requires lexed { cut_text input.now.text.now ≡ Ok input.now.tokens.now }
     requires shallow { depth ≤ 200 }
     ensures found { IfOk result (λ f. Parsed input.now (star (r rule.GenerateCaseItem)) (λ b d. map part.generate_arm_view before.items ++ meaning.each_onto (part.generate_arm_of b) d []) depth at (map part.generate_arm_view f.value.items) f.to) }
     ensures refused { IfErr result (λ e. Refused input.now.tokens.now depth (star (r rule.GenerateCaseItem)) at e) }
@@ -321,7 +312,6 @@ fn generate_arms(
 /// The labels of an arm, and its block.
 #[cycle(items)]
 fn generate_arm(input: &Input<'_>, at: u32, depth: u32) -> Result<Found<GenerateArm>, ParseError>
-    requires lexed { cut_text input.now.text.now ≡ Ok input.now.tokens.now }
     requires shallow { depth ≤ 200 }
     ensures found { IfOk result (λ f. Parsed input.now (r rule.GenerateCaseItem) part.generate_arm_of depth at (part.generate_arm_view f.value) f.to) }
     ensures refused { IfErr result (λ e. Refused input.now.tokens.now depth (r rule.GenerateCaseItem) at e) }
@@ -345,7 +335,6 @@ fn generate_default(
     at: u32,
     depth: u32,
 ) -> Result<Found<GenerateBlock>, ParseError>
-    requires lexed { cut_text input.now.text.now ≡ Ok input.now.tokens.now }
     requires shallow { depth ≤ 200 }
     ensures found { IfOk result (λ f. Parsed input.now (r rule.GenerateCaseDefault) meaning.default_block_of depth at (tree.OtherwiseBlock (view.block f.value)) f.to) }
     ensures refused { IfErr result (λ e. Refused input.now.tokens.now depth (r rule.GenerateCaseDefault) at e) }
@@ -359,7 +348,6 @@ fn generate_default(
 /// A generate block.
 #[cycle(items)]
 fn block(input: &Input<'_>, at: u32, depth: u32) -> Result<Found<GenerateBlock>, ParseError>
-    requires lexed { cut_text input.now.text.now ≡ Ok input.now.tokens.now }
     requires shallow { depth ≤ 200 }
     ensures found { IfOk result (λ f. Parsed input.now (r rule.GenerateBlock) meaning.block_of depth at (view.block f.value) f.to) }
     ensures refused { IfErr result (λ e. Refused input.now.tokens.now depth (r rule.GenerateBlock) at e) }
@@ -386,7 +374,6 @@ fn block(input: &Input<'_>, at: u32, depth: u32) -> Result<Found<GenerateBlock>,
 /// The items between `begin` and `end`.
 #[cycle(items)]
 fn enclosed(input: &Input<'_>, at: u32, depth: u32) -> Result<Found<GenerateBlock>, ParseError>
-    requires lexed { cut_text input.now.text.now ≡ Ok input.now.tokens.now }
     requires shallow { depth ≤ 200 }
     ensures found { IfOk result (λ f. Parsed input.now grammar.block part.enclosed_tree depth at (view.block f.value) f.to) }
     ensures refused { IfErr result (λ e. Refused input.now.tokens.now depth grammar.block at e) }
@@ -407,7 +394,6 @@ fn generate_items(
     depth: u32,
     before: Vec<Item>,
 ) -> Result<Found<Vec<Item>>, ParseError>
-    requires lexed { cut_text input.now.text.now ≡ Ok input.now.tokens.now }
     requires shallow { depth ≤ 200 }
     ensures found { IfOk result (λ f. Parsed input.now (star (r rule.GenerateItem)) (λ b d. map view.item before.items ++ meaning.each_onto (meaning.item_of b) d []) depth at (map view.item f.value.items) f.to) }
     ensures refused { IfErr result (λ e. Refused input.now.tokens.now depth (star (r rule.GenerateItem)) at e) }
@@ -429,7 +415,6 @@ fn item(
     depth: u32,
     before: Vec<Item>,
 ) -> Result<Found<Vec<Item>>, ParseError>
-    requires lexed { cut_text input.now.text.now ≡ Ok input.now.tokens.now }
     requires shallow { depth ≤ 200 }
     ensures found { IfOk result (λ f. ItemRead input.now before.items depth at f.value.items f.to) }
     ensures refused { IfErr result (λ e. Refused input.now.tokens.now depth (r rule.Item) at e) }
@@ -473,7 +458,6 @@ fn item(
 
 /// The items of a module.
 pub(crate) fn items(input: &Input<'_>, at: u32, depth: u32) -> Result<Found<Vec<Item>>, ParseError>
-    requires lexed { cut_text input.now.text.now ≡ Ok input.now.tokens.now }
     requires shallow { depth ≤ 200 }
     ensures found { IfOk result (λ f. Parsed input.now (star (r rule.Item)) (λ b d. meaning.items_onto b d tree.NoItem) depth at (view.items f.value.items) f.to) }
     ensures refused { IfErr result (λ e. Refused input.now.tokens.now depth (star (r rule.Item)) at e) }

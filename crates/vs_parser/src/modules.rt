@@ -1,7 +1,6 @@
 //! Modules (IEEE 1364-2005, A.1.2).
 
 ghost use Rattle.std.specs.Prelude.{◌≡◌, ◌≤◌, IfOk, IfErr, Ok, false, [], ◌∷◌, ◌++◌, map};
-ghost use Rattle.vs_lexer.specs.Cuts.{cut_text};
 ghost use Rattle.vs_lexer.specs.declared.token.TokenKind.TheVariants as kind;
 ghost use Rattle.vs_grammar.specs.Grammars.{opt, star};
 ghost use Rattle.vs_grammar.specs.Verilog.{Rule as rule, r};
@@ -27,7 +26,6 @@ fn header_parameters(
     at: u32,
     depth: u32,
 ) -> Result<Found<Vec<Parameters>>, ParseError>
-    requires lexed { cut_text input.now.text.now ≡ Ok input.now.tokens.now }
     requires shallow { depth ≤ 200 }
     ensures found { IfOk result (λ f. Parsed input.now (r rule.HeaderParameters) meaning.header_parameters depth at (map view.parameters f.value.items) f.to) }
     ensures refused { IfErr result (λ e. Refused input.now.tokens.now depth (r rule.HeaderParameters) at e) }
@@ -91,7 +89,6 @@ fn with_setting(declared: Parameters, setting: Setting) -> Result<Parameters, Pa
 
 /// A declaration that begins with its own `parameter`, in a header, with its first parameter.
 fn next_declaration(input: &Input<'_>, at: u32, depth: u32) -> Result<Found<Parameters>, ParseError>
-    requires lexed { cut_text input.now.text.now ≡ Ok input.now.tokens.now }
     requires shallow { depth ≤ 200 }
     ensures found { IfOk result (λ f. Parsed input.now part.next_declaration part.next_declaration_of depth at (view.parameters f.value) f.to) }
     ensures refused { IfErr result (λ e. Refused input.now.tokens.now depth part.next_declaration at e) }
@@ -122,7 +119,6 @@ fn parameter_or_setting(
     depth: u32,
     state: ParametersSoFar,
 ) -> Result<ParametersSoFar, ParseError>
-    requires lexed { cut_text input.now.text.now ≡ Ok input.now.tokens.now }
     requires shallow { depth ≤ 200 }
     ensures found { IfOk result (λ s. ParametersStep input.now (map view.parameters state.list.items) (view.parameters state.last) depth at (map view.parameters s.list.items) (view.parameters s.last) s.to) }
     ensures refused { IfErr result (λ e. Refused input.now.tokens.now depth part.parameter_step at e) }
@@ -155,7 +151,6 @@ fn more_parameters(
     depth: u32,
     first: Parameters,
 ) -> Result<Found<Vec<Parameters>>, ParseError>
-    requires lexed { cut_text input.now.text.now ≡ Ok input.now.tokens.now }
     requires shallow { depth ≤ 200 }
     ensures found { IfOk result (λ f. ParametersRead input.now (view.parameters first) depth at (map view.parameters f.value.items) f.to) }
     ensures refused { IfErr result (λ e. Refused input.now.tokens.now depth part.more_parameters at e) }
@@ -181,7 +176,6 @@ fn module_parameters(
     at: u32,
     depth: u32,
 ) -> Result<Found<Vec<Parameters>>, ParseError>
-    requires lexed { cut_text input.now.text.now ≡ Ok input.now.tokens.now }
     requires shallow { depth ≤ 200 }
     ensures found { IfOk result (λ f. Parsed input.now (part.module_parameters) meaning.module_parameters depth at (map view.parameters f.value.items) f.to) }
     ensures refused { IfErr result (λ e. Refused input.now.tokens.now depth (part.module_parameters) at e) }
@@ -204,7 +198,6 @@ fn module_parameters(
 
 /// A declaration in a list of ports, with its first name.
 fn port(input: &Input<'_>, at: u32, depth: u32) -> Result<Found<Signals>, ParseError>
-    requires lexed { cut_text input.now.text.now ≡ Ok input.now.tokens.now }
     requires shallow { depth ≤ 200 }
     ensures found { IfOk result (λ f. PortRead input.now depth at (view.signals f.value) f.to) }
     ensures refused { IfErr result (λ e. Refused input.now.tokens.now depth (r rule.Port) at e) }
@@ -263,7 +256,6 @@ fn port_or_name(
     depth: u32,
     state: PortsSoFar,
 ) -> Result<PortsSoFar, ParseError>
-    requires lexed { cut_text input.now.text.now ≡ Ok input.now.tokens.now }
     requires shallow { depth ≤ 200 }
     ensures found { IfOk result (λ s. PortsStep input.now (map view.signals state.list.items) (view.signals state.last) depth at (map view.signals s.list.items) (view.signals s.last) s.to) }
     ensures refused { IfErr result (λ e. Refused input.now.tokens.now depth part.port_step at e) }
@@ -300,7 +292,6 @@ fn more_ports(
     depth: u32,
     first: Signals,
 ) -> Result<Found<Vec<Signals>>, ParseError>
-    requires lexed { cut_text input.now.text.now ≡ Ok input.now.tokens.now }
     requires shallow { depth ≤ 200 }
     ensures found { IfOk result (λ f. PortsRead input.now (view.signals first) depth at (map view.signals f.value.items) f.to) }
     ensures refused { IfErr result (λ e. Refused input.now.tokens.now depth part.more_ports at e) }
@@ -322,7 +313,6 @@ fn more_ports(
 
 /// A list of ports.
 fn ports(input: &Input<'_>, at: u32, depth: u32) -> Result<Found<Header>, ParseError>
-    requires lexed { cut_text input.now.text.now ≡ Ok input.now.tokens.now }
     requires shallow { depth ≤ 200 }
     ensures found { IfOk result (λ f. Parsed input.now (r rule.Ports) meaning.ports_of depth at (view.header f.value) f.to) }
     ensures refused { IfErr result (λ e. Refused input.now.tokens.now depth (r rule.Ports) at e) }
@@ -345,7 +335,6 @@ fn ports(input: &Input<'_>, at: u32, depth: u32) -> Result<Found<Header>, ParseE
 
 /// A list of ports, if there is one.
 fn optional_ports(input: &Input<'_>, at: u32, depth: u32) -> Result<Found<Header>, ParseError>
-    requires lexed { cut_text input.now.text.now ≡ Ok input.now.tokens.now }
     requires shallow { depth ≤ 200 }
     ensures found { IfOk result (λ f. Parsed input.now (opt (r rule.Ports)) part.optional_ports_of depth at (view.header f.value) f.to) }
     ensures refused { IfErr result (λ e. Refused input.now.tokens.now depth (opt (r rule.Ports)) at e) }
@@ -373,7 +362,6 @@ fn optional_ports(input: &Input<'_>, at: u32, depth: u32) -> Result<Found<Header
 
 /// The ports of a module, if it has a list of them.
 fn header(input: &Input<'_>, at: u32, depth: u32) -> Result<Found<Header>, ParseError>
-    requires lexed { cut_text input.now.text.now ≡ Ok input.now.tokens.now }
     requires shallow { depth ≤ 200 }
     ensures found { IfOk result (λ f. Parsed input.now (part.header) meaning.header_of depth at (view.header f.value) f.to) }
     ensures refused { IfErr result (λ e. Refused input.now.tokens.now depth (part.header) at e) }
@@ -395,7 +383,6 @@ fn header(input: &Input<'_>, at: u32, depth: u32) -> Result<Found<Header>, Parse
 
 /// A module.
 fn module(input: &Input<'_>, at: u32, depth: u32) -> Result<Found<Module>, ParseError>
-    requires lexed { cut_text input.now.text.now ≡ Ok input.now.tokens.now }
     requires shallow { depth ≤ 200 }
     ensures found { IfOk result (λ f. Parsed input.now (r rule.Module) meaning.module_of depth at (view.module_tree f.value) f.to) }
     ensures refused { IfErr result (λ e. Refused input.now.tokens.now depth (r rule.Module) at e) }
@@ -424,7 +411,6 @@ fn more_modules(
     depth: u32,
     before: Vec<Module>,
 ) -> Result<Found<Vec<Module>>, ParseError>
-    requires lexed { cut_text input.now.text.now ≡ Ok input.now.tokens.now }
     requires shallow { depth ≤ 200 }
     ensures found { IfOk result (λ f. Parsed input.now (star (r rule.Module)) (λ b d. map view.module_tree before.items ++ meaning.each_onto (meaning.module_of b) d []) depth at (map view.module_tree f.value.items) f.to) }
     ensures refused { IfErr result (λ e. Refused input.now.tokens.now depth (star (r rule.Module)) at e) }
@@ -441,7 +427,6 @@ fn more_modules(
 
 /// The modules of a text.
 pub(crate) fn source(input: &Input<'_>, at: u32, depth: u32) -> Result<Found<Source>, ParseError>
-    requires lexed { cut_text input.now.text.now ≡ Ok input.now.tokens.now }
     requires shallow { depth ≤ 200 }
     ensures found { IfOk result (λ f. Parsed input.now (r rule.Source) meaning.source_of depth at (view.source f.value) f.to) }
     ensures refused { IfErr result (λ e. Refused input.now.tokens.now depth (r rule.Source) at e) }

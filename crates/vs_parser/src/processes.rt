@@ -1,7 +1,6 @@
 //! Continuous assignments and `always` blocks (IEEE 1364-2005, A.6).
 
 ghost use Rattle.std.specs.Prelude.{◌≡◌, ◌≤◌, MatchOption, IfOk, IfErr, Ok, false, [], ◌++◌, map};
-ghost use Rattle.vs_lexer.specs.Cuts.{cut_text};
 ghost use Rattle.vs_lexer.specs.declared.token.TokenKind.TheVariants as kind;
 ghost use Rattle.vs_grammar.specs.Grammars.{star};
 ghost use Rattle.vs_grammar.specs.Verilog.{Rule as rule, r, t, separated};
@@ -26,7 +25,6 @@ const EVENT_SIGNS: [(TokenKind, ()); 2] = [(TokenKind::KeywordOr, ()), (TokenKin
 
 /// A target and what it is assigned.
 fn assign(input: &Input<'_>, at: u32, depth: u32) -> Result<Found<Assign>, ParseError>
-    requires lexed { cut_text input.now.text.now ≡ Ok input.now.tokens.now }
     requires shallow { depth ≤ 200 }
     ensures found { IfOk result (λ f. Parsed input.now grammar.assignment meaning.assign_of depth at (view.assign f.value) f.to) }
     ensures refused { IfErr result (λ e. Refused input.now.tokens.now depth grammar.assignment at e) }
@@ -45,7 +43,6 @@ fn assign(input: &Input<'_>, at: u32, depth: u32) -> Result<Found<Assign>, Parse
 
 /// Assignments, with commas between them.
 fn assign_list(input: &Input<'_>, at: u32, depth: u32) -> Result<Found<Vec<Assign>>, ParseError>
-    requires lexed { cut_text input.now.text.now ≡ Ok input.now.tokens.now }
     requires shallow { depth ≤ 200 }
     ensures found { IfOk result (λ f. Parsed input.now (separated grammar.assignment) (λ b d. meaning.list_of (meaning.assign_of b) d) depth at (map view.assign f.value.items) f.to) }
     ensures refused { IfErr result (λ e. Refused input.now.tokens.now depth (separated grammar.assignment) at e) }
@@ -65,7 +62,6 @@ fn assign_list(input: &Input<'_>, at: u32, depth: u32) -> Result<Found<Vec<Assig
 
 /// Continuous assignments.
 pub(crate) fn assigns(input: &Input<'_>, at: u32, depth: u32) -> Result<Found<Item>, ParseError>
-    requires lexed { cut_text input.now.text.now ≡ Ok input.now.tokens.now }
     requires shallow { depth ≤ 200 }
     ensures found { IfOk result (λ f. Parsed input.now grammar.assign_item meaning.assign_item_of depth at (view.item f.value) f.to) }
     ensures refused { IfErr result (λ e. Refused input.now.tokens.now depth grammar.assign_item at e) }
@@ -82,7 +78,6 @@ pub(crate) fn assigns(input: &Input<'_>, at: u32, depth: u32) -> Result<Found<It
 
 /// Which edge is named.
 fn edge(input: &Input<'_>, at: u32, depth: u32) -> Result<Found<Edge>, ParseError>
-    requires lexed { cut_text input.now.text.now ≡ Ok input.now.tokens.now }
     requires shallow { depth ≤ 200 }
     ensures found { IfOk result (λ f. Parsed input.now (part.edge_words) (λ b d. meaning.edge_of d) depth at (view.edge f.value) f.to) }
     ensures refused { IfErr result (λ e. Refused input.now.tokens.now depth (part.edge_words) at e) }
@@ -109,7 +104,6 @@ fn edge(input: &Input<'_>, at: u32, depth: u32) -> Result<Found<Edge>, ParseErro
 
 /// An event.
 fn event(input: &Input<'_>, at: u32, depth: u32) -> Result<Found<Event>, ParseError>
-    requires lexed { cut_text input.now.text.now ≡ Ok input.now.tokens.now }
     requires shallow { depth ≤ 200 }
     ensures found { IfOk result (λ f. Parsed input.now (r rule.Event) meaning.event_of depth at (view.event f.value) f.to) }
     ensures refused { IfErr result (λ e. Refused input.now.tokens.now depth (r rule.Event) at e) }
@@ -127,7 +121,6 @@ fn event(input: &Input<'_>, at: u32, depth: u32) -> Result<Found<Event>, ParseEr
 
 /// What stands between two events, if it stands here.
 fn event_sign(input: &Input<'_>, at: u32) -> Option<Found<()>>
-    requires lexed { cut_text input.now.text.now ≡ Ok input.now.tokens.now }
     ensures { MatchOption result (is_member (kind_at input.now.tokens.now at) part.event_kinds ≡ false) (λ f. Chosen input.now.tokens.now part.event_sign part.nothing_of at f.value f.to) }
 {
     choose(input, at, &EVENT_SIGNS)
@@ -140,7 +133,6 @@ fn more_events(
     depth: u32,
     before: Vec<Event>,
 ) -> Result<Found<Vec<Event>>, ParseError>
-    requires lexed { cut_text input.now.text.now ≡ Ok input.now.tokens.now }
     requires shallow { depth ≤ 200 }
     ensures found { IfOk result (λ f. Parsed input.now (part.events_behind) (λ b d. map view.event before.items ++ meaning.each_onto (meaning.behind_sign (meaning.event_of b)) d []) depth at (map view.event f.value.items) f.to) }
     ensures refused { IfErr result (λ e. Refused input.now.tokens.now depth (part.events_behind) at e) }
@@ -157,7 +149,6 @@ fn more_events(
 
 /// Events, with `or` or commas between them.
 fn events(input: &Input<'_>, at: u32, depth: u32) -> Result<Found<Vec<Event>>, ParseError>
-    requires lexed { cut_text input.now.text.now ≡ Ok input.now.tokens.now }
     requires shallow { depth ≤ 200 }
     ensures found { IfOk result (λ f. Parsed input.now (part.events) part.events_of depth at (map view.event f.value.items) f.to) }
     ensures refused { IfErr result (λ e. Refused input.now.tokens.now depth (part.events) at e) }
@@ -174,7 +165,6 @@ fn events(input: &Input<'_>, at: u32, depth: u32) -> Result<Found<Vec<Event>>, P
 
 /// The event of a name.
 fn single_event(input: &Input<'_>, at: u32, depth: u32) -> Result<Found<EventControl>, ParseError>
-    requires lexed { cut_text input.now.text.now ≡ Ok input.now.tokens.now }
     requires shallow { depth ≤ 200 }
     ensures found { IfOk result (λ f. Parsed input.now (t kind.Identifier) part.single_event depth at (view.event_control f.value) f.to) }
     ensures refused { IfErr result (λ e. Refused input.now.tokens.now depth (t kind.Identifier) at e) }
@@ -193,7 +183,6 @@ fn single_event(input: &Input<'_>, at: u32, depth: u32) -> Result<Found<EventCon
 
 /// What stands in the brackets of an event control.
 fn inner_control(input: &Input<'_>, at: u32, depth: u32) -> Result<Found<EventControl>, ParseError>
-    requires lexed { cut_text input.now.text.now ≡ Ok input.now.tokens.now }
     requires shallow { depth ≤ 200 }
     ensures found { IfOk result (λ f. Parsed input.now (part.inner_control) part.inner_control_of depth at (view.event_control f.value) f.to) }
     ensures refused { IfErr result (λ e. Refused input.now.tokens.now depth (part.inner_control) at e) }
@@ -219,7 +208,6 @@ fn bracketed_control(
     at: u32,
     depth: u32,
 ) -> Result<Found<EventControl>, ParseError>
-    requires lexed { cut_text input.now.text.now ≡ Ok input.now.tokens.now }
     requires shallow { depth ≤ 200 }
     ensures found { IfOk result (λ f. Parsed input.now grammar.event_list part.bracketed_control_of depth at (view.event_control f.value) f.to) }
     ensures refused { IfErr result (λ e. Refused input.now.tokens.now depth grammar.event_list at e) }
@@ -235,7 +223,6 @@ fn bracketed_control(
 
 /// What stands behind the `@` of an event control.
 fn control(input: &Input<'_>, at: u32, depth: u32) -> Result<Found<EventControl>, ParseError>
-    requires lexed { cut_text input.now.text.now ≡ Ok input.now.tokens.now }
     requires shallow { depth ≤ 200 }
     ensures found { IfOk result (λ f. Parsed input.now (part.control) part.control_of depth at (view.event_control f.value) f.to) }
     ensures refused { IfErr result (λ e. Refused input.now.tokens.now depth (part.control) at e) }
@@ -255,7 +242,6 @@ fn control(input: &Input<'_>, at: u32, depth: u32) -> Result<Found<EventControl>
 
 /// What a block waits for.
 fn event_control(input: &Input<'_>, at: u32, depth: u32) -> Result<Found<EventControl>, ParseError>
-    requires lexed { cut_text input.now.text.now ≡ Ok input.now.tokens.now }
     requires shallow { depth ≤ 200 }
     ensures found { IfOk result (λ f. Parsed input.now (r rule.EventControl) meaning.control_of depth at (view.event_control f.value) f.to) }
     ensures refused { IfErr result (λ e. Refused input.now.tokens.now depth (r rule.EventControl) at e) }
@@ -270,7 +256,6 @@ fn event_control(input: &Input<'_>, at: u32, depth: u32) -> Result<Found<EventCo
 
 /// An `always` block.
 pub(crate) fn always(input: &Input<'_>, at: u32, depth: u32) -> Result<Found<Item>, ParseError>
-    requires lexed { cut_text input.now.text.now ≡ Ok input.now.tokens.now }
     requires shallow { depth ≤ 200 }
     ensures found { IfOk result (λ f. Parsed input.now grammar.always_item meaning.always_item_of depth at (view.item f.value) f.to) }
     ensures refused { IfErr result (λ e. Refused input.now.tokens.now depth grammar.always_item at e) }

@@ -30,7 +30,6 @@ fn first_left_out(tokens: &[Token]) -> Option<u32>
 
 /// The syntax tree of a text without tokens that are left out.
 fn read_all(input: &Input<'_>) -> Result<Source, ParseError>
-    requires lexed { cut_text input.now.text.now ≡ Ok input.now.tokens.now }
     requires kept { NoneLeftOut input.now.tokens.now }
     ensures found { IfOk result (λ s. Spells input.now.text.now (view.source s)) }
     ensures fault { IfErr result (λ e. Fault input.now.tokens.now e) }

@@ -1,7 +1,6 @@
 //! Expressions (IEEE 1364-2005, A.8).
 
 ghost use Rattle.std.specs.Prelude.{◌≡◌, ◌+◌, ◌≤◌, MatchOption, IfOk, IfErr, Ok, true, false, [], ◌∷◌, map};
-ghost use Rattle.vs_lexer.specs.Cuts.{cut_text};
 ghost use Rattle.vs_grammar.specs.Grammars.{opt, star};
 ghost use Rattle.vs_grammar.specs.Predictive.{is_member};
 ghost use Rattle.vs_grammar.specs.Verilog.{Rule as rule, r, t, ◌⨾◌, expression_firsts, separated};
@@ -54,7 +53,6 @@ const SYSTEM_FUNCTIONS: [(TokenKind, SystemFunction); 3] = [
 
 /// An operator of a level, if one stands here.
 fn operator(input: &Input<'_>, at: u32, level: Level) -> Option<Found<BinaryOp>>
-    requires lexed { cut_text input.now.text.now ≡ Ok input.now.tokens.now }
     ensures { MatchOption result (is_member (kind_at input.now.tokens.now at) (kinds_in (table_of level)) ≡ false) (λ f. Chosen input.now.tokens.now (level_operator level) (level_op level) at (view.binary_op f.value) f.to) }
 {
     choose(input, at, operators(level))
@@ -62,7 +60,6 @@ fn operator(input: &Input<'_>, at: u32, level: Level) -> Option<Found<BinaryOp>>
 
 /// An operator before an operand, if one stands here.
 fn unary_operator(input: &Input<'_>, at: u32) -> Option<Found<UnaryOp>>
-    requires lexed { cut_text input.now.text.now ≡ Ok input.now.tokens.now }
     ensures { MatchOption result (is_member (kind_at input.now.tokens.now at) part.unary_kinds ≡ false) (λ f. Chosen input.now.tokens.now grammar.unary_operator meaning.unary_op at (view.unary_op f.value) f.to) }
 {
     choose(input, at, &UNARY_OPERATORS)
@@ -70,7 +67,6 @@ fn unary_operator(input: &Input<'_>, at: u32) -> Option<Found<UnaryOp>>
 
 /// The sign between the two expressions of a select, if one stands here.
 fn slice_sign(input: &Input<'_>, at: u32) -> Option<Found<SliceKind>>
-    requires lexed { cut_text input.now.text.now ≡ Ok input.now.tokens.now }
     ensures { MatchOption result (is_member (kind_at input.now.tokens.now at) part.slice_kinds ≡ false) (λ f. Chosen input.now.tokens.now part.slice_sign meaning.slice_kind at (view.slice_kind f.value) f.to) }
 {
     choose(input, at, &SLICE_KINDS)
@@ -78,7 +74,6 @@ fn slice_sign(input: &Input<'_>, at: u32) -> Option<Found<SliceKind>>
 
 /// A system function, if one stands here.
 fn system_function(input: &Input<'_>, at: u32) -> Option<Found<SystemFunction>>
-    requires lexed { cut_text input.now.text.now ≡ Ok input.now.tokens.now }
     ensures { MatchOption result (is_member (kind_at input.now.tokens.now at) part.system_kinds ≡ false) (λ f. Chosen input.now.tokens.now part.system_function meaning.system_function at (view.system_function f.value) f.to) }
 {
     choose(input, at, &SYSTEM_FUNCTIONS)
@@ -87,7 +82,6 @@ fn system_function(input: &Input<'_>, at: u32) -> Option<Found<SystemFunction>>
 /// An expression: operands and operators, and perhaps a choice.
 #[cycle(expressions)]
 pub fn expression(input: &Input<'_>, at: u32, depth: u32) -> Result<Nested<Expr>, ParseError>
-    requires lexed { cut_text input.now.text.now ≡ Ok input.now.tokens.now }
     requires shallow { depth ≤ 200 }
     ensures found { IfOk result (λ f. Measured input.now (r rule.Expression) meaning.expr_of depth at (view.expr f.value) f.to f.height) }
     ensures refused { IfErr result (λ e. Refused input.now.tokens.now depth (r rule.Expression) at e) }
@@ -118,7 +112,6 @@ fn operations(
     depth: u32,
     level: Level,
 ) -> Result<Nested<Expr>, ParseError>
-    requires lexed { cut_text input.now.text.now ≡ Ok input.now.tokens.now }
     requires shallow { depth ≤ 200 }
     ensures found { IfOk result (λ f. Measured input.now (level_phrase level) (level_of level) depth at (view.expr f.value) f.to f.height) }
     ensures refused { IfErr result (λ e. Refused input.now.tokens.now depth (level_phrase level) at e) }
@@ -144,7 +137,6 @@ fn operations(
 /// An operand, perhaps with operators before it.
 #[cycle(expressions)]
 fn unary(input: &Input<'_>, at: u32, depth: u32) -> Result<Nested<Expr>, ParseError>
-    requires lexed { cut_text input.now.text.now ≡ Ok input.now.tokens.now }
     requires shallow { depth ≤ 200 }
     ensures found { IfOk result (λ f. Measured input.now (r rule.Unary) meaning.unary_of depth at (view.expr f.value) f.to f.height) }
     ensures refused { IfErr result (λ e. Refused input.now.tokens.now depth (r rule.Unary) at e) }
@@ -166,7 +158,6 @@ fn unary(input: &Input<'_>, at: u32, depth: u32) -> Result<Nested<Expr>, ParseEr
 /// A number, a name, brackets, braces, or a call.
 #[cycle(expressions)]
 fn primary(input: &Input<'_>, at: u32, depth: u32) -> Result<Nested<Expr>, ParseError>
-    requires lexed { cut_text input.now.text.now ≡ Ok input.now.tokens.now }
     requires shallow { depth ≤ 200 }
     ensures found { IfOk result (λ f. Measured input.now (r rule.Primary) meaning.primary_of depth at (view.expr f.value) f.to f.height) }
     ensures refused { IfErr result (λ e. Refused input.now.tokens.now depth (r rule.Primary) at e) }
@@ -193,7 +184,6 @@ fn is_number_at(input: &Input<'_>, at: u32) -> bool
 
 /// A number.
 fn number(input: &Input<'_>, at: u32, depth: u32) -> Result<Nested<Expr>, ParseError>
-    requires lexed { cut_text input.now.text.now ≡ Ok input.now.tokens.now }
     requires shallow { depth ≤ 200 }
     requires number { is_member (kind_at input.now.tokens.now at) part.number_kinds ≡ true }
     ensures found { IfOk result (λ f. Measured input.now grammar.number part.number_tree depth at (view.expr f.value) f.to f.height) }
@@ -210,7 +200,6 @@ fn number(input: &Input<'_>, at: u32, depth: u32) -> Result<Nested<Expr>, ParseE
 /// A name, with what is selected of it.
 #[cycle(expressions)]
 fn named(input: &Input<'_>, at: u32, depth: u32) -> Result<Nested<Expr>, ParseError>
-    requires lexed { cut_text input.now.text.now ≡ Ok input.now.tokens.now }
     requires shallow { depth ≤ 200 }
     ensures found { IfOk result (λ f. Measured input.now grammar.selected_name part.name_tree depth at (view.expr f.value) f.to f.height) }
     ensures refused { IfErr result (λ e. Refused input.now.tokens.now depth grammar.selected_name at e) }
@@ -227,7 +216,6 @@ fn named(input: &Input<'_>, at: u32, depth: u32) -> Result<Nested<Expr>, ParseEr
 /// What is selected of a name.
 #[cycle(expressions)]
 pub fn select(input: &Input<'_>, at: u32, depth: u32) -> Result<Nested<Select>, ParseError>
-    requires lexed { cut_text input.now.text.now ≡ Ok input.now.tokens.now }
     requires shallow { depth ≤ 200 }
     ensures found { IfOk result (λ f. Measured input.now (opt (r rule.Select)) meaning.select_or_whole depth at (view.select f.value) f.to f.height) }
     ensures refused { IfErr result (λ e. Refused input.now.tokens.now depth (opt (r rule.Select)) at e) }
@@ -266,7 +254,6 @@ pub fn select(input: &Input<'_>, at: u32, depth: u32) -> Result<Nested<Select>, 
 /// An expression in round brackets.
 #[cycle(expressions)]
 fn brackets(input: &Input<'_>, at: u32, depth: u32) -> Result<Nested<Expr>, ParseError>
-    requires lexed { cut_text input.now.text.now ≡ Ok input.now.tokens.now }
     requires shallow { depth ≤ 200 }
     ensures found { IfOk result (λ f. Measured input.now grammar.brackets part.brackets_tree depth at (view.expr f.value) f.to f.height) }
     ensures refused { IfErr result (λ e. Refused input.now.tokens.now depth grammar.brackets at e) }
@@ -287,7 +274,6 @@ fn brackets(input: &Input<'_>, at: u32, depth: u32) -> Result<Nested<Expr>, Pars
 /// A concatenation or a replication.
 #[cycle(expressions)]
 fn braces(input: &Input<'_>, at: u32, depth: u32) -> Result<Nested<Expr>, ParseError>
-    requires lexed { cut_text input.now.text.now ≡ Ok input.now.tokens.now }
     requires shallow { depth ≤ 200 }
     ensures found { IfOk result (λ f. Measured input.now grammar.braces part.braces_tree depth at (view.expr f.value) f.to f.height) }
     ensures refused { IfErr result (λ e. Refused input.now.tokens.now depth grammar.braces at e) }
@@ -351,7 +337,6 @@ fn more_expressions(
     first: Vec<Expr>,
     first_height: u32,
 ) -> Result<Nested<Vec<Expr>>, ParseError>
-    requires lexed { cut_text input.now.text.now ≡ Ok input.now.tokens.now }
     requires shallow { depth ≤ 200 }
     requires high { depth + first_height ≤ 200 }
     ensures found { IfOk result (λ f. MeasuredList input.now first.items first_height depth at f.value.items f.to f.height) }
@@ -377,7 +362,6 @@ fn more_expressions(
 /// The call of a system function.
 #[cycle(expressions)]
 fn call(input: &Input<'_>, at: u32, depth: u32) -> Result<Nested<Expr>, ParseError>
-    requires lexed { cut_text input.now.text.now ≡ Ok input.now.tokens.now }
     requires shallow { depth ≤ 200 }
     ensures found { IfOk result (λ f. Measured input.now grammar.call part.call_tree depth at (view.expr f.value) f.to f.height) }
     ensures refused { IfErr result (λ e. Refused input.now.tokens.now depth grammar.call at e) }
@@ -430,7 +414,6 @@ pub fn is_expression_at(input: &Input<'_>, at: u32) -> bool
 
 /// Expressions, with commas between them.
 pub fn expressions(input: &Input<'_>, at: u32, depth: u32) -> Result<Found<Vec<Expr>>, ParseError>
-    requires lexed { cut_text input.now.text.now ≡ Ok input.now.tokens.now }
     requires shallow { depth ≤ 200 }
     ensures found { IfOk result (λ f. Parsed input.now (separated (r rule.Expression)) (λ b d. meaning.list_of (meaning.expr_of b) d) depth at (map view.expr f.value.items) f.to) }
     ensures refused { IfErr result (λ e. Refused input.now.tokens.now depth (separated (r rule.Expression)) at e) }

@@ -1,7 +1,6 @@
 //! Statements (IEEE 1364-2005, A.6), and what is assigned to.
 
 ghost use Rattle.std.specs.Prelude.{◌≡◌, ◌≤◌, MatchOption, IfOk, IfErr, Ok, false, [], ◌++◌, map};
-ghost use Rattle.vs_lexer.specs.Cuts.{cut_text};
 ghost use Rattle.vs_grammar.specs.Grammars.{star};
 ghost use Rattle.vs_grammar.specs.Verilog.{Rule as rule, r, separated};
 ghost use Rattle.vs_grammar.specs.Verilog as grammar;
@@ -47,7 +46,6 @@ const ASSIGNMENT_SIGNS: [(TokenKind, bool); 2] = [
 
 /// The word that a case begins with, if one stands here.
 fn case_word(input: &Input<'_>, at: u32) -> Option<Found<CaseKind>>
-    requires lexed { cut_text input.now.text.now ≡ Ok input.now.tokens.now }
     ensures { MatchOption result (is_member (kind_at input.now.tokens.now at) part.case_kinds ≡ false) (λ f. Chosen input.now.tokens.now part.case_word meaning.case_kind at (view.case_kind f.value) f.to) }
 {
     choose(input, at, &CASE_KINDS)
@@ -55,7 +53,6 @@ fn case_word(input: &Input<'_>, at: u32) -> Option<Found<CaseKind>>
 
 /// The sign of an assignment, if one stands here.
 fn assignment_sign(input: &Input<'_>, at: u32) -> Option<Found<bool>>
-    requires lexed { cut_text input.now.text.now ≡ Ok input.now.tokens.now }
     ensures { MatchOption result (is_member (kind_at input.now.tokens.now at) part.assignment_kinds ≡ false) (λ f. Chosen input.now.tokens.now part.assignment_sign meaning.is_blocking at f.value f.to) }
 {
     choose(input, at, &ASSIGNMENT_SIGNS)
@@ -71,7 +68,6 @@ fn is_statement_at(input: &Input<'_>, at: u32) -> bool
 /// What is assigned to.
 #[cycle(targets)]
 pub fn target(input: &Input<'_>, at: u32, depth: u32) -> Result<Found<Target>, ParseError>
-    requires lexed { cut_text input.now.text.now ≡ Ok input.now.tokens.now }
     requires shallow { depth ≤ 200 }
     ensures found { IfOk result (λ f. Parsed input.now (r rule.Target) meaning.target_of depth at (view.target f.value) f.to) }
     ensures refused { IfErr result (λ e. Refused input.now.tokens.now depth (r rule.Target) at e) }
@@ -85,7 +81,6 @@ pub fn target(input: &Input<'_>, at: u32, depth: u32) -> Result<Found<Target>, P
 
 /// A name that is assigned to, with what is selected of it.
 fn named_target(input: &Input<'_>, at: u32, depth: u32) -> Result<Found<Target>, ParseError>
-    requires lexed { cut_text input.now.text.now ≡ Ok input.now.tokens.now }
     requires shallow { depth ≤ 200 }
     ensures found { IfOk result (λ f. Parsed input.now grammar.selected_name part.named_target_tree depth at (view.target f.value) f.to) }
     ensures refused { IfErr result (λ e. Refused input.now.tokens.now depth grammar.selected_name at e) }
@@ -101,7 +96,6 @@ fn named_target(input: &Input<'_>, at: u32, depth: u32) -> Result<Found<Target>,
 /// Targets in braces.
 #[cycle(targets)]
 fn targets(input: &Input<'_>, at: u32, depth: u32) -> Result<Found<Target>, ParseError>
-    requires lexed { cut_text input.now.text.now ≡ Ok input.now.tokens.now }
     requires shallow { depth ≤ 200 }
     ensures found { IfOk result (λ f. Parsed input.now (part.target_braces) part.target_braces_tree depth at (view.target f.value) f.to) }
     ensures refused { IfErr result (λ e. Refused input.now.tokens.now depth (part.target_braces) at e) }
@@ -117,7 +111,6 @@ fn targets(input: &Input<'_>, at: u32, depth: u32) -> Result<Found<Target>, Pars
 /// Targets, with commas between them.
 #[cycle(targets)]
 fn target_list(input: &Input<'_>, at: u32, depth: u32) -> Result<Found<Vec<Target>>, ParseError>
-    requires lexed { cut_text input.now.text.now ≡ Ok input.now.tokens.now }
     requires shallow { depth ≤ 200 }
     ensures found { IfOk result (λ f. Parsed input.now (separated (r rule.Target)) (λ b d. meaning.list_of (meaning.target_of b) d) depth at (map view.target f.value.items) f.to) }
     ensures refused { IfErr result (λ e. Refused input.now.tokens.now depth (separated (r rule.Target)) at e) }
@@ -138,7 +131,6 @@ fn target_list(input: &Input<'_>, at: u32, depth: u32) -> Result<Found<Vec<Targe
 /// A statement.
 #[cycle(statements)]
 pub fn statement(input: &Input<'_>, at: u32, depth: u32) -> Result<Found<Statement>, ParseError>
-    requires lexed { cut_text input.now.text.now ≡ Ok input.now.tokens.now }
     requires shallow { depth ≤ 200 }
     ensures found { IfOk result (λ f. Parsed input.now (r rule.Statement) meaning.statement_of depth at (view.statement f.value) f.to) }
     ensures refused { IfErr result (λ e. Refused input.now.tokens.now depth (r rule.Statement) at e) }
@@ -175,7 +167,6 @@ pub fn statement(input: &Input<'_>, at: u32, depth: u32) -> Result<Found<Stateme
 /// An `if`.
 #[cycle(statements)]
 fn conditional(input: &Input<'_>, at: u32, depth: u32) -> Result<Found<Statement>, ParseError>
-    requires lexed { cut_text input.now.text.now ≡ Ok input.now.tokens.now }
     requires shallow { depth ≤ 200 }
     ensures found { IfOk result (λ f. Parsed input.now (grammar.conditional (r rule.Statement)) part.conditional_tree depth at (view.statement f.value) f.to) }
     ensures refused { IfErr result (λ e. Refused input.now.tokens.now depth (grammar.conditional (r rule.Statement)) at e) }
@@ -200,7 +191,6 @@ fn alternative(
     at: u32,
     depth: u32,
 ) -> Result<Found<Option<Statement>>, ParseError>
-    requires lexed { cut_text input.now.text.now ≡ Ok input.now.tokens.now }
     requires shallow { depth ≤ 200 }
     ensures found { IfOk result (λ f. Parsed input.now (part.alternative) meaning.else_of depth at (view.fallback f.value) f.to) }
     ensures refused { IfErr result (λ e. Refused input.now.tokens.now depth (part.alternative) at e) }
@@ -222,7 +212,6 @@ fn alternative(
 /// The statements between `begin` and `end`.
 #[cycle(statements)]
 fn sequence(input: &Input<'_>, at: u32, depth: u32) -> Result<Found<Statement>, ParseError>
-    requires lexed { cut_text input.now.text.now ≡ Ok input.now.tokens.now }
     requires shallow { depth ≤ 200 }
     ensures found { IfOk result (λ f. Parsed input.now grammar.sequence part.sequence_tree depth at (view.statement f.value) f.to) }
     ensures refused { IfErr result (λ e. Refused input.now.tokens.now depth grammar.sequence at e) }
@@ -238,7 +227,6 @@ fn sequence(input: &Input<'_>, at: u32, depth: u32) -> Result<Found<Statement>, 
 /// Statements.
 #[cycle(statements)]
 fn statements(input: &Input<'_>, at: u32, depth: u32) -> Result<Found<Vec<Statement>>, ParseError>
-    requires lexed { cut_text input.now.text.now ≡ Ok input.now.tokens.now }
     requires shallow { depth ≤ 200 }
     ensures found { IfOk result (λ f. Parsed input.now (star (r rule.Statement)) (λ b d. meaning.each_onto (meaning.statement_of b) d []) depth at (map view.statement f.value.items) f.to) }
     ensures refused { IfErr result (λ e. Refused input.now.tokens.now depth (star (r rule.Statement)) at e) }
@@ -255,7 +243,6 @@ fn statements(input: &Input<'_>, at: u32, depth: u32) -> Result<Found<Vec<Statem
 
 /// An assignment.
 fn assignment(input: &Input<'_>, at: u32, depth: u32) -> Result<Found<Statement>, ParseError>
-    requires lexed { cut_text input.now.text.now ≡ Ok input.now.tokens.now }
     requires shallow { depth ≤ 200 }
     ensures found { IfOk result (λ f. Parsed input.now grammar.assigned part.assignment_tree depth at (view.statement f.value) f.to) }
     ensures refused { IfErr result (λ e. Refused input.now.tokens.now depth grammar.assigned at e) }
@@ -277,7 +264,6 @@ fn assignment(input: &Input<'_>, at: u32, depth: u32) -> Result<Found<Statement>
 /// A `case`, `casez` or `casex`.
 #[cycle(statements)]
 fn case(input: &Input<'_>, at: u32, depth: u32) -> Result<Found<Statement>, ParseError>
-    requires lexed { cut_text input.now.text.now ≡ Ok input.now.tokens.now }
     requires shallow { depth ≤ 200 }
     ensures found { IfOk result (λ f. Parsed input.now grammar.case_statement part.case_tree depth at (view.statement f.value) f.to) }
     ensures refused { IfErr result (λ e. Refused input.now.tokens.now depth grammar.case_statement at e) }
@@ -311,7 +297,6 @@ pub struct CaseParts {
 /// The arms of a case, with at most one default among them.
 #[cycle(statements)]
 fn cases(input: &Input<'_>, at: u32, depth: u32) -> Result<Found<CaseParts>, ParseError>
-    requires lexed { cut_text input.now.text.now ≡ Ok input.now.tokens.now }
     requires shallow { depth ≤ 200 }
     ensures found { IfOk result (λ f. Parsed input.now (r rule.Cases) part.cases_of depth at (part.cases_view f.value) f.to) }
     ensures refused { IfErr result (λ e. Refused input.now.tokens.now depth (r rule.Cases) at e) }
@@ -359,7 +344,6 @@ fn case_arms(
     depth: u32,
     before: Vec<CaseArm>,
 ) -> Result<Found<Vec<CaseArm>>, ParseError>
-    requires lexed { cut_text input.now.text.now ≡ Ok input.now.tokens.now }
     requires shallow { depth ≤ 200 }
     ensures found { IfOk result (λ f. Parsed input.now (star (r rule.CaseItem)) (λ b d. map part.arm_view before.items ++ meaning.each_onto (part.arm_of b) d []) depth at (map part.arm_view f.value.items) f.to) }
     ensures refused { IfErr result (λ e. Refused input.now.tokens.now depth (star (r rule.CaseItem)) at e) }
@@ -377,7 +361,6 @@ fn case_arms(
 /// The labels of an arm, and its statement.
 #[cycle(statements)]
 fn case_arm(input: &Input<'_>, at: u32, depth: u32) -> Result<Found<CaseArm>, ParseError>
-    requires lexed { cut_text input.now.text.now ≡ Ok input.now.tokens.now }
     requires shallow { depth ≤ 200 }
     ensures found { IfOk result (λ f. Parsed input.now (r rule.CaseItem) part.arm_of depth at (part.arm_view f.value) f.to) }
     ensures refused { IfErr result (λ e. Refused input.now.tokens.now depth (r rule.CaseItem) at e) }
@@ -397,7 +380,6 @@ fn case_arm(input: &Input<'_>, at: u32, depth: u32) -> Result<Found<CaseArm>, Pa
 /// The default of a case.
 #[cycle(statements)]
 fn case_default(input: &Input<'_>, at: u32, depth: u32) -> Result<Found<Statement>, ParseError>
-    requires lexed { cut_text input.now.text.now ≡ Ok input.now.tokens.now }
     requires shallow { depth ≤ 200 }
     ensures found { IfOk result (λ f. Parsed input.now (r rule.CaseDefault) meaning.default_statement depth at (tree.Otherwise (view.statement f.value)) f.to) }
     ensures refused { IfErr result (λ e. Refused input.now.tokens.now depth (r rule.CaseDefault) at e) }

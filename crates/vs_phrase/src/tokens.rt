@@ -1,7 +1,6 @@
 //! Single tokens.
 
 ghost use Rattle.std.specs.Prelude.{◌≡◌, ◌+◌, ◌<◌, ◌≤◌, nat_eq, max, IfOk, IfErr, Ok, MatchOption, false};
-ghost use Rattle.vs_lexer.specs.Cuts.{cut_text};
 ghost use Rattle.vs_grammar.specs.Grammars.{opt};
 ghost use Rattle.vs_grammar.specs.Grammars.Phrase.{tok};
 ghost use Rattle.vs_grammar.specs.Meaning.{is_there};
@@ -33,7 +32,6 @@ pub fn stands(input: &Input<'_>, at: u32, kind: TokenKind) -> bool
 
 /// The place behind a token of this kind.
 pub fn take(input: &Input<'_>, at: u32, kind: TokenKind) -> Result<u32, ParseError>
-    requires lexed { cut_text input.now.text.now ≡ Ok input.now.tokens.now }
     ensures read { IfOk result (λ to. Took input.now.tokens.now (number_of kind) at to) }
     ensures refused { IfErr result (λ e. Missing input.now.tokens.now (tok (number_of kind)) at e) }
 {
@@ -95,7 +93,6 @@ pub fn choose<T: Copy + Drop>(
     at: u32,
     table: &[(TokenKind, T)],
 ) -> Option<Found<T>>
-    requires lexed { cut_text input.now.text.now ≡ Ok input.now.tokens.now }
     ensures { MatchOption result (is_member (kind_at input.now.tokens.now at) (kinds_in table.now) ≡ false) (λ f. Picked input.now.tokens.now table.now at f.value f.to) }
 {
     for (kind, value) in table {
@@ -111,7 +108,6 @@ pub fn choose<T: Copy + Drop>(
 
 /// Whether a token of this kind stands at this place, and the place behind it if it does.
 pub fn optional(input: &Input<'_>, at: u32, depth: u32, kind: TokenKind) -> Found<bool>
-    requires lexed { cut_text input.now.text.now ≡ Ok input.now.tokens.now }
     requires shallow { depth ≤ 200 }
     ensures { Parsed input.now (opt (tok (number_of kind))) (λ b d. is_there d) depth at result.value result.to }
 {

@@ -1,7 +1,6 @@
 //! Names and numbers.
 
 ghost use Rattle.std.specs.Prelude.{◌≡◌, ◌≤◌, IfOk, IfErr, Ok, true};
-ghost use Rattle.vs_lexer.specs.Cuts.{cut_text};
 ghost use Rattle.vs_grammar.specs.Predictive.{is_member};
 ghost use Rattle.vs_grammar.specs.Verilog.{t, block_name};
 ghost use Rattle.vs_grammar.specs.Verilog as grammar;
@@ -19,7 +18,6 @@ use vs_lexer::{TokenKind, read_literal, spelling};
 
 /// An identifier.
 pub fn identifier(input: &Input<'_>, at: u32) -> Result<Found<Name>, ParseError>
-    requires lexed { cut_text input.now.text.now ≡ Ok input.now.tokens.now }
     ensures found { IfOk result (λ f. Word input.now at (view.name f.value) f.to) }
     ensures refused { IfErr result (λ e. Missing input.now.tokens.now (t kind.Identifier) at e) }
 {
@@ -36,7 +34,6 @@ pub fn identifier(input: &Input<'_>, at: u32) -> Result<Found<Name>, ParseError>
 
 /// The number that stands here.
 pub fn literal(input: &Input<'_>, at: u32) -> Found<Literal>
-    requires lexed { cut_text input.now.text.now ≡ Ok input.now.tokens.now }
     requires number { is_member (kind_at input.now.tokens.now at) part.number_kinds ≡ true }
     ensures { Chosen input.now.tokens.now grammar.number (meaning.literal_of (bytes_in input.now)) at (view.literal result.value) result.to }
 {
@@ -54,7 +51,6 @@ pub fn literal(input: &Input<'_>, at: u32) -> Found<Literal>
 
 /// The name behind the colon after a `begin`, if there is one.
 pub fn label(input: &Input<'_>, at: u32, depth: u32) -> Result<Found<Option<Name>>, ParseError>
-    requires lexed { cut_text input.now.text.now ≡ Ok input.now.tokens.now }
     requires shallow { depth ≤ 200 }
     ensures found { IfOk result (λ f. Parsed input.now block_name meaning.block_name_of depth at (view.option view.name f.value) f.to) }
     ensures refused { IfErr result (λ e. Refused input.now.tokens.now depth block_name at e) }

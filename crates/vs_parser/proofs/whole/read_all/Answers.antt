@@ -8,4 +8,4 @@ pub returns-then-found-input-clause-fault : goal.returns-then-found-input-clause
 returns-then-found-input-clause-fault c = rest_fault c.requires.kept c.in_ok-found.ensures.found c.if-found-input.true
 
 pub returns-clause-found : goal.returns-clause-found
-returns-clause-found c = text_read c.requires.lexed c.requires.kept c.in_ok-found.ensures.found c.if-found-input.false
+returns-clause-found c = text_read c.args.input.now.lexed c.requires.kept c.in_ok-found.ensures.found c.if-found-input.false

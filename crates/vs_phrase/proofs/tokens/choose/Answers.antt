@@ -10,7 +10,7 @@ pub overflow_add-result : goal.overflow_add-result
 overflow_add-result g c =
     let e : kind_at c.args.input.now.tokens.now c.args.at ≡ number_of c.loop-kind-item.result.0 = same_number _ _ (sym c.stands.ensures ∙ c.if-stands.true) in
     let h : c.args.at < length c.args.input.now.tokens.now = kind_inside c.args.input.now.tokens.now c.args.at c.loop-kind-item.result.0 e in
-    let k : length c.args.input.now.tokens.now ≤ 1048576 = few c.args.input.now.text.now c.args.input.now.tokens.now c.requires.lexed in
+    let k : length c.args.input.now.tokens.now ≤ 1048576 = few c.args.input.now.text.now c.args.input.now.tokens.now c.args.input.now.lexed in
     omega arith
 
 pub returns-then-stands : goal.returns-then-stands

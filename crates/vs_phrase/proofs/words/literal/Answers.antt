@@ -12,7 +12,7 @@ read_literal-number-requires-clause-number c = is_number_there c.args.input.now.
 pub overflow_add-result : goal.overflow_add-result
 overflow_add-result c =
     let h : c.args.at < length c.args.input.now.tokens.now = inside_of c.args.input.now.tokens.now c.args.at (1 ∷ 2 ∷ []) c.requires.number refl in
-    let k : length c.args.input.now.tokens.now ≤ 1048576 = few c.args.input.now.text.now c.args.input.now.tokens.now c.requires.lexed in
+    let k : length c.args.input.now.tokens.now ≤ 1048576 = few c.args.input.now.text.now c.args.input.now.tokens.now c.args.input.now.lexed in
     omega arith
 
 pub returns : goal.returns
