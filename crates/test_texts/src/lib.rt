@@ -1,5 +1,11 @@
-//! Texts, and what the public calls make of them: a crate of tests alone, over the libraries as they are built.
+//! Tests of texts: tokens, syntax trees, flat designs, and which texts are accepted.
 #![tactic(auto)]
 
 #[cfg(test)]
+mod acceptance;
+#[cfg(test)]
+mod flats;
+#[cfg(test)]
 mod parser;
+#[cfg(test)]
+mod tokens;

@@ -227,6 +227,3 @@ fn push_reserved(list: &mut Vec<u32>, number: u32)
 {
     let _ = list.push(number);
 }
-
-#[cfg(test)]
-mod tests;

@@ -6,8 +6,6 @@ mod builder;
 mod error;
 mod reader;
 mod source;
-#[cfg(test)]
-mod tests;
 mod wiring;
 
 pub use acceptance::{Accepted, accept};

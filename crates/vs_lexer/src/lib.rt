@@ -8,8 +8,6 @@ mod lexer;
 mod number;
 mod scan;
 mod tables;
-#[cfg(test)]
-mod tests;
 mod token;
 mod value;
 

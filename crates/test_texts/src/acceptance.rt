@@ -1,8 +1,8 @@
 //! Texts that are accepted, and texts that are refused.
 
-use crate::{AcceptError, accept};
 use std::alloc::Global;
 use std::test::Fail;
+use vs_front::{AcceptError, accept};
 use vs_lexer::MAX_BYTES;
 
 /// The size of the design of a text, with the clock `clk`; `None` where it is refused.

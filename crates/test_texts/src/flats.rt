@@ -3,9 +3,9 @@
 ghost use Rattle.std.specs.Prelude.{◌≡◌, IfOk};
 ghost use Rattle.vs_flat.specs.Example.{net, example_ports, example_arena};
 
-use super::*;
-use crate::{BinaryOp, Kind, List, Port, Text};
+use std::alloc::{AllocError, Global};
 use std::test::Fail;
+use vs_flat::{BinaryOp, Flat, Kind, List, Node, Port, Process, Scope, Signal, Statement, Text};
 
 fn port(alloc: Global, name: &str, input: bool, first_bit: u32) -> Result<Signal, AllocError>
     ensures { IfOk result (λ s. s ≡ net name.now input first_bit) }
@@ -21,7 +21,7 @@ fn port(alloc: Global, name: &str, input: bool, first_bit: u32) -> Result<Signal
     })
 }
 
-// `module top(input clk, input a, input b, output y);`
+/// `module top(input clk, input a, input b, output y);`
 fn ports(alloc: Global) -> Result<Flat, AllocError>
     ensures { IfOk result (λ f. f ≡ example_ports) }
 {
@@ -38,7 +38,7 @@ fn ports(alloc: Global) -> Result<Flat, AllocError>
     Ok(flat)
 }
 
-// `assign y = a & b;`
+/// `assign y = a & b;`
 fn example(alloc: Global) -> Result<Flat, AllocError>
     ensures { IfOk result (λ f. f ≡ example_arena) }
 {

@@ -1,14 +1,14 @@
-//! Worked rows.
+//! Tokens, numbers and tokens that are left out, by worked rows.
+
 ghost use Rattle.std.specs.Prelude.{◌≤◌, length};
 
-use crate::{
-    LexError, Literal, MAX_BYTES, Token, TokenKind, is_left_out, is_number, lex, read_literal,
-    spelling,
-};
 use TokenKind::*;
 use std::alloc::Global;
 use std::process::Abort;
 use std::test::Fail;
+use vs_lexer::{
+    LexError, Literal, MAX_BYTES, TokenKind, is_left_out, is_number, lex, read_literal, spelling,
+};
 
 #[test]
 fn cuts_texts_into_the_longest_tokens(rt: HostRuntime) -> Result<(), Fail> {
@@ -197,10 +197,28 @@ fn counts_tokens(rt: HostRuntime) -> Result<(), Fail> {
         lex(rt.alloc(), &text).err(),
         Some(LexError::TooManyTokens(1_048_576))
     );
+    let rows: [(&[u8], usize); 3] = [
+        (
+            b"module top(input clk, input a, input b, output y); assign y = a & b; endmodule",
+            24,
+        ),
+        (
+            b"module top(input clk, input rst, output reg [3:0] q); always @(posedge clk) if (rst) q <= 4'd0; else q <= q + 4'd1; endmodule",
+            41,
+        ),
+        (
+            b"module top(input clk, input [3:0] a, input [3:0] b, output [3:0] s); wire [4:0] c; assign c[0] = 1'b0; genvar i; generate for (i = 0; i < 4; i = i + 1) begin : g assign s[i] = a[i] ^ b[i] ^ c[i]; assign c[i+1] = a[i] & b[i] | c[i] & (a[i] | b[i]); end endgenerate endmodule",
+            129,
+        ),
+    ];
+    for (text, count) in rows {
+        assert!(rt; text.len() <= MAX_BYTES);
+        assert_eq!(rt; lex(rt.alloc(), text)?.len(), count);
+    }
     Ok(())
 }
 
-// One token of this kind, and behind one letter more an identifier.
+/// One token of this kind, and behind one letter more an identifier.
 fn expect_word(rt: &impl Abort, alloc: Global, word: &[u8], kind: TokenKind) -> Result<(), Fail> {
     let mut text = word.to_vec(alloc)?;
     assert!(rt; text.len() <= MAX_BYTES);
@@ -220,7 +238,7 @@ fn expect_one(rt: &impl Abort, alloc: Global, text: &[u8], kind: TokenKind) -> R
 }
 
 #[test]
-fn knows_every_word_of_the_grammar(rt: HostRuntime) -> Result<(), Fail> {
+fn knows_every_word(rt: HostRuntime) -> Result<(), Fail> {
     let words: [(&[u8], TokenKind); 27] = [
         (b"always", KeywordAlways),
         (b"assign", KeywordAssign),
@@ -253,12 +271,7 @@ fn knows_every_word_of_the_grammar(rt: HostRuntime) -> Result<(), Fail> {
     for (word, kind) in words {
         expect_word(&rt, rt.alloc(), word, kind)?;
     }
-    Ok(())
-}
-
-#[test]
-fn knows_every_word_that_is_left_out(rt: HostRuntime) -> Result<(), Fail> {
-    let words: [&[u8]; 97] = [
+    let left_out: [&[u8]; 97] = [
         b"and",
         b"automatic",
         b"buf",
@@ -357,7 +370,7 @@ fn knows_every_word_that_is_left_out(rt: HostRuntime) -> Result<(), Fail> {
         b"xnor",
         b"xor",
     ];
-    for word in words {
+    for word in left_out {
         expect_word(&rt, rt.alloc(), word, LeftOutWord)?;
     }
     Ok(())
@@ -377,29 +390,6 @@ fn reads_each_byte_alone(rt: HostRuntime) -> Result<(), Fail> {
             _ => Err(LexError::NoToken(0)),
         };
         assert_eq!(rt; answer, want);
-    }
-    Ok(())
-}
-
-#[test]
-fn counts_the_tokens_of_designs(rt: HostRuntime) -> Result<(), Fail> {
-    let rows: [(&[u8], usize); 3] = [
-        (
-            b"module top(input clk, input a, input b, output y); assign y = a & b; endmodule",
-            24,
-        ),
-        (
-            b"module top(input clk, input rst, output reg [3:0] q); always @(posedge clk) if (rst) q <= 4'd0; else q <= q + 4'd1; endmodule",
-            41,
-        ),
-        (
-            b"module top(input clk, input [3:0] a, input [3:0] b, output [3:0] s); wire [4:0] c; assign c[0] = 1'b0; genvar i; generate for (i = 0; i < 4; i = i + 1) begin : g assign s[i] = a[i] ^ b[i] ^ c[i]; assign c[i+1] = a[i] & b[i] | c[i] & (a[i] | b[i]); end endgenerate endmodule",
-            129,
-        ),
-    ];
-    for (text, count) in rows {
-        assert!(rt; text.len() <= MAX_BYTES);
-        assert_eq!(rt; lex(rt.alloc(), text)?.len(), count);
     }
     Ok(())
 }
