@@ -15,5 +15,5 @@ run_all-requires-clause-waves g c =
     let signals = c.in_ok-accepted.ensures ∙ ap (λ (f : Arena). length (design_of f).signals) (sym c.flat.ensures) in
     record {
       each = λ i w q. c.rounds_law.ensures.first (design_of c.flat.result.now) 5 c.in_ok-accepted.field-0.engine.program.signals w signals
-      (All-at (IsNewWave (design_of c.flat.result.now) 5) c.in_ok-waves.waves i w q c.in_ok-waves.ensures.new);
+          (All-at (IsNewWave (design_of c.flat.result.now) 5) c.in_ok-waves.waves i w q c.in_ok-waves.ensures.new);
     }
