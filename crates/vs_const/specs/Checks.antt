@@ -19,29 +19,35 @@ use Rattle.vs_const.specs.declared.operators.Way.TheVariants as way
 abbrev pub capped : Option ℕ → Option ℕ
 capped length = option_map (min 65) length
 
+-- of an expression
 pub record Checks (c : Checked) (t : Typed) : Type 0 where
   pub flaws : c.flaws ≡ flaws_of t.faults
   pub good : c.good ≡ t.good
   pub length : c.length ≡ capped t.length
   pub signed : c.signed ≡ sign t.expression
 
+-- of the number of a needed constant
 pub record ChecksNumber (c : NumberedOf) (n : Numbered) : Type 0 where
   pub number : c.number ≡ n.number
   pub flaws : c.flaws ≡ flaws_of n.faults
 
+-- of a number within bounds
 pub record ChecksNatural (c : NaturalOf) (n : Natural) : Type 0 where
   pub number : c.number ≡ n.number
   pub flaws : c.flaws ≡ flaws_of n.faults
 
+-- of a range
 pub record ChecksBounds (c : BoundsOf) (b : Bounds) : Type 0 where
   pub range : c.range ≡ b.range
   pub flaws : c.flaws ≡ flaws_of b.faults
 
+-- of what a select takes bits of, but for the source itself
 pub record ChecksBase (c : BaseOf) (b : Base) : Type 0 where
   pub range : c.range ≡ b.range
   pub good : c.good ≡ b.good
   pub flaws : c.flaws ≡ flaws_of b.faults
 
+-- of which bits are taken: how many
 pub record ChecksTaken (c : TakenOf) (t : Taken) : Type 0 where
   pub length : c.length ≡ capped t.length
   pub good : c.good ≡ t.good

@@ -21,6 +21,7 @@ abbrev pub width_in : Expression → Option Shape → ℕ
 width_in e None = width e
 width_in e (Some s) = s.width
 
+-- its value and sign there
 abbrev pub value_in : Expression → Option Shape → ConstantValue
 value_in e None = record { bits = constant_value e; signed = sign e }
 value_in e (Some s) = record { bits = value e s.width s.signed (λ b. X); signed = s.signed }
@@ -42,6 +43,7 @@ abbrev pub value_if : (good : Bool) → Expression → Option Shape → Option C
 value_if false e context = None
 value_if true e context = Some (value_in e context)
 
+-- of a needed constant
 abbrev pub constant_answer : Expr → Find → Option Shape → Result (Option ConstantValue) Fault
 constant_answer e find context = let t = constant e find in unless_fault (least t.faults) (value_if t.good t.expression context)
 

@@ -22,10 +22,12 @@ is_unsized _ = false
 abbrev pub unsized_faults : tree.Expr → List Fault
 unsized_faults e = fault_if (is_unsized e) 43 (expr_place e)
 
+-- there is no fault
 abbrev pub is_clean : List Fault → Bool
 is_clean [] = true
 is_clean (f ∷ fs) = false
 
+-- a part of a concatenation
 abbrev pub part_typed : tree.Expr → Typed → Typed
 part_typed e t = let fs = unsized_faults e in record t { good = t.good && is_clean fs; faults = t.faults ++ fs }
 
@@ -34,6 +36,7 @@ abbrev pub and_parts : tree.Exprs → Typed → Typed → Typed
 and_parts tree.NoExpr t others = t
 and_parts (tree.AndExpr e rest) t others = join_typed t others
 
+-- so many copies, unless a fault leaves the count undefined
 abbrev pub replicated : Option ℕ → List Fault → Typed → Typed
 replicated None faults t = broken None (faults ++ t.faults)
 replicated (Some n) faults t = let r = copies_typed n t in record r { faults = faults ++ t.faults }
@@ -47,21 +50,25 @@ abbrev pub clog2_of : Option ℕ → (place : ℕ) → List Fault → Typed
 clog2_of None place faults = broken (Some 32) (faults ++ fault 31 place)
 clog2_of (Some n) place faults = fine (Literal (bits_of 32 n) true true) faults
 
+-- of an argument with a value
 abbrev pub clog2_typed : (good : Bool) → (place : ℕ) → Typed → Typed
 clog2_typed false place t = broken (Some 32) t.faults
 clog2_typed true place t = clog2_of (clog2 (constant_value t.expression)) place t.faults
 
+-- a call, with the place of its argument
 abbrev pub call_typed : tree.SystemFunction → (place : ℕ) → Typed → Typed
 call_typed tree.AsSigned place t = unary_typed Signed t
 call_typed tree.AsUnsigned place t = unary_typed Unsigned t
 call_typed tree.Clog2 place t = clog2_typed t.good place t
 
+-- whether the argument is a needed constant
 abbrev pub argument_needed : tree.SystemFunction → Bool → Bool
 argument_needed tree.Clog2 needed = true
 argument_needed _ needed = needed
 
 -- `needed`: where a constant is needed
 abbrev mutual
+  -- an expression
   pub typed : tree.Expr → Find → Bool → Typed
   typed (tree.Number n) find needed = noted needed n.place (fine (Literal n.bits n.signed n.sized) [])
   typed (tree.Named name select) find needed = noted needed name.place (selected select name find needed)
@@ -73,6 +80,7 @@ abbrev mutual
   typed (tree.Call place function a) find needed = noted needed place (call_typed function (expr_place a) (typed a find (argument_needed function needed)))
   typed (tree.Brackets place e) find needed = noted needed place (typed e find needed)
 
+  -- a name, with what is selected of it
   pub selected : tree.Select → tree.Name → Find → Bool → Typed
   selected tree.Whole name find needed = name_typed needed name.place (find name.bytes)
   selected (tree.BitAt bracket index) name find needed =
@@ -83,6 +91,7 @@ abbrev mutual
       let b = base_of needed name.place (find name.bytes) in
       select_typed b (slice_taken b.range bracket kind (expr_place e) (typed e find (first_needed kind needed)) (expr_place f) (typed f find true))
 
+  -- the parts of a concatenation
   pub typed_parts : tree.Exprs → Find → Bool → Typed
   typed_parts tree.NoExpr find needed = broken None []
   typed_parts (tree.AndExpr e rest) find needed = and_parts rest (part_typed e (typed e find needed)) (typed_parts rest find needed)
@@ -91,5 +100,6 @@ abbrev mutual
 abbrev pub constant : tree.Expr → Find → Typed
 constant e find = typed e find true
 
+-- its number
 abbrev pub number : tree.Expr → Find → Numbered
 number e find = number_of (expr_place e) (constant e find)

@@ -39,5 +39,6 @@ names_signal (a ∷ fs) = (a.number == 30) || names_signal fs
 abbrev pub flaws_of : List Fault → Flaws
 flaws_of fs = record { first = least fs; signal = names_signal fs }
 
+-- what is kept of two lists
 abbrev pub merged : Flaws → Flaws → Flaws
 merged a b = record { first = better a.first b.first; signal = a.signal || b.signal }

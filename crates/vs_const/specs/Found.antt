@@ -17,6 +17,7 @@ pub record Keeps (needed : Bool) (o : Option Form) (t : Typed) : Type 0 where
   pub sound : IfSome o (λ f. IsOf f t)
   pub full : needed ≡ true → t.good ≡ true → IsSome o
 
+-- what is told is so, and what is kept is the expression
 pub record Finds (needed : Bool) (c : Found) (t : Typed) : Type 0 where
   pub checks : Checks c.said t
   pub keeps : Keeps needed c.form t

@@ -17,13 +17,16 @@ pub record Bounds : Type 0 where
   pub range : Option Range
   pub faults : List Fault
 
+-- the range, unless it is too long
 abbrev pub range_if : (short : Bool) → ℕ → Range → Bounds
 range_if true bracket r = record { range = Some r; faults = [] }
 range_if false bracket r = record { range = None; faults = fault 37 bracket }
 
+-- at most 64 bits
 abbrev pub up_to_64 : ℕ → Range → Bounds
 up_to_64 bracket r = range_if (nat_le (range_length r) 64) bracket r
 
+-- of two numbers, where a fault leaves neither undefined
 abbrev pub range_of : ℕ → Option ℕ → Option ℕ → Bounds
 range_of bracket (Some left) (Some right) = up_to_64 bracket (record { left = left; right = right })
 range_of bracket _ _ = record { range = None; faults = [] }
@@ -38,6 +41,7 @@ bounds bracket left_place left right_place right =
 
 -- ---- names
 
+-- a signal, whose range a fault may leave undefined
 abbrev pub known_signal : (known : Bool) → Signal → Typed
 known_signal true signal = fine (Name signal) []
 known_signal false signal = broken None []
@@ -62,6 +66,7 @@ pub record Base : Type 0 where
   pub good : Bool
   pub faults : List Fault
 
+-- nothing to take bits of
 abbrev pub no_base : Option Range → List Fault → Base
 no_base range faults = record { source = OfConstant []; range = range; good = false; faults = faults }
 
@@ -69,13 +74,16 @@ no_base range faults = record { source = OfConstant []; range = range; good = fa
 abbrev pub is_scalar : SignalMeaning → Bool
 is_scalar s = s.known && is_none s.signal.range
 
+-- the bits of a signal
 abbrev pub signal_base : List Fault → SignalMeaning → Base
 signal_base faults s = record { source = OfSignal s.signal; range = s.signal.range; good = s.known; faults = faults }
 
+-- which is no constant
 abbrev pub signal_base_of : Bool → ℕ → SignalMeaning → Base
 signal_base_of true place s = no_base None (fault 30 place)
 signal_base_of false place s = signal_base (fault_if (is_scalar s) 43 place) s
 
+-- by what the name means
 abbrev pub base_of : Bool → ℕ → Meaning → Base
 base_of needed place (AValue v range) = record { source = OfConstant v.bits; range = Some range; good = true; faults = [] }
 base_of needed place (Undefined range) = no_base range []
@@ -93,9 +101,11 @@ pub record Taken : Type 0 where
   pub good : Bool
   pub faults : List Fault
 
+-- no bits
 abbrev pub nowhere : Part
 nowhere = record { range = record { left = 0; right = 0 }; up = true; width = 1 }
 
+-- bits that a fault leaves undefined, of which the number may be known
 abbrev pub not_taken : Option ℕ → List Fault → Taken
 not_taken length faults = record { part = nowhere; index = nothing; length = length; good = false; faults = faults }
 
@@ -104,6 +114,7 @@ abbrev pub taken : Option Range → Bool → ℕ → Typed → List Fault → Ta
 taken None up n index faults = not_taken (Some n) faults
 taken (Some declared) up n index faults = record { part = record { range = declared; up = up; width = n }; index = index.expression; length = Some n; good = index.good; faults = faults }
 
+-- as many bits from an index on as a number says
 abbrev pub if_width : Option Range → Bool → Option ℕ → Typed → List Fault → Taken
 if_width declared up None index faults = not_taken None faults
 if_width declared up (Some n) index faults = taken declared up n index faults
@@ -112,6 +123,7 @@ if_width declared up (Some n) index faults = taken declared up n index faults
 abbrev pub moving : Option Range → Bool → Typed → ℕ → Typed → Taken
 moving declared up a place w = let n = natural 1 64 place w in if_width declared up n.number a (a.faults ++ n.faults)
 
+-- both ranges are descending, or neither
 abbrev pub same_direction : Range → Range → Bool
 same_direction a b = (is_descending a && is_descending b) || (not (is_descending a) && not (is_descending b))
 
@@ -124,14 +136,17 @@ is_against (Some declared) r = not (r.left == r.right) && not (same_direction de
 abbrev pub lesser_bound : ℕ → Range → Typed
 lesser_bound place r = fine (At place (Literal (bits_of 32 (min r.left r.right)) true true)) []
 
+-- the bits of a range, unless it goes against the declared direction
 abbrev pub along : (against : Bool) → Option Range → ℕ → ℕ → Range → List Fault → Taken
 along true declared bracket place r faults = not_taken (Some (range_length r)) (faults ++ fault 37 bracket)
 along false declared bracket place r faults = taken declared true (range_length r) (lesser_bound place r) faults
 
+-- the bits of a range, unless a fault leaves it undefined
 abbrev pub between : Option Range → ℕ → ℕ → Option Range → List Fault → Taken
 between declared bracket place None faults = not_taken None faults
 between declared bracket place (Some r) faults = along (is_against declared r) declared bracket place r faults
 
+-- by the kind of the select
 abbrev pub slice_taken : Option Range → (bracket : ℕ) → SliceKind → (a_place : ℕ) → Typed → (b_place : ℕ) → Typed → Taken
 slice_taken declared bracket Between a_place a b_place b = let r = bounds bracket a_place a b_place b in between declared bracket a_place r.range r.faults
 slice_taken declared bracket Upward a_place a b_place b = moving declared true a b_place b
@@ -142,9 +157,11 @@ abbrev pub first_needed : SliceKind → Bool → Bool
 first_needed Between needed = true
 first_needed _ needed = needed
 
+-- the select, unless a fault leaves it undefined
 abbrev pub select_if : (good : Bool) → Base → Taken → Typed
 select_if true b t = record { expression = Select b.source t.part t.index; length = t.length; good = true; faults = b.faults ++ t.faults }
 select_if false b t = broken t.length (b.faults ++ t.faults)
 
+-- bits of a name
 abbrev pub select_typed : Base → Taken → Typed
 select_typed b t = select_if (b.good && t.good) b t

@@ -14,6 +14,7 @@ abbrev pub IsSoundSignal : Design → Bool → SignalMeaning → Type 0
 IsSoundSignal d true s = Unit {0}
 IsSoundSignal d false s = (is_signal d s.signal ≡ true) × (s.known ≡ true) × (s.signal.input ≡ true → s.input ≡ true)
 
+-- of a name
 abbrev pub IsSound : Design → Bool → Meaning → Type 0
 IsSound d needed (AValue v r) = IsFairValue v r × (is_lawful_range (Some r) ≡ true)
 IsSound d needed (Undefined r) = ⊥

@@ -77,6 +77,7 @@ pub fn check<E: Env>(alloc: Global, e: &Expr, env: &E, needed: bool) -> Result<F
     }
 }
 
+/// The same, with what is kept of it whether or not a constant is needed.
 #[cycle(evaluation)]
 fn find<E: Env>(alloc: Global, e: &Expr, env: &E, needed: bool) -> Result<Found, AllocError>
     requires shaped { IsExpr (view.expr e.now) }
@@ -132,6 +133,7 @@ fn find<E: Env>(alloc: Global, e: &Expr, env: &E, needed: bool) -> Result<Found,
     }
 }
 
+/// A call of a system function.
 #[cycle(evaluation)]
 fn find_call<E: Env>(
     alloc: Global,
@@ -142,7 +144,8 @@ fn find_call<E: Env>(
 ) -> Result<Found, AllocError>
     requires shaped { IsExpr (view.expr operand.now) }
     requires fair { IsFair (E.names env.now) }
-    ensures { IfOk result (λ c. Finds needed c (expr.call_typed (view.system_function function) (expr_place (view.expr operand.now)) (expr.typed (view.expr operand.now) (E.names env.now) (expr.argument_needed (view.system_function function) needed)))) }
+    ensures { IfOk result (λ c. Finds needed c (expr.call_typed (view.system_function function) (expr_place (view.expr operand.now))
+        (expr.typed (view.expr operand.now) (E.names env.now) (expr.argument_needed (view.system_function function) needed)))) }
 {
     match function {
         SystemFunction::AsSigned => {

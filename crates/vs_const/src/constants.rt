@@ -39,13 +39,20 @@ fn valued(f: &Form, context: Option<Shape>) -> Constant
     }
 }
 
-/// The value of a constant expression. By itself it has its own length and sign (tables 5-22 and 5.5.1); in a context it has those of the
-/// context, which needs a width from the expression's own to 64 bits. Bits may be x or z. There is no value where no rule is broken, but a name's
-/// value is left undefined by a fault elsewhere.
+/// The value of a constant expression. By itself it has its own length and sign (5.4.1, 5.5.1); in a context it has those of the context,
+/// whose width is from the expression's own to 64 bits (5.5.2). Bits may be x or z. There is no value where no rule is broken and a fault
+/// elsewhere leaves the value of a name undefined.
 ///
-/// The error is the first rule that is broken: a signal is named (30), a count, a bound, a width or the argument of `$clog2` has unknown bits
-/// (31), a name has no declaration (35), a number isn't within its bounds or the expression has over 64 bits (37), a name is of another kind or a literal without size stands in a
-/// concatenation (43); or `Memory`.
+/// An error is the first rule that is broken, at a token of the text. Where several are, it is the one at the least token, and there the one
+/// with the least number:
+/// - 30: a signal is named (4.10).
+/// - 31: a count, a bound, a width or the argument of `$clog2` has unknown bits.
+/// - 35: a name has no declaration.
+/// - 37: a bound isn't from 0 to 65,535, a width or a count isn't from 1 to 64, `[a:b]` has over 64 bits or goes against the declared direction
+///   (5.2.1), or an expression that names no signal has over 64 bits.
+/// - 43: a name of another kind, or a literal without a size in a concatenation (5.1.14).
+///
+/// `Memory` may be answered in place of anything.
 pub fn constant<E: Env>(
     alloc: Global,
     e: &Expr,
@@ -56,7 +63,9 @@ pub fn constant<E: Env>(
     requires fair { IsFair (E.names env.now) }
     requires room { IfSome context (HasRoom (expr.constant (view.expr e.now) (E.names env.now))) }
     ensures value { IfOk result (λ v. constant_answer (view.expr e.now) (E.names env.now) context ≡ Ok (value_of v)) }
-    ensures length { IfOk result (λ v. IfSome v (λ c. length c.bits ≡ width_in (expr.constant (view.expr e.now) (E.names env.now)).expression context)) }
+    // by which a caller can choose a context
+    ensures length { IfOk result (λ v. IfSome v (λ c.
+        length c.bits ≡ width_in (expr.constant (view.expr e.now) (E.names env.now)).expression context)) }
     ensures fault { IfErr result (λ error. IsErrorOf error (constant_answer (view.expr e.now) (E.names env.now) context)) }
 {
     let Found { said, form } = check(alloc, e, env, true)?;
@@ -69,9 +78,10 @@ pub fn constant<E: Env>(
     }
 }
 
-/// The number that a constant expression is, with its sign where it is signed. There is none where no rule is broken, but a name's value is left undefined by a fault elsewhere.
+/// The number of a constant expression, in two's complement where it is signed. There is none where no rule is broken and a fault elsewhere
+/// leaves the value of a name undefined.
 ///
-/// The errors are those of `constant`, and that the value has unknown bits (31, where the expression begins).
+/// The errors are those of `constant`, and 31 at the expression's first token where its value has unknown bits.
 pub fn number<E: Env>(alloc: Global, e: &Expr, env: &E) -> Result<Option<i128>, ConstError>
     requires shaped { IsExpr (view.expr e.now) }
     requires fair { IsFair (E.names env.now) }

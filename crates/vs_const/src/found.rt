@@ -53,6 +53,7 @@ pub struct Found {
 
 // ---- the expression
 
+/// The form with the place where it begins.
 fn begun(alloc: Global, place: u32, f: Form) -> Result<Form, AllocError>
     ensures same { IfOk result (λ g. expression g ≡ typed.begins_at place (expression f)) }
     ensures well { IsForm f → IfOk result IsForm }
@@ -75,6 +76,7 @@ fn begun(alloc: Global, place: u32, f: Form) -> Result<Form, AllocError>
     }
 }
 
+/// The form where it is needed and good, with the place where it begins.
 fn kept(
     alloc: Global,
     needed: bool,
@@ -82,7 +84,8 @@ fn kept(
     place: u32,
     o: Option<Form>,
 ) -> Result<Option<Form>, AllocError>
-    ensures { (t : typed.Typed) → Keeps needed o t → good ≡ (typed.noted needed place t).good → IfOk result (λ r. Keeps needed r (typed.noted needed place t)) }
+    ensures { (t : typed.Typed) → Keeps needed o t → good ≡ (typed.noted needed place t).good
+        → IfOk result (λ r. Keeps needed r (typed.noted needed place t)) }
 {
     match o {
         None => Ok(None),
@@ -97,8 +100,10 @@ fn kept(
     }
 }
 
+/// An operator of one operand.
 fn unary_form(alloc: Global, op: UnaryOp, a: Option<Form>) -> Result<Option<Form>, AllocError>
-    ensures { (needed : Bool) (t : typed.Typed) → Keeps needed a t → AreValued a → IfOk result (λ r. Keeps needed r (typed.unary_typed (spec_op.unary_op (view.unary_op op)) t)) }
+    ensures { (needed : Bool) (t : typed.Typed) → Keeps needed a t → AreValued a
+        → IfOk result (λ r. Keeps needed r (typed.unary_typed (spec_op.unary_op (view.unary_op op)) t)) }
 {
     match a {
         None => Ok(None),
@@ -109,9 +114,12 @@ fn unary_form(alloc: Global, op: UnaryOp, a: Option<Form>) -> Result<Option<Form
     }
 }
 
+/// `$signed` and `$unsigned`.
 fn cast_form(alloc: Global, signed: bool, a: Option<Form>) -> Result<Option<Form>, AllocError>
-    ensures yes { (needed : Bool) (t : typed.Typed) → signed ≡ true → Keeps needed a t → AreValued a → IfOk result (λ r. Keeps needed r (typed.unary_typed E.Signed t)) }
-    ensures no { (needed : Bool) (t : typed.Typed) → signed ≡ false → Keeps needed a t → AreValued a → IfOk result (λ r. Keeps needed r (typed.unary_typed E.Unsigned t)) }
+    ensures yes { (needed : Bool) (t : typed.Typed) → signed ≡ true → Keeps needed a t → AreValued a
+        → IfOk result (λ r. Keeps needed r (typed.unary_typed E.Signed t)) }
+    ensures no { (needed : Bool) (t : typed.Typed) → signed ≡ false → Keeps needed a t → AreValued a
+        → IfOk result (λ r. Keeps needed r (typed.unary_typed E.Unsigned t)) }
 {
     match a {
         None => Ok(None),
@@ -122,13 +130,15 @@ fn cast_form(alloc: Global, signed: bool, a: Option<Form>) -> Result<Option<Form
     }
 }
 
+/// An operator of two operands.
 fn binary_form(
     alloc: Global,
     op: BinaryOp,
     a: Option<Form>,
     b: Option<Form>,
 ) -> Result<Option<Form>, AllocError>
-    ensures { (needed : Bool) (t u : typed.Typed) → Keeps needed a t → AreValued a → Keeps needed b u → AreValued b → IfOk result (λ r. Keeps needed r (typed.binary_typed (spec_op.binary_op (view.binary_op op)) t u)) }
+    ensures { (needed : Bool) (t u : typed.Typed) → Keeps needed a t → AreValued a → Keeps needed b u → AreValued b
+        → IfOk result (λ r. Keeps needed r (typed.binary_typed (spec_op.binary_op (view.binary_op op)) t u)) }
 {
     match a {
         None => Ok(None),
@@ -143,13 +153,15 @@ fn binary_form(
     }
 }
 
+/// `c ? p : q`.
 fn choice_form(
     alloc: Global,
     c: Option<Form>,
     p: Option<Form>,
     q: Option<Form>,
 ) -> Result<Option<Form>, AllocError>
-    ensures { (needed : Bool) (t u v : typed.Typed) → Keeps needed c t → AreValued c → Keeps needed p u → AreValued p → Keeps needed q v → AreValued q → IfOk result (λ r. Keeps needed r (typed.choice_typed t u v)) }
+    ensures { (needed : Bool) (t u v : typed.Typed) → Keeps needed c t → AreValued c → Keeps needed p u → AreValued p → Keeps needed q v
+        → AreValued q → IfOk result (λ r. Keeps needed r (typed.choice_typed t u v)) }
 {
     match c {
         None => Ok(None),
@@ -168,8 +180,10 @@ fn choice_form(
     }
 }
 
+/// `{high, low}`.
 fn join_form(alloc: Global, a: Option<Form>, b: Option<Form>) -> Result<Option<Form>, AllocError>
-    ensures { (needed : Bool) (t u : typed.Typed) → Keeps needed a t → Keeps needed b u → IfOk result (λ r. Keeps needed r (typed.join_typed t u)) }
+    ensures { (needed : Bool) (t u : typed.Typed) → Keeps needed a t → Keeps needed b u
+        → IfOk result (λ r. Keeps needed r (typed.join_typed t u)) }
 {
     match a {
         None => Ok(None),
@@ -184,6 +198,7 @@ fn join_form(alloc: Global, a: Option<Form>, b: Option<Form>) -> Result<Option<F
     }
 }
 
+/// `{count{..}}`.
 fn copies_form(alloc: Global, count: u32, a: Option<Form>) -> Result<Option<Form>, AllocError>
     requires { 1 ≤ count }
     ensures { (needed : Bool) (t : typed.Typed) → Keeps needed a t → IfOk result (λ r. Keeps needed r (typed.copies_typed count t)) }
@@ -197,13 +212,15 @@ fn copies_form(alloc: Global, count: u32, a: Option<Form>) -> Result<Option<Form
     }
 }
 
+/// So many copies, unless a fault leaves the count undefined.
 fn replicated_form(
     alloc: Global,
     n: Option<u32>,
     a: Option<Form>,
 ) -> Result<Option<Form>, AllocError>
     requires { IfSome n (λ k. (1 ≤ k) × (k ≤ 64)) }
-    ensures { (needed : Bool) (fs : List Fault) (t : typed.Typed) → Keeps needed a t → IfOk result (λ r. Keeps needed r (expr.replicated n fs t)) }
+    ensures { (needed : Bool) (fs : List Fault) (t : typed.Typed) → Keeps needed a t
+        → IfOk result (λ r. Keeps needed r (expr.replicated n fs t)) }
 {
     match n {
         None => Ok(None),
@@ -217,8 +234,10 @@ fn replicated_form(
     }
 }
 
+/// A part of a concatenation, unless it is a literal without a size.
 fn part_form(unsized_at: Option<u32>, a: Option<Form>) -> Option<Form>
-    ensures { (needed : Bool) (e : tree.Expr) (t : typed.Typed) → IsUnsizedAt unsized_at (expr.unsized_faults e) → Keeps needed a t → Keeps needed result (expr.part_typed e t) }
+    ensures { (needed : Bool) (e : tree.Expr) (t : typed.Typed) → IsUnsizedAt unsized_at (expr.unsized_faults e) → Keeps needed a t
+        → Keeps needed result (expr.part_typed e t) }
 {
     match unsized_at {
         None => a,
@@ -226,6 +245,7 @@ fn part_form(unsized_at: Option<u32>, a: Option<Form>) -> Option<Form>
     }
 }
 
+/// A name that is a value.
 fn name_form(named: &Named) -> Option<Form>
     ensures { (needed : Bool) (place : ℕ) (m : Meaning) → Means named.now m → Keeps needed result (spec.name_typed needed place m) }
 {
@@ -275,7 +295,8 @@ fn select_form(
     index: Option<Form>,
 ) -> Result<Option<Form>, AllocError>
     requires { 1 ≤ width }
-    ensures { (needed : Bool) (place : ℕ) (m : Meaning) (t : typed.Typed) (fs : List Fault) → IsFairMeaning m → Means named.now m → Keeps needed index t → AreValued index
+    ensures { (needed : Bool) (place : ℕ) (m : Meaning) (t : typed.Typed) (fs : List Fault) → IsFairMeaning m → Means named.now m
+        → Keeps needed index t → AreValued index
         → good ≡ (spec.select_typed (spec.base_of needed place m) (spec.taken (spec.base_of needed place m).range up width t fs)).good
         → IfOk result (λ r. Keeps needed r (spec.select_typed (spec.base_of needed place m) (spec.taken (spec.base_of needed place m).range up width t fs))) }
 {
@@ -311,7 +332,8 @@ fn moving_form(
     index: Option<Form>,
 ) -> Result<Option<Form>, AllocError>
     requires { IfSome n (λ k. (1 ≤ k) × (k ≤ 64)) }
-    ensures { (needed : Bool) (place : ℕ) (m : Meaning) (t : typed.Typed) (fs : List Fault) → IsFairMeaning m → Means named.now m → Keeps needed index t → AreValued index
+    ensures { (needed : Bool) (place : ℕ) (m : Meaning) (t : typed.Typed) (fs : List Fault) → IsFairMeaning m → Means named.now m
+        → Keeps needed index t → AreValued index
         → good ≡ (spec.select_typed (spec.base_of needed place m) (spec.if_width (spec.base_of needed place m).range up n t fs)).good
         → IfOk result (λ r. Keeps needed r (spec.select_typed (spec.base_of needed place m) (spec.if_width (spec.base_of needed place m).range up n t fs))) }
 {
@@ -405,7 +427,8 @@ pub(crate) fn find_unary(
     op: UnaryOp,
     a: Found,
 ) -> Result<Found, AllocError>
-    ensures { (t : typed.Typed) → Says needed a t → IfOk result (λ r. Finds needed r (typed.noted needed place (typed.unary_typed (spec_op.unary_op (view.unary_op op)) t))) }
+    ensures { (t : typed.Typed) → Says needed a t
+        → IfOk result (λ r. Finds needed r (typed.noted needed place (typed.unary_typed (spec_op.unary_op (view.unary_op op)) t))) }
 {
     let form = unary_form(alloc, op, a.form)?;
     begun_at(alloc, needed, place, unary(op, a.said), form)
@@ -413,8 +436,10 @@ pub(crate) fn find_unary(
 
 /// `$signed` and `$unsigned`.
 pub(crate) fn find_cast(alloc: Global, signed: bool, a: Found) -> Result<Found, AllocError>
-    ensures yes { (needed : Bool) (t : typed.Typed) → signed ≡ true → Says needed a t → IfOk result (λ r. Finds needed r (typed.unary_typed E.Signed t)) }
-    ensures no { (needed : Bool) (t : typed.Typed) → signed ≡ false → Says needed a t → IfOk result (λ r. Finds needed r (typed.unary_typed E.Unsigned t)) }
+    ensures yes { (needed : Bool) (t : typed.Typed) → signed ≡ true → Says needed a t
+        → IfOk result (λ r. Finds needed r (typed.unary_typed E.Signed t)) }
+    ensures no { (needed : Bool) (t : typed.Typed) → signed ≡ false → Says needed a t
+        → IfOk result (λ r. Finds needed r (typed.unary_typed E.Unsigned t)) }
 {
     let form = cast_form(alloc, signed, a.form)?;
     Ok(Found {
@@ -464,7 +489,8 @@ pub(crate) fn find_number(place: u32, a: Found) -> Numbered
 #[tactic(auto, using(crate::proofs::Least::flaws_append))]
 fn known_number(place: u32, flaws: Flaws, bits: Bits, signed: bool) -> Numbered
     ensures number { result.number ≡ (typed.known_number bits signed place).number }
-    ensures flaws { (fs : List Fault) → flaws ≡ flaws_of fs → result.flaws ≡ flaws_of (fs ++ (typed.known_number bits signed place).faults) }
+    ensures flaws { (fs : List Fault) → flaws ≡ flaws_of fs
+        → result.flaws ≡ flaws_of (fs ++ (typed.known_number bits signed place).faults) }
 {
     if is_known(bits) {
         Numbered {
@@ -518,7 +544,8 @@ pub(crate) fn find_between(
     right_place: u32,
     right: Numbered,
 ) -> Result<Found, AllocError>
-    ensures { (m : Meaning) (t u : typed.Typed) → IsFairMeaning m → Means named.now m → ChecksNumber left (typed.number_of left_place t) → ChecksNumber right (typed.number_of right_place u)
+    ensures { (m : Meaning) (t u : typed.Typed) → IsFairMeaning m → Means named.now m → ChecksNumber left (typed.number_of left_place t)
+        → ChecksNumber right (typed.number_of right_place u)
         → IfOk result (λ r. Finds needed r (spec.select_typed (spec.base_of needed place m) (spec.slice_taken (spec.base_of needed place m).range bracket tree.Between left_place t right_place u))) }
 {
     let base = base_of(needed, place, named);
@@ -539,7 +566,8 @@ pub(crate) fn find_moving(
     width_place: u32,
     width: Numbered,
 ) -> Result<Found, AllocError>
-    ensures { (m : Meaning) (t u : typed.Typed) → IsFairMeaning m → Means named.now m → Says needed a t → ChecksNumber width (typed.number_of width_place u)
+    ensures { (m : Meaning) (t u : typed.Typed) → IsFairMeaning m → Means named.now m → Says needed a t
+        → ChecksNumber width (typed.number_of width_place u)
         → IfOk result (λ r. Finds needed r (spec.select_typed (spec.base_of needed place m) (spec.moving (spec.base_of needed place m).range up t width_place u))) }
 {
     let base = base_of(needed, place, named);
@@ -558,7 +586,8 @@ pub(crate) fn find_binary(
     a: Found,
     b: Found,
 ) -> Result<Found, AllocError>
-    ensures { (t u : typed.Typed) → Says needed a t → Says needed b u → IfOk result (λ r. Finds needed r (typed.noted needed place (typed.binary_typed (spec_op.binary_op (view.binary_op op)) t u))) }
+    ensures { (t u : typed.Typed) → Says needed a t → Says needed b u
+        → IfOk result (λ r. Finds needed r (typed.noted needed place (typed.binary_typed (spec_op.binary_op (view.binary_op op)) t u))) }
 {
     let form = binary_form(alloc, op, a.form, b.form)?;
     begun_at(alloc, needed, place, binary(op, a.said, b.said), form)
@@ -573,7 +602,8 @@ pub(crate) fn find_choice(
     p: Found,
     q: Found,
 ) -> Result<Found, AllocError>
-    ensures { (t u v : typed.Typed) → Says needed c t → Says needed p u → Says needed q v → IfOk result (λ r. Finds needed r (typed.noted needed place (typed.choice_typed t u v))) }
+    ensures { (t u v : typed.Typed) → Says needed c t → Says needed p u → Says needed q v
+        → IfOk result (λ r. Finds needed r (typed.noted needed place (typed.choice_typed t u v))) }
 {
     let form = choice_form(alloc, c.form, p.form, q.form)?;
     begun_at(alloc, needed, place, choice(c.said, p.said, q.said), form)
@@ -601,7 +631,8 @@ pub(crate) fn find_replication(
     count: Numbered,
     c: Found,
 ) -> Result<Found, AllocError>
-    ensures { (n t : typed.Typed) → ChecksNumber count (typed.number_of count_place n) → Finds needed c t → IfOk result (λ r. Finds needed r (typed.noted needed place (expr.replication_typed count_place n t))) }
+    ensures { (n t : typed.Typed) → ChecksNumber count (typed.number_of count_place n) → Finds needed c t
+        → IfOk result (λ r. Finds needed r (typed.noted needed place (expr.replication_typed count_place n t))) }
 {
     let n = natural_of(1, 64, count_place, count);
     let form = replicated_form(alloc, n.number, c.form)?;
@@ -622,7 +653,8 @@ pub(crate) fn find_brackets(
 
 /// A part of a concatenation, which comes last.
 pub(crate) fn find_last(unsized_at: Option<u32>, c: Found) -> Found
-    ensures { (needed : Bool) (e : tree.Expr) (t : typed.Typed) → IsUnsizedAt unsized_at (expr.unsized_faults e) → Finds needed c t → Finds needed result (expr.part_typed e t) }
+    ensures { (needed : Bool) (e : tree.Expr) (t : typed.Typed) → IsUnsizedAt unsized_at (expr.unsized_faults e) → Finds needed c t
+        → Finds needed result (expr.part_typed e t) }
 {
     Found {
         said: part(c.said, unsized_at),
@@ -637,7 +669,8 @@ pub(crate) fn find_more(
     c: Found,
     rest: Found,
 ) -> Result<Found, AllocError>
-    ensures { (needed : Bool) (e : tree.Expr) (t u : typed.Typed) → IsUnsizedAt unsized_at (expr.unsized_faults e) → Finds needed c t → Finds needed rest u → IfOk result (λ r. Finds needed r (typed.join_typed (expr.part_typed e t) u)) }
+    ensures { (needed : Bool) (e : tree.Expr) (t u : typed.Typed) → IsUnsizedAt unsized_at (expr.unsized_faults e) → Finds needed c t
+        → Finds needed rest u → IfOk result (λ r. Finds needed r (typed.join_typed (expr.part_typed e t) u)) }
 {
     let last = find_last(unsized_at, c);
     let form = join_form(alloc, last.form, rest.form)?;

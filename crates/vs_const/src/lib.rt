@@ -1,4 +1,5 @@
-//! Constant expressions (IEEE 1364-2005, 4.10 and clause 5): whether an expression breaks a rule, and the value of one that a constant is needed for.
+//! Constant expressions (IEEE 1364-2005, 4.10 and clause 5): whether an expression breaks a rule, and the value of one that a constant is
+//! needed for.
 #![tactic(auto)]
 
 mod apply;

@@ -136,7 +136,8 @@ pub(crate) fn way_of(op: BinaryOp) -> Way
 /// An operator of two operands.
 #[tactic(auto, using(crate::proofs::Least::flaws_append))]
 pub(crate) fn binary(op: BinaryOp, a: Checked, b: Checked) -> Checked
-    ensures { (t u : typed.Typed) → Checks a t → Checks b u → Checks result (typed.binary_typed (spec_op.binary_op (view.binary_op op)) t u) }
+    ensures { (t u : typed.Typed) → Checks a t → Checks b u
+        → Checks result (typed.binary_typed (spec_op.binary_op (view.binary_op op)) t u) }
 {
     let flaws = both(a.flaws, b.flaws);
     let good = a.good && b.good;
@@ -251,7 +252,8 @@ pub(crate) fn replicated(n: Natural, c: Checked) -> Checked
 /// A part of a concatenation; `unsized_at` is the place of a literal without a size.
 #[tactic(auto, using(crate::proofs::Least::flaws_append))]
 pub(crate) fn part(c: Checked, unsized_at: Option<u32>) -> Checked
-    ensures { (e : tree.Expr) (t : typed.Typed) → IsUnsizedAt unsized_at (expr.unsized_faults e) → Checks c t → Checks result (expr.part_typed e t) }
+    ensures { (e : tree.Expr) (t : typed.Typed) → IsUnsizedAt unsized_at (expr.unsized_faults e) → Checks c t
+        → Checks result (expr.part_typed e t) }
 {
     match unsized_at {
         None => c,

@@ -83,6 +83,7 @@ pub(crate) fn range_length(range: Range) -> u64
     }
 }
 
+/// The range, if it has at most 64 bits.
 fn up_to_64(bracket: u32, range: Range) -> Bounds
     ensures short { IfSome result.range (λ r. four.range_length r ≤ 64) }
     ensures is { ChecksBounds result (spec.up_to_64 bracket range) }
@@ -100,6 +101,7 @@ fn up_to_64(bracket: u32, range: Range) -> Bounds
     }
 }
 
+/// The range of two numbers.
 fn range_of(bracket: u32, left: Option<u32>, right: Option<u32>) -> Bounds
     ensures short { IfSome result.range (λ r. four.range_length r ≤ 64) }
     ensures is { ChecksBounds result (spec.range_of bracket left right) }

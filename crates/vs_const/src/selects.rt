@@ -52,8 +52,10 @@ fn signal_length(range: Option<Range>) -> u32
     }
 }
 
+/// A signal, which is no constant.
 fn signal_name(needed: bool, place: u32, s: SignalShape) -> Checked
-    ensures { (m : SignalMeaning) → s.range ≡ m.signal.range → s.signed ≡ m.signal.signed → s.known ≡ m.known → Checks result (spec.signal_typed needed place m) }
+    ensures { (m : SignalMeaning) → s.range ≡ m.signal.range → s.signed ≡ m.signal.signed → s.known ≡ m.known
+        → Checks result (spec.signal_typed needed place m) }
 {
     if needed {
         return faulty(30, place);
@@ -87,6 +89,7 @@ pub(crate) fn name_alone(needed: bool, place: u32, named: &Named) -> Checked
     }
 }
 
+/// A name whose value another fault leaves undefined.
 fn undefined_base(range: Option<Range>) -> Base
     ensures { ChecksBase result (spec.no_base range []) }
 {
@@ -97,6 +100,7 @@ fn undefined_base(range: Option<Range>) -> Base
     }
 }
 
+/// A name that breaks a rule.
 fn faulty_base(number: u32, place: u32) -> Base
     ensures { ChecksBase result (spec.no_base None (fault number place)) }
 {
@@ -107,6 +111,7 @@ fn faulty_base(number: u32, place: u32) -> Base
     }
 }
 
+/// A signal, which is no constant, and has bits to select only where it has a range.
 fn signal_base(needed: bool, place: u32, s: SignalShape) -> Base
     ensures { (m : SignalMeaning) → s.range ≡ m.signal.range → s.known ≡ m.known → ChecksBase result (spec.signal_base_of needed place m) }
 {
@@ -145,7 +150,8 @@ pub(crate) fn bits_from(
     flaws: Flaws,
 ) -> Taken
     requires { width ≤ 65 }
-    ensures { (up : Bool) (n : ℕ) (t : typed.Typed) (fs : List Fault) → width ≡ min 65 n → index_good ≡ t.good → flaws ≡ flaws_of fs → ChecksTaken result (spec.taken declared up n t fs) }
+    ensures { (up : Bool) (n : ℕ) (t : typed.Typed) (fs : List Fault) → width ≡ min 65 n → index_good ≡ t.good → flaws ≡ flaws_of fs
+        → ChecksTaken result (spec.taken declared up n t fs) }
 {
     Taken {
         length: Some(width),
@@ -157,7 +163,8 @@ pub(crate) fn bits_from(
 /// `[a +: w]` and `[a -: w]`.
 #[tactic(auto, using(crate::proofs::Least::flaws_append))]
 pub(crate) fn moving(declared: Option<Range>, a: Checked, place: u32, w: Numbered) -> Taken
-    ensures { (up : Bool) (t u : typed.Typed) → Checks a t → ChecksNumber w (typed.number_of place u) → ChecksTaken result (spec.moving declared up t place u) }
+    ensures { (up : Bool) (t u : typed.Typed) → Checks a t → ChecksNumber w (typed.number_of place u)
+        → ChecksTaken result (spec.moving declared up t place u) }
 {
     let n = natural_of(1, 64, place, w);
     let flaws = both(a.flaws, n.flaws);
@@ -205,7 +212,8 @@ pub(crate) fn between(declared: Option<Range>, bracket: u32, r: Bounds) -> Taken
 /// A select.
 #[tactic(auto, using(crate::proofs::Least::flaws_append))]
 pub(crate) fn taken_of(b: Base, t: Taken) -> Checked
-    ensures { (base : spec.Base) (bits : spec.Taken) → ChecksBase b base → ChecksTaken t bits → Checks result (spec.select_typed base bits) }
+    ensures { (base : spec.Base) (bits : spec.Taken) → ChecksBase b base → ChecksTaken t bits
+        → Checks result (spec.select_typed base bits) }
 {
     Checked {
         flaws: both(b.flaws, t.flaws),
