@@ -4,3 +4,5 @@ pub mod Parts
 pub mod RowBits
 pub mod Turns
 pub mod Stores
+pub mod SquareTurns
+pub mod ColumnBits

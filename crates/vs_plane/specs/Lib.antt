@@ -3,3 +3,4 @@ pub mod Lanes
 pub mod Kernels
 pub mod Chunks
 pub mod Turns
+pub mod Squares

@@ -91,6 +91,11 @@ impl<const K: usize> Lanes for Words<K> {
         words[place] = with_bit(words[place], i % 64, bit);
         Words { words }
     }
+
+    #[inline]
+    fn sixty_four(self, k: u32) -> u64 {
+        self.words[k as usize]
+    }
 }
 
 // The word with this bit at place `i`.

@@ -11,7 +11,9 @@ mod counting;
 mod file;
 mod pairs;
 mod rows;
+mod squares;
 mod traits;
+mod vectors;
 
 pub use arrays::Words;
 pub use chunks::parts_law;
@@ -20,6 +22,7 @@ pub use file::PlaneFile;
 pub use pairs::Pair;
 pub use rows::Rows;
 pub use traits::{Chunked, Lanes, Word};
+pub use vectors::Columns;
 
 /// Each four-valued bit has one encoding in two planes, and each encoding is of one bit.
 pub fn encoding_law()

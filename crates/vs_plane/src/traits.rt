@@ -1,5 +1,6 @@
 //! Words of lanes, and their operations.
-ghost use Rattle.std.specs.Prelude.{◌≡◌, ℕ, ◌+◌, ◌*◌, ◌<◌, Bool, true, false, not, ◌&&◌, ◌||◌, ◌≢◌};
+ghost use Rattle.std.specs.Prelude.{◌≡◌, ℕ, ◌+◌, ◌*◌, ◌<◌, Bool, true, false, not, ◌&&◌, ◌||◌, ◌≢◌, ◌≤◌, ◌==◌};
+ghost use Rattle.std.specs.Int.{bit_at};
 ghost use Rattle.vs_plane.specs.Bits.{differ};
 
 /// A word of `LANES` bits, one a lane. Its operations go bit by bit, and none of them shows a bit.
@@ -50,6 +51,11 @@ pub trait Lanes: Word {
         requires { i < Self.LANES }
         ensures changed { Self.lane result i ≡ bit }
         ensures others { (k : ℕ) → k < Self.LANES → k ≢ i → Self.lane result k ≡ Self.lane self k };
+
+    /// The bits of the 64 lanes from `64 * k` on: bit i is that of lane `64 * k + i`.
+    fn sixty_four(self, k: u32) -> u64
+        requires { 64 * k + 64 ≤ Self.LANES }
+        ensures { (i : ℕ) → i < 64 → (bit_at result i == 1) ≡ Self.lane self (64 * k + i) };
 }
 
 /// A word that is one of the eight parts of a wide one. None of its operations shows a bit.
