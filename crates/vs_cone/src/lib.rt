@@ -4,6 +4,7 @@
 #![tactic(auto)]
 
 ghost use Rattle.vs_cone.specs.Counts.{StoresFit};
+ghost use Rattle.vs_cone.specs.Example.{ConesComputed};
 ghost use Rattle.vs_cone.specs.Given.{FirstFall, LaterFall, LaterRise};
 ghost use Rattle.vs_cone.specs.Laws.{FirstSlots, LaterSlots};
 ghost use Rattle.vs_cone.specs.Lists.{AscendingIsOnce, FewAreApart};
@@ -72,3 +73,8 @@ pub fn list_law()
 {
     footprint_law();
 }
+
+/// Worked designs: the processes that each kind of slot runs.
+pub fn cone_examples()
+    ensures { ConesComputed }
+{}

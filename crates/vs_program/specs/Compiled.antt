@@ -89,3 +89,7 @@ pub record IsAcceptedAt (d : Design) (clock : ℕ) : Type 0 where
   pub name : List ℕ
   pub accepted : IsAcceptedDesign d name
   pub clock_is : accepted.clock.first ≡ clock
+
+-- what ends a time slot is what a later one may begin with
+abbrev pub EndsAreReached : Type 0
+EndsAreReached = (d : Design) (clock : ℕ) (p : Program) (before : State) (slot : Slot) (after : State) → IsEnd d clock p before slot after → IsReached d clock p after

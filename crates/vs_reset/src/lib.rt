@@ -4,6 +4,7 @@
 #![tactic(auto)]
 
 ghost use Rattle.vs_reset.specs.Calls.{NoneAreNeeded, ResetCallsAre};
+ghost use Rattle.vs_reset.specs.Example.{CallsComputed};
 ghost use Rattle.vs_reset.specs.Sleepers.{SleeperCallsAre};
 
 use vs_code::sequence_law;
@@ -30,3 +31,8 @@ pub fn sleeper_law()
     footprint_law();
     program_law();
 }
+
+/// Worked calls: those of a reset, and those of a sleeping block.
+pub fn call_examples()
+    ensures { CallsComputed }
+{}
