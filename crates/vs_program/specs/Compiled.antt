@@ -7,8 +7,9 @@ use Rattle.vs_net.specs.Queue.{Slot, Fall, Rise}
 use Rattle.vs_net.specs.Solution.{IsSlotEnd}
 use Rattle.vs_design.specs.Expressions.{Signal, signal_length}
 use Rattle.vs_design.specs.Values.{count_from}
-use Rattle.vs_design.specs.Designs.{Design}
+use Rattle.vs_design.specs.Designs.{Design, bit_count}
 use Rattle.vs_design.specs.Footprints.{contains}
+use Rattle.vs_design.specs.Clocks.{clock_nets}
 use Rattle.vs_design.specs.Networks.{network_of}
 use Rattle.vs_design.specs.Sizes.{size}
 use Rattle.vs_design.specs.Accepted.{IsAcceptedDesign}
@@ -62,7 +63,9 @@ pub record IsReached (d : Design) (clock : ℕ) (p : Program) (slots : State) : 
 
 -- the program is one of the design whose clock is this bit
 pub record IsProgramOf (d : Design) (clock : ℕ) (p : Program) : Type 0 where
+  pub bits : p.bits ≡ bit_count d
   pub inputs : p.inputs ≡ data_bits d clock
+  pub clocks : (b : ℕ) → contains p.clocks b ≡ contains (clock_nets d clock) b
   pub signals : p.signals ≡ map span_of d.signals
   -- it begins with the constants, and with the values that the bits have before anything writes them (4.2)
   pub constants : HasConstants (initial_slots p)

@@ -4,15 +4,15 @@ ghost use Rattle.vs_program.specs.Compiled.{EndsAreReached};
 ghost use Rattle.vs_program.specs.Example.{LayoutsComputed};
 ghost use Rattle.vs_program.specs.Layouts.{LayoutsFit, MasksFit};
 ghost use Rattle.vs_program.specs.Made.{CallsGrow, ProgramsAreInRange, ProgramsAreMade, RegistersInOrder, ResetsGrow, StoresAreFew};
+ghost use Rattle.vs_program.specs.Runs.{RoundsSolve};
 
 use vs_code::{sequence_law, weight_law};
 use vs_cone::{fall_law, list_law, rise_law, sources_law, stores_law};
 use vs_design::{cycle_law, footprint_law, lawful_law, reads_law};
 
-/// Where each process is lowered, the calls of all of them, put together slot by slot, are a program of the design, within its size (`made`): what ends a slot is what a later one begins with (`reached`), and all of its slots are there (`in_range`). The rest is what is needed to put them together: a layout, the registers in order, and lists that grow call by call.
+/// Where each process is lowered, the calls of all of them, put together slot by slot, are a program of the design, within its size (`made`), and all of its slots are there (`in_range`). The rest is what is needed to put them together: a layout, the registers in order, and lists that grow call by call.
 pub fn program_law()
     ensures made { ProgramsAreMade }
-    ensures reached { EndsAreReached }
     ensures in_range { ProgramsAreInRange }
     ensures layout { LayoutsFit }
     ensures masks { MasksFit }
@@ -33,6 +33,12 @@ pub fn program_law()
     lawful_law();
     reads_law();
 }
+
+/// A program of a design, run from its beginning on whatever vectors, gives the one solution in each lane (`solves`): what ends a slot is what a later one may begin with (`reached`).
+pub fn run_law()
+    ensures reached { EndsAreReached }
+    ensures solves { RoundsSolve }
+{}
 
 /// Worked layouts: the slots of designs with registers and a sleeping block.
 pub fn layout_examples()

@@ -1,4 +1,3 @@
-use Rattle.vs_program.specs.Program.{values}
 use Rattle.vs_program.proofs.Makes.{begins, first_ends, fall_ends, rise_ends}
 use Rattle.vs_program.proofs.Ranges.{small, in_range}
 use Rattle.vs_program.proofs.Layouts.{layouts_fit, masks_fit}
@@ -11,7 +10,9 @@ pub returns-clause-made : goal.returns-clause-made
 returns-clause-made c = λ d name a order ordered l low regs p made.
     let fits = small c.list_law.ensures.few c.stores_law.ensures d name a order ordered l low regs p made in
     record {
+      bits = made.bits;
       inputs = made.inputs;
+      clocks = made.clocks.has;
       signals = made.signals;
       constants = made.constants;
       idle = made.idle;
@@ -24,13 +25,6 @@ returns-clause-made c = λ d name a order ordered l low regs p made.
       rise_small = fits.rise;
       few_slots = made.few_slots;
     }
-
-pub returns-clause-reached : goal.returns-clause-reached
-returns-clause-reached c = λ d clock p before slot after end. record {
-  constants = end.constants;
-  masks = end.masks;
-  settled = record { from = values p.bits before; each = end.ends.settled };
-}
 
 pub returns-clause-in_range : goal.returns-clause-in_range
 returns-clause-in_range c = λ d name a order ordered l low regs p made. in_range c.list_law.ensures.few c.stores_law.ensures c.sources_law.ensures d name a order ordered l low regs p made

@@ -1,0 +1,41 @@
+-- What a program does over all time slots, and that it is the one solution.
+use Rattle.std.specs.Prelude.{ℕ, Bool, true, false, List, [], ◌∷◌, map, if◌then◌else◌}
+use Rattle.vs_net.specs.Network as N
+use Rattle.vs_net.specs.Queue.{slots_of}
+use Rattle.vs_net.specs.Solution.{IsSolution}
+use Rattle.vs_design.specs.Designs.{Design}
+use Rattle.vs_design.specs.Networks.{network_of}
+use Rattle.vs_code.specs.Calls.{Call, State, AreCalled}
+use Rattle.vs_program.specs.Program.{Program, values, initial_slots}
+use Rattle.vs_program.specs.Compiled.{IsProgramOf, Falls, Rises}
+
+-- the calls of the next fall, where there was one before or none yet
+abbrev pub fall_calls : Bool → Program → List Call
+fall_calls begun p = if begun then p.fall else p.first
+
+-- the clock falls with this vector, and the slots are then these
+pub record IsFall (begun : Bool) (p : Program) (vector : N.State) (before after : State) : Type 0 where
+  pub fallen : State
+  pub falls : Falls p vector before fallen
+  pub settled : AreCalled (fall_calls begun p) fallen after
+
+-- the clock rises, and the slots are then these
+pub record IsRise (p : Program) (before after : State) : Type 0 where
+  pub stepped : State
+  pub steps : AreCalled p.next before stepped
+  pub risen : State
+  pub rises : Rises p stepped risen
+  pub settled : AreCalled p.rise risen after
+
+-- for each vector a fall and a rise, and the slots of a lane after each of them
+abbrev pub AreRounds : Bool → Program → State → List N.State → List State → Type 0
+AreRounds begun p before [] [] = Unit {0}
+AreRounds begun p before (v ∷ vs) (low ∷ high ∷ ends) = IsFall begun p v before low × IsRise p low high × AreRounds true p high vs ends
+AreRounds begun p before _ _ = ⊥
+
+-- from the slots at the beginning a program of a design gives the solution, on whatever vectors
+abbrev pub RoundsSolve : Type 0
+RoundsSolve =
+    (d : Design) (clock : ℕ) (p : Program) → IsProgramOf d clock p → (vectors : List N.State) (ends : List State)
+    → AreRounds false p (initial_slots p) vectors ends
+    → IsSolution (network_of d clock) (network_of d clock).idle (slots_of vectors) (map (values p.bits) ends)
