@@ -1,0 +1,16 @@
+mod Lawfulness
+mod FormedBodies
+mod SoundNames
+mod NumberedSignals
+mod NestedScopes
+mod FewProcesses
+mod ShapedBlocks
+mod SurveyNames
+mod FinePieces
+mod InDesign
+mod FirstNames
+mod PortNames
+mod PortsFormed
+mod LawfulDesigns
+mod LowBlocks
+mod EnoughFuel

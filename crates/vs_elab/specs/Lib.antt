@@ -1,0 +1,16 @@
+pub mod Limits
+pub mod Environments
+pub mod Targets
+pub mod Statements
+pub mod Declarations
+pub mod Parameters
+pub mod Signals
+pub mod Generate
+pub mod Loops
+pub mod Constructs
+pub mod Ports
+pub mod Pieces
+pub mod Instances
+pub mod Surveys
+pub mod Elaborated
+pub mod Laws

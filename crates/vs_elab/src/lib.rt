@@ -1,0 +1,6 @@
+//! Elaboration (IEEE 1364-2005, clause 12).
+#![tactic(auto)]
+
+mod laws;
+
+pub use laws::elaborated_law;
