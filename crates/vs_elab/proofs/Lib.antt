@@ -14,3 +14,6 @@ mod PortsFormed
 mod LawfulDesigns
 mod LowBlocks
 mod EnoughFuel
+mod WorkedTexts
+mod WorkedRefusals
+mod WorkedDesigns

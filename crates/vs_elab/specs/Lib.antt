@@ -14,3 +14,6 @@ pub mod Instances
 pub mod Surveys
 pub mod Elaborated
 pub mod Laws
+pub mod Worked
+pub mod ExampleRefusals
+pub mod ExampleDesigns

@@ -3,4 +3,4 @@
 
 mod laws;
 
-pub use laws::elaborated_law;
+pub use laws::{design_examples, elaborated_law, refusal_examples};
