@@ -107,5 +107,6 @@ names = record {
   branches = shows refl;
   module_apart = elaborates refl;
   branch_apart = elaborates refl;
+  unknown_index = elaborates refl;
   no_turn = elaborates refl;
 }

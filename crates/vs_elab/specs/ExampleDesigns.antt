@@ -16,6 +16,7 @@ use Rattle.vs_elab.specs.Worked.{Elaborates, Shows, AreAlike, unplaced_processes
 abbrev pub whole_text : List ℕ
 whole_text = codes "module top(input a, output reg y, output z); assign z = ~a & y; always @* y = (a); endmodule"
 
+-- its signals
 abbrev pub a0 : Signal
 a0 = input_of (codes "a") 0 None 0
 
@@ -25,14 +26,17 @@ y1 = reg_of (codes "y") 1 None 1
 abbrev pub z2 : Signal
 z2 = wire_of (codes "z") 2 None 2
 
+-- its design
 abbrev pub whole_design : Design
 whole_design =
     design_of (a0 ∷ y1 ∷ z2 ∷ [])
     (Continuous 14 Written 15 (Whole z2) (At 17 (Binary BitAnd (At 17 (Unary BitNot (At 18 (Name a0)))) (At 20 (Name y1)))) ∷ on_star 22 (blocking 25 y1 (At 27 (Name a0))) ∷ [])
 
+-- all of a design
 abbrev pub itself : Design → Design
 itself d = d
 
+-- signals, processes, and the token at which each of them begins
 pub record WholeDesigns : Type 0 where
   pub whole : Shows itself whole_design whole_text
 
@@ -63,6 +67,7 @@ pub record Parameters : Type 0 where
 abbrev pub overridden : List ℕ → List ℕ
 overridden overrides = codes "module m #(parameter P = 4'd1)(output q); assign q = P; endmodule module top; m " ++ (overrides ++ codes " u(); endmodule")
 
+-- the same with this value in the parameter's place
 abbrev pub valued : List ℕ → List ℕ
 valued value = codes "module m(output q); assign q = " ++ (value ++ codes "; endmodule module top; m u(); endmodule")
 
@@ -82,6 +87,7 @@ pub record ConvertedOverrides : Type 0 where
 
 -- ---- ports and signals (12.3)
 
+-- a port is declared in the header, or in the body in one or two declarations (12.3.3)
 pub record Ports : Type 0 where
   pub in_body : AreAlike (codes "module top(a, y); input a; output y; assign y = a; endmodule") (codes "module top(input a, output y); assign y = a; endmodule")
   pub twice : AreAlike (codes "module top(y); output y; reg y; always @* y = 1'b0; endmodule") (codes "module top(output reg y); always @* y = 1'b0; endmodule")
@@ -103,6 +109,7 @@ connected connections = codes "module m(input [1:0] p, output q); endmodule modu
 abbrev pub net_in : (scope : ℕ) → List ℕ → (number : ℕ) → Option Range → (first : ℕ) → Signal
 net_in scope name number range first = record { name = name; scope = scope; number = number; net = true; input = false; range = range; signed = false; first = first }
 
+-- the signals of this design
 abbrev pub y_outside : Signal
 y_outside = net_in 0 (codes "y") 1 None 1
 
@@ -128,6 +135,7 @@ pub record Connections : Type 0 where
 
 -- ---- scopes, and the numbers of everything (12.1, 12.4)
 
+-- what is seen of a design
 abbrev pub scopes_of : Design → List Scope
 scopes_of d = d.scopes
 
@@ -144,6 +152,7 @@ signal_names d = map (λ (s : Signal). s.name) d.signals
 abbrev pub ranges : Design → List (Option Range)
 ranges d = map (λ (s : Signal). s.range) d.signals
 
+-- scopes within another one
 abbrev pub instance_in : ℕ → List ℕ → Scope
 instance_in parent name = record { name = name; parent = Some parent; instance = true }
 
@@ -154,6 +163,7 @@ block_in parent name = record { name = name; parent = Some parent; instance = fa
 abbrev pub nested_text : List ℕ
 nested_text = codes "module m(input p); wire w = p; endmodule module top(input a); if (1) begin : g wire [1:0] x; m u(a); end m v(~a); wire y = a; endmodule"
 
+-- its signals
 abbrev pub y1_net : Signal
 y1_net = net_in 0 (codes "y") 1 None 1
 
@@ -169,6 +179,7 @@ p_of_v = net_in 3 (codes "p") 5 None 6
 abbrev pub w_of_v : Signal
 w_of_v = net_in 3 (codes "w") 6 None 7
 
+-- all is numbered in the order of the text, what stands within a scope before what stands behind it
 pub record Numbered : Type 0 where
   pub scopes : Shows scopes_of (top_scope ∷ block_in 0 (codes "g") ∷ instance_in 1 (codes "u") ∷ instance_in 0 (codes "v") ∷ []) nested_text
   pub signals : Shows signals_of (a0 ∷ y1_net ∷ net_in 1 (codes "x") 2 (to_zero 1) 2 ∷ p_of_u ∷ w_of_u ∷ p_of_v ∷ w_of_v ∷ []) nested_text
@@ -216,5 +227,7 @@ pub record Names : Type 0 where
   pub branches : Shows scope_names (codes "top" ∷ codes "g" ∷ []) (items (codes "if (0) begin : g end else begin : g end"))
   pub module_apart : Elaborates the_limits (codes "module m; wire w = z; n u(); endmodule module top; endmodule")
   pub branch_apart : Elaborates the_limits (items (codes "if (0) wire w = z; else ;"))
+  -- a write by an index with x bits is no fault, and writes nothing
+  pub unknown_index : Elaborates the_limits (items (codes "wire [1:0] w; assign w[1'bx] = 1'b0;"))
   -- a loop without a turn: neither its block nor its step is looked at
   pub no_turn : Elaborates the_limits (items (codes "wire g; genvar i; for (i = 0; i < 0; i = z) begin : g wire w = z; end"))

@@ -24,6 +24,8 @@ pub record UnknownConstants : Type 0 where
   pub bound : AreRefused 31 (codes "wire [") (codes "1'bx:0] w;")
   pub brackets : AreRefused 31 (codes "wire [") (codes "(1'bx):0] w;")
   pub quotient : AreRefused 31 (codes "wire [") (codes "1/0:0] w;")
+  pub width : AreRefused 31 (codes "wire [3:0] v; assign y = v[0 +: ") (codes "1'bx];")
+  pub count : AreRefused 31 (codes "assign y = {") (codes "1'bx{a}};")
   pub condition : AreRefused 31 (codes "if (") (codes "1'bz) ;")
   pub logarithm : AreRefused 31 (codes "assign y = $clog2(") (codes "4'bx);")
   pub value : AreRefused 31 (codes "genvar i; for (i = ") (codes "1'bx; i < 2; i = i + 1) ;")
@@ -49,6 +51,8 @@ pub record UnknownNames : Type 0 where
   pub port : IsRefused 35 (codes "module top(a, ") (codes "b); input a; endmodule")
   -- parameters are evaluated in the order of the text (12.2)
   pub later : AreRefused 35 (codes "localparam A = ") (codes "B; localparam B = 1;")
+  -- also in a default that is overridden
+  pub default : IsRefused 35 (codes "module m #(parameter P = ") (codes "Q); endmodule module top; m #(3) u(); endmodule")
   pub itself : AreRefused 35 (codes "localparam A = ") (codes "A;")
   pub later_outside : AreRefused 35 (codes "if (1) begin localparam Q = ") (codes "P; end localparam P = 1;")
   -- the nearest declaration is meant, also where it comes later
@@ -82,6 +86,7 @@ pub record RepeatedNames : Type 0 where
   pub two_blocks_later : AreRefused 36 (codes "if (1) begin : genblk2 end if (1) ") (codes "begin end")
   -- a loop meets no value twice (12.4.1)
   pub value : AreRefused 36 (codes "genvar i; ") (codes "for (i = 0; i < 2; i = 0) ;")
+  pub value_of_32_bits : AreRefused 36 (codes "genvar i; ") (codes "for (i = 0; i < 1; i = 40'h100000000) ;")
   pub connection : IsRefused 36 (codes "module m(input p); endmodule module top(input a); m u(.p(a), .") (codes "p(a)); endmodule")
   pub override : IsRefused 36 (codes "module m #(parameter P = 1)(input p); endmodule module top(input a); m #(.P(1), .") (codes "P(2)) u(a); endmodule")
 
@@ -100,6 +105,7 @@ pub record BadRanges : Type 0 where
   pub constant : AreRefused 37 (codes "localparam P = ") (codes "{33'd0, 32'd0};")
   -- a genvar isn't negative, not even behind its last turn
   pub genvar : AreRefused 37 (codes "genvar i; for (i = 1; i >= 0; i = ") (codes "i - 1) ;")
+  pub genvar_sign : AreRefused 37 (codes "genvar i; for (i = 0; i < 1; i = ") (codes "40'h80000000) ;")
   pub genvar_slice : AreRefused 37 (codes "genvar i; for (i = 1; i < 2; i = i + 1) assign y = i") (codes "[0:1];")
   -- both declarations of a port have the same range
   pub unequal : IsRefused 37 (codes "module top(y); output [1:0] y; reg ") (codes "y; endmodule")

@@ -26,6 +26,7 @@ pub record IsRefusedWithin (limits : Limits) (number : ℕ) (before after : List
   pub spelled : Spells (before ++ after) source
   pub is : answer limits source ≡ Err (record { number = number; place = token_at spelled.tokens (length before) })
 
+-- within the product's limits
 abbrev pub IsRefused : ℕ → List ℕ → List ℕ → Type 0
 IsRefused number before after = IsRefusedWithin the_limits number before after
 
@@ -53,6 +54,7 @@ pub record Shows {A : Type 0} (view : Design → A) (what : A) (text : List ℕ)
 
 -- ---- designs but for the places in their texts
 
+-- an expression
 abbrev pub unplaced : Expression → Expression
 unplaced (Literal bits signed sized) = Literal bits signed sized
 unplaced (Name signal) = Name signal
@@ -64,6 +66,7 @@ unplaced (Join high low) = Join (unplaced high) (unplaced low)
 unplaced (Repeat count a) = Repeat count (unplaced a)
 unplaced (At place e) = unplaced e
 
+-- a target
 abbrev pub unplaced_target : Target → Target
 unplaced_target (Whole signal) = Whole signal
 unplaced_target (PartOf signal part index) = PartOf signal part (unplaced index)
@@ -81,13 +84,16 @@ abbrev mutual
   unplaced_arms (Arm items statement rest) = Arm (map unplaced items) (unplaced_statement statement) (unplaced_arms rest)
   unplaced_arms (Default statement) = Default (unplaced_statement statement)
 
+-- a process, at place 0
 abbrev pub unplaced_process : Process → Process
 unplaced_process (Continuous place port target_place target e) = Continuous 0 port 0 (unplaced_target target) (unplaced e)
 unplaced_process (Always place star events statement) = Always 0 star events (unplaced_statement statement)
 
+-- all processes
 abbrev pub unplaced_processes : Design → List Process
 unplaced_processes d = map unplaced_process d.processes
 
+-- a design
 abbrev pub unplaced_design : Design → Design
 unplaced_design d = record d { processes = unplaced_processes d }
 
