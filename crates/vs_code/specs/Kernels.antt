@@ -35,7 +35,7 @@ room_of (Logic kernel) lengths = LogicCosts.room_of lengths
 room_of (Arith kernel) lengths = ArithCosts.room_of lengths
 room_of (Select kernel) lengths = SelectCosts.room_of lengths
 
--- what it weighs in the size of a design
+-- what it weighs
 abbrev pub weight_of : AnyKernel → List ℕ → ℕ
 weight_of (Logic kernel) lengths = LogicCosts.weight_of kernel lengths
 weight_of (Arith kernel) lengths = ArithCosts.weight_of kernel lengths

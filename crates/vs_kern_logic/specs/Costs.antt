@@ -67,7 +67,7 @@ cost_of lengths = last_or 0 lengths
 abbrev pub room_of : List ℕ → ℕ
 room_of lengths = 0
 
--- what an operation of this shape weighs in the size of a design
+-- what an operation of this shape weighs
 abbrev pub weight_of_shape : Shape → List ℕ → ℕ
 weight_of_shape Vector (a ∷ to ∷ []) = to
 weight_of_shape Vectors (a ∷ b ∷ to ∷ []) = to

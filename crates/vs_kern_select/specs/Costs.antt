@@ -51,7 +51,7 @@ cost_of kernel lengths = cost_of_shape (shape_of kernel) lengths
 abbrev pub room_of : List ℕ → ℕ
 room_of lengths = 0
 
--- what an operation of this shape weighs in the size of a design: a write, what it weighs beside the store of its target
+-- what an operation of this shape weighs; a write, what it weighs beside the store of its target
 abbrev pub weight_of_shape : Shape → List ℕ → ℕ
 weight_of_shape Shift (a ∷ amount ∷ to ∷ []) = to * (amount + 1) + amount
 weight_of_shape (Selected n) (a ∷ base ∷ to ∷ []) = to * n * base
