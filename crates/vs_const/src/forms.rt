@@ -1,22 +1,23 @@
 //! Constant expressions whose names, counts, bounds and widths are settled, and their values (IEEE 1364-2005, 5.4.1 and 5.5.2).
 
-ghost use Rattle.std.specs.Prelude.{◌≡◌, ◌≤◌, length, min};
+ghost use Rattle.std.specs.Prelude.{◌≡◌, ◌≤◌, IfOk, length, min};
 ghost use Rattle.vs_four.specs.declared.Bit4.TheVariants.{X};
 ghost use Rattle.vs_design.specs.Expressions as E;
 ghost use Rattle.vs_design.specs.Values as V;
 ghost use Rattle.vs_ast.specs.Views as view;
 ghost use Rattle.vs_const.specs.Operators as spec_op;
+ghost use Rattle.vs_const.specs.Typed.{begins_at};
 ghost use Rattle.vs_const.specs.Forms.{expression, IsForm};
 
 use crate::apply::{Shape, apply_binary, apply_unary, choose, together};
 use crate::bits::{extend_literal, extended, inverted, negated, repeated, taken};
 use crate::operators::{Way, way_of};
+use std::alloc::{AllocError, Global};
 use vs_ast::{BinaryOp, UnaryOp};
 use vs_four::{Bits, Range, join, truth};
 
 /// An expression that names no signal. What a literal stands for is a number of the text, or the value of a parameter.
 #[cycle(forms)]
-#[derive(Drop)]
 pub enum Form {
     Literal {
         bits: Bits,
@@ -64,6 +65,76 @@ pub enum Form {
         shape: Shape,
         inner: Box<Form>,
     },
+}
+
+// A concatenation of many parts is a long chain of joins, so it is let go in a loop.
+impl Drop for Form {
+    fn drop(mut self) {
+        loop {
+            match self {
+                Form::Literal {
+                    bits: _,
+                    signed: _,
+                    sized: _,
+                } => return,
+                Form::Select {
+                    bits: _,
+                    range: _,
+                    up: _,
+                    width: _,
+                    index,
+                } => self = Box::into_inner(index),
+                Form::Unary { op: _, operand } => self = Box::into_inner(operand),
+                Form::Cast { signed: _, operand } => self = Box::into_inner(operand),
+                Form::Binary {
+                    op: _,
+                    left: _,
+                    right,
+                } => self = Box::into_inner(right),
+                Form::Choice {
+                    condition: _,
+                    yes: _,
+                    no,
+                } => self = Box::into_inner(no),
+                Form::Join { high: _, low } => self = Box::into_inner(low),
+                Form::Repeat { count: _, inner } => self = Box::into_inner(inner),
+                Form::At {
+                    place: _,
+                    shape: _,
+                    inner,
+                } => self = Box::into_inner(inner),
+            }
+        }
+    }
+}
+
+impl Form {
+    /// The form with the place where it begins.
+    pub(crate) fn begun(self, alloc: Global, place: u32) -> Result<Form, AllocError>
+        ensures same { IfOk result (λ g. expression g ≡ begins_at place (expression self)) }
+        ensures well { IsForm self → IfOk result IsForm }
+    {
+        match self {
+            Form::At {
+                place: _,
+                shape,
+                inner,
+            } => Ok(Form::At {
+                place,
+                shape,
+                inner,
+            }),
+            other => {
+                let shape = shape(&other);
+                let inner = Box::new(alloc, other)?;
+                Ok(Form::At {
+                    place,
+                    shape,
+                    inner,
+                })
+            }
+        }
+    }
 }
 
 /// The length and the sign of an expression by itself. A length over 64 is told as 65.

@@ -53,29 +53,6 @@ pub struct Found {
 
 // ---- the expression
 
-/// The form with the place where it begins.
-fn begun(alloc: Global, place: u32, f: Form) -> Result<Form, AllocError>
-    ensures same { IfOk result (λ g. expression g ≡ typed.begins_at place (expression f)) }
-    ensures well { IsForm f → IfOk result IsForm }
-{
-    match f {
-        Form::At { shape, inner, .. } => Ok(Form::At {
-            place,
-            shape,
-            inner,
-        }),
-        other => {
-            let shape = shape(&other);
-            let inner = Box::new(alloc, other)?;
-            Ok(Form::At {
-                place,
-                shape,
-                inner,
-            })
-        }
-    }
-}
-
 /// The form where it is needed and good, with the place where it begins.
 fn kept(
     alloc: Global,
@@ -91,7 +68,7 @@ fn kept(
         None => Ok(None),
         Some(f) => {
             if needed && good {
-                let f = begun(alloc, place, f)?;
+                let f = f.begun(alloc, place)?;
                 Ok(Some(f))
             } else {
                 Ok(None)
