@@ -12,15 +12,11 @@ use Rattle.vs_const.specs.Meanings.{Find}
 use Rattle.vs_const.specs.Typed.{Typed, broken, fine, noted, Numbered, number_of, natural, unary_typed, binary_typed, choice_typed, join_typed, copies_typed}
 use Rattle.vs_const.specs.Selects.{base_of, name_typed, taken, slice_taken, first_needed, select_typed}
 
--- a literal without a size, in brackets or not
-abbrev pub is_unsized : tree.Expr → Bool
-is_unsized (tree.Number n) = not n.sized
-is_unsized (tree.Brackets place e) = is_unsized e
-is_unsized _ = false
-
--- it has no place in a concatenation (5.1.14)
+-- a literal without a size has no place in a concatenation (5.1.14); brackets round it are no matter
 abbrev pub unsized_faults : tree.Expr → List Fault
-unsized_faults e = fault_if (is_unsized e) 43 (expr_place e)
+unsized_faults (tree.Number n) = fault_if (not n.sized) 43 n.place
+unsized_faults (tree.Brackets place e) = unsized_faults e
+unsized_faults _ = []
 
 -- there is no fault
 abbrev pub is_clean : List Fault → Bool

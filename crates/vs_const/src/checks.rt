@@ -36,25 +36,14 @@ pub fn place_of(e: &Expr) -> u32
     }
 }
 
-/// Whether an expression is a literal without a size, in brackets or not.
-fn is_unsized(e: &Expr) -> bool
-    ensures { result ≡ expr.is_unsized (view.expr e.now) }
-{
-    match e {
-        Expr::Number(n) => !n.sized,
-        Expr::Brackets { inner, .. } => is_unsized(inner),
-        _ => false,
-    }
-}
-
-/// Where a part of a concatenation begins, if it is a literal without a size.
+/// Where a literal without a size stands, if the part of a concatenation is one, in brackets or not.
 fn unsized_at(e: &Expr) -> Option<u32>
     ensures { IsUnsizedAt result (expr.unsized_faults (view.expr e.now)) }
 {
-    if is_unsized(e) {
-        Some(place_of(e))
-    } else {
-        None
+    match e {
+        Expr::Number(n) if !n.sized => Some(n.place),
+        Expr::Brackets { inner, .. } => unsized_at(inner),
+        _ => None,
     }
 }
 

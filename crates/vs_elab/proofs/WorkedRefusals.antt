@@ -139,6 +139,7 @@ wrong_kinds = record {
   event = refused refl;
   edge = refused refl;
   unsized = refused refl;
+  unsized_in_brackets = refused refl;
   unsized_copy = refused refl;
 }
 

@@ -139,6 +139,7 @@ pub record WrongKinds : Type 0 where
   pub edge : AreRefused 43 (codes "wire [3:0] v; always @(posedge ") (codes "v) ;")
   -- a literal without a size in a concatenation (5.1.14)
   pub unsized : AreRefused 43 (codes "assign y = {") (codes "1, a};")
+  pub unsized_in_brackets : AreRefused 43 (codes "assign y = {(") (codes "1), a};")
   pub unsized_copy : AreRefused 43 (codes "assign y = {2{") (codes "1}};")
 
 -- names of genvars, instances and blocks where a signal or a constant stands, and what isn't a net at an output
