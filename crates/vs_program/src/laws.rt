@@ -5,6 +5,7 @@ ghost use Rattle.vs_program.specs.Example.{LayoutsComputed};
 ghost use Rattle.vs_program.specs.Layouts.{LayoutsFit, MasksFit};
 ghost use Rattle.vs_program.specs.Made.{CallsGrow, ProgramsAreInRange, ProgramsAreMade, RegistersInOrder, ResetsGrow, StoresAreFew};
 ghost use Rattle.vs_program.specs.Runs.{RoundsSolve};
+ghost use Rattle.vs_program.specs.Weights.{KernelsWeighAsOperators};
 
 use vs_code::{sequence_law, weight_law};
 use vs_cone::{fall_law, list_law, rise_law, sources_law, stores_law};
@@ -43,4 +44,9 @@ pub fn run_law()
 /// Worked layouts: the slots of designs with registers and a sleeping block.
 pub fn layout_examples()
     ensures { LayoutsComputed }
+{}
+
+/// Each kernel weighs what its operator weighs in the size of a design, so a call of it makes at most as many stores.
+pub fn weights_law()
+    ensures { KernelsWeighAsOperators }
 {}
