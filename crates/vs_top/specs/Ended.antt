@@ -6,7 +6,7 @@ use Rattle.vs_desk.specs.Places.{with_places}
 use Rattle.vs_design.specs.Designs.{Design}
 use Rattle.vs_drive.specs.Opened.{path_at, HaveHeaders}
 use Rattle.vs_waves.specs.Puts.{wave_place}
-use Rattle.vs_waves.specs.Attached.{AreFree}
+use Rattle.vs_waves.specs.Attached.{AreEmptied, AreFree}
 use Rattle.vs_rounds.specs.declared.stop.Stop.{Stop}
 use Rattle.vs_rounds.specs.Lanes.{Run}
 use Rattle.vs_rounds.specs.Stops.{AreUnrefused, ReadStops, StopsIn, IsLaneOf, HasCause}
@@ -72,7 +72,8 @@ pub record IsFirstEnd (tells : Bool) (job : Job) (before : Register) (old : Cont
   pub stops : IsTrue tells → (run : Run) × IsRunOf job old run × ReadStops run (length job.stimuli) 0 stop
   pub kept : IsTrue tells → AreTextsKept old new
 
--- Each stimulus has a known first vector, and a waveform's place can't be attached, behind those of the earlier lanes, where nothing was put.
+-- Each stimulus has a known first vector, and a waveform's place can't be attached, behind those of the earlier lanes, where nothing was put
+-- and whose paths have no bytes; all other paths have those that they had.
 pub record IsAttachEnd (tells : Bool) (job : Job) (before : Register) (old : Contents) (now : Register) (new : Contents) (o : Outcome) : Type 0 where
   pub lane : ℕ
   pub is_lane : lane < length job.stimuli
@@ -80,6 +81,7 @@ pub record IsAttachEnd (tells : Bool) (job : Job) (before : Register) (old : Con
   pub fails : Fails (with_waves before job (take lane (wave_paths job))) now (wave_place lane) (path_at (wave_paths job) lane)
   pub texts : IsTrue tells → (run : Run) × IsRunOf job old run × AreUnrefused run 0 (length job.stimuli) 1
   pub empty : IsTrue tells → (i : ℕ) → i < lane → new.put (wave_place i) ≡ []
+  pub emptied : IsTrue tells → AreEmptied (take lane (wave_paths job)) old new
   pub puts : IsTrue tells → OnlyWavesPut lane old new
 
 -- A round stopped, by a stimulus only behind the first one. What each lane has got then is what `StopsIn` says.

@@ -1,8 +1,8 @@
 use Rattle.std.proofs.Common.{rules, ◌≡◌, ◌+◌, ◌*◌, ◌/◌, ◌<◌, ℕ, List, String, Global, IsTrue, IsNone, length, map, take, sym, subst, ap, ◌∙◌, refl, arith}
-use Rattle.std.specs.Prelude.{string_bytes}
+use Rattle.std.specs.Prelude.{string_bytes, if◌then◌else◌, []}
 use Rattle.std.proofs.lemmas.List.{length-map, take-map}
 use Rattle.vs_desk.specs.declared.desk.Way.TheVariants.{Write}
-use Rattle.vs_desk.specs.Desk.{Register, Fails, IsAttached}
+use Rattle.vs_desk.specs.Desk.{Register, Contents, Fails, IsAttached}
 use Rattle.vs_desk.specs.Places.{with_places}
 use Rattle.vs_engine.specs.Lanes.{Running}
 use Rattle.vs_engine.specs.Program.{Program}
@@ -11,6 +11,7 @@ use Rattle.vs_design.specs.Sizes.{size as size_of}
 use Rattle.vs_drive.specs.Lanes.{AreAttached}
 use Rattle.vs_drive.specs.Opened.{path_at}
 use Rattle.vs_waves.specs.Puts.{wave_place}
+use Rattle.vs_waves.specs.Attached.{is_one_of, AreEmptied}
 use Rattle.vs_rounds.specs.Stops.{AreUnrefused, IsLaneOf, HasCause, ReadStops, StopsIn}
 use Rattle.vs_rounds.specs.Counts.{AreDone, AreCounted}
 use Rattle.vs_job.specs.Places.{vcd_path}
@@ -49,6 +50,10 @@ attach-requires-clause-free g c = λ i h.
     let below : i < length job.stimuli = omega (arith, h, held, lanes) in
     subst (λ (r : Register). IsNone (r.attached (wave_place i))) (sym (c.in_default-begin.ensures.same ∙ p.register_is)) (still_free (g.D.Desk.register c.args.desk.now) job i c.requires.job.few c.requires.unused.waves below)
 
+-- what was emptied of the files as they are now was so of the same files before
+emptied_from : (now old new : Contents) (paths : List (List ℕ)) → now.files ≡ old.files → AreEmptied paths now new → AreEmptied paths old new
+emptied_from now old new paths e h = record { files = λ path. h.files path ∙ ap (λ (f : List ℕ → List ℕ). if is_one_of paths path then [] else f path) e }
+
 pub returns-in-Err-attach-clause-stopped : goal.returns-in-Err-attach-clause-stopped
 returns-in-Err-attach-clause-stopped g c =
     let job = c.args.job.now in
@@ -71,6 +76,10 @@ returns-in-Err-attach-clause-stopped g c =
       fails = subst (λ (all : List (List ℕ)). P (with_texts before job job.stimuli) (take lane all) all) p.paths mapped;
       texts = λ t. (run, run_is _ _ _ _ _ _ _ _ _ _ _ p t, subst (λ (n : ℕ). AreUnrefused run 0 n 1) p.lanes (c.in_default-begin.ensures.unrefused t run (p.opened t)));
       empty = λ t. (c.in-Err-attach.ensures.bytes_before t).lanes;
+      emptied = λ t.
+          let paths : map string_bytes (take lane items) ≡ take lane (wave_paths job) = sym (take-map string_bytes lane items) ∙ ap (take lane) p.paths in
+          emptied_from (g.D.Desk.contents c.begin.new.desk) (g.D.Desk.contents c.args.desk.now) (g.D.Desk.contents c.attach.new.desk) (take lane (wave_paths job)) ((c.begin.ensures.others t).files ∙ (p.kept t).files)
+          (subst (λ (ps : List (List ℕ)). AreEmptied ps (g.D.Desk.contents c.begin.new.desk) (g.D.Desk.contents c.attach.new.desk)) paths (c.in-Err-attach.ensures.emptied_before t));
       puts = λ t place other. (c.in-Err-attach.ensures.bytes_before t).others place other ∙ ap (λ (f : ℕ → List ℕ). f place) ((c.begin.ensures.others t).put ∙ (p.kept t).put);
     })
 
