@@ -9,8 +9,8 @@ use std::sync::ledger::{Blank, Ledger};
 use std::test::Fail;
 use vs_engine::Engine;
 use vs_four::Bit4;
-use vs_setup::{Loaded, load};
 use vs_plane::{Pair, Steps, Words};
+use vs_setup::{Loaded, load};
 
 const TEXT: &[u8] =
     b"module top(input clk, input a, input b, output y); assign y = a & b; endmodule";

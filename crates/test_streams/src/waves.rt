@@ -18,8 +18,8 @@ use vs_engine::Engine;
 use vs_flat::Flat;
 use vs_four::Bit4;
 use vs_front::AcceptError;
-use vs_setup::{Loaded, load};
 use vs_plane::{Lanes, Pair, Steps, Words};
+use vs_setup::{Loaded, load};
 use vs_waves::{LaneFault, Waves, attach, rounds_law};
 
 const HALF: u64 = 5;

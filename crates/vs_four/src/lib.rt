@@ -14,7 +14,9 @@ pub use logic::{
     and, equal, matches_x, matches_z, merge, not, or, reduce_and, reduce_or, reduce_xor, same,
     truth, xnor, xor,
 };
-pub use numbers::{add, clog2, div, integer, is_known, less, mul, neg, of_number, rem, repeated, sub};
+pub use numbers::{
+    add, clog2, div, integer, is_known, less, mul, neg, of_number, rem, repeated, sub,
+};
 pub use planes::Bits;
 pub use selects::{bit, part, write_bit, write_part};
 pub use shifts::{shift_arith, shift_left, shift_right};

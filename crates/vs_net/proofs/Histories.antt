@@ -32,11 +32,11 @@ module _ (n : Network) (L : IsLawful n) (p : ℕ) (x : Sleeper) (e : n.sleeper p
   still_agrees before s g h = by_test (is_asleep (n.sleeper p) before s)
       (λ t. let a = asleep_is n L before s p t in
       λ b w.
-          ap (λ ws. write_all s ws b) (L.local p s before st (λ c l. a.listened c l ∙ sym (a.before_asleep.listened c l)))
-          ∙ write_all_covered (made (n.process p) before) s before b (L.exact p b before st ∙ w)
-          ∙ h b w
-          ∙ a.before_asleep.bits b w
-          ∙ sym (sym (ap (λ (f : State). f b) g) ∙ ap (λ ws. write_all s ws b) (given_blank n L before s p t) ∙ blank_x (made (n.process p) s) s b (L.exact p b s st ∙ w)))
+      ap (λ ws. write_all s ws b) (L.local p s before st (λ c l. a.listened c l ∙ sym (a.before_asleep.listened c l)))
+      ∙ write_all_covered (made (n.process p) before) s before b (L.exact p b before st ∙ w)
+      ∙ h b w
+      ∙ a.before_asleep.bits b w
+      ∙ sym (sym (ap (λ (f : State). f b) g) ∙ ap (λ ws. write_all s ws b) (given_blank n L before s p t) ∙ blank_x (made (n.process p) s) s b (L.exact p b s st ∙ w)))
       (λ t. agreed_at before s g t)
 
   step : (before s : State) (was : Bool) → write_all s (given n before p s) ≡ s → Stands before was → (test : Bool) → all_x s x.on ≡ test → HasAsTold n p x (was || not test) s × Stands s (was || not test)

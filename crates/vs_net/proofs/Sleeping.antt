@@ -265,9 +265,11 @@ module _ (n : Network) (L : IsLawful n) where
     ended slot before q over o (not_yet nd h) = record { told = ap not (sym (all_x_blank q.now h)) }
     ended slot before q over o (about d r) = absurd (let m = (over.0 p).0 in cc)
     ended slot before q over o long = record { told = refl }
-    ended slot before q over o (just r) = record { told = sym (ap not (by_test (all_x q.now x.on)
-        (λ t. absurd (r.valued (sym (o.slot_end.updated r.by r.bit (subst IsWriter (sym r.clocked) tt) r.written) ∙ all_x_at q.now x.on t r.bit (i.on_is r.bit ∙ r.listened))))
-        (λ t. t))) }
+    ended slot before q over o (just r) = record {
+      told = sym (ap not (by_test (all_x q.now x.on)
+          (λ t. absurd (r.valued (sym (o.slot_end.updated r.by r.bit (subst IsWriter (sym r.clocked) tt) r.written) ∙ all_x_at q.now x.on t r.bit (i.on_is r.bit ∙ r.listened))))
+          (λ t. t)));
+    }
 
     -- the next slot
     begins : (slot : Slot) (before : State) (q : Queue) → IsRested q → (g : Ghost slot before q) → Ended slot before q g → (next : Slot) (slots : List Slot) → (y : Ghost next q.now (begun n q (next ∷ slots))) × (ran y ≡ ran g) × (differed y ≡ (differed g || not (all_x q.now x.on)))
@@ -343,7 +345,7 @@ module _ (n : Network) (L : IsLawful n) where
         let end = ended slot before q over o g in
         let b = begins slot before q over g end next rest in
         let rec = run_tells cs later next rest q.now (begun n q (next ∷ rest)) (next_alternates n L slot next rest alt) refl (begin_in n L slot next rest before q alt over o)
-            (subst (λ (l : List Slot). IsCompleted n (begun n q l) (cs ++ later)) es done.1) after_slot b.0 in
+        (subst (λ (l : List Slot). IsCompleted n (begun n q l) (cs ++ later)) es done.1) after_slot b.0 in
         ap (λ t. t || has_run p cs) (sym b.1)
         ∙ rec
         ∙ ap (λ t. t || seen (ends n (begun n q (next ∷ rest)) cs)) b.2
