@@ -240,3 +240,14 @@ fn nested_constants_take_no_time(rt: HostRuntime) -> Result<(), Fail> {
     }
     Ok(())
 }
+
+#[test]
+fn concatenations_of_many_parts(rt: HostRuntime) -> Result<(), Fail> {
+    let alloc = rt.alloc();
+    for (parts, want) in [(60, (0, 0)), (61, (37, 0)), (100_000, (37, 0))] {
+        let mut text = nested(alloc, "", "{p", ",1'b1", parts)?;
+        text.extend_from_slice(b"}")?;
+        assert_eq!(rt; faults(alloc, text.as_slice())?, [want, want], "{parts}");
+    }
+    Ok(())
+}
