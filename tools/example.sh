@@ -6,12 +6,10 @@ set -eu
 top=$(cd "$(dirname "$0")/.." && pwd)
 work=$(mktemp -d)
 trap 'rm -rf "$work"' EXIT
-jobs=$(nproc)
 cd "$top"
-echo 'proving ..' >&2
-rt all check --jobs $((jobs < 4 ? jobs : 4)) > "$work/log" 2>&1 || { tail -40 "$work/log" >&2; exit 1; }
 program=$top/crates/cyclesim/out/cyclesim
-echo 'building ..' >&2
+echo 'proving and building ..' >&2
+# (without words the program ends with Usage)
 (cd crates/cyclesim && rt run > "$work/log" 2>&1) || grep -q '^refused 1 Usage' "$work/log" || { tail -40 "$work/log" >&2; exit 1; }
 
 count=0
