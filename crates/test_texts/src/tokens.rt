@@ -1,4 +1,4 @@
-//! Tokens, numbers and tokens that are left out, by worked rows.
+//! Tokens, numbers and tokens that are left out, by tables of texts.
 
 ghost use Rattle.std.specs.Prelude.{◌≤◌, length};
 
