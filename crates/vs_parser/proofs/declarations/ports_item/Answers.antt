@@ -1,5 +1,4 @@
 use Rattle.std.proofs.Common.{refl}
-use Rattle.vs_lexer.specs.declared.token.TokenKind.TheVariants as kind
 use Rattle.vs_grammar.specs.Trees as tree
 use Rattle.vs_phrase.proofs.Places.{refused_exit, refused_var, refused_seq, refused_then, refused_missing, read_tok, read_var, read_seq, parsed, ap5}
 use Rattle.vs_parser.proofs.Pieces.{first_is}

@@ -1,4 +1,3 @@
-use Rattle.vs_lexer.specs.declared.token.TokenKind.TheVariants as kind
 use Rattle.vs_grammar.specs.Trees as tree
 use Rattle.vs_phrase.proofs.Places.{refused_exit, refused_seq, refused_then, refused_missing, read_tok, read_seq, parsed, ap3}
 use Rattle.vs_parser.proofs.declarations.wires.Goals as goal

@@ -1,5 +1,4 @@
 use Rattle.std.proofs.Common.{refl, sym, ◌∙◌, ap, ◌∷◌, ◌++◌, map}
-use Rattle.vs_lexer.specs.declared.token.TokenKind.TheVariants as kind
 use Rattle.vs_ast.specs.Views as view
 use Rattle.vs_phrase.specs.declared.error.ParseError.TheVariants.{Memory}
 use Rattle.vs_phrase.specs.Reading.Refused.{out_of_memory}
