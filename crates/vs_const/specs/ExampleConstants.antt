@@ -144,7 +144,7 @@ pub record ConstantsComputed : Type 0 where
   pub another_kind : constant_answer (tree.Named (a_name 0 103) Whole) names None ≡ breaks 43 0
   -- `{p, 1}`, and `{p, (1)}` at the bracket
   pub no_size : constant_answer (two 0 (p 1) (plain 3 1)) names None ≡ breaks 43 3
-  pub no_size_in_brackets : constant_answer (two 0 (p 1) (tree.Brackets 3 (plain 4 1))) names None ≡ breaks 43 3
+  pub no_size_in_brackets : constant_answer (two 0 (p 1) (tree.Brackets 3 (plain 4 1))) names None ≡ breaks 43 4
   -- ---- of several the one at the least place, there the one with the least number
 
   -- `u + v` and `v + u`
