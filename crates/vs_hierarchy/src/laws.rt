@@ -1,0 +1,39 @@
+//! What holds of every elaborated design, and worked texts.
+
+ghost use Rattle.vs_hierarchy.specs.ExampleDesigns.{WholeDesigns, Parameters, Overrides, ConvertedOverrides, Ports, Connections, Numbered, Blocks, Names};
+ghost use Rattle.vs_hierarchy.specs.ExampleRefusals.{NotConstants, UnknownConstants, WrongModules, UnknownNames, RepeatedNames, BadRanges, WrongConnections, WrongKinds, OtherKinds, FirstFaults, Limited};
+ghost use Rattle.vs_hierarchy.specs.Laws.{DepthIsEnough, ElaboratedIsLawful};
+
+/// Every design that a text elaborates to is lawful (IEEE 1364-2005, clause 12), and no text has scopes deeper within one another than are read.
+pub fn elaborated_law()
+    ensures lawful { ElaboratedIsLawful }
+    ensures depth { DepthIsEnough }
+{}
+
+/// Worked designs: what each rule of elaboration gives.
+pub fn design_examples()
+    ensures whole_designs { WholeDesigns }
+    ensures parameters { Parameters }
+    ensures overrides { Overrides }
+    ensures converted_overrides { ConvertedOverrides }
+    ensures ports { Ports }
+    ensures connections { Connections }
+    ensures numbered { Numbered }
+    ensures blocks { Blocks }
+    ensures names { Names }
+{}
+
+/// Worked refusals: each rule of elaboration, and where it is broken.
+pub fn refusal_examples()
+    ensures not_constants { NotConstants }
+    ensures unknown_constants { UnknownConstants }
+    ensures wrong_modules { WrongModules }
+    ensures unknown_names { UnknownNames }
+    ensures repeated_names { RepeatedNames }
+    ensures bad_ranges { BadRanges }
+    ensures wrong_connections { WrongConnections }
+    ensures wrong_kinds { WrongKinds }
+    ensures other_kinds { OtherKinds }
+    ensures first_faults { FirstFaults }
+    ensures limited { Limited }
+{}
