@@ -1,7 +1,6 @@
 //! Lists and texts as clauses see them: as the list of their elements.
 
 ghost use Rattle.std.specs.Prelude.{◌≡◌, ◌<◌, ◌↔◌, [], length, slice_get, IsTrue};
-ghost use Rattle.std.specs.String.{string_bytes};
 
 use std::marker::Model;
 
@@ -65,55 +64,54 @@ impl<T> List<T> {
     }
 }
 
-/// A text, seen as the list of its bytes. It is made from a `String` and gives it back without taking memory.
+/// A text, seen as the list of its bytes. It is made from a `Vec` and gives it back without taking memory.
 #[derive(Drop)]
 pub struct Text {
-    text: String,
+    bytes: Vec<u8>,
 }
 
 impl Model for Text {
     ghost use Rattle.std.specs.Prelude.{List, ℕ};
-    ghost use Rattle.std.specs.String.{string_bytes};
 
     ghost Value = { List ℕ };
 
-    ghost view = { λ t. string_bytes t.text };
+    ghost view = { λ t. t.bytes.items };
 }
 
 impl Text {
-    /// This text.
-    pub fn of(text: String) -> Text
-        ensures { result ≡ string_bytes text }
+    /// The text of these bytes.
+    pub fn of(bytes: Vec<u8>) -> Text
+        ensures { result ≡ bytes.items }
     {
-        Text { text }
+        Text { bytes }
     }
 
-    /// The text as a `String`.
-    pub fn into_string(self) -> String
-        ensures { string_bytes result ≡ self }
+    /// The bytes as a `Vec`.
+    pub fn into_vec(self) -> Vec<u8>
+        ensures { result.items ≡ self }
     {
-        let Text { text } = self;
-        text
+        let Text { bytes } = self;
+        bytes
     }
 
     /// How many bytes there are.
     pub fn len(&self) -> usize
         ensures { result ≡ length self.now }
     {
-        self.text.len()
+        self.bytes.len()
     }
 
     /// Whether there is no byte.
     pub fn is_empty(&self) -> bool
         ensures { IsTrue result ↔ (self.now ≡ []) }
     {
-        self.text.is_empty()
+        self.bytes.is_empty()
     }
 
-    /// The text.
-    pub fn as_str(&self) -> &str
+    /// The bytes, in order.
+    pub fn as_slice(&self) -> &[u8]
         ensures { result.now ≡ self.now }
     {
-        self.text.as_str()
+        self.bytes.as_slice()
     }
 }
