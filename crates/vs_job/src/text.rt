@@ -41,6 +41,13 @@ impl Text {
     {
         self.text.as_str()
     }
+
+    /// Its bytes, in order.
+    pub fn as_bytes(&self) -> &[u8]
+        ensures { result.now ≡ self.now }
+    {
+        self.text.as_bytes()
+    }
 }
 
 /// A list of texts, seen as the list of their bytes.

@@ -1,51 +1,51 @@
 //! The data inputs that a stimulus drives.
 
-ghost use Rattle.std.specs.Prelude.{◌≡◌, string_bytes, bytes_eq};
+ghost use Rattle.std.specs.Prelude.{◌≡◌, bytes_eq};
 
 use std::marker::Model;
 
-/// The name of an input. Contracts see its bytes.
+/// The name of an input, seen as the list of its bytes.
 #[derive(Debug, Drop)]
 pub struct Name {
-    text: String,
+    bytes: Vec<u8>,
 }
 
 impl Model for Name {
-    ghost use Rattle.std.specs.Prelude.{List, ℕ, string_bytes};
+    ghost use Rattle.std.specs.Prelude.{List, ℕ};
 
     ghost Value = { List ℕ };
 
-    ghost view = { λ name. string_bytes name.text };
+    ghost view = { λ name. name.bytes.items };
 }
 
 impl Name {
-    /// The name that the text spells.
-    pub fn new(text: String) -> Name
-        ensures { result ≡ string_bytes text }
+    /// The name of these bytes.
+    pub fn of(bytes: Vec<u8>) -> Name
+        ensures { result ≡ bytes.items }
     {
-        Name { text }
+        Name { bytes }
     }
 
-    /// The name as text.
-    pub fn as_str(&self) -> &str
+    /// The bytes, in order.
+    pub fn as_slice(&self) -> &[u8]
         ensures { result.now ≡ self.now }
     {
-        self.text.as_str()
+        self.bytes.as_slice()
     }
 
     /// Whether these are the name's bytes.
     pub(crate) fn is(&self, bytes: &[u8]) -> bool
         ensures { result ≡ bytes_eq bytes.now self.now }
     {
-        bytes == self.text.as_str().as_bytes()
+        bytes == self.bytes.as_slice()
     }
 
-    /// The text back, without a copy.
-    pub fn into_string(self) -> String
-        ensures { string_bytes result ≡ self }
+    /// The bytes as a `Vec`.
+    pub fn into_vec(self) -> Vec<u8>
+        ensures { result.items ≡ self }
     {
-        let Name { text } = self;
-        text
+        let Name { bytes } = self;
+        bytes
     }
 }
 
