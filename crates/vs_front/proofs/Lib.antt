@@ -2,7 +2,6 @@ pub mod Rests
 pub mod Terminals
 pub mod Items
 pub mod Ports
-pub mod Identifiers
 pub mod FirstKinds
 pub mod Modules
 pub mod Bools

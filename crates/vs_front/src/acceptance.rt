@@ -153,7 +153,12 @@ fn design(alloc: Global, source: Source, wiring: Wiring) -> Result<Accepted, All
 
 /// Accepts a text of at most `MAX_BYTES` bytes whose top module and whose clock input have these names. It is refused exactly where it is
 /// accepted as no design.
-pub fn accept(alloc: Global, text: &[u8], top: &str, clock: &str) -> Result<Accepted, AcceptError>
+pub fn accept(
+    alloc: Global,
+    text: &[u8],
+    top: &[u8],
+    clock: &[u8],
+) -> Result<Accepted, AcceptError>
     requires { length text.now ≤ MAX_BYTES }
     ensures accepted { IfOk result (λ a. IsAcceptedText text.now top.now clock.now (design_of a.flat)) }
     ensures lawful { IfOk result (λ a. IsLawful a.flat) }

@@ -15,7 +15,7 @@ use crate::error::AcceptError;
 use crate::source::{Item, Port, Source};
 use std::alloc::{AllocError, Global};
 use vs_flat::{List, Text};
-use vs_lexer::{Token, TokenKind, longest_law};
+use vs_lexer::{Token, TokenKind};
 
 /// What a module begins with.
 const HEADER: [TokenKind; 3] = [
@@ -77,16 +77,13 @@ fn direction_of(tokens: &[Token]) -> Option<bool>
     }
 }
 
-/// The name that an identifier is.
+/// The bytes of a token.
 fn name_of(alloc: Global, text: &[u8], token: &Token) -> Result<Text, AllocError>
-    requires stands { StandsIn text.now token.now }
-    requires identifier { token.now.kind ≡ kind.Identifier }
+    requires { StandsIn text.now token.now }
     ensures { IfOk result (λ name. name ≡ token_bytes text.now token.now) }
 {
-    longest_law();
     let bytes = &text[token.start as usize..token.end as usize];
-    let name = std::str::from_utf8(bytes).unwrap();
-    Ok(Text::of(String::from_str(alloc, name)?))
+    Ok(Text::of(bytes.to_vec(alloc)?))
 }
 
 /// The ports up to the closing bracket.

@@ -37,11 +37,11 @@ pub(crate) struct Wiring {
 }
 
 /// Whether a port has this name.
-fn has_name(mut ports: &[Port], name: &str) -> bool
+fn has_name(mut ports: &[Port], name: &[u8]) -> bool
     ensures { result ≡ is_one_of (map (λ (p : Port). p.name) ports.entry.now) name.now }
 {
     while let [port, rest @ ..] = ports {
-        if name == port.name.as_str() {
+        if name == port.name.as_slice() {
             return true;
         }
         ports = rest;
@@ -54,7 +54,7 @@ fn have_different_names(mut ports: &[Port]) -> bool
     ensures { result ≡ are_different (map (λ (p : Port). p.name) ports.entry.now) }
 {
     while let [port, rest @ ..] = ports {
-        if has_name(rest, port.name.as_str()) {
+        if has_name(rest, port.name.as_slice()) {
             return false;
         }
         ports = rest;
@@ -63,14 +63,14 @@ fn have_different_names(mut ports: &[Port]) -> bool
 }
 
 /// Whether the port has this direction and name.
-fn is_port(port: &Port, input: bool, name: &str) -> bool
+fn is_port(port: &Port, input: bool, name: &[u8]) -> bool
     ensures { result ≡ spec.is_port input name.now port.now }
 {
-    port.input == input && port.name.as_str() == name
+    port.input == input && port.name.as_slice() == name
 }
 
 /// The number of the port with this direction and name.
-fn port_number(mut ports: &[Port], input: bool, name: &str) -> Option<u32>
+fn port_number(mut ports: &[Port], input: bool, name: &[u8]) -> Option<u32>
     requires { length ports.now ≤ MAX_BITS }
     ensures { result ≡ spec.port_number ports.entry.now input name.now }
 {
@@ -90,9 +90,9 @@ fn gate_of(ports: &[Port], item: &Item) -> Option<Gate>
     requires { length ports.now ≤ MAX_BITS }
     ensures { MatchOption result (is_declared_item ports.now item.now ≡ false) (λ gate. (is_declared_item ports.now item.now ≡ true) × (gate ≡ spec.gate_of ports.now item.now)) }
 {
-    let target = port_number(ports, false, item.target.as_str())?;
-    let left = port_number(ports, true, item.left.as_str())?;
-    let right = port_number(ports, true, item.right.as_str())?;
+    let target = port_number(ports, false, item.target.as_slice())?;
+    let left = port_number(ports, true, item.left.as_slice())?;
+    let right = port_number(ports, true, item.right.as_slice())?;
     Some(Gate {
         target,
         left,
@@ -161,15 +161,15 @@ fn is_read(mut gates: &[Gate], number: u32) -> bool
 pub(crate) fn wire(
     alloc: Global,
     source: &Source,
-    top: &str,
-    clock: &str,
+    top: &[u8],
+    clock: &[u8],
 ) -> Result<Wiring, AcceptError>
     ensures wired { IfOk result (λ w. spec.IsWired source.now top.now clock.now w.gates.items w.clock) }
     ensures refused { result ≡ Err Refused → ¬ (spec.IsAcceptedSource source.now top.now clock.now) }
 {
     let ports = source.ports.as_slice();
     let items = source.items.as_slice();
-    if source.name.as_str() != top {
+    if source.name.as_slice() != top {
         return Err(AcceptError::Refused);
     }
     if ports.len() > MAX_BITS {

@@ -127,7 +127,7 @@ fn push_scope_line(text: &mut Vec<u8>, scope: &Scope) -> Result<(), AllocError>
 {
     text.extend_from_slice(b"$scope ")?;
     text.extend_from_slice(scope_kind(scope.instance))?;
-    text.extend_from_slice(scope.name.as_str().as_bytes())?;
+    text.extend_from_slice(scope.name.as_slice())?;
     text.extend_from_slice(b" $end\n")?;
     Ok(())
 }
@@ -166,7 +166,7 @@ fn push_variable(text: &mut Vec<u8>, number: u32, signal: &Signal) -> Result<(),
     ensures { OnOk result (text.new.items ≡ text.old.items ++ variable_line (signal_of number signal.now)) }
 {
     text.extend_from_slice(variable_start(number, signal).as_slice())?;
-    text.extend_from_slice(signal.name.as_str().as_bytes())?;
+    text.extend_from_slice(signal.name.as_slice())?;
     push_range(text, signal.range)?;
     text.extend_from_slice(b" $end\n")?;
     Ok(())

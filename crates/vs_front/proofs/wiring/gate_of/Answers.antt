@@ -43,22 +43,22 @@ none_matches (Some x) P Q e h = cc
 
 pub returns-in_err-target : goal.returns-in_err-target
 returns-in_err-target c =
-    let f = ap (λ n. port_number c.args.ports.now false n) (sym c.as_str.ensures) in
+    let f = ap (λ n. port_number c.args.ports.now false n) (sym c.as_slice.ensures) in
     none_matches _ _ _ c.from_residual.ensures (no_target c.args.ports.now c.args.item.now (f ∙ sym c.port_number.ensures ∙ c.in_err-target.was))
 
 pub returns-in_err-left : goal.returns-in_err-left
 returns-in_err-left c =
-    let f = ap (λ n. port_number c.args.ports.now true n) (sym c.as_str-2.ensures) in
+    let f = ap (λ n. port_number c.args.ports.now true n) (sym c.as_slice-2.ensures) in
     none_matches _ _ _ c.from_residual-in_err-left.ensures (no_left c.args.ports.now c.args.item.now (f ∙ sym c.port_number-2.ensures ∙ c.in_err-left.was))
 
 pub returns-in_err-right : goal.returns-in_err-right
 returns-in_err-right c =
-    let f = ap (λ n. port_number c.args.ports.now true n) (sym c.as_str-3.ensures) in
+    let f = ap (λ n. port_number c.args.ports.now true n) (sym c.as_slice-3.ensures) in
     none_matches _ _ _ c.from_residual-in_err-right.ensures (no_right c.args.ports.now c.args.item.now (f ∙ sym c.port_number-3.ensures ∙ c.in_err-right.was))
 
 pub returns : goal.returns
 returns c =
-    let t = ap (λ n. port_number c.args.ports.now false n) (sym c.as_str.ensures) ∙ sym c.in_ok-target.ensures in
-    let l = ap (λ n. port_number c.args.ports.now true n) (sym c.as_str-2.ensures) ∙ sym c.in_ok-left.ensures in
-    let r = ap (λ n. port_number c.args.ports.now true n) (sym c.as_str-3.ensures) ∙ sym c.in_ok-right.ensures in
+    let t = ap (λ n. port_number c.args.ports.now false n) (sym c.as_slice.ensures) ∙ sym c.in_ok-target.ensures in
+    let l = ap (λ n. port_number c.args.ports.now true n) (sym c.as_slice-2.ensures) ∙ sym c.in_ok-left.ensures in
+    let r = ap (λ n. port_number c.args.ports.now true n) (sym c.as_slice-3.ensures) ∙ sym c.in_ok-right.ensures in
     (all_there c.args.ports.now c.args.item.now _ _ _ t l r, sym (same_gate c.args.ports.now c.args.item.now _ _ _ t l r))

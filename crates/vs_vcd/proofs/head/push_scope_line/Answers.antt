@@ -4,4 +4,4 @@ use Rattle.vs_vcd.proofs.head.push_scope_line.Goals as goal
 
 pub returns-clause-text : goal.returns-clause-text
 returns-clause-text c =
-    simp (scope_line-is, c.in_ok-extend_from_slice-4.ensures.items, c.in_ok-extend_from_slice-3.ensures.items, c.in_ok-extend_from_slice-2.ensures.items, c.in_ok-extend_from_slice.ensures.items, c.scope_kind.ensures, c.as_bytes.ensures.value, c.as_str.ensures, append_assoc)
+    simp (scope_line-is, c.in_ok-extend_from_slice-4.ensures.items, c.in_ok-extend_from_slice-3.ensures.items, c.in_ok-extend_from_slice-2.ensures.items, c.in_ok-extend_from_slice.ensures.items, c.scope_kind.ensures, c.as_slice.ensures, append_assoc)
