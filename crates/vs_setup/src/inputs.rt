@@ -46,9 +46,9 @@ fn input_of(alloc: Global, signal: &Signal, resets: &[u32]) -> Result<Input, All
     requires { range_or_one signal.now.range ≤ 64 }
     ensures { IfOk result (λ input. (n : ℕ) → input ≡ input_of resets.now (signal_of n signal.now)) }
 {
-    let name = String::from_str(alloc, signal.name.as_str())?;
+    let name = signal.name.as_slice().to_vec(alloc)?;
     Ok(Input {
-        name: Name::new(name),
+        name: Name::of(name),
         length: length_of(signal.range),
         reset: contains(resets, signal.first_bit),
     })

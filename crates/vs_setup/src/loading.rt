@@ -31,8 +31,8 @@ pub struct Loaded<W: Word> {
 pub fn load<W: Lanes>(
     alloc: Global,
     text: &[u8],
-    top: &str,
-    clock: &str,
+    top: &[u8],
+    clock: &[u8],
 ) -> Result<Loaded<W>, AcceptError>
     requires { length text.now ≤ 4194304 }
     ensures loaded { IfOk result (λ l. IsLoaded W.lane W.LANES text.now top.now clock.now l.accepted l.inputs.items l.engine) }

@@ -97,7 +97,7 @@ fn load_text<W: Lanes>(alloc: Global, job: &Job, text: &[u8]) -> Result<Loaded<W
     ensures errors { IfErr result IsLoadError }
     ensures refused { result ≡ Err SetupError.NotAccepted → (d : Design) → ¬ (IsAcceptedText text.now job.now.top job.now.clock d) }
 {
-    match load(alloc, text, job.top.as_str(), job.clock.as_str()) {
+    match load(alloc, text, job.top.as_bytes(), job.clock.as_bytes()) {
         Ok(loaded) => Ok(loaded),
         Err(AcceptError::Refused) => Err(SetupError::NotAccepted),
         Err(AcceptError::Memory) => Err(SetupError::Memory),
