@@ -19,11 +19,11 @@ const X: Bit4 = Bit4::X;
 
 const Z: Bit4 = Bit4::Z;
 
-fn port(alloc: Global, name: &str, input: bool, first_bit: u32) -> Result<Signal, AllocError>
+fn port(alloc: Global, name: &[u8], input: bool, first_bit: u32) -> Result<Signal, AllocError>
     ensures { IfOk result (λ s. s ≡ net name.now input first_bit) }
 {
     Ok(Signal {
-        name: Text::of(String::from_str(alloc, name)?),
+        name: Text::of(name.to_vec(alloc)?),
         scope: 0,
         net: true,
         input,
@@ -39,14 +39,14 @@ fn ports(alloc: Global) -> Result<Flat, AllocError>
 {
     let mut flat = Flat::new(alloc);
     flat.add_scope(Scope {
-        name: Text::of(String::from_str(alloc, "top")?),
+        name: Text::of(b"top".to_vec(alloc)?),
         parent: None,
         instance: true,
     })?;
-    flat.add_signal(port(alloc, "clk", true, 0)?)?;
-    flat.add_signal(port(alloc, "a", true, 1)?)?;
-    flat.add_signal(port(alloc, "b", true, 2)?)?;
-    flat.add_signal(port(alloc, "y", false, 3)?)?;
+    flat.add_signal(port(alloc, b"clk", true, 0)?)?;
+    flat.add_signal(port(alloc, b"a", true, 1)?)?;
+    flat.add_signal(port(alloc, b"b", true, 2)?)?;
+    flat.add_signal(port(alloc, b"y", false, 3)?)?;
     Ok(flat)
 }
 
@@ -131,12 +131,12 @@ fn vector(alloc: Global) -> Result<Flat, AllocError>
 {
     let mut flat = Flat::new(alloc);
     flat.add_scope(Scope {
-        name: Text::of(String::from_str(alloc, "top")?),
+        name: Text::of(b"top".to_vec(alloc)?),
         parent: None,
         instance: true,
     })?;
     flat.add_signal(Signal {
-        name: Text::of(String::from_str(alloc, "v")?),
+        name: Text::of(b"v".to_vec(alloc)?),
         scope: 0,
         net: false,
         input: false,
@@ -183,12 +183,12 @@ fn nets(alloc: Global, count: u32) -> Result<Flat, AllocError>
 {
     let mut flat = Flat::new(alloc);
     flat.add_scope(Scope {
-        name: Text::of(String::from_str(alloc, "top")?),
+        name: Text::of(b"top".to_vec(alloc)?),
         parent: None,
         instance: true,
     })?;
     for n in 0..count {
-        flat.add_signal(port(alloc, "s", false, n)?)?;
+        flat.add_signal(port(alloc, b"s", false, n)?)?;
     }
     Ok(flat)
 }

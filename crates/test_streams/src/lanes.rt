@@ -35,12 +35,12 @@ fn inputs(alloc: Global) -> Result<[Input; 2], AllocError>
 {
     Ok([
         Input {
-            name: Name::new(text(alloc, "a")?),
+            name: Name::of(b"a".to_vec(alloc)?),
             length: 1,
             reset: true,
         },
         Input {
-            name: Name::new(text(alloc, "b")?),
+            name: Name::of(b"b".to_vec(alloc)?),
             length: 2,
             reset: false,
         },

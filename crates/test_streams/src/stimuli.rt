@@ -40,12 +40,12 @@ fn read(
     desk.add_file(text(alloc, "s")?, bytes)?;
     let inputs = [
         Input {
-            name: Name::new(text(alloc, "a")?),
+            name: Name::of(b"a".to_vec(alloc)?),
             length: 1,
             reset,
         },
         Input {
-            name: Name::new(text(alloc, "b")?),
+            name: Name::of(b"b".to_vec(alloc)?),
             length: 2,
             reset: false,
         },

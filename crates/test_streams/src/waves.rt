@@ -33,7 +33,7 @@ fn loaded(alloc: Global) -> Result<Loaded<Words<1>>, AcceptError>
     ensures { IfOk result (λ l. length l.engine.program.signals ≡ length (design_of l.accepted.flat).signals) }
 {
     let text = b"module top(input clk, input a, input b, output y); assign y = a & b; endmodule";
-    load(alloc, text, "top", "clk")
+    load(alloc, text, b"top", b"clk")
 }
 
 /// A pair with these bits in its first two lanes.

@@ -10,7 +10,7 @@ fn size_of(alloc: Global, text: &[u8], top: &str) -> Result<Option<u64>, AcceptE
     if text.len() > MAX_BYTES {
         return Ok(None);
     }
-    match accept(alloc, text, top, "clk") {
+    match accept(alloc, text, top.as_bytes(), b"clk") {
         Ok(accepted) => Ok(Some(accepted.size())),
         Err(AcceptError::Refused) => Ok(None),
         Err(AcceptError::Memory) => Err(AcceptError::Memory),

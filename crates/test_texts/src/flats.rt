@@ -7,11 +7,11 @@ use std::alloc::{AllocError, Global};
 use std::test::Fail;
 use vs_flat::{BinaryOp, Flat, Kind, List, Node, Port, Process, Scope, Signal, Statement, Text};
 
-fn port(alloc: Global, name: &str, input: bool, first_bit: u32) -> Result<Signal, AllocError>
+fn port(alloc: Global, name: &[u8], input: bool, first_bit: u32) -> Result<Signal, AllocError>
     ensures { IfOk result (λ s. s ≡ net name.now input first_bit) }
 {
     Ok(Signal {
-        name: Text::of(String::from_str(alloc, name)?),
+        name: Text::of(name.to_vec(alloc)?),
         scope: 0,
         net: true,
         input,
@@ -27,14 +27,14 @@ fn ports(alloc: Global) -> Result<Flat, AllocError>
 {
     let mut flat = Flat::new(alloc);
     flat.add_scope(Scope {
-        name: Text::of(String::from_str(alloc, "top")?),
+        name: Text::of(b"top".to_vec(alloc)?),
         parent: None,
         instance: true,
     })?;
-    flat.add_signal(port(alloc, "clk", true, 0)?)?;
-    flat.add_signal(port(alloc, "a", true, 1)?)?;
-    flat.add_signal(port(alloc, "b", true, 2)?)?;
-    flat.add_signal(port(alloc, "y", false, 3)?)?;
+    flat.add_signal(port(alloc, b"clk", true, 0)?)?;
+    flat.add_signal(port(alloc, b"a", true, 1)?)?;
+    flat.add_signal(port(alloc, b"b", true, 2)?)?;
+    flat.add_signal(port(alloc, b"y", false, 3)?)?;
     Ok(flat)
 }
 
@@ -72,8 +72,8 @@ fn reads_back(rt: HostRuntime) -> Result<(), Fail> {
     assert_eq!(rt; flat.signal_count(), 4);
     assert_eq!(rt; flat.process_count(), 1);
     assert_eq!(rt; flat.top_inputs(), [0, 1, 2].as_slice());
-    assert_eq!(rt; flat.scope(0).name.as_str(), "top");
-    assert_eq!(rt; flat.signal(3).name.as_str(), "y");
+    assert_eq!(rt; flat.scope(0).name.as_slice(), b"top".as_slice());
+    assert_eq!(rt; flat.signal(3).name.as_slice(), b"y".as_slice());
     assert_eq!(rt; flat.signal(3).first_bit, 3);
     assert_eq!(rt; flat.process(0).at, 51);
     assert_eq!(rt; flat.expr_at(3), 62);
@@ -115,8 +115,8 @@ fn gives_back(rt: HostRuntime) -> Result<(), Fail> {
     let list = List::of([3, 4].to_vec(rt.alloc())?);
     assert_eq!(rt; (list.len(), list.is_empty(), *list.get(1)), (2, false, 4));
     assert_eq!(rt; list.into_vec().as_slice(), [3, 4].as_slice());
-    let text = Text::of(String::from_str(rt.alloc(), "clk")?);
+    let text = Text::of(b"clk".to_vec(rt.alloc())?);
     assert_eq!(rt; (text.len(), text.is_empty()), (3, false));
-    assert_eq!(rt; text.into_string().as_str(), "clk");
+    assert_eq!(rt; text.into_vec().as_slice(), b"clk".as_slice());
     Ok(())
 }
