@@ -3,3 +3,4 @@ pub mod Putting
 pub mod Failing
 pub mod Held
 pub mod Tells
+pub mod Attaching

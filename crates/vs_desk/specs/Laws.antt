@@ -1,6 +1,8 @@
--- Bytes put or taken in parts are put or taken as one.
-use Rattle.std.specs.Prelude.{◌≡◌, ℕ, ◌+◌, List, [], ◌++◌}
-use Rattle.vs_desk.specs.Desk.{Register, Contents, with_put, with_taken}
+-- Bytes put or taken in parts are put or taken as one, and places attached one behind the other are attached each by itself.
+use Rattle.std.specs.Prelude.{◌≡◌, ◌⊎◌, ℕ, ◌+◌, ◌<◌, ◌≤◌, List, [], ◌∷◌, ◌++◌, length, slice_index_or, Some}
+use Rattle.vs_desk.specs.declared.desk.Way.{Way}
+use Rattle.vs_desk.specs.Desk.{Register, Contents, with_place, with_put, with_taken}
+use Rattle.vs_desk.specs.Places.{with_places}
 
 abbrev pub PutsNothing : Type 0
 PutsNothing = (r : Register) (c : Contents) (place : ℕ) → with_put r c place [] ≡ c
@@ -14,3 +16,29 @@ TakesNothing = (c : Contents) (place : ℕ) → with_taken c place 0 ≡ c
 
 abbrev pub TakesInParts : Type 0
 TakesInParts = (c : Contents) (place m n : ℕ) → with_taken (with_taken c place m) place n ≡ with_taken c place (m + n)
+
+-- places before the first one, and behind the last, are attached as they were
+abbrev pub OtherPlacesStay : Type 0
+OtherPlacesStay = (r : Register) (first : ℕ) (way : Way) (paths : List (List ℕ)) (p : ℕ)
+    → (p < first) ⊎ (first + length paths ≤ p) → (with_places r first way paths).attached p ≡ r.attached p
+
+-- each place is attached to its own path
+abbrev pub EachPlaceIsAttached : Type 0
+EachPlaceIsAttached = (r : Register) (first : ℕ) (way : Way) (paths : List (List ℕ)) (i : ℕ)
+    → i < length paths → (with_places r first way paths).attached (first + i) ≡ Some (record { way = way; path = slice_index_or paths i [] })
+
+-- one more path is attached at the next place
+abbrev pub NextPlaceIsAttached : Type 0
+NextPlaceIsAttached = (r : Register) (first : ℕ) (way : Way) (paths : List (List ℕ)) (path : List ℕ)
+    → with_places r first way (paths ++ path ∷ []) ≡ with_place (with_places r first way paths) (first + length paths) way path
+
+-- no call failed between the two: they tell the same of failed calls
+pub record IsQuiet (old new : Register) : Type 0 where
+  pub faults : new.faults ≡ old.faults
+  pub losses : new.losses ≡ old.losses
+  pub failed : new.failed ≡ old.failed
+  pub asked : new.asked ≡ old.asked
+
+-- attaching places tells of no failed call
+abbrev pub NoCallFailed : Type 0
+NoCallFailed = (r : Register) (first : ℕ) (way : Way) (paths : List (List ℕ)) → IsQuiet r (with_places r first way paths)

@@ -7,3 +7,4 @@ pub mod Files
 pub mod MemoryDesk
 pub mod Places
 pub mod Laws
+pub mod Taking

@@ -1,5 +1,5 @@
-// Laws of what is put and taken.
-ghost use Rattle.vs_desk.specs.Laws.{PutsNothing, PutsInParts, TakesNothing, TakesInParts};
+// Laws of what is put and taken, and of places that are attached.
+ghost use Rattle.vs_desk.specs.Laws.{PutsNothing, PutsInParts, TakesNothing, TakesInParts, OtherPlacesStay, EachPlaceIsAttached, NextPlaceIsAttached, NoCallFailed};
 
 /// Putting no bytes changes nothing, and bytes put at a place in two parts are put as one.
 pub fn put_law()
@@ -11,4 +11,13 @@ pub fn put_law()
 pub fn take_law()
     ensures nothing { TakesNothing }
     ensures parts { TakesInParts }
+{}
+
+/// Of places that are attached one behind the other each is attached to its own path, one more path is attached at the next place, and
+/// nothing else of a register changes.
+pub fn attach_law()
+    ensures others { OtherPlacesStay }
+    ensures each { EachPlaceIsAttached }
+    ensures next { NextPlaceIsAttached }
+    ensures quiet { NoCallFailed }
 {}

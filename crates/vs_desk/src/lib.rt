@@ -9,10 +9,12 @@ mod host;
 mod laws;
 mod memory;
 mod place;
+mod places;
 mod tape;
 mod tapes;
 
 pub use desk::{Desk, Failed, Way, put_all};
 pub use host::HostDesk;
-pub use laws::{put_law, take_law};
+pub use laws::{attach_law, put_law, take_law};
 pub use memory::MemoryDesk;
+pub use places::{DESIGN_PLACE, FIRST_STIMULUS, FIRST_WAVEFORM, MOST_LANES};
