@@ -1,6 +1,7 @@
 -- What is known of a stimulus that is being read.
-use Rattle.std.specs.Prelude.{◌≡◌, ℕ, ◌+◌, Bool, true, false, List, [], ◌∷◌, ◌++◌, length, Some, None}
+use Rattle.std.specs.Prelude.{◌≡◌, ℕ, Bool, true, false, List, [], ◌∷◌, ◌++◌, length, Some, None}
 use Rattle.vs_desk.specs.Desk.{Contents}
+use Rattle.vs_desk.specs.Places.{stimulus_place}
 use Rattle.vs_four.specs.declared.Bit4.{Bit4}
 use Rattle.vs_stim.specs.declared.input.Column.{Column}
 use Rattle.vs_stim.specs.Lines.{Line, lines, all_lines, content}
@@ -20,11 +21,11 @@ pub record Known : Type 0 where
 
 -- the place of a lane's stimulus
 abbrev pub place_of : ℕ → ℕ
-place_of lane = 1000 + lane
+place_of lane = stimulus_place lane
 
 -- the text that is left: the pending bytes, and what is left on a desk with these contents
 abbrev pub text_left : Known → Contents → List ℕ
-text_left k contents = k.pending ++ contents.left (place_of k.lane)
+text_left k contents = k.pending ++ contents.left (stimulus_place k.lane)
 
 -- Lines from here on tell what is read next: one that isn't skipped has its LF, or a byte is past a limit.
 abbrev pub lines_tell : Place → List Line → Bool

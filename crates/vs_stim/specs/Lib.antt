@@ -5,7 +5,6 @@ pub mod Vectors
 pub mod Reading
 pub mod Row
 pub mod Heading
-pub mod Desk
 pub mod Source
 pub mod Known
 pub mod Stimulus

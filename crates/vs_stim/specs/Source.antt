@@ -118,8 +118,8 @@ IsReadError number Memory = ⊥
 -- the numbers are in range
 pub record IsSource (s : Source) : Type 0 where
   pub number : s.number ≤ s.start + 1
-  pub line : s.length ≤ 65536
-  pub bytes : s.start + s.length ≤ 4294967296
+  pub line : s.length ≤ limits.line
+  pub bytes : s.start + s.length ≤ limits.bytes
 
 -- what lines behind the header give from here on, where this many vectors stand before them
 abbrev pub vectors_from : List Column → ℕ → Open → Reading

@@ -1,9 +1,11 @@
 -- What is kept of a stimulus between calls.
 use Rattle.std.specs.Prelude.{◌≡◌, ◌<◌, ◌≤◌, true, IsTrue}
+use Rattle.vs_desk.specs.Places.{stimulus_place, waveform_place}
+use Rattle.vs_stim.specs.Reading.{limits}
 use Rattle.vs_stim.specs.declared.stimulus.Stimulus.TheInside.{Inside}
 use Rattle.vs_stim.specs.Row.{IsRow, each_input}
 use Rattle.vs_stim.specs.Source.{IsSource}
-use Rattle.vs_stim.specs.Known.{Known, place_of}
+use Rattle.vs_stim.specs.Known.{Known}
 
 abbrev pub known : Inside → Known
 known s = record {
@@ -18,9 +20,9 @@ known s = record {
 
 pub record IsStimulus (s : Inside) : Type 0 where
   pub source : IsSource s.source
-  pub place : s.source.place ≡ place_of s.lane
-  pub lane : s.lane < 1000
+  pub place : s.source.place ≡ stimulus_place s.lane
+  pub lane : stimulus_place s.lane < waveform_place 0
   pub row : IsRow s.row
   pub each : IsTrue (each_input s.row)
-  pub count : s.count ≤ 16777216
+  pub count : s.count ≤ limits.vectors
   pub begins : s.live ≡ true → s.source.length ≡ 0

@@ -3,7 +3,7 @@
 ghost use Rattle.std.specs.Prelude.{◌≡◌, ◌≢◌, ◌+◌, ◌<◌, [], ◌∷◌, ◌++◌, drop, length, IsTrue, IfOk, OnOk, OnErr, IfNone, IfSome};
 ghost use Rattle.vs_desk.specs.Desk.{IsAttached, Fails};
 ghost use Rattle.vs_desk.specs.declared.desk.Way.TheVariants.{Read};
-ghost use Rattle.vs_stim.specs.Desk.{OthersKept};
+ghost use Rattle.vs_desk.specs.Taking.{OnlyTaken};
 
 use std::alloc::{AllocError, Global};
 use std::marker::Model;
@@ -71,7 +71,7 @@ impl Block {
         ensures none { OnErr result (self.new ≡ []) }
         ensures ahead { IsTrue D.tells → self.new ++ (D.contents desk.new).left place ≡ (D.contents desk.old).left place }
         ensures end { IsTrue D.tells → OnOk result (self.new ≡ [] → (D.contents desk.old).left place ≡ []) }
-        ensures others { IsTrue D.tells → OthersKept place (D.contents desk.old) (D.contents desk.new) }
+        ensures others { IsTrue D.tells → OnlyTaken place (D.contents desk.old) (D.contents desk.new) }
     {
         self.next = 0;
         self.end = 0;
@@ -91,7 +91,7 @@ impl Block {
         ensures none_before { IfOk result (λ byte. IfNone byte (self.old ≡ [])) }
         ensures end { IsTrue D.tells → IfOk result (λ byte. IfNone byte ((D.contents desk.new).left place ≡ [])) }
         ensures some { IfOk result (λ byte. IfSome byte (λ b. self.new ≡ b ∷ drop 1 self.new)) }
-        ensures others { IsTrue D.tells → OthersKept place (D.contents desk.old) (D.contents desk.new) }
+        ensures others { IsTrue D.tells → OnlyTaken place (D.contents desk.old) (D.contents desk.new) }
         ensures frugal { self.old ≢ [] → (desk.new ≡ desk.old) × (self.new ≡ self.old) }
     {
         if let Some(byte) = self.first() {

@@ -1,6 +1,11 @@
 //! Why a stimulus is refused.
 
+ghost use Rattle.std.specs.Prelude.{◌≡◌};
+ghost use Rattle.vs_stim.specs.declared.error.StimError.TheVariants.{ReadFault, Memory};
+
+use std::alloc::AllocError;
 use thiserror::Error;
+use vs_desk::Failed;
 
 /// Why a stimulus gives no further vector. Lines count from 1, skipped ones too.
 #[derive(Clone, Copy, PartialEq, Eq, Debug, Error)]
@@ -35,4 +40,20 @@ pub enum StimError {
     /// Memory ran out.
     #[error("out of memory")]
     Memory,
+}
+
+impl From<Failed> for StimError {
+    ghost from_gives = { λ _ e. e ≡ ReadFault };
+
+    fn from(_failed: Failed) -> StimError {
+        StimError::ReadFault
+    }
+}
+
+impl From<AllocError> for StimError {
+    ghost from_gives = { λ _ e. e ≡ Memory };
+
+    fn from(_error: AllocError) -> StimError {
+        StimError::Memory
+    }
 }

@@ -3,7 +3,7 @@
 ghost use Rattle.std.specs.Prelude.{◌≡◌, ◌≢◌, ◌<◌, All, [], length, Ok, Err, Some, None, true, false, IsTrue, IfOk, IfErr, OnOk};
 ghost use Rattle.vs_desk.specs.Desk.{IsAttached, Fails};
 ghost use Rattle.vs_desk.specs.declared.desk.Way.TheVariants.{Read};
-ghost use Rattle.vs_stim.specs.Desk.{OthersKept};
+ghost use Rattle.vs_desk.specs.Taking.{OnlyTaken, TakesAt};
 ghost use Rattle.vs_stim.specs.Header.{IsInput, lengths, each_once};
 ghost use Rattle.vs_stim.specs.Reading.{header_line, refused};
 ghost use Rattle.vs_stim.specs.Row.{as_said, IsColumn};
@@ -17,7 +17,7 @@ use crate::heading::Heading;
 use crate::row::LineKind;
 use crate::source::{Piece, Source};
 use crate::{Column, Input, StimError};
-use std::alloc::{AllocError, Global};
+use std::alloc::Global;
 use vs_desk::Desk;
 
 /// Reads a line into the heading, and answers whether the text ends with it.
@@ -41,10 +41,7 @@ fn feed_heading<D: Desk>(
 
     ensures refused { IsTrue D.tells → IfErr result (λ e. e ≢ StimError.ReadFault → e ≢ StimError.Memory → line_refusal (open_at source.old (D.contents desk.old)) ≡ Some e) }
     ensures errors { IfErr result IsHeaderError }
-    ensures register { IfErr result (λ e. e ≢ StimError.ReadFault → D.register desk.new ≡ D.register desk.old) }
-    ensures same { OnOk result (D.register desk.new ≡ D.register desk.old) }
-    ensures failed { result ≡ Err StimError.ReadFault → Fails (D.register desk.old) (D.register desk.new) source.old.place (D.register desk.old).asked }
-    ensures others { IsTrue D.tells → OthersKept source.old.place (D.contents desk.old) (D.contents desk.new) }
+    ensures desk { TakesAt D.register D.tells D.contents source.old.place desk.old desk.new StimError.ReadFault result }
 
     ensures went { IsTrue D.tells → result ≡ Err StimError.ReadFault → GoesOn (open_at source.old (D.contents desk.old)) (open_at source.new (D.contents desk.new)) }
     ensures empty { result ≡ Err StimError.ReadFault → source.new.block ≡ [] }
@@ -52,11 +49,7 @@ fn feed_heading<D: Desk>(
 {
     'line: loop {
         match source.next_piece(desk)? {
-            Piece::Byte(byte) => {
-                if let Err(AllocError) = heading.feed(inputs, byte) {
-                    return Err(StimError::Memory);
-                }
-            }
+            Piece::Byte(byte) => heading.feed(inputs, byte)?,
             Piece::LineEnd => return Ok(false),
             Piece::TextEnd => return Ok(true),
         }
@@ -87,20 +80,14 @@ fn read_heading<D: Desk>(
 
     ensures refused { IsTrue D.tells → IfErr result (λ e. e ≢ StimError.ReadFault → e ≢ StimError.Memory → line_refusal (open_at source.old (D.contents desk.old)) ≡ Some e) }
     ensures errors { IfErr result IsHeaderError }
-    ensures register { IfErr result (λ e. e ≢ StimError.ReadFault → D.register desk.new ≡ D.register desk.old) }
-    ensures same { OnOk result (D.register desk.new ≡ D.register desk.old) }
-    ensures failed { result ≡ Err StimError.ReadFault → Fails (D.register desk.old) (D.register desk.new) source.old.place (D.register desk.old).asked }
-    ensures others { IsTrue D.tells → OthersKept source.old.place (D.contents desk.old) (D.contents desk.new) }
+    ensures desk { TakesAt D.register D.tells D.contents source.old.place desk.old desk.new StimError.ReadFault result }
 
     ensures went { IsTrue D.tells → result ≡ Err StimError.ReadFault → GoesOn (open_at source.old (D.contents desk.old)) (open_at source.new (D.contents desk.new)) }
     ensures empty { result ≡ Err StimError.ReadFault → source.new.block ≡ [] }
     ensures ends { IsTrue D.tells → IfOk result (λ line. line.1 ≡ false → PassesLf (open_at source.old (D.contents desk.old)) (open_at source.new (D.contents desk.new))) }
 {
     let last = feed_heading(source, heading, inputs, desk)?;
-    match heading.finish(inputs) {
-        Ok(kind) => Ok((kind, last)),
-        Err(AllocError) => Err(StimError::Memory),
-    }
+    Ok((heading.finish(inputs)?, last))
 }
 
 /// Reads lines up to the header, and answers its columns.
@@ -127,17 +114,11 @@ pub(crate) fn find_header<D: Desk>(
     ensures faulty { IsTrue D.tells → IfErr result (λ e. e ≢ StimError.ReadFault → e ≢ StimError.Memory → header_fault_from inputs.now (open_at source.old (D.contents desk.old)) ≡ Some e) }
 
     ensures errors { IfErr result IsHeaderError }
-    ensures register { IfErr result (λ e. e ≢ StimError.ReadFault → D.register desk.new ≡ D.register desk.old) }
-    ensures same { OnOk result (D.register desk.new ≡ D.register desk.old) }
-    ensures failed { result ≡ Err StimError.ReadFault → Fails (D.register desk.old) (D.register desk.new) source.old.place (D.register desk.old).asked }
-    ensures others { IsTrue D.tells → OthersKept source.old.place (D.contents desk.old) (D.contents desk.new) }
+    ensures desk { TakesAt D.register D.tells D.contents source.old.place desk.old desk.new StimError.ReadFault result }
     ensures needed { IsTrue D.tells → result ≡ Err StimError.ReadFault →
         let o = open_at source.old (D.contents desk.old) in IsUntold o.at o.rest ((D.contents desk.new).left source.old.place) }
 {
-    let mut heading = match Heading::new(alloc, inputs) {
-        Ok(heading) => heading,
-        Err(AllocError) => return Err(StimError::Memory),
-    };
+    let mut heading = Heading::new(alloc, inputs)?;
     'lines: loop {
         let (kind, last) = read_heading(source, &mut heading, inputs, desk)?;
         match kind {

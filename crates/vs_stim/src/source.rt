@@ -3,7 +3,7 @@
 use crate::StimError;
 use crate::block::Block;
 use std::alloc::{AllocError, Global};
-use vs_desk::{Desk, Failed};
+use vs_desk::Desk;
 
 /// The greatest number of bytes in a line before its LF.
 const LINE_BYTES: u64 = 65_536;
@@ -41,7 +41,8 @@ impl Source {
     ghost use Rattle.std.specs.Prelude.{◌≡◌, ◌≢◌, ◌≤◌, ◌<◌, ◌+◌, ◌-◌, ◌∷◌, [], drop, ℕ, List, length, Some, None, IsTrue, IfOk, OnOk, IfErr, OnErr, IfSome, IfNone, IsErrOf};
     ghost use Rattle.vs_desk.specs.Desk.{IsAttached, Fails};
     ghost use Rattle.vs_desk.specs.declared.desk.Way.TheVariants.{Read};
-    ghost use Rattle.vs_stim.specs.Desk.{OthersKept};
+    ghost use Rattle.vs_desk.specs.Taking.{OnlyTaken, TakesAt};
+    ghost use Rattle.vs_stim.specs.Reading.{limits};
     ghost use Rattle.vs_stim.specs.Lines.{lines};
     ghost use Rattle.vs_stim.specs.Source.{open_at, open_before, in_block, is_told, rest_of, line_refusal, Gives, GoesOn, ComesBy, Moves, IsReadError, IsSource};
 
@@ -73,7 +74,7 @@ impl Source {
         ensures errors { IfErr result (IsReadError self.old.number) }
         ensures refused { IfErr result (λ e. (b : ℕ) (rest : List ℕ) → b ≢ 10 → line_refusal (open_before self.old (b ∷ rest)) ≡ Some e) }
         ensures no_fault { result ≢ Err StimError.ReadFault }
-        ensures within { OnOk result ((self.old.length < 65536) × (self.old.start + self.old.length < 4294967296)) }
+        ensures within { OnOk result ((self.old.length < limits.line) × (self.old.start + self.old.length < limits.bytes)) }
     {
         if self.length == LINE_BYTES {
             return Err(StimError::LineTooLong { line: self.number });
@@ -100,7 +101,7 @@ impl Source {
         ensures source { IsSource self.new }
         ensures only { IfErr result (λ e. e ≡ StimError.StimulusTooLong) }
         ensures refused { IfErr result (λ e. (rest : List ℕ) → line_refusal (open_before self.old (10 ∷ rest)) ≡ Some e) }
-        ensures within { OnOk result (self.old.start + self.old.length < 4294967296) }
+        ensures within { OnOk result (self.old.start + self.old.length < limits.bytes) }
     {
         if self.start + self.length == TEXT_BYTES {
             return Err(StimError::StimulusTooLong);
@@ -135,13 +136,10 @@ impl Source {
         ensures some { IfOk result (λ byte. IfSome byte (λ b. self.new.block ≡ b ∷ drop 1 self.new.block)) }
         ensures none { IfOk result (λ byte. IfNone byte (self.new.block ≡ [])) }
         ensures none_before { IfOk result (λ byte. IfNone byte (self.old.block ≡ [])) }
-        ensures others { IsTrue D.tells → OthersKept self.old.place (D.contents desk.old) (D.contents desk.new) }
+        ensures others { IsTrue D.tells → OnlyTaken self.old.place (D.contents desk.old) (D.contents desk.new) }
         ensures frugal { self.old.block ≢ [] → (desk.new ≡ desk.old) × (self.new ≡ self.old) }
     {
-        match self.block.peek(desk, self.place) {
-            Ok(byte) => Ok(byte),
-            Err(Failed) => Err(StimError::ReadFault),
-        }
+        Ok(self.block.peek(desk, self.place)?)
     }
 
     /// Reads the next piece of the text.
@@ -155,10 +153,7 @@ impl Source {
 
         ensures refused { IsTrue D.tells → IfErr result (λ e. e ≢ StimError.ReadFault → line_refusal (open_at self.old (D.contents desk.old)) ≡ Some e) }
         ensures errors { IfErr result (IsReadError self.old.number) }
-        ensures register { IfErr result (λ e. e ≢ StimError.ReadFault → D.register desk.new ≡ D.register desk.old) }
-        ensures same { OnOk result (D.register desk.new ≡ D.register desk.old) }
-        ensures failed { result ≡ Err StimError.ReadFault → Fails (D.register desk.old) (D.register desk.new) self.old.place (D.register desk.old).asked }
-        ensures others { IsTrue D.tells → OthersKept self.old.place (D.contents desk.old) (D.contents desk.new) }
+        ensures desk { TakesAt D.register D.tells D.contents self.old.place desk.old desk.new StimError.ReadFault result }
         ensures frugal { IsTrue (is_told (in_block self.old)) → desk.new ≡ desk.old }
         ensures told { IsTrue (is_told (in_block self.old)) → IfOk result (λ piece. Gives piece (in_block self.old) (in_block self.new)) }
 
@@ -195,10 +190,7 @@ impl Source {
 
         ensures refused { IsTrue D.tells → IfErr result (λ e. e ≢ StimError.ReadFault → line_refusal (open_at self.old (D.contents desk.old)) ≡ Some e) }
         ensures errors { IfErr result (IsReadError self.old.number) }
-        ensures register { IfErr result (λ e. e ≢ StimError.ReadFault → D.register desk.new ≡ D.register desk.old) }
-        ensures same { OnOk result (D.register desk.new ≡ D.register desk.old) }
-        ensures failed { result ≡ Err StimError.ReadFault → Fails (D.register desk.old) (D.register desk.new) self.old.place (D.register desk.old).asked }
-        ensures others { IsTrue D.tells → OthersKept self.old.place (D.contents desk.old) (D.contents desk.new) }
+        ensures desk { TakesAt D.register D.tells D.contents self.old.place desk.old desk.new StimError.ReadFault result }
         ensures frugal { IsTrue (is_told (in_block self.old)) → desk.new ≡ desk.old }
         ensures told { IsTrue (is_told (in_block self.old)) → IfOk result (λ piece. Gives piece (in_block self.old) (in_block self.new)) }
 

@@ -3,11 +3,12 @@
 ghost use Rattle.std.specs.Prelude.{◌≡◌, ◌≢◌, ◌⊎◌, ◌+◌, ◌<◌, ◌≤◌, ◌↔◌, [], All, length, map, true, false, Some, None, Ok, Err, string_bytes, IsNone, IsTrue, IfOk, IfErr, OnOk};
 ghost use Rattle.vs_desk.specs.Desk.{IsAttached, Fails, with_place};
 ghost use Rattle.vs_desk.specs.declared.desk.Way.TheVariants.{Read};
-ghost use Rattle.vs_stim.specs.Desk.{OthersKept};
+ghost use Rattle.vs_desk.specs.Taking.{OnlyTaken, TakesAt};
+ghost use Rattle.vs_desk.specs.Places.{stimulus_place, waveform_place};
 ghost use Rattle.vs_stim.specs.Header.{IsInput, lengths};
 ghost use Rattle.vs_stim.specs.Row.{sizes};
 ghost use Rattle.vs_stim.specs.Reading.{first_place, reading, header_refusal, refused, whole, with_vector};
-ghost use Rattle.vs_stim.specs.Known.{remaining, pending_tells, text_left, place_of, IsUntold};
+ghost use Rattle.vs_stim.specs.Known.{remaining, pending_tells, text_left, IsUntold};
 ghost use Rattle.vs_stim.specs.Source.{IsSource, IsVectorError, IsHeaderError};
 
 use crate::header::find_header;
@@ -17,7 +18,7 @@ use crate::vectors::find_vector;
 use crate::{Input, StimError};
 use std::alloc::{AllocError, Global};
 use std::marker::Model;
-use vs_desk::{Desk, Failed, Way};
+use vs_desk::{Desk, FIRST_STIMULUS, Way};
 use vs_four::{Bit4, Bits};
 
 /// The stimulus of one lane: the vectors of a text at place 1000 + lane of a desk, one after the
@@ -43,9 +44,6 @@ impl Model for Stimulus {
     ghost invariant = { IsStimulus };
 }
 
-/// The place of lane 0's stimulus.
-const FIRST_PLACE: u32 = 1000;
-
 impl Stimulus {
     /// Attaches place 1000 + lane to the path, and reads the text's header there.
     ///
@@ -58,8 +56,8 @@ impl Stimulus {
         path: String,
         inputs: &[Input],
     ) -> Result<Stimulus, StimError>
-        requires lane { lane < 1000 }
-        requires free { IsNone ((D.register desk.old).attached (place_of lane)) }
+        requires lane { stimulus_place lane < waveform_place 0 }
+        requires free { IsNone ((D.register desk.old).attached (stimulus_place lane)) }
         requires inputs { All IsInput inputs.now }
 
         // Where the desk tells its bytes, the answer is what the definition reads first of the path's bytes.
@@ -77,28 +75,23 @@ impl Stimulus {
         ensures sizes { IfOk result (λ s. sizes s.vector ≡ lengths inputs.now) }
 
         // On the desk the place is attached and bytes are taken there, and a fault is a failed call.
-        ensures attached { OnOk result (D.register desk.new ≡ with_place (D.register desk.old) (place_of lane) Read (string_bytes path)) }
+        ensures attached { OnOk result (D.register desk.new ≡ with_place (D.register desk.old) (stimulus_place lane) Read (string_bytes path)) }
         ensures register { IfErr result (λ e. e ≢ StimError.ReadFault → e ≢ StimError.Memory →
-            D.register desk.new ≡ with_place (D.register desk.old) (place_of lane) Read (string_bytes path)) }
+            D.register desk.new ≡ with_place (D.register desk.old) (stimulus_place lane) Read (string_bytes path)) }
         ensures memory { result ≡ Err StimError.Memory → (D.register desk.new ≡ D.register desk.old)
-            ⊎ (D.register desk.new ≡ with_place (D.register desk.old) (place_of lane) Read (string_bytes path)) }
-        ensures fault { result ≡ Err StimError.ReadFault → Fails (D.register desk.old) (D.register desk.new) (place_of lane) (string_bytes path)
-            ⊎ Fails (with_place (D.register desk.old) (place_of lane) Read (string_bytes path)) (D.register desk.new) (place_of lane) (D.register desk.old).asked }
-        ensures others { IsTrue D.tells → OthersKept (place_of lane) (D.contents desk.old) (D.contents desk.new) }
+            ⊎ (D.register desk.new ≡ with_place (D.register desk.old) (stimulus_place lane) Read (string_bytes path)) }
+        ensures fault { result ≡ Err StimError.ReadFault → Fails (D.register desk.old) (D.register desk.new) (stimulus_place lane) (string_bytes path)
+            ⊎ Fails (with_place (D.register desk.old) (stimulus_place lane) Read (string_bytes path)) (D.register desk.new) (stimulus_place lane) (D.register desk.old).asked }
+        ensures others { IsTrue D.tells → OnlyTaken (stimulus_place lane) (D.contents desk.old) (D.contents desk.new) }
 
         // Nothing is taken where the bytes that were taken tell the answer: a take fails only behind bytes that don't have the LF
         // of a line that isn't skipped, nor a byte past a limit.
-        ensures needed { IsTrue D.tells → result ≡ Err StimError.ReadFault → Fails (D.register desk.old) (D.register desk.new) (place_of lane) (string_bytes path)
-            ⊎ IsUntold first_place ((D.contents desk.old).files (string_bytes path)) ((D.contents desk.new).left (place_of lane)) }
+        ensures needed { IsTrue D.tells → result ≡ Err StimError.ReadFault → Fails (D.register desk.old) (D.register desk.new) (stimulus_place lane) (string_bytes path)
+            ⊎ IsUntold first_place ((D.contents desk.old).files (string_bytes path)) ((D.contents desk.new).left (stimulus_place lane)) }
     {
-        let place = FIRST_PLACE + lane;
-        let (mut source, values) = match room(alloc, place, inputs) {
-            Ok(room) => room,
-            Err(AllocError) => return Err(StimError::Memory),
-        };
-        if let Err(Failed) = desk.attach(place, path, Way::Read) {
-            return Err(StimError::ReadFault);
-        }
+        let place = FIRST_STIMULUS + lane;
+        let (mut source, values) = room(alloc, place, inputs)?;
+        desk.attach(place, path, Way::Read)?;
         let columns = find_header(alloc, &mut source, inputs, desk)?;
         Ok(Stimulus {
             lane,
@@ -129,7 +122,7 @@ impl Stimulus {
     /// stimulus is no longer live.
     pub fn next<D: Desk>(&mut self, desk: &mut D) -> Result<bool, StimError>
         requires live { IsTrue self.old.live }
-        requires attached { IsAttached (D.register desk.old) (place_of self.old.lane) Read }
+        requires attached { IsAttached (D.register desk.old) (stimulus_place self.old.lane) Read }
 
         // Where the desk tells its bytes, the answer is what the definition reads next.
         ensures vector { IsTrue D.tells → result ≡ Ok true →
@@ -145,16 +138,13 @@ impl Stimulus {
         ensures sizes { sizes self.new.vector ≡ sizes self.old.vector }
 
         // On the desk only bytes at the place are taken, and a fault is a failed call there.
-        ensures same { OnOk result (D.register desk.new ≡ D.register desk.old) }
-        ensures register { IfErr result (λ e. e ≢ StimError.ReadFault → D.register desk.new ≡ D.register desk.old) }
-        ensures fault { result ≡ Err StimError.ReadFault → Fails (D.register desk.old) (D.register desk.new) (place_of self.old.lane) (D.register desk.old).asked }
-        ensures others { IsTrue D.tells → OthersKept (place_of self.old.lane) (D.contents desk.old) (D.contents desk.new) }
+        ensures desk { TakesAt D.register D.tells D.contents (stimulus_place self.old.lane) desk.old desk.new StimError.ReadFault result }
 
         // Nothing is taken where the bytes that were taken tell the answer: they have the LF of a line that isn't skipped, or a
         // byte past a limit. So none is taken where the pending bytes do, and a take fails only behind bytes that don't.
         ensures frugal { IsTrue (pending_tells self.old) → desk.new ≡ desk.old }
         ensures needed { IsTrue D.tells → result ≡ Err StimError.ReadFault →
-            IsUntold self.old.at (text_left self.old (D.contents desk.old)) ((D.contents desk.new).left (place_of self.old.lane)) }
+            IsUntold self.old.at (text_left self.old (D.contents desk.old)) ((D.contents desk.new).left (stimulus_place self.old.lane)) }
     {
         self.live = false;
         let found = find_vector(&mut self.source, &mut self.row, self.count, desk)?;

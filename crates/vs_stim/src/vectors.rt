@@ -3,7 +3,7 @@
 ghost use Rattle.std.specs.Prelude.{All, Some, None, ◌≡◌, ◌≢◌, ◌≤◌, ◌<◌, ◌+◌, [], length, true, false, IsTrue, IfOk, IfErr, OnOk};
 ghost use Rattle.vs_desk.specs.Desk.{IsAttached, Fails};
 ghost use Rattle.vs_desk.specs.declared.desk.Way.TheVariants.{Read};
-ghost use Rattle.vs_stim.specs.Desk.{OthersKept};
+ghost use Rattle.vs_desk.specs.Taking.{OnlyTaken, TakesAt};
 ghost use Rattle.vs_four.specs.Tables.{is_known};
 ghost use Rattle.vs_stim.specs.Vectors.{all_known, vector_known, resets_known};
 ghost use Rattle.vs_stim.specs.Reading.{vector_line, limits, not_taken, at_end, refused, whole, with_vector};
@@ -36,10 +36,7 @@ fn feed_row<D: Desk>(source: &mut Source, row: &mut Row, desk: &mut D) -> Result
 
     ensures refused { IsTrue D.tells → IfErr result (λ e. e ≢ StimError.ReadFault → line_refusal (open_at source.old (D.contents desk.old)) ≡ Some e) }
     ensures errors { IfErr result (IsReadError source.old.number) }
-    ensures register { IfErr result (λ e. e ≢ StimError.ReadFault → D.register desk.new ≡ D.register desk.old) }
-    ensures same { OnOk result (D.register desk.new ≡ D.register desk.old) }
-    ensures failed { result ≡ Err StimError.ReadFault → Fails (D.register desk.old) (D.register desk.new) source.old.place (D.register desk.old).asked }
-    ensures others { IsTrue D.tells → OthersKept source.old.place (D.contents desk.old) (D.contents desk.new) }
+    ensures desk { TakesAt D.register D.tells D.contents source.old.place desk.old desk.new StimError.ReadFault result }
     ensures frugal { IsTrue (is_told (in_block source.old)) → desk.new ≡ desk.old }
     ensures told { IsTrue (is_told (in_block source.old)) → IfOk result (λ last. Passes last (in_block source.old) (in_block source.new)) }
     ensures told_last { IsTrue (is_told (in_block source.old)) → IfOk result (λ last. last ≡ false) }
@@ -79,10 +76,7 @@ fn read_row<D: Desk>(
 
     ensures refused { IsTrue D.tells → IfErr result (λ e. e ≢ StimError.ReadFault → line_refusal (open_at source.old (D.contents desk.old)) ≡ Some e) }
     ensures errors { IfErr result (IsReadError source.old.number) }
-    ensures register { IfErr result (λ e. e ≢ StimError.ReadFault → D.register desk.new ≡ D.register desk.old) }
-    ensures same { OnOk result (D.register desk.new ≡ D.register desk.old) }
-    ensures failed { result ≡ Err StimError.ReadFault → Fails (D.register desk.old) (D.register desk.new) source.old.place (D.register desk.old).asked }
-    ensures others { IsTrue D.tells → OthersKept source.old.place (D.contents desk.old) (D.contents desk.new) }
+    ensures desk { TakesAt D.register D.tells D.contents source.old.place desk.old desk.new StimError.ReadFault result }
     ensures frugal { IsTrue (is_told (in_block source.old)) → desk.new ≡ desk.old }
     ensures told { IsTrue (is_told (in_block source.old)) → IfOk result (λ line. Passes line.1 (in_block source.old) (in_block source.new)) }
     ensures told_last { IsTrue (is_told (in_block source.old)) → IfOk result (λ line. line.1 ≡ false) }
@@ -190,14 +184,14 @@ pub(crate) fn find_vector<D: Desk>(
     requires begins { source.old.length ≡ 0 }
     requires row { IsRow row.old }
     requires each { IsTrue (each_input row.old) }
-    requires count { count ≤ 16777216 }
+    requires count { count ≤ limits.vectors }
     requires attached { IsAttached (D.register desk.old) source.old.place Read }
     ensures source { IsSource source.new }
     ensures row { IsRow row.new }
     ensures form { SameForm row.old row.new }
     ensures place { source.new.place ≡ source.old.place }
     ensures begins { OnOk result (source.new.length ≡ 0) }
-    ensures room { result ≡ Ok true → count < 16777216 }
+    ensures room { result ≡ Ok true → count < limits.vectors }
 
     ensures found { IsTrue D.tells → result ≡ Ok true → vectors_from row.old.columns.items count (open_at source.old (D.contents desk.old))
         ≡ with_vector row.new.values.items (vectors_from row.old.columns.items (count + 1) (open_at source.new (D.contents desk.new))) }
@@ -206,10 +200,7 @@ pub(crate) fn find_vector<D: Desk>(
     ensures refused { IsTrue D.tells → IfErr result (λ e. e ≢ StimError.ReadFault → vectors_from row.old.columns.items count (open_at source.old (D.contents desk.old)) ≡ refused e) }
 
     ensures errors { IfErr result IsVectorError }
-    ensures register { IfErr result (λ e. e ≢ StimError.ReadFault → D.register desk.new ≡ D.register desk.old) }
-    ensures same { OnOk result (D.register desk.new ≡ D.register desk.old) }
-    ensures failed { result ≡ Err StimError.ReadFault → Fails (D.register desk.old) (D.register desk.new) source.old.place (D.register desk.old).asked }
-    ensures others { IsTrue D.tells → OthersKept source.old.place (D.contents desk.old) (D.contents desk.new) }
+    ensures desk { TakesAt D.register D.tells D.contents source.old.place desk.old desk.new StimError.ReadFault result }
     ensures frugal { IsTrue (text_tells (in_block source.old)) → desk.new ≡ desk.old }
     ensures needed { IsTrue D.tells → result ≡ Err StimError.ReadFault →
         let o = open_at source.old (D.contents desk.old) in IsUntold o.at o.rest ((D.contents desk.new).left source.old.place) }

@@ -1,5 +1,6 @@
 use Rattle.std.proofs.Common.{◌≡◌, ◌-◌, IsTrue}
-use Rattle.vs_stim.specs.Desk.{OthersKept}
+use Rattle.vs_desk.specs.Taking.{OnlyTaken}
+use Rattle.vs_stim.specs.Reading.{limits}
 use Rattle.vs_stim.specs.Heading.{heading_with, IsHeading}
 use Rattle.vs_stim.specs.Source.{open_at, says, IsSource, SameLine, GoesOn}
 use Rattle.vs_stim.proofs.header.feed_heading.Given as goal
@@ -15,11 +16,11 @@ invariant-line g l =
       number : l.source.number ≡ l.initial.source.number;
       start : l.source.start ≡ l.initial.source.start;
       register : g.D.Desk.register l.desk ≡ g.D.Desk.register l.initial.desk;
-      others : IsTrue g.D.Desk.tells → OthersKept l.initial.source.place (g.D.Desk.contents l.initial.desk) (g.D.Desk.contents l.desk);
+      others : IsTrue g.D.Desk.tells → OnlyTaken l.initial.source.place (g.D.Desk.contents l.initial.desk) (g.D.Desk.contents l.desk);
       line : IsTrue g.D.Desk.tells → SameLine before now;
       goes : IsTrue g.D.Desk.tells → GoesOn before now;
       says : IsTrue g.D.Desk.tells → heading_with l.inputs l.heading (says now) ≡ heading_with l.inputs l.initial.heading (says before);
     }
 
 abbrev pub decreases-line : goal.decreases-line
-decreases-line g l = 65536 - l.source.length
+decreases-line g l = limits.line - l.source.length

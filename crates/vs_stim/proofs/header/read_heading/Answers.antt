@@ -3,9 +3,9 @@ use Rattle.vs_stim.specs.Source.{open_at, says}
 use Rattle.vs_stim.proofs.Headed.{heading_from_start}
 use Rattle.vs_stim.proofs.header.read_heading.Goals as goal
 
-pub returns-in-Ok-clause-says : goal.returns-in-Ok-clause-says
-returns-in-Ok-clause-says g c =
+pub returns-clause-says : goal.returns-clause-says
+returns-clause-says g c =
     let u = rw c.requires.stage at c.requires.heading.untouched in
-    λ t. c.in-Ok.ensures.says
+    λ t. c.in_ok-finish.ensures.says
     ∙ c.in_ok-last.ensures.says t
     ∙ heading_from_start c.args.inputs.now c.args.heading.now (says (open_at c.args.source.now (g.D.Desk.contents c.args.desk.now))) c.requires.stage u.0 u.1

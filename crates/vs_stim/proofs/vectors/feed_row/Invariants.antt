@@ -1,5 +1,6 @@
 use Rattle.std.proofs.Common.{◌≡◌, ◌-◌, IsTrue}
-use Rattle.vs_stim.specs.Desk.{OthersKept}
+use Rattle.vs_desk.specs.Taking.{OnlyTaken}
+use Rattle.vs_stim.specs.Reading.{limits}
 use Rattle.vs_stim.specs.Row.{row_with, IsRow, SameForm}
 use Rattle.vs_stim.specs.Source.{open_at, in_block, is_told, says, IsSource, SameLine, GoesOn}
 use Rattle.vs_stim.proofs.vectors.feed_row.Given as goal
@@ -16,7 +17,7 @@ invariant-line g l =
       number : l.source.number ≡ l.initial.source.number;
       start : l.source.start ≡ l.initial.source.start;
       register : g.D.Desk.register l.desk ≡ g.D.Desk.register l.initial.desk;
-      others : IsTrue g.D.Desk.tells → OthersKept l.initial.source.place (g.D.Desk.contents l.initial.desk) (g.D.Desk.contents l.desk);
+      others : IsTrue g.D.Desk.tells → OnlyTaken l.initial.source.place (g.D.Desk.contents l.initial.desk) (g.D.Desk.contents l.desk);
       line : IsTrue g.D.Desk.tells → SameLine before now;
       goes : IsTrue g.D.Desk.tells → GoesOn before now;
       spoken : IsTrue g.D.Desk.tells → row_with l.row (says now) ≡ row_with l.initial.row (says before);
@@ -26,4 +27,4 @@ invariant-line g l =
     }
 
 abbrev pub decreases-line : goal.decreases-line
-decreases-line g l = 65536 - l.source.length
+decreases-line g l = limits.line - l.source.length

@@ -1,5 +1,6 @@
 use Rattle.std.proofs.Common.{◌≡◌, ◌-◌, IsTrue}
-use Rattle.vs_stim.specs.Desk.{OthersKept}
+use Rattle.vs_desk.specs.Taking.{OnlyTaken}
+use Rattle.vs_stim.specs.Reading.{limits}
 use Rattle.vs_stim.specs.Row.{IsRow, SameForm, each_input}
 use Rattle.vs_stim.specs.Source.{open_at, in_block, text_tells, IsSource, vectors_from}
 use Rattle.vs_stim.proofs.Untold.{IsPassed}
@@ -15,7 +16,7 @@ invariant-lines g l =
       form : SameForm l.initial.row l.row;
       place : l.source.place ≡ l.initial.source.place;
       register : g.D.Desk.register l.desk ≡ g.D.Desk.register l.initial.desk;
-      others : IsTrue g.D.Desk.tells → OthersKept l.initial.source.place (g.D.Desk.contents l.initial.desk) (g.D.Desk.contents l.desk);
+      others : IsTrue g.D.Desk.tells → OnlyTaken l.initial.source.place (g.D.Desk.contents l.initial.desk) (g.D.Desk.contents l.desk);
       frugal : IsTrue (text_tells (in_block l.initial.source)) → l.desk ≡ l.initial.desk;
       told : IsTrue (text_tells (in_block l.initial.source)) → IsTrue (text_tells (in_block l.source));
       passed : IsTrue g.D.Desk.tells → IsPassed (open_at l.initial.source (g.D.Desk.contents l.initial.desk)) (open_at l.source (g.D.Desk.contents l.desk));
@@ -24,4 +25,4 @@ invariant-lines g l =
     }
 
 abbrev pub decreases-lines : goal.decreases-lines
-decreases-lines g l = 4294967296 - l.source.start
+decreases-lines g l = limits.bytes - l.source.start

@@ -8,7 +8,7 @@ invariant_of-result g c = record {
   place = search rules;
   lane = search rules;
   row = search rules;
-  each = rw (c.new.ensures.values, c.new.ensures.columns) (each_made c.args.inputs.now c.in_ok-columns.columns.items c.in-Ok.room.1.items c.in-Ok.ensures.sizes c.in_ok-columns.ensures.columns c.in_ok-columns.ensures.each);
+  each = rw (c.new.ensures.values, c.new.ensures.columns) (each_made c.args.inputs.now c.in_ok-columns.columns.items c.in_ok-source.values.items c.in_ok-source.ensures.sizes c.in_ok-columns.ensures.columns c.in_ok-columns.ensures.each);
   count = search rules;
   begins = search rules;
 }
