@@ -5,9 +5,10 @@ use Rattle.std.specs.declared.alloc.Global.{Global}
 use Rattle.std.proofs.lemmas.Bool.{cases_eq}
 use Rattle.std.proofs.lemmas.List.{get_or-map, get_or-take, get_or-replicate, get_or_append_left, length_push, length-map, length-replicate, length-take-le, ext_get_or}
 use Rattle.vs_desk.specs.Desk.{Contents}
+use Rattle.vs_desk.specs.Taking.{OnlyTaken}
+use Rattle.vs_desk.specs.Places.{stimulus_place}
 use Rattle.vs_stim.specs.declared.input.Input.{Input}
-use Rattle.vs_stim.specs.Desk.{OthersKept}
-use Rattle.vs_stim.specs.Known.{Known, place_of}
+use Rattle.vs_stim.specs.Known.{Known}
 use Rattle.vs_stim.specs.Reading.{reading, header_refusal}
 use Rattle.vs_drive.specs.Lanes.{ended, lane_at, AreLanes}
 use Rattle.vs_drive.specs.Opened.{texts, path_at, HaveHeaders, IsOpened, AreOpened}
@@ -19,14 +20,14 @@ text_at paths i path h = get_or-map string_bytes paths i path [] h.0 ∙ ap stri
 
 -- a lane that was opened before stays so
 opened_kept : (tells : Bool) (inputs : List Input) (before mid after : Contents) (path : List ℕ) (i j : ℕ) (k : Known) → i < j
-    → (IsTrue tells → OthersKept (place_of j) mid after) → IsOpened tells inputs before mid path i k → IsOpened tells inputs before after path i k
+    → (IsTrue tells → OnlyTaken (stimulus_place j) mid after) → IsOpened tells inputs before mid path i k → IsOpened tells inputs before after path i k
 opened_kept tells inputs before mid after path i j k below kept h =
     let e : k.lane ≡ i = h.lane in
     record {
       lane = h.lane;
       live = h.live;
       sizes = h.sizes;
-      reading = λ t. h.reading t ∙ sym (remaining_by_left k mid after ((kept t).left (place_of k.lane) (omega arith)));
+      reading = λ t. h.reading t ∙ sym (remaining_by_left k mid after ((kept t).left (stimulus_place k.lane) (omega arith)));
     }
 
 -- The next lane is opened where the desk had other contents when the first was.
@@ -42,7 +43,7 @@ opened_here tells inputs before mid after path text j k e files h = record {
 pub opened_more : (tells : Bool) (inputs : List Input) (before mid after : Contents) (paths : List (List ℕ)) (path : List ℕ) (ks news : List Known)
     → ((i : ℕ) → i < length ks → IsOpened tells inputs before mid (path_at paths i) i (lane_at ks i))
     → news ≡ ks ++ lane_at news (length ks) ∷ [] → path_at paths (length ks) ≡ path → IsOpened tells inputs mid after path (length ks) (lane_at news (length ks))
-    → (IsTrue tells → mid.files ≡ before.files) → (IsTrue tells → OthersKept (place_of (length ks)) mid after)
+    → (IsTrue tells → mid.files ≡ before.files) → (IsTrue tells → OnlyTaken (stimulus_place (length ks)) mid after)
     → (i : ℕ) → i < length news → IsOpened tells inputs before after (path_at paths i) i (lane_at news i)
 opened_more tells inputs before mid after paths path ks news each added same here files kept i below =
     let count : length news ≡ length ks + 1 = ap length added ∙ length_push ks (lane_at news (length ks)) in

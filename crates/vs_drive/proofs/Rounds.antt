@@ -3,8 +3,9 @@ use Rattle.std.proofs.Common.{inl, inr, ◌≡◌, ◌≢◌, ℕ, ◌+◌, ◌<
 use Rattle.std.proofs.lemmas.List.{length-set, get_or-set_same, get_or-set_other}
 use Rattle.std.proofs.lemmas.Bool.{cases_eq}
 use Rattle.vs_desk.specs.Desk.{Contents}
-use Rattle.vs_stim.specs.Desk.{OthersKept}
-use Rattle.vs_stim.specs.Known.{Known, place_of, remaining, text_left}
+use Rattle.vs_desk.specs.Taking.{OnlyTaken}
+use Rattle.vs_desk.specs.Places.{stimulus_place}
+use Rattle.vs_stim.specs.Known.{Known, remaining, text_left}
 use Rattle.vs_stim.specs.Lines.{lines, all_lines}
 use Rattle.vs_stim.specs.Reading.{limits, read_vectors, with_vector}
 use Rattle.vs_stim.specs.Row.{sizes}
@@ -16,7 +17,7 @@ remains_by : (k : Known) (c d : Contents) → text_left k d ≡ text_left k c �
 remains_by k c d e = ap (λ text. read_vectors limits k.columns k.at k.count (all_lines (lines text))) e
 
 -- and that on what is left at the stimulus' place
-pub remaining_by_left : (k : Known) (c d : Contents) → d.left (place_of k.lane) ≡ c.left (place_of k.lane) → remaining k d ≡ remaining k c
+pub remaining_by_left : (k : Known) (c d : Contents) → d.left (stimulus_place k.lane) ≡ c.left (stimulus_place k.lane) → remaining k d ≡ remaining k c
 remaining_by_left k c d e = remains_by k c d (ap (λ left. k.pending ++ left) e)
 
 -- an advance, where the text that is left before and after it is the same by other contents
@@ -34,11 +35,11 @@ advances_by tells c d c' d' old new h e f = record {
 
 -- another lane's text is left as it was
 pub other_left : (ks : List Known) (i j : ℕ) (c d : Contents) → AreLanes ks → i < length ks → j < length ks → i ≢ j
-    → OthersKept (place_of (lane_at ks j).lane) c d → text_left (lane_at ks i) d ≡ text_left (lane_at ks i) c
+    → OnlyTaken (stimulus_place (lane_at ks j).lane) c d → text_left (lane_at ks i) d ≡ text_left (lane_at ks i) c
 other_left ks i j c d lanes h k ne kept =
     let ie : (lane_at ks i).lane ≡ i = lanes.numbered i h in
     let je : (lane_at ks j).lane ≡ j = lanes.numbered j k in
-    ap (λ left. (lane_at ks i).pending ++ left) (kept.left (place_of (lane_at ks i).lane) (omega arith))
+    ap (λ left. (lane_at ks i).pending ++ left) (kept.left (stimulus_place (lane_at ks i).lane) (omega arith))
 
 -- what stands at lane i after a write to lane j
 pub at_set : (ks : List Known) (i j : ℕ) (new : Known) (P : Known → Type 0) → j < length ks → (i ≡ j → P new) → (i ≢ j → P (lane_at ks i)) → P (lane_at (set ks j new) i)
@@ -69,7 +70,7 @@ lanes_set ks j new lanes h el es =
 
 -- lane j has a new state, and the other lanes are as they were
 pub step_rest : (tells : Bool) (j : ℕ) (before mid after : Contents) (olds mids : List Known) (new : Known) → j < length mids → AreLanes mids
-    → AreRead tells j j before mid olds mids → (IsTrue tells → OthersKept (place_of (lane_at mids j).lane) mid after)
+    → AreRead tells j j before mid olds mids → (IsTrue tells → OnlyTaken (stimulus_place (lane_at mids j).lane) mid after)
     → AreRead tells j (j + 1) before after olds (set mids j new)
 step_rest tells j before mid after olds mids new h lanes read kept = record {
   lanes = length-set mids j new ∙ read.lanes;
@@ -107,7 +108,7 @@ step_on tells j before mid after olds mids new h was rest here =
     }
 
 -- places behind those of the lanes are as they were
-pub others_on : (lanes j : ℕ) (before mid after : Contents) → j < lanes → OtherPlacesKept lanes before mid → OthersKept (place_of j) mid after
+pub others_on : (lanes j : ℕ) (before mid after : Contents) → j < lanes → OtherPlacesKept lanes before mid → OnlyTaken (stimulus_place j) mid after
     → OtherPlacesKept lanes before after
 others_on lanes j before mid after h kept step = record {
   files = step.files ∙ kept.files;

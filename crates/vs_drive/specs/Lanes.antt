@@ -3,7 +3,8 @@ use Rattle.std.specs.Prelude.{◌≡◌, ℕ, ◌<◌, ◌≤◌, Bool, true, fa
 use Rattle.std.specs.List.{list_any}
 use Rattle.vs_desk.specs.declared.desk.Way.TheVariants.{Read}
 use Rattle.vs_desk.specs.Desk.{Register, Contents, IsAttached}
-use Rattle.vs_stim.specs.Known.{Known, place_of}
+use Rattle.vs_desk.specs.Places.{stimulus_place, most_lanes}
+use Rattle.vs_stim.specs.Known.{Known}
 use Rattle.vs_stim.specs.Reading.{first_place}
 use Rattle.vs_stim.specs.Row.{sizes}
 
@@ -17,7 +18,7 @@ lane_at ks i = slice_index_or ks i ended
 
 -- At most 64 stimuli, the i-th is that of lane i, and all drive inputs of the same lengths.
 pub record AreLanes (ks : List Known) : Type 0 where
-  pub at_most_64 : length ks ≤ 64
+  pub at_most_64 : length ks ≤ most_lanes
   pub numbered : (i : ℕ) → i < length ks → (lane_at ks i).lane ≡ i
   pub alike : (i : ℕ) → i < length ks → sizes (lane_at ks i).vector ≡ sizes (lane_at ks 0).vector
 
@@ -31,11 +32,11 @@ pub record AllEnded (ks : List Known) : Type 0 where
 
 -- the place of each live lane can be read
 pub record AreAttached (register : Register) (ks : List Known) : Type 0 where
-  pub each : (i : ℕ) → (lane_at ks i).live ≡ true → IsAttached register (place_of i) Read
+  pub each : (i : ℕ) → (lane_at ks i).live ≡ true → IsAttached register (stimulus_place i) Read
 
 -- nothing changed but what is left to take at the places of this many lanes
 pub record OtherPlacesKept (lanes : ℕ) (old new : Contents) : Type 0 where
   pub files : new.files ≡ old.files
   pub put : new.put ≡ old.put
-  pub before : (p : ℕ) → p < place_of 0 → new.left p ≡ old.left p
-  pub behind : (p : ℕ) → place_of lanes ≤ p → new.left p ≡ old.left p
+  pub before : (p : ℕ) → p < stimulus_place 0 → new.left p ≡ old.left p
+  pub behind : (p : ℕ) → stimulus_place lanes ≤ p → new.left p ≡ old.left p

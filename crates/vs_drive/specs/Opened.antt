@@ -3,10 +3,10 @@ use Rattle.std.specs.Prelude.{◌≡◌, ℕ, ◌<◌, Bool, true, IsTrue, IsNon
 use Rattle.std.specs.declared.alloc.Global.{Global}
 use Rattle.vs_desk.specs.declared.desk.Way.TheVariants.{Read}
 use Rattle.vs_desk.specs.Desk.{Register, Contents}
-use Rattle.vs_desk.specs.Places.{with_places}
+use Rattle.vs_desk.specs.Places.{with_places, stimulus_place}
 use Rattle.vs_stim.specs.declared.input.Input.{Input}
 use Rattle.vs_stim.specs.Header.{lengths}
-use Rattle.vs_stim.specs.Known.{Known, place_of, remaining}
+use Rattle.vs_stim.specs.Known.{Known, remaining}
 use Rattle.vs_stim.specs.Reading.{reading, header_refusal}
 use Rattle.vs_stim.specs.Row.{sizes}
 use Rattle.vs_drive.specs.Lanes.{lane_at}
@@ -21,11 +21,11 @@ path_at paths i = slice_index_or paths i []
 
 -- the places of the lanes from lane 0 on, attached to these paths
 abbrev pub with_lanes : Register → List (List ℕ) → Register
-with_lanes register paths = with_places register (place_of 0) Read paths
+with_lanes register paths = with_places register (stimulus_place 0) Read paths
 
 -- the places of the first lanes, this many, aren't attached
 pub record AreFree (register : Register) (lanes : ℕ) : Type 0 where
-  pub each : (i : ℕ) → i < lanes → IsNone (register.attached (place_of i))
+  pub each : (i : ℕ) → i < lanes → IsNone (register.attached (stimulus_place i))
 
 -- no text of the first lanes, this many, is refused up to its header
 pub record HaveHeaders (inputs : List Input) (files : List ℕ → List ℕ) (paths : List (List ℕ)) (lanes : ℕ) : Type 0 where

@@ -1,6 +1,7 @@
 //! The bits of all lanes, packed into pairs of planes.
 
 ghost use Rattle.std.specs.Prelude.{◌≡◌, ℕ, ◌+◌, ◌<◌, ◌≤◌, [], true, length, map, slice_index_or};
+ghost use Rattle.vs_desk.specs.Places.{most_lanes};
 ghost use Rattle.vs_plane.specs.Lanes.{pair_lane};
 ghost use Rattle.vs_drive.specs.Lanes.{lane_at, AreLanes};
 ghost use Rattle.vs_drive.specs.Fed.{driven, driven_bit, HaveBits, IsPlaced, AreFed};
@@ -25,7 +26,7 @@ fn bit_of(stimulus: &Stimulus, input: usize, bit: u32) -> Bit4
 /// A bit of an input in every lane.
 fn column<W: Lanes>(stimuli: &[Stimulus], input: usize, bit: u32) -> Pair<W>
     requires width { W.LANES ≡ 64 }
-    requires few { length stimuli.now ≤ 64 }
+    requires few { length stimuli.now ≤ most_lanes }
     requires input { (i : ℕ) → i < length stimuli.now → input < length (lane_at stimuli.now i).vector }
     requires bit { (i : ℕ) → i < length stimuli.now → bit < length (slice_index_or (lane_at stimuli.now i).vector input []) }
     ensures { (i : ℕ) → i < 64 → pair_lane W.lane result i ≡ driven_bit (lane_at stimuli.now i) input bit }
@@ -46,7 +47,7 @@ fn feed_input<W: Lanes>(
     pairs: &mut [Pair<W>],
 )
     requires width { W.LANES ≡ 64 }
-    requires few { length stimuli.now ≤ 64 }
+    requires few { length stimuli.now ≤ most_lanes }
     requires placed { IsPlaced input count first stimuli.now }
     requires bits { HaveBits (length pairs.old) stimuli.now }
     requires room { first + count ≤ length pairs.old }

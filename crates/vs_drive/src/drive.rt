@@ -3,8 +3,9 @@
 ghost use Rattle.std.specs.Prelude.{◌≡◌, ◌≢◌, ◌⊎◌, ℕ, ◌+◌, ◌<◌, ◌≤◌, List, All, Ok, Err, Some, true, false, length, map, take, vec_len, IsTrue, IfOk, IfErr, OnOk};
 ghost use Rattle.vs_plane.specs.Lanes.{pair_lane};
 ghost use Rattle.vs_desk.specs.Desk.{Fails};
+ghost use Rattle.vs_desk.specs.Places.{stimulus_place, most_lanes};
 ghost use Rattle.vs_stim.specs.Header.{IsInput};
-ghost use Rattle.vs_stim.specs.Known.{place_of, remaining};
+ghost use Rattle.vs_stim.specs.Known.{remaining};
 ghost use Rattle.vs_stim.specs.Reading.{reading, refused, header_refusal};
 ghost use Rattle.vs_stim.specs.Source.{IsVectorError, IsHeaderError};
 ghost use Rattle.vs_drive.specs.Lanes.{lane_at, AreLanes, some_live, AllEnded, AreAttached, OtherPlacesKept};
@@ -18,7 +19,7 @@ use crate::opening::open_all;
 use crate::reading::{is_any_live, note_live, read_all};
 use std::alloc::Global;
 use std::marker::Model;
-use vs_desk::Desk;
+use vs_desk::{Desk, MOST_LANES, attach_law};
 use vs_plane::{Lanes, Pair};
 use vs_stim::{Input, StimError, Stimulus};
 
@@ -27,7 +28,7 @@ use vs_stim::{Input, StimError, Stimulus};
 #[derive(Drop)]
 pub struct Drive {
     stimuli: Vec<Stimulus>,
-    live: [bool; 64],
+    live: [bool; MOST_LANES],
 }
 
 impl Model for Drive {
@@ -53,7 +54,7 @@ pub fn open<D: Desk>(
     paths: Vec<String>,
     inputs: &[Input],
 ) -> Result<Drive, Stopped>
-    requires lanes { length paths.items ≤ 64 }
+    requires lanes { length paths.items ≤ most_lanes }
     requires free { AreFree (D.register desk.old) (length paths.items) }
     requires inputs { All IsInput inputs.now }
 
@@ -80,14 +81,15 @@ pub fn open<D: Desk>(
         (D.register desk.new ≡ with_lanes (D.register desk.old) (take stopped.lane (texts paths.items)))
         ⊎ (D.register desk.new ≡ with_lanes (D.register desk.old) (take (stopped.lane + 1) (texts paths.items)))) }
     ensures fault { IfErr result (λ stopped. stopped.error ≡ StimError.ReadFault →
-        Fails (with_lanes (D.register desk.old) (take stopped.lane (texts paths.items))) (D.register desk.new) (place_of stopped.lane) (path_at (texts paths.items) stopped.lane)
-        ⊎ Fails (with_lanes (D.register desk.old) (take (stopped.lane + 1) (texts paths.items))) (D.register desk.new) (place_of stopped.lane) (D.register desk.old).asked) }
+        Fails (with_lanes (D.register desk.old) (take stopped.lane (texts paths.items))) (D.register desk.new) (stimulus_place stopped.lane) (path_at (texts paths.items) stopped.lane)
+        ⊎ Fails (with_lanes (D.register desk.old) (take (stopped.lane + 1) (texts paths.items))) (D.register desk.new) (stimulus_place stopped.lane) (D.register desk.old).asked) }
     ensures others { IsTrue D.tells → OtherPlacesKept (length paths.items) (D.contents desk.old) (D.contents desk.new) }
 {
+    attach_law();
     let stimuli = open_all(alloc, desk, paths, inputs)?;
     Ok(Drive {
         stimuli,
-        live: [true; 64],
+        live: [true; MOST_LANES],
     })
 }
 
@@ -138,7 +140,7 @@ impl Drive {
         ensures same { OnOk result (D.register desk.new ≡ D.register desk.old) }
         ensures register { IfErr result (λ stopped. stopped.error ≢ StimError.ReadFault → D.register desk.new ≡ D.register desk.old) }
         ensures fault { IfErr result (λ stopped. stopped.error ≡ StimError.ReadFault →
-            Fails (D.register desk.old) (D.register desk.new) (place_of stopped.lane) (D.register desk.old).asked) }
+            Fails (D.register desk.old) (D.register desk.new) (stimulus_place stopped.lane) (D.register desk.old).asked) }
         ensures others { IsTrue D.tells → OtherPlacesKept (length self.old) (D.contents desk.old) (D.contents desk.new) }
     {
         let answer = read_all(&mut self.stimuli, desk);

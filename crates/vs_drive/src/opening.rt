@@ -3,9 +3,9 @@
 ghost use Rattle.std.specs.Prelude.{◌≡◌, ◌≢◌, ◌⊎◌, ◌+◌, ◌<◌, ◌≤◌, [], ◌∷◌, ◌++◌, All, Ok, Err, Some, None, length, take, vec_len, string_bytes, IsNone, IsTrue, IfErr, IfOk, OnOk, OnErr};
 ghost use Rattle.vs_desk.specs.Desk.{Fails, with_place};
 ghost use Rattle.vs_desk.specs.declared.desk.Way.TheVariants.{Read};
-ghost use Rattle.vs_stim.specs.Desk.{OthersKept};
+ghost use Rattle.vs_desk.specs.Taking.{OnlyTaken};
+ghost use Rattle.vs_desk.specs.Places.{stimulus_place, most_lanes};
 ghost use Rattle.vs_stim.specs.Header.{IsInput};
-ghost use Rattle.vs_stim.specs.Known.{place_of};
 ghost use Rattle.vs_stim.specs.Reading.{reading, refused, header_refusal};
 ghost use Rattle.vs_stim.specs.Source.{IsHeaderError};
 ghost use Rattle.vs_drive.specs.Lanes.{lane_at, OtherPlacesKept};
@@ -13,7 +13,7 @@ ghost use Rattle.vs_drive.specs.Opened.{texts, path_at, with_lanes, AreFree, Hav
 
 use crate::Stopped;
 use std::alloc::Global;
-use vs_desk::Desk;
+use vs_desk::{Desk, attach_law};
 use vs_stim::{Input, StimError, Stimulus};
 
 /// Adds the stimulus of this lane.
@@ -39,8 +39,8 @@ fn open_next<D: Desk>(
     inputs: &[Input],
     stimuli: &mut Vec<Stimulus>,
 ) -> Result<(), Stopped>
-    requires lane { length stimuli.old.items < 64 }
-    requires free { IsNone ((D.register desk.old).attached (place_of (length stimuli.old.items))) }
+    requires lane { length stimuli.old.items < most_lanes }
+    requires free { IsNone ((D.register desk.old).attached (stimulus_place (length stimuli.old.items))) }
     requires inputs { All IsInput inputs.now }
     ensures added { OnOk result (stimuli.new.items ≡ stimuli.old.items ++ lane_at stimuli.new.items (length stimuli.old.items) ∷ []) }
     ensures opened { OnOk result (IsOpened D.tells inputs.now (D.contents desk.old) (D.contents desk.new) (string_bytes path) (length stimuli.old.items)
@@ -54,16 +54,16 @@ fn open_next<D: Desk>(
     ensures reading { IsTrue D.tells → IfErr result (λ stopped. stopped.error ≢ StimError.ReadFault → stopped.error ≢ StimError.Memory →
         reading inputs.now ((D.contents desk.old).files (string_bytes path)) ≡ refused stopped.error) }
 
-    ensures attached { OnOk result (D.register desk.new ≡ with_place (D.register desk.old) (place_of (length stimuli.old.items)) Read (string_bytes path)) }
+    ensures attached { OnOk result (D.register desk.new ≡ with_place (D.register desk.old) (stimulus_place (length stimuli.old.items)) Read (string_bytes path)) }
     ensures register { IfErr result (λ stopped. stopped.error ≢ StimError.ReadFault → stopped.error ≢ StimError.Memory →
-        D.register desk.new ≡ with_place (D.register desk.old) (place_of (length stimuli.old.items)) Read (string_bytes path)) }
+        D.register desk.new ≡ with_place (D.register desk.old) (stimulus_place (length stimuli.old.items)) Read (string_bytes path)) }
     ensures memory { IfErr result (λ stopped. stopped.error ≡ StimError.Memory → (D.register desk.new ≡ D.register desk.old)
-        ⊎ (D.register desk.new ≡ with_place (D.register desk.old) (place_of (length stimuli.old.items)) Read (string_bytes path))) }
+        ⊎ (D.register desk.new ≡ with_place (D.register desk.old) (stimulus_place (length stimuli.old.items)) Read (string_bytes path))) }
     ensures fault { IfErr result (λ stopped. stopped.error ≡ StimError.ReadFault →
-        Fails (D.register desk.old) (D.register desk.new) (place_of (length stimuli.old.items)) (string_bytes path)
-        ⊎ Fails (with_place (D.register desk.old) (place_of (length stimuli.old.items)) Read (string_bytes path)) (D.register desk.new)
-        (place_of (length stimuli.old.items)) (D.register desk.old).asked) }
-    ensures others { IsTrue D.tells → OthersKept (place_of (length stimuli.old.items)) (D.contents desk.old) (D.contents desk.new) }
+        Fails (D.register desk.old) (D.register desk.new) (stimulus_place (length stimuli.old.items)) (string_bytes path)
+        ⊎ Fails (with_place (D.register desk.old) (stimulus_place (length stimuli.old.items)) Read (string_bytes path)) (D.register desk.new)
+        (stimulus_place (length stimuli.old.items)) (D.register desk.old).asked) }
+    ensures others { IsTrue D.tells → OnlyTaken (stimulus_place (length stimuli.old.items)) (D.contents desk.old) (D.contents desk.new) }
 {
     let lane = stimuli.len() as u32;
     match Stimulus::begin(alloc, desk, lane, path, inputs) {
@@ -79,7 +79,7 @@ pub(crate) fn open_all<D: Desk>(
     paths: Vec<String>,
     inputs: &[Input],
 ) -> Result<Vec<Stimulus>, Stopped>
-    requires lanes { length paths.items ≤ 64 }
+    requires lanes { length paths.items ≤ most_lanes }
     requires free { AreFree (D.register desk.old) (length paths.items) }
     requires inputs { All IsInput inputs.now }
     ensures opened { IfOk result (λ stimuli. AreOpened D.tells inputs.now (D.contents desk.old) (D.contents desk.new) (texts paths.items) stimuli.items) }
@@ -99,10 +99,11 @@ pub(crate) fn open_all<D: Desk>(
         (D.register desk.new ≡ with_lanes (D.register desk.old) (take stopped.lane (texts paths.items)))
         ⊎ (D.register desk.new ≡ with_lanes (D.register desk.old) (take (stopped.lane + 1) (texts paths.items)))) }
     ensures fault { IfErr result (λ stopped. stopped.error ≡ StimError.ReadFault →
-        Fails (with_lanes (D.register desk.old) (take stopped.lane (texts paths.items))) (D.register desk.new) (place_of stopped.lane) (path_at (texts paths.items) stopped.lane)
-        ⊎ Fails (with_lanes (D.register desk.old) (take (stopped.lane + 1) (texts paths.items))) (D.register desk.new) (place_of stopped.lane) (D.register desk.old).asked) }
+        Fails (with_lanes (D.register desk.old) (take stopped.lane (texts paths.items))) (D.register desk.new) (stimulus_place stopped.lane) (path_at (texts paths.items) stopped.lane)
+        ⊎ Fails (with_lanes (D.register desk.old) (take (stopped.lane + 1) (texts paths.items))) (D.register desk.new) (stimulus_place stopped.lane) (D.register desk.old).asked) }
     ensures others { IsTrue D.tells → OtherPlacesKept (length paths.items) (D.contents desk.old) (D.contents desk.new) }
 {
+    attach_law();
     let mut stimuli = Vec::new(alloc);
     for path in paths {
         open_next(alloc, desk, path, inputs, &mut stimuli)?;

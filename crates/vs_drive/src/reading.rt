@@ -3,8 +3,9 @@
 ghost use Rattle.std.specs.Prelude.{◌≡◌, ◌≢◌, ◌+◌, ◌<◌, ◌≤◌, Ok, Err, true, false, length, map, take, IsTrue, IfErr, OnOk, OnErr};
 ghost use Rattle.vs_desk.specs.Desk.{IsAttached, Fails};
 ghost use Rattle.vs_desk.specs.declared.desk.Way.TheVariants.{Read};
-ghost use Rattle.vs_stim.specs.Desk.{OthersKept};
-ghost use Rattle.vs_stim.specs.Known.{place_of, remaining};
+ghost use Rattle.vs_desk.specs.Taking.{OnlyTaken, TakesAt};
+ghost use Rattle.vs_desk.specs.Places.{stimulus_place, most_lanes};
+ghost use Rattle.vs_stim.specs.Known.{remaining};
 ghost use Rattle.vs_stim.specs.Reading.{refused};
 ghost use Rattle.vs_stim.specs.Row.{sizes};
 ghost use Rattle.vs_stim.specs.Source.{IsVectorError};
@@ -12,7 +13,7 @@ ghost use Rattle.vs_drive.specs.Lanes.{lane_at, AreLanes, some_live, AreAttached
 ghost use Rattle.vs_drive.specs.Reading.{Advances, AreRead, SameSizes};
 
 use thiserror::Error;
-use vs_desk::Desk;
+use vs_desk::{Desk, MOST_LANES};
 use vs_stim::{StimError, Stimulus};
 
 /// A stimulus stopped the run.
@@ -27,7 +28,7 @@ pub struct Stopped {
 
 /// Reads the next vector of a stimulus, unless it has ended.
 fn read_lane<D: Desk>(stimulus: &mut Stimulus, desk: &mut D) -> Result<(), StimError>
-    requires { stimulus.old.live ≡ true → IsAttached (D.register desk.old) (place_of stimulus.old.lane) Read }
+    requires { stimulus.old.live ≡ true → IsAttached (D.register desk.old) (stimulus_place stimulus.old.lane) Read }
     ensures advanced { OnOk result (Advances D.tells (D.contents desk.old) (D.contents desk.new) stimulus.old stimulus.new) }
     ensures lane { stimulus.new.lane ≡ stimulus.old.lane }
     ensures sizes { sizes stimulus.new.vector ≡ sizes stimulus.old.vector }
@@ -36,10 +37,7 @@ fn read_lane<D: Desk>(stimulus: &mut Stimulus, desk: &mut D) -> Result<(), StimE
     ensures ended { OnErr result (stimulus.new.live ≡ false) }
     ensures errors { IfErr result IsVectorError }
     ensures refused { IsTrue D.tells → IfErr result (λ e. e ≢ StimError.ReadFault → remaining stimulus.old (D.contents desk.old) ≡ refused e) }
-    ensures same { OnOk result (D.register desk.new ≡ D.register desk.old) }
-    ensures register { IfErr result (λ e. e ≢ StimError.ReadFault → D.register desk.new ≡ D.register desk.old) }
-    ensures fault { IfErr result (λ e. e ≡ StimError.ReadFault → Fails (D.register desk.old) (D.register desk.new) (place_of stimulus.old.lane) (D.register desk.old).asked) }
-    ensures others { IsTrue D.tells → OthersKept (place_of stimulus.old.lane) (D.contents desk.old) (D.contents desk.new) }
+    ensures desk { TakesAt D.register D.tells D.contents (stimulus_place stimulus.old.lane) desk.old desk.new StimError.ReadFault result }
 {
     if stimulus.live() {
         stimulus.next(desk)?;
@@ -66,7 +64,7 @@ pub(crate) fn read_all<D: Desk>(stimuli: &mut [Stimulus], desk: &mut D) -> Resul
     ensures same { OnOk result (D.register desk.new ≡ D.register desk.old) }
     ensures register { IfErr result (λ stopped. stopped.error ≢ StimError.ReadFault → D.register desk.new ≡ D.register desk.old) }
     ensures fault { IfErr result (λ stopped. stopped.error ≡ StimError.ReadFault →
-        Fails (D.register desk.old) (D.register desk.new) (place_of stopped.lane) (D.register desk.old).asked) }
+        Fails (D.register desk.old) (D.register desk.new) (stimulus_place stopped.lane) (D.register desk.old).asked) }
     ensures others { IsTrue D.tells → OtherPlacesKept (length stimuli.old) (D.contents desk.old) (D.contents desk.new) }
 {
     for lane in 0..stimuli.len() {
@@ -81,8 +79,8 @@ pub(crate) fn read_all<D: Desk>(stimuli: &mut [Stimulus], desk: &mut D) -> Resul
 }
 
 /// Notes which stimuli haven't ended.
-pub(crate) fn note_live(stimuli: &[Stimulus], live: &mut [bool; 64])
-    requires { length stimuli.now ≤ 64 }
+pub(crate) fn note_live(stimuli: &[Stimulus], live: &mut [bool; MOST_LANES])
+    requires { length stimuli.now ≤ most_lanes }
     ensures { take (length stimuli.now) live.new ≡ map (λ k. k.live) stimuli.now }
 {
     for (lane, stimulus) in stimuli.iter().enumerate() {

@@ -5,9 +5,9 @@ use Rattle.std.proofs.lemmas.Iterator.Consumers.{YieldsList-turn}
 use Rattle.std.proofs.lemmas.List.{length-map, length_push}
 use Rattle.vs_desk.specs.declared.desk.Way.TheVariants.{Read}
 use Rattle.vs_desk.specs.Desk.{Attachment, Register, Fails}
-use Rattle.vs_stim.specs.Known.{place_of}
+use Rattle.vs_desk.specs.Places.{stimulus_place}
 use Rattle.vs_drive.specs.Opened.{texts, path_at, with_lanes}
-use Rattle.vs_drive.proofs.Places.{next_free, next_attached, asked_kept}
+use Rattle.vs_drive.proofs.Places.{next_free, next_attached}
 use Rattle.std.proofs.lemmas.Result.{err_from_is_err_and}
 use Rattle.vs_drive.proofs.Rounds.{others_on}
 use Rattle.vs_drive.proofs.Opens.{text_at, opened_more, headers_more}
@@ -23,8 +23,8 @@ open_next-requires-clause-free g c =
     subst (λ (n : ℕ). (n < length paths) × (path ≡ get_or paths n path)) (sym inv.lanes)
     (YieldsList-turn (YieldsList-from_vec {s = c.into_iter-path-iterator.result} paths (search rules) (search rules)) c.loop-path.yielded c.loop-path.path-iterator c.loop-path.yielded_by c.next.result c.next.new.self path c.in-Some.is c.next.ensures.steps) in
     let within : lane ≤ length (texts paths) = rw (length-map paths string_bytes) (omega arith) in
-    let free = next_free (g.D.Desk.register c.args.desk.now) (texts paths) lane within in
-    subst (λ (o : Option Attachment). IsNone o) (sym ((λ i. (inv.attached i).attached (place_of lane)) ∙ free)) (c.requires.free.each lane (omega arith))
+    let free = next_free c.attach_law.ensures.others (g.D.Desk.register c.args.desk.now) (texts paths) lane within in
+    subst (λ (o : Option Attachment). IsNone o) (sym ((λ i. (inv.attached i).attached (stimulus_place lane)) ∙ free)) (c.requires.free.each lane (omega arith))
 
 pub loop-path-preserved : goal.loop-path-preserved
 loop-path-preserved g c =
@@ -37,7 +37,7 @@ loop-path-preserved g c =
     (YieldsList-turn (YieldsList-from_vec {s = c.into_iter-path-iterator.result} paths (search rules) (search rules)) c.loop-path.yielded c.loop-path.path-iterator c.loop-path.yielded_by c.next.result c.next.new.self path c.in-Some.is c.next.ensures.steps) in
     let within : lane < length (texts paths) = rw (length-map paths string_bytes) turn.0 in
     let here : path_at (texts paths) lane ≡ string_bytes path = text_at paths lane path turn in
-    let next = next_attached (g.D.Desk.register c.args.desk.now) (g.D.Desk.register c.loop-path.desk) (texts paths) (string_bytes path) lane within inv.attached here in
+    let next = next_attached c.attach_law.ensures.next (g.D.Desk.register c.args.desk.now) (g.D.Desk.register c.loop-path.desk) (texts paths) (string_bytes path) lane within inv.attached here in
     let h = c.in_ok-open_next.ensures in
     let count : length c.open_next.new.stimuli.items ≡ lane + 1 = ap length h.added ∙ length_push c.loop-path.stimuli.items _ in
     let before = g.D.Desk.contents c.args.desk.now in
@@ -63,7 +63,7 @@ returns-in_err-open_next-clause-register g c =
     (YieldsList-turn (YieldsList-from_vec {s = c.into_iter-path-iterator.result} paths (search rules) (search rules)) c.loop-path.yielded c.loop-path.path-iterator c.loop-path.yielded_by c.next.result c.next.new.self path c.in-Some.is c.next.ensures.steps) in
     let within : lane < length (texts paths) = rw (length-map paths string_bytes) turn.0 in
     let here : path_at (texts paths) lane ≡ string_bytes path = text_at paths lane path turn in
-    let next = next_attached (g.D.Desk.register c.args.desk.now) (g.D.Desk.register c.loop-path.desk) (texts paths) (string_bytes path) lane within inv.attached here in
+    let next = next_attached c.attach_law.ensures.next (g.D.Desk.register c.args.desk.now) (g.D.Desk.register c.loop-path.desk) (texts paths) (string_bytes path) lane within inv.attached here in
     let p = err_from_is_err_and c.from_residual.result c.from_residual.ensures.1 in
     let r = g.D.Desk.register c.args.desk.now in
     let new = g.D.Desk.register c.open_next.new.desk in
@@ -81,7 +81,7 @@ returns-in_err-open_next-clause-memory g c =
     (YieldsList-turn (YieldsList-from_vec {s = c.into_iter-path-iterator.result} paths (search rules) (search rules)) c.loop-path.yielded c.loop-path.path-iterator c.loop-path.yielded_by c.next.result c.next.new.self path c.in-Some.is c.next.ensures.steps) in
     let within : lane < length (texts paths) = rw (length-map paths string_bytes) turn.0 in
     let here : path_at (texts paths) lane ≡ string_bytes path = text_at paths lane path turn in
-    let next = next_attached (g.D.Desk.register c.args.desk.now) (g.D.Desk.register c.loop-path.desk) (texts paths) (string_bytes path) lane within inv.attached here in
+    let next = next_attached c.attach_law.ensures.next (g.D.Desk.register c.args.desk.now) (g.D.Desk.register c.loop-path.desk) (texts paths) (string_bytes path) lane within inv.attached here in
     let p = err_from_is_err_and c.from_residual.result c.from_residual.ensures.1 in
     let r = g.D.Desk.register c.args.desk.now in
     let new = g.D.Desk.register c.open_next.new.desk in
@@ -100,14 +100,14 @@ returns-in_err-open_next-clause-fault g c =
     (YieldsList-turn (YieldsList-from_vec {s = c.into_iter-path-iterator.result} paths (search rules) (search rules)) c.loop-path.yielded c.loop-path.path-iterator c.loop-path.yielded_by c.next.result c.next.new.self path c.in-Some.is c.next.ensures.steps) in
     let within : lane < length (texts paths) = rw (length-map paths string_bytes) turn.0 in
     let here : path_at (texts paths) lane ≡ string_bytes path = text_at paths lane path turn in
-    let next = next_attached (g.D.Desk.register c.args.desk.now) (g.D.Desk.register c.loop-path.desk) (texts paths) (string_bytes path) lane within inv.attached here in
+    let next = next_attached c.attach_law.ensures.next (g.D.Desk.register c.args.desk.now) (g.D.Desk.register c.loop-path.desk) (texts paths) (string_bytes path) lane within inv.attached here in
     let p = err_from_is_err_and c.from_residual.result c.from_residual.ensures.1 in
     let r = g.D.Desk.register c.args.desk.now in
     let new = g.D.Desk.register c.open_next.new.desk in
     let h = c.in_err-open_next.ensures in
-    let asked : (g.D.Desk.register c.loop-path.desk).asked ≡ r.asked = (λ i. (inv.attached i).asked) ∙ asked_kept r (place_of 0) Read (take lane (texts paths)) in
-    rw (p.1, p.2) (λ e. subst (λ (n : ℕ). Fails (with_lanes r (take n (texts paths))) new (place_of n) (path_at (texts paths) n) ⊎ Fails (with_lanes r (take (n + 1) (texts paths))) new (place_of n) r.asked) (sym h.lane)
+    let asked : (g.D.Desk.register c.loop-path.desk).asked ≡ r.asked = (λ i. (inv.attached i).asked) ∙ (c.attach_law.ensures.quiet r (stimulus_place 0) Read (take lane (texts paths))).asked in
+    rw (p.1, p.2) (λ e. subst (λ (n : ℕ). Fails (with_lanes r (take n (texts paths))) new (stimulus_place n) (path_at (texts paths) n) ⊎ Fails (with_lanes r (take (n + 1) (texts paths))) new (stimulus_place n) r.asked) (sym h.lane)
     (elim (h.fault e) [
-      | inl attach ↦ inl (subst (λ (m : Register). Fails m new (place_of lane) (path_at (texts paths) lane)) inv.attached (subst (λ (q : List ℕ). Fails (g.D.Desk.register c.loop-path.desk) new (place_of lane) q) (sym here) attach))
-      | inr taking ↦ inr (subst (λ (q : List ℕ). Fails (with_lanes r (take (lane + 1) (texts paths))) new (place_of lane) q) asked (subst (λ (m : Register). Fails m new (place_of lane) (g.D.Desk.register c.loop-path.desk).asked) next taking))
+      | inl attach ↦ inl (subst (λ (m : Register). Fails m new (stimulus_place lane) (path_at (texts paths) lane)) inv.attached (subst (λ (q : List ℕ). Fails (g.D.Desk.register c.loop-path.desk) new (stimulus_place lane) q) (sym here) attach))
+      | inr taking ↦ inr (subst (λ (q : List ℕ). Fails (with_lanes r (take (lane + 1) (texts paths))) new (stimulus_place lane) q) asked (subst (λ (m : Register). Fails m new (stimulus_place lane) (g.D.Desk.register c.loop-path.desk).asked) next taking))
     ]))
