@@ -5,7 +5,7 @@ use Rattle.std.proofs.lemmas.Str.Parse.{IsNumeralModel, numerals_by_value, tells
 use Rattle.std.specs.Result.{OkIff, result_ok}
 use Rattle.std.specs.Str.{all_ascii_digits}
 use Rattle.std.specs.Str.Parse.{ParsesUnsigned, digits_value}
-use Rattle.vs_job.specs.Job.{half_value, is_half}
+use Rattle.vs_job.specs.Job.{half_value, is_half, most_half}
 
 -- the digits and nothing else, and a number of 32 bits
 pub record IsNumber (ds : List ℕ) : Type 0 where
@@ -43,7 +43,7 @@ number_of_half ds h =
     let first = and_parts (not (eqb (get_or ds 0 0) 48)) _ digits.1 in
     let range = and_parts (nat_le 1 (digits_value 10 ds)) _ first.1 in
     let low = leb-true 1 (digits_value 10 ds) range.0 in
-    let high = leb-true (digits_value 10 ds) 1000000 range.1 in
+    let high = leb-true (digits_value 10 ds) most_half range.1 in
     record { digits = digits.0; some = not_empty ds low; value = omega arith }
 
 -- what isn't read as a number gives no half-period
@@ -53,11 +53,11 @@ half_value-none ds r h no_sign e =
     sym (cond-false (is_half ds) _ _ (false_from_ne_true (is_half ds) (λ is. none (number_of_half ds is))))
 
 -- a number in range is the half-period
-pub half_value-some : {E : Type 0} (ds : List ℕ) (r : Result ℕ E) (n : ℕ) → ParsesUnsigned 32 10 ds r → get_or ds 0 0 ≢ 43 → get_or ds 0 0 ≢ 48 → result_ok r ≡ Some n → 1 ≤ n → n ≤ 1000000 → Some n ≡ half_value ds
+pub half_value-some : {E : Type 0} (ds : List ℕ) (r : Result ℕ E) (n : ℕ) → ParsesUnsigned 32 10 ds r → get_or ds 0 0 ≢ 43 → get_or ds 0 0 ≢ 48 → result_ok r ≡ Some n → 1 ≤ n → n ≤ most_half → Some n ≡ half_value ds
 half_value-some ds r n h no_sign no_zero e low high =
     let num = number ds r n (parsed ds r h no_sign) e in
     let value = num.1 in
     let low' : 1 ≤ digits_value 10 ds = omega arith in
-    let high' : digits_value 10 ds ≤ 1000000 = omega arith in
+    let high' : digits_value 10 ds ≤ most_half = omega arith in
     let is : is_half ds ≡ true = and_from _ _ num.0 (and_from _ _ (not_from_false _ (ne_eqb _ _ no_zero)) (and_from _ _ (le-leb _ _ low') (le-leb _ _ high'))) in
     ap (λ (x : ℕ). Some x) value ∙ sym (cond-true (is_half ds) _ _ is)

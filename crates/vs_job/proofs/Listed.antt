@@ -8,6 +8,7 @@ use Rattle.std.proofs.lemmas.List.{length-append, length-map, get_or_append_left
 use Rattle.std.proofs.lemmas.List.Quantifiers.{all_pairs_push}
 use Rattle.std.proofs.lemmas.Option.{slice_get-map, slice_get_within, slice_get-get_or}
 use Rattle.std.proofs.lemmas.Slice.Eq.{bytes_eq-Decides}
+use Rattle.vs_desk.specs.Places.{design_place, stimulus_place, waveform_place}
 use Rattle.vs_job.specs.declared.job.Job.{Job}
 use Rattle.vs_job.specs.Places.{Place, place, vcd_path, places_from, places, place_with, pair_or, same_from, same_paths, PathsDiffer}
 
@@ -25,33 +26,33 @@ get_or-places_from n (p ∷ ps) (suc i) d path e = get_or-places_from (suc n) ps
 pub length-places : (j : Job) → length (places j) ≡ 1 + 2 * length j.stimuli
 unfolding places
 length-places j =
-    let a = length-append (places_from 1000 j.stimuli) (places_from 2000 (map vcd_path j.stimuli)) in
-    let b = length-places_from 1000 j.stimuli in
-    let c = length-places_from 2000 (map vcd_path j.stimuli) in
+    let a = length-append (places_from (stimulus_place 0) j.stimuli) (places_from (waveform_place 0) (map vcd_path j.stimuli)) in
+    let b = length-places_from (stimulus_place 0) j.stimuli in
+    let c = length-places_from (waveform_place 0) (map vcd_path j.stimuli) in
     let m = length-map j.stimuli vcd_path in
     omega arith
 
-pub place-design : (j : Job) (d : Place) → get_or (places j) 0 d ≡ place 1 j.design
+pub place-design : (j : Job) (d : Place) → get_or (places j) 0 d ≡ place design_place j.design
 unfolding places
 place-design j d = refl
 
-pub place-stimulus : (j : Job) (n i : ℕ) (d : Place) (path : List ℕ) → n ≡ i + 1 → slice_get j.stimuli i ≡ Some path → get_or (places j) n d ≡ place (1000 + i) path
+pub place-stimulus : (j : Job) (n i : ℕ) (d : Place) (path : List ℕ) → n ≡ i + 1 → slice_get j.stimuli i ≡ Some path → get_or (places j) n d ≡ place (stimulus_place i) path
 unfolding places
 place-stimulus j n i d path e is =
-    let stimuli = places_from 1000 j.stimuli in
-    let vcds = places_from 2000 (map vcd_path j.stimuli) in
+    let stimuli = places_from (stimulus_place 0) j.stimuli in
+    let vcds = places_from (waveform_place 0) (map vcd_path j.stimuli) in
     let within = slice_get_within j.stimuli i path is in
-    let size = length-places_from 1000 j.stimuli in
-    ap (λ (k : ℕ). get_or (places j) k d) (e ∙ add-one i) ∙ get_or_append_left stimuli vcds d i (omega arith) ∙ get_or-places_from 1000 j.stimuli i d path is
+    let size = length-places_from (stimulus_place 0) j.stimuli in
+    ap (λ (k : ℕ). get_or (places j) k d) (e ∙ add-one i) ∙ get_or_append_left stimuli vcds d i (omega arith) ∙ get_or-places_from (stimulus_place 0) j.stimuli i d path is
 
-pub place-vcd : (j : Job) (n i : ℕ) (d : Place) (path : List ℕ) → n ≡ 1 + (length j.stimuli + i) → slice_get j.stimuli i ≡ Some path → get_or (places j) n d ≡ place (2000 + i) (vcd_path path)
+pub place-vcd : (j : Job) (n i : ℕ) (d : Place) (path : List ℕ) → n ≡ 1 + (length j.stimuli + i) → slice_get j.stimuli i ≡ Some path → get_or (places j) n d ≡ place (waveform_place i) (vcd_path path)
 unfolding places
 place-vcd j n i d path e is =
-    let stimuli = places_from 1000 j.stimuli in
-    let vcds = places_from 2000 (map vcd_path j.stimuli) in
-    let size = length-places_from 1000 j.stimuli in
+    let stimuli = places_from (stimulus_place 0) j.stimuli in
+    let vcds = places_from (waveform_place 0) (map vcd_path j.stimuli) in
+    let size = length-places_from (stimulus_place 0) j.stimuli in
     let at_vcd : n ≡ suc (length stimuli + i) = omega arith in
-    ap (λ (k : ℕ). get_or (places j) k d) at_vcd ∙ get_or-append-add stimuli vcds i d ∙ get_or-places_from 2000 (map vcd_path j.stimuli) i d (vcd_path path) (slice_get-map vcd_path j.stimuli i ∙ ap (λ (o : Option (List ℕ)). option_map vcd_path o) is)
+    ap (λ (k : ℕ). get_or (places j) k d) at_vcd ∙ get_or-append-add stimuli vcds i d ∙ get_or-places_from (waveform_place 0) (map vcd_path j.stimuli) i d (vcd_path path) (slice_get-map vcd_path j.stimuli i ∙ ap (λ (o : Option (List ℕ)). option_map vcd_path o) is)
 
 -- a first place that isn't taken
 passed : (b : Bool) (n : ℕ) (o : Option ℕ) → cond b (Some n) o ≡ None → (b ≡ false) × (o ≡ None)
@@ -125,17 +126,17 @@ pub same_paths-none : (j : Job) → same_paths j ≡ None → PathsDiffer (place
 unfolding same_paths
 same_paths-none j none = differ_from [] (places j) (λ i k d lt le. absurd (omega arith)) none
 
-pub slice_get-design : (j : Job) → slice_get (places j) 0 ≡ Some (place 1 j.design)
+pub slice_get-design : (j : Job) → slice_get (places j) 0 ≡ Some (place design_place j.design)
 unfolding places
 slice_get-design j = refl
 
-pub slice_get-stimulus : (j : Job) (i : ℕ) (path : List ℕ) → slice_get j.stimuli i ≡ Some path → slice_get (places j) (1 + i) ≡ Some (place (1000 + i) path)
+pub slice_get-stimulus : (j : Job) (i : ℕ) (path : List ℕ) → slice_get j.stimuli i ≡ Some path → slice_get (places j) (1 + i) ≡ Some (place (stimulus_place i) path)
 slice_get-stimulus j i path is =
     let size = length-places j in
     let within = slice_get_within j.stimuli i path is in
     slice_get-get_or (places j) (1 + i) (place 0 []) (omega arith) ∙ ap (λ (p : Place). Some p) (place-stimulus j (1 + i) i (place 0 []) path (omega arith) is)
 
-pub slice_get-vcd : (j : Job) (i : ℕ) (path : List ℕ) → slice_get j.stimuli i ≡ Some path → slice_get (places j) (1 + length j.stimuli + i) ≡ Some (place (2000 + i) (vcd_path path))
+pub slice_get-vcd : (j : Job) (i : ℕ) (path : List ℕ) → slice_get j.stimuli i ≡ Some path → slice_get (places j) (1 + length j.stimuli + i) ≡ Some (place (waveform_place i) (vcd_path path))
 slice_get-vcd j i path is =
     let size = length-places j in
     let within = slice_get_within j.stimuli i path is in

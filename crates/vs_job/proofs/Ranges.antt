@@ -5,12 +5,13 @@ use Rattle.std.specs.Str.{bytes_eq, all_ascii_digits}
 use Rattle.std.specs.Str.Parse.{digits_value}
 use Rattle.std.proofs.lemmas.Bool.{and_parts, leb-true}
 use Rattle.std.proofs.lemmas.Option.{cond_some, option_and_then_some, same_Some}
+use Rattle.vs_desk.specs.Places.{most_lanes}
 use Rattle.vs_job.specs.declared.job.Job.{Job}
-use Rattle.vs_job.specs.Job.{Read, read, is_plain, behind_run, option_value, half_value, is_half, half_given, half_option, design_and_stimuli, job, IsJob}
+use Rattle.vs_job.specs.Job.{Read, read, is_plain, behind_run, option_value, half_value, is_half, half_given, half_option, design_and_stimuli, job, IsJob, most_half}
 
 pub record IsHalf (n : ℕ) : Type 0 where
   pub from : 1 ≤ n
-  pub to : n ≤ 1000000
+  pub to : n ≤ most_half
 
 half_value-range : (ds : List ℕ) (n : ℕ) → half_value ds ≡ Some n → IsHalf n
 half_value-range ds n e =
@@ -18,7 +19,7 @@ half_value-range ds n e =
     let first = and_parts (not (eqb (get_or ds 0 0) 48)) _ (and_parts (all_ascii_digits ds) _ h.0).1 in
     let range = and_parts (nat_le 1 (digits_value 10 ds)) _ first.1 in
     let low = leb-true 1 (digits_value 10 ds) range.0 in
-    let high = leb-true (digits_value 10 ds) 1000000 range.1 in
+    let high = leb-true (digits_value 10 ds) most_half range.1 in
     let same : digits_value 10 ds ≡ n = h.1 in
     record { from = omega arith; to = omega arith }
 
@@ -44,15 +45,15 @@ half_option-range (option ∷ words) r e = chosen (bytes_eq option (codes "--hal
 
 pub record IsFew (stimuli : List (List ℕ)) : Type 0 where
   pub some : 1 ≤ length stimuli
-  pub few : length stimuli ≤ 64
+  pub few : length stimuli ≤ most_lanes
 
 design_and_stimuli-range : (words : List (List ℕ)) (r : Read (List ℕ)) → design_and_stimuli words ≡ Some r → IsFew r.rest
 design_and_stimuli-range [] r e = absurd (cc)
 design_and_stimuli-range (design ∷ stimuli) r e =
-    let h = cond_some (list_all is_plain (design ∷ stimuli) && (nat_le 1 (length stimuli) && nat_le (length stimuli) 64)) (read design stimuli) r e in
+    let h = cond_some (list_all is_plain (design ∷ stimuli) && (nat_le 1 (length stimuli) && nat_le (length stimuli) most_lanes)) (read design stimuli) r e in
     let range = and_parts (nat_le 1 (length stimuli)) _ (and_parts (list_all is_plain (design ∷ stimuli)) _ h.0).1 in
     let low = leb-true 1 (length stimuli) range.0 in
-    let high = leb-true (length stimuli) 64 range.1 in
+    let high = leb-true (length stimuli) most_lanes range.1 in
     let P : Read (List ℕ) → Type 0 = λ x. IsFew x.rest in
     subst P h.1 (record { some = low; few = high })
 

@@ -3,6 +3,7 @@ use Rattle.std.specs.Prelude.{ℕ, ◌≤◌, Bool, true, not, ◌&&◌, ◌==�
 use Rattle.std.specs.List.{list_all}
 use Rattle.std.specs.Str.{all_ascii_digits}
 use Rattle.std.specs.Str.Parse.{digits_value}
+use Rattle.vs_desk.specs.Places.{most_lanes}
 use Rattle.vs_job.specs.declared.job.Job.{Job}
 
 infixl 10 ◌>>=◌
@@ -32,9 +33,13 @@ abbrev pub option_value : List ℕ → List (List ℕ) → Option (Read (List �
 option_value name (option ∷ value ∷ words) = if bytes_eq option name && is_plain value then Some (read value words) else None
 option_value name _ = None
 
--- decimal digits without a sign or a leading zero, with a value from 1 to 1,000,000
+-- the greatest half-period of the clock, in units of time
+abbrev pub most_half : ℕ
+most_half = 1000000
+
+-- decimal digits without a sign or a leading zero, with a value from 1 to the greatest half-period
 abbrev pub is_half : List ℕ → Bool
-is_half digits = all_ascii_digits digits && (not (slice_index digits 0 == 48) && (nat_le 1 (digits_value 10 digits) && nat_le (digits_value 10 digits) 1000000))
+is_half digits = all_ascii_digits digits && (not (slice_index digits 0 == 48) && (nat_le 1 (digits_value 10 digits) && nat_le (digits_value 10 digits) most_half))
 
 abbrev pub half_value : List ℕ → Option ℕ
 half_value digits = if is_half digits then Some (digits_value 10 digits) else None
@@ -54,7 +59,7 @@ half_option (option ∷ words) = if bytes_eq option (codes "--half") then half_g
 -- the design and, behind it, 1 to 64 stimuli
 abbrev pub design_and_stimuli : List (List ℕ) → Option (Read (List ℕ))
 design_and_stimuli [] = None
-design_and_stimuli (design ∷ stimuli) = if list_all is_plain (design ∷ stimuli) && (nat_le 1 (length stimuli) && nat_le (length stimuli) 64) then Some (read design stimuli) else None
+design_and_stimuli (design ∷ stimuli) = if list_all is_plain (design ∷ stimuli) && (nat_le 1 (length stimuli) && nat_le (length stimuli) most_lanes) then Some (read design stimuli) else None
 
 -- the job that the words call for, the program's own name first; none where they call for none
 unfoldable pub job : List (List ℕ) → Option Job
@@ -69,6 +74,6 @@ job words = do
 -- the ranges that every job keeps
 pub record IsJob (j : Job) : Type 0 where
   pub half_from : 1 ≤ j.half
-  pub half_to : j.half ≤ 1000000
+  pub half_to : j.half ≤ most_half
   pub some : 1 ≤ length j.stimuli
-  pub few : length j.stimuli ≤ 64
+  pub few : length j.stimuli ≤ most_lanes

@@ -1,5 +1,6 @@
 -- The places of a job on a desk, and the path of each.
 use Rattle.std.specs.Prelude.{◌≢◌, ℕ, suc, List, [], ◌∷◌, ◌++◌, map, AllPairs, Option, Some, None, codes, bytes_eq, if◌then◌else◌}
+use Rattle.vs_desk.specs.Places.{design_place, stimulus_place, waveform_place}
 use Rattle.vs_job.specs.declared.job.Job.{Job}
 
 -- a place's number, and its path
@@ -21,7 +22,7 @@ places_from n (path ∷ paths) = place n path ∷ places_from (suc n) paths
 
 -- the design, the stimuli by lane, and the waveforms by lane
 unfoldable pub places : Job → List Place
-places j = place 1 j.design ∷ (places_from 1000 j.stimuli ++ places_from 2000 (map vcd_path j.stimuli))
+places j = place design_place j.design ∷ (places_from (stimulus_place 0) j.stimuli ++ places_from (waveform_place 0) (map vcd_path j.stimuli))
 
 -- the first of the places that has this path
 abbrev pub place_with : List ℕ → List Place → Option ℕ

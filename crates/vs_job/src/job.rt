@@ -2,6 +2,7 @@
 
 ghost use Rattle.std.specs.Prelude.{◌≡◌, ◌↔◌, map, IfOk, string_bytes};
 ghost use Rattle.vs_job.specs.Job.{job, IsJob};
+ghost use Rattle.vs_job.specs.declared.job.JobError.TheVariants.{Memory};
 
 use crate::text::{Text, Texts};
 use crate::words::read_command;
@@ -34,6 +35,14 @@ pub enum JobError {
     Memory,
 }
 
+impl From<AllocError> for JobError {
+    ghost from_gives = { λ _ e. e ≡ Memory };
+
+    fn from(_error: AllocError) -> JobError {
+        JobError::Memory
+    }
+}
+
 /// Reads the words of the command line, the program's own name first:
 /// `cyclesim run --top T --clock C [--half H] DESIGN STIM..`.
 ///
@@ -50,8 +59,6 @@ pub fn read_job(alloc: Global, words: &[String]) -> Result<Job, JobError>
     let Some(command) = read_command(words) else {
         return Err(JobError::Usage);
     };
-    match command.to_job(alloc) {
-        Ok(job) => Ok(job),
-        Err(AllocError) => Err(JobError::Memory),
-    }
+    let job = command.to_job(alloc)?;
+    Ok(job)
 }

@@ -1,6 +1,7 @@
 //! Laws on jobs, as functions that do nothing: each clause is over the definitions alone.
 
 ghost use Rattle.std.specs.Prelude.{◌≡◌, ◌+◌, ℕ, List, None, Some, length, slice_get};
+ghost use Rattle.vs_desk.specs.Places.{design_place, stimulus_place, waveform_place};
 ghost use Rattle.vs_job.specs.declared.job.Job.{Job};
 ghost use Rattle.vs_job.specs.Job.{job, IsJob};
 ghost use Rattle.vs_job.specs.Places.{Place, places, same_paths, vcd_path, place, PathsDiffer};
@@ -17,9 +18,9 @@ pub fn same_paths_law()
 
 /// Which places there are: the design, and a stimulus and a waveform for each lane.
 pub fn places_law()
-    ensures design { (j : Job) → slice_get (places j) 0 ≡ Some (place 1 j.design) }
+    ensures design { (j : Job) → slice_get (places j) 0 ≡ Some (place design_place j.design) }
     ensures stimulus { (j : Job) (i : ℕ) (path : List ℕ) → slice_get j.stimuli i ≡ Some path
-        → slice_get (places j) (1 + i) ≡ Some (place (1000 + i) path) }
+        → slice_get (places j) (1 + i) ≡ Some (place (stimulus_place i) path) }
     ensures vcd { (j : Job) (i : ℕ) (path : List ℕ) → slice_get j.stimuli i ≡ Some path
-        → slice_get (places j) (1 + length j.stimuli + i) ≡ Some (place (2000 + i) (vcd_path path)) }
+        → slice_get (places j) (1 + length j.stimuli + i) ≡ Some (place (waveform_place i) (vcd_path path)) }
 {}

@@ -1,19 +1,12 @@
 //! The places of a job, and two of them that have one path.
 
 ghost use Rattle.std.specs.Prelude.{◌≡◌, ◌+◌, ◌*◌, ◌<◌, ◌≤◌, take, length, slice_index_or, bytes_eq};
+ghost use Rattle.vs_desk.specs.Places.{most_lanes};
 ghost use Rattle.vs_job.specs.Places as spec;
 ghost use Rattle.vs_job.specs.Paths.{path_of, place_of};
 
 use crate::job::Job;
-
-/// The place of the design.
-const DESIGN: u32 = 1;
-
-/// The place of lane 0's stimulus.
-const FIRST_STIMULUS: u32 = 1000;
-
-/// The place of lane 0's waveform.
-const FIRST_VCD: u32 = 2000;
+use vs_desk::{DESIGN_PLACE, FIRST_STIMULUS, FIRST_WAVEFORM};
 
 /// What is added to a stimulus's path.
 const VCD: &[u8] = b".vcd";
@@ -58,7 +51,7 @@ fn is_same(a: Path<'_>, b: Path<'_>) -> bool
 
 /// How many places there are.
 fn place_count(job: &Job) -> usize
-    requires { length job.now.stimuli ≤ 64 }
+    requires { length job.now.stimuli ≤ most_lanes }
     ensures { result ≡ 1 + 2 * length job.now.stimuli }
 {
     1 + 2 * job.stimuli.len()
@@ -66,14 +59,14 @@ fn place_count(job: &Job) -> usize
 
 /// Place n, from 0: the design, the stimuli by lane, and the waveforms by lane.
 fn place_at(job: &Job, n: usize) -> Place<'_>
-    requires few { length job.now.stimuli ≤ 64 }
+    requires few { length job.now.stimuli ≤ most_lanes }
     requires place { n < 1 + 2 * length job.now.stimuli }
     ensures { (d : spec.Place) → slice_index_or (spec.places job.now) n d ≡ place_of result }
 {
     let lanes = job.stimuli.len();
     if n == 0 {
         return Place {
-            number: DESIGN,
+            number: DESIGN_PLACE,
             path: Path::Word(job.design.as_str()),
         };
     }
@@ -86,14 +79,14 @@ fn place_at(job: &Job, n: usize) -> Place<'_>
     }
     let lane = n - 1 - lanes;
     Place {
-        number: FIRST_VCD + lane as u32,
+        number: FIRST_WAVEFORM + lane as u32,
         path: Path::Vcd(job.stimuli.get(lane).as_str()),
     }
 }
 
 /// The first of the first n places that has the path.
 fn place_with(job: &Job, n: usize, path: Path<'_>) -> Option<u32>
-    requires few { length job.now.stimuli ≤ 64 }
+    requires few { length job.now.stimuli ≤ most_lanes }
     requires places { n ≤ 1 + 2 * length job.now.stimuli }
     ensures { result ≡ spec.place_with (path_of path.entry) (take n (spec.places job.now)) }
 {
@@ -112,7 +105,7 @@ fn place_with(job: &Job, n: usize, path: Path<'_>) -> Option<u32>
 /// In the order of the design, the stimuli by lane and the waveforms by lane it is the pair whose
 /// later member comes first, and with it the earliest equal one. It takes no memory.
 pub fn same_paths(job: &Job) -> Option<(u32, u32)>
-    requires { length job.now.stimuli ≤ 64 }
+    requires { length job.now.stimuli ≤ most_lanes }
     ensures { result ≡ spec.same_paths job.now }
 {
     for n in 0..place_count(job) {

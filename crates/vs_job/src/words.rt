@@ -8,15 +8,13 @@ ghost use Rattle.vs_job.specs.Command.{job_of};
 use crate::job::Job;
 use crate::text::{Text, Texts};
 use std::alloc::{AllocError, Global};
+use vs_desk::MOST_LANES;
 
 /// The half-period where none is given.
 const DEFAULT_HALF: u32 = 5;
 
 /// The greatest half-period.
 const MOST_HALF: u32 = 1_000_000;
-
-/// The greatest number of stimuli.
-const MOST_STIMULI: usize = 64;
 
 /// A job whose texts are words of the command line.
 #[derive(Clone, Copy)]
@@ -117,7 +115,7 @@ fn design_and_stimuli(words: &[String]) -> Option<(&str, &[String])>
     if !are_plain(words) {
         return None;
     }
-    if 1 <= stimuli.len() && stimuli.len() <= MOST_STIMULI {
+    if 1 <= stimuli.len() && stimuli.len() <= MOST_LANES {
         Some((design.as_str(), stimuli))
     } else {
         None

@@ -3,6 +3,6 @@ use Rattle.vs_job.specs.declared.job.Job.{Job}
 use Rattle.vs_job.proofs.Ranges.{IsJob-job}
 use Rattle.vs_job.proofs.job.read_job.Goals as goal
 
-pub returns-in-Ok-clause-in_range : goal.returns-in-Ok-clause-in_range
-returns-in-Ok-clause-in_range c =
-    IsJob-job (map string_bytes c.args.words.now) c.in-Ok.job (sym c.in-Some.ensures ∙ ap (λ (j : Job). Some j) (sym c.in-Ok.ensures))
+pub returns-clause-in_range : goal.returns-clause-in_range
+returns-clause-in_range c =
+    IsJob-job (map string_bytes c.args.words.now) c.in_ok-job.job (sym c.in-Some.ensures ∙ ap (λ (j : Job). Some j) (sym c.in_ok-job.ensures))
