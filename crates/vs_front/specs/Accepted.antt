@@ -33,10 +33,14 @@ pub record IsDeclared (s : Source) : Type 0 where
   pub different : are_different (map (λ (p : Port). p.name) s.ports) ≡ true
   pub items : list_all (is_declared_item s.ports) s.items ≡ true
 
+-- the greatest number of bytes in a text
+abbrev pub most_bytes : ℕ
+most_bytes = 4194304
+
 -- The text is accepted as this design, with a top module and a clock input of these names.
 pub record IsAcceptedText (text top clock : List ℕ) (design : Design) : Type 0 where
   pub source : Source
-  pub short : length text ≤ 4194304
+  pub short : length text ≤ most_bytes
   pub spelled : Spells text source
   pub top_named : source.name ≡ top
   pub declared : IsDeclared source

@@ -5,3 +5,4 @@ pub mod Accepted
 pub mod Wiring
 pub mod Gates
 pub mod Lent
+pub mod Errors

@@ -30,7 +30,7 @@ use std::alloc::{AllocError, Global};
 use std::marker::Model;
 use vs_design::cycle_law;
 use vs_flat::{Flat, adding_law, trees_law};
-use vs_lexer::{LexError, MAX_BYTES, Token, lex, tokens_law};
+use vs_lexer::{MAX_BYTES, Token, lex, tokens_law};
 
 /// The design of an accepted text.
 #[derive(Drop)]
@@ -96,11 +96,8 @@ fn cut(alloc: Global, text: &[u8]) -> Result<Vec<Token>, AcceptError>
     ensures refused { result ≡ Err Refused → (tokens : List Token) → cut_text text.now ≢ Ok tokens }
 {
     tokens_law();
-    match lex(alloc, text) {
-        Ok(tokens) => Ok(tokens),
-        Err(LexError::Memory) => Err(AcceptError::Memory),
-        Err(_) => Err(AcceptError::Refused),
-    }
+    let tokens = lex(alloc, text)?;
+    Ok(tokens)
 }
 
 /// The source that a text spells.
@@ -153,12 +150,7 @@ fn design(alloc: Global, source: Source, wiring: Wiring) -> Result<Accepted, All
 
 /// Accepts a text of at most `MAX_BYTES` bytes whose top module and whose clock input have these names. It is refused exactly where it is
 /// accepted as no design.
-pub fn accept(
-    alloc: Global,
-    text: &[u8],
-    top: &[u8],
-    clock: &[u8],
-) -> Result<Accepted, AcceptError>
+pub fn accept(alloc: Global, text: &[u8], top: &[u8], clock: &[u8]) -> Result<Accepted, AcceptError>
     requires { length text.now ≤ MAX_BYTES }
     ensures accepted { IfOk result (λ a. IsAcceptedText text.now top.now clock.now (design_of a.flat)) }
     ensures lawful { IfOk result (λ a. IsLawful a.flat) }

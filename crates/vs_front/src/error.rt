@@ -2,9 +2,11 @@
 
 ghost use Rattle.std.specs.Prelude.{◌≡◌};
 ghost use Rattle.vs_front.specs.declared.error.AcceptError.TheVariants.{Memory};
+ghost use Rattle.vs_front.specs.Errors.{lex_refusal};
 
 use std::alloc::{AllocError, AllocFailed};
 use thiserror::Error;
+use vs_lexer::LexError;
 
 /// Why a text is not accepted.
 #[derive(Clone, Copy, PartialEq, Eq, Debug, Error)]
@@ -30,5 +32,16 @@ impl<T: Drop> From<AllocFailed<T>> for AcceptError {
 
     fn from(_error: AllocFailed<T>) -> AcceptError {
         AcceptError::Memory
+    }
+}
+
+impl From<LexError> for AcceptError {
+    ghost from_gives = { λ l e. e ≡ lex_refusal l };
+
+    fn from(error: LexError) -> AcceptError {
+        match error {
+            LexError::Memory => AcceptError::Memory,
+            _ => AcceptError::Refused,
+        }
     }
 }

@@ -11,3 +11,4 @@ mod wiring;
 pub use acceptance::{Accepted, accept};
 pub use error::AcceptError;
 pub use source::{Item, Port, Source};
+pub use vs_lexer::MAX_BYTES;
