@@ -1,6 +1,6 @@
 -- What a syntax tree is, without where it lies in memory.
 use Rattle.std.specs.Prelude.{ℕ, List, [], ◌∷◌, Option, Some, None, map}
-use Rattle.vs_lexer.specs.Literals.{bits_of_planes}
+use Rattle.vs_four.specs.Planes.{bits_of_planes}
 use Rattle.vs_grammar.specs.Trees as tree
 use Rattle.vs_grammar.specs.Trees.{UnaryOp as plain_unary, BinaryOp as plain_binary}
 use Rattle.vs_ast.specs.declared.names.Name.{Name}

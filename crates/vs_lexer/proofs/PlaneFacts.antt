@@ -3,14 +3,16 @@ use Rattle.std.proofs.Common.{◌≡◌, ℕ, zero, suc, ◌+◌, ◌*◌, ◌/�
 use Rattle.std.proofs.lemmas.List.{take-take, append-nil, take_at, take-replicate, take_more}
 use Rattle.std.specs.Prelude.{◌==◌, ◌&&◌, ◌||◌, not, nat_lt, nat_le, Option, Some, None}
 use Rattle.std.proofs.lemmas.Bool.{and_parts, or_cases, eqb-true, leb-true, ltb-true, both_ways, not-true}
-use Rattle.std.proofs.Math.Nat.{pow-suc}
+use Rattle.std.proofs.Math.Nat.{pow-suc, zero-mod}
 use Rattle.std.proofs.Math.Arith.{mod-mul}
 use Rattle.std.proofs.Math.Pow.{pow_pos}
 use Rattle.vs_four.specs.declared.Bit4.{Bit4}
 use Rattle.vs_four.specs.declared.Bit4.TheVariants.{Zero, One}
+use Rattle.vs_four.specs.Planes.{decode, bits_of_planes}
+use Rattle.vs_four.specs.PlanesBack.{by_bit}
 use Rattle.vs_lexer.specs.declared.bytes.Base.{Base}
 use Rattle.vs_lexer.specs.declared.number.LiteralHead.{LiteralHead}
-use Rattle.vs_lexer.specs.Literals.{number_bits, digit_bits, all_digit_bits, plane_bit, bits_of_planes, fitted, fill_bit, digits_bits, decimal_value, is_good_size, is_decimal_number, is_in_range, head_of, literal_size, literal_bits, is_signed_literal, has_size}
+use Rattle.vs_lexer.specs.Literals.{number_bits, digit_bits, all_digit_bits, fitted, fill_bit, digits_bits, decimal_value, is_good_size, is_decimal_number, is_in_range, head_of, literal_size, literal_bits, is_signed_literal, has_size}
 
 -- ---- lists
 
@@ -24,11 +26,7 @@ take_append (suc n) m (x ∷ xs) ys h = ap (λ r. x ∷ r) (take_append n m xs y
 pub bits_number : (n v : ℕ) → bits_of_planes n v 0 ≡ number_bits n v
 unfolding bits_of_planes number_bits
 bits_number zero v = refl
-bits_number (suc n) v = one (v % 2 == 1) (bits_number n (v / 2))
-  where
-    one : (b : Bool) → bits_of_planes n (v / 2) 0 ≡ number_bits n (v / 2) → plane_bit b false ∷ bits_of_planes n (v / 2) 0 ≡ cond b One Zero ∷ number_bits n (v / 2)
-    one true e = ap (λ r. One ∷ r) e
-    one false e = ap (λ r. Zero ∷ r) e
+bits_number (suc n) v = by_bit (λ p. decode p 0 ∷ bits_of_planes n (v / 2) 0 ≡ cond (p == 1) One Zero ∷ number_bits n (v / 2)) (ap (λ r. Zero ∷ r) (bits_number n (v / 2))) (ap (λ r. One ∷ r) (bits_number n (v / 2))) v
 
 low_digit : (n v : ℕ) → v % 2 ^ suc n ≡ (v / 2 % 2 ^ n) * 2 + v % 2
 low_digit n v = ap (λ p. v % p) (pow-suc 2 n) ∙ mod-mul v (pow_pos n) (omega arith)
@@ -44,18 +42,24 @@ pub bits-mod : (n v u : ℕ) → bits_of_planes n (v % 2 ^ n) (u % 2 ^ n) ≡ bi
 unfolding bits_of_planes
 bits-mod zero v u = refl
 bits-mod (suc n) v u =
-    ap (λ a. plane_bit (a == 1) (u % 2 ^ suc n % 2 == 1) ∷ bits_of_planes n (v % 2 ^ suc n / 2) (u % 2 ^ suc n / 2)) (low_bit n v)
-    ∙ ap (λ b. plane_bit (v % 2 == 1) (b == 1) ∷ bits_of_planes n (v % 2 ^ suc n / 2) (u % 2 ^ suc n / 2)) (low_bit n u)
-    ∙ ap (λ a. plane_bit (v % 2 == 1) (u % 2 == 1) ∷ bits_of_planes n a (u % 2 ^ suc n / 2)) (low_half n v)
-    ∙ ap (λ b. plane_bit (v % 2 == 1) (u % 2 == 1) ∷ bits_of_planes n (v / 2 % 2 ^ n) b) (low_half n u)
-    ∙ ap (λ r. plane_bit (v % 2 == 1) (u % 2 == 1) ∷ r) (bits-mod n (v / 2) (u / 2))
+    ap (λ a. decode a (u % 2 ^ suc n % 2) ∷ bits_of_planes n (v % 2 ^ suc n / 2) (u % 2 ^ suc n / 2)) (low_bit n v)
+    ∙ ap (λ b. decode (v % 2) b ∷ bits_of_planes n (v % 2 ^ suc n / 2) (u % 2 ^ suc n / 2)) (low_bit n u)
+    ∙ ap (λ a. decode (v % 2) (u % 2) ∷ bits_of_planes n a (u % 2 ^ suc n / 2)) (low_half n v)
+    ∙ ap (λ b. decode (v % 2) (u % 2) ∷ bits_of_planes n (v / 2 % 2 ^ n) b) (low_half n u)
+    ∙ ap (λ r. decode (v % 2) (u % 2) ∷ r) (bits-mod n (v / 2) (u / 2))
+
+-- a number cut to n bits
+pub number_cut : (n v step : ℕ) → step ≡ 2 ^ n → bits_of_planes n (v % step) 0 ≡ number_bits n v
+number_cut n v step is =
+    let none : 0 ≡ 0 % 2 ^ n = sym (zero-mod (2 ^ n)) in
+    ap (λ s. bits_of_planes n (v % s) 0) is ∙ ap (bits_of_planes n (v % 2 ^ n)) none ∙ bits-mod n v 0 ∙ bits_number n v
 
 -- fewer bits of the same planes
 pub bits-take : (n m v u : ℕ) → n ≤ m → take n (bits_of_planes m v u) ≡ bits_of_planes n v u
 unfolding bits_of_planes
 bits-take zero m v u h = refl
 bits-take (suc n) zero v u h = absurd (omega arith)
-bits-take (suc n) (suc m) v u h = ap (λ r. plane_bit (v % 2 == 1) (u % 2 == 1) ∷ r) (bits-take n m (v / 2) (u / 2) (omega arith))
+bits-take (suc n) (suc m) v u h = ap (λ r. decode (v % 2) (u % 2) ∷ r) (bits-take n m (v / 2) (u / 2) (omega arith))
 
 -- planes with the k bits of a digit on the right
 digit_bit : (k v d : ℕ) → (v * 2 ^ suc k + d) % 2 ≡ d % 2
@@ -77,11 +81,11 @@ bits-append zero n v u d e h g =
 bits-append (suc k) n v u d e h g =
     let c : suc k + n ≡ suc (k + n) = omega arith in
     ap (λ m. bits_of_planes m (v * 2 ^ suc k + d) (u * 2 ^ suc k + e)) c
-    ∙ ap (λ a. plane_bit (a == 1) ((u * 2 ^ suc k + e) % 2 == 1) ∷ bits_of_planes (k + n) ((v * 2 ^ suc k + d) / 2) ((u * 2 ^ suc k + e) / 2)) (digit_bit k v d)
-    ∙ ap (λ b. plane_bit (d % 2 == 1) (b == 1) ∷ bits_of_planes (k + n) ((v * 2 ^ suc k + d) / 2) ((u * 2 ^ suc k + e) / 2)) (digit_bit k u e)
-    ∙ ap (λ a. plane_bit (d % 2 == 1) (e % 2 == 1) ∷ bits_of_planes (k + n) a ((u * 2 ^ suc k + e) / 2)) (digit_rest k v d)
-    ∙ ap (λ b. plane_bit (d % 2 == 1) (e % 2 == 1) ∷ bits_of_planes (k + n) (v * 2 ^ k + d / 2) b) (digit_rest k u e)
-    ∙ ap (λ r. plane_bit (d % 2 == 1) (e % 2 == 1) ∷ r) (bits-append k n v u (d / 2) (e / 2) (half_small k d h) (half_small k e g))
+    ∙ ap (λ a. decode a ((u * 2 ^ suc k + e) % 2) ∷ bits_of_planes (k + n) ((v * 2 ^ suc k + d) / 2) ((u * 2 ^ suc k + e) / 2)) (digit_bit k v d)
+    ∙ ap (λ b. decode (d % 2) b ∷ bits_of_planes (k + n) ((v * 2 ^ suc k + d) / 2) ((u * 2 ^ suc k + e) / 2)) (digit_bit k u e)
+    ∙ ap (λ a. decode (d % 2) (e % 2) ∷ bits_of_planes (k + n) a ((u * 2 ^ suc k + e) / 2)) (digit_rest k v d)
+    ∙ ap (λ b. decode (d % 2) (e % 2) ∷ bits_of_planes (k + n) (v * 2 ^ k + d / 2) b) (digit_rest k u e)
+    ∙ ap (λ r. decode (d % 2) (e % 2) ∷ r) (bits-append k n v u (d / 2) (e / 2) (half_small k d h) (half_small k e g))
 
 -- the same, cut to n bits
 pub bits-shift : (k n v u d e : ℕ) → d < 2 ^ k → e < 2 ^ k → bits_of_planes n ((v * 2 ^ k + d) % 2 ^ n) ((u * 2 ^ k + e) % 2 ^ n) ≡ take n (bits_of_planes k d e ++ bits_of_planes n v u)

@@ -139,16 +139,3 @@ is_signed_literal text = elim (head_of text) [ None ↦ true | Some h ↦ h.sign
 -- a size was written
 unfoldable pub has_size : List ℕ → Bool
 has_size text = elim (head_of text) [ None ↦ false | Some h ↦ not (h.size == 0) ]
-
--- ---- two planes: 0 is (0, 0), 1 is (1, 0), z is (0, 1), x is (1, 1)
-
-abbrev pub plane_bit : Bool → Bool → Bit4
-plane_bit false false = Zero
-plane_bit true false = One
-plane_bit false true = Z
-plane_bit true true = X
-
--- the low bits of a plane of values and a plane of unknown bits
-unfoldable pub bits_of_planes : ℕ → ℕ → ℕ → List Bit4
-bits_of_planes zero value unknown = []
-bits_of_planes (suc n) value unknown = plane_bit (value % 2 == 1) (unknown % 2 == 1) ∷ bits_of_planes n (value / 2) (unknown / 2)

@@ -1,6 +1,7 @@
 //! What a number stands for (IEEE 1364-2005, 3.5.1).
 
 ghost use Rattle.std.specs.Prelude.{◌≡◌, ◌≢◌, ◌<◌, ◌≤◌, ◌+◌, ◌*◌, ◌%◌, ◌^◌, ◌++◌, Ok, Some, length, take, drop, replicate, slice_index, true, false};
+ghost use Rattle.vs_four.specs.Planes.{bits_of_planes};
 ghost use Rattle.vs_lexer.specs.Literals as spec;
 ghost use Rattle.vs_lexer.specs.Cuts.{cut_text, spelling_of, is_number};
 
@@ -29,9 +30,9 @@ pub(crate) struct Planes {
 }
 
 /// 64 bits of what fills a number whose first digit is this.
-#[tactic(auto, unfolding(crate::specs::Literals::bits_of_planes))]
+#[tactic(auto, unfolding(vs_four::specs::Planes::bits_of_planes))]
 fn filling(first: u8) -> Planes
-    ensures { spec.bits_of_planes 64 result.value result.unknown ≡ replicate 64 (spec.fill_bit first) }
+    ensures { bits_of_planes 64 result.value result.unknown ≡ replicate 64 (spec.fill_bit first) }
 {
     if is_x(first) {
         Planes {
@@ -64,10 +65,10 @@ fn digit_step(base: Base) -> u64
 }
 
 /// The bits of a digit.
-#[tactic(auto, unfolding(crate::specs::Literals::bits_of_planes, crate::specs::Literals::number_bits))]
+#[tactic(auto, unfolding(vs_four::specs::Planes::bits_of_planes))]
 fn digit_planes(base: Base, byte: u8) -> Planes
     requires { byte ≢ 95 }
-    ensures bits { spec.bits_of_planes (spec.digit_width base) result.value result.unknown ≡ spec.digit_bits base byte }
+    ensures bits { bits_of_planes (spec.digit_width base) result.value result.unknown ≡ spec.digit_bits base byte }
     ensures value { result.value < 2 ^ spec.digit_width base }
     ensures unknown { result.unknown < 2 ^ spec.digit_width base }
 {
@@ -99,7 +100,7 @@ fn shifted_in(plane: u64, step: u64, digit: u64) -> u64
 
 /// The bits of one more digit on the right.
 fn with_digit(planes: Planes, base: Base, byte: u8) -> Planes
-    ensures { spec.bits_of_planes 64 result.value result.unknown ≡ take 64 (spec.digit_bits base byte ++ spec.bits_of_planes 64 planes.value planes.unknown) }
+    ensures { bits_of_planes 64 result.value result.unknown ≡ take 64 (spec.digit_bits base byte ++ bits_of_planes 64 planes.value planes.unknown) }
 {
     if byte == b'_' {
         return planes;
@@ -114,7 +115,7 @@ fn with_digit(planes: Planes, base: Base, byte: u8) -> Planes
 
 /// The bits of digits, filled on the left to 64.
 fn digits_planes(base: Base, digits: &[u8]) -> Planes
-    ensures { spec.bits_of_planes 64 result.value result.unknown ≡ take 64 (spec.all_digit_bits base digits.now ++ replicate 64 (spec.fill_bit (slice_index digits.now 0))) }
+    ensures { bits_of_planes 64 result.value result.unknown ≡ take 64 (spec.all_digit_bits base digits.now ++ replicate 64 (spec.fill_bit (slice_index digits.now 0))) }
 {
     let mut planes = filling(byte_at(digits, 0));
     for byte in digits {
@@ -138,7 +139,7 @@ fn low_bits(plane: u64, size: u32) -> u64
 /// The bits of the digits of a number, filled on the left to 64.
 fn literal_planes(base: Base, digits: &[u8]) -> Planes
     requires { spec.is_decimal_number base digits.now ≡ true → spec.decimal_value digits.now < 2 ^ 64 }
-    ensures { spec.bits_of_planes 64 result.value result.unknown ≡ take 64 (spec.digits_bits base digits.now ++ replicate 64 (spec.fill_bit (slice_index digits.now 0))) }
+    ensures { bits_of_planes 64 result.value result.unknown ≡ take 64 (spec.digits_bits base digits.now ++ replicate 64 (spec.fill_bit (slice_index digits.now 0))) }
 {
     if !is_decimal_number(base, digits) {
         return digits_planes(base, digits);
@@ -170,7 +171,7 @@ fn based_literal(text: &[u8], head: &LiteralHead) -> Literal
     requires head { spec.head_of text.now ≡ Some head.now }
     requires in_range { spec.is_in_range text.now ≡ true }
     requires within { head.now.digits ≤ length text.now }
-    ensures bits { spec.bits_of_planes result.size result.value result.unknown ≡ spec.literal_bits text.now }
+    ensures bits { bits_of_planes result.size result.value result.unknown ≡ spec.literal_bits text.now }
     ensures value { result.value < 2 ^ result.size }
     ensures unknown { result.unknown < 2 ^ result.size }
     ensures size { result.size ≡ spec.literal_size text.now }
@@ -192,7 +193,7 @@ fn based_literal(text: &[u8], head: &LiteralHead) -> Literal
 /// What the number that a text is stands for.
 fn literal_of(text: &[u8]) -> Literal
     requires { spec.is_in_range text.now ≡ true }
-    ensures bits { spec.bits_of_planes result.size result.value result.unknown ≡ spec.literal_bits text.now }
+    ensures bits { bits_of_planes result.size result.value result.unknown ≡ spec.literal_bits text.now }
     ensures value { result.value < 2 ^ result.size }
     ensures unknown { result.unknown < 2 ^ result.size }
     ensures size { result.size ≡ spec.literal_size text.now }
@@ -238,7 +239,7 @@ pub fn read_literal(text: &[u8], tokens: &[Token], n: usize) -> Literal
     requires lexed { cut_text text.now ≡ Ok tokens.now }
     requires inside { n < length tokens.now }
     requires number { is_number tokens.now n ≡ true }
-    ensures bits { spec.bits_of_planes result.size result.value result.unknown ≡ spec.literal_bits (spelling_of text.now tokens.now n) }
+    ensures bits { bits_of_planes result.size result.value result.unknown ≡ spec.literal_bits (spelling_of text.now tokens.now n) }
     ensures value { result.value < 2 ^ result.size }
     ensures unknown { result.unknown < 2 ^ result.size }
     ensures size { result.size ≡ spec.literal_size (spelling_of text.now tokens.now n) }

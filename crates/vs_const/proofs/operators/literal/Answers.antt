@@ -1,15 +1,11 @@
-use Rattle.std.proofs.Common.{◌≡◌, ◌≤◌, ℕ, min, ap, refl, length, Some, suc, zero, arith, subst}
-use Rattle.vs_lexer.specs.Literals.{bits_of_planes}
+use Rattle.std.proofs.Common.{◌≡◌, ◌≤◌, ℕ, min, ap, refl, length, Some, arith, subst}
+use Rattle.vs_four.specs.Planes.{bits_of_planes}
+use Rattle.vs_four.specs.PlanesBack.{length-planes}
 use Rattle.vs_const.proofs.operators.literal.Goals as goal
-
-length_planes : (n v u : ℕ) → length (bits_of_planes n v u) ≡ n
-unfolding bits_of_planes
-length_planes zero v u = refl
-length_planes (suc n) v u = ap suc (length_planes n _ _)
 
 pub returns : goal.returns
 returns c =
-    let e = length_planes c.args.n.now.size c.args.n.now.value c.args.n.now.unknown in
+    let e = length-planes c.args.n.now.size c.args.n.now.value c.args.n.now.unknown in
     record { flaws = c.flawless.ensures; good = refl; length = ap Some (small c.args.n.now.size (length (bits_of_planes c.args.n.now.size c.args.n.now.value c.args.n.now.unknown)) e (subst (λ k. k ≤ 64) e c.requires.most)); signed = refl }
   where
     small : (n m : ℕ) → m ≡ n → n ≤ 64 → n ≡ min 65 m

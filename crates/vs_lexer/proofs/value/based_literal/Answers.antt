@@ -1,6 +1,7 @@
 use Rattle.std.proofs.Common.{◌≡◌, ◌<◌, ◌++◌, ◌%◌, ◌^◌, List, ℕ, true, take, drop, replicate, get_or, subst, sym, ◌∙◌, ap}
 use Rattle.std.proofs.lemmas.List.{take_rest}
-use Rattle.vs_lexer.specs.Literals.{digits_bits, bits_of_planes, fill_bit, fitted, decimal_value, is_decimal_number}
+use Rattle.vs_four.specs.Planes.{bits_of_planes}
+use Rattle.vs_lexer.specs.Literals.{digits_bits, fill_bit, fitted, decimal_value, is_decimal_number}
 use Rattle.vs_lexer.proofs.PlaneFacts.{based_bits, fitted_bits, signed_is, sized_is, good_value}
 use Rattle.vs_lexer.proofs.value.based_literal.Goals as goal
 

@@ -1,5 +1,6 @@
 use Rattle.std.proofs.Common.{◌≡◌, ◌++◌, take, replicate, get_or}
-use Rattle.vs_lexer.specs.Literals.{bits_of_planes, all_digit_bits, fill_bit}
+use Rattle.vs_four.specs.Planes.{bits_of_planes}
+use Rattle.vs_lexer.specs.Literals.{all_digit_bits, fill_bit}
 use Rattle.vs_lexer.proofs.value.digits_planes.Given as goal
 
 abbrev pub invariant-loop-byte : goal.invariant-loop-byte

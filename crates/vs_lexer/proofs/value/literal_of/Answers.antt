@@ -1,5 +1,5 @@
 use Rattle.std.proofs.Common.{sym, ◌∙◌, ap, arith}
-use Rattle.vs_lexer.specs.Literals.{bits_of_planes}
+use Rattle.vs_four.specs.Planes.{bits_of_planes}
 use Rattle.vs_lexer.proofs.PlaneFacts.{small_value, bits_number, unsized_bits, unsized_is, unsized_signed, unsized_has}
 use Rattle.vs_lexer.proofs.value.literal_of.Goals as goal
 

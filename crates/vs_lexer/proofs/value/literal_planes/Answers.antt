@@ -1,5 +1,6 @@
 use Rattle.std.proofs.Common.{◌++◌, take, replicate, get_or, sym, ◌∙◌, ap}
-use Rattle.vs_lexer.specs.Literals.{bits_of_planes, fill_bit}
+use Rattle.vs_four.specs.Planes.{bits_of_planes}
+use Rattle.vs_lexer.specs.Literals.{fill_bit}
 use Rattle.vs_lexer.proofs.PlaneFacts.{digits_are, decimal_are, bits_number, number_filled}
 use Rattle.vs_lexer.proofs.value.literal_planes.Goals as goal
 

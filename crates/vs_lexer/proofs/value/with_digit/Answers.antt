@@ -1,5 +1,6 @@
 use Rattle.std.proofs.Common.{◌+◌, ◌*◌, ◌%◌, ◌^◌, ◌++◌, take, sym, ◌∙◌, ap, arith}
-use Rattle.vs_lexer.specs.Literals.{digit_bits, digit_width, bits_of_planes}
+use Rattle.vs_four.specs.Planes.{bits_of_planes}
+use Rattle.vs_lexer.specs.Literals.{digit_bits, digit_width}
 use Rattle.vs_lexer.proofs.PlaneFacts.{bits-take, bits-shift}
 use Rattle.vs_lexer.proofs.value.with_digit.Goals as goal
 
