@@ -1,9 +1,8 @@
 -- Places that are attached one behind the other.
-use Rattle.std.proofs.Common.{◌≡◌, ℕ, zero, suc, true, inl, inr, ◌+◌, ◌<◌, ◌≤◌, List, [], ◌∷◌, ◌++◌, length, get_or, take, refl, sym, ap, ◌∙◌, subst, arith}
-use Rattle.std.specs.Prelude.{Option, Some, IsSomeAnd}
-use Rattle.std.proofs.lemmas.Bool.{ne_eqb, eq-eqb, cases_lt, false≢true}
+use Rattle.std.proofs.Common.{◌≡◌, ℕ, true, inl, inr, ◌+◌, ◌<◌, ◌≤◌, List, [], length, take, refl, sym, ap, ◌∙◌, subst, arith}
+use Rattle.std.specs.Prelude.{Option, IsSomeAnd}
+use Rattle.std.proofs.lemmas.Bool.{cases_lt, false≢true}
 use Rattle.std.proofs.lemmas.List.{take_more, length-take-le, get_or_past}
-use Rattle.vs_desk.specs.declared.desk.Way.{Way}
 use Rattle.vs_desk.specs.declared.desk.Way.TheVariants.{Read}
 use Rattle.vs_desk.specs.Desk.{Attachment, Register, with_place}
 use Rattle.vs_desk.specs.Places.{stimulus_place}
