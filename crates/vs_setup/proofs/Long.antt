@@ -1,7 +1,8 @@
 -- What was taken of a design's text.
 use Rattle.std.proofs.Common.{◌≡◌, ℕ, ◌+◌, ◌-◌, ◌<◌, ◌≤◌, List, ◌++◌, length, drop, sym, ap, ◌∙◌, arith}
 use Rattle.std.proofs.lemmas.List.{length-append, drop_at}
-use Rattle.vs_setup.specs.DesignText.{most_bytes, IsTooLong}
+use Rattle.vs_front.specs.Accepted.{most_bytes}
+use Rattle.vs_setup.specs.DesignText.{IsTooLong}
 
 -- it has more bytes than it may
 pub long_text : (whole text piece rest : List ℕ) → whole ≡ (text ++ piece) ++ rest → most_bytes < length (text ++ piece) → length text ≤ most_bytes → length piece ≤ most_bytes + 1 - length text → IsTooLong whole rest

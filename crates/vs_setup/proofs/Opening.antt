@@ -1,6 +1,7 @@
 -- Why a stimulus can't be opened.
 use Rattle.std.proofs.Common.{◌≡◌, ◌≢◌, ◌⊎◌, ℕ, ◌<◌, ◌≤◌, ◌+◌, List, length, take, Some, arith, refl, inl, inr, IsTrue, Bool, Result, Ok, Err, IfErr, sym, subst, ap, ◌∙◌}
 use Rattle.vs_desk.specs.Desk.{Register, Contents}
+use Rattle.vs_desk.specs.Places.{design_place}
 use Rattle.vs_stim.specs.declared.input.Input.{Input}
 use Rattle.vs_stim.specs.declared.error.StimError.{StimError}
 use Rattle.vs_stim.specs.declared.error.StimError.TheVariants as E
@@ -12,14 +13,16 @@ use Rattle.vs_flat.specs.DesignOf.{design_of}
 use Rattle.vs_engine.specs.Lanes.{Running}
 use Rattle.vs_front.specs.Lent.{Acceptance}
 use Rattle.vs_front.specs.Source.{Spells}
-use Rattle.vs_front.specs.Accepted.{IsAcceptedText}
+use Rattle.vs_front.specs.Accepted.{IsAcceptedText, most_bytes}
 use Rattle.vs_job.specs.declared.job.Job.{Job}
 use Rattle.vs_rounds.specs.Inputs.{data_inputs}
+use Rattle.vs_setup.specs.declared.design_text.DesignError.{DesignError}
+use Rattle.vs_setup.specs.declared.design_text.DesignError.TheVariants as D
 use Rattle.vs_setup.specs.declared.error.SetupError.{SetupError}
 use Rattle.vs_setup.specs.declared.error.SetupError.TheVariants.{TooLong, NotAccepted, Stimulus, ReadFault, Memory}
-use Rattle.vs_setup.specs.DesignText.{with_design}
+use Rattle.vs_setup.specs.DesignText.{with_design, IsTooLong, DesignFails}
 use Rattle.vs_setup.specs.Prepared.{IsDesignLoaded}
-use Rattle.vs_setup.specs.Unprepared.{IsUnopened, IsUnprepared, IsDesignOf, IsNotAccepted, IsLoadError, IsTextRefusal, IsFirstRefused, StimulusFails, error_of}
+use Rattle.vs_setup.specs.Unprepared.{IsUnopened, IsUnprepared, IsDesignOf, IsNotAccepted, IsLoadError, IsTextRefusal, IsFirstRefused, StimulusFails, error_of, design_error}
 
 -- what is known of the lane that stopped the opening
 pub record HasStopped (tells : Bool) (inputs : List Input) (stimuli : List (List ℕ)) (before : Register) (old : Contents) (now : Register) (lane : ℕ) (error : StimError) : Type 0 where
@@ -94,11 +97,23 @@ unloaded tells job before old now new Memory h at none =
     let none_below : 0 ≤ length job.stimuli = omega arith in
     inr (0, none_below, at)
 
+-- a design's text that can't be read
+pub undesigned : (tells : Bool) (job : Job) (before : Register) (old : Contents) (now : Register) (new : Contents) (path : List ℕ) (d : DesignError) → path ≡ job.design
+    → (d ≡ D.TooLong → IsTrue tells → IsTooLong (old.files path) (new.left design_place)) → (d ≢ D.ReadFault → now ≡ with_design before path)
+    → (d ≡ D.ReadFault → DesignFails tells before old now new path) → IsUnprepared tells job before old now new (design_error d)
+undesigned tells job before old now new path D.TooLong is long attached fails =
+    (attached (λ e. cc) ∙ ap (with_design before) is, λ t. subst (λ (p : List ℕ). IsTooLong (old.files p) (new.left design_place)) is (long refl t))
+undesigned tells job before old now new path D.ReadFault is long attached fails =
+    inl (record { place_is = refl; fails = subst (λ (p : List ℕ). DesignFails tells before old now new p) is (fails refl) })
+undesigned tells job before old now new path D.Memory is long attached fails =
+    let none_below : 0 ≤ length job.stimuli = omega arith in
+    inr (0, none_below, attached (λ e. cc) ∙ ap (with_design before) is)
+
 -- an equal text is accepted as the same design
 pub with_text : (top clock : List ℕ) (d : Design) (text other : List ℕ) → text ≡ other → IsAcceptedText text top clock d → IsAcceptedText other top clock d
 with_text top clock d text other e a = record {
   source = a.source;
-  short = subst (λ (t : List ℕ). length t ≤ 4194304) e a.short;
+  short = subst (λ (t : List ℕ). length t ≤ most_bytes) e a.short;
   spelled = subst (λ (t : List ℕ). Spells t a.source) e a.spelled;
   top_named = a.top_named;
   declared = a.declared;

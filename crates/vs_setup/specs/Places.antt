@@ -1,15 +1,15 @@
--- The places of a run's texts on a desk: 1 is the design's, and 1000 + i that of lane i's stimulus.
+-- The places of a run's texts on a desk.
 use Rattle.std.specs.Prelude.{ℕ, ◌<◌, IsNone, List}
 use Rattle.vs_desk.specs.Desk.{Register}
-use Rattle.vs_stim.specs.Known.{place_of}
+use Rattle.vs_desk.specs.Places.{stimulus_place, design_place}
 use Rattle.vs_drive.specs.Opened.{with_lanes}
 use Rattle.vs_job.specs.declared.job.Job.{Job}
 use Rattle.vs_setup.specs.DesignText.{with_design}
 
 -- none of the places is attached, of so many lanes
 pub record IsFresh (register : Register) (lanes : ℕ) : Type 0 where
-  pub design : IsNone (register.attached 1)
-  pub stimuli : (i : ℕ) → i < lanes → IsNone (register.attached (place_of i))
+  pub design : IsNone (register.attached design_place)
+  pub stimuli : (i : ℕ) → i < lanes → IsNone (register.attached (stimulus_place i))
 
 -- the place of the design and the places of these stimuli, attached to their paths
 abbrev pub with_texts : Register → Job → List (List ℕ) → Register

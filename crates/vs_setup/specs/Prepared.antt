@@ -1,6 +1,7 @@
 -- A run that can begin.
 use Rattle.std.specs.Prelude.{◌≡◌, ℕ, ◌+◌, Bool, IsTrue, List, [], All, length, map}
 use Rattle.vs_desk.specs.Desk.{Register, Contents}
+use Rattle.vs_desk.specs.Places.{design_place}
 use Rattle.vs_design.specs.Designs.{Design}
 use Rattle.vs_design.specs.Sizes.{size as size_of}
 use Rattle.vs_engine.specs.Compiled.{IsProgramOf, fall_stores, rise_stores}
@@ -35,7 +36,7 @@ pub record IsPrepared {W : Type 0} (lane : W → ℕ → Bool) (tells : Bool) (j
   -- the design
   pub text : List ℕ
   pub text_is : IsTrue tells → text ≡ old.files job.design
-  pub taken : IsTrue tells → new.left 1 ≡ []
+  pub taken : IsTrue tells → new.left design_place ≡ []
   pub design : Design
   pub accepted : IsAcceptedText text job.top job.clock design
   pub size_is : size ≡ size_of design

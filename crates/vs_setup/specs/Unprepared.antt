@@ -1,20 +1,22 @@
 -- Why a run can't begin, by the error.
 use Rattle.std.specs.Prelude.{◌≡◌, ℕ, ◌<◌, ◌≤◌, ◌+◌, ◌⊎◌, Bool, IsTrue, List, [], length, take, Some}
 use Rattle.vs_desk.specs.Desk.{Register, Contents, Fails}
+use Rattle.vs_desk.specs.Places.{stimulus_place, design_place}
 use Rattle.vs_design.specs.Designs.{Design}
-use Rattle.vs_front.specs.Accepted.{IsAcceptedText}
+use Rattle.vs_front.specs.Accepted.{IsAcceptedText, most_bytes}
 use Rattle.vs_stim.specs.declared.input.Input.{Input}
 use Rattle.vs_stim.specs.declared.error.StimError.{StimError}
 use Rattle.vs_stim.specs.declared.error.StimError.TheVariants as E
-use Rattle.vs_stim.specs.Known.{place_of}
 use Rattle.vs_stim.specs.Reading.{header_refusal}
 use Rattle.vs_stim.specs.Source.{IsHeaderError}
 use Rattle.vs_drive.specs.Opened.{path_at, with_lanes, HaveHeaders}
 use Rattle.vs_job.specs.declared.job.Job.{Job}
 use Rattle.vs_rounds.specs.Inputs.{data_inputs}
+use Rattle.vs_setup.specs.declared.design_text.DesignError.{DesignError}
+use Rattle.vs_setup.specs.declared.design_text.DesignError.TheVariants as D
 use Rattle.vs_setup.specs.declared.error.SetupError.{SetupError}
 use Rattle.vs_setup.specs.declared.error.SetupError.TheVariants.{TooLong, NotAccepted, Stimulus, ReadFault, Memory}
-use Rattle.vs_setup.specs.DesignText.{most_bytes, with_design, IsTooLong, DesignFails}
+use Rattle.vs_setup.specs.DesignText.{with_design, IsTooLong, DesignFails}
 use Rattle.vs_setup.specs.Places.{with_texts}
 
 -- the design's file is accepted as this design
@@ -24,7 +26,7 @@ IsDesignOf job c d = IsAcceptedText (c.files job.design) job.top job.clock d
 -- The design's text has at most as many bytes as it may, all of it was taken, and it is accepted as no design.
 pub record IsNotAccepted (job : Job) (old new : Contents) : Type 0 where
   pub short : length (old.files job.design) ≤ most_bytes
-  pub taken : new.left 1 ≡ []
+  pub taken : new.left design_place ≡ []
   pub none : (d : Design) → ¬ (IsDesignOf job old d)
 
 -- the text of lane i's stimulus
@@ -50,19 +52,19 @@ pub record IsHeaderRefusal (job : Job) (c : Contents) (lane : ℕ) (error : Stim
 
 -- A call failed at the place of this lane's stimulus, behind the earlier ones: the attach, or a take.
 abbrev pub StimulusFails : Register → List (List ℕ) → Register → ℕ → Type 0
-StimulusFails before stimuli now lane = Fails (with_lanes before (take lane stimuli)) now (place_of lane) (path_at stimuli lane)
-    ⊎ Fails (with_lanes before (take (lane + 1) stimuli)) now (place_of lane) before.asked
+StimulusFails before stimuli now lane = Fails (with_lanes before (take lane stimuli)) now (stimulus_place lane) (path_at stimuli lane)
+    ⊎ Fails (with_lanes before (take (lane + 1) stimuli)) now (stimulus_place lane) before.asked
 
 -- a fault at the place of the design
 pub record IsDesignFault (tells : Bool) (job : Job) (before : Register) (old : Contents) (now : Register) (new : Contents) (place : ℕ) : Type 0 where
-  pub place_is : place ≡ 1
+  pub place_is : place ≡ design_place
   pub fails : DesignFails tells before old now new job.design
 
 -- a fault at the place of a stimulus, behind the earlier ones
 pub record IsStimulusFault (tells : Bool) (job : Job) (before : Register) (old : Contents) (now : Register) (place : ℕ) : Type 0 where
   pub lane : ℕ
   pub is_lane : lane < length job.stimuli
-  pub place_is : place ≡ place_of lane
+  pub place_is : place ≡ stimulus_place lane
   pub fails : StimulusFails (with_design before job.design) job.stimuli now lane
   pub earlier : IsTrue tells → AreEarlierOpened job old lane
 
@@ -74,7 +76,7 @@ IsTextRefusal error = IsHeaderError error
 
 -- Why a run can't begin, where the desk told this before and tells that now.
 abbrev pub IsUnprepared : Bool → Job → Register → Contents → Register → Contents → SetupError → Type 0
-IsUnprepared tells job before old now new TooLong = (now ≡ with_design before job.design) × (IsTrue tells → IsTooLong (old.files job.design) (new.left 1))
+IsUnprepared tells job before old now new TooLong = (now ≡ with_design before job.design) × (IsTrue tells → IsTooLong (old.files job.design) (new.left design_place))
 IsUnprepared tells job before old now new NotAccepted = (now ≡ with_design before job.design) × (IsTrue tells → IsNotAccepted job old new)
 IsUnprepared tells job before old now new (Stimulus lane error) =
     (lane < length job.stimuli) × IsTextRefusal error × (now ≡ with_texts before job (take (lane + 1) job.stimuli)) × (IsTrue tells → IsHeaderRefusal job old lane error)
@@ -88,14 +90,20 @@ IsUnopened tells inputs stimuli before old now NotAccepted = ⊥
 IsUnopened tells inputs stimuli before old now (Stimulus lane error) =
     (lane < length stimuli) × IsTextRefusal error × (now ≡ with_lanes before (take (lane + 1) stimuli)) × (IsTrue tells → IsFirstRefused inputs old stimuli lane error)
 IsUnopened tells inputs stimuli before old now (ReadFault place) =
-    (lane : ℕ) × (lane < length stimuli) × (place ≡ place_of lane) × StimulusFails before stimuli now lane × (IsTrue tells → HaveHeaders inputs old.files stimuli lane)
+    (lane : ℕ) × (lane < length stimuli) × (place ≡ stimulus_place lane) × StimulusFails before stimuli now lane × (IsTrue tells → HaveHeaders inputs old.files stimuli lane)
 IsUnopened tells inputs stimuli before old now Memory = (lanes : ℕ) × (lanes ≤ length stimuli) × (now ≡ with_lanes before (take lanes stimuli))
 
 -- the error of a stimulus that can't be opened
 abbrev pub error_of : ℕ → StimError → SetupError
-error_of lane E.ReadFault = ReadFault (1000 + lane)
+error_of lane E.ReadFault = ReadFault (stimulus_place lane)
 error_of lane E.Memory = Memory
 error_of lane error = Stimulus lane error
+
+-- the error of a design's text that can't be read
+abbrev pub design_error : DesignError → SetupError
+design_error D.TooLong = TooLong
+design_error D.ReadFault = ReadFault design_place
+design_error D.Memory = Memory
 
 -- a design's text can't be loaded
 abbrev pub IsLoadError : SetupError → Type 0

@@ -1,6 +1,13 @@
 //! Why a run can't begin.
 
+ghost use Rattle.std.specs.Prelude.{◌≡◌};
+ghost use Rattle.vs_setup.specs.declared.error.SetupError.TheVariants.{Memory};
+ghost use Rattle.vs_setup.specs.Unprepared.{design_error};
+
+use crate::design_text::DesignError;
+use std::alloc::AllocError;
 use thiserror::Error;
+use vs_desk::DESIGN_PLACE;
 use vs_stim::StimError;
 
 /// Why a run can't begin.
@@ -21,4 +28,26 @@ pub enum SetupError {
     /// Memory ran out.
     #[error("out of memory")]
     Memory,
+}
+
+impl From<AllocError> for SetupError {
+    ghost from_gives = { λ _ e. e ≡ Memory };
+
+    fn from(_error: AllocError) -> SetupError {
+        SetupError::Memory
+    }
+}
+
+impl From<DesignError> for SetupError {
+    ghost from_gives = { λ d e. e ≡ design_error d };
+
+    fn from(error: DesignError) -> SetupError {
+        match error {
+            DesignError::TooLong => SetupError::TooLong,
+            DesignError::ReadFault => SetupError::ReadFault {
+                place: DESIGN_PLACE,
+            },
+            DesignError::Memory => SetupError::Memory,
+        }
+    }
 }

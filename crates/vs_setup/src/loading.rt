@@ -2,7 +2,7 @@
 
 ghost use Rattle.std.specs.Prelude.{◌≡◌, ◌≤◌, ℕ, Err, IfOk, length};
 ghost use Rattle.vs_design.specs.Designs.{Design};
-ghost use Rattle.vs_front.specs.Accepted.{IsAcceptedText};
+ghost use Rattle.vs_front.specs.Accepted.{IsAcceptedText, most_bytes};
 ghost use Rattle.vs_front.specs.declared.error.AcceptError.TheVariants.{Refused};
 ghost use Rattle.vs_setup.specs.Loaded.{IsLoaded};
 
@@ -34,7 +34,7 @@ pub fn load<W: Lanes>(
     top: &[u8],
     clock: &[u8],
 ) -> Result<Loaded<W>, AcceptError>
-    requires { length text.now ≤ 4194304 }
+    requires { length text.now ≤ most_bytes }
     ensures loaded { IfOk result (λ l. IsLoaded W.lane W.LANES text.now top.now clock.now l.accepted l.inputs.items l.engine) }
     ensures refused { result ≡ Err Refused → (d : Design) → ¬ (IsAcceptedText text.now top.now clock.now d) }
 {

@@ -2,10 +2,12 @@
 
 ghost use Rattle.std.specs.Prelude.{◌≡◌, ◌≤◌, ◌+◌, ℕ, ◌<◌, [], All, Err, IsNone, IsTrue, IfOk, IfErr, OnOk, length, map, string_bytes};
 ghost use Rattle.vs_desk.specs.declared.desk.Way.TheVariants.{Read};
+ghost use Rattle.vs_desk.specs.Taking.{OnlyTaken};
+ghost use Rattle.vs_desk.specs.Places.{design_place, most_lanes};
 ghost use Rattle.vs_design.specs.Designs.{Design};
 ghost use Rattle.vs_engine.specs.Compiled.{fall_stores, rise_stores};
 ghost use Rattle.vs_flat.specs.DesignOf.{design_of};
-ghost use Rattle.vs_front.specs.Accepted.{IsAcceptedText};
+ghost use Rattle.vs_front.specs.Accepted.{IsAcceptedText, most_bytes};
 ghost use Rattle.vs_setup.specs.Loaded.{IsLoaded};
 ghost use Rattle.vs_stim.specs.Header.{IsInput};
 ghost use Rattle.vs_drive.specs.Lanes.{AreAttached, AreLanes, OtherPlacesKept};
@@ -13,16 +15,16 @@ ghost use Rattle.vs_drive.specs.Opened.{AreFree, AreOpened, HaveHeaders, with_la
 ghost use Rattle.vs_waves.specs.Wave.{IsNewWave};
 ghost use Rattle.vs_job.specs.Job.{IsJob};
 ghost use Rattle.vs_job.specs.Places.{vcd_path};
-ghost use Rattle.vs_setup.specs.DesignText.{most_bytes, OnlyTaken, with_design};
+ghost use Rattle.vs_setup.specs.DesignText.{with_design};
 ghost use Rattle.vs_setup.specs.Places.{IsFresh};
 ghost use Rattle.vs_setup.specs.Prepared.{AreTextsKept, IsDesignLoaded, IsPrepared};
 ghost use Rattle.vs_setup.specs.Unprepared.{error_of, IsLoadError, IsUnopened, IsUnprepared};
 
 use crate::SetupError;
-use crate::design_text::{DesignError, read_design};
+use crate::design_text::read_design;
 use crate::loading::{Loaded, load};
 use std::alloc::{AllocError, Global};
-use vs_desk::Desk;
+use vs_desk::{Desk, FIRST_STIMULUS};
 use vs_drive::{Drive, Stopped, open};
 use vs_front::AcceptError;
 use vs_job::{Job, stimulus_paths, vcd_paths};
@@ -60,10 +62,8 @@ pub fn prepare<W: Lanes, D: Desk>(
 {
     let loaded = read_and_load::<W, D>(alloc, job, desk)?;
     let drive = open_stimuli(alloc, job, desk, &loaded.inputs)?;
-    match assemble(alloc, job, loaded, drive) {
-        Ok(prepared) => Ok(prepared),
-        Err(AllocError) => Err(SetupError::Memory),
-    }
+    let prepared = assemble(alloc, job, loaded, drive)?;
+    Ok(prepared)
 }
 
 /// Reads the design and loads it.
@@ -72,22 +72,16 @@ fn read_and_load<W: Lanes, D: Desk>(
     job: &Job,
     desk: &mut D,
 ) -> Result<Loaded<W>, SetupError>
-    requires { IsNone ((D.register desk.old).attached 1) }
+    requires { IsNone ((D.register desk.old).attached design_place) }
     ensures loaded { IfOk result (λ l. IsDesignLoaded W.lane W.LANES D.tells job.now (D.contents desk.old) l.accepted l.inputs.items l.engine) }
     ensures register { OnOk result (D.register desk.new ≡ with_design (D.register desk.old) job.now.design) }
     ensures unprepared { IfErr result (IsUnprepared D.tells job.now (D.register desk.old) (D.contents desk.old) (D.register desk.new) (D.contents desk.new)) }
-    ensures taken { IsTrue D.tells → OnOk result ((D.contents desk.new).left 1 ≡ []) }
-    ensures only { IsTrue D.tells → OnlyTaken (D.contents desk.old) (D.contents desk.new) }
+    ensures taken { IsTrue D.tells → OnOk result ((D.contents desk.new).left design_place ≡ []) }
+    ensures only { IsTrue D.tells → OnlyTaken design_place (D.contents desk.old) (D.contents desk.new) }
 {
-    let Ok(path) = String::from_str(alloc, job.design.as_str()) else {
-        return Err(SetupError::Memory);
-    };
-    match read_design(alloc, desk, path) {
-        Ok(text) => load_text(alloc, job, text.as_slice()),
-        Err(DesignError::TooLong) => Err(SetupError::TooLong),
-        Err(DesignError::ReadFault) => Err(SetupError::ReadFault { place: 1 }),
-        Err(DesignError::Memory) => Err(SetupError::Memory),
-    }
+    let path = String::from_str(alloc, job.design.as_str())?;
+    let text = read_design(alloc, desk, path)?;
+    load_text(alloc, job, text.as_slice())
 }
 
 /// Loads the design's text.
@@ -111,7 +105,7 @@ fn open_stimuli<D: Desk>(
     desk: &mut D,
     inputs: &[Input],
 ) -> Result<Drive, SetupError>
-    requires lanes { length job.now.stimuli ≤ 64 }
+    requires lanes { length job.now.stimuli ≤ most_lanes }
     requires free { AreFree (D.register desk.old) (length job.now.stimuli) }
     requires inputs { All IsInput inputs.now }
     ensures opened { IfOk result (AreOpened D.tells inputs.now (D.contents desk.old) (D.contents desk.new) job.now.stimuli) }
@@ -122,9 +116,7 @@ fn open_stimuli<D: Desk>(
     ensures unopened { IfErr result (IsUnopened D.tells inputs.now job.now.stimuli (D.register desk.old) (D.contents desk.old) (D.register desk.new)) }
     ensures others { IsTrue D.tells → OtherPlacesKept (length job.now.stimuli) (D.contents desk.old) (D.contents desk.new) }
 {
-    let Ok(paths) = stimulus_paths(alloc, job) else {
-        return Err(SetupError::Memory);
-    };
+    let paths = stimulus_paths(alloc, job)?;
     match open(alloc, desk, paths, inputs) {
         Ok(drive) => Ok(drive),
         Err(stopped) => Err(stopped_at(stopped)),
@@ -133,12 +125,12 @@ fn open_stimuli<D: Desk>(
 
 /// The error of a stimulus that can't be opened.
 fn stopped_at(stopped: Stopped) -> SetupError
-    requires { stopped.lane < 64 }
+    requires { stopped.lane < most_lanes }
     ensures { result ≡ error_of stopped.lane stopped.error }
 {
     match stopped.error {
         StimError::ReadFault => SetupError::ReadFault {
-            place: 1000 + stopped.lane,
+            place: FIRST_STIMULUS + stopped.lane,
         },
         StimError::Memory => SetupError::Memory,
         error => SetupError::Stimulus {

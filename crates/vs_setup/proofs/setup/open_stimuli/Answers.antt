@@ -14,9 +14,9 @@ returns-in-Err-clause-unopened g c =
     let now = g.D.Desk.register c.open.new.desk in
     let lane = c.in-Err.stopped.lane in
     let error = c.in-Err.stopped.error in
-    let paths = texts c.in-Ok.paths.items in
+    let paths = texts c.in_ok-paths.paths.items in
     let stopped : HasStopped g.D.Desk.tells c.args.inputs.now paths before old now lane error = record {
-      is_lane = rw (length-map c.in-Ok.paths.items (string_bytes {Z = Global})) c.in-Err.ensures.lane;
+      is_lane = rw (length-map c.in_ok-paths.paths.items (string_bytes {Z = Global})) c.in-Err.ensures.lane;
       is_header_error = c.in-Err.ensures.errors;
       refused = c.in-Err.ensures.refused;
       earlier = c.in-Err.ensures.before;
@@ -25,5 +25,5 @@ returns-in-Err-clause-unopened g c =
       fault = c.in-Err.ensures.fault;
     } in
     subst (λ (e : SetupError). IsUnopened g.D.Desk.tells c.args.inputs.now c.args.job.now.stimuli before old now e) (sym c.stopped_at.ensures)
-    (subst (λ (ps : List (List ℕ)). IsUnopened g.D.Desk.tells c.args.inputs.now ps before old now (error_of lane error)) c.in-Ok.ensures
+    (subst (λ (ps : List (List ℕ)). IsUnopened g.D.Desk.tells c.args.inputs.now ps before old now (error_of lane error)) c.in_ok-paths.ensures
     (unopened g.D.Desk.tells c.args.inputs.now paths before old now lane error stopped))

@@ -1,5 +1,6 @@
 use Rattle.std.proofs.Common.{rules, ◌+◌, ◌≤◌, ℕ, List, All, length, inr, sym, subst, ap, ◌∙◌, arith}
 use Rattle.std.proofs.lemmas.List.{take_all}
+use Rattle.std.proofs.lemmas.Result.{err_from_is_err_and}
 use Rattle.vs_desk.specs.Desk.{Register}
 use Rattle.vs_flat.specs.DesignOf.{design_of}
 use Rattle.vs_engine.specs.Compiled.{fall_stores, rise_stores}
@@ -35,17 +36,17 @@ returns-in_err-drive-clause-unprepared g c =
     err_is (IsUnprepared tells job before old now new) c.from_residual-in_err-drive.result e (search rules)
     (unprepared g.W.Word.lane g.W.Word.LANES tells job before old mid now new l.accepted l.inputs.items l.engine c.in_ok-loaded.ensures.loaded (λ t. (c.in_ok-loaded.ensures.only t).files) e behind)
 
-pub returns-in-Ok-clause-prepared : goal.returns-in-Ok-clause-prepared
-returns-in-Ok-clause-prepared g c =
+pub returns-clause-prepared : goal.returns-clause-prepared
+returns-clause-prepared g c =
     let job = c.args.job.now in
     let before = g.D.Desk.register c.args.desk.now in
     let old = g.D.Desk.contents c.args.desk.now in
     let mid = g.D.Desk.contents c.read_and_load.new.desk in
     let new = g.D.Desk.contents c.open_stimuli.new.desk in
     let l = c.in_ok-loaded.loaded in
-    let m = c.in-Ok.prepared.machine in
+    let m = c.in_ok-prepared.prepared.machine in
     let tells = g.D.Desk.tells in
-    let drive_is = c.in-Ok.ensures.stimuli in
+    let drive_is = c.in_ok-prepared.ensures.stimuli in
     let opened : drive.AreOpened tells l.inputs.items mid new job.stimuli c.in_ok-drive.drive =
     subst (λ (is : List Input). drive.AreOpened tells is mid new job.stimuli c.in_ok-drive.drive) c.deref.ensures.value c.in_ok-drive.ensures.opened in
     let parts : HasParts g.W.Word.lane g.W.Word.LANES tells job old mid new l.accepted l.inputs.items l.engine m = record {
@@ -53,9 +54,9 @@ returns-in-Ok-clause-prepared g c =
       files = λ t. (c.in_ok-loaded.ensures.only t).files;
       opened = subst (λ ks. drive.AreOpened tells l.inputs.items mid new job.stimuli ks) (sym drive_is) opened;
       numbered = subst AreLanes (sym drive_is) c.in_ok-drive.ensures.numbered;
-      engine_is = c.in-Ok.ensures.engine;
-      waves = c.in-Ok.ensures.lanes ∙ ap length (sym drive_is);
-      new_waves = c.in-Ok.ensures.waves;
+      engine_is = c.in_ok-prepared.ensures.engine;
+      waves = c.in_ok-prepared.ensures.lanes ∙ ap length (sym drive_is);
+      new_waves = c.in_ok-prepared.ensures.waves;
       half = c.requires.job.half_to;
       width = c.requires.width;
     } in
@@ -65,17 +66,17 @@ returns-in-Ok-clause-prepared g c =
       taken = λ t. (c.in_ok-drive.ensures.others t).before 1 (omega arith) ∙ c.in_ok-loaded.ensures.taken t;
       design = design_of l.accepted.flat;
       accepted = parts.loaded.loaded.accepted;
-      size_is = c.in-Ok.ensures.size ∙ parts.loaded.loaded.size;
+      size_is = c.in_ok-prepared.ensures.size ∙ parts.loaded.loaded.size;
       program = program_is g.W.Word.lane g.W.Word.LANES tells job old mid new l.accepted l.inputs.items l.engine m parts;
       all_inputs = subst (All IsInput) parts.loaded.loaded.inputs_are parts.loaded.loaded.are_inputs;
-      stores_are = c.in-Ok.ensures.stores ∙ ap (λ (e : Running _). fall_stores e.program + rise_stores e.program) (sym c.in-Ok.ensures.engine);
+      stores_are = c.in_ok-prepared.ensures.stores ∙ ap (λ (e : Running _). fall_stores e.program + rise_stores e.program) (sym c.in_ok-prepared.ensures.engine);
       lanes = parts.opened.lanes;
       headers = λ t.
           subst (λ (is : List Input). HaveHeaders is old.files job.stimuli (length job.stimuli)) (c.deref.ensures.value ∙ parts.loaded.loaded.inputs_are)
           (subst (λ (files : List ℕ → List ℕ). HaveHeaders c.deref.result.now files job.stimuli (length job.stimuli)) (c.in_ok-loaded.ensures.only t).files (c.in_ok-drive.ensures.headers t));
       ready = ready g.W.Word.lane g.W.Word.LANES tells job old mid new l.accepted l.inputs.items l.engine m parts;
       opened = begins g.W.Word.lane g.W.Word.LANES tells job old mid new l.accepted l.inputs.items l.engine m parts;
-      paths = c.in-Ok.ensures.paths;
+      paths = c.in_ok-prepared.ensures.paths;
       register_is = c.in_ok-drive.ensures.register ∙ ap (λ (r : Register). with_lanes r job.stimuli) c.in_ok-loaded.ensures.register;
       readable = subst (λ ks. AreAttached (g.D.Desk.register c.open_stimuli.new.desk) ks) (sym drive_is) c.in_ok-drive.ensures.readable;
       kept = λ t. record {
@@ -84,13 +85,14 @@ returns-in-Ok-clause-prepared g c =
       };
     }
 
-pub returns-in-Err-clause-unprepared : goal.returns-in-Err-clause-unprepared
-returns-in-Err-clause-unprepared g c =
+pub returns-in_err-prepared-clause-unprepared : goal.returns-in_err-prepared-clause-unprepared
+returns-in_err-prepared-clause-unprepared g c =
+    let p = err_from_is_err_and c.from_residual-in_err-prepared.result c.from_residual-in_err-prepared.ensures.1 in
     let job = c.args.job.now in
     let all : length job.stimuli ≤ length job.stimuli = omega arith in
-    inr (
+    rw (p.1, p.2) (inr (
       length job.stimuli,
       all,
       c.in_ok-drive.ensures.register ∙ ap (λ (r : Register). with_lanes r job.stimuli) c.in_ok-loaded.ensures.register
           ∙ ap (λ ss. with_texts (g.D.Desk.register c.args.desk.now) job ss) (sym (take_all (length job.stimuli) job.stimuli all)),
-    )
+    ))
