@@ -3,8 +3,7 @@ use Rattle.std.proofs.Common.{◌≡◌, ◌≢◌, ◌⊎◌, ℕ, suc, ◌+◌
 use Rattle.vs_desk.specs.declared.desk.Way.{Way}
 use Rattle.vs_desk.specs.declared.desk.Way.TheVariants.{Read, Write}
 use Rattle.vs_desk.specs.Desk.{Register, Contents, Rose, Fails, with_place}
-use Rattle.vs_desk.specs.Places.{with_places}
-use Rattle.vs_stim.specs.Known.{place_of}
+use Rattle.vs_desk.specs.Places.{with_places, stimulus_place, waveform_place}
 use Rattle.vs_stim.specs.declared.error.StimError.{StimError}
 use Rattle.vs_stim.specs.declared.error.StimError.TheVariants as E
 use Rattle.vs_drive.specs.Opened.{path_at}
@@ -47,13 +46,13 @@ placed r place way (path ∷ paths) =
 
 texts : (r : Register) (job : Job) (stimuli : List (List ℕ)) → Quiet r (with_texts r job stimuli)
 texts r job stimuli =
-    let all = placed (with_design r job.design) (place_of 0) Read stimuli in
+    let all = placed (with_design r job.design) (stimulus_place 0) Read stimuli in
     record { faults = all.faults; losses = all.losses }
 
 waves : (r : Register) (job : Job) (paths : List (List ℕ)) → Quiet r (with_waves r job paths)
 waves r job paths =
     let t = texts r job job.stimuli in
-    let w = placed (with_texts r job job.stimuli) 2000 Write paths in
+    let w = placed (with_texts r job job.stimuli) (waveform_place 0) Write paths in
     record { faults = w.faults ∙ t.faults; losses = w.losses ∙ t.losses }
 
 -- a count that rose from an equal one
@@ -117,7 +116,7 @@ write_ends old mid new place asked q other f = record { fault = failed_at old mi
 
 stop_ends : (old mid new : Register) (stop : Stop) → Quiet old mid → HasCause mid new stop → Ends old new (stop_outcome stop)
 stop_ends old mid new (R.Refused i e) q h = refusal_ends old new i e (line_refusal e h.0) (quiet_at old mid new q h.1)
-stop_ends old mid new (R.ReadFault i) q h = read_ends old mid new (place_of i) mid.asked q (λ e. omega arith) h
+stop_ends old mid new (R.ReadFault i) q h = read_ends old mid new (stimulus_place i) mid.asked q (λ e. omega arith) h
 stop_ends old mid new (R.WriteFault i) q h = write_ends old mid new (wave_place i) mid.asked q (λ e. omega arith) h
 
 design_ends : (tells : Bool) (job : Job) (old : Register) (before : Contents) (new : Register) (after : Contents) (place : ℕ) → IsDesignFault tells job old before new after place → Ends old new (ReadFault place)
@@ -130,10 +129,10 @@ design_ends tells job old before new after place h = subst (λ (p : ℕ). Ends o
 stimulus_ends : (tells : Bool) (job : Job) (old : Register) (before : Contents) (new : Register) (place : ℕ) → IsStimulusFault tells job old before new place → Ends old new (ReadFault place)
 stimulus_ends tells job old before new place h = subst (λ (p : ℕ). Ends old new (ReadFault p)) (sym h.place_is) (by h.fails)
   where
-    by : (Fails (with_texts old job (take h.lane job.stimuli)) new (place_of h.lane) (path_at job.stimuli h.lane)) ⊎ (Fails (with_texts old job (take (h.lane + 1) job.stimuli)) new (place_of h.lane) old.asked)
-        → Ends old new (ReadFault (place_of h.lane))
-    by (inl f) = read_ends old (with_texts old job (take h.lane job.stimuli)) new (place_of h.lane) (path_at job.stimuli h.lane) (texts old job (take h.lane job.stimuli)) (λ e. omega arith) f
-    by (inr f) = read_ends old (with_texts old job (take (h.lane + 1) job.stimuli)) new (place_of h.lane) old.asked (texts old job (take (h.lane + 1) job.stimuli)) (λ e. omega arith) f
+    by : (Fails (with_texts old job (take h.lane job.stimuli)) new (stimulus_place h.lane) (path_at job.stimuli h.lane)) ⊎ (Fails (with_texts old job (take (h.lane + 1) job.stimuli)) new (stimulus_place h.lane) old.asked)
+        → Ends old new (ReadFault (stimulus_place h.lane))
+    by (inl f) = read_ends old (with_texts old job (take h.lane job.stimuli)) new (stimulus_place h.lane) (path_at job.stimuli h.lane) (texts old job (take h.lane job.stimuli)) (λ e. omega arith) f
+    by (inr f) = read_ends old (with_texts old job (take (h.lane + 1) job.stimuli)) new (stimulus_place h.lane) old.asked (texts old job (take (h.lane + 1) job.stimuli)) (λ e. omega arith) f
 
 setup_ends : (tells : Bool) (job : Job) (old : Register) (before : Contents) (new : Register) (after : Contents) (e : SetupError) → IsUnprepared tells job old before new after e → Ends old new (setup_outcome e)
 setup_ends tells job old before new after S.TooLong h = let q = quiet_at old (with_design old job.design) new (placed old 1 Read (job.design ∷ [])) h.0 in record { fault = q.faults; losses = q.losses }

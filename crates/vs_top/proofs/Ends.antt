@@ -2,7 +2,7 @@
 use Rattle.std.proofs.Common.{◌≡◌, ◌≢◌, ℕ, List, inl, inr, IsTrue, Bool, sym, ap, ◌∙◌, subst, arith}
 use Rattle.std.proofs.lemmas.Bool.{ne_eqb, cond-false}
 use Rattle.vs_desk.specs.Desk.{Register, Contents, with_put}
-use Rattle.vs_stim.specs.Known.{place_of}
+use Rattle.vs_desk.specs.Places.{stimulus_place}
 use Rattle.vs_waves.specs.Puts.{wave_place}
 use Rattle.vs_drive.specs.Opened.{path_at}
 use Rattle.vs_rounds.specs.Inputs.{data_inputs}
@@ -35,7 +35,7 @@ written_still job old mid new r line s e w = record {
   design = w.design;
   accepted = w.accepted;
   design_taken = ap (λ (c : Contents). c.left 1) e ∙ w.design_taken;
-  stimuli_taken = λ i h. ap (λ (c : Contents). c.left (place_of i)) e ∙ w.stimuli_taken i h;
+  stimuli_taken = λ i h. ap (λ (c : Contents). c.left (stimulus_place i)) e ∙ w.stimuli_taken i h;
   lanes = λ i h. subst (λ (put : List ℕ). IsLaneWritten w.design w.accepted.accepted.clock.first job.half (data_inputs w.design w.accepted.accepted.clock.first) (old.files (path_at job.stimuli i)) put) (sym (ap (λ (c : Contents). c.put (wave_place i)) e ∙ kept r mid line i)) (w.lanes i h);
   lanes_are = w.lanes_are;
   counted = w.counted;

@@ -6,7 +6,7 @@ use Rattle.vs_design.specs.Networks.{network_of}
 use Rattle.vs_design.specs.Accepted.{IsAcceptedDesign}
 use Rattle.vs_desk.specs.Desk.{Register, Contents}
 use Rattle.vs_front.specs.Source.{Spells}
-use Rattle.vs_front.specs.Accepted.{IsAcceptedText}
+use Rattle.vs_front.specs.Accepted.{IsAcceptedText, most_bytes}
 use Rattle.vs_stim.specs.declared.input.Input.{Input}
 use Rattle.vs_stim.specs.Header.{IsInput}
 use Rattle.vs_stim.specs.Reading.{reading, stimulus}
@@ -62,7 +62,7 @@ lane_written every_run some_run has_vector d name a half inputs driven text put 
 abbrev pub accepted_as : (top clock : List ℕ) (d : Design) (text other : List ℕ) → text ≡ other → IsAcceptedText text top clock d → IsAcceptedText other top clock d
 accepted_as top clock d text other e a = record {
   source = a.source;
-  short = subst (λ (t : List ℕ). length t ≤ 4194304) e a.short;
+  short = subst (λ (t : List ℕ). length t ≤ most_bytes) e a.short;
   spelled = subst (λ (t : List ℕ). Spells t a.source) e a.spelled;
   top_named = a.top_named;
   declared = a.declared;

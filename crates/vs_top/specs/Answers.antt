@@ -1,8 +1,8 @@
 -- The outcomes of errors.
 use Rattle.std.specs.Prelude.{ℕ, ◌<◌}
+use Rattle.vs_desk.specs.Places.{stimulus_place, most_lanes}
 use Rattle.vs_stim.specs.declared.error.StimError.{StimError}
 use Rattle.vs_stim.specs.declared.error.StimError.TheVariants as E
-use Rattle.vs_stim.specs.Known.{place_of}
 use Rattle.vs_waves.specs.Puts.{wave_place}
 use Rattle.vs_refusal.specs.declared.refusal.Refusal.TheVariants.{Bare, At, Lane, Line}
 use Rattle.vs_refusal.specs.declared.names.BareName.TheVariants as bare
@@ -26,7 +26,7 @@ stimulus_outcome i E.NoVector = Refused (Lane lane.NoVector i)
 stimulus_outcome i E.TooManyVectors = Refused (Lane lane.TooManyVectors i)
 stimulus_outcome i E.StimulusTooLong = Refused (Lane lane.StimulusTooLong i)
 stimulus_outcome i (E.LineTooLong n) = Refused (Line line.LineTooLong i n)
-stimulus_outcome i E.ReadFault = ReadFault (place_of i)
+stimulus_outcome i E.ReadFault = ReadFault (stimulus_place i)
 stimulus_outcome i E.Memory = Memory
 
 -- a run can't begin; a text that is accepted as no design is refused at its first byte
@@ -40,10 +40,10 @@ setup_outcome S.Memory = Memory
 -- a run stops in a round
 abbrev pub stop_outcome : Stop → Outcome
 stop_outcome (R.Refused i error) = stimulus_outcome i error
-stop_outcome (R.ReadFault i) = ReadFault (place_of i)
+stop_outcome (R.ReadFault i) = ReadFault (stimulus_place i)
 stop_outcome (R.WriteFault i) = WriteFault (wave_place i)
 
--- the lane of a set-up's error is one of 64
+-- the lane of a set-up's error is one of those that there can be
 abbrev pub IsSmallError : SetupError → Type 0
-IsSmallError (S.Stimulus i error) = i < 64
+IsSmallError (S.Stimulus i error) = i < most_lanes
 IsSmallError _ = Unit {0}

@@ -2,7 +2,7 @@
 use Rattle.std.specs.Prelude.{◌≡◌, ◌≢◌, ℕ, ◌<◌, Bool, IsTrue, List, [], length, map, take, Some, None}
 use Rattle.vs_desk.specs.declared.desk.Way.TheVariants.{Write}
 use Rattle.vs_desk.specs.Desk.{Register, Contents, Fails}
-use Rattle.vs_desk.specs.Places.{with_places}
+use Rattle.vs_desk.specs.Places.{with_places, waveform_place}
 use Rattle.vs_design.specs.Designs.{Design}
 use Rattle.vs_drive.specs.Opened.{path_at, HaveHeaders}
 use Rattle.vs_waves.specs.Puts.{wave_place}
@@ -30,7 +30,7 @@ pub record IsUnused (register : Register) (lanes : ℕ) : Type 0 where
 
 -- all texts of the job are attached, and the waveforms of its first lanes, with these paths
 abbrev pub with_waves : Register → Job → List (List ℕ) → Register
-with_waves register job paths = with_places (with_texts register job job.stimuli) 2000 Write paths
+with_waves register job paths = with_places (with_texts register job job.stimuli) (waveform_place 0) Write paths
 
 -- the paths of the job's waveforms, by lane
 abbrev pub wave_paths : Job → List (List ℕ)

@@ -6,9 +6,9 @@ use Rattle.vs_design.specs.Designs.{Design}
 use Rattle.vs_design.specs.Networks.{network_of}
 use Rattle.vs_design.specs.Sizes.{size as size_of}
 use Rattle.vs_desk.specs.Desk.{Contents}
+use Rattle.vs_desk.specs.Places.{stimulus_place, design_place}
 use Rattle.vs_front.specs.Accepted.{IsAcceptedText}
 use Rattle.vs_stim.specs.declared.input.Input.{Input}
-use Rattle.vs_stim.specs.Known.{place_of}
 use Rattle.vs_stim.specs.Reading.{stimulus}
 use Rattle.vs_drive.specs.Opened.{path_at}
 use Rattle.vs_vcd.specs.Texts.{vcd}
@@ -49,8 +49,8 @@ pub record IsWritten (job : Job) (old new : Contents) (s : Summary) : Type 0 whe
   pub accepted : IsAcceptedText (old.files job.design) job.top job.clock design
   pub lanes : (i : ℕ) → i < length job.stimuli
       → IsLaneWritten design accepted.accepted.clock.first job.half (data_inputs design accepted.accepted.clock.first) (old.files (path_at job.stimuli i)) (new.put (wave_place i))
-  pub design_taken : new.left 1 ≡ []
-  pub stimuli_taken : (i : ℕ) → i < length job.stimuli → new.left (place_of i) ≡ []
+  pub design_taken : new.left design_place ≡ []
+  pub stimuli_taken : (i : ℕ) → i < length job.stimuli → new.left (stimulus_place i) ≡ []
   pub lanes_are : s.lanes ≡ length job.stimuli
   pub counted : AreCounted (run_of job old.files design accepted.accepted.clock.first) (length job.stimuli) s.vectors s.settlings
   pub size_is : s.size ≡ size_of design

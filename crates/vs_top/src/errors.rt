@@ -1,11 +1,13 @@
 //! The outcomes of errors.
 
 ghost use Rattle.std.specs.Prelude.{◌≡◌, ◌<◌};
+ghost use Rattle.vs_desk.specs.Places.{most_lanes};
 ghost use Rattle.vs_rounds.specs.Stops.{IsLaneOf};
 ghost use Rattle.vs_top.specs.Answers as spec;
 ghost use Rattle.vs_top.specs.Ended.{IsStopped};
 
 use crate::outcome::Outcome;
+use vs_desk::{FIRST_STIMULUS, FIRST_WAVEFORM};
 use vs_refusal::{AtName, BareName, LaneName, LineName, Refusal};
 use vs_rounds::Stop;
 use vs_setup::SetupError;
@@ -13,7 +15,7 @@ use vs_stim::StimError;
 
 /// The stimulus of a lane can't be read on.
 pub(crate) fn stimulus_outcome(lane: u32, error: StimError) -> Outcome
-    requires { lane < 64 }
+    requires { lane < most_lanes }
     ensures outcome { result ≡ spec.stimulus_outcome lane error }
     ensures stopped { IsStopped result }
 {
@@ -32,7 +34,9 @@ pub(crate) fn stimulus_outcome(lane: u32, error: StimError) -> Outcome
         StimError::LineTooLong { line } => {
             return Outcome::Refused(Refusal::Line(LineName::LineTooLong, lane, line));
         }
-        StimError::ReadFault => return Outcome::ReadFault { place: 1000 + lane },
+        StimError::ReadFault => return Outcome::ReadFault {
+            place: FIRST_STIMULUS + lane,
+        },
         StimError::Memory => return Outcome::Memory,
     };
     Outcome::Refused(Refusal::Lane(name, lane))
@@ -55,13 +59,17 @@ pub(crate) fn setup_outcome(error: SetupError) -> Outcome
 
 /// A run stops in a round.
 pub(crate) fn stop_outcome(stop: Stop) -> Outcome
-    requires { IsLaneOf 64 stop }
+    requires { IsLaneOf most_lanes stop }
     ensures outcome { result ≡ spec.stop_outcome stop }
     ensures stopped { IsStopped result }
 {
     match stop {
         Stop::Refused { lane, error } => stimulus_outcome(lane, error),
-        Stop::ReadFault { lane } => Outcome::ReadFault { place: 1000 + lane },
-        Stop::WriteFault { lane } => Outcome::WriteFault { place: 2000 + lane },
+        Stop::ReadFault { lane } => Outcome::ReadFault {
+            place: FIRST_STIMULUS + lane,
+        },
+        Stop::WriteFault { lane } => Outcome::WriteFault {
+            place: FIRST_WAVEFORM + lane,
+        },
     }
 }

@@ -2,6 +2,7 @@
 
 ghost use Rattle.std.specs.Prelude.{◌≡◌, ◌≢◌, ◌+◌, ◌*◌, ◌≤◌, ◌⊎◌, None, Some, IsTrue, length, map, string_bytes};
 ghost use Rattle.vs_desk.specs.Desk.{Contents};
+ghost use Rattle.vs_desk.specs.Places.{most_lanes};
 ghost use Rattle.vs_job.specs.declared.job.Job.{Job};
 ghost use Rattle.vs_job.specs.Job.{IsJob, job};
 ghost use Rattle.vs_refusal.specs.declared.names.BareName.TheVariants.{Usage};
@@ -59,7 +60,7 @@ pub fn run<D: Desk, L: Ledger>(
     desk: &mut D,
     steps: &mut Steps<L>,
 ) -> Outcome
-    requires unused { IsUnused (D.register desk.old) 64 }
+    requires unused { IsUnused (D.register desk.old) most_lanes }
 
     // The headline.
     ensures written { IsTrue D.tells → (s : Summary) → result ≡ Done s

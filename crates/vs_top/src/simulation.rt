@@ -10,7 +10,7 @@ use crate::errors::{setup_outcome, stop_outcome};
 use crate::outcome::{Outcome, Summary};
 use std::alloc::Global;
 use std::sync::ledger::Ledger;
-use vs_desk::Desk;
+use vs_desk::{Desk, FIRST_WAVEFORM, attach_law};
 use vs_job::{Job, same_paths};
 use vs_plane::{Steps, Words};
 use vs_refusal::Refusal;
@@ -38,6 +38,7 @@ pub(crate) fn run_job<D: Desk, L: Ledger>(
     ensures counted { IfOk result (λ s. steps.new ≡ steps.old + s.operations) }
     ensures within { IfOk result (λ s. s.operations ≤ s.size * s.settlings) }
 {
+    attach_law();
     headline_law();
     known_law();
     if let Some((first, second)) = same_paths(job) {
@@ -57,7 +58,7 @@ pub(crate) fn run_job<D: Desk, L: Ledger>(
         return Err(stop_outcome(stop));
     }
     if let Err(fault) = attach(desk, wave_paths) {
-        let place = 2000 + fault.lane;
+        let place = FIRST_WAVEFORM + fault.lane;
         return Err(Outcome::WriteFault { place });
     }
     match machine.rounds(desk, steps) {

@@ -3,7 +3,7 @@ use Rattle.std.specs.Prelude.{string_bytes, if◌then◌else◌, []}
 use Rattle.std.proofs.lemmas.List.{length-map, take-map}
 use Rattle.vs_desk.specs.declared.desk.Way.TheVariants.{Write}
 use Rattle.vs_desk.specs.Desk.{Register, Contents, Fails, IsAttached}
-use Rattle.vs_desk.specs.Places.{with_places}
+use Rattle.vs_desk.specs.Places.{with_places, waveform_place}
 use Rattle.vs_engine.specs.Lanes.{Running}
 use Rattle.vs_engine.specs.Program.{Program}
 use Rattle.vs_engine.specs.Compiled.{IsProgramOf, fall_stores, rise_stores}
@@ -48,7 +48,7 @@ attach-requires-clause-free g c = λ i h.
     let lanes : length items ≡ length job.stimuli = sym (length-map items (string_bytes {Z = Global})) ∙ ap length p.paths ∙ length-map job.stimuli vcd_path in
     let held = c.in-Ok.prepared.wave_paths.ok.0 in
     let below : i < length job.stimuli = omega (arith, h, held, lanes) in
-    subst (λ (r : Register). IsNone (r.attached (wave_place i))) (sym (c.in_default-begin.ensures.same ∙ p.register_is)) (still_free (g.D.Desk.register c.args.desk.now) job i c.requires.job.few c.requires.unused.waves below)
+    subst (λ (r : Register). IsNone (r.attached (wave_place i))) (sym (c.in_default-begin.ensures.same ∙ p.register_is)) (still_free c.attach_law.ensures.others (g.D.Desk.register c.args.desk.now) job i c.requires.job.few c.requires.unused.waves below)
 
 -- what was emptied of the files as they are now was so of the same files before
 emptied_from : (now old new : Contents) (paths : List (List ℕ)) → now.files ≡ old.files → AreEmptied paths now new → AreEmptied paths old new
@@ -64,7 +64,7 @@ returns-in-Err-attach-clause-stopped g c =
     let items : List (String Global) = c.in-Ok.prepared.wave_paths.items in
     let lanes : length items ≡ length job.stimuli = sym (length-map items (string_bytes {Z = Global})) ∙ ap length p.paths ∙ length-map job.stimuli vcd_path in
     let run = run_of job (g.D.Desk.contents c.args.desk.now).files p.design p.accepted.accepted.clock.first in
-    let P : Register → List (List ℕ) → List (List ℕ) → Type 0 = λ r taken all. Fails (with_places r 2000 Write taken) now (wave_place lane) (path_at all lane) in
+    let P : Register → List (List ℕ) → List (List ℕ) → Type 0 = λ r taken all. Fails (with_places r (waveform_place 0) Write taken) now (wave_place lane) (path_at all lane) in
     let begun = subst (λ (r : Register). P r (map string_bytes (take lane items)) (map string_bytes items)) (c.in_default-begin.ensures.same ∙ p.register_is) c.in-Err-attach.ensures.failed in
     let mapped = subst (λ (taken : List (List ℕ)). P (with_texts before job job.stimuli) taken (map string_bytes items)) (sym (take-map string_bytes lane items)) begun in
     let held = c.in-Ok.prepared.wave_paths.ok.0 in
@@ -86,7 +86,7 @@ returns-in-Err-attach-clause-stopped g c =
 pub rounds-requires-clause-readable : goal.rounds-requires-clause-readable
 rounds-requires-clause-readable g c =
     subst (λ (r : Register). AreAttached r c.begin.new.self.stimuli) (sym c.in_default-attach.ensures.attached)
-    (still_attached (g.D.Desk.register c.begin.new.desk) (map (string_bytes {Z = Global}) c.in-Ok.prepared.wave_paths.items) c.begin.new.self.stimuli c.in_default-begin.ensures.ready.alike.lanes c.in_default-begin.ensures.readable)
+    (still_attached c.attach_law.ensures.others (g.D.Desk.register c.begin.new.desk) (map (string_bytes {Z = Global}) c.in-Ok.prepared.wave_paths.items) c.begin.new.self.stimuli c.in_default-begin.ensures.ready.alike.lanes c.in_default-begin.ensures.readable)
 
 pub rounds-requires-clause-writable : goal.rounds-requires-clause-writable
 rounds-requires-clause-writable g c = λ i lt _.
@@ -97,7 +97,7 @@ rounds-requires-clause-writable g c = λ i lt _.
     let lanes : length c.begin.new.self.stimuli ≡ length job.stimuli = c.in_default-begin.ensures.lanes ∙ p.lanes in
     let paths : length (map (string_bytes {Z = Global}) items) ≡ length job.stimuli = ap length p.paths ∙ length-map job.stimuli vcd_path in
     let below : i < length (map (string_bytes {Z = Global}) items) = subst (λ n. i < n) (waves ∙ lanes ∙ sym paths) lt in
-    subst (λ (r : Register). IsAttached r (wave_place i) Write) (sym c.in_default-attach.ensures.attached) (with_places-at (g.D.Desk.register c.begin.new.desk) 2000 Write (map (string_bytes {Z = Global}) items) i below)
+    subst (λ (r : Register). IsAttached r (wave_place i) Write) (sym c.in_default-attach.ensures.attached) (with_places-at c.attach_law.ensures.each (g.D.Desk.register c.begin.new.desk) (waveform_place 0) Write (map (string_bytes {Z = Global}) items) i below)
 
 all_written : (g : Over) (c : goal.After-drop-machine-inside-in-Ok-rounds-10 g) → IsWholeEnd g.D.Desk.tells c.args.job.now (g.D.Desk.register c.args.desk.now) (g.D.Desk.contents c.args.desk.now) (g.D.Desk.register c.rounds.new.desk) (g.D.Desk.contents c.rounds.new.desk)
     (Done (record { lanes = c.len.result; vectors = c.in-Ok-rounds.counts.vectors; settlings = c.in-Ok-rounds.counts.settlings; size = c.in-Ok.prepared.size; operations = c.in-Ok-rounds.counts.settlings / 2 * c.in-Ok.prepared.stores }))
@@ -120,8 +120,8 @@ all_written g c =
     record {
       summary = record { lanes = c.len.result; vectors = counts.vectors; settlings = counts.settlings; size = c.in-Ok.prepared.size; operations = counts.settlings / 2 * c.in-Ok.prepared.stores };
       outcome_is = refl;
-      register_is = c.in-Ok-rounds.ensures.same ∙ c.in_default-attach.ensures.attached ∙ ap (λ (ps : List (List ℕ)). with_places (g.D.Desk.register c.begin.new.desk) 2000 Write ps) p.paths
-          ∙ ap (λ (r : Register). with_places r 2000 Write (wave_paths job)) (c.in_default-begin.ensures.same ∙ p.register_is);
+      register_is = c.in-Ok-rounds.ensures.same ∙ c.in_default-attach.ensures.attached ∙ ap (λ (ps : List (List ℕ)). with_places (g.D.Desk.register c.begin.new.desk) (waveform_place 0) Write ps) p.paths
+          ∙ ap (λ (r : Register). with_places r (waveform_place 0) Write (wave_paths job)) (c.in_default-begin.ensures.same ∙ p.register_is);
       written = λ t. record {
         design = p.design;
         accepted = accepted_as job.top job.clock p.design p.text (old.files job.design) (p.text_is t) p.accepted;
@@ -175,8 +175,8 @@ returns-clause-stopped g c =
     let held = c.in-Ok.prepared.wave_paths.ok.0 in
     let in_round = λ (t : IsTrue g.D.Desk.tells). (c.in_default-begin.ensures.begun t run (p.opened t)).begun (g.D.Desk.contents c.attach.new.desk) (empty t).left (λ i h. (empty t).lanes i (omega (arith, h, held, lanes, paths))) in
     let register : g.D.Desk.register c.attach.new.desk ≡ with_waves (g.D.Desk.register c.args.desk.now) job (wave_paths job) = c.in_default-attach.ensures.attached
-    ∙ ap (λ (ps : List (List ℕ)). with_places (g.D.Desk.register c.begin.new.desk) 2000 Write ps) p.paths
-    ∙ ap (λ (r : Register). with_places r 2000 Write (wave_paths job)) (c.in_default-begin.ensures.same ∙ p.register_is) in
+    ∙ ap (λ (ps : List (List ℕ)). with_places (g.D.Desk.register c.begin.new.desk) (waveform_place 0) Write ps) p.paths
+    ∙ ap (λ (r : Register). with_places r (waveform_place 0) Write (wave_paths job)) (c.in_default-begin.ensures.same ∙ p.register_is) in
     stopped (sym c.same_paths.ensures ∙ c.in_default.is) (record {
       stop = stop;
       outcome_is = c.stop_outcome-in-Err-rounds.ensures.outcome;
