@@ -37,7 +37,7 @@ fn check_run<L: Ledger>(rt: &impl Abort, alloc: Global, blank: Blank) -> Result<
     requires parts { blank.parts ≡ L.parts }
     requires some { 0 < blank.parts }
 {
-    let loaded = load::<Words<1>>(alloc, TEXT, "top", "clk")?;
+    let loaded = load::<Words<1>>(alloc, TEXT, b"top", b"clk")?;
     let Loaded {
         mut engine,
         accepted: _,
