@@ -2,7 +2,12 @@
 #![tactic(auto)]
 
 mod laws;
+mod nodes;
+mod shape;
+mod shapes;
 mod typed;
 
 pub use laws::fits_law;
+pub use shape::Shape;
+pub use shapes::Shapes;
 pub use typed::Typed;
