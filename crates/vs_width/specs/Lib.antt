@@ -3,4 +3,5 @@ pub mod Shapes
 pub mod Ways
 pub mod Nodes
 pub mod Table
+pub mod Constants
 pub mod Laws

@@ -1,11 +1,14 @@
 //! Lengths and signs of a design's expressions (IEEE 1364-2005, 5.4 and 5.5), and its size.
 #![tactic(auto)]
 
+mod apply;
+mod bits;
 mod laws;
 mod nodes;
 mod shape;
 mod shapes;
 mod typed;
+mod values;
 
 pub use laws::fits_law;
 pub use shape::Shape;
