@@ -6,3 +6,6 @@ pub mod ValueLengths
 pub mod PartValues
 pub mod Widths
 pub mod Selected
+pub mod Runs
+pub mod BodyNames
+pub mod SignalBits

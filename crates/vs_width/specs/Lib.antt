@@ -4,4 +4,7 @@ pub mod Ways
 pub mod Nodes
 pub mod Table
 pub mod Constants
+pub mod Gathered
+pub mod Bodies
+pub mod Walked
 pub mod Laws

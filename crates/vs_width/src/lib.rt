@@ -5,10 +5,12 @@ mod apply;
 mod bits;
 mod laws;
 mod nodes;
+mod places;
 mod shape;
 mod shapes;
 mod typed;
 mod values;
+mod walks;
 
 pub use laws::fits_law;
 pub use shape::Shape;

@@ -1,0 +1,22 @@
+-- The bits of a signal are bits of the design.
+use Rattle.std.proofs.Common.{◌≡◌, ℕ, zero, suc, ◌+◌, ◌≤◌, ◌==◌, ◌&&◌, Bool, true, List, [], ◌∷◌, length, refl, sym, ap, ◌∙◌, arith, Some}
+use Rattle.std.specs.Prelude.{slice_get, sum_by}
+use Rattle.std.proofs.lemmas.Bool.{eqb-true}
+use Rattle.std.proofs.lemmas.List.Sums.{sum_by-cons}
+use Rattle.vs_design.specs.Expressions.{Signal, signal_length}
+use Rattle.vs_design.specs.Elaborated.{have_bits_from}
+use Rattle.vs_width.proofs.Names.{and_both}
+
+pub signal_within : (first : ℕ) (ss : List Signal) (k : ℕ) (s : Signal) → have_bits_from first ss ≡ true → slice_get ss k ≡ Some s → s.first + signal_length s ≤ first + sum_by signal_length ss
+signal_within first [] k s h at = cc
+signal_within first (t ∷ ts) zero s h at =
+    let same : t ≡ s = first_is t s at in
+    let p = and_both (t.first == first) (have_bits_from (first + signal_length t) ts) h in
+    let begins = eqb-true t.first first p.0 in
+    omega (arith, begins, ap (λ (x : Signal). x.first) same, ap signal_length same, sum_by-cons signal_length t ts)
+  where
+    first_is : (t s : Signal) → Some t ≡ Some s → t ≡ s
+    first_is t s e = cc
+signal_within first (t ∷ ts) (suc k) s h at =
+    let p = and_both (t.first == first) (have_bits_from (first + signal_length t) ts) h in
+    omega (arith, signal_within (first + signal_length t) ts k s p.1 at, sum_by-cons signal_length t ts)
