@@ -9,3 +9,6 @@ pub mod Selected
 pub mod Runs
 pub mod BodyNames
 pub mod SignalBits
+pub mod Gathering
+pub mod Sources
+pub mod TargetParts

@@ -2,6 +2,7 @@
 
 ghost use Rattle.std.specs.Prelude.{◌≡◌, ◌≤◌, ◌<◌, ◌+◌, ◌++◌, ◌^◌, unsigned_abs, pos, ◌+ℤ◌, ◌-ℤ◌, [], ◌∷◌, if◌then◌else◌, IsTrue, OnOk, map, length};
 ghost use Rattle.vs_four.specs.Selects.{Part, is_descending, range_length, least_index, greatest_index, place_of, places, indices};
+ghost use Rattle.vs_design.specs.Expressions.{range_or_one};
 ghost use Rattle.vs_design.specs.Values.{count_from};
 ghost use Rattle.vs_design.specs.Footprints.{somes};
 ghost use Rattle.vs_width.specs.Gathered.{bits_from};
@@ -28,13 +29,23 @@ fn is_descending(range: Range) -> bool
 }
 
 /// How many bits a range has.
-pub(crate) fn range_length(range: Range) -> u64
+fn range_length(range: Range) -> u64
     ensures { result ≡ range_length range }
 {
     if is_descending(range) {
         u64::from(range.left - range.right) + 1
     } else {
         u64::from(range.right - range.left) + 1
+    }
+}
+
+/// How many bits a signal has.
+pub(crate) fn signal_length(range: Option<Range>) -> u64
+    ensures { result ≡ range_or_one range }
+{
+    match range {
+        None => 1,
+        Some(range) => range_length(range),
     }
 }
 

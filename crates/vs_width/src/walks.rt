@@ -15,7 +15,7 @@ ghost use Rattle.vs_width.specs.Walked.{IsSourceFit, IsTarget};
 ghost use Rattle.vs_width.specs.Gathered.{gathered, gathered_source, gathered_target, gathered_items};
 
 use crate::nodes::{first_copy, node_of};
-use crate::places::{push_places, push_run, range_length};
+use crate::places::{push_places, push_run, signal_length};
 use crate::shapes::Shapes;
 use std::alloc::AllocError;
 use vs_flat::{Flat, Node, trees_law};
@@ -29,11 +29,7 @@ fn push_signal(flat: &Flat, signal: u32, out: &mut Vec<u32>) -> Result<(), Alloc
 {
     trees_law();
     let s = flat.signal(signal);
-    let count = match s.range {
-        None => 1,
-        Some(range) => range_length(range) as u32,
-    };
-    push_run(out, s.first_bit, count)
+    push_run(out, s.first_bit, signal_length(s.range) as u32)
 }
 
 impl Shapes {
@@ -114,6 +110,60 @@ impl Shapes {
                 }
                 Ok(())
             }
+        }
+    }
+
+    /// Adds the bits that target e writes; a bit that it has twice is added twice.
+    pub fn push_target(&self, e: u32, out: &mut Vec<u32>) -> Result<(), AllocError>
+        requires there { e < length self.now.nodes }
+        requires target { IsTarget (tree_of self.now e) }
+        ensures { OnOk result (out.new.items ≡ out.old.items ++ target_bits (target_tree (tree_of self.now e))) }
+    {
+        let flat = self.flat();
+        match node_of(flat, e) {
+            Node::Name { signal } => push_signal(flat, *signal, out),
+            Node::Bit { of, range, index } => {
+                self.push_source(*of, *index, *range, true, 1, false, out)
+            }
+            Node::Part {
+                of,
+                range,
+                base,
+                up,
+                width,
+            } => self.push_source(*of, *base, *range, *up, *width, false, out),
+            Node::Join { parts } => {
+                for part in first_copy(parts.as_slice()) {
+                    self.push_target(*part, out)?;
+                }
+                Ok(())
+            }
+            _ => Ok(()),
+        }
+    }
+
+    /// Adds the bits that the indices of target e read; `whole` adds all bits of each signal that they name.
+    pub fn push_target_reads(
+        &self,
+        e: u32,
+        whole: bool,
+        out: &mut Vec<u32>,
+    ) -> Result<(), AllocError>
+        requires there { e < length self.now.nodes }
+        requires target { IsTarget (tree_of self.now e) }
+        ensures { OnOk result (out.new.items ≡ out.old.items ++ gathered_target whole (target_tree (tree_of self.now e))) }
+    {
+        let flat = self.flat();
+        match node_of(flat, e) {
+            Node::Bit { index, .. } => self.push_reads(*index, whole, out),
+            Node::Part { base, .. } => self.push_reads(*base, whole, out),
+            Node::Join { parts } => {
+                for part in first_copy(parts.as_slice()) {
+                    self.push_target_reads(*part, whole, out)?;
+                }
+                Ok(())
+            }
+            _ => Ok(()),
         }
     }
 }
