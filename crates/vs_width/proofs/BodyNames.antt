@@ -1,17 +1,21 @@
 -- What a statement names, as facts.
-use Rattle.std.proofs.Common.{◌≡◌, ℕ, zero, suc, ◌<◌, Bool, true, false, ◌&&◌, List, [], ◌∷◌, ◌++◌, map, length, refl, sym, subst, ◌∙◌, Option, Some, None, arith}
-use Rattle.std.specs.Prelude.{option_map, slice_get, option_to_list, nat_lt}
-use Rattle.std.specs.List.{list_all, flat_map}
+use Rattle.std.proofs.Common.{◌≡◌, ℕ, zero, suc, true, List, [], ◌∷◌, ◌++◌, map, length, refl, sym, ap, subst, ◌∙◌, Option, Some, None}
+use Rattle.std.specs.Prelude.{option_map, slice_get, option_to_list, nat_lt, is_some}
+use Rattle.std.specs.List.{flat_map}
 use Rattle.std.proofs.lemmas.List.Folds.{list_all-append}
 use Rattle.vs_flat.specs.declared.placed.Placed.{Placed}
 use Rattle.vs_flat.specs.declared.statements.Arm.{Arm}
 use Rattle.vs_flat.specs.declared.statements.Statement.{Statement}
 use Rattle.vs_flat.specs.declared.statements.Statement.TheVariants as S
-use Rattle.vs_flat.specs.Arena.{Arena, statement_at}
+use Rattle.vs_flat.specs.Arena.{Arena, placed, statement_at}
 use Rattle.vs_flat.specs.Lawful.{IsLawful}
-use Rattle.vs_flat.specs.Laws.{StatementNames}
-use Rattle.vs_flat.specs.Named.{all_below, statement_expressions, statement_statements, statement_names_below}
-use Rattle.vs_width.specs.Bodies.{ArmNames, OtherBelow, EachArmNames, HasBodyNames}
+use Rattle.vs_flat.specs.Laws.{StatementNames, StatementTargets}
+use Rattle.vs_flat.specs.Targets.{target_of}
+use Rattle.vs_flat.specs.Trees.{target_tree}
+use Rattle.vs_design.specs.Statements.{Target}
+use Rattle.vs_width.specs.Nodes.{tree_of}
+use Rattle.vs_flat.specs.Named.{all_below, statement_names_below}
+use Rattle.vs_width.specs.Bodies.{ArmNames, OtherBelow, EachArmNames, HasBodyNames, HasTarget}
 use Rattle.vs_width.proofs.Names.{and_both, first_below, rest_below, each_below}
 
 below_append : (n : ℕ) (ms ns : List ℕ) → all_below n (ms ++ ns) ≡ true → (all_below n ms ≡ true) × (all_below n ns ≡ true)
@@ -58,3 +62,22 @@ names_of_statement law a lawful s b at = found (slice_get a.statements s) refl a
       where
         item : (m : Placed Statement) → Some m.item ≡ Some b → m.item ≡ b
         item m h = cc
+
+pub target_of_statement : StatementTargets → (a : Arena) → IsLawful a → (s : ℕ) (b : Statement) → statement_at a s ≡ Some b → HasTarget a b
+target_of_statement law a lawful s S.Empty at = tt
+target_of_statement law a lawful s (S.Assign target e blocking) at = found (slice_get a.statements s) refl at
+  where
+    is_there : (o : Option Target) (d : Target) → o ≡ Some d → is_some o ≡ true
+    is_there None d h = cc
+    is_there (Some t) d h = refl
+
+    found : (o : Option (Placed Statement)) → slice_get a.statements s ≡ o → option_map (λ (m : Placed Statement). m.item) o ≡ Some (S.Assign target e blocking) → is_some (target_of (tree_of a target)) ≡ true
+    found None is h = cc
+    found (Some m) is h =
+        is_there (target_of (tree_of a target)) (target_tree (tree_of a target)) (law a lawful s m.at target e blocking (is ∙ ap (λ b. Some (placed b m.at)) (item m h)))
+      where
+        item : (m : Placed Statement) → Some m.item ≡ Some (S.Assign target e blocking) → m.item ≡ S.Assign target e blocking
+        item m h = cc
+target_of_statement law a lawful s (S.If c taken other) at = tt
+target_of_statement law a lawful s (S.Case kind of arms other) at = tt
+target_of_statement law a lawful s (S.Seq parts) at = tt

@@ -1,5 +1,5 @@
 -- What is gathered from an expression, by its parts.
-use Rattle.std.proofs.Common.{◌≡◌, ℕ, zero, suc, ◌+◌, ◌<◌, ◌≤◌, ◌*◌, Bool, true, false, ◌&&◌, if◌then◌else◌, List, [], ◌∷◌, ◌++◌, map, drop, length, get_or, refl, sym, ap, ◌∙◌, subst, arith, append_assoc, append-nil}
+use Rattle.std.proofs.Common.{◌≡◌, ℕ, zero, suc, ◌+◌, ◌<◌, ◌*◌, Bool, true, false, ◌&&◌, if◌then◌else◌, List, [], ◌∷◌, ◌++◌, map, drop, length, get_or, refl, sym, ap, ◌∙◌, subst, arith, append_assoc, append-nil}
 use Rattle.std.specs.Prelude.{OnOk, Result, Ok, Err, not}
 use Rattle.vs_four.specs.Logic.{BitList}
 use Rattle.vs_four.specs.Selects.{Part, places}
@@ -12,7 +12,9 @@ use Rattle.vs_flat.specs.declared.expressions.Node.{Node}
 use Rattle.vs_flat.specs.declared.expressions.Node.TheVariants as N
 use Rattle.vs_flat.specs.Trees.{joined, first_copy, copy_count}
 use Rattle.vs_width.specs.Nodes.{tree_of, place_of, tree_of_node}
-use Rattle.vs_width.specs.Gathered.{bits_from, gathered, gathered_source}
+use Rattle.vs_design.specs.Statements.{Target, Both}
+use Rattle.vs_design.specs.Footprints.{target_signals}
+use Rattle.vs_width.specs.Gathered.{bits_from, gathered, gathered_source, gathered_target}
 use Rattle.vs_width.proofs.Names.{and_both}
 
 pub tree_is : (a kept : Arena) (e : ℕ) (n m : Node) → kept ≡ a → tree_of kept e ≡ E.At (place_of kept e) (tree_of_node kept n) → n ≡ m → tree_of a e ≡ E.At (place_of a e) (tree_of_node a m)
@@ -118,3 +120,7 @@ binary_gathered w op a b = gathered_binary w op a b
 
 pub choice_gathered : (w : Bool) (c p q : E.Expression) → gathered w (E.Choice c p q) ≡ gathered w c ++ (gathered w p ++ gathered w q)
 choice_gathered w c p q = gathered_choice w c p q
+
+pub both_gathered : (w : Bool) (s t : Target) → gathered_target w (Both s t) ≡ gathered_target w s ++ gathered_target w t
+both_gathered true s t = signals_bits-append (target_signals s) (target_signals t)
+both_gathered false s t = refl

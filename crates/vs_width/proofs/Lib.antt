@@ -12,3 +12,4 @@ pub mod SignalBits
 pub mod Gathering
 pub mod Sources
 pub mod TargetParts
+pub mod Walking

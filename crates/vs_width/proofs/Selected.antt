@@ -1,13 +1,13 @@
 -- Constant selects.
-use Rattle.std.proofs.Common.{◌≡◌, ℕ, suc, ◌-◌, ◌≤◌, Bool, true, false, ◌&&◌, ◌==◌, length, refl, sym, ap, ◌∙◌, subst, arith}
+use Rattle.std.proofs.Common.{◌≡◌, ℕ, suc, ◌-◌, ◌≤◌, Bool, true, false, ◌&&◌, ◌==◌, length, refl, sym, ap, ◌∙◌, arith}
 use Rattle.std.proofs.lemmas.Bool.{eqb-true, cond_both}
 use Rattle.vs_four.specs.declared.Bit4.TheVariants.{X}
 use Rattle.vs_four.specs.declared.Range.{Range}
 use Rattle.vs_four.specs.Logic.{BitList}
 use Rattle.vs_four.specs.Lengths.{extend}
 use Rattle.vs_four.specs.Selects.{Part, select, is_descending, range_length}
-use Rattle.vs_design.specs.Expressions.{Source, OfSignal, OfConstant, Expression, Select, At, sign, width, is_constant}
-use Rattle.vs_design.specs.Fits.{fits, fits_64, source_length}
+use Rattle.vs_design.specs.Expressions.{Source, OfSignal, OfConstant, Expression, Select, At, sign}
+use Rattle.vs_design.specs.Fits.{fits, fits_64}
 use Rattle.vs_design.specs.Values.{value, constant_value}
 use Rattle.vs_flat.specs.declared.expressions.Node.{Node}
 use Rattle.vs_flat.specs.Arena.{Arena}

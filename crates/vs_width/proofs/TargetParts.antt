@@ -1,9 +1,8 @@
 -- What is gathered from a target, by its parts.
 use Rattle.std.proofs.Common.{◌≡◌, ℕ, zero, suc, ◌+◌, ◌<◌, ◌≤◌, ◌==◌, Bool, true, false, ◌&&◌, if◌then◌else◌, List, [], ◌∷◌, ◌++◌, map, drop, length, get_or, unwrap_or, refl, sym, ap, ◌∙◌, subst, arith, append_assoc, append-nil}
 use Rattle.std.specs.Prelude.{Option, None, Some, is_some}
-use Rattle.std.proofs.lemmas.List.{take_all}
 use Rattle.vs_design.specs.Expressions as E
-use Rattle.vs_design.specs.Statements.{Target, Whole, PartOf, Both, target_width}
+use Rattle.vs_design.specs.Statements.{Target, Whole, Both, target_width}
 use Rattle.vs_design.specs.Fits.{fits_64, fits_target}
 use Rattle.vs_flat.specs.Arena.{Arena}
 use Rattle.vs_flat.specs.declared.expressions.Node.{Node}

@@ -1,5 +1,5 @@
 -- Lengths of values before they are extended to their context.
-use Rattle.std.proofs.Common.{◌≡◌, ℕ, suc, ◌+◌, ◌*◌, ◌-◌, ◌^◌, ◌≤◌, Bool, List, length, replicate, map, arith, sym, ◌∙◌, subst}
+use Rattle.std.proofs.Common.{◌≡◌, ℕ, suc, ◌+◌, ◌*◌, ◌-◌, ◌^◌, ◌≤◌, Bool, List, length, replicate, map, arith, ◌∙◌}
 use Rattle.std.proofs.lemmas.List.{length-append, length-map}
 use Rattle.std.proofs.Math.Nat.{mul-le-mul_right}
 use Rattle.vs_four.specs.declared.Bit4.TheVariants.{X}
@@ -8,8 +8,7 @@ use Rattle.vs_four.specs.Lengths.{extend, extend_with, repeat}
 use Rattle.vs_four.specs.Numbers.{neg, number, bits_of}
 use Rattle.vs_four.specs.Tables.{not_bit, merge_bit}
 use Rattle.vs_four.specs.Selects.{Part, select, places, at_place}
-use Rattle.vs_design.specs.Expressions.{Expression, Unary, UnaryOp, Binary, BinaryOp, Way, InContext, Own, Compared, Shifted, way, width, sign}
-use Rattle.vs_design.specs.Values.{value, apply_binary, left_width, right_width, left_sign, right_sign}
+use Rattle.vs_design.specs.Expressions.{Expression, Unary, UnaryOp, Binary, BinaryOp, Way, InContext, Own, Compared, Shifted, way, width}
 use Rattle.vs_design.proofs.Lengths.{length_value, length_repeat, length_extend, length_if_known, length_bits_of, length_places, length_map2}
 use Rattle.vs_width.specs.Constants.{HasLengths, unary_applied, binary_applied}
 

@@ -1,5 +1,5 @@
 -- What a statement and a process of a lawful design name, and their trees.
-use Rattle.std.specs.Prelude.{◌<◌, ℕ, List, length, slice_index, Option, None, Some}
+use Rattle.std.specs.Prelude.{◌<◌, ℕ, List, Option, None, Some}
 use Rattle.vs_design.specs.Statements as T
 use Rattle.vs_flat.specs.declared.statements.Arm.{Arm}
 use Rattle.vs_flat.specs.declared.statements.Statement.{Statement}
@@ -8,7 +8,8 @@ use Rattle.vs_flat.specs.Arena.{Arena, statement_place}
 use Rattle.vs_flat.specs.Trees.{statement_at, statement_tree}
 use Rattle.vs_flat.specs.DesignOf.{arena_statements}
 use Rattle.vs_width.specs.Nodes.{EachBelow, tree_of}
-use Rattle.std.specs.Prelude.{◌≡◌, slice_get, unwrap_or}
+use Rattle.std.specs.Prelude.{◌≡◌, true, is_some, slice_get, unwrap_or}
+use Rattle.vs_flat.specs.Targets.{target_of}
 
 -- an arm's items are among these many expressions, and its statement is below this one
 pub record ArmNames (nodes s : ℕ) (arm : Arm) : Type 0 where
@@ -39,3 +40,8 @@ body_place a s = unwrap_or (statement_place a s) 0
 
 abbrev pub body_of_statement : Arena → ℕ → Statement → T.Statement
 body_of_statement a place s = statement_tree (tree_of a) (body_of a) place s
+
+-- what an assignment writes is a target (table 6-1)
+abbrev pub HasTarget : Arena → Statement → Type 0
+HasTarget a (S.Assign target e blocking) = is_some (target_of (tree_of a target)) ≡ true
+HasTarget a _ = Unit {0}

@@ -3,6 +3,7 @@
 
 mod apply;
 mod bits;
+mod bodies;
 mod laws;
 mod nodes;
 mod places;
@@ -12,6 +13,7 @@ mod typed;
 mod values;
 mod walks;
 
+pub use bodies::Walk;
 pub use laws::fits_law;
 pub use shape::Shape;
 pub use shapes::Shapes;

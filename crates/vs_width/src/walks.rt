@@ -12,7 +12,7 @@ ghost use Rattle.vs_flat.specs.Trees.{signal_at, target_tree};
 ghost use Rattle.vs_flat.specs.DesignOf.{arena_signals};
 ghost use Rattle.vs_width.specs.Nodes.{EachBelow, tree_of};
 ghost use Rattle.vs_width.specs.Walked.{IsSourceFit, IsTarget};
-ghost use Rattle.vs_width.specs.Gathered.{gathered, gathered_source, gathered_target, gathered_items};
+ghost use Rattle.vs_width.specs.Gathered.{gathered, gathered_source, gathered_target};
 
 use crate::nodes::{first_copy, node_of};
 use crate::places::{push_places, push_run, signal_length};

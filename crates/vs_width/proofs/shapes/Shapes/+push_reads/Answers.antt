@@ -1,12 +1,11 @@
 use Rattle.std.proofs.Common.{arith, rules, ◌∙◌, ◌++◌, refl}
 use Rattle.std.proofs.lemmas.Grind.{common_steps}
-use Rattle.vs_design.specs.Expressions as E
 use Rattle.vs_four.specs.Selects.{one_bit}
 use Rattle.vs_flat.specs.Operators.{binary_of}
 use Rattle.vs_flat.specs.Targets.{source_of}
 use Rattle.vs_flat.specs.declared.expressions.Node.TheVariants as N
 use Rattle.vs_width.specs.Nodes.{tree_of}
-use Rattle.vs_width.specs.Gathered.{gathered, gathered_source}
+use Rattle.vs_width.specs.Gathered.{gathered}
 use Rattle.vs_width.proofs.Gathering.{with_part, two_added, gathered_node, gathered_select, binary_gathered, choice_gathered, part_fits}
 use Rattle.vs_width.proofs.shapes.Shapes.+push_reads.Goals as goal
 

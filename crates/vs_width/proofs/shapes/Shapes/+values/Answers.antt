@@ -1,4 +1,4 @@
-use Rattle.std.proofs.Common.{◌≡◌, ◌<◌, ap, ◌∙◌, arith, rules, get_or}
+use Rattle.std.proofs.Common.{◌<◌, ap, ◌∙◌, arith, rules, get_or}
 use Rattle.vs_flat.specs.Arena.{Arena}
 use Rattle.vs_flat.specs.Targets.{source_of}
 use Rattle.vs_flat.specs.declared.expressions.Node.TheVariants as N
