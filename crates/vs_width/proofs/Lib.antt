@@ -1,5 +1,4 @@
 pub mod Unrefused
-pub mod Elements
 pub mod Names
 pub mod Joined
 pub mod ValueLengths
@@ -13,3 +12,4 @@ pub mod Gathering
 pub mod Sources
 pub mod TargetParts
 pub mod Walking
+pub mod Rising

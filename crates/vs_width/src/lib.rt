@@ -2,6 +2,7 @@
 #![tactic(auto)]
 
 mod apply;
+mod ascending;
 mod bits;
 mod bodies;
 mod laws;
@@ -13,6 +14,7 @@ mod typed;
 mod values;
 mod walks;
 
+pub use ascending::ascend;
 pub use bodies::Walk;
 pub use laws::fits_law;
 pub use shape::Shape;
