@@ -47,7 +47,7 @@ or_right : (a b : Bool) → b ≡ true → (a || b) ≡ true
 or_right true b h = refl
 or_right false b h = h
 
-in_first : (bs cs : List ℕ) (b : ℕ) → contains bs b ≡ true → contains (bs ++ cs) b ≡ true
+pub in_first : (bs cs : List ℕ) (b : ℕ) → contains bs b ≡ true → contains (bs ++ cs) b ≡ true
 in_first [] cs b h = cc
 in_first (c ∷ bs) cs b h = cases (b == c) (contains bs b) (contains (bs ++ cs) b) (in_first bs cs b) h
   where
@@ -55,7 +55,7 @@ in_first (c ∷ bs) cs b h = cases (b == c) (contains bs b) (contains (bs ++ cs)
     cases true there after f h = refl
     cases false there after f h = f h
 
-in_second : (bs cs : List ℕ) (b : ℕ) → contains cs b ≡ true → contains (bs ++ cs) b ≡ true
+pub in_second : (bs cs : List ℕ) (b : ℕ) → contains cs b ≡ true → contains (bs ++ cs) b ≡ true
 in_second [] cs b h = h
 in_second (c ∷ bs) cs b h = or_right (b == c) (contains (bs ++ cs) b) (in_second bs cs b h)
 
@@ -72,7 +72,7 @@ of_filtered test (c ∷ bs) b h = cases (test c) (λ k. of_filtered test bs b k)
     cases false f h = or_right (b == c) (contains bs b) (f h)
 
 -- what a process reads is among all that it reads
-of_reads : (process : Process) (b : ℕ) → contains (reads_of process) b ≡ true → contains (all_reads process) b ≡ true
+pub of_reads : (process : Process) (b : ℕ) → contains (reads_of process) b ≡ true → contains (all_reads process) b ≡ true
 of_reads process b h = cases (is_combinational process) h
   where
     cases : (combinational : Bool) → contains (if combinational then without (all_reads process) (writes_of process) else all_reads process) b ≡ true → contains (all_reads process) b ≡ true

@@ -8,10 +8,10 @@ use std::marker::Model;
 
 /// The bits that one process reads, writes and waits on, each list ascending.
 #[derive(Drop)]
-struct ProcessBits {
-    reads: SmallVec<u32, 8>,
-    writes: SmallVec<u32, 8>,
-    waits: SmallVec<u32, 8>,
+pub(crate) struct ProcessBits {
+    pub(crate) reads: SmallVec<u32, 8>,
+    pub(crate) writes: SmallVec<u32, 8>,
+    pub(crate) waits: SmallVec<u32, 8>,
 }
 
 /// For each process of a design the bits that it reads, writes and waits on.

@@ -2,6 +2,7 @@
 #![tactic(auto)]
 
 mod footprints;
+mod gather;
 mod laws;
 
 pub use footprints::Footprints;

@@ -33,6 +33,14 @@ fn push_signal(flat: &Flat, signal: u32, out: &mut Vec<u32>) -> Result<(), Alloc
 }
 
 impl Shapes {
+    /// Adds the bits of a signal, the least significant one first.
+    pub fn push_signal(&self, signal: u32, out: &mut Vec<u32>) -> Result<(), AllocError>
+        requires { signal < length self.now.signals }
+        ensures { OnOk result (out.new.items ≡ out.old.items ++ bits_of_signal (signal_at (arena_signals self.now) signal)) }
+    {
+        push_signal(self.flat(), signal, out)
+    }
+
     /// Adds the bits of a select that its source has; `whole` adds all bits of the signal whatever the index.
     fn push_source(
         &self,

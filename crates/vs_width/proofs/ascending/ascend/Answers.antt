@@ -1,4 +1,4 @@
-use Rattle.std.proofs.Common.{◌==◌, ap, ◌∙◌, sym, subst, eqb}
+use Rattle.std.proofs.Common.{◌≡◌, ◌==◌, ℕ, ap, ◌∙◌, sym, subst, eqb}
 use Rattle.std.specs.List.Sorted.{IsStrictlyIncreasing}
 use Rattle.std.proofs.lemmas.List.Filters.{dedup_is}
 use Rattle.std.proofs.lemmas.List.Sorted.{list_any-IsPermutation}
@@ -11,6 +11,10 @@ pub returns : goal.returns
 returns c =
     let old = c.args.bits.now.items in
     let sorted = c.sort_unstable.new.self.items in
-    let left = dedup_is eqb sorted c.dedup.new.self.items c.dedup.ensures.filtered in
-    is_ascending c.footprint_law.ensures.ascending c.footprint_law.ensures.rises c.dedup.new.self.items old (subst IsStrictlyIncreasing (sym left) (IsStrictlyIncreasing-dedup sorted c.sort_unstable.ensures.sorted))
-    (λ b. ap (λ xs. contains xs b) left ∙ contains-dedup sorted b ∙ sym (list_any-IsPermutation (λ n. b == n) old sorted c.sort_unstable.ensures.permutation))
+    let bits = c.dedup.new.self.items in
+    let left = dedup_is eqb sorted bits c.dedup.ensures.filtered in
+    let rising : IsStrictlyIncreasing bits = subst IsStrictlyIncreasing (sym left) (IsStrictlyIncreasing-dedup sorted c.sort_unstable.ensures.sorted) in
+    let same : (b : ℕ) → contains bits b ≡ contains old b =
+    λ b. ap (λ xs. contains xs b) left ∙ contains-dedup sorted b ∙ sym (list_any-IsPermutation (λ n. b == n) old sorted c.sort_unstable.ensures.permutation)
+    in
+    record { rising = rising; same = same; is = is_ascending c.footprint_law.ensures.ascending c.footprint_law.ensures.rises bits old rising same }
