@@ -1,0 +1,5 @@
+pub mod Footprint
+pub mod Kept
+pub mod Laws
+pub mod Named
+pub mod Within
