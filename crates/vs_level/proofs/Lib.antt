@@ -1,0 +1,4 @@
+pub mod Tests
+pub mod Apart
+pub mod Rings
+pub mod Steps

@@ -1,0 +1,4 @@
+pub mod Graph
+pub mod Kept
+pub mod Search
+pub mod SortError
