@@ -1,0 +1,4 @@
+pub mod Unrefused
+pub mod Elements
+pub mod Names
+pub mod Joined

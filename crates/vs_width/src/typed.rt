@@ -1,0 +1,72 @@
+//! The typed design.
+
+ghost use Rattle.std.specs.Prelude.{◌≡◌, ◌<◌, ◌≤◌, length, min, None};
+
+use crate::fits_law;
+use std::marker::Model;
+use vs_flat::{Flat, trees_law};
+
+/// A flat design whose expressions have 1 to 64 bits, with the length and the sign of each expression and the size of the whole.
+#[derive(Drop)]
+pub struct Typed {
+    flat: Flat,
+    widths: Vec<u8>,
+    signs: Vec<bool>,
+    size: u64,
+}
+
+impl Model for Typed {
+    ghost use Rattle.vs_flat.specs.Arena.{Arena};
+    ghost use Rattle.vs_width.specs.Typed.{IsTyped};
+
+    ghost Value = { Arena };
+
+    ghost view = { λ t. t.flat };
+
+    ghost invariant = { λ t. IsTyped t.flat t.widths.items t.signs.items t.size };
+}
+
+impl Typed {
+    ghost use Rattle.vs_design.specs.Expressions.{width, sign};
+    ghost use Rattle.vs_design.specs.Refusals.{width_refusal};
+    ghost use Rattle.vs_design.specs.Sizes.{size};
+    ghost use Rattle.vs_flat.specs.DesignOf.{arena_trees, design_of};
+    ghost use Rattle.vs_flat.specs.Lawful.{IsLawful};
+    ghost use Rattle.vs_flat.specs.Trees.{tree_at};
+
+    /// The flat design. It is lawful, and no length or division in it is refused.
+    pub fn flat(&self) -> &Flat
+        ensures same { result.now ≡ self.now }
+        ensures lawful { IsLawful self.now }
+        ensures fits { width_refusal (design_of self.now) ≡ None }
+    {
+        &self.flat
+    }
+
+    /// The length of expression e by itself (IEEE 1364-2005, table 5-22). An expression that a process comes to has 1 to 64 bits; 65 stands for every length over 64.
+    pub fn width(&self, e: u32) -> u32
+        requires { e < length self.now.nodes }
+        ensures { result ≡ min (width (tree_at (arena_trees self.now) e)) 65 }
+    {
+        trees_law();
+        u32::from(self.widths[e as usize])
+    }
+
+    /// Whether expression e is signed (IEEE 1364-2005, 5.5.1).
+    pub fn signed(&self, e: u32) -> bool
+        requires { e < length self.now.nodes }
+        ensures { result ≡ sign (tree_at (arena_trees self.now) e) }
+    {
+        trees_law();
+        self.signs[e as usize]
+    }
+
+    /// The size of the design: what the stores into a plane in one clock half-period are measured by.
+    pub fn size(&self) -> u64
+        ensures is { result ≡ size (design_of self.now) }
+        ensures most { result ≤ 16777216 }
+    {
+        fits_law();
+        self.size
+    }
+}
