@@ -78,9 +78,9 @@ impl Search {
         ensures search { IfOk result (λ s. IsSearch graph.now s) }
         ensures path { IfOk result (λ s. s.path ≡ []) }
     {
-        let marks = vec![in alloc; Mark::Fresh; graph.count()]?;
+        let marks = vec![in alloc; Mark::Fresh; graph.all_feeders().len()]?;
         let mut left = Vec::new(alloc);
-        for feeders in &graph.feeders {
+        for feeders in graph.all_feeders() {
             left.push(feeders.len())?;
         }
         Ok(Search {
