@@ -1,0 +1,4 @@
+pub mod Kept
+pub mod Ports
+pub mod Roots
+pub mod Spread
