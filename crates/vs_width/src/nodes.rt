@@ -2,12 +2,13 @@
 
 ghost use Rattle.std.specs.Prelude.{◌≡◌, ◌<◌, ◌≤◌, ◌+◌, ℕ, length, slice_index, take, take_while, not, ◌==◌};
 ghost use Rattle.vs_design.specs.Expressions.{At};
-ghost use Rattle.vs_flat.specs.Arena.{node_at};
+ghost use Rattle.vs_flat.specs.Arena.{node_at, statement_at};
 ghost use Rattle.vs_flat.specs.Lawful.{IsLawful};
 ghost use Rattle.vs_flat.specs.Trees.{first_copy, copy_count};
+ghost use Rattle.vs_width.specs.Bodies.{HasBodyNames, HasTarget, body_of, body_of_statement, body_place};
 ghost use Rattle.vs_width.specs.Nodes.{HasNames, tree_of, place_of, tree_of_node};
 
-use vs_flat::{Flat, Node, names_law, trees_law};
+use vs_flat::{Flat, Node, Statement, lawful_law, names_law, trees_law};
 
 /// Expression e of a lawful design: it names earlier ones, and its tree is made of theirs.
 pub(crate) fn node_of(flat: &Flat, e: u32) -> &Node
@@ -20,6 +21,21 @@ pub(crate) fn node_of(flat: &Flat, e: u32) -> &Node
     names_law();
     trees_law();
     flat.expr(e)
+}
+
+/// Statement s of a lawful design: it names expressions and earlier statements, and its tree is made of theirs.
+pub(crate) fn statement_of(flat: &Flat, s: u32) -> &Statement
+    requires lawful { IsLawful flat.now }
+    requires there { s < length flat.now.statements }
+    ensures is { statement_at flat.now s ≡ Some result.now }
+    ensures names { HasBodyNames (length flat.now.nodes) s result.now }
+    ensures target { HasTarget flat.now result.now }
+    ensures tree { body_of flat.now s ≡ body_of_statement flat.now (body_place flat.now s) result.now }
+{
+    names_law();
+    trees_law();
+    lawful_law();
+    flat.statement(s)
 }
 
 /// The parts of a concatenation; of a replication those of its first copy, which ends where its first part comes again (IEEE 1364-2005, 5.1.14).

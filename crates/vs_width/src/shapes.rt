@@ -51,7 +51,7 @@ impl Shapes {
     /// The flat design. It is lawful.
     pub fn flat(&self) -> &Flat
         ensures same { result.now ≡ self.now }
-        ensures lawful { IsLawful self.now }
+        ensures lawful { IsLawful result.now }
     {
         let _ = &self.noted;
         &self.flat

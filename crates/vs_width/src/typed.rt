@@ -2,16 +2,14 @@
 
 ghost use Rattle.std.specs.Prelude.{◌≡◌, ◌<◌, ◌≤◌, length, min, None};
 
-use crate::fits_law;
+use crate::{Shapes, fits_law};
 use std::marker::Model;
-use vs_flat::{Flat, trees_law};
+use vs_flat::Flat;
 
-/// A flat design whose expressions have 1 to 64 bits, with the length and the sign of each expression and the size of the whole.
+/// A lawful flat design of which no length is refused, with the length and the sign of each expression and the size of the whole.
 #[derive(Drop)]
 pub struct Typed {
-    flat: Flat,
-    widths: Vec<u8>,
-    signs: Vec<bool>,
+    shapes: Shapes,
     size: u64,
 }
 
@@ -21,9 +19,9 @@ impl Model for Typed {
 
     ghost Value = { Arena };
 
-    ghost view = { λ t. t.flat };
+    ghost view = { λ t. t.shapes };
 
-    ghost invariant = { λ t. IsTyped t.flat t.widths.items t.signs.items t.size };
+    ghost invariant = { λ t. IsTyped t.shapes t.size };
 }
 
 impl Typed {
@@ -40,7 +38,14 @@ impl Typed {
         ensures lawful { IsLawful self.now }
         ensures fits { width_refusal (design_of self.now) ≡ None }
     {
-        &self.flat
+        self.shapes.flat()
+    }
+
+    /// The shapes of its expressions, and what is gathered from them.
+    pub fn shapes(&self) -> &Shapes
+        ensures { result.now ≡ self.now }
+    {
+        &self.shapes
     }
 
     /// The length of expression e by itself (IEEE 1364-2005, table 5-22). An expression that a process comes to has 1 to 64 bits; 65 stands for every length over 64.
@@ -48,8 +53,7 @@ impl Typed {
         requires { e < length self.now.nodes }
         ensures { result ≡ min (width (tree_at (arena_trees self.now) e)) 65 }
     {
-        trees_law();
-        u32::from(self.widths[e as usize])
+        u32::from(self.shapes.shape(e).width)
     }
 
     /// Whether expression e is signed (IEEE 1364-2005, 5.5.1).
@@ -57,8 +61,7 @@ impl Typed {
         requires { e < length self.now.nodes }
         ensures { result ≡ sign (tree_at (arena_trees self.now) e) }
     {
-        trees_law();
-        self.signs[e as usize]
+        self.shapes.shape(e).signed
     }
 
     /// The size of the design: what the stores into a plane in one clock half-period are measured by.
