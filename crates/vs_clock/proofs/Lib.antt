@@ -6,4 +6,5 @@ pub mod BitCounts
 pub mod Copies
 pub mod Spreading
 pub mod ByKind
-pub mod Nets
+pub mod Least
+pub mod Finding

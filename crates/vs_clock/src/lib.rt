@@ -2,6 +2,9 @@
 #![tactic(auto)]
 
 mod bits;
+mod events;
+mod inputs;
+mod nets;
 mod ports;
 mod roots;
 mod spread;

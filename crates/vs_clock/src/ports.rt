@@ -6,7 +6,8 @@ ghost use Rattle.vs_design.specs.Designs as D;
 ghost use Rattle.vs_flat.specs.DesignOf.{arena_signals, arena_trees, design_of};
 ghost use Rattle.vs_flat.specs.Lawful.{IsLawful};
 ghost use Rattle.vs_flat.specs.Trees.{signal_at, tree_at};
-ghost use Rattle.vs_clock.specs.Ports.{assign_bits, bit_of, one_bit, port_bits, AreTargets};
+ghost use Rattle.vs_clock.specs.Roots.{AreAllTargets};
+ghost use Rattle.vs_clock.specs.Ports.{assign_bits, bit_of, one_bit, port_bits};
 
 use crate::bits::count_bits;
 use crate::targets::Targets;
@@ -88,7 +89,7 @@ pub(crate) fn copied_bits(flat: &Flat, p: u32) -> Option<(u32, u32)>
 pub(crate) fn targets_of(alloc: Global, flat: &Flat) -> Result<Targets, AllocError>
     requires { IsLawful flat.now }
     ensures count { IfOk result (λ t. length t ≡ D.bit_count (design_of flat.now)) }
-    ensures targets { IfOk result (λ t. AreTargets (design_of flat.now) (length (design_of flat.now).processes) t) }
+    ensures targets { IfOk result (λ t. AreAllTargets (design_of flat.now) t) }
 {
     trees_law();
     footprint_law();
