@@ -1,0 +1,161 @@
+-- Input ports that copy a bit.
+use Rattle.std.proofs.Common.{◌≡◌, ℕ, zero, suc, ◌+◌, ◌<◌, Bool, true, false, List, [], ◌∷◌, ◌++◌, ◌||◌, ◌&&◌, ◌==◌, refl, sym, ap, ◌∙◌, subst, eqb-true, eq-eqb, get_or, set, take, length, arith, Some, None, Option, is_some, option_map, ◌≢◌, cond, get_or-set_same, get_or-set_other, nat_lt}
+use Rattle.std.specs.Prelude.{slice_get, unwrap_or}
+use Rattle.std.specs.List.{list_any}
+use Rattle.std.proofs.Math.ListN.{length-set}
+use Rattle.std.proofs.lemmas.List.{take_more}
+use Rattle.std.proofs.lemmas.List.Folds.{list_any-append}
+use Rattle.std.proofs.lemmas.Bool.{ltb-true}
+use Rattle.std.proofs.lemmas.Option.{slice_get_within, get_or_from_slice_get}
+use Rattle.vs_design.specs.Expressions as E
+use Rattle.vs_design.specs.Expressions.{Signal, signal_length, Expression, Name, At}
+use Rattle.vs_design.specs.Values.{count_from, bits_of_signal}
+use Rattle.vs_design.specs.Statements.{Target, Whole, PartOf, Both}
+use Rattle.vs_design.specs.Designs.{Process, Written, InputPort, OutputPort, Continuous, Always, Design, bit_count}
+use Rattle.vs_design.specs.Footprints.{contains, all_reads, read_bits, target_reads, target_bits, writes_of, waits_of}
+use Rattle.vs_design.specs.Clocks.{name_of}
+use Rattle.vs_design.specs.Elaborated.{IsLawfulDesign}
+use Rattle.vs_design.specs.Laws.{BitsOfDesign}
+use Rattle.vs_flat.specs.declared.placed.Placed.{Placed}
+use Rattle.vs_flat.specs.declared.expressions.Node.{Node}
+use Rattle.vs_flat.specs.declared.expressions.Node.TheVariants as N
+use Rattle.vs_flat.specs.Targets.{target_of}
+use Rattle.vs_flat.specs.Trees.{no_signal, placed_tree, target_tree}
+use Rattle.vs_clock.specs.Spread.{targets_at}
+use Rattle.vs_clock.specs.Ports.{one_bit, bit_of, both_bits, port_bits, is_copy, copies, AreTargets}
+use Rattle.vs_clock.proofs.Tests.{by_test, either_way, or_left, or_right, and_both, contains-append, contains_head}
+
+same_other : (q p : ℕ) → (q == p) ≡ false → q ≡ p → ⊥
+same_other q p h e = either_way (q == p) (subst (λ m. (q == m) ≡ true) e (eq-eqb q q refl)) h
+
+or_nothing : (a : Bool) → (a || false) ≡ a
+or_nothing true = refl
+or_nothing false = refl
+
+-- ---- names
+
+-- the signal that a node names
+abbrev pub name_in : Node → Option ℕ
+name_in (N.Name signal) = Some signal
+name_in _ = None
+
+pub name_is : (signal : ℕ → Signal) (tree : ℕ → Expression) (n : Placed Node) → name_of (placed_tree signal tree n) ≡ option_map signal (name_in n.item)
+name_is signal tree n = go n.item
+  where
+    go : (i : Node) → name_of (placed_tree signal tree (record { item = i; at = n.at })) ≡ option_map signal (name_in i)
+    go (N.Literal bits signed sized) = refl
+    go (N.Name signal) = refl
+    go (N.Bit of range index) = refl
+    go (N.Part of range base up width) = refl
+    go (N.Unary op a) = refl
+    go (N.Binary op a b) = refl
+    go (N.Choice c p q) = refl
+    go (N.Join parts) = refl
+
+-- a name as a target
+named_target : (e : Expression) (s : Signal) → name_of e ≡ Some s → target_of e ≡ Some (Whole s)
+named_target (E.Literal bits signed sized) s h = cc
+named_target (Name signal) s h = let e : signal ≡ s = cc in ap (λ z. Some (Whole z)) e
+named_target (E.Select source part index) s h = cc
+named_target (E.Unary op a) s h = cc
+named_target (E.Binary op a b) s h = cc
+named_target (E.Choice c p q) s h = cc
+named_target (E.Join high low) s h = cc
+named_target (E.Repeat count a) s h = cc
+named_target (At place e) s h = named_target e s h
+
+pub named_tree : (e : Expression) (s : Signal) → name_of e ≡ Some s → target_tree e ≡ Whole s
+named_tree e s h = ap (λ o. unwrap_or o (Whole no_signal)) (named_target e s h)
+
+-- an input port's assign
+pub port_is : (place target_place : ℕ) (target e : Expression) → is_some (name_of target) ≡ true → port_bits (Continuous place InputPort target_place (target_tree target) e) ≡ both_bits (bit_of (name_of e)) (bit_of (name_of target))
+port_is place target_place target e h = go (name_of target) refl h
+  where
+    go : (o : Option Signal) → name_of target ≡ o → is_some o ≡ true → port_bits (Continuous place InputPort target_place (target_tree target) e) ≡ both_bits (bit_of (name_of e)) (bit_of (name_of target))
+    go None f k = cc
+    go (Some s) f k =
+        ap (λ t. port_bits (Continuous place InputPort target_place t e)) (named_tree target s f)
+        ∙ sym (ap (λ o. both_bits (bit_of (name_of e)) (bit_of o)) f)
+
+-- ---- the bits that are copied are bits of the design
+
+one_is : (s : Signal) (b : ℕ) → one_bit s ≡ Some b → contains (bits_of_signal s) b ≡ true
+one_is s b h = go (signal_length s == 1) refl h
+  where
+    some_same : (a b : ℕ) → Some a ≡ Some b → a ≡ b
+    some_same a b e = cc
+
+    go : (t : Bool) → (signal_length s == 1) ≡ t → (cond t (Some s.first) None) ≡ Some b → contains (bits_of_signal s) b ≡ true
+    go true e k = subst (λ m. contains (bits_of_signal s) m ≡ true) (some_same s.first b k) (ap {B = Bool} (λ n. contains (count_from s.first n) s.first) (eqb-true (signal_length s) 1 e) ∙ contains_head s.first [])
+    go false e k = cc
+
+name_read : (e : Expression) (b : ℕ) → bit_of (name_of e) ≡ Some b → contains (read_bits e) b ≡ true
+name_read (E.Literal bits signed sized) b h = cc
+name_read (Name signal) b h = one_is signal b h
+name_read (E.Select source part index) b h = cc
+name_read (E.Unary op a) b h = cc
+name_read (E.Binary op a c) b h = cc
+name_read (E.Choice c p q) b h = cc
+name_read (E.Join high low) b h = cc
+name_read (E.Repeat count a) b h = cc
+name_read (At place e) b h = name_read e b h
+
+both_are : (p q : Option ℕ) (b t : ℕ) → both_bits p q ≡ Some (b, t) → (p ≡ Some b) × (q ≡ Some t)
+both_are None q b t h = cc
+both_are (Some x) None b t h = cc
+both_are (Some x) (Some y) b t h = (ap Some (ap (λ (p : ℕ × ℕ). p.0) (some_same (x, y) (b, t) h)), ap Some (ap (λ (p : ℕ × ℕ). p.1) (some_same (x, y) (b, t) h)))
+  where
+    some_same : (a b : ℕ × ℕ) → Some a ≡ Some b → a ≡ b
+    some_same a b e = cc
+
+copy_in : (x : Process) (b t : ℕ) → port_bits x ≡ Some (b, t) → (contains (all_reads x) b ≡ true) × (contains (writes_of x) t ≡ true)
+copy_in (Continuous place Written target_place target e) b t h = cc
+copy_in (Continuous place InputPort target_place (Whole signal) e) b t h = let p = both_are (bit_of (name_of e)) (one_bit signal) b t h in (name_read e b p.0, one_is signal t p.1)
+copy_in (Continuous place InputPort target_place (PartOf signal part index) e) b t h = cc
+copy_in (Continuous place InputPort target_place (Both high low) e) b t h = cc
+copy_in (Continuous place OutputPort target_place target e) b t h = cc
+copy_in (Always place star events statement) b t h = cc
+
+pub copy_below : BitsOfDesign → (d : Design) → IsLawfulDesign d → (p : ℕ) (x : Process) (b t : ℕ) → slice_get d.processes p ≡ Some x → port_bits x ≡ Some (b, t) → (b < bit_count d) × (t < bit_count d)
+copy_below law d l p x b t e h =
+    let c = copy_in x b t h in
+    (law d l p x e b (contains-append (all_reads x) (writes_of x ++ waits_of x) b ∙ or_left (contains (all_reads x) b) (contains (writes_of x ++ waits_of x) b) c.0),
+    law d l p x e t (contains-append (all_reads x) (writes_of x ++ waits_of x) t ∙ or_right (contains (all_reads x) t) (contains (writes_of x ++ waits_of x) t) (contains-append (writes_of x) (waits_of x) t ∙ or_left (contains (writes_of x) t) (contains (waits_of x) t) c.1)))
+
+-- ---- the table of targets
+
+copies_more : (ps : List Process) (p : ℕ) (x : Process) (b t : ℕ) → slice_get ps p ≡ Some x → copies (take (p + 1) ps) b t ≡ (copies (take p ps) b t || is_copy b t (port_bits x))
+copies_more ps p x b t e =
+    ap {B = Bool} (λ zs. copies zs b t) (take_more ps p x (slice_get_within ps p x e))
+    ∙ list_any-append (λ x. is_copy b t (port_bits x)) (take p ps) (get_or ps p x ∷ [])
+    ∙ ap {B = Bool} (λ z. copies (take p ps) b t || z) (or_nothing (is_copy b t (port_bits (get_or ps p x))) ∙ ap {B = Bool} (λ z. is_copy b t (port_bits z)) (get_or_from_slice_get ps p x x e))
+
+pub no_targets : (d : Design) (targets : List (List ℕ)) → ((b : ℕ) → targets_at targets b ≡ []) → AreTargets d 0 targets
+no_targets d targets h b t l = ap {B = Bool} (λ zs. contains zs t) (h b)
+
+-- one port more
+pub targets_more : (d : Design) (p : ℕ) (x : Process) (from to : ℕ) (targets : List (List ℕ)) → slice_get d.processes p ≡ Some x → port_bits x ≡ Some (from, to) → from < length targets → AreTargets d p targets → AreTargets d (p + 1) (set targets from (targets_at targets from ++ to ∷ []))
+targets_more d p x from to targets e h l a b t k =
+    by_test (b == from)
+    (λ s. subst (λ m. contains (targets_at now m) t ≡ copies (take (p + 1) d.processes) m t) (sym (eqb-true b from s))
+    (ap {B = Bool} (λ zs. contains zs t) here ∙ contains-append (targets_at targets from) (to ∷ []) t
+    ∙ ap {B = Bool} (λ z. z || ((t == to) || false)) (a from t l)
+    ∙ ap {B = Bool} (λ z. copies (take p d.processes) from t || z) (or_nothing (t == to) ∙ sym (ap {B = Bool} (λ z. z && (t == to)) (eq-eqb from from refl)))
+    ∙ sym (copies_more d.processes p x from t e ∙ ap {B = Bool} (λ z. copies (take p d.processes) from t || is_copy from t z) h)))
+    (λ s. ap {B = Bool} (λ zs. contains zs t) (other s) ∙ a b t (old_length k) ∙ sym (copies_more d.processes p x b t e ∙ ap {B = Bool} (λ z. copies (take p d.processes) b t || is_copy b t z) h ∙ ap {B = Bool} (λ z. copies (take p d.processes) b t || (z && (t == to))) s ∙ or_nothing (copies (take p d.processes) b t)))
+  where
+    now : List (List ℕ)
+    now = set targets from (targets_at targets from ++ to ∷ [])
+
+    here : targets_at now from ≡ targets_at targets from ++ to ∷ []
+    here = rw get_or-set_same refl
+
+    other : (b == from) ≡ false → targets_at now b ≡ targets_at targets b
+    other s = let ne : b ≢ from = same_other b from s in rw get_or-set_other refl
+
+    old_length : b < length now → b < length targets
+    old_length k = subst (λ m. b < m) (length-set targets from (targets_at targets from ++ to ∷ [])) k
+
+-- a process that is none
+pub targets_same : (d : Design) (p : ℕ) (x : Process) (targets : List (List ℕ)) → slice_get d.processes p ≡ Some x → port_bits x ≡ None → AreTargets d p targets → AreTargets d (p + 1) targets
+targets_same d p x targets e h a b t k = a b t k ∙ sym (copies_more d.processes p x b t e ∙ ap {B = Bool} (λ z. copies (take p d.processes) b t || is_copy b t z) h ∙ or_nothing (copies (take p d.processes) b t))

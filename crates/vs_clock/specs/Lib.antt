@@ -1,0 +1,7 @@
+pub mod Inputs
+pub mod Kept
+pub mod Nets
+pub mod Ports
+pub mod Roots
+pub mod Spread
+pub mod Tests

@@ -1,0 +1,80 @@
+//! The inputs of the top by which a design is driven.
+
+ghost use Rattle.std.specs.Prelude.{◌≡◌, ◌<◌, length, option_map, IfOk, IfSome};
+ghost use Rattle.vs_design.specs.Clocks.{clock_input, one_bit_inputs, same_name};
+ghost use Rattle.vs_flat.specs.DesignOf.{arena_signals, design_of};
+ghost use Rattle.vs_flat.specs.Trees.{signal_at};
+ghost use Rattle.vs_clock.specs.Inputs.{is_named_input, reset_bit};
+
+use crate::ports::only_bit;
+use std::alloc::{AllocError, Global};
+use vs_flat::{Flat, trees_law};
+
+/// Whether two texts are the same.
+fn are_same(a: &[u8], b: &[u8]) -> bool
+    ensures { result ≡ same_name a.now b.now }
+{
+    a == b
+}
+
+/// Whether a signal is a one-bit input of the top with this name.
+fn is_named(flat: &Flat, signal: u32, name: &[u8]) -> bool
+    requires { signal < length flat.now.signals }
+    ensures { result ≡ is_named_input name.now (signal_at (arena_signals flat.now) signal) }
+{
+    trees_law();
+    let s = flat.signal(signal);
+    if !s.input {
+        return false;
+    }
+    if !are_same(s.name.as_str().as_bytes(), name) {
+        return false;
+    }
+    only_bit(flat, signal).is_some()
+}
+
+/// The one-bit input of the top that has this name, by its number.
+pub(crate) fn find_clock(flat: &Flat, name: &[u8]) -> Option<u32>
+    ensures clock { option_map (signal_at (arena_signals flat.now)) result ≡ clock_input (design_of flat.now) name.now }
+    ensures there { IfSome result (λ n. n < length flat.now.signals) }
+{
+    trees_law();
+    for n in 0..flat.signal_count() {
+        if is_named(flat, n, name) {
+            return Some(n);
+        }
+    }
+    None
+}
+
+/// The bit of a signal that has one, where it isn't the clock's.
+fn bit_for_reset(flat: &Flat, signal: u32, clock: u32) -> Option<u32>
+    requires { signal < length flat.now.signals }
+    ensures { result ≡ reset_bit clock (signal_at (arena_signals flat.now) signal) }
+{
+    match only_bit(flat, signal) {
+        Some(bit) => {
+            if bit == clock {
+                None
+            } else {
+                Some(bit)
+            }
+        }
+        None => None,
+    }
+}
+
+/// The bits of the one-bit inputs of the top but the clock, in order of declaration.
+pub(crate) fn reset_bits(alloc: Global, flat: &Flat, clock: u32) -> Result<Vec<u32>, AllocError>
+    ensures { IfOk result (λ v. v.items ≡ one_bit_inputs (design_of flat.now) clock) }
+{
+    trees_law();
+    let mut bits = Vec::new(alloc);
+    for signal in flat.top_inputs() {
+        match bit_for_reset(flat, *signal, clock) {
+            Some(bit) => bits.push(bit)?,
+            None => {}
+        }
+    }
+    Ok(bits)
+}

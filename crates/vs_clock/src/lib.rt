@@ -1,0 +1,11 @@
+//! The clock nets and the reset nets of a design, and the rules on them (IEEE 1364-2005, 9.7.2).
+#![tactic(auto)]
+
+mod bits;
+mod events;
+mod inputs;
+mod nets;
+mod ports;
+mod roots;
+mod spread;
+mod targets;

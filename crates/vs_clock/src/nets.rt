@@ -1,0 +1,74 @@
+//! The clock nets and the reset nets of a design.
+
+ghost use Rattle.std.specs.Prelude.{◌≡◌, ◌<◌, IfOk};
+ghost use Rattle.std.specs.List.{list_any};
+ghost use Rattle.vs_design.specs.Designs.{bit_count};
+ghost use Rattle.vs_flat.specs.DesignOf.{design_of};
+ghost use Rattle.vs_flat.specs.Lawful.{IsLawful};
+
+use crate::inputs::reset_bits;
+use crate::ports::targets_of;
+use crate::roots::roots_of;
+use std::alloc::{AllocError, Global};
+use std::marker::Model;
+use vs_flat::Flat;
+
+/// For each bit whether it copies the clock, and the input that it copies.
+#[derive(Drop)]
+pub(crate) struct Nets {
+    clock: Vec<Option<u32>>,
+    roots: Vec<Option<u32>>,
+}
+
+impl Model for Nets {
+    ghost use Rattle.vs_clock.specs.Nets.{Labelled, labelled_of};
+
+    ghost Value = { Labelled };
+
+    ghost view = { labelled_of };
+}
+
+impl Nets {
+    ghost use Rattle.vs_clock.specs.Nets.{AreNets, is_clock_bit, root_at};
+
+    /// The nets of a design with this clock.
+    pub(crate) fn of(alloc: Global, flat: &Flat, clock: u32) -> Result<Nets, AllocError>
+        requires lawful { IsLawful flat.now }
+        requires clock { clock < bit_count (design_of flat.now) }
+        ensures { IfOk result (AreNets (design_of flat.now) clock) }
+    {
+        let targets = targets_of(alloc, flat)?;
+        let inputs = reset_bits(alloc, flat, clock)?;
+        Ok(Nets {
+            clock: roots_of(alloc, flat, &targets, &[clock])?,
+            roots: roots_of(alloc, flat, &targets, inputs.as_slice())?,
+        })
+    }
+
+    /// Whether this bit is a clock net's.
+    pub(crate) fn is_clock(&self, bit: u32) -> bool
+        ensures { result ≡ is_clock_bit self.now bit }
+    {
+        match self.clock.get(bit as usize) {
+            Some(label) => label.is_some(),
+            None => false,
+        }
+    }
+
+    /// The bit of the input that this bit copies.
+    pub(crate) fn root(&self, bit: u32) -> Option<u32>
+        ensures { result ≡ root_at self.now bit }
+    {
+        match self.roots.get(bit as usize) {
+            Some(label) => *label,
+            None => None,
+        }
+    }
+
+    /// Whether a clock net is among these bits.
+    pub(crate) fn has_clock(&self, bits: &[u32]) -> bool
+        ensures { result ≡ list_any (is_clock_bit self.now) bits.now }
+    {
+        bits.iter().any(|bit| self.is_clock(*bit))
+    }
+}

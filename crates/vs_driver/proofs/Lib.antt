@@ -1,0 +1,7 @@
+pub mod Tests
+pub mod Numbered
+pub mod Told
+pub mod BitCounts
+pub mod Counting
+pub mod Least
+pub mod ByKind

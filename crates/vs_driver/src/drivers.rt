@@ -1,0 +1,25 @@
+//! The drivers of one bit, as far as they matter.
+
+/// The first two drivers of a bit, by process.
+#[derive(Clone, Copy, PartialEq, Eq, Debug)]
+pub(crate) enum Drivers {
+    Nobody,
+    One(u32),
+    Two(u32, u32),
+}
+
+impl Drivers {
+    ghost use Rattle.std.specs.Prelude.{◌≡◌, ℕ, List, ◌∷◌, ◌++◌, []};
+    ghost use Rattle.vs_driver.specs.Drivers.{first_two};
+
+    /// The drivers with one more.
+    pub(crate) fn with(self, p: u32) -> Drivers
+        ensures { (ps : List ℕ) → self ≡ first_two ps → result ≡ first_two (ps ++ p ∷ []) }
+    {
+        match self {
+            Drivers::Nobody => Drivers::One(p),
+            Drivers::One(first) => Drivers::Two(first, p),
+            Drivers::Two(first, second) => Drivers::Two(first, second),
+        }
+    }
+}

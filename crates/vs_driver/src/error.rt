@@ -1,0 +1,31 @@
+//! Why a design has no single drivers.
+
+use std::alloc::AllocError;
+use thiserror::Error;
+
+/// Why a bit of a design isn't written by one process alone.
+#[derive(Clone, Copy, PartialEq, Eq, Debug, Error)]
+pub enum DriverError {
+    /// Two processes write the bit, or one assign has it twice in its target; then it is both. Of several bits it is the least one, and of several writers the two least. The second begins at token `at`.
+    #[error("bit {bit} has the drivers {first} and {second}")]
+    TwoDrivers {
+        bit: u32,
+        first: u32,
+        second: u32,
+        at: u32,
+    },
+    /// There was not enough memory.
+    #[error("out of memory")]
+    Memory,
+}
+
+impl From<AllocError> for DriverError {
+    ghost use Rattle.std.specs.Prelude.{◌≡◌};
+    ghost use Rattle.vs_driver.specs.declared.error.DriverError.TheVariants.{Memory};
+
+    ghost from_gives = { λ _ e. e ≡ Memory };
+
+    fn from(_error: AllocError) -> DriverError {
+        DriverError::Memory
+    }
+}

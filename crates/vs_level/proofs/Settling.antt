@@ -1,0 +1,49 @@
+-- Which processes of a flat design settle, and how many bits it has.
+use Rattle.std.proofs.Common.{◌≡◌, ℕ, ◌+◌, ◌≤◌, ◌<◌, ◌^◌, Bool, true, false, not, List, [], ◌∷◌, ◌||◌, map, refl, sym, ap, ◌∙◌, subst, Some, take, length, arith, get_or, sum_by}
+use Rattle.std.specs.Prelude.{slice_get}
+use Rattle.std.specs.List.{list_any}
+use Rattle.std.proofs.lemmas.Option.{slice_get_within, get_or_from_slice_get}
+use Rattle.std.proofs.lemmas.List.Sums.{sum_by_more, sum_by_more_le}
+use Rattle.vs_design.specs.Expressions as E
+use Rattle.vs_design.specs.Statements as T
+use Rattle.vs_design.specs.Designs.{is_clocked, has_edge}
+use Rattle.vs_flat.specs.declared.processes.Event.{Event}
+use Rattle.vs_flat.specs.declared.processes.Signal.{Signal}
+use Rattle.vs_flat.specs.declared.processes.Process.{Process}
+use Rattle.vs_flat.specs.declared.processes.Kind.{Kind}
+use Rattle.vs_flat.specs.declared.processes.Kind.TheVariants as K
+use Rattle.vs_flat.specs.Arena.{Arena, bit_count}
+use Rattle.vs_flat.specs.Laws.{EachProcess}
+use Rattle.vs_flat.specs.Trees.{signal_at, tree_at, statement_at}
+use Rattle.vs_flat.specs.DesignOf.{event_of, kind_of, process_of, arena_signals, arena_trees, arena_statements, design_of}
+use Rattle.vs_level.specs.Feeders.{is_edge_event, settles}
+use Rattle.vs_level.proofs.Numbered.{number_at}
+
+abbrev pub is_clocked_kind : Kind → Bool
+is_clocked_kind (K.Assign target e port) = false
+is_clocked_kind (K.Block star events statement) = list_any is_edge_event events
+
+events_same : (signal : ℕ → E.Signal) (events : List Event) → list_any has_edge (map (event_of signal) events) ≡ list_any is_edge_event events
+events_same signal [] = refl
+events_same signal (e ∷ es) = ap {B = Bool} (λ t. is_edge_event e || t) (events_same signal es)
+
+clocked_is : (signal : ℕ → E.Signal) (tree : ℕ → E.Expression) (statement : ℕ → T.Statement) (place : ℕ) (k : Kind) → is_clocked (kind_of signal tree statement place k) ≡ is_clocked_kind k
+clocked_is signal tree statement place (K.Assign target e port) = refl
+clocked_is signal tree statement place (K.Block star events body) = events_same signal events
+
+pub settles_by : EachProcess → (a : Arena) (p : ℕ) (r : Process) (k : Kind) → slice_get a.processes p ≡ Some r → r.kind ≡ k → settles (design_of a) p ≡ not (is_clocked_kind k)
+settles_by each a p r k e h =
+    number_at p (design_of a).processes (process_of (signal_at (arena_signals a)) (tree_at (arena_trees a)) (statement_at (arena_statements a)) r) (λ x. not (is_clocked x)) (each a p r e)
+    ∙ ap not (clocked_is (signal_at (arena_signals a)) (tree_at (arena_trees a)) (statement_at (arena_statements a)) r.at r.kind ∙ ap is_clocked_kind h)
+
+-- ---- bits
+
+-- one signal more
+pub bits_more : (ss : List Signal) (n : ℕ) (s : Signal) → slice_get ss n ≡ Some s → bit_count (take (n + 1) ss) ≡ bit_count (take n ss) + E.range_or_one s.range
+bits_more ss n s e = sum_by_more (λ (s : Signal). E.range_or_one s.range) ss n s (slice_get_within ss n s e) ∙ ap {B = ℕ} (λ t. bit_count (take n ss) + t) (ap (λ (s : Signal). E.range_or_one s.range) (get_or_from_slice_get ss n s s e))
+
+pub bits_within : (ss : List Signal) (n : ℕ) (s : Signal) → slice_get ss n ≡ Some s → bit_count ss ≤ 2 ^ 20 → bit_count (take n ss) + E.range_or_one s.range ≤ 2 ^ 20
+bits_within ss n s e h =
+    let k : bit_count (take n ss) + E.range_or_one (get_or ss n s).range ≤ bit_count ss = sum_by_more_le (λ (s : Signal). E.range_or_one s.range) ss n s (slice_get_within ss n s e) in
+    let m : E.range_or_one (get_or ss n s).range ≡ E.range_or_one s.range = ap (λ (s : Signal). E.range_or_one s.range) (get_or_from_slice_get ss n s s e) in
+    omega (arith, k, m, h)
