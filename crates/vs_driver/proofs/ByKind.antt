@@ -12,7 +12,7 @@ use Rattle.vs_design.specs.Footprints.{contains, writes_of}
 use Rattle.std.specs.List.{list_all}
 use Rattle.vs_design.specs.Fits.{is_fit, fits_target, fits_process}
 use Rattle.vs_width.specs.Laws.{EachProcessFits}
-use Rattle.vs_width.specs.Walked.{IsTarget}
+use Rattle.vs_length.specs.Walked.{IsTarget}
 use Rattle.vs_design.specs.Refusals.{place_at, width_refusal}
 use Rattle.vs_design.specs.RefusalLaws.{DriversAre}
 use Rattle.vs_design.specs.Rules.{times, driver, drivers, drivers_from}

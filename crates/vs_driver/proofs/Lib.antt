@@ -1,7 +1,6 @@
 pub mod Tests
 pub mod Numbered
 pub mod Told
-pub mod BitCounts
 pub mod Counting
 pub mod Least
 pub mod ByKind

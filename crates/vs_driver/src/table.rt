@@ -7,13 +7,12 @@ ghost use Rattle.vs_design.specs.Rules.{times};
 ghost use Rattle.vs_flat.specs.DesignOf.{arena_trees, design_of};
 ghost use Rattle.vs_flat.specs.Trees.{target_tree, tree_at};
 ghost use Rattle.vs_reads.specs.Footprint.{footprints_of};
-ghost use Rattle.vs_width.specs.Walked.{IsTarget};
+ghost use Rattle.vs_length.specs.Walked.{IsTarget};
 ghost use Rattle.vs_driver.specs.Drivers.{first_two, drivers_at, AreDrivers, IsTableOf};
 
-use crate::bits::count_bits;
 use crate::drivers::Drivers;
 use std::alloc::{AllocError, Global};
-use vs_flat::{Kind, lawful_law, names_law, trees_law};
+use vs_flat::{Kind, count_bits, lawful_law, names_law, trees_law};
 use vs_reads::{Footprints, footprint_law};
 use vs_width::{Typed, fits_law};
 

@@ -6,3 +6,4 @@ pub mod Growing
 pub mod Counts
 pub mod Given
 pub mod Different
+pub mod BitCounts

@@ -1,6 +1,7 @@
 //! An elaborated design as an arena (IEEE 1364-2005, clause 12): scopes, signals, processes, expressions and statements, each kind numbered from 0 in the order in which they were added.
 #![tactic(auto)]
 
+mod bits;
 mod expressions;
 mod flat;
 mod laws;
@@ -9,6 +10,7 @@ mod placed;
 mod processes;
 mod statements;
 
+pub use bits::count_bits;
 pub use expressions::{BinaryOp, Node, UnaryOp};
 pub use flat::Flat;
 pub use laws::{

@@ -35,15 +35,3 @@ pub settles_by : EachProcess → (a : Arena) (p : ℕ) (r : Process) (k : Kind) 
 settles_by each a p r k e h =
     number_at p (design_of a).processes (process_of (signal_at (arena_signals a)) (tree_at (arena_trees a)) (statement_at (arena_statements a)) r) (λ x. not (is_clocked x)) (each a p r e)
     ∙ ap not (clocked_is (signal_at (arena_signals a)) (tree_at (arena_trees a)) (statement_at (arena_statements a)) r.at r.kind ∙ ap is_clocked_kind h)
-
--- ---- bits
-
--- one signal more
-pub bits_more : (ss : List Signal) (n : ℕ) (s : Signal) → slice_get ss n ≡ Some s → bit_count (take (n + 1) ss) ≡ bit_count (take n ss) + E.range_or_one s.range
-bits_more ss n s e = sum_by_more (λ (s : Signal). E.range_or_one s.range) ss n s (slice_get_within ss n s e) ∙ ap {B = ℕ} (λ t. bit_count (take n ss) + t) (ap (λ (s : Signal). E.range_or_one s.range) (get_or_from_slice_get ss n s s e))
-
-pub bits_within : (ss : List Signal) (n : ℕ) (s : Signal) → slice_get ss n ≡ Some s → bit_count ss ≤ 2 ^ 20 → bit_count (take n ss) + E.range_or_one s.range ≤ 2 ^ 20
-bits_within ss n s e h =
-    let k : bit_count (take n ss) + E.range_or_one (get_or ss n s).range ≤ bit_count ss = sum_by_more_le (λ (s : Signal). E.range_or_one s.range) ss n s (slice_get_within ss n s e) in
-    let m : E.range_or_one (get_or ss n s).range ≡ E.range_or_one s.range = ap (λ (s : Signal). E.range_or_one s.range) (get_or_from_slice_get ss n s s e) in
-    omega (arith, k, m, h)

@@ -9,11 +9,10 @@ ghost use Rattle.vs_flat.specs.Lawful.{IsLawful};
 ghost use Rattle.vs_reads.specs.Footprint.{footprints_of};
 ghost use Rattle.vs_level.specs.Feeders.{settles, is_edge_event, is_feeder, writers_at, AreWriters, IsGraphOf};
 
-use crate::bits::count_bits;
 use crate::graph::Graph;
 use crate::writers::Writers;
 use std::alloc::{AllocError, Global};
-use vs_flat::{Edge, Event, Flat, Kind, List, trees_law};
+use vs_flat::{Edge, Event, Flat, Kind, List, count_bits, trees_law};
 use vs_reads::{Footprints, footprint_law};
 
 /// Whether an edge is among the events of a block (IEEE 1364-2005, 9.7.2).

@@ -10,8 +10,8 @@ ghost use Rattle.vs_flat.specs.declared.processes.Event.{Event as FlatEvent};
 ghost use Rattle.vs_flat.specs.DesignOf.{event_of, arena_signals};
 ghost use Rattle.vs_flat.specs.Operators.{edge_of};
 ghost use Rattle.vs_flat.specs.Trees.{signal_at, target_tree};
-ghost use Rattle.vs_width.specs.Nodes.{tree_of};
-ghost use Rattle.vs_width.specs.Bodies.{body_of};
+ghost use Rattle.vs_length.specs.Nodes.{tree_of};
+ghost use Rattle.vs_length.specs.Bodies.{body_of};
 ghost use Rattle.vs_reads.specs.Footprint.{footprint_in};
 ghost use Rattle.vs_reads.specs.Kept.{footprint_of};
 ghost use Rattle.vs_reads.specs.Named.{AssignIsFit, BlockIsFit, EachSignalBelow};
@@ -21,7 +21,7 @@ use crate::footprints::ProcessBits;
 use smallvec::SmallVec;
 use std::alloc::{AllocError, Global};
 use vs_flat::{Edge, Event};
-use vs_width::{Shapes, Walk, ascend};
+use vs_length::{Shapes, Walk, ascend};
 
 /// Whether an event is `posedge` or `negedge`.
 fn is_edge(edge: Edge) -> bool

@@ -1,10 +1,2 @@
 pub mod Typed
-pub mod Shapes
-pub mod Ways
-pub mod Nodes
-pub mod Table
-pub mod Constants
-pub mod Gathered
-pub mod Bodies
-pub mod Walked
 pub mod Laws

@@ -1,22 +1,8 @@
-//! Lengths and signs of a design's expressions (IEEE 1364-2005, 5.4 and 5.5), and its size.
+//! A design of which no length is refused, and its size (IEEE 1364-2005, 5.4 and 5.5).
 #![tactic(auto)]
 
-mod apply;
-mod ascending;
-mod bits;
-mod bodies;
 mod laws;
-mod nodes;
-mod places;
-mod shape;
-mod shapes;
 mod typed;
-mod values;
-mod walks;
 
-pub use ascending::ascend;
-pub use bodies::Walk;
 pub use laws::fits_law;
-pub use shape::Shape;
-pub use shapes::Shapes;
 pub use typed::Typed;

@@ -1,0 +1,30 @@
+//! The number of a design's bits.
+
+ghost use Rattle.std.specs.Prelude.{◌≡◌, ◌≤◌, ◌^◌};
+ghost use Rattle.vs_design.specs.Expressions.{range_or_one};
+ghost use Rattle.vs_flat.specs.Arena.{bit_count};
+
+use crate::Flat;
+use vs_four::Range;
+
+/// How many bits a signal has (IEEE 1364-2005, 3.3).
+fn length_of(range: Option<Range>) -> u32
+    requires { range_or_one range ≤ 2 ^ 20 }
+    ensures { result ≡ range_or_one range }
+{
+    match range {
+        None => 1,
+        Some(range) => range.left.abs_diff(range.right) + 1,
+    }
+}
+
+/// How many bits the signals of a design have.
+pub fn count_bits(flat: &Flat) -> u32
+    ensures { result ≡ bit_count flat.now.signals }
+{
+    let mut count = 0;
+    for n in 0..flat.signal_count() {
+        count += length_of(flat.signal(n).range);
+    }
+    count
+}

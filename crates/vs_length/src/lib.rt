@@ -1,0 +1,18 @@
+//! Lengths and signs of a design's expressions (IEEE 1364-2005, 5.4 and 5.5).
+#![tactic(auto)]
+
+mod apply;
+mod ascending;
+mod bits;
+mod bodies;
+mod nodes;
+mod places;
+mod shape;
+mod shapes;
+mod values;
+mod walks;
+
+pub use ascending::ascend;
+pub use bodies::Walk;
+pub use shape::Shape;
+pub use shapes::Shapes;
