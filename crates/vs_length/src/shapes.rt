@@ -1,6 +1,6 @@
 //! The shapes of a design's expressions.
 
-ghost use Rattle.std.specs.Prelude.{◌≡◌, ◌<◌, ◌&&◌, not, min, length};
+ghost use Rattle.std.specs.Prelude.{◌≡◌, ◌<◌, ◌≤◌, ◌&&◌, not, min, length};
 ghost use Rattle.vs_four.specs.Selects.{Part};
 ghost use Rattle.vs_design.specs.Expressions.{Expression, Name, Select, is_constant};
 ghost use Rattle.vs_flat.specs.Lawful.{IsLawful};
@@ -14,7 +14,7 @@ use crate::nodes::{copy_count, first_copy, node_of};
 use crate::shape::{
     Shape, binary_shape, choice_shape, join_shape, repeat_shape, signal_width, unary_shape,
 };
-use std::alloc::Global;
+use std::alloc::{AllocError, Global};
 use std::marker::Model;
 use vs_flat::{Flat, Node, trees_law};
 
@@ -46,6 +46,30 @@ impl Shapes {
             flat,
             noted: Vec::new(alloc),
         }
+    }
+
+    /// Notes the shapes of expressions up to this many, so that each is found in one step from then on. Want of memory leaves the design as it was.
+    pub(crate) fn note(&mut self, count: u32) -> Result<(), AllocError>
+        requires { count ≤ length self.old.nodes }
+        ensures { self.new ≡ self.old }
+    {
+        for _ in 0..count {
+            self.note_next(count)?;
+        }
+        Ok(())
+    }
+
+    /// Notes the shape of the first expression that isn't noted, if it is below the count.
+    fn note_next(&mut self, count: u32) -> Result<(), AllocError>
+        requires { count ≤ length self.old.nodes }
+        ensures { self.new ≡ self.old }
+    {
+        let next = self.noted.len();
+        if next < count as usize {
+            let shape = self.shape(next as u32);
+            self.noted.push(shape)?;
+        }
+        Ok(())
     }
 
     /// The flat design. It is lawful.

@@ -10,7 +10,7 @@ use Rattle.vs_reads.specs.Footprint.{Footprint, footprint_in, footprints_of, no_
 use Rattle.vs_reads.specs.Laws.{EachIsOfItsProcess, HasBitsOf, EachHasItsBits}
 
 -- what is made of the element that is found
-made_at : {A B : Type 0} (f : A → B) (xs : List A) (k : ℕ) (x : A) (d : B) → slice_get xs k ≡ Some x → get_or (map f xs) k d ≡ f x
+pub made_at : {A B : Type 0} (f : A → B) (xs : List A) (k : ℕ) (x : A) (d : B) → slice_get xs k ≡ Some x → get_or (map f xs) k d ≡ f x
 made_at f [] k x d at = cc
 made_at f (y ∷ ys) zero x d at = ap f (first y x at)
   where
@@ -23,7 +23,7 @@ each_of_its_process d p process at =
     let is : get_or (footprints_of d) p no_footprint ≡ footprint_in (bit_count d) process = made_at (footprint_in (bit_count d)) d.processes p process no_footprint at in
     record { reads = ap (λ (f : Footprint). f.reads) is; writes = ap (λ (f : Footprint). f.writes) is; waits = ap (λ (f : Footprint). f.waits) is }
 
-both_parts : (a b : Bool) → (a && b) ≡ true → (a ≡ true) × (b ≡ true)
+pub both_parts : (a b : Bool) → (a && b) ≡ true → (a ≡ true) × (b ≡ true)
 both_parts true b h = (refl, h)
 both_parts false b h = cc
 

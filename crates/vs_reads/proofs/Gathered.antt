@@ -1,6 +1,6 @@
 -- What is gathered of a process, as its footprint.
-use Rattle.std.proofs.Common.{◌≡◌, ℕ, zero, suc, ◌+◌, ◌-◌, ◌<◌, ◌≤◌, ◌==◌, ◌||◌, ◌&&◌, Bool, true, false, not, if◌then◌else◌, List, [], ◌∷◌, ◌++◌, map, drop, length, get_or, refl, sym, ap, ◌∙◌, subst, arith, append_assoc, append-nil}
-use Rattle.std.specs.Prelude.{filter, Result, Ok, Err, MatchResult, is_ok, slice_get, Some, nat_lt}
+use Rattle.std.proofs.Common.{◌≡◌, ℕ, zero, suc, ◌+◌, ◌-◌, ◌<◌, ◌≤◌, ◌==◌, ◌||◌, Bool, true, false, not, if◌then◌else◌, List, [], ◌∷◌, ◌++◌, length, get_or, refl, sym, ap, ◌∙◌, subst, arith}
+use Rattle.std.specs.Prelude.{filter, Result, Ok, Err, MatchResult, is_ok, nat_lt}
 use Rattle.std.specs.List.{list_any}
 use Rattle.std.specs.List.Sorted.{IsStrictlyIncreasing, IsBinarySearchResult}
 use Rattle.std.specs.Ordering.{nat_cmp}
@@ -9,7 +9,7 @@ use Rattle.std.proofs.lemmas.List.Sorted.{searched}
 use Rattle.vs_design.specs.Statements.{Statement}
 use Rattle.vs_design.specs.Designs.{Process, Event, Always, has_edge}
 use Rattle.vs_design.specs.Footprints.{contains, without, ascending, all_reads, reads_of, writes_of, waits_of, wait_signals, signals_bits, statement_bits, statement_reads}
-use Rattle.vs_reads.specs.declared.footprints.ProcessBits.{ProcessBits}
+use Rattle.vs_reads.specs.declared.lists.ProcessBits.{ProcessBits}
 use Rattle.vs_reads.specs.Footprint.{Footprint, footprint_in}
 use Rattle.vs_reads.specs.Kept.{footprint_of}
 use Rattle.vs_reads.specs.Within.{IsWithin}

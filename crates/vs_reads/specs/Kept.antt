@@ -1,7 +1,7 @@
 -- How footprints are kept.
 use Rattle.std.specs.Prelude.{◌≤◌, ◌^◌, List, map, length}
-use Rattle.vs_reads.specs.declared.footprints.ProcessBits.{ProcessBits}
-use Rattle.vs_reads.specs.declared.footprints.Footprints.TheInside.{Inside}
+use Rattle.vs_reads.specs.declared.lists.ProcessBits.{ProcessBits}
+use Rattle.vs_reads.specs.declared.lists.Footprints.TheInside.{Inside}
 use Rattle.vs_reads.specs.Footprint.{Footprint}
 
 abbrev pub footprint_of : ProcessBits → Footprint

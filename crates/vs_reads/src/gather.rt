@@ -17,7 +17,7 @@ ghost use Rattle.vs_reads.specs.Kept.{footprint_of};
 ghost use Rattle.vs_reads.specs.Named.{AssignIsFit, BlockIsFit, EachSignalBelow};
 ghost use Rattle.vs_reads.specs.Within.{IsWithin};
 
-use crate::footprints::ProcessBits;
+use crate::lists::ProcessBits;
 use smallvec::SmallVec;
 use std::alloc::{AllocError, Global};
 use vs_flat::{Edge, Event};

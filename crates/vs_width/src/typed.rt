@@ -2,9 +2,10 @@
 
 ghost use Rattle.std.specs.Prelude.{◌≡◌, ◌<◌, ◌≤◌, length, min, None};
 
-use crate::{Shapes, fits_law};
+use crate::fits_law;
 use std::marker::Model;
 use vs_flat::Flat;
+use vs_length::Shapes;
 
 /// A lawful flat design of which no length is refused, with the length and the sign of each expression and the size of the whole.
 #[derive(Drop)]

@@ -1,6 +1,6 @@
 //! The footprints of a design's processes.
 
-ghost use Rattle.std.specs.Prelude.{◌≡◌, ◌<◌, length};
+ghost use Rattle.std.specs.Prelude.{◌≡◌, ◌<◌, ◌≤◌, ◌^◌, map, length};
 ghost use Rattle.vs_reads.specs.Footprint.{reads_at, writes_at, waits_at};
 
 use smallvec::SmallVec;
@@ -34,6 +34,16 @@ impl Model for Footprints {
 }
 
 impl Footprints {
+    ghost use Rattle.vs_reads.specs.Kept.{footprint_of};
+
+    /// These footprints, at most 2^16.
+    pub(crate) fn of(processes: Vec<ProcessBits>) -> Footprints
+        requires { length processes.items ≤ 2 ^ 16 }
+        ensures { result ≡ map footprint_of processes.items }
+    {
+        Footprints { processes }
+    }
+
     /// How many processes there are.
     pub fn count(&self) -> u32
         ensures { result ≡ length self.now }
