@@ -8,3 +8,4 @@ pub mod Spreading
 pub mod ByKind
 pub mod Least
 pub mod Finding
+pub mod Ruled

@@ -3,9 +3,11 @@
 
 mod bits;
 mod events;
+mod first;
 mod inputs;
 mod nets;
 mod ports;
 mod roots;
+mod rules;
 mod spread;
 mod targets;
