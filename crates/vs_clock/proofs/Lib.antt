@@ -9,3 +9,5 @@ pub mod ByKind
 pub mod Least
 pub mod Finding
 pub mod Ruled
+pub mod Fixed
+pub mod Branches

@@ -2,8 +2,10 @@
 #![tactic(auto)]
 
 mod bits;
+mod error;
 mod events;
 mod first;
+mod form;
 mod inputs;
 mod nets;
 mod ports;
@@ -11,3 +13,5 @@ mod roots;
 mod rules;
 mod spread;
 mod targets;
+
+pub use error::ClockError;
