@@ -58,7 +58,7 @@ targets_below law d l targets a b t h = let r = copier d.processes b t (sym (a b
 -- ---- port targets
 
 -- a port leads from one of the nets to the bit
-abbrev hits : List ℕ → ℕ → Option (ℕ × ℕ) → Bool
+abbrev pub hits : List ℕ → ℕ → Option (ℕ × ℕ) → Bool
 hits nets t None = false
 hits nets t (Some (from, to)) = contains nets from && (t == to)
 

@@ -8,3 +8,6 @@ pub mod Spreading
 pub mod ByKind
 pub mod Least
 pub mod Finding
+pub mod Ruled
+pub mod Fixed
+pub mod Branches

@@ -1,3 +1,4 @@
+pub mod Forms
 pub mod Inputs
 pub mod Kept
 pub mod Nets

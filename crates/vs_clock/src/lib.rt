@@ -2,10 +2,16 @@
 #![tactic(auto)]
 
 mod bits;
+mod error;
 mod events;
+mod first;
+mod form;
 mod inputs;
 mod nets;
 mod ports;
 mod roots;
+mod rules;
 mod spread;
 mod targets;
+
+pub use error::ClockError;

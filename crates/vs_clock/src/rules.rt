@@ -1,0 +1,110 @@
+//! The tests of single processes.
+
+ghost use Rattle.std.specs.Prelude.{◌≡◌, ℕ, ◌<◌, length, slice_get, Some, IfOk};
+ghost use Rattle.std.specs.List.{list_any};
+ghost use Rattle.vs_design.specs.Designs as D;
+ghost use Rattle.vs_design.specs.Clocks.{is_clock_port, reads_clock, has_other_clock, clock_nets, root_of};
+ghost use Rattle.vs_design.specs.Resets.{has_other_form};
+ghost use Rattle.vs_flat.specs.DesignOf.{design_of};
+ghost use Rattle.vs_flat.specs.Lawful.{IsLawful};
+ghost use Rattle.vs_reads.specs.Footprint.{footprints_of};
+ghost use Rattle.vs_clock.specs.Nets.{AreNets};
+ghost use Rattle.vs_clock.specs.Tests.{is_edge_event};
+
+use crate::events::{BlockEvents, events_of};
+use crate::form::reset_branch;
+use crate::nets::Nets;
+use crate::ports::copied_bits;
+use std::alloc::{AllocError, Global};
+use vs_flat::{Edge, Event, Flat, Kind, names_law, trees_law};
+use vs_reads::{Footprints, footprint_law};
+use vs_width::{Typed, fits_law};
+
+/// Whether a process is an input port's assign that hands a clock net on.
+fn is_port(flat: &Flat, nets: &Nets, p: u32) -> bool
+    requires lawful { IsLawful flat.now }
+    requires process { p < length flat.now.processes }
+    ensures { (c : ℕ) → AreNets (design_of flat.now) c nets.now → (x : D.Process) → slice_get (design_of flat.now).processes p ≡ Some x → result ≡ is_clock_port (clock_nets (design_of flat.now) c) x }
+{
+    match copied_bits(flat, p) {
+        Some((from, _)) => nets.is_clock(from),
+        None => false,
+    }
+}
+
+/// Whether a process reads or waits on a clock net, and isn't such an assign.
+pub(crate) fn is_reading(flat: &Flat, footprints: &Footprints, nets: &Nets, p: u32) -> bool
+    requires lawful { IsLawful flat.now }
+    requires footprints { footprints.now ≡ footprints_of (design_of flat.now) }
+    requires process { p < length flat.now.processes }
+    ensures { (c : ℕ) → AreNets (design_of flat.now) c nets.now → (x : D.Process) → slice_get (design_of flat.now).processes p ≡ Some x → result ≡ reads_clock (clock_nets (design_of flat.now) c) x }
+{
+    trees_law();
+    footprint_law();
+    if is_port(flat, nets, p) {
+        return false;
+    }
+    if nets.has_clock(footprints.reads(p)) {
+        return true;
+    }
+    nets.has_clock(footprints.waits(p))
+}
+
+/// Whether an edge is among the events of a block (IEEE 1364-2005, 9.7.2).
+fn has_edge(events: &[Event]) -> bool
+    ensures { result ≡ list_any is_edge_event events.now }
+{
+    events.iter().any(|e| e.edge != Edge::Any)
+}
+
+/// Whether a process is a clocked block whose events are others than a posedge of a clock net, or that and an edge of a reset net.
+pub(crate) fn is_other(flat: &Flat, nets: &Nets, p: u32) -> bool
+    requires lawful { IsLawful flat.now }
+    requires process { p < length flat.now.processes }
+    ensures { (c : ℕ) → AreNets (design_of flat.now) c nets.now → (x : D.Process) → slice_get (design_of flat.now).processes p ≡ Some x → result ≡ has_other_clock (clock_nets (design_of flat.now) c) (root_of (design_of flat.now) c) x }
+{
+    trees_law();
+    names_law();
+    match &flat.process(p).kind {
+        Kind::Assign { .. } => false,
+        Kind::Block { events, .. } => {
+            if !has_edge(events.as_slice()) {
+                return false;
+            }
+            match events_of(flat, nets, events.as_slice()) {
+                BlockEvents::Other => true,
+                BlockEvents::Clock => false,
+                BlockEvents::Reset(_) => false,
+            }
+        }
+    }
+}
+
+/// Whether a process is a block with a reset that hasn't the form of one.
+pub(crate) fn is_formless(
+    alloc: Global,
+    typed: &Typed,
+    nets: &Nets,
+    p: u32,
+) -> Result<bool, AllocError>
+    requires { p < length typed.now.processes }
+    ensures { IfOk result (λ r. (c : ℕ) → AreNets (design_of typed.now) c nets.now → (x : D.Process) → slice_get (design_of typed.now).processes p ≡ Some x → r ≡ has_other_form (clock_nets (design_of typed.now) c) (root_of (design_of typed.now) c) x) }
+{
+    trees_law();
+    names_law();
+    fits_law();
+    let flat = typed.flat();
+    match &flat.process(p).kind {
+        Kind::Assign { .. } => Ok(false),
+        Kind::Block {
+            events, statement, ..
+        } => match events_of(flat, nets, events.as_slice()) {
+            BlockEvents::Reset(reset) => {
+                let bit = flat.signal(reset.signal).first_bit;
+                Ok(reset_branch(alloc, typed, reset.edge, bit, *statement)?.is_none())
+            }
+            BlockEvents::Clock => Ok(false),
+            BlockEvents::Other => Ok(false),
+        },
+    }
+}
