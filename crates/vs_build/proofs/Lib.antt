@@ -1,0 +1,5 @@
+pub mod Counting
+pub mod Nodes
+pub mod Bodies
+pub mod Wider
+pub mod Additions
