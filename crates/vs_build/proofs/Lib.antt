@@ -3,3 +3,5 @@ pub mod Nodes
 pub mod Bodies
 pub mod Wider
 pub mod Additions
+pub mod Steps
+pub mod NodeKinds

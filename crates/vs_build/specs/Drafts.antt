@@ -4,6 +4,9 @@ use Rattle.std.specs.List.{list_all}
 use Rattle.vs_design.specs.Expressions.{Signal, Expression}
 use Rattle.vs_design.specs.Statements.{Statement}
 use Rattle.vs_design.specs.Designs.{Scope, Process, Design}
+use Rattle.vs_design.specs.Elaborated.{is_formed_select}
+use Rattle.vs_four.specs.Selects.{Part}
+use Rattle.vs_flat.specs.Targets.{source_of}
 
 -- an expression, and on how many levels it stands: the longest chain of expressions, each within the one before it
 pub record Root : Type 0 where
@@ -66,14 +69,22 @@ abbrev pub most_body_levels : List Body → ℕ
 most_body_levels [] = 0
 most_body_levels (b ∷ bs) = max b.levels (most_body_levels bs)
 
--- there are so many, on so few levels that each may be part of one more
-pub record AreParts (count : ℕ) (rs : List Root) : Type 0 where
-  pub enough : count ≤ length rs
-  pub few : most_levels rs ≤ 254
+-- the last so many expressions are on so few levels that each may be part of one more
+pub record EndsWith (count : ℕ) (s : Draft) : Type 0 where
+  pub before : Draft
+  pub last : List Root
+  pub is : s ≡ and_roots before last
+  pub many : length last ≡ count
+  pub few : most_levels last ≤ 254
 
-pub record AreSteps (count : ℕ) (bs : List Body) : Type 0 where
-  pub enough : count ≤ length bs
-  pub few : most_body_levels bs ≤ 254
+-- the last ones are an index and a signal's name or a parameter's value, of which these bits may be selected (5.2.1)
+pub record EndsInSelect (part : Part) (s : Draft) : Type 0 where
+  pub before : Draft
+  pub index : Root
+  pub of : Root
+  pub is : s ≡ and_roots before (index ∷ of ∷ [])
+  pub few : most_levels (index ∷ of ∷ []) ≤ 254
+  pub formed : is_formed_select s.design (source_of of.tree) part ≡ true
 
 -- ---- what a step does
 

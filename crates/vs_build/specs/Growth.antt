@@ -51,3 +51,12 @@ body_at a n = record { statement = statement_at (arena_statements a) n; levels =
 
 abbrev pub draft_of : Arena → List ℕ → List ℕ → Draft
 draft_of a roots bodies = record { design = design_of a; expressions = map (root_at a) roots; statements = map (body_at a) bodies }
+
+-- a flat design that grows, and the numbers of the expressions and statements that nothing in it names yet
+pub record Growing : Type 0 where
+  pub arena : Arena
+  pub roots : List ℕ
+  pub bodies : List ℕ
+
+abbrev pub draft : Growing → Draft
+draft g = draft_of g.arena g.roots g.bodies

@@ -1,10 +1,6 @@
-//! Trees of the text as nodes of the flat design.
+//! Trees of the text as nodes of the flat design (IEEE 1364-2005, clauses 5, 6 and 9).
 #![tactic(auto)]
 
-ghost use Rattle.std.specs.Prelude.{◌≡◌};
+mod builder;
 
-pub fn none() -> u32
-    ensures { result ≡ 0 }
-{
-    0
-}
+pub use builder::{Builder, Source};
