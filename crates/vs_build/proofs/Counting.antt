@@ -22,10 +22,10 @@ times-append n xs ys = sum_by-append (λ (k : ℕ). cond (k == n) 1 0) xs ys
 times-cons : (n m : ℕ) (ms : List ℕ) → times n (m ∷ ms) ≡ cond (m == n) 1 0 + times n ms
 times-cons n m ms = times-append n (m ∷ []) ms ∙ ap (λ k. k + times n ms) (omega arith)
 
-times_here : (n m : ℕ) (ms : List ℕ) → (m == n) ≡ true → times n (m ∷ ms) ≡ suc (times n ms)
+pub times_here : (n m : ℕ) (ms : List ℕ) → (m == n) ≡ true → times n (m ∷ ms) ≡ suc (times n ms)
 times_here n m ms e = times-cons n m ms ∙ ap (λ b. cond b 1 0 + times n ms) e ∙ omega arith
 
-times_elsewhere : (n m : ℕ) (ms : List ℕ) → (m == n) ≡ false → times n (m ∷ ms) ≡ times n ms
+pub times_elsewhere : (n m : ℕ) (ms : List ℕ) → (m == n) ≡ false → times n (m ∷ ms) ≡ times n ms
 times_elsewhere n m ms e = times-cons n m ms ∙ ap (λ b. cond b 1 0 + times n ms) e ∙ omega arith
 
 pub times-flat : {X : Type 0} (f : X → List ℕ) (xs : List X) (x : X) (n : ℕ) → times n (flat_map f (xs ++ x ∷ [])) ≡ times n (flat_map f xs) + times n (f x)

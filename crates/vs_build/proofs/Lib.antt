@@ -5,3 +5,4 @@ pub mod Wider
 pub mod Additions
 pub mod Steps
 pub mod NodeKinds
+pub mod Copies

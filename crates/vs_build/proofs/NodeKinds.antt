@@ -219,7 +219,7 @@ choice_adds r a b rs after rest bs x y z at s q w t u v m n k p d h i j =
 
 -- ---- found at the end of the stack
 
-ends_in : (count : ℕ) (a : Arena) (rs bs : List ℕ) (v : Growing) → (let w : Growing = record { arena = a; roots = rs; bodies = bs } in w) ≡ v → EndsWith count (draft v) → EndsWith count (draft_of a rs bs)
+pub ends_in : (count : ℕ) (a : Arena) (rs bs : List ℕ) (v : Growing) → (let w : Growing = record { arena = a; roots = rs; bodies = bs } in w) ≡ v → EndsWith count (draft v) → EndsWith count (draft_of a rs bs)
 ends_in count a rs bs v e h = subst (λ (w : Growing). EndsWith count (draft w)) (sym e) h
 
 at_last : (rs : List ℕ) (len k x : ℕ) → len ≡ length rs → x ≡ get_or rs (len - k) x → x ≡ get_or rs (length rs - k) x

@@ -1,5 +1,5 @@
 -- A design that is being built: what it is so far, and the expressions and statements that nothing in it names yet, in the order in which they were built.
-use Rattle.std.specs.Prelude.{◌≡◌, ◌≤◌, ℕ, suc, Bool, true, List, [], ◌∷◌, ◌++◌, length, max, nat_le}
+use Rattle.std.specs.Prelude.{◌≡◌, ◌≤◌, ℕ, suc, Bool, true, List, [], ◌∷◌, ◌++◌, map, length, max, nat_le}
 use Rattle.std.specs.List.{list_all}
 use Rattle.vs_design.specs.Expressions.{Signal, Expression}
 use Rattle.vs_design.specs.Statements.{Statement}
@@ -93,6 +93,13 @@ pub record AddsExpression (old new : Draft) (tree : Expression) (most : ℕ) : T
   pub levels : ℕ
   pub few : levels ≤ most
   pub is : new ≡ and_root old (record { tree = tree; levels = levels })
+
+-- these expressions more, in this order
+pub record AddsParts (old new : Draft) (trees : List Expression) (most : ℕ) : Type 0 where
+  pub roots : List Root
+  pub are : map (λ (r : Root). r.tree) roots ≡ trees
+  pub few : most_levels roots ≤ most
+  pub is : new ≡ and_roots old roots
 
 pub record AddsStatement (old new : Draft) (statement : Statement) (most : ℕ) : Type 0 where
   pub levels : ℕ

@@ -1,12 +1,13 @@
 //! A flat design that grows.
 
-ghost use Rattle.std.specs.Prelude.{◌≡◌, ◌<◌, ◌≤◌, ◌^◌, ◌-◌, ◌+◌, [], ◌∷◌, ◌++◌, true, length, max, suc, take, IsTrue, IfOk, OnOk, OnErr, vec_len, vec_capacity, ℕ};
+ghost use Rattle.std.specs.Prelude.{◌≡◌, ◌<◌, ◌≤◌, ◌^◌, ◌-◌, ◌+◌, [], ◌∷◌, ◌++◌, true, length, max, suc, take, IsTrue, IfOk, OnOk, OnErr, vec_len, vec_capacity, ℕ, List};
+ghost use Rattle.vs_four.specs.Lengths.{repeat};
 ghost use Rattle.vs_flat.specs.Arena.{with_node, with_statement};
 ghost use Rattle.vs_flat.specs.Named.{covers_node};
 
 use std::alloc::{AllocError, Global};
 use std::marker::Model;
-use vs_flat::{BinaryOp, Flat, Node, UnaryOp};
+use vs_flat::{BinaryOp, Flat, List, Node, UnaryOp};
 use vs_four::{Bits, Range};
 
 /// A flat design that grows, with the expressions and statements that nothing in it names yet, in the order in which they were built.
@@ -35,14 +36,14 @@ pub enum Source {
 }
 
 impl Builder {
-    ghost use Rattle.vs_build.specs.Drafts.{no_draft, Draft, Root, AddsExpression, EndsWith, EndsInSelect};
+    ghost use Rattle.vs_build.specs.Drafts.{no_draft, Draft, Root, AddsExpression, AddsParts, EndsWith, EndsInSelect};
     ghost use Rattle.vs_build.specs.Growth.{draft};
     ghost use Rattle.vs_design.specs.Expressions as E;
     ghost use Rattle.vs_design.specs.Elaborated.{is_formed};
     ghost use Rattle.vs_flat.specs.Operators.{unary_of, binary_of};
     ghost use Rattle.vs_flat.specs.Targets.{source_of};
     ghost use Rattle.vs_four.specs.Selects.{one_bit};
-    ghost use Rattle.vs_flat.specs.Trees.{signal_at};
+    ghost use Rattle.vs_flat.specs.Trees.{signal_at, joined};
 
     /// Nothing. It takes no memory.
     pub fn new(alloc: Global) -> Builder
@@ -194,6 +195,47 @@ impl Builder {
             at,
         )
     }
+
+    /// Builds a replication of the last expressions, `count` of them, in so many copies (IEEE 1364-2005, 5.1.14); a concatenation is one copy.
+    pub fn join(
+        &mut self,
+        alloc: Global,
+        count: usize,
+        copies: u32,
+        at: u32,
+    ) -> Result<(), AllocError>
+        requires parts { EndsWith count (draft self.old) }
+        requires some { 1 ≤ count }
+        requires copied { 1 ≤ copies }
+        requires most { copies ≤ 64 }
+        ensures { (s : Draft) (ts : List E.Expression) (m : ℕ) → AddsParts s (draft self.old) ts m → length ts ≡ count
+            → OnOk result (AddsExpression s (draft self.new) (E.At at (E.Repeat copies (joined ts))) (1 + m)) }
+    {
+        let kept = self.roots.len() - count;
+        let parts = copied(alloc, &self.roots[kept..], copies)?;
+        add_over(
+            &mut self.flat,
+            &mut self.roots,
+            count,
+            Node::Join {
+                parts: List::of(parts),
+            },
+            at,
+        )
+    }
+}
+
+/// These numbers, so many times.
+fn copied(alloc: Global, part: &[u32], copies: u32) -> Result<Vec<u32>, AllocError>
+    ensures { IfOk result (λ v. v.items ≡ repeat copies part.now) }
+{
+    let mut all = Vec::new(alloc);
+    let mut made = 0;
+    while made < copies {
+        all.extend_from_slice(part)?;
+        made += 1;
+    }
+    Ok(all)
 }
 
 /// Adds a node that names no other one.
