@@ -6,3 +6,4 @@ pub mod Additions
 pub mod Steps
 pub mod NodeKinds
 pub mod Copies
+pub mod SignalNames

@@ -28,13 +28,6 @@ impl Model for Builder {
     ghost invariant = { λ b. IsGrowing b.flat b.roots.items b.bodies.items };
 }
 
-/// What a select takes bits of: a signal by its number, or the value of a parameter.
-#[derive(Clone, Copy, Debug)]
-pub enum Source {
-    Signal(u32),
-    Constant { bits: Bits, signed: bool },
-}
-
 impl Builder {
     ghost use Rattle.vs_build.specs.Drafts.{no_draft, Draft, Root, AddsExpression, AddsParts, EndsWith, EndsInSelect};
     ghost use Rattle.vs_build.specs.Growth.{draft};

@@ -2,5 +2,6 @@
 #![tactic(auto)]
 
 mod builder;
+mod names;
 
-pub use builder::{Builder, Source};
+pub use builder::Builder;

@@ -1,0 +1,83 @@
+//! Names and numbers of the text.
+
+ghost use Rattle.std.specs.Prelude.{◌≡◌, ◌≤◌, ◌+◌, ◌-◌, ℕ, Bool, true, Some, IfOk, OnOk, min};
+ghost use Rattle.vs_four.specs.Selects as four;
+ghost use Rattle.vs_design.specs.Expressions as E;
+ghost use Rattle.vs_grammar.specs.Trees.{expr_place};
+ghost use Rattle.vs_ast.specs.Views as view;
+ghost use Rattle.vs_const.specs.Typed.{begins_at, natural};
+ghost use Rattle.vs_const.specs.Selects.{name_typed, base_of};
+ghost use Rattle.vs_const.specs.Expressions.{constant};
+ghost use Rattle.vs_build.specs.Drafts.{AddsExpression};
+ghost use Rattle.vs_build.specs.Growth.{draft};
+ghost use Rattle.vs_build.specs.Buildable.{IsNameable, HasBits, AddsSource, IsNumbered};
+
+use crate::builder::Builder;
+use std::alloc::{AllocError, Global};
+use vs_ast::{Expr, Name};
+use vs_const::{Env, Named, number};
+use vs_four::Range;
+
+/// Builds a name alone: a signal, or the value of a parameter.
+pub(crate) fn name_alone<E: Env>(
+    builder: &mut Builder,
+    needed: bool,
+    name: &Name,
+    at: u32,
+    env: &E,
+) -> Result<(), AllocError>
+    requires { IsNameable (draft builder.old).design needed name.now.place (E.names env.now name.now.text) }
+    ensures { OnOk result (AddsExpression (draft builder.old) (draft builder.new) (begins_at at (name_typed needed name.now.place (E.names env.now name.now.text)).expression) 1) }
+{
+    match env.find(name.text.as_bytes()) {
+        Named::Value { value, .. } => builder.literal(value.bits, value.signed, true, at),
+        Named::Signal(s) => builder.name(s.number, at),
+        _ => Err(AllocError),
+    }
+}
+
+/// Builds what bits are selected of, and answers its declared range.
+pub(crate) fn source<E: Env>(
+    builder: &mut Builder,
+    needed: bool,
+    name: &Name,
+    env: &E,
+) -> Result<Range, AllocError>
+    requires { HasBits (draft builder.old).design needed name.now.place (E.names env.now name.now.text) }
+    ensures { IfOk result (λ r. AddsSource (draft builder.old) (draft builder.new) (base_of needed name.now.place (E.names env.now name.now.text)) r) }
+{
+    match env.find(name.text.as_bytes()) {
+        Named::Value { value, range } => {
+            builder.literal(value.bits, value.signed, true, name.place)?;
+            Ok(range)
+        }
+        Named::Signal(s) => match s.range {
+            Some(range) => {
+                builder.name(s.number, name.place)?;
+                Ok(range)
+            }
+            None => Err(AllocError),
+        },
+        _ => Err(AllocError),
+    }
+}
+
+/// A number that is needed, where it has no fault: from `low` to `high`.
+pub(crate) fn number_within<E: Env>(
+    alloc: Global,
+    low: u32,
+    high: u32,
+    e: &Expr,
+    env: &E,
+) -> Result<u32, AllocError>
+    requires { IsNumbered low high (E.names env.now) (view.expr e.now) }
+    ensures { IfOk result (λ n. (natural low high (expr_place (view.expr e.now)) (constant (view.expr e.now) (E.names env.now))).number ≡ Some n) }
+{
+    match number(alloc, e, env) {
+        Ok(Some(n)) => match u32::try_from(n) {
+            Ok(n) => Ok(n),
+            Err(_) => Err(AllocError),
+        },
+        _ => Err(AllocError),
+    }
+}
