@@ -7,3 +7,5 @@ pub mod Steps
 pub mod NodeKinds
 pub mod Copies
 pub mod SignalNames
+pub mod Arms
+mod Planes

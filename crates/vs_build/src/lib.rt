@@ -2,6 +2,9 @@
 #![tactic(auto)]
 
 mod builder;
+mod expressions;
 mod names;
+mod operators;
 
 pub use builder::Builder;
+pub use expressions::operand;

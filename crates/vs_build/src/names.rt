@@ -2,7 +2,7 @@
 
 ghost use Rattle.std.specs.Prelude.{◌≡◌, ◌≤◌, ◌+◌, ◌-◌, ℕ, Bool, true, Some, IfOk, OnOk, min};
 ghost use Rattle.vs_four.specs.Selects as four;
-ghost use Rattle.vs_design.specs.Expressions as E;
+ghost use Rattle.vs_grammar.specs.Shapes.{IsLiteral};
 ghost use Rattle.vs_grammar.specs.Trees.{expr_place};
 ghost use Rattle.vs_ast.specs.Views as view;
 ghost use Rattle.vs_const.specs.Typed.{begins_at, natural};
@@ -14,9 +14,9 @@ ghost use Rattle.vs_build.specs.Buildable.{IsNameable, HasBits, AddsSource, IsNu
 
 use crate::builder::Builder;
 use std::alloc::{AllocError, Global};
-use vs_ast::{Expr, Name};
+use vs_ast::{Expr, Literal, Name};
 use vs_const::{Env, Named, number};
-use vs_four::Range;
+use vs_four::{Bits, Range};
 
 /// Builds a name alone: a signal, or the value of a parameter.
 pub(crate) fn name_alone<E: Env>(
@@ -80,4 +80,12 @@ pub(crate) fn number_within<E: Env>(
         },
         _ => Err(AllocError),
     }
+}
+
+/// The bits of a literal.
+pub(crate) fn literal_bits(n: &Literal) -> Bits
+    requires { IsLiteral (view.literal n.now) }
+    ensures { result ≡ (view.literal n.now).bits }
+{
+    Bits::of_planes(n.size, n.value, n.unknown)
 }
