@@ -1,8 +1,14 @@
 -- The arms of the recursion over an expression.
-use Rattle.std.proofs.Common.{◌≡◌, ℕ, suc, ◌+◌, ◌≤◌, Bool, true, false, List, [], ◌∷◌, ◌++◌, max, refl, sym, ap, ◌∙◌, subst, arith}
+use Rattle.std.proofs.Common.{◌≡◌, ℕ, suc, ◌+◌, ◌≤◌, Bool, true, false, List, [], ◌∷◌, ◌++◌, max, Result, Ok, Err, OnOk, refl, sym, ap, ◌∙◌, subst, arith}
 use Rattle.vs_design.specs.Expressions as E
 use Rattle.vs_design.specs.Expressions.{Expression}
 use Rattle.vs_design.specs.Designs.{Design}
+use Rattle.vs_ast.specs.declared.expressions.Expr.{Expr}
+use Rattle.vs_ast.specs.Views as view
+use Rattle.vs_flat.specs.declared.expressions.UnaryOp.{UnaryOp}
+use Rattle.vs_flat.specs.declared.expressions.BinaryOp.{BinaryOp}
+use Rattle.vs_flat.specs.Operators.{unary_of, binary_of}
+use Rattle.vs_grammar.specs.Depths.{expr_depth}
 use Rattle.vs_grammar.specs.Trees as tree
 use Rattle.vs_grammar.specs.Trees.{expr_place}
 use Rattle.vs_const.specs.Faults.{fault_if}
@@ -103,3 +109,63 @@ choice_no d find needed c p q h = record {
   clean = (both_nil (typed p find needed).faults (typed q find needed).faults (both_nil (typed c find needed).faults _ (noted_clean needed (expr_place c) (choice_typed (typed c find needed) (typed p find needed) (typed q find needed)) h.clean)).1).1;
   shallow = omega (arith, h.shallow);
 }
+
+-- ---- the arms
+
+pub ok_up_to : {U F : Type 0} (r : Result U F) (s v : Draft) (t : Expression) (m n : ℕ) → OnOk r (AddsExpression s v t m) → m ≤ n → OnOk r (AddsExpression s v t n)
+ok_up_to (Ok u) s v t m n h le = up_to s v t m n h le
+ok_up_to (Err e) s v t m n h le = tt
+
+pub child : (d : Design) (find : Find) (needed : Bool) (x a : Expr) → x ≡ a → IsBuildable d find needed (view.expr a) → IsBuildable d find needed (view.expr x)
+child d find needed x a e b = subst (λ y. IsBuildable d find needed (view.expr y)) (sym e) b
+
+pub child_ends : (d : Design) (find : Find) (needed : Bool) (e : tree.Expr) (s v : Draft) → IsBuildable d find needed e → AddsExpression s v (typed e find needed).expression (1 + expr_depth e) → EndsWith 1 v
+child_ends d find needed e s v b h = ends_one s v (typed e find needed).expression (1 + expr_depth e) h (omega (arith, b.shallow))
+
+pub children_end : (d : Design) (find : Find) (needed : Bool) (e f : tree.Expr) (s r v : Draft) → IsBuildable d find needed e → IsBuildable d find needed f → AddsExpression s r (typed e find needed).expression (1 + expr_depth e)
+    → AddsExpression r v (typed f find needed).expression (1 + expr_depth f) → EndsWith 2 v
+children_end d find needed e f s r v b c h k = ends_two s r v (typed e find needed).expression (typed f find needed).expression (1 + expr_depth e) (1 + expr_depth f) h k (omega (arith, b.shallow)) (omega (arith, c.shallow))
+
+pub unary_arm : {U F : Type 0} (r : Result U F) (s v new : Draft) (find : Find) (needed : Bool) (at : ℕ) (op : tree.UnaryOp) (o : UnaryOp) (a x : Expr) → x ≡ a → unary_of o ≡ unary_op op
+    → AddsExpression s v (typed (view.expr x) find needed).expression (1 + expr_depth (view.expr x))
+    → ((q : Draft) (t : Expression) (m : ℕ) → AddsExpression q v t m → OnOk r (AddsExpression q new (E.At at (E.Unary (unary_of o) t)) (1 + m)))
+    → OnOk r (AddsExpression s new (E.At at (E.Unary (unary_op op) (typed (view.expr a) find needed).expression)) (1 + (1 + expr_depth (view.expr a))))
+unary_arm r s v new find needed at op o a x e p h f =
+    subst (λ y. OnOk r (AddsExpression s new (E.At at (E.Unary (unary_op op) (typed (view.expr y) find needed).expression)) (1 + (1 + expr_depth (view.expr y))))) e
+    (subst (λ u. OnOk r (AddsExpression s new (E.At at (E.Unary u (typed (view.expr x) find needed).expression)) (1 + (1 + expr_depth (view.expr x))))) p (f s (typed (view.expr x) find needed).expression (1 + expr_depth (view.expr x)) h))
+
+pub cast_arm : {U F : Type 0} (r : Result U F) (s v new : Draft) (find : Find) (needed : Bool) (at : ℕ) (op : E.UnaryOp) (a x : Expr) → x ≡ a
+    → AddsExpression s v (typed (view.expr x) find needed).expression (1 + expr_depth (view.expr x))
+    → ((q : Draft) (t : Expression) (m : ℕ) → AddsExpression q v t m → OnOk r (AddsExpression q new (E.At at (E.Unary op t)) (1 + m)))
+    → OnOk r (AddsExpression s new (E.At at (E.Unary op (typed (view.expr a) find needed).expression)) (1 + (1 + expr_depth (view.expr a))))
+cast_arm r s v new find needed at op a x e h f =
+    subst (λ y. OnOk r (AddsExpression s new (E.At at (E.Unary op (typed (view.expr y) find needed).expression)) (1 + (1 + expr_depth (view.expr y))))) e
+    (f s (typed (view.expr x) find needed).expression (1 + expr_depth (view.expr x)) h)
+
+pub binary_arm : {U F : Type 0} (r : Result U F) (s q v new : Draft) (find : Find) (needed : Bool) (at : ℕ) (op : tree.BinaryOp) (o : BinaryOp) (a b x y : Expr) → x ≡ a → y ≡ b → binary_of o ≡ binary_op op
+    → AddsExpression s q (typed (view.expr x) find needed).expression (1 + expr_depth (view.expr x)) → AddsExpression q v (typed (view.expr y) find needed).expression (1 + expr_depth (view.expr y))
+    → ((p k : Draft) (t u : Expression) (m n : ℕ) → AddsExpression p k t m → AddsExpression k v u n → OnOk r (AddsExpression p new (E.At at (E.Binary (binary_of o) t u)) (1 + max m n)))
+    → OnOk r (AddsExpression s new (E.At at (E.Binary (binary_op op) (typed (view.expr a) find needed).expression (typed (view.expr b) find needed).expression)) (1 + (1 + max (expr_depth (view.expr a)) (expr_depth (view.expr b)))))
+binary_arm r s q v new find needed at op o a b x y e f p h k g =
+    let P = λ (c d : Expr). OnOk r (AddsExpression s new (E.At at (E.Binary (binary_op op) (typed (view.expr c) find needed).expression (typed (view.expr d) find needed).expression)) (1 + (1 + max (expr_depth (view.expr c)) (expr_depth (view.expr d))))) in
+    let here : P x y =
+    subst (λ w. OnOk r (AddsExpression s new (E.At at (E.Binary w (typed (view.expr x) find needed).expression (typed (view.expr y) find needed).expression)) (1 + (1 + max (expr_depth (view.expr x)) (expr_depth (view.expr y)))))) p
+    (ok_up_to r s new _ (1 + max (1 + expr_depth (view.expr x)) (1 + expr_depth (view.expr y))) (1 + (1 + max (expr_depth (view.expr x)) (expr_depth (view.expr y))))
+    (g s q (typed (view.expr x) find needed).expression (typed (view.expr y) find needed).expression (1 + expr_depth (view.expr x)) (1 + expr_depth (view.expr y)) h k) (omega arith))
+    in
+    subst (λ d. P a d) f (subst (λ c. P c y) e here)
+
+pub choice_arm : {U F : Type 0} (r : Result U F) (s q w v new : Draft) (find : Find) (needed : Bool) (at : ℕ) (a b c x y z : Expr) → x ≡ a → y ≡ b → z ≡ c
+    → AddsExpression s q (typed (view.expr x) find needed).expression (1 + expr_depth (view.expr x)) → AddsExpression q w (typed (view.expr y) find needed).expression (1 + expr_depth (view.expr y))
+    → AddsExpression w v (typed (view.expr z) find needed).expression (1 + expr_depth (view.expr z))
+    → ((o p k : Draft) (t u i : Expression) (m n j : ℕ) → AddsExpression o p t m → AddsExpression p k u n → AddsExpression k v i j → OnOk r (AddsExpression o new (E.At at (E.Choice t u i)) (1 + max m (max n j))))
+    → OnOk r (AddsExpression s new (E.At at (E.Choice (typed (view.expr a) find needed).expression (typed (view.expr b) find needed).expression (typed (view.expr c) find needed).expression))
+    (1 + (1 + max (expr_depth (view.expr a)) (max (expr_depth (view.expr b)) (expr_depth (view.expr c))))))
+choice_arm r s q w v new find needed at a b c x y z e f i h k l g =
+    let t = λ (d : Expr). (typed (view.expr d) find needed).expression in
+    let n = λ (d : Expr). expr_depth (view.expr d) in
+    let P = λ (o p u : Expr). OnOk r (AddsExpression s new (E.At at (E.Choice (typed (view.expr o) find needed).expression (typed (view.expr p) find needed).expression (typed (view.expr u) find needed).expression)) (1 + (1 + max (expr_depth (view.expr o)) (max (expr_depth (view.expr p)) (expr_depth (view.expr u)))))) in
+    let here : P x y z =
+    ok_up_to r s new _ (1 + max (1 + n x) (max (1 + n y) (1 + n z))) (1 + (1 + max (n x) (max (n y) (n z)))) (g s q w (t x) (t y) (t z) (1 + n x) (1 + n y) (1 + n z) h k l) (omega arith)
+    in
+    subst (λ u. P a b u) i (subst (λ p. P a p z) f (subst (λ o. P o y z) e here))

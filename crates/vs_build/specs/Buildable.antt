@@ -1,6 +1,9 @@
 -- What can be built: a tree of the text without a fault, whose names mean something in the design.
-use Rattle.std.specs.Prelude.{◌≡◌, ◌≤◌, ℕ, Bool, true, false, List, [], Option, Some}
+use Rattle.std.specs.Prelude.{◌≡◌, ◌≤◌, ℕ, Bool, true, false, List, [], map, Option, Some}
 use Rattle.vs_four.specs.declared.Range.{Range}
+use Rattle.vs_four.specs.Selects.{range_length}
+use Rattle.vs_ast.specs.declared.expressions.Expr.{Expr}
+use Rattle.vs_ast.specs.Views.{expr}
 use Rattle.vs_design.specs.Expressions.{Source, Expression}
 use Rattle.vs_design.specs.Designs.{Design}
 use Rattle.vs_grammar.specs.Trees as tree
@@ -37,6 +40,36 @@ pub record AreBuildable (d : Design) (find : Find) (needed : Bool) (parts : tree
   pub clean : (typed_parts parts find needed).faults ≡ []
   pub shallow : exprs_depth parts ≤ 253
 
+-- a needed number within its bounds
+pub record IsNumbered (low high : ℕ) (find : Find) (e : tree.Expr) : Type 0 where
+  pub shaped : IsExpr e
+  pub fair : IsFair find
+  pub clean : (natural low high (expr_place e) (constant e find)).faults ≡ []
+  pub number : ℕ
+  pub is : (natural low high (expr_place e) (constant e find)).number ≡ Some number
+
+-- what the parts stand for
+abbrev pub part_expressions : Find → Bool → List Expr → List Expression
+part_expressions find needed parts = map (λ (e : Expr). (typed (expr e) find needed).expression) parts
+
+-- two bounds, and the range that they are
+pub record AreBounds (find : Find) (left right : tree.Expr) : Type 0 where
+  pub first : IsNumbered 0 65535 find left
+  pub second : IsNumbered 0 65535 find right
+  pub short : range_length (record { left = first.number; right = second.number }) ≤ 64
+
+-- the range of two bounds
+pub record IsRangeOf (find : Find) (left right : tree.Expr) (r : Range) : Type 0 where
+  pub first : (natural 0 65535 (expr_place left) (constant left find)).number ≡ Some r.left
+  pub second : (natural 0 65535 (expr_place right) (constant right find)).number ≡ Some r.right
+
+-- a constant of at most 64 bits
+pub record IsConstant (find : Find) (e : tree.Expr) : Type 0 where
+  pub shaped : IsExpr e
+  pub fair : IsFair find
+  pub clean : (typed e find true).faults ≡ []
+  pub good : (typed e find true).good ≡ true
+
 -- a name alone
 pub record IsNameable (d : Design) (needed : Bool) (place : ℕ) (m : Meaning) : Type 0 where
   pub sound : IsSound d needed m
@@ -55,11 +88,3 @@ pub record AddsSource (old new : Draft) (base : Base) (range : Range) : Type 0 w
   pub adds : AddsExpression old new tree 1
   pub source : source_of tree ≡ base.source
   pub has_range : base.range ≡ Some range
-
--- a needed number within its bounds
-pub record IsNumbered (low high : ℕ) (find : Find) (e : tree.Expr) : Type 0 where
-  pub shaped : IsExpr e
-  pub fair : IsFair find
-  pub clean : (natural low high (expr_place e) (constant e find)).faults ≡ []
-  pub number : ℕ
-  pub is : (natural low high (expr_place e) (constant e find)).number ≡ Some number

@@ -1,24 +1,23 @@
 //! Expressions of the text (IEEE 1364-2005, clause 5).
 
 ghost use Rattle.std.specs.Prelude.{◌≡◌, ◌≤◌, ◌+◌, ℕ, Bool, true, max, min, length, map, IfOk, OnOk};
-ghost use Rattle.vs_design.specs.Expressions as plain;
 ghost use Rattle.vs_grammar.specs.Trees.{expr_place};
 ghost use Rattle.vs_grammar.specs.Depths.{expr_depth, exprs_depth, select_depth};
-ghost use Rattle.vs_flat.specs.Operators.{unary_of, binary_of};
 ghost use Rattle.vs_ast.specs.Views as view;
 ghost use Rattle.vs_const.specs.Typed.{begins_at};
 ghost use Rattle.vs_const.specs.Expressions.{typed, selected};
 ghost use Rattle.vs_build.specs.Drafts.{AddsExpression, AddsParts};
 ghost use Rattle.vs_build.specs.Growth.{draft};
-ghost use Rattle.vs_build.specs.Buildable.{IsBuildable, IsSelectable, AreBuildable};
+ghost use Rattle.vs_build.specs.Buildable.{IsBuildable, IsSelectable, AreBuildable, part_expressions};
 
 use crate::builder::Builder;
-use crate::names::{literal_bits, name_alone, number_within};
+use crate::names::{bounds_of, constant_bits, lesser, literal_bits, name_alone, number_within, range_length, source};
 use crate::operators::{flat_binary, flat_unary};
 use std::alloc::{AllocError, Global};
-use vs_ast::{Expr, Name, Select, SystemFunction};
-use vs_const::{Env, constant, place_of};
-use vs_flat::{BinaryOp, UnaryOp};
+use vs_ast::{Expr, Name, Select, SliceKind, SystemFunction};
+use vs_const::{Env, place_of};
+use vs_flat::UnaryOp;
+use vs_four::of_number;
 
 /// Builds an expression that breaks no rule.
 #[cycle(expressions)]
@@ -51,85 +50,115 @@ pub(crate) fn expression<E: Env>(
 {
     match e {
         Expr::Number(n) => builder.literal(literal_bits(n), n.signed, n.sized, at),
-        Expr::Unary { op, operand, .. } => {
-            unary(builder, alloc, flat_unary(*op), operand, at, env, needed)
+        Expr::Named(name, select) => selected(builder, alloc, select, name, at, env, needed),
+        Expr::Unary { op, operand: a, .. } => {
+            operand(builder, alloc, a, env, needed)?;
+            builder.unary(flat_unary(*op), at)
         }
         Expr::Binary { op, left, right } => {
-            binary(builder, alloc, flat_binary(*op), left, right, at, env, needed)
+            operand(builder, alloc, left, env, needed)?;
+            operand(builder, alloc, right, env, needed)?;
+            builder.binary(flat_binary(*op), at)
         }
         Expr::Choice { condition, yes, no } => {
-            choice(builder, alloc, condition, yes, no, at, env, needed)
+            operand(builder, alloc, condition, env, needed)?;
+            operand(builder, alloc, yes, env, needed)?;
+            operand(builder, alloc, no, env, needed)?;
+            builder.choice(at)
         }
+        Expr::Concatenation { parts: list, .. } => {
+            parts(builder, alloc, list, env, needed)?;
+            builder.join(alloc, list.len(), 1, at)
+        }
+        Expr::Replication {
+            count, parts: list, ..
+        } => {
+            let copies = number_within(alloc, 1, 64, count, env)?;
+            parts(builder, alloc, list, env, needed)?;
+            builder.join(alloc, list.len(), copies, at)
+        }
+        Expr::Call {
+            function,
+            operand: a,
+            ..
+        } => match function {
+            SystemFunction::AsSigned => {
+                operand(builder, alloc, a, env, needed)?;
+                builder.unary(UnaryOp::Signed, at)
+            }
+            SystemFunction::AsUnsigned => {
+                operand(builder, alloc, a, env, needed)?;
+                builder.unary(UnaryOp::Unsigned, at)
+            }
+            SystemFunction::Clog2 => {
+                let bits = constant_bits(alloc, e, env)?;
+                builder.literal(bits, true, true, at)
+            }
+        },
         Expr::Brackets { inner, .. } => expression(builder, alloc, inner, at, env, needed),
-        _ => Err(AllocError),
     }
 }
 
-/// Builds an operator on an operand.
+/// Builds the parts of a concatenation, one after the other.
 #[cycle(expressions)]
-#[tactic(auto, using(crate::proofs::Arms::ends_one))]
-fn unary<E: Env>(
+fn parts<E: Env>(
     builder: &mut Builder,
     alloc: Global,
-    op: UnaryOp,
-    a: &Expr,
-    at: u32,
+    list: &[Expr],
     env: &E,
     needed: bool,
 ) -> Result<(), AllocError>
-    requires { IsBuildable (draft builder.old).design (E.names env.now) needed (view.expr a.now) }
-    ensures { OnOk result (AddsExpression (draft builder.old) (draft builder.new) (plain.At at (plain.Unary (unary_of op) (typed (view.expr a.now) (E.names env.now) needed).expression)) (1 + (1 + expr_depth (view.expr a.now)))) }
+    requires { AreBuildable (draft builder.old).design (E.names env.now) needed (view.exprs list.now) }
+    ensures { OnOk result (AddsParts (draft builder.old) (draft builder.new) (part_expressions (E.names env.now) needed list.now) (1 + exprs_depth (view.exprs list.now))) }
 {
-    operand(builder, alloc, a, env, needed)?;
-    builder.unary(op, at)
+    for part in list {
+        operand(builder, alloc, part, env, needed)?;
+    }
+    Ok(())
 }
 
-/// Builds an operator on two operands.
+/// Builds a name, with what is selected of it.
 #[cycle(expressions)]
-#[tactic(auto, using(crate::proofs::Arms::ends_two, crate::proofs::Arms::after))]
-fn binary<E: Env>(
+fn selected<E: Env>(
     builder: &mut Builder,
     alloc: Global,
-    op: BinaryOp,
-    a: &Expr,
-    b: &Expr,
+    select: &Select,
+    name: &Name,
     at: u32,
     env: &E,
     needed: bool,
 ) -> Result<(), AllocError>
-    requires left { IsBuildable (draft builder.old).design (E.names env.now) needed (view.expr a.now) }
-    requires right { IsBuildable (draft builder.old).design (E.names env.now) needed (view.expr b.now) }
-    ensures { OnOk result (AddsExpression (draft builder.old) (draft builder.new)
-        (plain.At at (plain.Binary (binary_of op) (typed (view.expr a.now) (E.names env.now) needed).expression (typed (view.expr b.now) (E.names env.now) needed).expression))
-        (1 + max (1 + expr_depth (view.expr a.now)) (1 + expr_depth (view.expr b.now)))) }
+    requires { IsSelectable (draft builder.old).design (E.names env.now) needed (view.name name.now) (view.select select.now) }
+    ensures { OnOk result (AddsExpression (draft builder.old) (draft builder.new) (begins_at at (selected (view.select select.now) (view.name name.now) (E.names env.now) needed).expression) (1 + select_depth (view.select select.now))) }
 {
-    operand(builder, alloc, a, env, needed)?;
-    operand(builder, alloc, b, env, needed)?;
-    builder.binary(op, at)
-}
-
-/// Builds `c ? p : q` (IEEE 1364-2005, 5.1.13).
-#[cycle(expressions)]
-#[tactic(auto, using(crate::proofs::Arms::ends_three, crate::proofs::Arms::after))]
-fn choice<E: Env>(
-    builder: &mut Builder,
-    alloc: Global,
-    c: &Expr,
-    p: &Expr,
-    q: &Expr,
-    at: u32,
-    env: &E,
-    needed: bool,
-) -> Result<(), AllocError>
-    requires condition { IsBuildable (draft builder.old).design (E.names env.now) needed (view.expr c.now) }
-    requires yes { IsBuildable (draft builder.old).design (E.names env.now) needed (view.expr p.now) }
-    requires no { IsBuildable (draft builder.old).design (E.names env.now) needed (view.expr q.now) }
-    ensures { OnOk result (AddsExpression (draft builder.old) (draft builder.new)
-        (plain.At at (plain.Choice (typed (view.expr c.now) (E.names env.now) needed).expression (typed (view.expr p.now) (E.names env.now) needed).expression (typed (view.expr q.now) (E.names env.now) needed).expression))
-        (1 + max (1 + expr_depth (view.expr c.now)) (max (1 + expr_depth (view.expr p.now)) (1 + expr_depth (view.expr q.now))))) }
-{
-    operand(builder, alloc, c, env, needed)?;
-    operand(builder, alloc, p, env, needed)?;
-    operand(builder, alloc, q, env, needed)?;
-    builder.choice(at)
+    match select {
+        Select::Whole => name_alone(builder, needed, name, at, env),
+        Select::Bit { index, .. } => {
+            operand(builder, alloc, index, env, needed)?;
+            let range = source(builder, needed, name, env)?;
+            builder.bit(range, at)
+        }
+        Select::Slice {
+            kind, left, right, ..
+        } => match kind {
+            SliceKind::Between => {
+                let bounds = bounds_of(alloc, left, right, env)?;
+                builder.literal(of_number(32, lesser(bounds) as u64), true, true, place_of(left))?;
+                let range = source(builder, needed, name, env)?;
+                builder.part(range, true, range_length(bounds), at)
+            }
+            SliceKind::Upward => {
+                let width = number_within(alloc, 1, 64, right, env)?;
+                operand(builder, alloc, left, env, needed)?;
+                let range = source(builder, needed, name, env)?;
+                builder.part(range, true, width, at)
+            }
+            SliceKind::Downward => {
+                let width = number_within(alloc, 1, 64, right, env)?;
+                operand(builder, alloc, left, env, needed)?;
+                let range = source(builder, needed, name, env)?;
+                builder.part(range, false, width, at)
+            }
+        },
+    }
 }

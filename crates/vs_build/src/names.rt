@@ -7,15 +7,16 @@ ghost use Rattle.vs_grammar.specs.Trees.{expr_place};
 ghost use Rattle.vs_ast.specs.Views as view;
 ghost use Rattle.vs_const.specs.Typed.{begins_at, natural};
 ghost use Rattle.vs_const.specs.Selects.{name_typed, base_of};
+ghost use Rattle.vs_design.specs.Values.{constant_value};
 ghost use Rattle.vs_const.specs.Expressions.{constant};
 ghost use Rattle.vs_build.specs.Drafts.{AddsExpression};
 ghost use Rattle.vs_build.specs.Growth.{draft};
-ghost use Rattle.vs_build.specs.Buildable.{IsNameable, HasBits, AddsSource, IsNumbered};
+ghost use Rattle.vs_build.specs.Buildable.{IsNameable, HasBits, AddsSource, IsNumbered, AreBounds, IsRangeOf, IsConstant};
 
 use crate::builder::Builder;
 use std::alloc::{AllocError, Global};
 use vs_ast::{Expr, Literal, Name};
-use vs_const::{Env, Named, number};
+use vs_const::{Env, Named, constant, number};
 use vs_four::{Bits, Range};
 
 /// Builds a name alone: a signal, or the value of a parameter.
@@ -88,4 +89,50 @@ pub(crate) fn literal_bits(n: &Literal) -> Bits
     ensures { result ≡ (view.literal n.now).bits }
 {
     Bits::of_planes(n.size, n.value, n.unknown)
+}
+
+/// The bits of a constant without a fault.
+pub(crate) fn constant_bits<E: Env>(alloc: Global, e: &Expr, env: &E) -> Result<Bits, AllocError>
+    requires { IsConstant (E.names env.now) (view.expr e.now) }
+    ensures { IfOk result (λ b. b ≡ constant_value (constant (view.expr e.now) (E.names env.now)).expression) }
+{
+    match constant(alloc, e, env, None) {
+        Ok(Some(c)) => Ok(c.bits),
+        _ => Err(AllocError),
+    }
+}
+
+/// The range with these bounds.
+pub(crate) fn bounds_of<E: Env>(
+    alloc: Global,
+    left: &Expr,
+    right: &Expr,
+    env: &E,
+) -> Result<Range, AllocError>
+    requires { AreBounds (E.names env.now) (view.expr left.now) (view.expr right.now) }
+    ensures range { IfOk result (IsRangeOf (E.names env.now) (view.expr left.now) (view.expr right.now)) }
+    ensures short { IfOk result (λ r. four.range_length r ≤ 64) }
+{
+    let left = number_within(alloc, 0, 65535, left, env)?;
+    let right = number_within(alloc, 0, 65535, right, env)?;
+    Ok(Range { left, right })
+}
+
+/// The lesser bound.
+pub(crate) fn lesser(r: Range) -> u32
+    ensures { result ≡ min r.left r.right }
+{
+    r.left.min(r.right)
+}
+
+/// How many bits a short range has.
+pub(crate) fn range_length(r: Range) -> u32
+    requires { four.range_length r ≤ 64 }
+    ensures { result ≡ four.range_length r }
+{
+    if r.right <= r.left {
+        r.left - r.right + 1
+    } else {
+        r.right - r.left + 1
+    }
 }
