@@ -76,7 +76,7 @@ up_to s v t m n h le = record { levels = h.levels; few = omega (arith, h.few, le
 
 -- ---- parts without a fault
 
-noted_clean : (needed : Bool) (place : ℕ) (t : Typed) → (noted needed place t).faults ≡ [] → t.faults ≡ []
+pub noted_clean : (needed : Bool) (place : ℕ) (t : Typed) → (noted needed place t).faults ≡ [] → t.faults ≡ []
 noted_clean needed place t h = (both_nil t.faults _ h).0
 
 pub unary_operand : (d : Design) (find : Find) (needed : Bool) (place : ℕ) (op : tree.UnaryOp) (a : tree.Expr) → IsBuildable d find needed (tree.Unary place op a) → IsBuildable d find needed a

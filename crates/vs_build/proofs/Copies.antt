@@ -27,7 +27,7 @@ use Rattle.vs_build.proofs.Counting.{by_test, times-append, times_here, times_el
 use Rattle.vs_build.proofs.Steps.{ends_enough, parts_are, levels_are, formed_at, used_below, IsStep, IsAdded, step_adds}
 use Rattle.vs_build.proofs.NodeKinds.{ends_in, few_used}
 
-nil_end : {A : Type 0} (ys : List A) → ys ≡ ys ++ []
+pub nil_end : {A : Type 0} (ys : List A) → ys ≡ ys ++ []
 nil_end [] = refl
 nil_end (y ∷ ys) = ap (λ zs. y ∷ zs) (nil_end ys)
 

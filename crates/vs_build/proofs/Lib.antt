@@ -9,3 +9,5 @@ pub mod Copies
 pub mod SignalNames
 pub mod Arms
 mod Planes
+pub mod Lists
+pub mod Selects

@@ -6,6 +6,7 @@ use Rattle.vs_ast.specs.declared.expressions.Expr.{Expr}
 use Rattle.vs_ast.specs.Views.{expr}
 use Rattle.vs_design.specs.Expressions.{Source, Expression}
 use Rattle.vs_design.specs.Designs.{Design}
+use Rattle.vs_design.specs.Elaborated.{is_formed}
 use Rattle.vs_grammar.specs.Trees as tree
 use Rattle.vs_grammar.specs.Trees.{expr_place}
 use Rattle.vs_grammar.specs.Shapes.{IsExpr, IsSelect, AreParts}
@@ -31,6 +32,7 @@ pub record IsSelectable (d : Design) (find : Find) (needed : Bool) (name : tree.
   pub sound : AreSound d needed find
   pub clean : (selected select name find needed).faults ≡ []
   pub good : (selected select name find needed).good ≡ true
+  pub formed : is_formed d (selected select name find needed).expression ≡ true
   pub shallow : select_depth select ≤ 253
 
 -- the parts of a concatenation
