@@ -11,3 +11,4 @@ pub mod Arms
 mod Planes
 pub mod Lists
 pub mod Selects
+pub mod Whole

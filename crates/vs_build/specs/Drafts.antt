@@ -6,7 +6,9 @@ use Rattle.vs_design.specs.Statements.{Statement}
 use Rattle.vs_design.specs.Designs.{Scope, Process, Design}
 use Rattle.vs_design.specs.Elaborated.{is_formed_select}
 use Rattle.vs_four.specs.Selects.{Part}
+use Rattle.vs_flat.specs.declared.processes.Port.{Port}
 use Rattle.vs_flat.specs.Targets.{source_of}
+use Rattle.vs_flat.specs.Lawful.{is_target}
 
 -- an expression, and on how many levels it stands: the longest chain of expressions, each within the one before it
 pub record Root : Type 0 where
@@ -85,6 +87,14 @@ pub record EndsInSelect (part : Part) (s : Draft) : Type 0 where
   pub is : s ≡ and_roots before (index ∷ of ∷ [])
   pub few : most_levels (index ∷ of ∷ []) ≤ 254
   pub formed : is_formed_select s.design (source_of of.tree) part ≡ true
+
+-- the last ones are what an assign of this kind writes, and its expression
+pub record EndsInAssign (port : Port) (s : Draft) : Type 0 where
+  pub before : Draft
+  pub target : Root
+  pub value : Root
+  pub is : s ≡ and_roots before (target ∷ value ∷ [])
+  pub written : is_target port target.tree ≡ true
 
 -- ---- what a step does
 

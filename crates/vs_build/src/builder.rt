@@ -1,13 +1,13 @@
 //! A flat design that grows.
 
-ghost use Rattle.std.specs.Prelude.{◌≡◌, ◌<◌, ◌≤◌, ◌^◌, ◌-◌, ◌+◌, [], ◌∷◌, ◌++◌, true, length, max, suc, take, IsTrue, IfOk, OnOk, OnErr, vec_len, vec_capacity, ℕ, List};
+ghost use Rattle.std.specs.Prelude.{◌≡◌, ◌<◌, ◌≤◌, ◌^◌, ◌-◌, ◌+◌, [], ◌∷◌, ◌++◌, true, length, max, suc, take, IsTrue, IfOk, OnOk, OnErr, vec_len, vec_capacity, ℕ, List, nat_lt, option_to_list};
 ghost use Rattle.vs_four.specs.Lengths.{repeat};
 ghost use Rattle.vs_flat.specs.Arena.{with_node, with_statement};
-ghost use Rattle.vs_flat.specs.Named.{covers_node};
+ghost use Rattle.vs_flat.specs.Named.{all_below, covers_node};
 
 use std::alloc::{AllocError, Global};
 use std::marker::Model;
-use vs_flat::{BinaryOp, Flat, List, Node, UnaryOp};
+use vs_flat::{BinaryOp, Flat, Kind, List, Node, Port, Process, Scope, Signal, UnaryOp};
 use vs_four::{Bits, Range};
 
 /// A flat design that grows, with the expressions and statements that nothing in it names yet, in the order in which they were built.
@@ -29,14 +29,17 @@ impl Model for Builder {
 }
 
 impl Builder {
-    ghost use Rattle.vs_build.specs.Drafts.{no_draft, Draft, Root, AddsExpression, AddsParts, EndsWith, EndsInSelect};
+    ghost use Rattle.vs_build.specs.Drafts.{no_draft, Draft, Root, AddsExpression, AddsParts, EndsWith, EndsInSelect, EndsInAssign, and_scope, and_signal, and_process};
     ghost use Rattle.vs_build.specs.Growth.{draft};
     ghost use Rattle.vs_design.specs.Expressions as E;
-    ghost use Rattle.vs_design.specs.Elaborated.{is_formed};
-    ghost use Rattle.vs_flat.specs.Operators.{unary_of, binary_of};
-    ghost use Rattle.vs_flat.specs.Targets.{source_of};
+    ghost use Rattle.vs_design.specs.Designs.{Continuous, bit_count as design_bits};
+    ghost use Rattle.vs_design.specs.Elaborated.{is_formed, IsLawfulDesign};
+    ghost use Rattle.vs_flat.specs.Operators.{unary_of, binary_of, port_of};
+    ghost use Rattle.vs_flat.specs.DesignOf.{scope_of, design_of};
+    ghost use Rattle.vs_flat.specs.Lawful.{IsLawful};
+    ghost use Rattle.vs_flat.specs.Targets.{source_of, place_of};
     ghost use Rattle.vs_four.specs.Selects.{one_bit};
-    ghost use Rattle.vs_flat.specs.Trees.{signal_at, joined};
+    ghost use Rattle.vs_flat.specs.Trees.{signal_at, signal_of, joined, target_tree};
 
     /// Nothing. It takes no memory.
     pub fn new(alloc: Global) -> Builder
@@ -215,6 +218,57 @@ impl Builder {
             },
             at,
         )
+    }
+
+    /// Adds a scope and answers its number.
+    pub fn add_scope(&mut self, scope: Scope) -> Result<u32, AllocError>
+        requires { IsTrue (all_below (length (draft self.old).design.scopes) (option_to_list scope.parent)) }
+        ensures number { IfOk result (λ n. n ≡ length (draft self.old).design.scopes) }
+        ensures ok { OnOk result (draft self.new ≡ and_scope (draft self.old) (scope_of scope)) }
+    {
+        self.flat.add_scope(scope)
+    }
+
+    /// Adds a signal and answers its number.
+    pub fn add_signal(&mut self, signal: Signal) -> Result<u32, AllocError>
+        requires scope { IsTrue (nat_lt signal.scope (length (draft self.old).design.scopes)) }
+        requires bits { design_bits (draft self.old).design + E.range_or_one signal.range ≤ 2 ^ 20 }
+        ensures number { IfOk result (λ n. n ≡ length (draft self.old).design.signals) }
+        ensures ok { OnOk result (draft self.new ≡ and_signal (draft self.old) (signal_of (length (draft self.old).design.signals) signal)) }
+    {
+        self.flat.add_signal(signal)
+    }
+
+    /// The flat design, which is lawful where its plain design is.
+    pub fn finish(self) -> Flat
+        requires { IsLawfulDesign (draft self).design }
+        ensures design { design_of result ≡ (draft self).design }
+        ensures lawful { IsLawful result }
+    {
+        let Builder {
+            flat,
+            roots: _,
+            bodies: _,
+        } = self;
+        flat
+    }
+
+    /// Builds an assign, written or of a port (IEEE 1364-2005, 6.1 and 12.3.9.2), from the last expression to the one before it.
+    pub(crate) fn assign(&mut self, port: Port, at: u32) -> Result<(), AllocError>
+        requires room { length (draft self.old).design.processes < 2 ^ 16 }
+        requires ends { EndsInAssign port (draft self.old) }
+        ensures { (s r : Draft) (t u : E.Expression) (m n : ℕ) → AddsExpression s r t m → AddsExpression r (draft self.old) u n
+            → OnOk result (draft self.new ≡ and_process s (Continuous at (port_of port) (place_of t) (target_tree t) u)) }
+    {
+        let n = self.roots.len();
+        let target = self.roots[n - 2];
+        let expr = self.roots[n - 1];
+        self.flat.add_process(Process {
+            at,
+            kind: Kind::Assign { target, expr, port },
+        })?;
+        self.roots.truncate(n - 2);
+        Ok(())
     }
 }
 
