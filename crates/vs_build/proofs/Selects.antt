@@ -23,24 +23,35 @@ use Rattle.vs_const.specs.Expressions.{constant, typed, selected, clog2_of, clog
 use Rattle.vs_const.proofs.Formed.{both_nil, begins_same, split, sound_needed, typed_fine}
 use Rattle.vs_flat.specs.Targets.{source_of}
 use Rattle.vs_build.specs.Drafts.{Root, Draft, most_levels, EndsInSelect, AddsExpression}
-use Rattle.vs_build.specs.Buildable.{IsBuildable, IsSelectable, HasBits, AddsSource, IsNumbered, AreBounds, IsRangeOf, IsConstant}
-use Rattle.vs_build.proofs.Arms.{noted_clean, same_design, ok_up_to, up_to}
+use Rattle.vs_build.specs.Buildable.{IsBuildable, selected_by, IsSelectable, HasBits, AddsSource, IsNumbered, AreBounds, IsRangeOf, IsConstant}
+use Rattle.vs_build.proofs.Arms.{begins_twice, noted_clean, same_design, ok_up_to, up_to}
 use Rattle.vs_build.proofs.Lists.{fair_of, number_is}
 use Rattle.vs_build.proofs.Steps.{added_two}
 
 -- ---- names
 
-pub named_select : (d : Design) (find : Find) (needed : Bool) (name : tree.Name) (select : tree.Select) → IsBuildable d find needed (tree.Named name select) → IsSelectable d find needed name select
+selected_same : (select : tree.Select) (name : tree.Name) (find : Find) (needed : Bool) → selected select name find needed ≡ selected_by select name find needed needed
+selected_same tree.Whole name find needed = refl
+selected_same (tree.BitAt bracket index) name find needed = refl
+selected_same (tree.Slice bracket kind a b) name find needed = refl
+
+pub named_select : (d : Design) (find : Find) (needed : Bool) (name : tree.Name) (select : tree.Select) → IsBuildable d find needed (tree.Named name select) → IsSelectable d find needed needed name select
 named_select d find needed name select b =
     let fine = typed_fine d find (tree.Named name select) needed b.sound b.shaped b.clean in
+    let t = selected select name find needed in
+    let same = selected_same select name find needed in
     record {
       shaped = b.shaped.1;
+      signals = b.sound name.bytes;
       sound = b.sound;
-      clean = noted_clean needed name.place (selected select name find needed) b.clean;
-      good = (split (selected select name find needed).good (not (needed && is_over 64 (selected select name find needed).length)) fine.good).0;
-      formed = sym (begins_same (is_formed d) (λ p e. refl) name.place (selected select name find needed).expression) ∙ fine.formed;
+      clean = subst (λ (x : Typed). x.faults ≡ []) same (noted_clean needed name.place t b.clean);
+      good = subst (λ (x : Typed). x.good ≡ true) same (split t.good (not (needed && is_over 64 t.length)) fine.good).0;
+      formed = subst (λ (x : Typed). is_formed d x.expression ≡ true) same (sym (begins_same (is_formed d) (λ p e. refl) name.place t.expression) ∙ fine.formed);
       shallow = b.shallow;
     }
+
+pub named_expression : (find : Find) (needed : Bool) (at : ℕ) (name : tree.Name) (select : tree.Select) → begins_at at (selected_by select name find needed needed).expression ≡ begins_at at (typed (tree.Named name select) find needed).expression
+named_expression find needed at name select = ap (λ (x : Typed). begins_at at x.expression) (sym (selected_same select name find needed)) ∙ sym (begins_twice at name.place (selected select name find needed).expression)
 
 -- ---- a select that takes bits
 
@@ -65,41 +76,41 @@ taken_is : (source : E.Source) (declared : Option Range) (r : Range) (up : Bool)
 taken_is source declared r up n i fs e = ap (λ o. E.Select source (taken o up n i fs).part (taken o up n i fs).index) e
 
 -- what is selected: this many bits, upwards or downwards from an index on
-pub record IsTaken (d : Design) (find : Find) (needed : Bool) (name : tree.Name) (select : tree.Select) (up : Bool) (n : ℕ) (i : Expression) : Type 0 where
-  pub bits : HasBits d needed name.place (find name.bytes)
-  pub expression : (r : Range) → (base_of needed name.place (find name.bytes)).range ≡ Some r
-      → (selected select name find needed).expression ≡ E.Select (base_of needed name.place (find name.bytes)).source (record { range = r; up = up; width = n }) i
-  pub formed : (r : Range) → (base_of needed name.place (find name.bytes)).range ≡ Some r → is_formed_select d (base_of needed name.place (find name.bytes)).source (record { range = r; up = up; width = n }) ≡ true
+pub record IsTaken (d : Design) (find : Find) (fixed needed : Bool) (name : tree.Name) (select : tree.Select) (up : Bool) (n : ℕ) (i : Expression) : Type 0 where
+  pub bits : HasBits d fixed name.place (find name.bytes)
+  pub expression : (r : Range) → (base_of fixed name.place (find name.bytes)).range ≡ Some r
+      → (selected_by select name find fixed needed).expression ≡ E.Select (base_of fixed name.place (find name.bytes)).source (record { range = r; up = up; width = n }) i
+  pub formed : (r : Range) → (base_of fixed name.place (find name.bytes)).range ≡ Some r → is_formed_select d (base_of fixed name.place (find name.bytes)).source (record { range = r; up = up; width = n }) ≡ true
 
-pub taken_bits : (d : Design) (find : Find) (needed : Bool) (name : tree.Name) (select : tree.Select) (up : Bool) (n : ℕ) (i : Typed) (fs : List Fault) → IsSelectable d find needed name select
-    → selected select name find needed ≡ select_typed (base_of needed name.place (find name.bytes)) (taken (base_of needed name.place (find name.bytes)).range up n i fs)
-    → IsTaken d find needed name select up n i.expression
-taken_bits d find needed name select up n i fs s e =
-    let b = base_of needed name.place (find name.bytes) in
+pub taken_bits : (d : Design) (find : Find) (fixed needed : Bool) (name : tree.Name) (select : tree.Select) (up : Bool) (n : ℕ) (i : Typed) (fs : List Fault) → IsSelectable d find fixed needed name select
+    → selected_by select name find fixed needed ≡ select_typed (base_of fixed name.place (find name.bytes)) (taken (base_of fixed name.place (find name.bytes)).range up n i fs)
+    → IsTaken d find fixed needed name select up n i.expression
+taken_bits d find fixed needed name select up n i fs s e =
+    let b = base_of fixed name.place (find name.bytes) in
     let t = taken b.range up n i fs in
     let good : (select_typed b t).good ≡ true = sym (ap (λ (x : Typed). x.good) e) ∙ s.good in
     let both = split b.good t.good (both_good b t (b.good && t.good) refl good) in
     let range = taken_range b.range up n i fs both.1 in
     let is = λ (r : Range) (k : b.range ≡ Some r). ap (λ (x : Typed). x.expression) e ∙ select_good b t (b.good && t.good) good ∙ taken_is b.source b.range r up n i fs k in
     record {
-      bits = record { sound = s.sound name.bytes; good = both.0; range = range.r; has_range = range.is };
+      bits = record { sound = s.signals; good = both.0; range = range.r; has_range = range.is };
       expression = is;
       formed = λ r k. (split (is_formed_select d b.source (record { range = r; up = up; width = n })) (is_formed d i.expression) (sym (ap (is_formed d) (is r k)) ∙ s.formed)).0;
     }
 
-pub bit_taken : (d : Design) (find : Find) (needed : Bool) (name : tree.Name) (bracket : ℕ) (index : tree.Expr) → IsSelectable d find needed name (tree.BitAt bracket index) → IsTaken d find needed name (tree.BitAt bracket index) true 1 (typed index find needed).expression
-bit_taken d find needed name bracket index s = taken_bits d find needed name (tree.BitAt bracket index) true 1 (typed index find needed) (typed index find needed).faults s refl
+pub bit_taken : (d : Design) (find : Find) (fixed needed : Bool) (name : tree.Name) (bracket : ℕ) (index : tree.Expr) → IsSelectable d find fixed needed name (tree.BitAt bracket index) → IsTaken d find fixed needed name (tree.BitAt bracket index) true 1 (typed index find needed).expression
+bit_taken d find fixed needed name bracket index s = taken_bits d find fixed needed name (tree.BitAt bracket index) true 1 (typed index find needed) (typed index find needed).faults s refl
 
 -- ---- `[a +: w]` and `[a -: w]`
 
-pub moving_taken : (d : Design) (find : Find) (needed up : Bool) (name : tree.Name) (bracket : ℕ) (kind : tree.SliceKind) (a w : tree.Expr) (n : ℕ)
+pub moving_taken : (d : Design) (find : Find) (fixed needed up : Bool) (name : tree.Name) (bracket : ℕ) (kind : tree.SliceKind) (a w : tree.Expr) (n : ℕ)
     → ((declared : Option Range) → slice_taken declared bracket kind (expr_place a) (typed a find (first_needed kind needed)) (expr_place w) (typed w find true) ≡ moving declared up (typed a find needed) (expr_place w) (typed w find true))
-    → IsSelectable d find needed name (tree.Slice bracket kind a w) → (natural 1 64 (expr_place w) (constant w find)).number ≡ Some n → IsTaken d find needed name (tree.Slice bracket kind a w) up n (typed a find needed).expression
-moving_taken d find needed up name bracket kind a w n kinds s e =
-    let b = base_of needed name.place (find name.bytes) in
+    → IsSelectable d find fixed needed name (tree.Slice bracket kind a w) → (natural 1 64 (expr_place w) (constant w find)).number ≡ Some n → IsTaken d find fixed needed name (tree.Slice bracket kind a w) up n (typed a find needed).expression
+moving_taken d find fixed needed up name bracket kind a w n kinds s e =
+    let b = base_of fixed name.place (find name.bytes) in
     let m = natural 1 64 (expr_place w) (typed w find true) in
     let fs = (typed a find needed).faults ++ m.faults in
-    taken_bits d find needed name (tree.Slice bracket kind a w) up n (typed a find needed) fs s
+    taken_bits d find fixed needed name (tree.Slice bracket kind a w) up n (typed a find needed) fs s
     (ap (select_typed b) (kinds b.range) ∙ ap (λ o. select_typed b (if_width b.range up o (typed a find needed) fs)) e)
 
 select_faults : (b : Base) (t : Taken) (c : Bool) → (select_if c b t).faults ≡ [] → (b.faults ≡ []) × (t.faults ≡ [])
@@ -116,11 +127,11 @@ pub record IsMoving (d : Design) (find : Find) (needed : Bool) (a w : tree.Expr)
   pub index : IsBuildable d find needed a
   pub width : IsNumbered 1 64 find w
 
-pub moving_is : (d : Design) (find : Find) (needed up : Bool) (name : tree.Name) (bracket : ℕ) (kind : tree.SliceKind) (a w : tree.Expr)
+pub moving_is : (d : Design) (find : Find) (fixed needed up : Bool) (name : tree.Name) (bracket : ℕ) (kind : tree.SliceKind) (a w : tree.Expr)
     → ((declared : Option Range) → slice_taken declared bracket kind (expr_place a) (typed a find (first_needed kind needed)) (expr_place w) (typed w find true) ≡ moving declared up (typed a find needed) (expr_place w) (typed w find true))
-    → IsSelectable d find needed name (tree.Slice bracket kind a w) → IsMoving d find needed a w
-moving_is d find needed up name bracket kind a w kinds s =
-    let b = base_of needed name.place (find name.bytes) in
+    → IsSelectable d find fixed needed name (tree.Slice bracket kind a w) → IsMoving d find needed a w
+moving_is d find fixed needed up name bracket kind a w kinds s =
+    let b = base_of fixed name.place (find name.bytes) in
     let t = slice_taken b.range bracket kind (expr_place a) (typed a find (first_needed kind needed)) (expr_place w) (typed w find true) in
     let m = natural 1 64 (expr_place w) (typed w find true) in
     let k = select_faults b t (b.good && t.good) s.clean in
@@ -130,9 +141,9 @@ moving_is d find needed up name bracket kind a w kinds s =
       width = number_is d needed find 1 64 w s.sound s.shaped.1 p.1;
     }
 
-pub bit_index : (d : Design) (find : Find) (needed : Bool) (name : tree.Name) (bracket : ℕ) (index : tree.Expr) → IsSelectable d find needed name (tree.BitAt bracket index) → IsBuildable d find needed index
-bit_index d find needed name bracket index s =
-    let b = base_of needed name.place (find name.bytes) in
+pub bit_index : (d : Design) (find : Find) (fixed needed : Bool) (name : tree.Name) (bracket : ℕ) (index : tree.Expr) → IsSelectable d find fixed needed name (tree.BitAt bracket index) → IsBuildable d find needed index
+bit_index d find fixed needed name bracket index s =
+    let b = base_of fixed name.place (find name.bytes) in
     let i = typed index find needed in
     let t = taken b.range true 1 i i.faults in
     let k = select_faults b t (b.good && t.good) s.clean in
@@ -170,9 +181,9 @@ between_range bracket m n l r e f h =
     let p = short_range bracket q (nat_le (range_length q) 64) refl (sym (ap (λ x. x.faults) is) ∙ h) in
     (p.0, ap (λ x. x.range) is ∙ p.1)
 
-pub between_is : (d : Design) (find : Find) (needed : Bool) (name : tree.Name) (bracket : ℕ) (a b : tree.Expr) → IsSelectable d find needed name (tree.Slice bracket tree.Between a b) → IsBetween d find needed bracket a b
-between_is d find needed name bracket a b s =
-    let base = base_of needed name.place (find name.bytes) in
+pub between_is : (d : Design) (find : Find) (fixed needed : Bool) (name : tree.Name) (bracket : ℕ) (a b : tree.Expr) → IsSelectable d find fixed needed name (tree.Slice bracket tree.Between a b) → IsBetween d find needed bracket a b
+between_is d find fixed needed name bracket a b s =
+    let base = base_of fixed name.place (find name.bytes) in
     let t = slice_taken base.range bracket tree.Between (expr_place a) (typed a find true) (expr_place b) (typed b find true) in
     let q = bounds bracket (expr_place a) (typed a find true) (expr_place b) (typed b find true) in
     let m = natural 0 65535 (expr_place a) (typed a find true) in
@@ -197,22 +208,22 @@ along_taken b bracket place q fs true true e h = absurd (no b.good e)
     no false k = cc
 along_taken b bracket place q fs true false e h = cc
 
-pub between_taken : (d : Design) (find : Find) (needed : Bool) (name : tree.Name) (bracket : ℕ) (a b : tree.Expr) (q : Range) → IsSelectable d find needed name (tree.Slice bracket tree.Between a b) → IsRangeOf find a b q
-    → IsTaken d find needed name (tree.Slice bracket tree.Between a b) true (range_length q) (E.At (expr_place a) (E.Literal (bits_of 32 (min q.left q.right)) true true))
-between_taken d find needed name bracket a b q s r =
-    let base = base_of needed name.place (find name.bytes) in
+pub between_taken : (d : Design) (find : Find) (fixed needed : Bool) (name : tree.Name) (bracket : ℕ) (a b : tree.Expr) (q : Range) → IsSelectable d find fixed needed name (tree.Slice bracket tree.Between a b) → IsRangeOf find a b q
+    → IsTaken d find fixed needed name (tree.Slice bracket tree.Between a b) true (range_length q) (E.At (expr_place a) (E.Literal (bits_of 32 (min q.left q.right)) true true))
+between_taken d find fixed needed name bracket a b q s r =
+    let base = base_of fixed name.place (find name.bytes) in
     let w = bounds bracket (expr_place a) (typed a find true) (expr_place b) (typed b find true) in
-    let range : w.range ≡ Some q = (between_is d find needed name bracket a b s).range q.left q.right r.first r.second in
+    let range : w.range ≡ Some q = (between_is d find fixed needed name bracket a b s).range q.left q.right r.first r.second in
     let t = along (is_against base.range q) base.range bracket (expr_place a) q w.faults in
-    let is : selected (tree.Slice bracket tree.Between a b) name find needed ≡ select_typed base t = ap (λ o. select_typed base (between base.range bracket (expr_place a) o w.faults)) range in
-    taken_bits d find needed name (tree.Slice bracket tree.Between a b) true (range_length q) (lesser_bound (expr_place a) q) w.faults s
+    let is : selected_by (tree.Slice bracket tree.Between a b) name find fixed needed ≡ select_typed base t = ap (λ o. select_typed base (between base.range bracket (expr_place a) o w.faults)) range in
+    taken_bits d find fixed needed name (tree.Slice bracket tree.Between a b) true (range_length q) (lesser_bound (expr_place a) q) w.faults s
     (is ∙ along_taken base bracket (expr_place a) q w.faults (is_against base.range q) (base.good && t.good) refl (sym (ap (λ (x : Typed). x.good) is) ∙ s.good))
 
 -- ---- the step
 
-pub select_ends : (d : Design) (find : Find) (needed : Bool) (name : tree.Name) (select : tree.Select) (up : Bool) (n : ℕ) (i : Expression) (s q v : Draft) (m : ℕ) (r : Range) → IsTaken d find needed name select up n i → s.design ≡ d
-    → AddsExpression s q i m → m ≤ 254 → AddsSource q v (base_of needed name.place (find name.bytes)) r → EndsInSelect (record { range = r; up = up; width = n }) v
-select_ends d find needed name select up n i s q v m r t e h few a =
+pub select_ends : (d : Design) (find : Find) (fixed needed : Bool) (name : tree.Name) (select : tree.Select) (up : Bool) (n : ℕ) (i : Expression) (s q v : Draft) (m : ℕ) (r : Range) → IsTaken d find fixed needed name select up n i → s.design ≡ d
+    → AddsExpression s q i m → m ≤ 254 → AddsSource q v (base_of fixed name.place (find name.bytes)) r → EndsInSelect (record { range = r; up = up; width = n }) v
+select_ends d find fixed needed name select up n i s q v m r t e h few a =
     let part : Part = record { range = r; up = up; width = n } in
     let design : d ≡ v.design = sym e ∙ same_design s q i m h ∙ same_design q v a.tree 1 a.adds in
     record {
@@ -224,11 +235,11 @@ select_ends d find needed name select up n i s q v m r t e h few a =
       formed = subst (λ c. is_formed_select c (source_of a.tree) part ≡ true) design (ap (λ x. is_formed_select d x part) a.source ∙ t.formed r a.has_range);
     }
 
-pub select_arm : {U F : Type 0} (o : Result U F) (d : Design) (find : Find) (needed : Bool) (name : tree.Name) (select : tree.Select) (up : Bool) (n : ℕ) (i : Expression) (s q v new : Draft) (m at most : ℕ) (r : Range) → IsTaken d find needed name select up n i
-    → AddsExpression s q i m → AddsSource q v (base_of needed name.place (find name.bytes)) r
+pub select_arm : {U F : Type 0} (o : Result U F) (d : Design) (find : Find) (fixed needed : Bool) (name : tree.Name) (select : tree.Select) (up : Bool) (n : ℕ) (i : Expression) (s q v new : Draft) (m at most : ℕ) (r : Range) → IsTaken d find fixed needed name select up n i
+    → AddsExpression s q i m → AddsSource q v (base_of fixed name.place (find name.bytes)) r
     → ((p k : Draft) (t u : Expression) (x y : ℕ) → AddsExpression p k t x → AddsExpression k v u y → OnOk o (AddsExpression p new (E.At at (E.Select (source_of u) (record { range = r; up = up; width = n }) t)) (1 + max x y)))
-    → 1 + max m 1 ≤ most → OnOk o (AddsExpression s new (begins_at at (selected select name find needed).expression) most)
-select_arm o d find needed name select up n i s q v new m at most r t h a f le =
+    → 1 + max m 1 ≤ most → OnOk o (AddsExpression s new (begins_at at (selected_by select name find fixed needed).expression) most)
+select_arm o d find fixed needed name select up n i s q v new m at most r t h a f le =
     let part : Part = record { range = r; up = up; width = n } in
     subst (λ x. OnOk o (AddsExpression s new x most)) (ap (λ x. E.At at (E.Select x part i)) a.source ∙ sym (ap (begins_at at) (t.expression r a.has_range)))
     (ok_up_to o s new (E.At at (E.Select (source_of a.tree) part i)) (1 + max m 1) most (f s q i a.tree m 1 h a.adds) le)

@@ -13,9 +13,9 @@ use Rattle.vs_grammar.specs.Shapes.{IsExpr, IsSelect, AreParts}
 use Rattle.vs_grammar.specs.Depths.{expr_depth, exprs_depth, select_depth}
 use Rattle.vs_const.specs.Meanings.{Meaning, Find, IsFair}
 use Rattle.vs_const.specs.Sound.{IsSound, AreSound}
-use Rattle.vs_const.specs.Typed.{Natural, natural}
-use Rattle.vs_const.specs.Selects.{name_typed, Base, base_of}
-use Rattle.vs_const.specs.Expressions.{constant, typed, selected, typed_parts}
+use Rattle.vs_const.specs.Typed.{Typed, Natural, natural}
+use Rattle.vs_const.specs.Selects.{name_typed, Base, base_of, taken, slice_taken, first_needed, select_typed}
+use Rattle.vs_const.specs.Expressions.{constant, typed, typed_parts}
 use Rattle.vs_flat.specs.Targets.{source_of}
 use Rattle.vs_build.specs.Drafts.{Draft, AddsExpression}
 
@@ -26,13 +26,24 @@ pub record IsBuildable (d : Design) (find : Find) (needed : Bool) (e : tree.Expr
   pub clean : (typed e find needed).faults ≡ []
   pub shallow : expr_depth e ≤ 253
 
--- a name with what is selected of it
-pub record IsSelectable (d : Design) (find : Find) (needed : Bool) (name : tree.Name) (select : tree.Select) : Type 0 where
+-- a name with what is selected of it; `fixed`: where the name has to be a constant, `needed`: where the index has to be one
+abbrev pub selected_by : tree.Select → tree.Name → Find → (fixed needed : Bool) → Typed
+selected_by tree.Whole name find fixed needed = name_typed fixed name.place (find name.bytes)
+selected_by (tree.BitAt bracket index) name find fixed needed =
+    let b = base_of fixed name.place (find name.bytes) in
+    let i = typed index find needed in
+    select_typed b (taken b.range true 1 i i.faults)
+selected_by (tree.Slice bracket kind e f) name find fixed needed =
+    let b = base_of fixed name.place (find name.bytes) in
+    select_typed b (slice_taken b.range bracket kind (expr_place e) (typed e find (first_needed kind needed)) (expr_place f) (typed f find true))
+
+pub record IsSelectable (d : Design) (find : Find) (fixed needed : Bool) (name : tree.Name) (select : tree.Select) : Type 0 where
   pub shaped : IsSelect select
+  pub signals : IsSound d fixed (find name.bytes)
   pub sound : AreSound d needed find
-  pub clean : (selected select name find needed).faults ≡ []
-  pub good : (selected select name find needed).good ≡ true
-  pub formed : is_formed d (selected select name find needed).expression ≡ true
+  pub clean : (selected_by select name find fixed needed).faults ≡ []
+  pub good : (selected_by select name find fixed needed).good ≡ true
+  pub formed : is_formed d (selected_by select name find fixed needed).expression ≡ true
   pub shallow : select_depth select ≤ 253
 
 -- the parts of a concatenation

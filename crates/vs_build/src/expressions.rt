@@ -5,10 +5,10 @@ ghost use Rattle.vs_grammar.specs.Trees.{expr_place};
 ghost use Rattle.vs_grammar.specs.Depths.{expr_depth, exprs_depth, select_depth};
 ghost use Rattle.vs_ast.specs.Views as view;
 ghost use Rattle.vs_const.specs.Typed.{begins_at};
-ghost use Rattle.vs_const.specs.Expressions.{typed, selected};
+ghost use Rattle.vs_const.specs.Expressions.{typed};
 ghost use Rattle.vs_build.specs.Drafts.{AddsExpression, AddsParts};
 ghost use Rattle.vs_build.specs.Growth.{draft};
-ghost use Rattle.vs_build.specs.Buildable.{IsBuildable, IsSelectable, AreBuildable, part_expressions};
+ghost use Rattle.vs_build.specs.Buildable.{IsBuildable, IsSelectable, AreBuildable, part_expressions, selected_by};
 
 use crate::builder::Builder;
 use crate::names::{bounds_of, constant_bits, lesser, literal_bits, name_alone, number_within, range_length, source};
@@ -50,7 +50,9 @@ pub(crate) fn expression<E: Env>(
 {
     match e {
         Expr::Number(n) => builder.literal(literal_bits(n), n.signed, n.sized, at),
-        Expr::Named(name, select) => selected(builder, alloc, select, name, at, env, needed),
+        Expr::Named(name, select) => {
+            selected(builder, alloc, select, name, at, env, needed, needed)
+        }
         Expr::Unary { op, operand: a, .. } => {
             operand(builder, alloc, a, env, needed)?;
             builder.unary(flat_unary(*op), at)
@@ -117,25 +119,26 @@ fn parts<E: Env>(
     Ok(())
 }
 
-/// Builds a name, with what is selected of it.
+/// Builds a name, with what is selected of it. `fixed` is where the name has to be a constant, `needed` where its index has to be one.
 #[cycle(expressions)]
-fn selected<E: Env>(
+pub(crate) fn selected<E: Env>(
     builder: &mut Builder,
     alloc: Global,
     select: &Select,
     name: &Name,
     at: u32,
     env: &E,
+    fixed: bool,
     needed: bool,
 ) -> Result<(), AllocError>
-    requires { IsSelectable (draft builder.old).design (E.names env.now) needed (view.name name.now) (view.select select.now) }
-    ensures { OnOk result (AddsExpression (draft builder.old) (draft builder.new) (begins_at at (selected (view.select select.now) (view.name name.now) (E.names env.now) needed).expression) (1 + select_depth (view.select select.now))) }
+    requires { IsSelectable (draft builder.old).design (E.names env.now) fixed needed (view.name name.now) (view.select select.now) }
+    ensures { OnOk result (AddsExpression (draft builder.old) (draft builder.new) (begins_at at (selected_by (view.select select.now) (view.name name.now) (E.names env.now) fixed needed).expression) (1 + select_depth (view.select select.now))) }
 {
     match select {
-        Select::Whole => name_alone(builder, needed, name, at, env),
+        Select::Whole => name_alone(builder, fixed, name, at, env),
         Select::Bit { index, .. } => {
             operand(builder, alloc, index, env, needed)?;
-            let range = source(builder, needed, name, env)?;
+            let range = source(builder, fixed, name, env)?;
             builder.bit(range, at)
         }
         Select::Slice {
@@ -144,19 +147,19 @@ fn selected<E: Env>(
             SliceKind::Between => {
                 let bounds = bounds_of(alloc, left, right, env)?;
                 builder.literal(of_number(32, lesser(bounds) as u64), true, true, place_of(left))?;
-                let range = source(builder, needed, name, env)?;
+                let range = source(builder, fixed, name, env)?;
                 builder.part(range, true, range_length(bounds), at)
             }
             SliceKind::Upward => {
                 let width = number_within(alloc, 1, 64, right, env)?;
                 operand(builder, alloc, left, env, needed)?;
-                let range = source(builder, needed, name, env)?;
+                let range = source(builder, fixed, name, env)?;
                 builder.part(range, true, width, at)
             }
             SliceKind::Downward => {
                 let width = number_within(alloc, 1, 64, right, env)?;
                 operand(builder, alloc, left, env, needed)?;
-                let range = source(builder, needed, name, env)?;
+                let range = source(builder, fixed, name, env)?;
                 builder.part(range, false, width, at)
             }
         },

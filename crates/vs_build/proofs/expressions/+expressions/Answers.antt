@@ -9,15 +9,15 @@ use Rattle.vs_ast.specs.Views as view
 use Rattle.vs_ast.proofs.Rows.{expr_rows}
 use Rattle.vs_ast.specs.declared.expressions.Expr.{the_lemmas}
 use Rattle.vs_const.specs.Typed.{begins_at, natural}
-use Rattle.vs_const.specs.Expressions.{constant, typed, selected}
+use Rattle.vs_const.specs.Expressions.{constant, typed}
 use Rattle.vs_const.proofs.Rows.{some_part}
 use Rattle.vs_flat.specs.Targets.{source_of}
 use Rattle.vs_build.specs.Drafts.{Draft, AddsExpression, EndsInSelect}
 use Rattle.vs_build.specs.Growth.{draft}
-use Rattle.vs_build.specs.Buildable.{IsBuildable, IsSelectable, AreBuildable, HasBits, IsNumbered, AreBounds, IsRangeOf, IsConstant, part_expressions}
+use Rattle.vs_build.specs.Buildable.{IsBuildable, IsSelectable, AreBuildable, HasBits, IsNumbered, AreBounds, IsRangeOf, IsConstant, part_expressions, selected_by}
 use Rattle.vs_build.proofs.Arms.{child, child_ends, children_end, ends_three, after, same_design, ok_up_to, unary_operand, binary_left, binary_right, choice_condition, choice_yes, choice_no, unary_arm, cast_arm, binary_arm, choice_arm}
 use Rattle.vs_build.proofs.Lists.{concatenation_view, replication_view, each_part, part_levels, part_falls, taken_more, taken_all, parts_none, parts_more, parts_are, ends_parts, part_after, part_count, concatenation_parts, join_arm, replication_is, replication_expression, deeper_up_to}
-use Rattle.vs_build.proofs.Selects.{named_select, bit_taken, bit_index, moving_taken, moving_is, between_is, between_taken, select_ends, select_arm, signed_operand, unsigned_operand, clog2_constant}
+use Rattle.vs_build.proofs.Selects.{named_select, named_expression, bit_taken, bit_index, moving_taken, moving_is, between_is, between_taken, select_ends, select_arm, signed_operand, unsigned_operand, clog2_constant}
 use Rattle.vs_build.proofs.expressions.+expressions.Goals as goal
 
 pub expression-unary-requires : goal.expression-unary-requires
@@ -70,6 +70,11 @@ expression-returns-in_ok-operand-in-Choice-3 g t c =
 pub expression-selected-requires : goal.expression-selected-requires
 expression-selected-requires g t c κs within =
     (search (rules, the_lemmas), (within, named_select (draft c.args.builder.now).design (g.E.Env.names c.args.env.now) c.args.needed (view.name c.in-Named.name) (view.select c.in-Named.select) (subst (λ x. IsBuildable (draft c.args.builder.now).design (g.E.Env.names c.args.env.now) c.args.needed (view.expr x)) c.in-Named.is c.requires)))
+
+pub expression-returns-in-Named : goal.expression-returns-in-Named
+expression-returns-in-Named g t c =
+    subst (λ x. OnOk c.selected.result (AddsExpression (draft c.args.builder.now) (draft c.selected.new.builder) (begins_at c.args.at (typed (view.expr x) (g.E.Env.names c.args.env.now) c.args.needed).expression) (1 + expr_depth (view.expr x)))) (sym c.in-Named.is)
+    (subst (λ z. OnOk c.selected.result (AddsExpression (draft c.args.builder.now) (draft c.selected.new.builder) z (1 + select_depth (view.select c.in-Named.select)))) (named_expression (g.E.Env.names c.args.env.now) c.args.needed c.args.at (view.name c.in-Named.name) (view.select c.in-Named.select)) c.selected.ensures)
 
 pub expression-parts-requires : goal.expression-parts-requires
 expression-parts-requires g t c κs within =
@@ -157,63 +162,63 @@ expression-constant_bits-requires g t c =
 
 pub selected-bit-requires : goal.selected-bit-requires
 selected-bit-requires g t c =
-    select_ends (draft c.args.builder.now).design (g.E.Env.names c.args.env.now) c.args.needed (view.name c.args.name.now) (tree.BitAt c.in-Bit.bracket (view.expr c.in-Bit.index.value)) true 1 (typed (view.expr c.in-Bit.index.value) (g.E.Env.names c.args.env.now) c.args.needed).expression (draft c.args.builder.now) (draft c.operand.new.builder) (draft c.source.new.builder) (1 + expr_depth (view.expr c.in-Bit.index.value)) c.in_ok-range-in-Bit.range (bit_taken (draft c.args.builder.now).design (g.E.Env.names c.args.env.now) c.args.needed (view.name c.args.name.now) c.in-Bit.bracket (view.expr c.in-Bit.index.value) (subst (λ x. IsSelectable (draft c.args.builder.now).design (g.E.Env.names c.args.env.now) c.args.needed (view.name c.args.name.now) (view.select x)) c.in-Bit.is c.requires)) refl (subst (λ x. AddsExpression (draft c.args.builder.now) (draft c.operand.new.builder) (typed (view.expr x) (g.E.Env.names c.args.env.now) c.args.needed).expression (1 + expr_depth (view.expr x))) c.deref.ensures c.in_ok-operand-in-Bit.ensures) (omega (arith, (bit_index (draft c.args.builder.now).design (g.E.Env.names c.args.env.now) c.args.needed (view.name c.args.name.now) c.in-Bit.bracket (view.expr c.in-Bit.index.value) (subst (λ x. IsSelectable (draft c.args.builder.now).design (g.E.Env.names c.args.env.now) c.args.needed (view.name c.args.name.now) (view.select x)) c.in-Bit.is c.requires)).shallow)) c.in_ok-range-in-Bit.ensures
+    select_ends (draft c.args.builder.now).design (g.E.Env.names c.args.env.now) c.args.fixed c.args.needed (view.name c.args.name.now) (tree.BitAt c.in-Bit.bracket (view.expr c.in-Bit.index.value)) true 1 (typed (view.expr c.in-Bit.index.value) (g.E.Env.names c.args.env.now) c.args.needed).expression (draft c.args.builder.now) (draft c.operand.new.builder) (draft c.source.new.builder) (1 + expr_depth (view.expr c.in-Bit.index.value)) c.in_ok-range-in-Bit.range (bit_taken (draft c.args.builder.now).design (g.E.Env.names c.args.env.now) c.args.fixed c.args.needed (view.name c.args.name.now) c.in-Bit.bracket (view.expr c.in-Bit.index.value) (subst (λ x. IsSelectable (draft c.args.builder.now).design (g.E.Env.names c.args.env.now) c.args.fixed c.args.needed (view.name c.args.name.now) (view.select x)) c.in-Bit.is c.requires)) refl (subst (λ x. AddsExpression (draft c.args.builder.now) (draft c.operand.new.builder) (typed (view.expr x) (g.E.Env.names c.args.env.now) c.args.needed).expression (1 + expr_depth (view.expr x))) c.deref.ensures c.in_ok-operand-in-Bit.ensures) (omega (arith, (bit_index (draft c.args.builder.now).design (g.E.Env.names c.args.env.now) c.args.fixed c.args.needed (view.name c.args.name.now) c.in-Bit.bracket (view.expr c.in-Bit.index.value) (subst (λ x. IsSelectable (draft c.args.builder.now).design (g.E.Env.names c.args.env.now) c.args.fixed c.args.needed (view.name c.args.name.now) (view.select x)) c.in-Bit.is c.requires)).shallow)) c.in_ok-range-in-Bit.ensures
 
 pub selected-returns-in_ok-range-in-Bit : goal.selected-returns-in_ok-range-in-Bit
 selected-returns-in_ok-range-in-Bit g t c =
-    subst (λ x. OnOk c.bit.result (AddsExpression (draft c.args.builder.now) (draft c.bit.new.self) (begins_at c.args.at (selected (view.select x) (view.name c.args.name.now) (g.E.Env.names c.args.env.now) c.args.needed).expression) (1 + select_depth (view.select x)))) (sym c.in-Bit.is)
-    (select_arm c.bit.result (draft c.args.builder.now).design (g.E.Env.names c.args.env.now) c.args.needed (view.name c.args.name.now) (tree.BitAt c.in-Bit.bracket (view.expr c.in-Bit.index.value)) true 1 (typed (view.expr c.in-Bit.index.value) (g.E.Env.names c.args.env.now) c.args.needed).expression (draft c.args.builder.now) (draft c.operand.new.builder) (draft c.source.new.builder) (draft c.bit.new.self) (1 + expr_depth (view.expr c.in-Bit.index.value)) c.args.at (1 + (1 + expr_depth (view.expr c.in-Bit.index.value))) c.in_ok-range-in-Bit.range (bit_taken (draft c.args.builder.now).design (g.E.Env.names c.args.env.now) c.args.needed (view.name c.args.name.now) c.in-Bit.bracket (view.expr c.in-Bit.index.value) (subst (λ x. IsSelectable (draft c.args.builder.now).design (g.E.Env.names c.args.env.now) c.args.needed (view.name c.args.name.now) (view.select x)) c.in-Bit.is c.requires)) (subst (λ x. AddsExpression (draft c.args.builder.now) (draft c.operand.new.builder) (typed (view.expr x) (g.E.Env.names c.args.env.now) c.args.needed).expression (1 + expr_depth (view.expr x))) c.deref.ensures c.in_ok-operand-in-Bit.ensures) c.in_ok-range-in-Bit.ensures c.bit.ensures (omega arith))
+    subst (λ x. OnOk c.bit.result (AddsExpression (draft c.args.builder.now) (draft c.bit.new.self) (begins_at c.args.at (selected_by (view.select x) (view.name c.args.name.now) (g.E.Env.names c.args.env.now) c.args.fixed c.args.needed).expression) (1 + select_depth (view.select x)))) (sym c.in-Bit.is)
+    (select_arm c.bit.result (draft c.args.builder.now).design (g.E.Env.names c.args.env.now) c.args.fixed c.args.needed (view.name c.args.name.now) (tree.BitAt c.in-Bit.bracket (view.expr c.in-Bit.index.value)) true 1 (typed (view.expr c.in-Bit.index.value) (g.E.Env.names c.args.env.now) c.args.needed).expression (draft c.args.builder.now) (draft c.operand.new.builder) (draft c.source.new.builder) (draft c.bit.new.self) (1 + expr_depth (view.expr c.in-Bit.index.value)) c.args.at (1 + (1 + expr_depth (view.expr c.in-Bit.index.value))) c.in_ok-range-in-Bit.range (bit_taken (draft c.args.builder.now).design (g.E.Env.names c.args.env.now) c.args.fixed c.args.needed (view.name c.args.name.now) c.in-Bit.bracket (view.expr c.in-Bit.index.value) (subst (λ x. IsSelectable (draft c.args.builder.now).design (g.E.Env.names c.args.env.now) c.args.fixed c.args.needed (view.name c.args.name.now) (view.select x)) c.in-Bit.is c.requires)) (subst (λ x. AddsExpression (draft c.args.builder.now) (draft c.operand.new.builder) (typed (view.expr x) (g.E.Env.names c.args.env.now) c.args.needed).expression (1 + expr_depth (view.expr x))) c.deref.ensures c.in_ok-operand-in-Bit.ensures) c.in_ok-range-in-Bit.ensures c.bit.ensures (omega arith))
 
 pub selected-number_within-requires : goal.selected-number_within-requires
 selected-number_within-requires g t c =
-    subst (λ x. IsNumbered 1 64 (g.E.Env.names c.args.env.now) (view.expr x)) (sym c.deref-in-Upward.ensures) (moving_is (draft c.args.builder.now).design (g.E.Env.names c.args.env.now) c.args.needed true (view.name c.args.name.now) c.in-Slice.bracket tree.Upward (view.expr c.in-Slice.left.value) (view.expr c.in-Slice.right.value) (λ declared. refl) (subst (λ k. IsSelectable (draft c.args.builder.now).design (g.E.Env.names c.args.env.now) c.args.needed (view.name c.args.name.now) (tree.Slice c.in-Slice.bracket (view.slice_kind k) (view.expr c.in-Slice.left.value) (view.expr c.in-Slice.right.value))) c.in-Upward.is (subst (λ x. IsSelectable (draft c.args.builder.now).design (g.E.Env.names c.args.env.now) c.args.needed (view.name c.args.name.now) (view.select x)) c.in-Slice.is c.requires))).width
+    subst (λ x. IsNumbered 1 64 (g.E.Env.names c.args.env.now) (view.expr x)) (sym c.deref-in-Upward.ensures) (moving_is (draft c.args.builder.now).design (g.E.Env.names c.args.env.now) c.args.fixed c.args.needed true (view.name c.args.name.now) c.in-Slice.bracket tree.Upward (view.expr c.in-Slice.left.value) (view.expr c.in-Slice.right.value) (λ declared. refl) (subst (λ k. IsSelectable (draft c.args.builder.now).design (g.E.Env.names c.args.env.now) c.args.fixed c.args.needed (view.name c.args.name.now) (tree.Slice c.in-Slice.bracket (view.slice_kind k) (view.expr c.in-Slice.left.value) (view.expr c.in-Slice.right.value))) c.in-Upward.is (subst (λ x. IsSelectable (draft c.args.builder.now).design (g.E.Env.names c.args.env.now) c.args.fixed c.args.needed (view.name c.args.name.now) (view.select x)) c.in-Slice.is c.requires))).width
 
 pub selected-operand-requires-in-Upward : goal.selected-operand-requires-in-Upward
 selected-operand-requires-in-Upward g t c κs within =
-    (search (rules, the_lemmas), (within, child (draft c.args.builder.now).design (g.E.Env.names c.args.env.now) c.args.needed c.deref-in-Upward-2.result.now c.in-Slice.left.value c.deref-in-Upward-2.ensures (moving_is (draft c.args.builder.now).design (g.E.Env.names c.args.env.now) c.args.needed true (view.name c.args.name.now) c.in-Slice.bracket tree.Upward (view.expr c.in-Slice.left.value) (view.expr c.in-Slice.right.value) (λ declared. refl) (subst (λ k. IsSelectable (draft c.args.builder.now).design (g.E.Env.names c.args.env.now) c.args.needed (view.name c.args.name.now) (tree.Slice c.in-Slice.bracket (view.slice_kind k) (view.expr c.in-Slice.left.value) (view.expr c.in-Slice.right.value))) c.in-Upward.is (subst (λ x. IsSelectable (draft c.args.builder.now).design (g.E.Env.names c.args.env.now) c.args.needed (view.name c.args.name.now) (view.select x)) c.in-Slice.is c.requires))).index))
+    (search (rules, the_lemmas), (within, child (draft c.args.builder.now).design (g.E.Env.names c.args.env.now) c.args.needed c.deref-in-Upward-2.result.now c.in-Slice.left.value c.deref-in-Upward-2.ensures (moving_is (draft c.args.builder.now).design (g.E.Env.names c.args.env.now) c.args.fixed c.args.needed true (view.name c.args.name.now) c.in-Slice.bracket tree.Upward (view.expr c.in-Slice.left.value) (view.expr c.in-Slice.right.value) (λ declared. refl) (subst (λ k. IsSelectable (draft c.args.builder.now).design (g.E.Env.names c.args.env.now) c.args.fixed c.args.needed (view.name c.args.name.now) (tree.Slice c.in-Slice.bracket (view.slice_kind k) (view.expr c.in-Slice.left.value) (view.expr c.in-Slice.right.value))) c.in-Upward.is (subst (λ x. IsSelectable (draft c.args.builder.now).design (g.E.Env.names c.args.env.now) c.args.fixed c.args.needed (view.name c.args.name.now) (view.select x)) c.in-Slice.is c.requires))).index))
 
 pub selected-part-requires-in-Upward : goal.selected-part-requires-in-Upward
 selected-part-requires-in-Upward g t c =
-    select_ends (draft c.args.builder.now).design (g.E.Env.names c.args.env.now) c.args.needed (view.name c.args.name.now) (tree.Slice c.in-Slice.bracket tree.Upward (view.expr c.in-Slice.left.value) (view.expr c.in-Slice.right.value)) true c.in_ok-width-in-Upward.width (typed (view.expr c.in-Slice.left.value) (g.E.Env.names c.args.env.now) c.args.needed).expression (draft c.args.builder.now) (draft c.operand-in-Upward.new.builder) (draft c.source-in-Upward.new.builder) (1 + expr_depth (view.expr c.in-Slice.left.value)) c.in_ok-range-in-Upward.range (moving_taken (draft c.args.builder.now).design (g.E.Env.names c.args.env.now) c.args.needed true (view.name c.args.name.now) c.in-Slice.bracket tree.Upward (view.expr c.in-Slice.left.value) (view.expr c.in-Slice.right.value) c.in_ok-width-in-Upward.width (λ declared. refl) (subst (λ k. IsSelectable (draft c.args.builder.now).design (g.E.Env.names c.args.env.now) c.args.needed (view.name c.args.name.now) (tree.Slice c.in-Slice.bracket (view.slice_kind k) (view.expr c.in-Slice.left.value) (view.expr c.in-Slice.right.value))) c.in-Upward.is (subst (λ x. IsSelectable (draft c.args.builder.now).design (g.E.Env.names c.args.env.now) c.args.needed (view.name c.args.name.now) (view.select x)) c.in-Slice.is c.requires)) (subst (λ x. (natural 1 64 (expr_place (view.expr x)) (constant (view.expr x) (g.E.Env.names c.args.env.now))).number ≡ Some c.in_ok-width-in-Upward.width) c.deref-in-Upward.ensures c.in_ok-width-in-Upward.ensures)) refl (subst (λ x. AddsExpression (draft c.args.builder.now) (draft c.operand-in-Upward.new.builder) (typed (view.expr x) (g.E.Env.names c.args.env.now) c.args.needed).expression (1 + expr_depth (view.expr x))) c.deref-in-Upward-2.ensures c.in_ok-operand-in-Upward.ensures) (omega (arith, (moving_is (draft c.args.builder.now).design (g.E.Env.names c.args.env.now) c.args.needed true (view.name c.args.name.now) c.in-Slice.bracket tree.Upward (view.expr c.in-Slice.left.value) (view.expr c.in-Slice.right.value) (λ declared. refl) (subst (λ k. IsSelectable (draft c.args.builder.now).design (g.E.Env.names c.args.env.now) c.args.needed (view.name c.args.name.now) (tree.Slice c.in-Slice.bracket (view.slice_kind k) (view.expr c.in-Slice.left.value) (view.expr c.in-Slice.right.value))) c.in-Upward.is (subst (λ x. IsSelectable (draft c.args.builder.now).design (g.E.Env.names c.args.env.now) c.args.needed (view.name c.args.name.now) (view.select x)) c.in-Slice.is c.requires))).index.shallow)) c.in_ok-range-in-Upward.ensures
+    select_ends (draft c.args.builder.now).design (g.E.Env.names c.args.env.now) c.args.fixed c.args.needed (view.name c.args.name.now) (tree.Slice c.in-Slice.bracket tree.Upward (view.expr c.in-Slice.left.value) (view.expr c.in-Slice.right.value)) true c.in_ok-width-in-Upward.width (typed (view.expr c.in-Slice.left.value) (g.E.Env.names c.args.env.now) c.args.needed).expression (draft c.args.builder.now) (draft c.operand-in-Upward.new.builder) (draft c.source-in-Upward.new.builder) (1 + expr_depth (view.expr c.in-Slice.left.value)) c.in_ok-range-in-Upward.range (moving_taken (draft c.args.builder.now).design (g.E.Env.names c.args.env.now) c.args.fixed c.args.needed true (view.name c.args.name.now) c.in-Slice.bracket tree.Upward (view.expr c.in-Slice.left.value) (view.expr c.in-Slice.right.value) c.in_ok-width-in-Upward.width (λ declared. refl) (subst (λ k. IsSelectable (draft c.args.builder.now).design (g.E.Env.names c.args.env.now) c.args.fixed c.args.needed (view.name c.args.name.now) (tree.Slice c.in-Slice.bracket (view.slice_kind k) (view.expr c.in-Slice.left.value) (view.expr c.in-Slice.right.value))) c.in-Upward.is (subst (λ x. IsSelectable (draft c.args.builder.now).design (g.E.Env.names c.args.env.now) c.args.fixed c.args.needed (view.name c.args.name.now) (view.select x)) c.in-Slice.is c.requires)) (subst (λ x. (natural 1 64 (expr_place (view.expr x)) (constant (view.expr x) (g.E.Env.names c.args.env.now))).number ≡ Some c.in_ok-width-in-Upward.width) c.deref-in-Upward.ensures c.in_ok-width-in-Upward.ensures)) refl (subst (λ x. AddsExpression (draft c.args.builder.now) (draft c.operand-in-Upward.new.builder) (typed (view.expr x) (g.E.Env.names c.args.env.now) c.args.needed).expression (1 + expr_depth (view.expr x))) c.deref-in-Upward-2.ensures c.in_ok-operand-in-Upward.ensures) (omega (arith, (moving_is (draft c.args.builder.now).design (g.E.Env.names c.args.env.now) c.args.fixed c.args.needed true (view.name c.args.name.now) c.in-Slice.bracket tree.Upward (view.expr c.in-Slice.left.value) (view.expr c.in-Slice.right.value) (λ declared. refl) (subst (λ k. IsSelectable (draft c.args.builder.now).design (g.E.Env.names c.args.env.now) c.args.fixed c.args.needed (view.name c.args.name.now) (tree.Slice c.in-Slice.bracket (view.slice_kind k) (view.expr c.in-Slice.left.value) (view.expr c.in-Slice.right.value))) c.in-Upward.is (subst (λ x. IsSelectable (draft c.args.builder.now).design (g.E.Env.names c.args.env.now) c.args.fixed c.args.needed (view.name c.args.name.now) (view.select x)) c.in-Slice.is c.requires))).index.shallow)) c.in_ok-range-in-Upward.ensures
 
 pub selected-returns-in_ok-range-in-Upward : goal.selected-returns-in_ok-range-in-Upward
 selected-returns-in_ok-range-in-Upward g t c =
-    subst (λ x. OnOk c.part-in-Upward.result (AddsExpression (draft c.args.builder.now) (draft c.part-in-Upward.new.self) (begins_at c.args.at (selected (view.select x) (view.name c.args.name.now) (g.E.Env.names c.args.env.now) c.args.needed).expression) (1 + select_depth (view.select x)))) (sym c.in-Slice.is)
-    (subst (λ k. OnOk c.part-in-Upward.result (AddsExpression (draft c.args.builder.now) (draft c.part-in-Upward.new.self) (begins_at c.args.at (selected (tree.Slice c.in-Slice.bracket (view.slice_kind k) (view.expr c.in-Slice.left.value) (view.expr c.in-Slice.right.value)) (view.name c.args.name.now) (g.E.Env.names c.args.env.now) c.args.needed).expression) (1 + (1 + max (expr_depth (view.expr c.in-Slice.left.value)) (expr_depth (view.expr c.in-Slice.right.value)))))) (sym c.in-Upward.is)
-    (select_arm c.part-in-Upward.result (draft c.args.builder.now).design (g.E.Env.names c.args.env.now) c.args.needed (view.name c.args.name.now) (tree.Slice c.in-Slice.bracket tree.Upward (view.expr c.in-Slice.left.value) (view.expr c.in-Slice.right.value)) true c.in_ok-width-in-Upward.width (typed (view.expr c.in-Slice.left.value) (g.E.Env.names c.args.env.now) c.args.needed).expression (draft c.args.builder.now) (draft c.operand-in-Upward.new.builder) (draft c.source-in-Upward.new.builder) (draft c.part-in-Upward.new.self) (1 + expr_depth (view.expr c.in-Slice.left.value)) c.args.at (1 + (1 + max (expr_depth (view.expr c.in-Slice.left.value)) (expr_depth (view.expr c.in-Slice.right.value)))) c.in_ok-range-in-Upward.range (moving_taken (draft c.args.builder.now).design (g.E.Env.names c.args.env.now) c.args.needed true (view.name c.args.name.now) c.in-Slice.bracket tree.Upward (view.expr c.in-Slice.left.value) (view.expr c.in-Slice.right.value) c.in_ok-width-in-Upward.width (λ declared. refl) (subst (λ k. IsSelectable (draft c.args.builder.now).design (g.E.Env.names c.args.env.now) c.args.needed (view.name c.args.name.now) (tree.Slice c.in-Slice.bracket (view.slice_kind k) (view.expr c.in-Slice.left.value) (view.expr c.in-Slice.right.value))) c.in-Upward.is (subst (λ x. IsSelectable (draft c.args.builder.now).design (g.E.Env.names c.args.env.now) c.args.needed (view.name c.args.name.now) (view.select x)) c.in-Slice.is c.requires)) (subst (λ x. (natural 1 64 (expr_place (view.expr x)) (constant (view.expr x) (g.E.Env.names c.args.env.now))).number ≡ Some c.in_ok-width-in-Upward.width) c.deref-in-Upward.ensures c.in_ok-width-in-Upward.ensures)) (subst (λ x. AddsExpression (draft c.args.builder.now) (draft c.operand-in-Upward.new.builder) (typed (view.expr x) (g.E.Env.names c.args.env.now) c.args.needed).expression (1 + expr_depth (view.expr x))) c.deref-in-Upward-2.ensures c.in_ok-operand-in-Upward.ensures) c.in_ok-range-in-Upward.ensures c.part-in-Upward.ensures (omega arith)))
+    subst (λ x. OnOk c.part-in-Upward.result (AddsExpression (draft c.args.builder.now) (draft c.part-in-Upward.new.self) (begins_at c.args.at (selected_by (view.select x) (view.name c.args.name.now) (g.E.Env.names c.args.env.now) c.args.fixed c.args.needed).expression) (1 + select_depth (view.select x)))) (sym c.in-Slice.is)
+    (subst (λ k. OnOk c.part-in-Upward.result (AddsExpression (draft c.args.builder.now) (draft c.part-in-Upward.new.self) (begins_at c.args.at (selected_by (tree.Slice c.in-Slice.bracket (view.slice_kind k) (view.expr c.in-Slice.left.value) (view.expr c.in-Slice.right.value)) (view.name c.args.name.now) (g.E.Env.names c.args.env.now) c.args.fixed c.args.needed).expression) (1 + (1 + max (expr_depth (view.expr c.in-Slice.left.value)) (expr_depth (view.expr c.in-Slice.right.value)))))) (sym c.in-Upward.is)
+    (select_arm c.part-in-Upward.result (draft c.args.builder.now).design (g.E.Env.names c.args.env.now) c.args.fixed c.args.needed (view.name c.args.name.now) (tree.Slice c.in-Slice.bracket tree.Upward (view.expr c.in-Slice.left.value) (view.expr c.in-Slice.right.value)) true c.in_ok-width-in-Upward.width (typed (view.expr c.in-Slice.left.value) (g.E.Env.names c.args.env.now) c.args.needed).expression (draft c.args.builder.now) (draft c.operand-in-Upward.new.builder) (draft c.source-in-Upward.new.builder) (draft c.part-in-Upward.new.self) (1 + expr_depth (view.expr c.in-Slice.left.value)) c.args.at (1 + (1 + max (expr_depth (view.expr c.in-Slice.left.value)) (expr_depth (view.expr c.in-Slice.right.value)))) c.in_ok-range-in-Upward.range (moving_taken (draft c.args.builder.now).design (g.E.Env.names c.args.env.now) c.args.fixed c.args.needed true (view.name c.args.name.now) c.in-Slice.bracket tree.Upward (view.expr c.in-Slice.left.value) (view.expr c.in-Slice.right.value) c.in_ok-width-in-Upward.width (λ declared. refl) (subst (λ k. IsSelectable (draft c.args.builder.now).design (g.E.Env.names c.args.env.now) c.args.fixed c.args.needed (view.name c.args.name.now) (tree.Slice c.in-Slice.bracket (view.slice_kind k) (view.expr c.in-Slice.left.value) (view.expr c.in-Slice.right.value))) c.in-Upward.is (subst (λ x. IsSelectable (draft c.args.builder.now).design (g.E.Env.names c.args.env.now) c.args.fixed c.args.needed (view.name c.args.name.now) (view.select x)) c.in-Slice.is c.requires)) (subst (λ x. (natural 1 64 (expr_place (view.expr x)) (constant (view.expr x) (g.E.Env.names c.args.env.now))).number ≡ Some c.in_ok-width-in-Upward.width) c.deref-in-Upward.ensures c.in_ok-width-in-Upward.ensures)) (subst (λ x. AddsExpression (draft c.args.builder.now) (draft c.operand-in-Upward.new.builder) (typed (view.expr x) (g.E.Env.names c.args.env.now) c.args.needed).expression (1 + expr_depth (view.expr x))) c.deref-in-Upward-2.ensures c.in_ok-operand-in-Upward.ensures) c.in_ok-range-in-Upward.ensures c.part-in-Upward.ensures (omega arith)))
 
 pub selected-number_within-requires-in-Downward : goal.selected-number_within-requires-in-Downward
 selected-number_within-requires-in-Downward g t c =
-    subst (λ x. IsNumbered 1 64 (g.E.Env.names c.args.env.now) (view.expr x)) (sym c.deref-in-Downward.ensures) (moving_is (draft c.args.builder.now).design (g.E.Env.names c.args.env.now) c.args.needed false (view.name c.args.name.now) c.in-Slice.bracket tree.Downward (view.expr c.in-Slice.left.value) (view.expr c.in-Slice.right.value) (λ declared. refl) (subst (λ k. IsSelectable (draft c.args.builder.now).design (g.E.Env.names c.args.env.now) c.args.needed (view.name c.args.name.now) (tree.Slice c.in-Slice.bracket (view.slice_kind k) (view.expr c.in-Slice.left.value) (view.expr c.in-Slice.right.value))) c.in-Downward.is (subst (λ x. IsSelectable (draft c.args.builder.now).design (g.E.Env.names c.args.env.now) c.args.needed (view.name c.args.name.now) (view.select x)) c.in-Slice.is c.requires))).width
+    subst (λ x. IsNumbered 1 64 (g.E.Env.names c.args.env.now) (view.expr x)) (sym c.deref-in-Downward.ensures) (moving_is (draft c.args.builder.now).design (g.E.Env.names c.args.env.now) c.args.fixed c.args.needed false (view.name c.args.name.now) c.in-Slice.bracket tree.Downward (view.expr c.in-Slice.left.value) (view.expr c.in-Slice.right.value) (λ declared. refl) (subst (λ k. IsSelectable (draft c.args.builder.now).design (g.E.Env.names c.args.env.now) c.args.fixed c.args.needed (view.name c.args.name.now) (tree.Slice c.in-Slice.bracket (view.slice_kind k) (view.expr c.in-Slice.left.value) (view.expr c.in-Slice.right.value))) c.in-Downward.is (subst (λ x. IsSelectable (draft c.args.builder.now).design (g.E.Env.names c.args.env.now) c.args.fixed c.args.needed (view.name c.args.name.now) (view.select x)) c.in-Slice.is c.requires))).width
 
 pub selected-operand-requires-in-Downward : goal.selected-operand-requires-in-Downward
 selected-operand-requires-in-Downward g t c κs within =
-    (search (rules, the_lemmas), (within, child (draft c.args.builder.now).design (g.E.Env.names c.args.env.now) c.args.needed c.deref-in-Downward-2.result.now c.in-Slice.left.value c.deref-in-Downward-2.ensures (moving_is (draft c.args.builder.now).design (g.E.Env.names c.args.env.now) c.args.needed false (view.name c.args.name.now) c.in-Slice.bracket tree.Downward (view.expr c.in-Slice.left.value) (view.expr c.in-Slice.right.value) (λ declared. refl) (subst (λ k. IsSelectable (draft c.args.builder.now).design (g.E.Env.names c.args.env.now) c.args.needed (view.name c.args.name.now) (tree.Slice c.in-Slice.bracket (view.slice_kind k) (view.expr c.in-Slice.left.value) (view.expr c.in-Slice.right.value))) c.in-Downward.is (subst (λ x. IsSelectable (draft c.args.builder.now).design (g.E.Env.names c.args.env.now) c.args.needed (view.name c.args.name.now) (view.select x)) c.in-Slice.is c.requires))).index))
+    (search (rules, the_lemmas), (within, child (draft c.args.builder.now).design (g.E.Env.names c.args.env.now) c.args.needed c.deref-in-Downward-2.result.now c.in-Slice.left.value c.deref-in-Downward-2.ensures (moving_is (draft c.args.builder.now).design (g.E.Env.names c.args.env.now) c.args.fixed c.args.needed false (view.name c.args.name.now) c.in-Slice.bracket tree.Downward (view.expr c.in-Slice.left.value) (view.expr c.in-Slice.right.value) (λ declared. refl) (subst (λ k. IsSelectable (draft c.args.builder.now).design (g.E.Env.names c.args.env.now) c.args.fixed c.args.needed (view.name c.args.name.now) (tree.Slice c.in-Slice.bracket (view.slice_kind k) (view.expr c.in-Slice.left.value) (view.expr c.in-Slice.right.value))) c.in-Downward.is (subst (λ x. IsSelectable (draft c.args.builder.now).design (g.E.Env.names c.args.env.now) c.args.fixed c.args.needed (view.name c.args.name.now) (view.select x)) c.in-Slice.is c.requires))).index))
 
 pub selected-part-requires-in-Downward : goal.selected-part-requires-in-Downward
 selected-part-requires-in-Downward g t c =
-    select_ends (draft c.args.builder.now).design (g.E.Env.names c.args.env.now) c.args.needed (view.name c.args.name.now) (tree.Slice c.in-Slice.bracket tree.Downward (view.expr c.in-Slice.left.value) (view.expr c.in-Slice.right.value)) false c.in_ok-width-in-Downward.width (typed (view.expr c.in-Slice.left.value) (g.E.Env.names c.args.env.now) c.args.needed).expression (draft c.args.builder.now) (draft c.operand-in-Downward.new.builder) (draft c.source-in-Downward.new.builder) (1 + expr_depth (view.expr c.in-Slice.left.value)) c.in_ok-range-in-Downward.range (moving_taken (draft c.args.builder.now).design (g.E.Env.names c.args.env.now) c.args.needed false (view.name c.args.name.now) c.in-Slice.bracket tree.Downward (view.expr c.in-Slice.left.value) (view.expr c.in-Slice.right.value) c.in_ok-width-in-Downward.width (λ declared. refl) (subst (λ k. IsSelectable (draft c.args.builder.now).design (g.E.Env.names c.args.env.now) c.args.needed (view.name c.args.name.now) (tree.Slice c.in-Slice.bracket (view.slice_kind k) (view.expr c.in-Slice.left.value) (view.expr c.in-Slice.right.value))) c.in-Downward.is (subst (λ x. IsSelectable (draft c.args.builder.now).design (g.E.Env.names c.args.env.now) c.args.needed (view.name c.args.name.now) (view.select x)) c.in-Slice.is c.requires)) (subst (λ x. (natural 1 64 (expr_place (view.expr x)) (constant (view.expr x) (g.E.Env.names c.args.env.now))).number ≡ Some c.in_ok-width-in-Downward.width) c.deref-in-Downward.ensures c.in_ok-width-in-Downward.ensures)) refl (subst (λ x. AddsExpression (draft c.args.builder.now) (draft c.operand-in-Downward.new.builder) (typed (view.expr x) (g.E.Env.names c.args.env.now) c.args.needed).expression (1 + expr_depth (view.expr x))) c.deref-in-Downward-2.ensures c.in_ok-operand-in-Downward.ensures) (omega (arith, (moving_is (draft c.args.builder.now).design (g.E.Env.names c.args.env.now) c.args.needed false (view.name c.args.name.now) c.in-Slice.bracket tree.Downward (view.expr c.in-Slice.left.value) (view.expr c.in-Slice.right.value) (λ declared. refl) (subst (λ k. IsSelectable (draft c.args.builder.now).design (g.E.Env.names c.args.env.now) c.args.needed (view.name c.args.name.now) (tree.Slice c.in-Slice.bracket (view.slice_kind k) (view.expr c.in-Slice.left.value) (view.expr c.in-Slice.right.value))) c.in-Downward.is (subst (λ x. IsSelectable (draft c.args.builder.now).design (g.E.Env.names c.args.env.now) c.args.needed (view.name c.args.name.now) (view.select x)) c.in-Slice.is c.requires))).index.shallow)) c.in_ok-range-in-Downward.ensures
+    select_ends (draft c.args.builder.now).design (g.E.Env.names c.args.env.now) c.args.fixed c.args.needed (view.name c.args.name.now) (tree.Slice c.in-Slice.bracket tree.Downward (view.expr c.in-Slice.left.value) (view.expr c.in-Slice.right.value)) false c.in_ok-width-in-Downward.width (typed (view.expr c.in-Slice.left.value) (g.E.Env.names c.args.env.now) c.args.needed).expression (draft c.args.builder.now) (draft c.operand-in-Downward.new.builder) (draft c.source-in-Downward.new.builder) (1 + expr_depth (view.expr c.in-Slice.left.value)) c.in_ok-range-in-Downward.range (moving_taken (draft c.args.builder.now).design (g.E.Env.names c.args.env.now) c.args.fixed c.args.needed false (view.name c.args.name.now) c.in-Slice.bracket tree.Downward (view.expr c.in-Slice.left.value) (view.expr c.in-Slice.right.value) c.in_ok-width-in-Downward.width (λ declared. refl) (subst (λ k. IsSelectable (draft c.args.builder.now).design (g.E.Env.names c.args.env.now) c.args.fixed c.args.needed (view.name c.args.name.now) (tree.Slice c.in-Slice.bracket (view.slice_kind k) (view.expr c.in-Slice.left.value) (view.expr c.in-Slice.right.value))) c.in-Downward.is (subst (λ x. IsSelectable (draft c.args.builder.now).design (g.E.Env.names c.args.env.now) c.args.fixed c.args.needed (view.name c.args.name.now) (view.select x)) c.in-Slice.is c.requires)) (subst (λ x. (natural 1 64 (expr_place (view.expr x)) (constant (view.expr x) (g.E.Env.names c.args.env.now))).number ≡ Some c.in_ok-width-in-Downward.width) c.deref-in-Downward.ensures c.in_ok-width-in-Downward.ensures)) refl (subst (λ x. AddsExpression (draft c.args.builder.now) (draft c.operand-in-Downward.new.builder) (typed (view.expr x) (g.E.Env.names c.args.env.now) c.args.needed).expression (1 + expr_depth (view.expr x))) c.deref-in-Downward-2.ensures c.in_ok-operand-in-Downward.ensures) (omega (arith, (moving_is (draft c.args.builder.now).design (g.E.Env.names c.args.env.now) c.args.fixed c.args.needed false (view.name c.args.name.now) c.in-Slice.bracket tree.Downward (view.expr c.in-Slice.left.value) (view.expr c.in-Slice.right.value) (λ declared. refl) (subst (λ k. IsSelectable (draft c.args.builder.now).design (g.E.Env.names c.args.env.now) c.args.fixed c.args.needed (view.name c.args.name.now) (tree.Slice c.in-Slice.bracket (view.slice_kind k) (view.expr c.in-Slice.left.value) (view.expr c.in-Slice.right.value))) c.in-Downward.is (subst (λ x. IsSelectable (draft c.args.builder.now).design (g.E.Env.names c.args.env.now) c.args.fixed c.args.needed (view.name c.args.name.now) (view.select x)) c.in-Slice.is c.requires))).index.shallow)) c.in_ok-range-in-Downward.ensures
 
 pub selected-returns-in_ok-range-in-Downward : goal.selected-returns-in_ok-range-in-Downward
 selected-returns-in_ok-range-in-Downward g t c =
-    subst (λ x. OnOk c.part-in-Downward.result (AddsExpression (draft c.args.builder.now) (draft c.part-in-Downward.new.self) (begins_at c.args.at (selected (view.select x) (view.name c.args.name.now) (g.E.Env.names c.args.env.now) c.args.needed).expression) (1 + select_depth (view.select x)))) (sym c.in-Slice.is)
-    (subst (λ k. OnOk c.part-in-Downward.result (AddsExpression (draft c.args.builder.now) (draft c.part-in-Downward.new.self) (begins_at c.args.at (selected (tree.Slice c.in-Slice.bracket (view.slice_kind k) (view.expr c.in-Slice.left.value) (view.expr c.in-Slice.right.value)) (view.name c.args.name.now) (g.E.Env.names c.args.env.now) c.args.needed).expression) (1 + (1 + max (expr_depth (view.expr c.in-Slice.left.value)) (expr_depth (view.expr c.in-Slice.right.value)))))) (sym c.in-Downward.is)
-    (select_arm c.part-in-Downward.result (draft c.args.builder.now).design (g.E.Env.names c.args.env.now) c.args.needed (view.name c.args.name.now) (tree.Slice c.in-Slice.bracket tree.Downward (view.expr c.in-Slice.left.value) (view.expr c.in-Slice.right.value)) false c.in_ok-width-in-Downward.width (typed (view.expr c.in-Slice.left.value) (g.E.Env.names c.args.env.now) c.args.needed).expression (draft c.args.builder.now) (draft c.operand-in-Downward.new.builder) (draft c.source-in-Downward.new.builder) (draft c.part-in-Downward.new.self) (1 + expr_depth (view.expr c.in-Slice.left.value)) c.args.at (1 + (1 + max (expr_depth (view.expr c.in-Slice.left.value)) (expr_depth (view.expr c.in-Slice.right.value)))) c.in_ok-range-in-Downward.range (moving_taken (draft c.args.builder.now).design (g.E.Env.names c.args.env.now) c.args.needed false (view.name c.args.name.now) c.in-Slice.bracket tree.Downward (view.expr c.in-Slice.left.value) (view.expr c.in-Slice.right.value) c.in_ok-width-in-Downward.width (λ declared. refl) (subst (λ k. IsSelectable (draft c.args.builder.now).design (g.E.Env.names c.args.env.now) c.args.needed (view.name c.args.name.now) (tree.Slice c.in-Slice.bracket (view.slice_kind k) (view.expr c.in-Slice.left.value) (view.expr c.in-Slice.right.value))) c.in-Downward.is (subst (λ x. IsSelectable (draft c.args.builder.now).design (g.E.Env.names c.args.env.now) c.args.needed (view.name c.args.name.now) (view.select x)) c.in-Slice.is c.requires)) (subst (λ x. (natural 1 64 (expr_place (view.expr x)) (constant (view.expr x) (g.E.Env.names c.args.env.now))).number ≡ Some c.in_ok-width-in-Downward.width) c.deref-in-Downward.ensures c.in_ok-width-in-Downward.ensures)) (subst (λ x. AddsExpression (draft c.args.builder.now) (draft c.operand-in-Downward.new.builder) (typed (view.expr x) (g.E.Env.names c.args.env.now) c.args.needed).expression (1 + expr_depth (view.expr x))) c.deref-in-Downward-2.ensures c.in_ok-operand-in-Downward.ensures) c.in_ok-range-in-Downward.ensures c.part-in-Downward.ensures (omega arith)))
+    subst (λ x. OnOk c.part-in-Downward.result (AddsExpression (draft c.args.builder.now) (draft c.part-in-Downward.new.self) (begins_at c.args.at (selected_by (view.select x) (view.name c.args.name.now) (g.E.Env.names c.args.env.now) c.args.fixed c.args.needed).expression) (1 + select_depth (view.select x)))) (sym c.in-Slice.is)
+    (subst (λ k. OnOk c.part-in-Downward.result (AddsExpression (draft c.args.builder.now) (draft c.part-in-Downward.new.self) (begins_at c.args.at (selected_by (tree.Slice c.in-Slice.bracket (view.slice_kind k) (view.expr c.in-Slice.left.value) (view.expr c.in-Slice.right.value)) (view.name c.args.name.now) (g.E.Env.names c.args.env.now) c.args.fixed c.args.needed).expression) (1 + (1 + max (expr_depth (view.expr c.in-Slice.left.value)) (expr_depth (view.expr c.in-Slice.right.value)))))) (sym c.in-Downward.is)
+    (select_arm c.part-in-Downward.result (draft c.args.builder.now).design (g.E.Env.names c.args.env.now) c.args.fixed c.args.needed (view.name c.args.name.now) (tree.Slice c.in-Slice.bracket tree.Downward (view.expr c.in-Slice.left.value) (view.expr c.in-Slice.right.value)) false c.in_ok-width-in-Downward.width (typed (view.expr c.in-Slice.left.value) (g.E.Env.names c.args.env.now) c.args.needed).expression (draft c.args.builder.now) (draft c.operand-in-Downward.new.builder) (draft c.source-in-Downward.new.builder) (draft c.part-in-Downward.new.self) (1 + expr_depth (view.expr c.in-Slice.left.value)) c.args.at (1 + (1 + max (expr_depth (view.expr c.in-Slice.left.value)) (expr_depth (view.expr c.in-Slice.right.value)))) c.in_ok-range-in-Downward.range (moving_taken (draft c.args.builder.now).design (g.E.Env.names c.args.env.now) c.args.fixed c.args.needed false (view.name c.args.name.now) c.in-Slice.bracket tree.Downward (view.expr c.in-Slice.left.value) (view.expr c.in-Slice.right.value) c.in_ok-width-in-Downward.width (λ declared. refl) (subst (λ k. IsSelectable (draft c.args.builder.now).design (g.E.Env.names c.args.env.now) c.args.fixed c.args.needed (view.name c.args.name.now) (tree.Slice c.in-Slice.bracket (view.slice_kind k) (view.expr c.in-Slice.left.value) (view.expr c.in-Slice.right.value))) c.in-Downward.is (subst (λ x. IsSelectable (draft c.args.builder.now).design (g.E.Env.names c.args.env.now) c.args.fixed c.args.needed (view.name c.args.name.now) (view.select x)) c.in-Slice.is c.requires)) (subst (λ x. (natural 1 64 (expr_place (view.expr x)) (constant (view.expr x) (g.E.Env.names c.args.env.now))).number ≡ Some c.in_ok-width-in-Downward.width) c.deref-in-Downward.ensures c.in_ok-width-in-Downward.ensures)) (subst (λ x. AddsExpression (draft c.args.builder.now) (draft c.operand-in-Downward.new.builder) (typed (view.expr x) (g.E.Env.names c.args.env.now) c.args.needed).expression (1 + expr_depth (view.expr x))) c.deref-in-Downward-2.ensures c.in_ok-operand-in-Downward.ensures) c.in_ok-range-in-Downward.ensures c.part-in-Downward.ensures (omega arith)))
 
 pub selected-bounds_of-requires : goal.selected-bounds_of-requires
 selected-bounds_of-requires g t c =
-    subst (λ x. AreBounds (g.E.Env.names c.args.env.now) (view.expr x) (view.expr c.deref-in-Between-2.result.now)) (sym c.deref-in-Between.ensures) (subst (λ x. AreBounds (g.E.Env.names c.args.env.now) (view.expr c.in-Slice.left.value) (view.expr x)) (sym c.deref-in-Between-2.ensures) (between_is (draft c.args.builder.now).design (g.E.Env.names c.args.env.now) c.args.needed (view.name c.args.name.now) c.in-Slice.bracket (view.expr c.in-Slice.left.value) (view.expr c.in-Slice.right.value) (subst (λ k. IsSelectable (draft c.args.builder.now).design (g.E.Env.names c.args.env.now) c.args.needed (view.name c.args.name.now) (tree.Slice c.in-Slice.bracket (view.slice_kind k) (view.expr c.in-Slice.left.value) (view.expr c.in-Slice.right.value))) c.in-Between.is (subst (λ x. IsSelectable (draft c.args.builder.now).design (g.E.Env.names c.args.env.now) c.args.needed (view.name c.args.name.now) (view.select x)) c.in-Slice.is c.requires))).bounds_are)
+    subst (λ x. AreBounds (g.E.Env.names c.args.env.now) (view.expr x) (view.expr c.deref-in-Between-2.result.now)) (sym c.deref-in-Between.ensures) (subst (λ x. AreBounds (g.E.Env.names c.args.env.now) (view.expr c.in-Slice.left.value) (view.expr x)) (sym c.deref-in-Between-2.ensures) (between_is (draft c.args.builder.now).design (g.E.Env.names c.args.env.now) c.args.fixed c.args.needed (view.name c.args.name.now) c.in-Slice.bracket (view.expr c.in-Slice.left.value) (view.expr c.in-Slice.right.value) (subst (λ k. IsSelectable (draft c.args.builder.now).design (g.E.Env.names c.args.env.now) c.args.fixed c.args.needed (view.name c.args.name.now) (tree.Slice c.in-Slice.bracket (view.slice_kind k) (view.expr c.in-Slice.left.value) (view.expr c.in-Slice.right.value))) c.in-Between.is (subst (λ x. IsSelectable (draft c.args.builder.now).design (g.E.Env.names c.args.env.now) c.args.fixed c.args.needed (view.name c.args.name.now) (view.select x)) c.in-Slice.is c.requires))).bounds_are)
 
 pub selected-source-requires-in-Between : goal.selected-source-requires-in-Between
 selected-source-requires-in-Between g t c =
-    subst (λ d. HasBits d c.args.needed c.args.name.now.place ((g.E.Env.names c.args.env.now) c.args.name.now.text)) (same_design (draft c.args.builder.now) (draft c.literal.new.self) (E.At (expr_place (view.expr c.in-Slice.left.value)) (E.Literal (bits_of 32 (min c.in_ok-bounds-in-Between.bounds.left c.in_ok-bounds-in-Between.bounds.right)) true true)) 1 (subst (λ p. AddsExpression (draft c.args.builder.now) (draft c.literal.new.self) (E.At p (E.Literal (bits_of 32 (min c.in_ok-bounds-in-Between.bounds.left c.in_ok-bounds-in-Between.bounds.right)) true true)) 1) (c.place_of.ensures ∙ ap (λ x. expr_place (view.expr x)) c.deref-in-Between-3.ensures) (subst (λ z. AddsExpression (draft c.args.builder.now) (draft c.literal.new.self) (E.At c.place_of.result (E.Literal z true true)) 1) (c.of_number.ensures ∙ ap (bits_of 32) c.lesser.ensures) c.in_ok-literal-in-Between.ensures))) (between_taken (draft c.args.builder.now).design (g.E.Env.names c.args.env.now) c.args.needed (view.name c.args.name.now) c.in-Slice.bracket (view.expr c.in-Slice.left.value) (view.expr c.in-Slice.right.value) c.in_ok-bounds-in-Between.bounds (subst (λ k. IsSelectable (draft c.args.builder.now).design (g.E.Env.names c.args.env.now) c.args.needed (view.name c.args.name.now) (tree.Slice c.in-Slice.bracket (view.slice_kind k) (view.expr c.in-Slice.left.value) (view.expr c.in-Slice.right.value))) c.in-Between.is (subst (λ x. IsSelectable (draft c.args.builder.now).design (g.E.Env.names c.args.env.now) c.args.needed (view.name c.args.name.now) (view.select x)) c.in-Slice.is c.requires)) (subst (λ x. IsRangeOf (g.E.Env.names c.args.env.now) (view.expr c.in-Slice.left.value) (view.expr x) c.in_ok-bounds-in-Between.bounds) c.deref-in-Between-2.ensures (subst (λ x. IsRangeOf (g.E.Env.names c.args.env.now) (view.expr x) (view.expr c.deref-in-Between-2.result.now) c.in_ok-bounds-in-Between.bounds) c.deref-in-Between.ensures c.in_ok-bounds-in-Between.ensures.range))).bits
+    subst (λ d. HasBits d c.args.fixed c.args.name.now.place ((g.E.Env.names c.args.env.now) c.args.name.now.text)) (same_design (draft c.args.builder.now) (draft c.literal.new.self) (E.At (expr_place (view.expr c.in-Slice.left.value)) (E.Literal (bits_of 32 (min c.in_ok-bounds-in-Between.bounds.left c.in_ok-bounds-in-Between.bounds.right)) true true)) 1 (subst (λ p. AddsExpression (draft c.args.builder.now) (draft c.literal.new.self) (E.At p (E.Literal (bits_of 32 (min c.in_ok-bounds-in-Between.bounds.left c.in_ok-bounds-in-Between.bounds.right)) true true)) 1) (c.place_of.ensures ∙ ap (λ x. expr_place (view.expr x)) c.deref-in-Between-3.ensures) (subst (λ z. AddsExpression (draft c.args.builder.now) (draft c.literal.new.self) (E.At c.place_of.result (E.Literal z true true)) 1) (c.of_number.ensures ∙ ap (bits_of 32) c.lesser.ensures) c.in_ok-literal-in-Between.ensures))) (between_taken (draft c.args.builder.now).design (g.E.Env.names c.args.env.now) c.args.fixed c.args.needed (view.name c.args.name.now) c.in-Slice.bracket (view.expr c.in-Slice.left.value) (view.expr c.in-Slice.right.value) c.in_ok-bounds-in-Between.bounds (subst (λ k. IsSelectable (draft c.args.builder.now).design (g.E.Env.names c.args.env.now) c.args.fixed c.args.needed (view.name c.args.name.now) (tree.Slice c.in-Slice.bracket (view.slice_kind k) (view.expr c.in-Slice.left.value) (view.expr c.in-Slice.right.value))) c.in-Between.is (subst (λ x. IsSelectable (draft c.args.builder.now).design (g.E.Env.names c.args.env.now) c.args.fixed c.args.needed (view.name c.args.name.now) (view.select x)) c.in-Slice.is c.requires)) (subst (λ x. IsRangeOf (g.E.Env.names c.args.env.now) (view.expr c.in-Slice.left.value) (view.expr x) c.in_ok-bounds-in-Between.bounds) c.deref-in-Between-2.ensures (subst (λ x. IsRangeOf (g.E.Env.names c.args.env.now) (view.expr x) (view.expr c.deref-in-Between-2.result.now) c.in_ok-bounds-in-Between.bounds) c.deref-in-Between.ensures c.in_ok-bounds-in-Between.ensures.range))).bits
 
 pub selected-part-requires : goal.selected-part-requires
 selected-part-requires g t c =
-    subst (λ n. EndsInSelect (record { range = c.in_ok-range-in-Between.range; up = true; width = n }) (draft c.source-in-Between.new.builder)) (sym c.range_length.ensures) (select_ends (draft c.args.builder.now).design (g.E.Env.names c.args.env.now) c.args.needed (view.name c.args.name.now) (tree.Slice c.in-Slice.bracket tree.Between (view.expr c.in-Slice.left.value) (view.expr c.in-Slice.right.value)) true (range_length c.in_ok-bounds-in-Between.bounds) (E.At (expr_place (view.expr c.in-Slice.left.value)) (E.Literal (bits_of 32 (min c.in_ok-bounds-in-Between.bounds.left c.in_ok-bounds-in-Between.bounds.right)) true true)) (draft c.args.builder.now) (draft c.literal.new.self) (draft c.source-in-Between.new.builder) 1 c.in_ok-range-in-Between.range (between_taken (draft c.args.builder.now).design (g.E.Env.names c.args.env.now) c.args.needed (view.name c.args.name.now) c.in-Slice.bracket (view.expr c.in-Slice.left.value) (view.expr c.in-Slice.right.value) c.in_ok-bounds-in-Between.bounds (subst (λ k. IsSelectable (draft c.args.builder.now).design (g.E.Env.names c.args.env.now) c.args.needed (view.name c.args.name.now) (tree.Slice c.in-Slice.bracket (view.slice_kind k) (view.expr c.in-Slice.left.value) (view.expr c.in-Slice.right.value))) c.in-Between.is (subst (λ x. IsSelectable (draft c.args.builder.now).design (g.E.Env.names c.args.env.now) c.args.needed (view.name c.args.name.now) (view.select x)) c.in-Slice.is c.requires)) (subst (λ x. IsRangeOf (g.E.Env.names c.args.env.now) (view.expr c.in-Slice.left.value) (view.expr x) c.in_ok-bounds-in-Between.bounds) c.deref-in-Between-2.ensures (subst (λ x. IsRangeOf (g.E.Env.names c.args.env.now) (view.expr x) (view.expr c.deref-in-Between-2.result.now) c.in_ok-bounds-in-Between.bounds) c.deref-in-Between.ensures c.in_ok-bounds-in-Between.ensures.range))) refl (subst (λ p. AddsExpression (draft c.args.builder.now) (draft c.literal.new.self) (E.At p (E.Literal (bits_of 32 (min c.in_ok-bounds-in-Between.bounds.left c.in_ok-bounds-in-Between.bounds.right)) true true)) 1) (c.place_of.ensures ∙ ap (λ x. expr_place (view.expr x)) c.deref-in-Between-3.ensures) (subst (λ z. AddsExpression (draft c.args.builder.now) (draft c.literal.new.self) (E.At c.place_of.result (E.Literal z true true)) 1) (c.of_number.ensures ∙ ap (bits_of 32) c.lesser.ensures) c.in_ok-literal-in-Between.ensures)) (omega arith) c.in_ok-range-in-Between.ensures)
+    subst (λ n. EndsInSelect (record { range = c.in_ok-range-in-Between.range; up = true; width = n }) (draft c.source-in-Between.new.builder)) (sym c.range_length.ensures) (select_ends (draft c.args.builder.now).design (g.E.Env.names c.args.env.now) c.args.fixed c.args.needed (view.name c.args.name.now) (tree.Slice c.in-Slice.bracket tree.Between (view.expr c.in-Slice.left.value) (view.expr c.in-Slice.right.value)) true (range_length c.in_ok-bounds-in-Between.bounds) (E.At (expr_place (view.expr c.in-Slice.left.value)) (E.Literal (bits_of 32 (min c.in_ok-bounds-in-Between.bounds.left c.in_ok-bounds-in-Between.bounds.right)) true true)) (draft c.args.builder.now) (draft c.literal.new.self) (draft c.source-in-Between.new.builder) 1 c.in_ok-range-in-Between.range (between_taken (draft c.args.builder.now).design (g.E.Env.names c.args.env.now) c.args.fixed c.args.needed (view.name c.args.name.now) c.in-Slice.bracket (view.expr c.in-Slice.left.value) (view.expr c.in-Slice.right.value) c.in_ok-bounds-in-Between.bounds (subst (λ k. IsSelectable (draft c.args.builder.now).design (g.E.Env.names c.args.env.now) c.args.fixed c.args.needed (view.name c.args.name.now) (tree.Slice c.in-Slice.bracket (view.slice_kind k) (view.expr c.in-Slice.left.value) (view.expr c.in-Slice.right.value))) c.in-Between.is (subst (λ x. IsSelectable (draft c.args.builder.now).design (g.E.Env.names c.args.env.now) c.args.fixed c.args.needed (view.name c.args.name.now) (view.select x)) c.in-Slice.is c.requires)) (subst (λ x. IsRangeOf (g.E.Env.names c.args.env.now) (view.expr c.in-Slice.left.value) (view.expr x) c.in_ok-bounds-in-Between.bounds) c.deref-in-Between-2.ensures (subst (λ x. IsRangeOf (g.E.Env.names c.args.env.now) (view.expr x) (view.expr c.deref-in-Between-2.result.now) c.in_ok-bounds-in-Between.bounds) c.deref-in-Between.ensures c.in_ok-bounds-in-Between.ensures.range))) refl (subst (λ p. AddsExpression (draft c.args.builder.now) (draft c.literal.new.self) (E.At p (E.Literal (bits_of 32 (min c.in_ok-bounds-in-Between.bounds.left c.in_ok-bounds-in-Between.bounds.right)) true true)) 1) (c.place_of.ensures ∙ ap (λ x. expr_place (view.expr x)) c.deref-in-Between-3.ensures) (subst (λ z. AddsExpression (draft c.args.builder.now) (draft c.literal.new.self) (E.At c.place_of.result (E.Literal z true true)) 1) (c.of_number.ensures ∙ ap (bits_of 32) c.lesser.ensures) c.in_ok-literal-in-Between.ensures)) (omega arith) c.in_ok-range-in-Between.ensures)
 
 pub selected-returns-in_ok-range-in-Between : goal.selected-returns-in_ok-range-in-Between
 selected-returns-in_ok-range-in-Between g t c =
-    subst (λ x. OnOk c.part.result (AddsExpression (draft c.args.builder.now) (draft c.part.new.self) (begins_at c.args.at (selected (view.select x) (view.name c.args.name.now) (g.E.Env.names c.args.env.now) c.args.needed).expression) (1 + select_depth (view.select x)))) (sym c.in-Slice.is)
-    (subst (λ k. OnOk c.part.result (AddsExpression (draft c.args.builder.now) (draft c.part.new.self) (begins_at c.args.at (selected (tree.Slice c.in-Slice.bracket (view.slice_kind k) (view.expr c.in-Slice.left.value) (view.expr c.in-Slice.right.value)) (view.name c.args.name.now) (g.E.Env.names c.args.env.now) c.args.needed).expression) (1 + (1 + max (expr_depth (view.expr c.in-Slice.left.value)) (expr_depth (view.expr c.in-Slice.right.value)))))) (sym c.in-Between.is)
-    (select_arm c.part.result (draft c.args.builder.now).design (g.E.Env.names c.args.env.now) c.args.needed (view.name c.args.name.now) (tree.Slice c.in-Slice.bracket tree.Between (view.expr c.in-Slice.left.value) (view.expr c.in-Slice.right.value)) true (range_length c.in_ok-bounds-in-Between.bounds) (E.At (expr_place (view.expr c.in-Slice.left.value)) (E.Literal (bits_of 32 (min c.in_ok-bounds-in-Between.bounds.left c.in_ok-bounds-in-Between.bounds.right)) true true)) (draft c.args.builder.now) (draft c.literal.new.self) (draft c.source-in-Between.new.builder) (draft c.part.new.self) 1 c.args.at (1 + (1 + max (expr_depth (view.expr c.in-Slice.left.value)) (expr_depth (view.expr c.in-Slice.right.value)))) c.in_ok-range-in-Between.range (between_taken (draft c.args.builder.now).design (g.E.Env.names c.args.env.now) c.args.needed (view.name c.args.name.now) c.in-Slice.bracket (view.expr c.in-Slice.left.value) (view.expr c.in-Slice.right.value) c.in_ok-bounds-in-Between.bounds (subst (λ k. IsSelectable (draft c.args.builder.now).design (g.E.Env.names c.args.env.now) c.args.needed (view.name c.args.name.now) (tree.Slice c.in-Slice.bracket (view.slice_kind k) (view.expr c.in-Slice.left.value) (view.expr c.in-Slice.right.value))) c.in-Between.is (subst (λ x. IsSelectable (draft c.args.builder.now).design (g.E.Env.names c.args.env.now) c.args.needed (view.name c.args.name.now) (view.select x)) c.in-Slice.is c.requires)) (subst (λ x. IsRangeOf (g.E.Env.names c.args.env.now) (view.expr c.in-Slice.left.value) (view.expr x) c.in_ok-bounds-in-Between.bounds) c.deref-in-Between-2.ensures (subst (λ x. IsRangeOf (g.E.Env.names c.args.env.now) (view.expr x) (view.expr c.deref-in-Between-2.result.now) c.in_ok-bounds-in-Between.bounds) c.deref-in-Between.ensures c.in_ok-bounds-in-Between.ensures.range))) (subst (λ p. AddsExpression (draft c.args.builder.now) (draft c.literal.new.self) (E.At p (E.Literal (bits_of 32 (min c.in_ok-bounds-in-Between.bounds.left c.in_ok-bounds-in-Between.bounds.right)) true true)) 1) (c.place_of.ensures ∙ ap (λ x. expr_place (view.expr x)) c.deref-in-Between-3.ensures) (subst (λ z. AddsExpression (draft c.args.builder.now) (draft c.literal.new.self) (E.At c.place_of.result (E.Literal z true true)) 1) (c.of_number.ensures ∙ ap (bits_of 32) c.lesser.ensures) c.in_ok-literal-in-Between.ensures)) c.in_ok-range-in-Between.ensures (subst (λ n. (p k : Draft) (t u : E.Expression) (x y : ℕ) → AddsExpression p k t x → AddsExpression k (draft c.source-in-Between.new.builder) u y → OnOk c.part.result (AddsExpression p (draft c.part.new.self) (E.At c.args.at (E.Select (source_of u) (record { range = c.in_ok-range-in-Between.range; up = true; width = n }) t)) (1 + max x y))) c.range_length.ensures c.part.ensures) (omega arith)))
+    subst (λ x. OnOk c.part.result (AddsExpression (draft c.args.builder.now) (draft c.part.new.self) (begins_at c.args.at (selected_by (view.select x) (view.name c.args.name.now) (g.E.Env.names c.args.env.now) c.args.fixed c.args.needed).expression) (1 + select_depth (view.select x)))) (sym c.in-Slice.is)
+    (subst (λ k. OnOk c.part.result (AddsExpression (draft c.args.builder.now) (draft c.part.new.self) (begins_at c.args.at (selected_by (tree.Slice c.in-Slice.bracket (view.slice_kind k) (view.expr c.in-Slice.left.value) (view.expr c.in-Slice.right.value)) (view.name c.args.name.now) (g.E.Env.names c.args.env.now) c.args.fixed c.args.needed).expression) (1 + (1 + max (expr_depth (view.expr c.in-Slice.left.value)) (expr_depth (view.expr c.in-Slice.right.value)))))) (sym c.in-Between.is)
+    (select_arm c.part.result (draft c.args.builder.now).design (g.E.Env.names c.args.env.now) c.args.fixed c.args.needed (view.name c.args.name.now) (tree.Slice c.in-Slice.bracket tree.Between (view.expr c.in-Slice.left.value) (view.expr c.in-Slice.right.value)) true (range_length c.in_ok-bounds-in-Between.bounds) (E.At (expr_place (view.expr c.in-Slice.left.value)) (E.Literal (bits_of 32 (min c.in_ok-bounds-in-Between.bounds.left c.in_ok-bounds-in-Between.bounds.right)) true true)) (draft c.args.builder.now) (draft c.literal.new.self) (draft c.source-in-Between.new.builder) (draft c.part.new.self) 1 c.args.at (1 + (1 + max (expr_depth (view.expr c.in-Slice.left.value)) (expr_depth (view.expr c.in-Slice.right.value)))) c.in_ok-range-in-Between.range (between_taken (draft c.args.builder.now).design (g.E.Env.names c.args.env.now) c.args.fixed c.args.needed (view.name c.args.name.now) c.in-Slice.bracket (view.expr c.in-Slice.left.value) (view.expr c.in-Slice.right.value) c.in_ok-bounds-in-Between.bounds (subst (λ k. IsSelectable (draft c.args.builder.now).design (g.E.Env.names c.args.env.now) c.args.fixed c.args.needed (view.name c.args.name.now) (tree.Slice c.in-Slice.bracket (view.slice_kind k) (view.expr c.in-Slice.left.value) (view.expr c.in-Slice.right.value))) c.in-Between.is (subst (λ x. IsSelectable (draft c.args.builder.now).design (g.E.Env.names c.args.env.now) c.args.fixed c.args.needed (view.name c.args.name.now) (view.select x)) c.in-Slice.is c.requires)) (subst (λ x. IsRangeOf (g.E.Env.names c.args.env.now) (view.expr c.in-Slice.left.value) (view.expr x) c.in_ok-bounds-in-Between.bounds) c.deref-in-Between-2.ensures (subst (λ x. IsRangeOf (g.E.Env.names c.args.env.now) (view.expr x) (view.expr c.deref-in-Between-2.result.now) c.in_ok-bounds-in-Between.bounds) c.deref-in-Between.ensures c.in_ok-bounds-in-Between.ensures.range))) (subst (λ p. AddsExpression (draft c.args.builder.now) (draft c.literal.new.self) (E.At p (E.Literal (bits_of 32 (min c.in_ok-bounds-in-Between.bounds.left c.in_ok-bounds-in-Between.bounds.right)) true true)) 1) (c.place_of.ensures ∙ ap (λ x. expr_place (view.expr x)) c.deref-in-Between-3.ensures) (subst (λ z. AddsExpression (draft c.args.builder.now) (draft c.literal.new.self) (E.At c.place_of.result (E.Literal z true true)) 1) (c.of_number.ensures ∙ ap (bits_of 32) c.lesser.ensures) c.in_ok-literal-in-Between.ensures)) c.in_ok-range-in-Between.ensures (subst (λ n. (p k : Draft) (t u : E.Expression) (x y : ℕ) → AddsExpression p k t x → AddsExpression k (draft c.source-in-Between.new.builder) u y → OnOk c.part.result (AddsExpression p (draft c.part.new.self) (E.At c.args.at (E.Select (source_of u) (record { range = c.in_ok-range-in-Between.range; up = true; width = n }) t)) (1 + max x y))) c.range_length.ensures c.part.ensures) (omega arith)))
