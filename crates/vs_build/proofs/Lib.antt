@@ -12,3 +12,5 @@ mod Planes
 pub mod Lists
 pub mod Selects
 pub mod Whole
+pub mod TargetFacts
+pub mod AssignFacts

@@ -1,3 +1,4 @@
 pub mod Drafts
 pub mod Growth
 pub mod Buildable
+pub mod Writable

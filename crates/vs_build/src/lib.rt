@@ -1,10 +1,12 @@
 //! Trees of the text as nodes of the flat design (IEEE 1364-2005, clauses 5, 6 and 9).
 #![tactic(auto)]
 
+mod assigns;
 mod builder;
 mod expressions;
 mod names;
 mod operators;
+mod targets;
 
+pub use assigns::{assign, input_port, wire};
 pub use builder::Builder;
-pub use expressions::operand;
