@@ -1,5 +1,5 @@
 -- The arms of the recursion over an expression.
-use Rattle.std.proofs.Common.{◌≡◌, ℕ, suc, ◌+◌, ◌≤◌, Bool, true, false, List, [], ◌∷◌, ◌++◌, max, Result, Ok, Err, OnOk, refl, sym, ap, ◌∙◌, subst, arith}
+use Rattle.std.proofs.Common.{◌≡◌, ℕ, ◌+◌, ◌≤◌, Bool, true, [], ◌∷◌, max, Result, Ok, Err, OnOk, refl, sym, ap, subst, arith}
 use Rattle.vs_design.specs.Expressions as E
 use Rattle.vs_design.specs.Expressions.{Expression}
 use Rattle.vs_design.specs.Designs.{Design}
@@ -11,13 +11,12 @@ use Rattle.vs_flat.specs.Operators.{unary_of, binary_of}
 use Rattle.vs_grammar.specs.Depths.{expr_depth}
 use Rattle.vs_grammar.specs.Trees as tree
 use Rattle.vs_grammar.specs.Trees.{expr_place}
-use Rattle.vs_const.specs.Faults.{fault_if}
 use Rattle.vs_const.specs.Meanings.{Find}
 use Rattle.vs_const.specs.Operators.{unary_op, binary_op}
 use Rattle.vs_const.specs.Typed.{Typed, begins_at, noted, unary_typed, binary_typed, choice_typed}
 use Rattle.vs_const.specs.Expressions.{typed, selected, typed_parts, replication_typed, call_typed, argument_needed}
 use Rattle.vs_const.proofs.Formed.{both_nil}
-use Rattle.vs_build.specs.Drafts.{Root, Draft, and_root, and_roots, most_levels, EndsWith, AddsExpression}
+use Rattle.vs_build.specs.Drafts.{Draft, EndsWith, AddsExpression}
 use Rattle.vs_build.specs.Buildable.{IsBuildable}
 use Rattle.vs_build.proofs.Steps.{added_two, added_three}
 

@@ -1,23 +1,22 @@
 -- Assigns: their target, and then their expression.
-use Rattle.std.proofs.Common.{◌≡◌, ℕ, ◌+◌, ◌<◌, ◌≤◌, ◌^◌, Bool, true, false, List, [], ◌∷◌, ◌++◌, length, Option, Some, None, unwrap_or, Result, OnOk, refl, sym, ap, ◌∙◌, subst, arith}
+use Rattle.std.proofs.Common.{◌≡◌, ℕ, ◌<◌, ◌^◌, true, false, [], length, None, unwrap_or, Result, OnOk, refl, ap, ◌∙◌, subst, arith}
 use Rattle.std.specs.Prelude.{is_some}
 use Rattle.vs_design.specs.Expressions as E
 use Rattle.vs_design.specs.Expressions.{Expression}
-use Rattle.vs_design.specs.Statements.{Target, Whole}
-use Rattle.vs_design.specs.Designs.{Design, Written, InputPort, Port as PortOf, Process, Continuous}
+use Rattle.vs_design.specs.Statements.{Whole}
+use Rattle.vs_design.specs.Designs.{Design, Written, Continuous}
 use Rattle.vs_grammar.specs.Trees as tree
 use Rattle.vs_grammar.specs.Trees.{target_place}
-use Rattle.vs_grammar.specs.Depths.{expr_depth, target_depth}
 use Rattle.vs_const.specs.Meanings.{Find}
 use Rattle.vs_const.specs.Expressions.{typed}
 use Rattle.vs_const.proofs.Formed.{both_nil}
 use Rattle.vs_flat.specs.declared.processes.Port.TheVariants as P
-use Rattle.vs_flat.specs.Targets.{target_of, place_of}
+use Rattle.vs_flat.specs.Targets.{place_of}
 use Rattle.vs_flat.specs.Trees.{target_tree}
 use Rattle.vs_hierarchy.specs.Targets.{typed_target}
-use Rattle.vs_build.specs.Drafts.{Root, Draft, and_process, EndsInAssign, AddsExpression}
+use Rattle.vs_build.specs.Drafts.{Draft, and_process, EndsInAssign, AddsExpression}
 use Rattle.vs_build.specs.Buildable.{IsBuildable, IsNameable}
-use Rattle.vs_build.specs.Writable.{target_expression, IsWritable, IsAssignable, wire_assign, assign_process, input_process}
+use Rattle.vs_build.specs.Writable.{target_expression, IsWritable, IsAssignable, wire_assign, assign_process}
 use Rattle.vs_build.proofs.Arms.{same_design}
 use Rattle.vs_build.proofs.Steps.{added_two}
 use Rattle.vs_build.proofs.TargetFacts.{written, begins_there, named_target}

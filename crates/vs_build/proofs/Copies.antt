@@ -1,10 +1,10 @@
 -- Copies of parts that differ (IEEE 1364-2005, 5.1.14).
-use Rattle.std.proofs.Common.{◌≡◌, ℕ, zero, suc, ◌+◌, ◌-◌, ◌*◌, ◌<◌, ◌≤◌, Bool, true, false, not, ◌&&◌, ◌||◌, ◌==◌, cond, nat_lt, List, [], ◌∷◌, ◌++◌, length, get_or, map, max, take, drop, Result, OnOk, refl, sym, ap, ◌∙◌, subst, arith, append_assoc, length-append, eqb-true, eq-eqb}
+use Rattle.std.proofs.Common.{◌≡◌, ℕ, zero, suc, ◌+◌, ◌-◌, ◌≤◌, Bool, true, false, not, ◌&&◌, ◌||◌, ◌==◌, cond, nat_lt, List, [], ◌∷◌, ◌++◌, length, get_or, map, max, take, drop, Result, OnOk, refl, sym, ap, ◌∙◌, subst, arith, append_assoc, eqb-true, eq-eqb}
 use Rattle.std.specs.Prelude.{nat_eq}
-use Rattle.std.specs.List.{take_while, list_all}
+use Rattle.std.specs.List.{take_while}
 use Rattle.std.specs.Cmp.Lexicographic.{pointwise}
 use Rattle.std.proofs.lemmas.Bool.{le-leb}
-use Rattle.std.proofs.lemmas.List.{map-append, take-append-drop, length-map, length-drop}
+use Rattle.std.proofs.lemmas.List.{take-append-drop, length-map, length-drop}
 use Rattle.std.proofs.lemmas.List.Folds.{list_all-append}
 use Rattle.std.proofs.lemmas.List.Sums.{take_while-cons}
 use Rattle.std.proofs.Math.Seq.{take-length}
@@ -21,7 +21,7 @@ use Rattle.vs_flat.specs.DesignOf.{arena_signals, arena_trees, design_of}
 use Rattle.vs_flat.specs.Lawful.{are_different, are_copies, deepest, node_depths}
 use Rattle.vs_flat.proofs.Agreeing.{and_both, and_true, first_below, rest_below}
 use Rattle.vs_flat.proofs.Different.{once_different}
-use Rattle.vs_build.specs.Drafts.{Root, Draft, and_roots, most_levels, EndsWith, AddsExpression, AddsParts}
+use Rattle.vs_build.specs.Drafts.{Root, Draft, most_levels, EndsWith, AddsExpression, AddsParts}
 use Rattle.vs_build.specs.Growth.{times, Growing, IsGrowing, root_at, draft_of, draft}
 use Rattle.vs_build.proofs.Counting.{by_test, times-append, times_here, times_elsewhere}
 use Rattle.vs_build.proofs.Steps.{ends_enough, parts_are, levels_are, formed_at, used_below, IsStep, IsAdded, step_adds}

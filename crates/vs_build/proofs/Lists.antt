@@ -1,5 +1,5 @@
 -- The parts of a concatenation, one after the other.
-use Rattle.std.proofs.Common.{rules, ◌≡◌, ℕ, zero, suc, ◌+◌, ◌*◌, ◌<◌, ◌≤◌, Bool, true, false, List, [], ◌∷◌, ◌++◌, length, get_or, map, max, take, Option, Some, None, Vec, Box, Global, Result, Ok, Err, OnOk, refl, sym, ap, ◌∙◌, subst, arith, append_assoc, length-append}
+use Rattle.std.proofs.Common.{rules, ◌≡◌, ℕ, zero, suc, ◌+◌, ◌*◌, ◌<◌, ◌≤◌, Bool, true, List, [], ◌∷◌, ◌++◌, length, get_or, map, max, take, Option, Some, None, Vec, Box, Global, Result, OnOk, refl, sym, ap, ◌∙◌, subst, arith, append_assoc}
 use Rattle.std.proofs.Math.Seq.{take-suc, take-length}
 use Rattle.std.proofs.lemmas.List.{map-append, length-map}
 use denote.Param.Weighed.{most, at_most}
@@ -8,7 +8,7 @@ use Rattle.vs_design.specs.Expressions.{Expression}
 use Rattle.vs_design.specs.Designs.{Design}
 use Rattle.vs_grammar.specs.Trees as tree
 use Rattle.vs_grammar.specs.Trees.{expr_place}
-use Rattle.vs_grammar.specs.Shapes.{IsExpr, AreParts}
+use Rattle.vs_grammar.specs.Shapes.{IsExpr}
 use Rattle.vs_grammar.specs.Depths.{expr_depth, exprs_depth}
 use Rattle.vs_ast.proofs.expressions.Expr.TheLaws.{the_size}
 use Rattle.vs_ast.specs.declared.expressions.Expr.{Expr, Concatenation, Replication, the_lemmas}
@@ -17,12 +17,12 @@ use Rattle.vs_ast.proofs.Rows.{expr_rows}
 use Rattle.vs_const.specs.declared.faults.Fault.{Fault}
 use Rattle.vs_const.specs.Meanings.{Meaning, AValue, Undefined, ASignal, Another, Unknown, Find, IsFair, IsFairMeaning}
 use Rattle.vs_const.specs.Typed.{Typed, begins_at, natural, copies_typed}
-use Rattle.vs_const.specs.Expressions.{constant, unsized_faults, part_typed, typed, typed_parts, replicated, replication_typed}
+use Rattle.vs_const.specs.Expressions.{constant, unsized_faults, typed, typed_parts, replicated, replication_typed}
 use Rattle.vs_const.specs.Sound.{IsSound, AreSound}
-use Rattle.vs_const.proofs.Formed.{both_nil, sound_needed, typed_fine, natural_fine, IsNumber}
-use Rattle.vs_const.proofs.Rows.{part_shaped, some_part}
+use Rattle.vs_const.proofs.Formed.{both_nil, sound_needed, typed_fine, natural_fine}
+use Rattle.vs_const.proofs.Rows.{part_shaped}
 use Rattle.vs_flat.specs.Trees.{joined}
-use Rattle.vs_build.specs.Drafts.{Root, Draft, and_root, and_roots, most_levels, EndsWith, AddsExpression, AddsParts}
+use Rattle.vs_build.specs.Drafts.{Root, Draft, and_root, most_levels, EndsWith, AddsExpression, AddsParts}
 use Rattle.vs_build.specs.Buildable.{IsBuildable, AreBuildable, IsNumbered, part_expressions}
 use Rattle.vs_build.proofs.Arms.{begins_twice, noted_clean}
 use Rattle.vs_build.proofs.Copies.{nil_end}

@@ -1,9 +1,9 @@
 -- Selects of names, and calls.
-use Rattle.std.proofs.Common.{◌≡◌, ℕ, suc, ◌+◌, ◌≤◌, Bool, true, false, not, ◌&&◌, List, [], ◌∷◌, ◌++◌, length, max, min, nat_le, Option, Some, None, Result, Ok, Err, OnOk, refl, sym, ap, ◌∙◌, subst, arith}
+use Rattle.std.proofs.Common.{◌≡◌, ℕ, ◌+◌, ◌≤◌, Bool, true, false, not, ◌&&◌, List, [], ◌∷◌, ◌++◌, max, min, nat_le, Option, Some, None, Result, OnOk, refl, sym, ap, ◌∙◌, subst, arith}
 use Rattle.std.proofs.lemmas.Bool.{leb-true}
 use Rattle.vs_four.specs.declared.Range.{Range}
 use Rattle.vs_four.specs.Numbers.{bits_of, clog2}
-use Rattle.vs_four.specs.Selects.{Part, one_bit, range_length}
+use Rattle.vs_four.specs.Selects.{Part, range_length}
 use Rattle.vs_design.specs.Expressions as E
 use Rattle.vs_design.specs.Expressions.{Expression}
 use Rattle.vs_design.specs.Values.{constant_value}
@@ -11,20 +11,18 @@ use Rattle.vs_design.specs.Designs.{Design}
 use Rattle.vs_design.specs.Elaborated.{is_formed, is_formed_select}
 use Rattle.vs_grammar.specs.Trees as tree
 use Rattle.vs_grammar.specs.Trees.{expr_place}
-use Rattle.vs_grammar.specs.Depths.{expr_depth, select_depth}
-use Rattle.vs_grammar.specs.Shapes.{IsExpr}
 use Rattle.vs_const.specs.declared.faults.Fault.{Fault}
 use Rattle.vs_const.specs.Faults.{fault, fault_if, names_signal}
 use Rattle.vs_const.specs.Meanings.{Find}
 use Rattle.vs_const.specs.Sound.{AreSound}
 use Rattle.vs_const.specs.Typed.{Typed, begins_at, noted, natural, is_over, unary_typed}
 use Rattle.vs_const.specs.Selects.{Base, base_of, Taken, taken, if_width, moving, is_against, lesser_bound, along, between, range_if, range_of, up_to_64, bounds, slice_taken, first_needed, select_if, select_typed}
-use Rattle.vs_const.specs.Expressions.{constant, typed, selected, clog2_of, clog2_typed, call_typed, argument_needed}
+use Rattle.vs_const.specs.Expressions.{constant, typed, selected, clog2_of, clog2_typed}
 use Rattle.vs_const.proofs.Formed.{both_nil, begins_same, split, sound_needed, typed_fine}
 use Rattle.vs_flat.specs.Targets.{source_of}
-use Rattle.vs_build.specs.Drafts.{Root, Draft, most_levels, EndsInSelect, AddsExpression}
+use Rattle.vs_build.specs.Drafts.{Draft, EndsInSelect, AddsExpression}
 use Rattle.vs_build.specs.Buildable.{IsBuildable, selected_by, IsSelectable, HasBits, AddsSource, IsNumbered, AreBounds, IsRangeOf, IsConstant}
-use Rattle.vs_build.proofs.Arms.{begins_twice, noted_clean, same_design, ok_up_to, up_to}
+use Rattle.vs_build.proofs.Arms.{begins_twice, noted_clean, same_design, ok_up_to}
 use Rattle.vs_build.proofs.Lists.{fair_of, number_is}
 use Rattle.vs_build.proofs.Steps.{added_two}
 

@@ -1,20 +1,17 @@
 -- A name that means a signal of the design.
-use Rattle.std.proofs.Common.{◌≡◌, ℕ, zero, suc, ◌<◌, Bool, true, false, ◌&&◌, ◌==◌, List, [], ◌∷◌, Option, Some, None, length, get_or, slice_get, OnOk, Result, refl, sym, ap, ◌∙◌, subst, arith, eqb-true}
+use Rattle.std.proofs.Common.{◌≡◌, ℕ, zero, suc, ◌<◌, Bool, true, false, ◌&&◌, ◌==◌, List, [], ◌∷◌, Option, Some, None, length, get_or, slice_get, refl, sym, ap, ◌∙◌, subst, arith, eqb-true}
 use Rattle.vs_four.specs.declared.Range.{Range}
-use Rattle.vs_four.specs.Selects.{range_length}
 use Rattle.vs_design.specs.Expressions as E
 use Rattle.vs_design.specs.Expressions.{Signal, Expression}
 use Rattle.vs_design.specs.Designs.{Design}
 use Rattle.vs_design.specs.Clocks.{same_name}
-use Rattle.vs_design.specs.Elaborated.{same_range, same_flag, same_signal, is_this, is_signal, is_formed}
+use Rattle.vs_design.specs.Elaborated.{same_range, same_flag, same_signal, is_this, is_signal}
 use Rattle.vs_const.specs.declared.names.SignalShape.{SignalShape}
-use Rattle.vs_const.specs.declared.names.Named.{Named}
 use Rattle.vs_const.specs.declared.names.Named.TheVariants as named
 use Rattle.vs_const.specs.Meanings.{SignalMeaning, Meaning, ASignal, Means}
 use Rattle.vs_const.specs.Sound.{IsSound}
 use Rattle.vs_const.specs.Typed.{begins_at}
 use Rattle.vs_const.specs.Selects.{name_typed, base_of, signal_base_of, signal_typed, known_signal}
-use Rattle.vs_flat.specs.Targets.{source_of}
 use Rattle.vs_flat.specs.Trees.{signal_at}
 use Rattle.vs_flat.proofs.Agreeing.{and_both}
 use Rattle.vs_build.specs.Drafts.{Draft, AddsExpression}

@@ -1,12 +1,12 @@
 -- Targets without a fault.
-use Rattle.std.proofs.Common.{rules, ◌≡◌, ℕ, zero, suc, ◌+◌, ◌*◌, ◌<◌, ◌≤◌, Bool, true, false, not, ◌&&◌, ◌||◌, List, [], ◌∷◌, ◌++◌, length, get_or, map, max, take, Option, Some, None, Vec, Global, Result, OnOk, refl, sym, ap, ◌∙◌, subst, arith}
+use Rattle.std.proofs.Common.{rules, ◌≡◌, ℕ, zero, suc, ◌+◌, ◌*◌, ◌<◌, ◌≤◌, Bool, true, false, not, ◌&&◌, ◌||◌, List, [], ◌∷◌, ◌++◌, length, get_or, map, take, Option, Some, Vec, Global, Result, OnOk, refl, sym, ap, ◌∙◌, subst, arith}
 use Rattle.std.proofs.Math.Seq.{take-suc, take-length}
 use Rattle.std.proofs.lemmas.List.{map-append, length-map}
 use denote.Param.Weighed.{most, at_most}
 use Rattle.vs_four.specs.declared.Range.{Range}
 use Rattle.vs_design.specs.Expressions as E
 use Rattle.vs_design.specs.Expressions.{Expression}
-use Rattle.vs_design.specs.Statements.{Target as TargetOf, Whole, PartOf, Both}
+use Rattle.vs_design.specs.Statements.{Whole, PartOf}
 use Rattle.vs_design.specs.Designs.{Design}
 use Rattle.vs_design.specs.Elaborated.{is_signal, is_formed, is_formed_select}
 use Rattle.vs_grammar.specs.Trees as tree
@@ -17,20 +17,19 @@ use Rattle.vs_ast.proofs.statements.Target.TheLaws.{the_size}
 use Rattle.vs_ast.specs.declared.statements.Target.{Target, Concatenation, the_lemmas}
 use Rattle.vs_ast.specs.Views.{target, targets}
 use Rattle.vs_ast.proofs.Rows.{target_rows}
-use Rattle.vs_const.specs.declared.faults.Fault.{Fault}
-use Rattle.vs_const.specs.Faults.{fault, fault_if}
+use Rattle.vs_const.specs.Faults.{fault_if}
 use Rattle.vs_const.specs.Meanings.{SignalMeaning, Meaning, AValue, Undefined, ASignal, Another, Unknown, Find}
-use Rattle.vs_const.specs.Sound.{IsSound, AreSound, IsFine}
+use Rattle.vs_const.specs.Sound.{IsSound, AreSound}
 use Rattle.vs_const.specs.Typed.{Typed, begins_at, fine}
-use Rattle.vs_const.specs.Selects.{Base, no_base, signal_base, signal_base_of, base_of, is_scalar, name_typed, known_signal, Taken, taken, slice_taken, first_needed, select_if, select_typed}
+use Rattle.vs_const.specs.Selects.{Base, signal_base, base_of, is_scalar, name_typed, known_signal, Taken, taken, slice_taken, first_needed, select_if, select_typed}
 use Rattle.vs_const.specs.Expressions.{typed}
-use Rattle.vs_const.proofs.Formed.{both_nil, both, no_fault, sound_needed, first_sound, IsFineBase, signal_base_fine, IsFineTaken, bit_fine, slice_fine, taken_faults, typed_fine}
+use Rattle.vs_const.proofs.Formed.{both_nil, both, no_fault, sound_needed, first_sound, signal_base_fine, IsFineTaken, bit_fine, slice_fine, taken_faults, typed_fine}
 use Rattle.vs_flat.specs.Targets.{target_of, both_of, place_of}
 use Rattle.vs_flat.specs.Trees.{joined}
-use Rattle.vs_hierarchy.specs.Targets.{meant_signal, TypedTarget, is_wrong_target, target_base, part_target, selected_target, both_targets, and_targets, typed_target, typed_targets}
-use Rattle.vs_build.specs.Drafts.{Root, Draft, EndsWith, AddsExpression, AddsParts}
+use Rattle.vs_hierarchy.specs.Targets.{meant_signal, TypedTarget, is_wrong_target, target_base, part_target, selected_target, typed_target, typed_targets}
+use Rattle.vs_build.specs.Drafts.{Draft, AddsExpression, AddsParts}
 use Rattle.vs_build.specs.Buildable.{selected_by, IsSelectable}
-use Rattle.vs_build.specs.Writable.{and_expression, target_expression, targets_expression, IsWritable, AreWritable, target_expressions}
+use Rattle.vs_build.specs.Writable.{target_expression, targets_expression, IsWritable, AreWritable, target_expressions}
 use Rattle.vs_build.proofs.Lists.{parts_design}
 
 -- ---- names

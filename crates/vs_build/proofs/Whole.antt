@@ -1,5 +1,5 @@
 -- Scopes, signals and processes, and the end.
-use Rattle.std.proofs.Common.{◌≡◌, ℕ, suc, ◌+◌, ◌-◌, ◌<◌, ◌≤◌, ◌^◌, Bool, true, ◌&&◌, nat_lt, List, [], ◌∷◌, ◌++◌, length, get_or, take, map, Result, Ok, Err, OnOk, OnErr, IfOk, refl, sym, ap, ◌∙◌, subst, arith}
+use Rattle.std.proofs.Common.{◌≡◌, ℕ, ◌+◌, ◌-◌, ◌<◌, ◌≤◌, ◌^◌, true, ◌&&◌, List, [], ◌∷◌, ◌++◌, length, get_or, take, Result, Ok, Err, OnOk, OnErr, IfOk, refl, sym, ap, ◌∙◌, subst, arith}
 use Rattle.std.proofs.lemmas.List.{length-map}
 use Rattle.vs_design.specs.Expressions as E
 use Rattle.vs_design.specs.Designs as D
@@ -14,16 +14,15 @@ use Rattle.vs_flat.specs.Operators.{port_of}
 use Rattle.vs_flat.specs.Targets.{place_of}
 use Rattle.vs_flat.specs.Trees.{tree_at, signal_of, target_tree}
 use Rattle.vs_flat.specs.DesignOf.{arena_trees, design_of, scope_of}
-use Rattle.vs_flat.specs.Lawful.{is_target, has_target}
+use Rattle.vs_flat.specs.Lawful.{is_target}
 use Rattle.vs_flat.proofs.Agreeing.{and_true}
 use Rattle.vs_flat.proofs.Counts.{signal_bits}
 use Rattle.vs_flat.proofs.Growing.{length-signals}
-use Rattle.vs_build.specs.Drafts.{Root, Draft, and_roots, and_process, and_scope, and_signal, EndsInAssign, AddsExpression}
-use Rattle.vs_build.specs.Growth.{times, Growing, IsGrowing, root_at, draft_of, draft}
-use Rattle.vs_build.proofs.Counting.{times-append}
+use Rattle.vs_build.specs.Drafts.{Root, Draft, and_process, and_scope, and_signal, EndsInAssign, AddsExpression}
+use Rattle.vs_build.specs.Growth.{Growing, IsGrowing, root_at, draft_of, draft}
 use Rattle.vs_build.proofs.Additions.{process_kept, process_draft, scope_kept, scope_draft, signal_kept, signal_draft}
 use Rattle.vs_build.proofs.Steps.{last_two, parts_are, used_below}
-use Rattle.vs_build.proofs.NodeKinds.{nil_right, two_are, AreTwo}
+use Rattle.vs_build.proofs.NodeKinds.{nil_right, two_are}
 
 head_is : (x y : Root) (xs ys : List Root) → x ∷ xs ≡ y ∷ ys → x ≡ y
 head_is x y xs ys e = cc

@@ -1,10 +1,10 @@
 -- What can be built: a tree of the text without a fault, whose names mean something in the design.
-use Rattle.std.specs.Prelude.{◌≡◌, ◌≤◌, ℕ, Bool, true, false, List, [], map, Option, Some}
+use Rattle.std.specs.Prelude.{◌≡◌, ◌≤◌, ℕ, Bool, true, List, [], map, Some}
 use Rattle.vs_four.specs.declared.Range.{Range}
 use Rattle.vs_four.specs.Selects.{range_length}
 use Rattle.vs_ast.specs.declared.expressions.Expr.{Expr}
 use Rattle.vs_ast.specs.Views.{expr}
-use Rattle.vs_design.specs.Expressions.{Source, Expression}
+use Rattle.vs_design.specs.Expressions.{Expression}
 use Rattle.vs_design.specs.Designs.{Design}
 use Rattle.vs_design.specs.Elaborated.{is_formed}
 use Rattle.vs_grammar.specs.Trees as tree
@@ -13,7 +13,7 @@ use Rattle.vs_grammar.specs.Shapes.{IsExpr, IsSelect, AreParts}
 use Rattle.vs_grammar.specs.Depths.{expr_depth, exprs_depth, select_depth}
 use Rattle.vs_const.specs.Meanings.{Meaning, Find, IsFair}
 use Rattle.vs_const.specs.Sound.{IsSound, AreSound}
-use Rattle.vs_const.specs.Typed.{Typed, Natural, natural}
+use Rattle.vs_const.specs.Typed.{Typed, natural}
 use Rattle.vs_const.specs.Selects.{name_typed, Base, base_of, taken, slice_taken, first_needed, select_typed}
 use Rattle.vs_const.specs.Expressions.{constant, typed, typed_parts}
 use Rattle.vs_flat.specs.Targets.{source_of}

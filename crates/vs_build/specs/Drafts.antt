@@ -1,6 +1,5 @@
 -- A design that is being built: what it is so far, and the expressions and statements that nothing in it names yet, in the order in which they were built.
-use Rattle.std.specs.Prelude.{◌≡◌, ◌≤◌, ℕ, suc, Bool, true, List, [], ◌∷◌, ◌++◌, map, length, max, nat_le}
-use Rattle.std.specs.List.{list_all}
+use Rattle.std.specs.Prelude.{◌≡◌, ◌≤◌, ℕ, true, List, [], ◌∷◌, ◌++◌, map, length, max}
 use Rattle.vs_design.specs.Expressions.{Signal, Expression}
 use Rattle.vs_design.specs.Statements.{Statement}
 use Rattle.vs_design.specs.Designs.{Scope, Process, Design}

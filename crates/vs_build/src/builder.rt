@@ -81,12 +81,7 @@ impl Builder {
         requires formed { is_formed (draft self.old).design (E.Name (signal_at (draft self.old).design.signals signal)) ≡ true }
         ensures { OnOk result (AddsExpression (draft self.old) (draft self.new) (E.At at (E.Name (signal_at (draft self.old).design.signals signal))) 1) }
     {
-        add_leaf(
-            &mut self.flat,
-            &mut self.roots,
-            Node::Name { signal },
-            at,
-        )
+        add_leaf(&mut self.flat, &mut self.roots, Node::Name { signal }, at)
     }
 
     /// Builds an operator on the last expression.
@@ -163,13 +158,7 @@ impl Builder {
     }
 
     /// Builds a part select of `width` bits, upwards or downwards from an index on.
-    pub fn part(
-        &mut self,
-        range: Range,
-        up: bool,
-        width: u32,
-        at: u32,
-    ) -> Result<(), AllocError>
+    pub fn part(&mut self, range: Range, up: bool, width: u32, at: u32) -> Result<(), AllocError>
         requires { EndsInSelect (record { range = range; up = up; width = width }) (draft self.old) }
         ensures { (s r : Draft) (t u : E.Expression) (m n : ℕ) → AddsExpression s r t m → AddsExpression r (draft self.old) u n
             → OnOk result (AddsExpression s (draft self.new) (E.At at (E.Select (source_of u) (record { range = range; up = up; width = width }) t)) (1 + max m n)) }
@@ -286,12 +275,7 @@ fn copied(alloc: Global, part: &[u32], copies: u32) -> Result<Vec<u32>, AllocErr
 }
 
 /// Adds a node that names no other one.
-fn add_leaf(
-    flat: &mut Flat,
-    roots: &mut Vec<u32>,
-    node: Node,
-    at: u32,
-) -> Result<(), AllocError>
+fn add_leaf(flat: &mut Flat, roots: &mut Vec<u32>, node: Node, at: u32) -> Result<(), AllocError>
     requires { IsTrue (covers_node flat.old node) }
     ensures flat { OnOk result (flat.new ≡ with_node flat.old node at) }
     ensures roots { OnOk result (roots.new.items ≡ roots.old.items ++ length flat.old.nodes ∷ []) }

@@ -11,7 +11,9 @@ ghost use Rattle.vs_build.specs.Growth.{draft};
 ghost use Rattle.vs_build.specs.Buildable.{IsBuildable, IsSelectable, AreBuildable, part_expressions, selected_by};
 
 use crate::builder::Builder;
-use crate::names::{bounds_of, constant_bits, lesser, literal_bits, name_alone, number_within, range_length, source};
+use crate::names::{
+    bounds_of, constant_bits, lesser, literal_bits, name_alone, number_within, range_length, source,
+};
 use crate::operators::{flat_binary, flat_unary};
 use std::alloc::{AllocError, Global};
 use vs_ast::{Expr, Name, Select, SliceKind, SystemFunction};
@@ -73,7 +75,9 @@ pub(crate) fn expression<E: Env>(
             builder.join(alloc, list.len(), 1, at)
         }
         Expr::Replication {
-            count, parts: list, ..
+            count,
+            parts: list,
+            ..
         } => {
             let copies = number_within(alloc, 1, 64, count, env)?;
             parts(builder, alloc, list, env, needed)?;
@@ -142,11 +146,19 @@ pub(crate) fn selected<E: Env>(
             builder.bit(range, at)
         }
         Select::Slice {
-            kind, left, right, ..
+            kind,
+            left,
+            right,
+            ..
         } => match kind {
             SliceKind::Between => {
                 let bounds = bounds_of(alloc, left, right, env)?;
-                builder.literal(of_number(32, lesser(bounds) as u64), true, true, place_of(left))?;
+                builder.literal(
+                    of_number(32, lesser(bounds) as u64),
+                    true,
+                    true,
+                    place_of(left),
+                )?;
                 let range = source(builder, fixed, name, env)?;
                 builder.part(range, true, range_length(bounds), at)
             }

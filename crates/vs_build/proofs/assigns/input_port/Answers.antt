@@ -1,12 +1,11 @@
-use Rattle.std.proofs.Common.{false, ◌+◌, OnOk, refl}
+use Rattle.std.proofs.Common.{false, ◌+◌}
 use Rattle.vs_design.specs.Expressions as E
-use Rattle.vs_grammar.specs.Depths.{expr_depth, target_depth}
+use Rattle.vs_grammar.specs.Depths.{expr_depth}
 use Rattle.vs_ast.specs.Views as view
 use Rattle.vs_const.specs.Expressions.{typed}
 use Rattle.vs_flat.specs.Trees.{signal_at}
 use Rattle.vs_build.specs.Growth.{draft}
-use Rattle.vs_build.specs.Writable.{target_expression}
-use Rattle.vs_build.proofs.AssignFacts.{assign_target, assign_value, value_after, room_after, assign_ends, assign_is, ok_is, input_ends}
+use Rattle.vs_build.proofs.AssignFacts.{value_after, room_after, input_ends}
 use Rattle.vs_build.proofs.assigns.input_port.Goals as goal
 
 pub operand-requires : goal.operand-requires

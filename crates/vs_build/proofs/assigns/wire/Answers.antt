@@ -1,12 +1,10 @@
-use Rattle.std.proofs.Common.{false, ◌+◌, OnOk, refl}
-use Rattle.vs_design.specs.Expressions as E
-use Rattle.vs_grammar.specs.Depths.{expr_depth, target_depth}
+use Rattle.std.proofs.Common.{false, ◌+◌}
+use Rattle.vs_grammar.specs.Depths.{expr_depth}
 use Rattle.vs_ast.specs.Views as view
 use Rattle.vs_const.specs.Expressions.{typed}
-use Rattle.vs_flat.specs.Trees.{signal_at}
 use Rattle.vs_build.specs.Growth.{draft}
 use Rattle.vs_build.specs.Writable.{target_expression, wire_assign}
-use Rattle.vs_build.proofs.AssignFacts.{assign_target, assign_value, value_after, room_after, assign_ends, assign_is, ok_is, wire_name}
+use Rattle.vs_build.proofs.AssignFacts.{assign_value, value_after, room_after, assign_ends, assign_is, ok_is, wire_name}
 use Rattle.vs_build.proofs.assigns.wire.Goals as goal
 
 pub name_alone-requires : goal.name_alone-requires

@@ -1,4 +1,4 @@
-use Rattle.std.proofs.Common.{◌++◌, ◌+◌, ◌≡◌, suc, ap, ◌∙◌, subst, sym, arith}
+use Rattle.std.proofs.Common.{◌++◌, ◌+◌, ◌≡◌, suc, ap, ◌∙◌, arith}
 use Rattle.vs_four.specs.Lengths.{repeat}
 use Rattle.vs_build.proofs.Copies.{repeat_more}
 use Rattle.vs_build.proofs.builder.copied.Goals as goal

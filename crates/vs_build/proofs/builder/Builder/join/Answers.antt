@@ -1,4 +1,4 @@
-use Rattle.std.proofs.Common.{rules, ◌≡◌, ℕ, ◌-◌, ◌++◌, ◌∷◌, [], take, drop, length, max, refl, sym, ap, ◌∙◌, subst, arith}
+use Rattle.std.proofs.Common.{rules, ◌-◌, take, drop, length, ap, ◌∙◌}
 use Rattle.vs_four.specs.Lengths.{repeat}
 use Rattle.vs_flat.specs.declared.expressions.Node.TheVariants as N
 use Rattle.vs_build.proofs.Steps.{step_kept}
