@@ -14,3 +14,4 @@ pub mod Selects
 pub mod Whole
 pub mod TargetFacts
 pub mod AssignFacts
+pub mod OutputFacts

@@ -2,3 +2,4 @@ pub mod Drafts
 pub mod Growth
 pub mod Buildable
 pub mod Writable
+pub mod Outputs

@@ -6,7 +6,9 @@ mod builder;
 mod expressions;
 mod names;
 mod operators;
+mod outputs;
 mod targets;
 
 pub use assigns::{assign, input_port, wire};
 pub use builder::Builder;
+pub use outputs::output_port;
