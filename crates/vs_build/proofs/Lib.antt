@@ -15,3 +15,4 @@ pub mod Whole
 pub mod TargetFacts
 pub mod AssignFacts
 pub mod OutputFacts
+pub mod EventFaults

@@ -3,6 +3,7 @@
 
 mod assigns;
 mod builder;
+mod checks;
 mod expressions;
 mod names;
 mod operators;
@@ -11,4 +12,5 @@ mod targets;
 
 pub use assigns::{assign, input_port, wire};
 pub use builder::Builder;
+pub use checks::{check_control, first_fault};
 pub use outputs::output_port;
