@@ -1,12 +1,12 @@
 -- Expressions that are connected to an output, as targets (IEEE 1364-2005, 12.3.9.2).
-use Rattle.std.proofs.Common.{rules, ◌≡◌, ℕ, zero, suc, ◌+◌, ◌*◌, ◌<◌, ◌≤◌, Bool, true, false, List, [], ◌∷◌, ◌++◌, length, get_or, map, max, take, Option, Some, None, unwrap_or, Result, OnOk, refl, sym, ap, ◌∙◌, subst, arith}
+use Rattle.std.proofs.Common.{◌≡◌, ℕ, zero, suc, ◌+◌, ◌*◌, ◌<◌, ◌≤◌, true, false, List, [], ◌∷◌, ◌++◌, length, get_or, map, take, Option, Some, None, unwrap_or, Result, OnOk, refl, sym, ap, ◌∙◌, subst, arith}
 use Rattle.std.proofs.Math.Seq.{take-suc, take-length}
 use Rattle.std.proofs.lemmas.List.{map-append, length-map}
 use denote.Param.Weighed.{most, at_most}
 use Rattle.vs_design.specs.Expressions as E
 use Rattle.vs_design.specs.Expressions.{Expression}
 use Rattle.vs_design.specs.Statements.{Whole}
-use Rattle.vs_design.specs.Designs.{Design, OutputPort, Process, Continuous}
+use Rattle.vs_design.specs.Designs.{Design, OutputPort, Continuous}
 use Rattle.std.specs.Prelude.{is_some}
 use Rattle.vs_grammar.specs.Trees as tree
 use Rattle.vs_grammar.specs.Trees.{target_place}
@@ -16,14 +16,13 @@ use Rattle.vs_ast.proofs.expressions.Expr.TheLaws.{the_size}
 use Rattle.vs_ast.specs.declared.expressions.Expr.{Expr}
 use Rattle.vs_ast.specs.Views.{expr, exprs}
 use Rattle.vs_const.specs.Meanings.{Find}
-use Rattle.vs_const.specs.Sound.{AreSound}
 use Rattle.vs_const.proofs.Formed.{both_nil}
 use Rattle.vs_flat.specs.declared.processes.Port.TheVariants as P
 use Rattle.vs_flat.specs.Targets.{place_of}
 use Rattle.vs_flat.specs.Trees.{joined, target_tree}
 use Rattle.vs_hierarchy.specs.Targets.{typed_target, typed_targets, targeted, and_target, as_target, as_targets}
 use Rattle.vs_build.specs.Drafts.{Draft, and_process, EndsInAssign, AddsExpression, AddsParts}
-use Rattle.vs_build.specs.Writable.{target_expression, targets_expression, IsWritable, AreWritable}
+use Rattle.vs_build.specs.Writable.{target_expression, targets_expression, IsWritable}
 use Rattle.vs_build.specs.Outputs.{output_of, outputs_of, output_expression, output_expressions, output_process, IsOutput, AreOutputs}
 use Rattle.vs_build.proofs.Steps.{added_two}
 use Rattle.vs_build.proofs.Lists.{parts_design}

@@ -31,11 +31,6 @@ no_design = record { scopes = []; signals = []; processes = [] }
 abbrev pub no_draft : Draft
 no_draft = record { design = no_design; expressions = []; statements = [] }
 
--- everything that was built is part of the design
-pub record IsIdle (s : Draft) : Type 0 where
-  pub expressions : s.expressions ≡ []
-  pub statements : s.statements ≡ []
-
 -- ---- with one more of a kind
 
 abbrev pub and_scope : Draft → Scope → Draft

@@ -1,5 +1,5 @@
 -- Expressions that are connected to an output, as targets (IEEE 1364-2005, 12.3.9.2).
-use Rattle.std.specs.Prelude.{◌≡◌, ℕ, false, List, map, Option, Some, unwrap_or}
+use Rattle.std.specs.Prelude.{◌≡◌, ℕ, false, List, map, Some, unwrap_or}
 use Rattle.vs_design.specs.Expressions.{Signal, Expression, At, Name}
 use Rattle.vs_design.specs.Designs.{OutputPort, Process, Continuous, Design}
 use Rattle.vs_ast.specs.declared.expressions.Expr.{Expr}

@@ -1,4 +1,4 @@
-use Rattle.std.proofs.Common.{true, ◌+◌, ◌<◌, ◌≡◌, OnOk, length, ap, subst, sym}
+use Rattle.std.proofs.Common.{true, ◌+◌, ◌<◌, ◌≡◌, length, ap, subst, sym}
 use Rattle.vs_design.specs.Expressions as E
 use Rattle.vs_design.specs.Designs.{Design}
 use Rattle.vs_design.specs.Elaborated.{is_signal}
