@@ -1,1 +1,4 @@
 pub mod NameMaps
+pub mod Scopes
+pub mod Entries
+pub mod Fair

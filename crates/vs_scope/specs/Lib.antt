@@ -1,2 +1,5 @@
 pub mod Maps
 pub mod MapViews
+pub mod Views
+pub mod Frames
+pub mod Laws

@@ -2,6 +2,12 @@
 //! that it makes, and the first rule that any of it breaks.
 #![tactic(auto)]
 
+mod frames;
+mod laws;
 mod maps;
+mod names;
 
+pub use frames::{Around, Frame, Turn, View};
+pub use laws::fair_law;
 pub use maps::NameMap;
+pub use names::{Declaration, Declared, Entry, Names, Parameter, Signal, Sort};
