@@ -2,3 +2,8 @@ pub mod NameMaps
 pub mod Scopes
 pub mod Entries
 pub mod Fair
+pub mod Steps
+pub mod Collected
+pub mod NamedLists
+pub mod NamedPairs
+pub mod DeclaredSoFar

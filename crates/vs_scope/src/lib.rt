@@ -2,11 +2,16 @@
 //! that it makes, and the first rule that any of it breaks.
 #![tactic(auto)]
 
+mod collect;
+mod contents;
+mod declare;
+mod faults;
 mod frames;
 mod laws;
 mod maps;
 mod names;
 
+pub use contents::{BlockItems, Contents};
 pub use frames::{Around, Frame, Turn, View};
 pub use laws::fair_law;
 pub use maps::NameMap;
