@@ -7,3 +7,5 @@ pub mod Collected
 pub mod NamedLists
 pub mod NamedPairs
 pub mod DeclaredSoFar
+pub mod Changes
+pub mod Evaluations

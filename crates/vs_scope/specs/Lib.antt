@@ -5,3 +5,7 @@ pub mod Frames
 pub mod Laws
 pub mod Contents
 pub mod Declares
+pub mod Numbers
+pub mod Overrides
+pub mod Shaped
+pub mod Signalled

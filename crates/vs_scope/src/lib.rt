@@ -10,9 +10,15 @@ mod frames;
 mod laws;
 mod maps;
 mod names;
+mod numbers;
+mod parameters;
+mod signals;
+mod values;
 
 pub use contents::{BlockItems, Contents};
 pub use frames::{Around, Frame, Turn, View};
 pub use laws::fair_law;
 pub use maps::NameMap;
-pub use names::{Declaration, Declared, Entry, Names, Parameter, Signal, Sort};
+pub use parameters::Override;
+pub use signals::Start;
+pub use names::{Declaration, Declared, Entry, Evaluated, Names, Parameter, Signal, Sort};
