@@ -9,3 +9,4 @@ pub mod NamedPairs
 pub mod DeclaredSoFar
 pub mod Changes
 pub mod Evaluations
+pub mod Signalling

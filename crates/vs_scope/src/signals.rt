@@ -1,6 +1,6 @@
 //! The signals of a scope, with their ranges and numbers (IEEE 1364-2005, 3.2, 3.3 and 12.3.3).
 
-ghost use Rattle.std.specs.Prelude.{◌≡◌, Bool, IfOk};
+ghost use Rattle.std.specs.Prelude.{◌≡◌, ◌&&◌, ◌||◌, not, Bool, IfOk};
 ghost use Rattle.vs_design.specs.Expressions.{range_or_one};
 ghost use Rattle.vs_design.specs.Elaborated.{same_range};
 ghost use Rattle.vs_grammar.specs.Shapes.{IsRange, Given};
@@ -57,6 +57,34 @@ pub(crate) fn is_input(kind: SignalKind) -> bool
         SignalKind::Input | SignalKind::InputWire => true,
         _ => false,
     }
+}
+
+/// Whether two declarations of a signal declare a net.
+fn is_net(a: SignalKind, b: SignalKind) -> bool
+    ensures { result ≡ not (spec.is_reg (view.signal_kind a) || spec.is_reg (view.signal_kind b)) }
+{
+    !(is_reg(a) || is_reg(b))
+}
+
+/// Whether one of two declarations of a signal declares an input.
+fn is_input_of(a: SignalKind, b: SignalKind) -> bool
+    ensures { result ≡ (spec.is_input (view.signal_kind a) || spec.is_input (view.signal_kind b)) }
+{
+    is_input(a) || is_input(b)
+}
+
+/// Whether one of two declarations of a signal says that it is signed.
+fn is_signed(a: bool, b: bool) -> bool
+    ensures { result ≡ (a || b) }
+{
+    a || b
+}
+
+/// Whether an input is one of the top.
+fn is_input_of_top(is_input: bool, top: bool) -> bool
+    ensures { result ≡ (is_input && top) }
+{
+    is_input && top
 }
 
 /// Whether two ranges are equal.
@@ -135,16 +163,16 @@ pub(crate) fn said_signal<'a>(
     let other = second_of(signals, second);
     let range = said_range(alloc, &signals.range, here)?;
     let second_range = said_range(alloc, &other.range, here)?;
-    let is_input = is_input(signals.kind) || is_input(other.kind);
+    let is_input = is_input_of(signals.kind, other.kind);
     let signal = Signal {
         name: first.name.text.as_bytes(),
         place: first.name.place,
         scope: start.scope,
         number: start.signal,
-        net: !(is_reg(signals.kind) || is_reg(other.kind)),
-        input: is_input && start.top,
+        net: is_net(signals.kind, other.kind),
+        input: is_input_of_top(is_input, start.top),
         range: range.range,
-        signed: signals.signed || other.signed,
+        signed: is_signed(signals.signed, other.signed),
         first: start.bit,
         is_input,
         known: range.known,
