@@ -10,3 +10,4 @@ pub mod DeclaredSoFar
 pub mod Changes
 pub mod Evaluations
 pub mod Signalling
+pub mod SignalLoops

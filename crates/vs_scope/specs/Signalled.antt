@@ -1,13 +1,15 @@
 -- What the code finds of signals.
-use Rattle.std.specs.Prelude.{◌≡◌, Bool, List, [], Option, Some, None}
+use Rattle.std.specs.Prelude.{◌≡◌, ℕ, Bool, List, [], ◌∷◌, Option, Some, None}
 use Rattle.vs_ast.specs.Views as view
 use Rattle.vs_ast.specs.declared.items.Signals.{Signals}
 use Rattle.vs_const.specs.declared.faults.Fault.{Fault}
 use Rattle.vs_const.specs.Faults.{least, fault_if}
+use Rattle.vs_const.specs.Meanings.{SignalMeaning}
 use Rattle.vs_hierarchy.specs.Declarations.{SignalSort}
 use Rattle.vs_hierarchy.specs.Parameters as parameters
 use Rattle.vs_hierarchy.specs.Signals as spec
 use Rattle.vs_scope.specs.declared.names.Declaration.{Declaration}
+use Rattle.vs_scope.specs.declared.names.Signal.{Signal}
 use Rattle.vs_scope.specs.declared.signals.Start.{Start}
 use Rattle.vs_scope.specs.declared.signals.SaidSignal.{SaidSignal}
 use Rattle.vs_scope.specs.Views.{signal_meaning}
@@ -36,3 +38,25 @@ pub record IsSaidSignal (c : SaidSignal) (s : spec.SaidSignal) : Type 0 where
   pub place : c.signal.place ≡ s.place
   pub meaning : signal_meaning c.signal ≡ s.meaning
   pub fault : c.fault ≡ least s.faults
+
+-- a signal, and where it is declared
+pub record Placed : Type 0 where
+  pub place : ℕ
+  pub meaning : SignalMeaning
+
+-- as the code has it
+abbrev pub placed : Signal → Placed
+placed s = record { place = s.place; meaning = signal_meaning s }
+
+-- as it is said
+abbrev pub placed_of : spec.SaidSignal → Placed
+placed_of s = record { place = s.place; meaning = s.meaning }
+
+-- the faults of a signal
+abbrev pub faults_of : spec.SaidSignal → List Fault
+faults_of s = s.faults
+
+-- the signal of one name, if it is one
+abbrev pub IsSignalAt : Option SaidSignal → List spec.SaidSignal → Type 0
+IsSignalAt None said = said ≡ []
+IsSignalAt (Some c) said = (s : spec.SaidSignal) × (said ≡ s ∷ []) × IsSaidSignal c s

@@ -1,6 +1,6 @@
 //! The signals of a scope, with their ranges and numbers (IEEE 1364-2005, 3.2, 3.3 and 12.3.3).
 
-ghost use Rattle.std.specs.Prelude.{◌≡◌, ◌&&◌, ◌||◌, not, Bool, IfOk};
+ghost use Rattle.std.specs.Prelude.{◌≡◌, ◌&&◌, ◌||◌, ◌∷◌, [], not, Bool, IfOk, map, flat_map};
 ghost use Rattle.vs_design.specs.Expressions.{range_or_one};
 ghost use Rattle.vs_design.specs.Elaborated.{same_range};
 ghost use Rattle.vs_grammar.specs.Shapes.{IsRange, Given};
@@ -8,15 +8,17 @@ ghost use Rattle.vs_ast.specs.Views as view;
 ghost use Rattle.vs_const.specs.Faults.{least};
 ghost use Rattle.vs_hierarchy.specs.Signals as spec;
 ghost use Rattle.vs_hierarchy.specs.Parameters as parameters;
+ghost use Rattle.vs_const.specs.Meanings.{SignalMeaning};
+ghost use Rattle.vs_scope.specs.Declares.{named_list};
 ghost use Rattle.vs_scope.specs.Frames.{view_env};
 ghost use Rattle.vs_scope.specs.Numbers.{IsSaidRange};
-ghost use Rattle.vs_scope.specs.Shaped.{IsShaped};
-ghost use Rattle.vs_scope.specs.Signalled.{start_of, signal_sort, second_faults, IsSortOf, IsSaidSignal};
+ghost use Rattle.vs_scope.specs.Shaped.{IsShaped, AreShapedNames};
+ghost use Rattle.vs_scope.specs.Signalled.{start_of, signal_sort, second_faults, placed, placed_of, faults_of, IsSortOf, IsSaidSignal, IsSignalAt};
 ghost use Rattle.vs_scope.specs.Views as scope;
 
 use crate::faults::{fault_if, first_of};
 use crate::frames::View;
-use crate::names::{Declaration, Signal, Sort};
+use crate::names::{Declaration, Entry, Names, Signal, Sort};
 use crate::numbers::{SaidRange, length_of, said_range};
 use std::alloc::{AllocError, Global};
 use vs_ast::{SignalKind, Signals};
@@ -180,5 +182,81 @@ pub(crate) fn said_signal<'a>(
     Ok(SaidSignal {
         signal,
         fault: second_fault(second, range, second_range),
+    })
+}
+
+/// The signals of a scope in order of declaration, the first fault of their second declarations, and where the next scope's signals begin.
+#[derive(Drop)]
+pub struct SaidSignals<'a> {
+    pub signals: Vec<Signal<'a>>,
+    pub fault: Option<Fault>,
+    pub next: Start,
+}
+
+/// The signal of a name, if it is one.
+fn signal_at<'a>(
+    alloc: Global,
+    here: &View<'_, 'a>,
+    start: Start,
+    first: Declaration<'a>,
+    second: Option<Declaration<'a>>,
+) -> Result<Option<SaidSignal<'a>>, AllocError>
+    requires first { IsShaped (scope.declaration first) }
+    requires second { Given IsShaped (view.option scope.declaration second) }
+    ensures { IfOk result (λ o. IsSignalAt o (spec.said_signals (view_env here.now) (start_of start) (record { first = scope.declaration first.entry; second = view.option scope.declaration second.entry } ∷ []))) }
+{
+    match first.sort {
+        Sort::Signal { signals, .. } => {
+            let one = said_signal(alloc, here, start, first, second, signals)?;
+            Ok(Some(one))
+        }
+        _ => Ok(None),
+    }
+}
+
+/// Where the next signal begins, behind one of this range. More signals or bits than 32 bits count are too many for memory.
+fn after(start: Start, range: Option<Range>) -> Result<Start, AllocError>
+    ensures { (m : SignalMeaning) → m.signal.range ≡ range → IfOk result (λ r. start_of r ≡ spec.after (start_of start) m) }
+{
+    let signal = start.signal.checked_add(1).ok_or(AllocError)?;
+    let length = u32::try_from(length_or_one(range)).map_err(|_| AllocError)?;
+    let bit = start.bit.checked_add(length).ok_or(AllocError)?;
+    Ok(Start {
+        scope: start.scope,
+        top: start.top,
+        signal,
+        bit,
+    })
+}
+
+/// The signals of a scope, by the names and values that its parameters have.
+pub(crate) fn said_signals<'a>(
+    alloc: Global,
+    here: &View<'_, 'a>,
+    start: Start,
+    names: &Names<'a>,
+) -> Result<SaidSignals<'a>, AllocError>
+    requires { AreShapedNames (named_list names.now) }
+    ensures signals { IfOk result (λ r. map placed r.signals.items ≡ map placed_of (spec.said_signals (view_env here.now) (start_of start) (named_list names.now))) }
+    ensures fault { IfOk result (λ r. r.fault ≡ least (flat_map faults_of (spec.said_signals (view_env here.now) (start_of start) (named_list names.now)))) }
+{
+    let mut signals = Vec::new(alloc);
+    let mut fault = None;
+    let mut next = start;
+    for i in 0..names.map.len() {
+        let Entry { first, second, .. } = *names.map.at(i);
+        match signal_at(alloc, here, next, first, second)? {
+            None => {}
+            Some(one) => {
+                next = after(next, one.signal.range)?;
+                fault = first_of(fault, one.fault);
+                signals.push(one.signal)?;
+            }
+        }
+    }
+    Ok(SaidSignals {
+        signals,
+        fault,
+        next,
     })
 }
