@@ -31,6 +31,6 @@ find_value name (p ∷ ps) = by (same_name p.name name) refl (find_value name ps
   where
     by : (b : Bool) → same_name p.name name ≡ b → MatchOption (value_at name ps) (find_entry (map pair_entry ps) name ≡ None) (λ v. find_entry (map pair_entry ps) name ≡ Some (entry_of name v))
         → MatchOption (if b then Some p.value else value_at name ps) ((if b then Some (pair_entry p) else find_entry (map pair_entry ps) name) ≡ None)
-          (λ v. (if b then Some (pair_entry p) else find_entry (map pair_entry ps) name) ≡ Some (entry_of name v))
+        (λ v. (if b then Some (pair_entry p) else find_entry (map pair_entry ps) name) ≡ Some (entry_of name v))
     by true e rest = ap (λ n. Some (entry_of n p.value)) (same_is p.name name e)
     by false e rest = rest

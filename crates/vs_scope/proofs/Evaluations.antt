@@ -82,15 +82,15 @@ evaluated_more outer os ds i d all first now new found one sum h e before n f s 
     let mine = (said_parameters outer os (declaration d ∷ []) now).faults in
     let fs = before.some.0 in
     let known : least (fs ++ (said_parameters outer os (declaration d ∷ rest) now).faults) ≡ least (said_parameters outer os all first).faults =
-        ap (λ (x : List spec.Declaration). least (fs ++ (said_parameters outer os x now).faults)) (sym is) ∙ before.some.2 in
+    ap (λ (x : List spec.Declaration). least (fs ++ (said_parameters outer os x now).faults)) (sym is) ∙ before.some.2 in
     subst (λ (x : List Entry). IsEvaluated outer os rest all first x sum) (sym n) (record {
       entries = ap (λ (x : List spec.Declaration). (said_parameters outer os x now).entries) (sym is) ∙ before.entries;
       some = (
         fs ++ mine,
         s ∙ ap (λ (x : Option Fault). better x one) before.some.1 ∙ ap (better (least fs)) f ∙ sym (least_append fs mine),
         ap least (append_assoc fs mine (said_parameters outer os rest (said_parameters outer os (declaration d ∷ []) now).entries).faults)
-        ∙ ap (λ (x : List Fault). least (fs ++ x)) (ap (λ (x : List Fault). x ++ (said_parameters outer os rest (said_parameters outer os (declaration d ∷ []) now).entries).faults) (append_none _))
-        ∙ known,
+            ∙ ap (λ (x : List Fault). least (fs ++ x)) (ap (λ (x : List Fault). x ++ (said_parameters outer os rest (said_parameters outer os (declaration d ∷ []) now).entries).faults) (append_none _))
+            ∙ known,
       );
     })
 

@@ -11,3 +11,5 @@ pub mod Changes
 pub mod Evaluations
 pub mod Signalling
 pub mod SignalLoops
+pub mod FirstFaults
+pub mod WholeScopes

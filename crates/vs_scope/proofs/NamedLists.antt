@@ -31,6 +31,7 @@ same_swap (x ∷ xs) (y ∷ ys) = ap (λ t. t && same_name xs ys) (eqb_swap x y)
 abbrev or_second : Bool → Declaration → Option Declaration
 or_second true a = Some a
 or_second false a = None
+
 abbrev or_open : (s : Bool) → Declaration → Option Declaration → Option Declaration
 or_open s a (Some b) = Some b
 or_open s a None = or_second s a

@@ -47,8 +47,8 @@ named_with a e (p ∷ ps) h new old = by (same_name p.name a.name.bytes) (ap (λ
         → ((if t then Some p.value else value_at a.name.bytes ps) ≡ None → named_entry a.name.bytes e ≡ record { first = a; second = None })
         → ((d : Entry) → (if t then Some p.value else value_at a.name.bytes ps) ≡ Some d → named_entry a.name.bytes e ≡ with_second (is_open (named_entry a.name.bytes d) a) a (named_entry a.name.bytes d))
         → ((value_at a.name.bytes ps ≡ None → named_entry a.name.bytes e ≡ record { first = a; second = None })
-            → ((d : Entry) → value_at a.name.bytes ps ≡ Some d → named_entry a.name.bytes e ≡ with_second (is_open (named_entry a.name.bytes d) a) a (named_entry a.name.bytes d))
-            → map named_of (with_value a.name.bytes e ps) ≡ with_named a (map named_of ps))
+        → ((d : Entry) → value_at a.name.bytes ps ≡ Some d → named_entry a.name.bytes e ≡ with_second (is_open (named_entry a.name.bytes d) a) a (named_entry a.name.bytes d))
+        → map named_of (with_value a.name.bytes e ps) ≡ with_named a (map named_of ps))
         → map named_of (if t then (let q : Pair Entry = record { name = p.name; value = e } in q) ∷ ps else p ∷ with_value a.name.bytes e ps)
         ≡ (if same_name (view.name p.value.first.name.now).bytes a.name.bytes then with_second (is_open (named_of p) a) a (named_of p) ∷ map named_of ps else named_of p ∷ with_named a (map named_of ps))
     by true m new old rest = ap (λ (n : Named). n ∷ map named_of ps) (old p.value refl) ∙ sym (ap (λ (t : Bool). if t then with_second (is_open (named_of p) a) a (named_of p) ∷ map named_of ps else named_of p ∷ with_named a (map named_of ps)) m)
@@ -79,13 +79,13 @@ first_with name e (p ∷ ps) h new old = by (same_name p.name name) new old (fir
     by : (t : Bool) → ((if t then Some p.value else value_at name ps) ≡ None → (let p : Pair Entry = record { name = name; value = e } in pair_entry p ≡ first_entry (named_of p)))
         → ((d : Entry) → (if t then Some p.value else value_at name ps) ≡ Some d → (e.first ≡ d.first) × (declared e.declared ≡ declared d.declared))
         → ((value_at name ps ≡ None → (let p : Pair Entry = record { name = name; value = e } in pair_entry p ≡ first_entry (named_of p)))
-            → ((d : Entry) → value_at name ps ≡ Some d → (e.first ≡ d.first) × (declared e.declared ≡ declared d.declared)) → ArePairsFirst (with_value name e ps))
+        → ((d : Entry) → value_at name ps ≡ Some d → (e.first ≡ d.first) × (declared e.declared ≡ declared d.declared)) → ArePairsFirst (with_value name e ps))
         → ArePairsFirst (if t then (let q : Pair Entry = record { name = p.name; value = e } in q) ∷ ps else p ∷ with_value name e ps)
     by true new old rest =
         let k = old p.value refl in
         let a : (let q : Pair Entry = record { name = p.name; value = e } in pair_entry q) ≡ pair_entry p =
-            ap (λ (x : Declaration). let q : environment.Entry = record { name = p.name; place = x.name.now.place; declared = declared e.declared } in q) k.0
-            ∙ ap (λ (x : environment.Declared). let q : environment.Entry = record { name = p.name; place = p.value.first.name.now.place; declared = x } in q) k.1 in
+        ap (λ (x : Declaration). let q : environment.Entry = record { name = p.name; place = x.name.now.place; declared = declared e.declared } in q) k.0
+        ∙ ap (λ (x : environment.Declared). let q : environment.Entry = record { name = p.name; place = p.value.first.name.now.place; declared = x } in q) k.1 in
         (a ∙ h.0 ∙ sym (ap (λ (x : Declaration). let q : environment.Entry = record { name = (view.name x.name.now).bytes; place = x.name.now.place; declared = first_declared (sort x.sort) } in q) k.0), h.1)
     by false new old rest = (h.0, rest new old)
 

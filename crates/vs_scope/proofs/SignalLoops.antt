@@ -79,7 +79,7 @@ pub signalled_more : (env : Env) (start next later : Start) (n : Named) (rest he
     → IsSignalled env start later rest all (list ++ c.signal ∷ []) sum
 signalled_more env start next later n rest here all list found sum c x is before h says t s =
     let same : said_signals env next here ≡ x ∷ said_signals env later rest =
-        ap (said_signals env next) is ∙ take_sort env next n.first.name n.first.sort n.second rest x h ∙ ap (λ (y : Start). x ∷ said_signals env y rest) (sym t) in
+    ap (said_signals env next) is ∙ take_sort env next n.first.name n.first.sort n.second rest x h ∙ ap (λ (y : Start). x ∷ said_signals env y rest) (sym t) in
     let fs = before.some.0 in
     record {
       list_is =

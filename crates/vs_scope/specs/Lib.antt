@@ -9,3 +9,4 @@ pub mod Numbers
 pub mod Overrides
 pub mod Shaped
 pub mod Signalled
+pub mod Scopes

@@ -5,6 +5,7 @@ use Rattle.vs_ast.specs.declared.items.Signals.{Signals}
 use Rattle.vs_const.specs.declared.faults.Fault.{Fault}
 use Rattle.vs_const.specs.Faults.{least, fault_if}
 use Rattle.vs_const.specs.Meanings.{SignalMeaning}
+use Rattle.vs_hierarchy.specs.Environments.{Entry}
 use Rattle.vs_hierarchy.specs.Declarations.{SignalSort}
 use Rattle.vs_hierarchy.specs.Parameters as parameters
 use Rattle.vs_hierarchy.specs.Signals as spec
@@ -60,3 +61,8 @@ faults_of s = s.faults
 abbrev pub IsSignalAt : Option SaidSignal → List spec.SaidSignal → Type 0
 IsSignalAt None said = said ≡ []
 IsSignalAt (Some c) said = (s : spec.SaidSignal) × (said ≡ s ∷ []) × IsSaidSignal c s
+
+-- all signals of these meanings are known now
+abbrev pub put_all : List SignalMeaning → List Entry → List Entry
+put_all [] es = es
+put_all (m ∷ ms) es = put_all ms (spec.put_signal m es)

@@ -96,7 +96,11 @@ impl<'a> Names<'a> {
     }
 
     /// The second declaration of a signal, behind its first one.
-    fn declare_second(&mut self, first: Declaration<'a>, d: Declaration<'a>) -> Result<(), AllocError>
+    fn declare_second(
+        &mut self,
+        first: Declaration<'a>,
+        d: Declaration<'a>,
+    ) -> Result<(), AllocError>
         requires first { AreFirst self.old }
         requires open { IsOpenAt first d (value_at d.name.now.text (pairs self.old.map)) }
         ensures named { OnOk result (named_list self.new ≡ with_named (scope.declaration d.entry) (named_list self.old)) }

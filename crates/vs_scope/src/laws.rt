@@ -5,5 +5,4 @@ ghost use Rattle.vs_scope.specs.Laws.{ViewsAreFair};
 /// Whatever is seen at a place of the text, each value there has 1 to 64 bits and a range of as many.
 pub fn fair_law()
     ensures { ViewsAreFair }
-{
-}
+{}

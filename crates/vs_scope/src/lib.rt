@@ -12,6 +12,7 @@ mod maps;
 mod names;
 mod numbers;
 mod parameters;
+mod scope;
 mod signals;
 mod values;
 
@@ -19,6 +20,7 @@ pub use contents::{BlockItems, Contents};
 pub use frames::{Around, Frame, Turn, View};
 pub use laws::fair_law;
 pub use maps::NameMap;
-pub use parameters::Override;
-pub use signals::Start;
 pub use names::{Declaration, Declared, Entry, Evaluated, Names, Parameter, Signal, Sort};
+pub use parameters::Override;
+pub use scope::{SaidScope, declare_scope};
+pub use signals::Start;

@@ -13,7 +13,10 @@ use vs_four::Range;
 #[derive(Clone, Copy)]
 pub enum Sort<'a> {
     /// A signal, by all that its declaration says; `header` says whether it is one of a header's ports.
-    Signal { signals: &'a Signals, header: bool },
+    Signal {
+        signals: &'a Signals,
+        header: bool,
+    },
     /// A parameter, with its default.
     Parameter {
         parameters: &'a Parameters,

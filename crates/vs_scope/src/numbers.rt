@@ -52,11 +52,7 @@ pub(crate) struct SaidRange {
 }
 
 /// A needed constant.
-pub(crate) fn constant(
-    alloc: Global,
-    e: &Expr,
-    here: &View<'_, '_>,
-) -> Result<Found, AllocError>
+pub(crate) fn constant(alloc: Global, e: &Expr, here: &View<'_, '_>) -> Result<Found, AllocError>
     requires { IsExpr (view.expr e.now) }
     ensures { IfOk result (λ c. Says true c (expr.constant (view.expr e.now) (named (view_env here.now)))) }
 {
@@ -102,11 +98,7 @@ pub(crate) fn number_of(place: u32, c: &Found) -> Numbered
 }
 
 /// The number of an expression.
-pub(crate) fn number(
-    alloc: Global,
-    e: &Expr,
-    here: &View<'_, '_>,
-) -> Result<Numbered, AllocError>
+pub(crate) fn number(alloc: Global, e: &Expr, here: &View<'_, '_>) -> Result<Numbered, AllocError>
     requires { IsExpr (view.expr e.now) }
     ensures { IfOk result (λ n. IsNumbered n (expr.number (view.expr e.now) (named (view_env here.now)))) }
 {
@@ -214,11 +206,7 @@ fn bounds_of(
 }
 
 /// A range whose bounds are constants.
-fn ranged(
-    alloc: Global,
-    range: &vs_ast::Range,
-    here: &View<'_, '_>,
-) -> Result<Bounds, AllocError>
+fn ranged(alloc: Global, range: &vs_ast::Range, here: &View<'_, '_>) -> Result<Bounds, AllocError>
     requires { IsRange (view.range range.now) }
     ensures short { IfOk result (λ b. IfSome b.range (λ r. range_length r ≤ 64)) }
     ensures is { IfOk result (λ b. AreBounds b (selects.bounds range.now.bracket (expr_place (view.expr range.now.left)) (expr.constant (view.expr range.now.left) (named (view_env here.now)))

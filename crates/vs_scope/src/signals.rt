@@ -117,7 +117,8 @@ fn second_of<'a>(signals: &'a Signals, second: Option<Declaration<'a>>) -> &'a S
         None => signals,
         Some(d) => match d.sort {
             Sort::Signal {
-                signals: others, ..
+                signals: others,
+                ..
             } => others,
             _ => signals,
         },

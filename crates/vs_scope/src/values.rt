@@ -27,11 +27,13 @@ impl<'a> Names<'a> {
     {
         match self.map.get(name).copied() {
             None => Ok(()),
-            Some(Entry {
-                first,
-                second,
-                declared,
-            }) => {
+            Some(
+                Entry {
+                    first,
+                    second,
+                    declared,
+                },
+            ) => {
                 if is_later(&declared) {
                     self.map.put(
                         name,

@@ -21,5 +21,5 @@ pub returns-in-Some : goal.returns-in-Some
 returns-in-Some c = λ p t local said.
     let o = c.in-Some.o.now in
     let same = ap (λ (e : Env). constant (view.expr o.value.now) (named e)) c.of.ensures
-        ∙ sym (some_chosen c.args.frames.now c.args.name.now (pairs c.args.overrides.now) p t o (local ∙ c.if-is_local.false) (sym c.in-Some.ensures.value)) in
+    ∙ sym (some_chosen c.args.frames.now c.args.name.now (pairs c.args.overrides.now) p t o (local ∙ c.if-is_local.false) (sym c.in-Some.ensures.value)) in
     subst (λ (x : Typed). IfOk c.constant.result (λ r. Says true r x)) same c.constant.ensures

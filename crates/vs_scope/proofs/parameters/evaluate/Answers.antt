@@ -16,5 +16,5 @@ loop-d-preserved c =
     let os = overrides_of c.args.around.frames.now c.args.overrides.now in
     let e = c.in_ok-found.ensures in
     let more = evaluated_more outer os ds c.loop-d.d-index c.d-item.result (map scope.declaration ds) (scope.entries c.args.names.now) (scope.entries c.loop-d.names) (scope.entries c.evaluate_one.new.names) c.loop-d.fault c.in_ok-found.found c.first_of-fault.result
-        c.loop-d-test.true c.d-item.is c.loop-d.invariant.0 e.entries e.fault c.first_of-fault.ensures in
+    c.loop-d-test.true c.d-item.is c.loop-d.invariant.0 e.entries e.fault c.first_of-fault.ensures in
     (subst (λ (n : ℕ). IsEvaluated outer os (map scope.declaration (drop n ds)) (map scope.declaration ds) (scope.entries c.args.names.now) (scope.entries c.evaluate_one.new.names) c.first_of-fault.result) (sym (add-one c.loop-d.d-index)) more, e.named ∙ c.loop-d.invariant.1)

@@ -26,14 +26,14 @@ loop-i-preserved c =
     subst (λ (k : ℕ). IsSignalled env (start_of c.args.start) (start_of c.match-branch-2.next) (drop k ns) ns c.match-branch-2.signals.items c.match-branch-2.fault) (sym (add-one i))
     (elim c.match-branch-2.branch [
       | in-None w ↦
-        signalled_as env (start_of c.args.start) (start_of c.loop-i.next) (start_of c.match-branch-2.next) (drop (suc i) ns) ns c.loop-i.signals.items c.match-branch-2.signals.items c.loop-i.fault c.match-branch-2.fault
-            (ap start_of w.next-is) (ap (λ v. v.items) w.signals-is) w.fault-is
-            (signalled_skip env (start_of c.args.start) (start_of c.loop-i.next) n (drop (suc i) ns) (drop i ns) ns c.loop-i.signals.items c.loop-i.fault here c.loop-i.invariant
-                (subst (λ (o : Option SignalFound). IsSignalAt o (spec.said_signals env (start_of c.loop-i.next) (n ∷ []))) w.in-None.is c.in_ok-signal_at.ensures))
+          signalled_as env (start_of c.args.start) (start_of c.loop-i.next) (start_of c.match-branch-2.next) (drop (suc i) ns) ns c.loop-i.signals.items c.match-branch-2.signals.items c.loop-i.fault c.match-branch-2.fault
+          (ap start_of w.next-is) (ap (λ v. v.items) w.signals-is) w.fault-is
+          (signalled_skip env (start_of c.args.start) (start_of c.loop-i.next) n (drop (suc i) ns) (drop i ns) ns c.loop-i.signals.items c.loop-i.fault here c.loop-i.invariant
+          (subst (λ (o : Option SignalFound). IsSignalAt o (spec.said_signals env (start_of c.loop-i.next) (n ∷ []))) w.in-None.is c.in_ok-signal_at.ensures))
       | in-Some+in_ok-next-in-Some+in_ok-push-in-Some w ↦
-        let s = subst (λ (o : Option SignalFound). IsSignalAt o (spec.said_signals env (start_of c.loop-i.next) (n ∷ []))) w.in-Some.is c.in_ok-signal_at.ensures in
-        signalled_as env (start_of c.args.start) (start_of w.in_ok-next-in-Some.next) (start_of c.match-branch-2.next) (drop (suc i) ns) ns (c.loop-i.signals.items ++ w.in-Some.one.signal ∷ []) c.match-branch-2.signals.items w.first_of-fault.result c.match-branch-2.fault
-            (ap start_of w.next-is) (ap (λ v. v.items) w.signals-is ∙ w.in_ok-push-in-Some.ensures.items) w.fault-is
-            (signalled_more env (start_of c.args.start) (start_of c.loop-i.next) (start_of w.in_ok-next-in-Some.next) n (drop (suc i) ns) (drop i ns) ns c.loop-i.signals.items c.loop-i.fault w.first_of-fault.result w.in-Some.one s.0
-                here c.loop-i.invariant s.1 s.2 (w.in_ok-next-in-Some.ensures s.0.meaning (range_is w.in-Some.one s.0 s.2)) w.first_of-fault.ensures)
+          let s = subst (λ (o : Option SignalFound). IsSignalAt o (spec.said_signals env (start_of c.loop-i.next) (n ∷ []))) w.in-Some.is c.in_ok-signal_at.ensures in
+          signalled_as env (start_of c.args.start) (start_of w.in_ok-next-in-Some.next) (start_of c.match-branch-2.next) (drop (suc i) ns) ns (c.loop-i.signals.items ++ w.in-Some.one.signal ∷ []) c.match-branch-2.signals.items w.first_of-fault.result c.match-branch-2.fault
+          (ap start_of w.next-is) (ap (λ v. v.items) w.signals-is ∙ w.in_ok-push-in-Some.ensures.items) w.fault-is
+          (signalled_more env (start_of c.args.start) (start_of c.loop-i.next) (start_of w.in_ok-next-in-Some.next) n (drop (suc i) ns) (drop i ns) ns c.loop-i.signals.items c.loop-i.fault w.first_of-fault.result w.in-Some.one s.0
+          here c.loop-i.invariant s.1 s.2 (w.in_ok-next-in-Some.ensures s.0.meaning (range_is w.in-Some.one s.0 s.2)) w.first_of-fault.ensures)
     ])

@@ -29,10 +29,10 @@ returns-clause-named c =
     let e : Entry = record { first = c.args.first; second = Some d; declared = c.first_declared-declared.result } in
     let put : pairs c.put.new.self ≡ with_value name e ps = c.in_ok-put.ensures.put ∙ ap (λ n. with_value n e ps) c.as_bytes.ensures in
     let becomes : named_entry name e ≡ with_second (is_open (named_entry name old) (declaration d)) (declaration d) (named_entry name old) =
-        ap (λ (x : Declaration). named_entry name (record { first = x; second = Some d; declared = c.first_declared-declared.result })) (sym s.2) ∙ sym (ap (λ (t : Bool). with_second t (declaration d) (named_entry name old)) s.3) in
+    ap (λ (x : Declaration). named_entry name (record { first = x; second = Some d; declared = c.first_declared-declared.result })) (sym s.2) ∙ sym (ap (λ (t : Bool). with_second t (declaration d) (named_entry name old)) s.3) in
     ap (map named_of) put
     ∙ named_with (declaration d) e ps c.requires.first.each (λ h. none_found (value_at name ps) old s.1 h)
-      (λ (x : Entry) h. subst (λ (y : Entry). named_entry name e ≡ with_second (is_open (named_entry name y) (declaration d)) (declaration d) (named_entry name y)) (same_found (value_at name ps) old x s.1 h) becomes)
+    (λ (x : Entry) h. subst (λ (y : Entry). named_entry name e ≡ with_second (is_open (named_entry name y) (declaration d)) (declaration d) (named_entry name y)) (same_found (value_at name ps) old x s.1 h) becomes)
 
 pub returns-clause-first : goal.returns-clause-first
 returns-clause-first c =
@@ -44,6 +44,8 @@ returns-clause-first c =
     let e : Entry = record { first = c.args.first; second = Some d; declared = c.first_declared-declared.result } in
     let put : pairs c.put.new.self ≡ with_value name e ps = c.in_ok-put.ensures.put ∙ ap (λ n. with_value n e ps) c.as_bytes.ensures in
     let known : declared c.first_declared-declared.result ≡ declared old.declared =
-        c.first_declared-declared.ensures ∙ sym (ap (λ (x : Declaration). first_declared (sort x.sort)) s.2) ∙ sym (declared_at name ps old c.requires.first.each s.1) in
-    record { each = subst ArePairsFirst (sym put) (first_with name e ps c.requires.first.each (λ h. none_found (value_at name ps) old s.1 h)
-      (λ (x : Entry) h. let same : old ≡ x = same_found (value_at name ps) old x s.1 h in (sym s.2 ∙ ap (λ (y : Entry). y.first) same, known ∙ ap (λ (y : Entry). declared y.declared) same))) }
+    c.first_declared-declared.ensures ∙ sym (ap (λ (x : Declaration). first_declared (sort x.sort)) s.2) ∙ sym (declared_at name ps old c.requires.first.each s.1) in
+    record {
+      each = subst ArePairsFirst (sym put) (first_with name e ps c.requires.first.each (λ h. none_found (value_at name ps) old s.1 h)
+          (λ (x : Entry) h. let same : old ≡ x = same_found (value_at name ps) old x s.1 h in (sym s.2 ∙ ap (λ (y : Entry). y.first) same, known ∙ ap (λ (y : Entry). declared y.declared) same)));
+    }
