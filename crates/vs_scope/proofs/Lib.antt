@@ -13,3 +13,4 @@ pub mod Signalling
 pub mod SignalLoops
 pub mod FirstFaults
 pub mod WholeScopes
+pub mod ShapedDeclarations

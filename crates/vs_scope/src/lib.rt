@@ -18,7 +18,7 @@ mod values;
 
 pub use contents::{BlockItems, Contents};
 pub use frames::{Around, Frame, Turn, View};
-pub use laws::fair_law;
+pub use laws::{fair_law, shaped_law};
 pub use maps::NameMap;
 pub use names::{Declaration, Declared, Entry, Evaluated, Names, Parameter, Signal, Sort};
 pub use parameters::Override;
