@@ -1,5 +1,5 @@
 -- What becomes known of one name, in a map of names.
-use Rattle.std.proofs.Common.{◌≡◌, ℕ, Bool, true, false, List, [], ◌∷◌, map, Option, Some, None, if◌then◌else◌, refl, sym, ap, ◌∙◌, subst}
+use Rattle.std.proofs.Common.{◌≡◌, ℕ, Bool, true, false, List, [], ◌∷◌, map, Some, None, if◌then◌else◌, refl, sym, ap, ◌∙◌, subst}
 use Rattle.vs_design.specs.Clocks.{same_name}
 use Rattle.vs_hierarchy.specs.Environments as environment
 use Rattle.vs_hierarchy.specs.Declarations.{Named}
@@ -10,7 +10,6 @@ use Rattle.vs_hierarchy.specs.Parameters.{valued}
 use Rattle.vs_scope.specs.Views.{declared, pair_entry, is_later}
 use Rattle.vs_scope.specs.Declares.{entry_named, named_of}
 use Rattle.vs_scope.proofs.Entries.{same_is}
-use Rattle.vs_scope.proofs.NamedLists.{same_swap}
 
 -- of each of this name more is known
 abbrev changed : (environment.Declared → environment.Declared) → List ℕ → List environment.Entry → List environment.Entry

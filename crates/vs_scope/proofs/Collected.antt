@@ -1,5 +1,5 @@
 -- The declaration of each name of an item.
-use Rattle.std.proofs.Common.{Bool, true, false}
+use Rattle.std.proofs.Common.{Bool}
 use Rattle.vs_grammar.specs.Trees as tree
 use Rattle.vs_hierarchy.specs.Declarations.{Declaration, SignalOf, ParameterOf, GenvarSort, InstanceSort}
 

@@ -1,8 +1,7 @@
 -- The entries of a scope, as the pairs of its map.
-use Rattle.std.proofs.Common.{◌≡◌, ℕ, Bool, true, false, ◌&&◌, ◌==◌, List, [], ◌∷◌, Option, Some, None, map, MatchOption, option_map, if◌then◌else◌, refl, sym, ap, ◌∙◌, subst, cond}
-use Rattle.std.proofs.lemmas.Bool.{eqb-true, eqb-false}
+use Rattle.std.proofs.Common.{◌≡◌, ℕ, Bool, true, false, ◌&&◌, ◌==◌, List, [], ◌∷◌, Option, Some, None, map, MatchOption, option_map, if◌then◌else◌, refl, sym, ap, subst}
+use Rattle.std.proofs.lemmas.Bool.{eqb-true}
 use Rattle.vs_design.specs.Clocks.{same_name}
-use Rattle.vs_hierarchy.specs.Environments as environment
 use Rattle.vs_hierarchy.specs.Environments.{find_entry}
 use Rattle.vs_scope.specs.declared.names.Entry.{Entry}
 use Rattle.vs_scope.specs.Maps.{Pair, value_at}

@@ -1,5 +1,5 @@
 -- Each value that a name stands for has 1 to 64 bits, and a range of as many.
-use Rattle.std.proofs.Common.{◌≡◌, ℕ, zero, suc, ◌<◌, ◌≤◌, Bool, true, false, List, [], ◌∷◌, ◌++◌, length, slice_index_or, map, Option, Some, None, if◌then◌else◌, refl, sym, ap, ◌∙◌, subst, arith}
+use Rattle.std.proofs.Common.{ℕ, zero, suc, Bool, true, false, List, [], ◌∷◌, ◌++◌, slice_index_or, map, Option, Some, None, if◌then◌else◌, refl, sym, subst, arith}
 use Rattle.vs_four.specs.declared.Range.{Range}
 use Rattle.vs_design.specs.Clocks.{same_name}
 use Rattle.vs_const.specs.Meanings.{ConstantValue, Unknown, IsFairValue, IsFairMeaning, IsFair}
@@ -13,7 +13,7 @@ use Rattle.vs_scope.specs.declared.names.Evaluated.TheVariants.{Value, Undefined
 use Rattle.vs_scope.specs.declared.names.Entry.{Entry as EntryOf}
 use Rattle.vs_scope.specs.declared.frames.Frame.{Frame}
 use Rattle.vs_scope.specs.declared.frames.View.{View}
-use Rattle.vs_scope.specs.Views.{declared, evaluated, entry_of, pair_entry, entries}
+use Rattle.vs_scope.specs.Views.{declared, evaluated, pair_entry}
 use Rattle.vs_scope.specs.Frames.{env_at, frame_env, envs_after, envs, around_env, view_env}
 use Rattle.vs_scope.proofs.Scopes.{turned_frames}
 

@@ -1,5 +1,5 @@
 -- The signals of a scope, one after the other.
-use Rattle.std.proofs.Common.{◌≡◌, ◌<◌, ◌≤◌, ◌+◌, ℕ, zero, suc, Bool, List, [], ◌∷◌, ◌++◌, map, flat_map, length, slice_get, drop, Option, Some, None, refl, sym, ap, ◌∙◌, subst, arith, append_assoc}
+use Rattle.std.proofs.Common.{◌≡◌, ◌≤◌, ℕ, zero, suc, List, [], ◌∷◌, ◌++◌, map, flat_map, length, slice_get, drop, Option, Some, None, refl, sym, ap, ◌∙◌, subst, append_assoc}
 use Rattle.std.proofs.lemmas.List.{map-append}
 use Rattle.vs_grammar.specs.Shapes.{Given}
 use Rattle.vs_ast.specs.Views as view
@@ -15,10 +15,10 @@ use Rattle.vs_scope.specs.declared.names.Entry.{Entry}
 use Rattle.vs_scope.specs.declared.names.Signal.{Signal}
 use Rattle.vs_scope.specs.declared.signals.SaidSignal.{SaidSignal as SignalFound}
 use Rattle.vs_scope.specs.Maps.{Pair, values_of}
-use Rattle.vs_scope.specs.Views.{declaration, signal_meaning}
+use Rattle.vs_scope.specs.Views.{declaration}
 use Rattle.vs_scope.specs.Declares.{entry_named, named_of}
 use Rattle.vs_scope.specs.Shaped.{IsShaped, AreShapedNames}
-use Rattle.vs_scope.specs.Signalled.{Placed, placed, placed_of, faults_of, IsSaidSignal, IsSignalAt}
+use Rattle.vs_scope.specs.Signalled.{Placed, placed, placed_of, faults_of, IsSaidSignal}
 use Rattle.vs_scope.proofs.Steps.{append_none, none_left}
 
 pub named_from : (ps : List (Pair Entry)) (i : ℕ) (e : Entry) → slice_get (values_of ps) i ≡ Some e → drop i (map named_of ps) ≡ entry_named e ∷ drop (suc i) (map named_of ps)

@@ -1,10 +1,8 @@
 -- A signal, by what is found of its declarations.
-use Rattle.std.proofs.Common.{◌≡◌, ℕ, Bool, not, ◌&&◌, ◌||◌, List, Option, Some, None, refl, sym, ap, ◌∙◌}
+use Rattle.std.proofs.Common.{◌≡◌, ℕ, Bool, List, Option, Some, None, refl, ap}
 use Rattle.vs_four.specs.declared.Range.{Range}
 use Rattle.vs_ast.specs.Views.{option}
-use Rattle.vs_ast.specs.Views as view
 use Rattle.vs_grammar.specs.Trees.{RangeTree}
-use Rattle.vs_const.specs.declared.faults.Fault.{Fault}
 use Rattle.vs_const.specs.Faults.{fault_if}
 use Rattle.vs_const.specs.Meanings.{SignalMeaning}
 use Rattle.vs_hierarchy.specs.Environments.{Env}

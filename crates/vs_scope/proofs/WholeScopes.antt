@@ -1,5 +1,5 @@
 -- What a scope declares, by what is found of its parts.
-use Rattle.std.proofs.Common.{◌≡◌, ℕ, Bool, true, false, ◌&&◌, List, [], ◌∷◌, ◌++◌, map, flat_map, Option, Some, None, if◌then◌else◌, refl, sym, ap, ◌∙◌, subst}
+use Rattle.std.proofs.Common.{◌≡◌, ℕ, Bool, true, false, ◌&&◌, List, [], ◌∷◌, ◌++◌, map, flat_map, Option, Some, if◌then◌else◌, sym, ap, ◌∙◌, subst}
 use Rattle.std.specs.List.{list_any}
 use Rattle.vs_grammar.specs.Shapes.{Given}
 use Rattle.vs_design.specs.Clocks.{same_name}
@@ -9,7 +9,7 @@ use Rattle.vs_const.proofs.Least.{least_append}
 use Rattle.vs_hierarchy.specs.Environments.{Env, Entry, within}
 use Rattle.vs_hierarchy.specs.Declarations.{Declaration, Named, are_sorts_of_one, second_of, names_after, names_of, repeated_names}
 use Rattle.vs_hierarchy.specs.Parameters.{Override, first_entries, said_parameters}
-use Rattle.vs_hierarchy.specs.Signals.{Start, SaidSignal, said_signals, range_faults, put_signals}
+use Rattle.vs_hierarchy.specs.Signals.{Start, SaidSignal, said_signals, range_faults}
 use Rattle.vs_scope.specs.declared.names.Signal.{Signal}
 use Rattle.vs_scope.specs.Views.{signal_meaning}
 use Rattle.vs_scope.specs.Shaped.{IsShaped, AreShaped, AreShapedNames}

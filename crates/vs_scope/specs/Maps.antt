@@ -1,5 +1,5 @@
 -- Values by names, as lists.
-use Rattle.std.specs.Prelude.{◌≡◌, ℕ, Bool, false, List, [], ◌∷◌, map, Option, Some, None, if◌then◌else◌}
+use Rattle.std.specs.Prelude.{◌≡◌, ℕ, false, List, [], ◌∷◌, map, Option, Some, None, if◌then◌else◌}
 use Rattle.vs_design.specs.Clocks.{same_name}
 
 -- a name with its value

@@ -1,5 +1,5 @@
 -- What the names of the code stand for.
-use Rattle.std.specs.Prelude.{ℕ, Bool, true, false, List, map, Option, Some, None}
+use Rattle.std.specs.Prelude.{ℕ, Bool, true, false, List, map, Some, None}
 use Rattle.vs_ast.specs.Views as view
 use Rattle.vs_const.specs.Meanings.{SignalMeaning}
 use Rattle.vs_hierarchy.specs.Environments as environment
@@ -9,7 +9,6 @@ use Rattle.vs_scope.specs.declared.names.Sort.{Sort}
 use Rattle.vs_scope.specs.declared.names.Sort.TheVariants as sorts
 use Rattle.vs_scope.specs.declared.names.Declaration.{Declaration}
 use Rattle.vs_scope.specs.declared.names.Signal.{Signal}
-use Rattle.vs_scope.specs.declared.names.Parameter.{Parameter}
 use Rattle.vs_scope.specs.declared.names.Evaluated.{Evaluated}
 use Rattle.vs_scope.specs.declared.names.Evaluated.TheVariants.{Value, Undefined}
 use Rattle.vs_scope.specs.declared.names.Declared.{Declared}

@@ -1,8 +1,7 @@
-use Rattle.std.proofs.Common.{◌≡◌, ◌++◌, true, map, flat_map, drop}
+use Rattle.std.proofs.Common.{◌≡◌, ◌++◌, map, flat_map, drop}
 use Rattle.vs_ast.specs.Views as view
 use Rattle.vs_hierarchy.specs.Declarations as spec
 use Rattle.vs_scope.specs.Views.{declaration}
-use Rattle.vs_scope.proofs.Collected.{signal_declared, parameter_declared, genvar_declared, instance_declared}
 use Rattle.vs_scope.proofs.collect.collect_header_parameters.Given as goal
 
 abbrev pub invariant-loop-p : goal.invariant-loop-p

@@ -1,4 +1,4 @@
-use Rattle.std.proofs.Common.{List, map, take, ap, ◌∙◌, subst}
+use Rattle.std.proofs.Common.{List, map, ap, ◌∙◌}
 use Rattle.std.proofs.lemmas.List.{take_all}
 use Rattle.vs_hierarchy.specs.Declarations as spec
 use Rattle.vs_scope.specs.declared.names.Declaration.{Declaration}
@@ -6,7 +6,7 @@ use Rattle.vs_scope.specs.MapViews.{pairs}
 use Rattle.vs_scope.specs.Views.{declaration}
 use Rattle.vs_scope.specs.Declares.{first_entry}
 use Rattle.vs_scope.proofs.NamedPairs.{entries_first}
-use Rattle.vs_scope.proofs.DeclaredSoFar.{IsDeclared, declared_more}
+use Rattle.vs_scope.proofs.DeclaredSoFar.{declared_more}
 use Rattle.vs_scope.proofs.declare.declared_names.Goals as goal
 
 pub loop-d-preserved : goal.loop-d-preserved

@@ -1,4 +1,4 @@
-use Rattle.std.proofs.Common.{◌≡◌, true, IfOk, length, Some, None, refl, sym, ap, ◌∙◌, subst}
+use Rattle.std.proofs.Common.{true, IfOk, length, sym, ap, ◌∙◌, subst}
 use Rattle.vs_ast.specs.Views as view
 use Rattle.vs_const.specs.Expressions.{constant}
 use Rattle.vs_const.specs.Found.{Says}

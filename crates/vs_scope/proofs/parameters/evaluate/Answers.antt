@@ -1,5 +1,4 @@
-use Rattle.std.proofs.Common.{◌≡◌, ◌+◌, ℕ, suc, map, drop, sym, subst, ◌∙◌, add-one}
-use Rattle.vs_scope.specs.Declares.{named_list}
+use Rattle.std.proofs.Common.{ℕ, map, drop, sym, subst, ◌∙◌, add-one}
 use Rattle.vs_scope.specs.Frames.{around_env}
 use Rattle.vs_scope.specs.Overrides.{overrides_of}
 use Rattle.vs_scope.specs.Views as scope

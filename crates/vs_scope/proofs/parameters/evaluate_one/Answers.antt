@@ -1,9 +1,7 @@
-use Rattle.std.proofs.Common.{◌≡◌, List, ℕ, [], ◌∷◌, refl, sym, ap, ◌∙◌, subst}
+use Rattle.std.proofs.Common.{List, ℕ, [], ◌∷◌, sym, ap, ◌∙◌}
 use Rattle.vs_ast.specs.Views as view
-use Rattle.vs_const.specs.declared.faults.Fault.{Fault}
 use Rattle.vs_const.specs.Faults.{least}
 use Rattle.vs_hierarchy.specs.Environments as environment
-use Rattle.vs_hierarchy.specs.Declarations as declarations
 use Rattle.vs_hierarchy.specs.Parameters as spec
 use Rattle.vs_scope.specs.declared.names.Sort.{Sort}
 use Rattle.vs_scope.specs.Views as scope

@@ -1,6 +1,5 @@
-use Rattle.std.proofs.Common.{◌≡◌, true, List, ℕ, refl, sym, ap, ◌∙◌, subst}
+use Rattle.std.proofs.Common.{true, List, ℕ, refl, sym, ap, ◌∙◌, subst}
 use Rattle.vs_ast.specs.Views as view
-use Rattle.vs_const.specs.declared.faults.Fault.{Fault}
 use Rattle.vs_const.specs.Faults.{least, better}
 use Rattle.vs_const.specs.Found.{Says}
 use Rattle.vs_const.specs.Expressions.{constant}

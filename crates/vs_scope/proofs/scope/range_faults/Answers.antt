@@ -1,4 +1,4 @@
-use Rattle.std.proofs.Common.{◌+◌, ℕ, map, drop, sym, subst, add-one}
+use Rattle.std.proofs.Common.{ℕ, map, drop, sym, subst, add-one}
 use Rattle.vs_scope.specs.Frames.{view_env}
 use Rattle.vs_scope.specs.Views.{declaration}
 use Rattle.vs_scope.proofs.Evaluations.{shaped_at}

@@ -1,6 +1,5 @@
-use Rattle.std.proofs.Common.{◌≡◌, ◌+◌, ℕ, suc, List, [], ◌∷◌, ◌++◌, Option, drop, refl, sym, ap, ◌∙◌, subst, add-one}
+use Rattle.std.proofs.Common.{ℕ, suc, [], ◌∷◌, ◌++◌, Option, drop, sym, ap, ◌∙◌, subst, add-one}
 use Rattle.vs_hierarchy.specs.Signals as spec
-use Rattle.vs_scope.specs.declared.names.Signal.{Signal}
 use Rattle.vs_scope.specs.declared.signals.SaidSignal.{SaidSignal as SignalFound}
 use Rattle.vs_scope.specs.MapViews.{pairs}
 use Rattle.vs_scope.specs.Declares.{entry_named, named_list}

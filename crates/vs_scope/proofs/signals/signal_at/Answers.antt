@@ -1,4 +1,4 @@
-use Rattle.std.proofs.Common.{◌≡◌, List, [], ◌∷◌, Option, refl, ap}
+use Rattle.std.proofs.Common.{[], ◌∷◌, ap}
 use Rattle.vs_ast.specs.Views as view
 use Rattle.vs_hierarchy.specs.Signals as spec
 use Rattle.vs_scope.specs.declared.names.Sort.{Sort}

@@ -1,4 +1,4 @@
-use Rattle.std.proofs.Common.{◌∙◌, sym, ap, subst, slice_get, ◌<◌}
+use Rattle.std.proofs.Common.{◌∙◌, ap, subst, slice_get, ◌<◌}
 use Rattle.vs_scope.proofs.NameMaps.{length_is, values_are}
 use Rattle.vs_scope.proofs.maps.NameMap.at.Goals as goal
 

@@ -1,4 +1,4 @@
-use Rattle.std.proofs.Common.{◌≡◌, Option, None, Some, is_some, false, sym, ap, ◌∙◌, refl}
+use Rattle.std.proofs.Common.{◌≡◌, Option, None, Some, is_some, false, sym, ◌∙◌, refl}
 use Rattle.vs_scope.proofs.NameMaps.{value_of_lookup, distinct_of}
 use Rattle.vs_scope.proofs.maps.NameMap.get.Goals as goal
 

@@ -1,12 +1,10 @@
-use Rattle.std.proofs.Common.{◌≡◌, Bool, true, false, List, Option, Some, None, map, refl, sym, ap, ◌∙◌, subst}
+use Rattle.std.proofs.Common.{◌≡◌, Bool, true, false, Some, None, refl, sym, ap, ◌∙◌, subst}
 use Rattle.vs_const.specs.Faults.{least, fault_if}
-use Rattle.vs_hierarchy.specs.Environments as environment
-use Rattle.vs_scope.specs.declared.names.Entry.{Entry}
-use Rattle.vs_scope.specs.Maps.{Pair, value_at, with_value}
+use Rattle.vs_scope.specs.Maps.{value_at}
 use Rattle.vs_scope.specs.MapViews.{pairs}
 use Rattle.vs_scope.specs.Views.{declaration}
-use Rattle.vs_scope.specs.Declares.{entry_named, named_of, ArePairsFirst, IsOpenAt, with_second, is_open}
-use Rattle.vs_scope.proofs.NamedPairs.{is_many, many_at, named_entry, named_with, named_kept, first_with, open_is, not_true, not_false}
+use Rattle.vs_scope.specs.Declares.{IsOpenAt}
+use Rattle.vs_scope.proofs.NamedPairs.{is_many, many_at, named_kept, open_is, not_true, not_false}
 use Rattle.vs_scope.proofs.names.Names.declare.Goals as goal
 
 pub declare_first-requires-clause-new : goal.declare_first-requires-clause-new

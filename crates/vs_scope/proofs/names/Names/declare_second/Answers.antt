@@ -1,12 +1,10 @@
-use Rattle.std.proofs.Common.{◌≡◌, Bool, true, false, List, Option, Some, None, map, refl, sym, ap, ◌∙◌, subst}
-use Rattle.vs_const.specs.Faults.{least, fault_if}
-use Rattle.vs_hierarchy.specs.Environments as environment
+use Rattle.std.proofs.Common.{◌≡◌, Bool, Option, Some, None, map, sym, ap, ◌∙◌, subst}
 use Rattle.vs_scope.specs.declared.names.Entry.{Entry}
-use Rattle.vs_scope.specs.Maps.{Pair, value_at, with_value}
+use Rattle.vs_scope.specs.Maps.{value_at, with_value}
 use Rattle.vs_scope.specs.MapViews.{pairs}
 use Rattle.vs_scope.specs.Views.{declaration}
-use Rattle.vs_scope.specs.Declares.{entry_named, named_of, ArePairsFirst, with_second, is_open}
-use Rattle.vs_scope.proofs.NamedPairs.{is_many, many_at, named_entry, named_with, named_kept, first_with, open_is, not_true, not_false}
+use Rattle.vs_scope.specs.Declares.{named_of, ArePairsFirst, with_second, is_open}
+use Rattle.vs_scope.proofs.NamedPairs.{named_entry, named_with, first_with}
 use Rattle.vs_hierarchy.specs.Parameters.{first_declared}
 use Rattle.vs_scope.specs.declared.names.Declaration.{Declaration}
 use Rattle.vs_scope.specs.Views.{declared, sort}
