@@ -1,0 +1,35 @@
+-- The entries of a scope, as the pairs of its map.
+use Rattle.std.proofs.Common.{◌≡◌, ℕ, Bool, true, false, ◌&&◌, ◌==◌, List, [], ◌∷◌, Option, Some, None, map, MatchOption, option_map, if◌then◌else◌, refl, sym, ap, subst}
+use Rattle.std.proofs.lemmas.Bool.{eqb-true}
+use Rattle.vs_design.specs.Clocks.{same_name}
+use Rattle.vs_hierarchy.specs.Environments.{find_entry}
+use Rattle.vs_scope.specs.declared.names.Entry.{Entry}
+use Rattle.vs_scope.specs.Maps.{Pair, value_at}
+use Rattle.vs_scope.specs.Views.{entry_of, pair_entry}
+
+both_true : (a b : Bool) → (a && b) ≡ true → (a ≡ true) × (b ≡ true)
+both_true true b h = (refl, h)
+both_true false b h = cc
+
+-- equal names are the same
+pub same_is : (a b : List ℕ) → same_name a b ≡ true → a ≡ b
+same_is [] [] h = refl
+same_is [] (y ∷ ys) h = cc
+same_is (x ∷ xs) [] h = cc
+same_is (x ∷ xs) (y ∷ ys) h = let k = both_true (x == y) (same_name xs ys) h in let e : x ≡ y = eqb-true x y k.0 in let t : xs ≡ ys = same_is xs ys k.1 in cc
+
+-- what a look-up finds, with a reference in place of the value
+pub match_copied : {R V : Type 0} (now : R → V) (P : Type 0) (Q : V → Type 0) (r : Option R) (o : Option V) → option_map now r ≡ o → MatchOption o P Q → MatchOption r P (λ e. Q (now e))
+match_copied now P Q None o e h = subst (λ z. MatchOption z P Q) (sym e) h
+match_copied now P Q (Some x) o e h = subst (λ z. MatchOption z P Q) (sym e) h
+
+pub find_value : (name : List ℕ) (ps : List (Pair Entry))
+    → MatchOption (value_at name ps) (find_entry (map pair_entry ps) name ≡ None) (λ v. find_entry (map pair_entry ps) name ≡ Some (entry_of name v))
+find_value name [] = refl
+find_value name (p ∷ ps) = by (same_name p.name name) refl (find_value name ps)
+  where
+    by : (b : Bool) → same_name p.name name ≡ b → MatchOption (value_at name ps) (find_entry (map pair_entry ps) name ≡ None) (λ v. find_entry (map pair_entry ps) name ≡ Some (entry_of name v))
+        → MatchOption (if b then Some p.value else value_at name ps) ((if b then Some (pair_entry p) else find_entry (map pair_entry ps) name) ≡ None)
+        (λ v. (if b then Some (pair_entry p) else find_entry (map pair_entry ps) name) ≡ Some (entry_of name v))
+    by true e rest = ap (λ n. Some (entry_of n p.value)) (same_is p.name name e)
+    by false e rest = rest
