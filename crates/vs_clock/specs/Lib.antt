@@ -1,3 +1,4 @@
+pub mod Clocked
 pub mod Forms
 pub mod Inputs
 pub mod Kept

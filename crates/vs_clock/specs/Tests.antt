@@ -29,3 +29,9 @@ abbrev pub AreEvents : (ℕ → Signal) → BlockEvents → Option Events → Ty
 AreEvents signal Other events = events ≡ None
 AreEvents signal Clock events = (clock : D.Event) × (events ≡ Some (ByClock clock))
 AreEvents signal (Reset e) events = (clock : D.Event) × (events ≡ Some (ByBoth clock (event_of signal e)))
+
+-- and this event's signal is among so many
+abbrev pub HasSignal : ℕ → BlockEvents → Type 0
+HasSignal count Other = Unit {0}
+HasSignal count Clock = Unit {0}
+HasSignal count (Reset e) = e.signal < count

@@ -2,6 +2,7 @@
 #![tactic(auto)]
 
 mod bits;
+mod clocks;
 mod error;
 mod events;
 mod first;
@@ -14,4 +15,5 @@ mod rules;
 mod spread;
 mod targets;
 
+pub use clocks::Clocks;
 pub use error::ClockError;
