@@ -4,6 +4,7 @@ pub mod Inputs
 pub mod Kept
 pub mod Nets
 pub mod Ports
+pub mod Refused
 pub mod Roots
 pub mod Spread
 pub mod Tests
