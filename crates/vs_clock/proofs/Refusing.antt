@@ -1,17 +1,23 @@
 -- The refusal of a design by its clock.
 use Rattle.std.proofs.Common.{◌≡◌, ℕ, zero, suc, ◌+◌, ◌<◌, Bool, true, false, List, [], ◌∷◌, ◌&&◌, ◌==◌, refl, sym, ap, ◌∙◌, subst, eqb-true, length, arith, Some, None, Option, find, if◌then◌else◌}
 use Rattle.std.specs.Prelude.{slice_get}
-use Rattle.std.proofs.lemmas.Option.{slice_get_within}
+use Rattle.std.proofs.lemmas.Option.{slice_get_within, slice_get-get_or}
 use Rattle.vs_design.specs.Expressions.{Signal, signal_length}
 use Rattle.vs_design.specs.Designs.{Process, process_place, Design, bit_count}
 use Rattle.vs_design.specs.Clocks.{same_name, clock_input, clock_nets, root_of, reads_clock, has_other_clock}
 use Rattle.vs_design.specs.Resets.{has_other_form}
 use Rattle.vs_design.specs.Elaborated.{IsLawfulDesign}
 use Rattle.vs_design.specs.Refusals.{otherwise, first_found, where_true, place_at, ClockRefusal, NoClock, ClockRead, NotTheClock, ResetForm, clock_refusal_by, clock_refusal}
+use Rattle.vs_flat.specs.declared.processes.Signal.{Signal as FlatSignal}
+use Rattle.vs_flat.specs.Arena.{Arena}
+use Rattle.vs_flat.specs.Laws.{EachSignal, CountsStay}
+use Rattle.vs_flat.specs.Trees.{no_signal, signal_at}
+use Rattle.vs_flat.specs.DesignOf.{arena_signals, design_of}
 use Rattle.vs_clock.specs.Tests.{IsFirst}
 use Rattle.vs_clock.proofs.Tests.{by_test, and_both}
 use Rattle.vs_clock.proofs.Numbered.{place_is}
 use Rattle.vs_clock.proofs.Finding.{bit_below}
+use Rattle.vs_clock.proofs.Ruled.{first_bit_is}
 
 -- what is found first
 abbrev found : (ℕ → ℕ → ClockRefusal) → (Process → Bool) → ℕ → List Process → Option ClockRefusal
@@ -96,3 +102,24 @@ find_true test (x ∷ xs) s h = by_test (test x) (λ e. subst (λ (z : Signal). 
 pub clock_below : (d : Design) → IsLawfulDesign d → (name : List ℕ) (n : ℕ) (s : Signal) → slice_get d.signals n ≡ Some s → Some s ≡ clock_input d name → s.first < bit_count d
 clock_below d l name n s e h =
     bit_below d l n s e (eqb-true (signal_length s) 1 (and_both (s.input && same_name s.name name) (signal_length s == 1) (find_true (λ s. s.input && same_name s.name name && (signal_length s == 1)) d.signals s (sym h))).1)
+
+-- ---- what was found
+
+pub record IsFound (a : Arena) (name : List ℕ) (input bit : ℕ) : Type 0 where
+  pub signal : Signal
+  pub there : slice_get (design_of a).signals input ≡ Some signal
+  pub is : Some signal ≡ clock_input (design_of a) name
+  pub bit_is : bit ≡ signal.first
+
+pub clock_found : EachSignal → CountsStay → (f a : Arena) → f ≡ a → (name : List ℕ) (input : ℕ) (s : FlatSignal) → Some (signal_at (arena_signals f) input) ≡ clock_input (design_of f) name → input < length f.signals → slice_get f.signals input ≡ Some s → IsFound a name input s.first_bit
+clock_found each counts f a e name input s k l g =
+    subst (λ (b : Arena). IsFound b name input s.first_bit) e
+    (record {
+      signal = signal_at (arena_signals f) input;
+      there = slice_get-get_or (arena_signals f) input no_signal (subst (λ n. input < n) (sym (counts f).signals) l);
+      is = k;
+      bit_is = first_bit_is each f input s g;
+    })
+
+pub carried : (P : Arena → ℕ → Type 0) (f a : Arena) (m n : ℕ) → f ≡ a → m ≡ n → P f m → P a n
+carried P f a m n e g h = subst (λ b. P b n) e (subst (λ k. P f k) g h)
