@@ -118,9 +118,10 @@ copy_in (Always place star events statement) b t h = cc
 
 pub copy_below : BitsOfDesign → (d : Design) → IsLawfulDesign d → (p : ℕ) (x : Process) (b t : ℕ) → slice_get d.processes p ≡ Some x → port_bits x ≡ Some (b, t) → (b < bit_count d) × (t < bit_count d)
 copy_below law d l p x b t e h =
-    let c = copy_in x b t h in
-    (law d l p x e b (contains-append (all_reads x) (writes_of x ++ waits_of x) b ∙ or_left (contains (all_reads x) b) (contains (writes_of x ++ waits_of x) b) c.0),
-    law d l p x e t (contains-append (all_reads x) (writes_of x ++ waits_of x) t ∙ or_right (contains (all_reads x) t) (contains (writes_of x ++ waits_of x) t) (contains-append (writes_of x) (waits_of x) t ∙ or_left (contains (writes_of x) t) (contains (waits_of x) t) c.1)))
+    let c = copy_in x b t h in (
+      law d l p x e b (contains-append (all_reads x) (writes_of x ++ waits_of x) b ∙ or_left (contains (all_reads x) b) (contains (writes_of x ++ waits_of x) b) c.0),
+      law d l p x e t (contains-append (all_reads x) (writes_of x ++ waits_of x) t ∙ or_right (contains (all_reads x) t) (contains (writes_of x ++ waits_of x) t) (contains-append (writes_of x) (waits_of x) t ∙ or_left (contains (writes_of x) t) (contains (waits_of x) t) c.1)),
+    )
 
 -- ---- the table of targets
 

@@ -2,7 +2,6 @@
 #![tactic(auto)]
 
 mod bits;
-
 mod drivers;
 mod error;
 mod single;
