@@ -1,18 +1,16 @@
 -- Input ports that copy a bit.
-use Rattle.std.proofs.Common.{◌≡◌, ℕ, zero, suc, ◌+◌, ◌<◌, Bool, true, false, List, [], ◌∷◌, ◌++◌, ◌||◌, ◌&&◌, ◌==◌, refl, sym, ap, ◌∙◌, subst, eqb-true, eq-eqb, get_or, set, take, length, arith, Some, None, Option, is_some, option_map, ◌≢◌, cond, get_or-set_same, get_or-set_other, nat_lt}
+use Rattle.std.proofs.Common.{◌≡◌, ℕ, ◌+◌, ◌<◌, Bool, true, false, List, [], ◌∷◌, ◌++◌, ◌||◌, ◌&&◌, ◌==◌, refl, sym, ap, ◌∙◌, subst, eqb-true, eq-eqb, get_or, set, take, length, Some, None, Option, is_some, option_map, ◌≢◌, cond, get_or-set_same, get_or-set_other}
 use Rattle.std.specs.Prelude.{slice_get, unwrap_or}
-use Rattle.std.specs.List.{list_any}
 use Rattle.std.proofs.Math.ListN.{length-set}
 use Rattle.std.proofs.lemmas.List.{take_more}
 use Rattle.std.proofs.lemmas.List.Folds.{list_any-append}
-use Rattle.std.proofs.lemmas.Bool.{ltb-true}
 use Rattle.std.proofs.lemmas.Option.{slice_get_within, get_or_from_slice_get}
 use Rattle.vs_design.specs.Expressions as E
 use Rattle.vs_design.specs.Expressions.{Signal, signal_length, Expression, Name, At}
 use Rattle.vs_design.specs.Values.{count_from, bits_of_signal}
-use Rattle.vs_design.specs.Statements.{Target, Whole, PartOf, Both}
+use Rattle.vs_design.specs.Statements.{Whole, PartOf, Both}
 use Rattle.vs_design.specs.Designs.{Process, Written, InputPort, OutputPort, Continuous, Always, Design, bit_count}
-use Rattle.vs_design.specs.Footprints.{contains, all_reads, read_bits, target_reads, target_bits, writes_of, waits_of}
+use Rattle.vs_design.specs.Footprints.{contains, all_reads, read_bits, writes_of, waits_of}
 use Rattle.vs_design.specs.Clocks.{name_of}
 use Rattle.vs_design.specs.Elaborated.{IsLawfulDesign}
 use Rattle.vs_design.specs.Laws.{BitsOfDesign}
@@ -23,7 +21,7 @@ use Rattle.vs_flat.specs.Targets.{target_of}
 use Rattle.vs_flat.specs.Trees.{no_signal, placed_tree, target_tree}
 use Rattle.vs_clock.specs.Spread.{targets_at}
 use Rattle.vs_clock.specs.Ports.{one_bit, bit_of, both_bits, port_bits, is_copy, copies, AreTargets}
-use Rattle.vs_clock.proofs.Tests.{by_test, either_way, or_left, or_right, and_both, contains-append, contains_head}
+use Rattle.vs_clock.proofs.Tests.{by_test, either_way, or_left, or_right, contains-append, contains_head}
 
 same_other : (q p : ℕ) → (q == p) ≡ false → q ≡ p → ⊥
 same_other q p h e = either_way (q == p) (subst (λ m. (q == m) ≡ true) e (eq-eqb q q refl)) h

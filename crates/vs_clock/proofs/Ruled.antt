@@ -1,5 +1,5 @@
 -- The rules of single processes.
-use Rattle.std.proofs.Common.{◌≡◌, ℕ, zero, suc, ◌+◌, ◌≤◌, ◌<◌, Bool, true, false, not, List, [], ◌∷◌, ◌++◌, ◌||◌, ◌&&◌, ◌==◌, refl, sym, ap, ◌∙◌, subst, eqb-true, eq-eqb, get_or, map, length, arith, Some, None, Option, is_some, is_none, option_map, if◌then◌else◌, nat_lt, ◌≢◌}
+use Rattle.std.proofs.Common.{◌≡◌, ℕ, zero, suc, ◌+◌, ◌≤◌, ◌<◌, Bool, true, false, not, List, [], ◌∷◌, ◌++◌, ◌||◌, ◌&&◌, ◌==◌, refl, sym, ap, ◌∙◌, subst, eqb-true, eq-eqb, get_or, map, length, arith, Some, None, Option, is_some, option_map, if◌then◌else◌, nat_lt, ◌≢◌}
 use Rattle.std.specs.Prelude.{slice_get}
 use Rattle.std.specs.List.{list_any, list_all}
 use Rattle.std.proofs.lemmas.Bool.{ltb-true}
@@ -9,16 +9,14 @@ use Rattle.vs_design.specs.Expressions.{Signal}
 use Rattle.vs_design.specs.Designs.{Process, is_clocked, has_edge, Design, bit_count}
 use Rattle.vs_design.specs.Designs as D
 use Rattle.vs_design.specs.Footprints.{contains, reads_of, waits_of}
-use Rattle.vs_design.specs.Clocks.{port_target, is_clock_port, reads_clock, clock_nets, root_of, is_clock_event, is_reset_event, both_events, events_of, block_events, has_other_clock, Events, ByClock, ByBoth}
+use Rattle.vs_design.specs.Clocks.{port_target, is_clock_port, reads_clock, clock_nets, root_of, is_clock_event, is_reset_event, both_events, events_of, has_other_clock, Events, ByClock, ByBoth}
 use Rattle.vs_design.specs.Fits.{fits_statement, fits_process}
 use Rattle.vs_design.specs.Refusals.{width_refusal}
 use Rattle.vs_design.specs.Resets.{has_form, has_other_form}
 use Rattle.vs_design.specs.Statements.{Statement}
-use Rattle.vs_design.specs.RefusalLaws.{IsFirstOf}
 use Rattle.vs_flat.specs.declared.processes.Event.{Event}
 use Rattle.vs_flat.specs.declared.processes.Signal.{Signal as FlatSignal}
 use Rattle.vs_flat.specs.declared.processes.Process.{Process as Flat}
-use Rattle.vs_flat.specs.declared.processes.Kind.{Kind}
 use Rattle.vs_flat.specs.declared.processes.Kind.TheVariants as K
 use Rattle.vs_flat.specs.declared.processes.Port.{Port}
 use Rattle.vs_flat.specs.Arena.{Arena}

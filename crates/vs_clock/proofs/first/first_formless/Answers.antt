@@ -1,4 +1,4 @@
-use Rattle.std.proofs.Common.{◌≡◌, length, sym, ap, ◌∙◌, arith}
+use Rattle.std.proofs.Common.{length, sym, ap, ◌∙◌, arith}
 use Rattle.vs_design.specs.Clocks.{clock_nets, root_of}
 use Rattle.vs_design.specs.Resets.{has_other_form}
 use Rattle.vs_flat.specs.Arena.{Arena}

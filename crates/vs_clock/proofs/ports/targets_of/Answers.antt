@@ -1,4 +1,4 @@
-use Rattle.std.proofs.Common.{◌≡◌, ◌+◌, ◌<◌, ℕ, List, length, sym, ap, ◌∙◌, subst, arith}
+use Rattle.std.proofs.Common.{◌≡◌, ◌+◌, ◌<◌, ℕ, List, length, sym, ◌∙◌, subst, arith}
 use Rattle.std.proofs.Math.ListN.{length-set}
 use Rattle.vs_design.specs.Designs.{bit_count}
 use Rattle.vs_flat.specs.DesignOf.{design_of}

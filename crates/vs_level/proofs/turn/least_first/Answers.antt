@@ -1,4 +1,4 @@
-use Rattle.std.proofs.Common.{◌≡◌, ℕ, ◌<◌, ◌≤◌, List, length, get_or, subst, sym}
+use Rattle.std.proofs.Common.{ℕ, ◌<◌, ◌≤◌, List, length, get_or, subst, sym}
 use Rattle.vs_level.specs.Graph.{IsCircle}
 use Rattle.vs_level.proofs.Rings.{turned}
 use Rattle.vs_level.proofs.turn.least_first.Goals as goal

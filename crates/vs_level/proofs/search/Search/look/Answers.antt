@@ -1,4 +1,4 @@
-use Rattle.std.proofs.Common.{◌≡◌, ℕ, ◌<◌, sym, ◌∙◌, subst}
+use Rattle.std.proofs.Common.{◌<◌, sym, ◌∙◌, subst}
 use Rattle.vs_level.specs.Search.{IsSearch, effort}
 use Rattle.vs_level.proofs.Steps.{next_is, ring_of, search_opened, way_to, effort_opened, search_looked, effort_looked, found_placed, found_node}
 use Rattle.vs_level.proofs.search.Search.look.Goals as goal
