@@ -8,7 +8,6 @@ pub mod NodeKinds
 pub mod Copies
 pub mod SignalNames
 pub mod Arms
-mod Planes
 pub mod Lists
 pub mod Selects
 pub mod Whole

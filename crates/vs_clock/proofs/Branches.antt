@@ -1,12 +1,11 @@
 -- The branch of a reset.
-use Rattle.std.proofs.Common.{◌≡◌, ℕ, zero, suc, ◌<◌, Bool, true, false, not, List, [], ◌∷◌, ◌&&◌, refl, sym, ap, ◌∙◌, subst, map, length, get_or, arith, Some, None, Option, option_map, if◌then◌else◌, nat_lt}
+use Rattle.std.proofs.Common.{◌≡◌, ℕ, ◌<◌, Bool, true, false, List, [], ◌∷◌, ◌&&◌, refl, sym, ap, ◌∙◌, subst, map, length, arith, Some, None, Option, option_map, if◌then◌else◌, nat_lt}
 use Rattle.std.specs.Prelude.{slice_get}
-use Rattle.std.specs.List.{list_all}
 use Rattle.std.proofs.lemmas.Bool.{ltb-true}
 use Rattle.vs_design.specs.Expressions.{Expression}
 use Rattle.vs_design.specs.Statements as T
 use Rattle.vs_design.specs.Designs.{Edge}
-use Rattle.vs_design.specs.Fits.{is_fit, fits_statement, fits_arms}
+use Rattle.vs_design.specs.Fits.{is_fit, fits_statement}
 use Rattle.vs_design.specs.Resets.{is_condition, is_fixed, reset_branch}
 use Rattle.vs_flat.specs.declared.placed.Placed.{Placed}
 use Rattle.vs_flat.specs.declared.statements.Statement.{Statement}
@@ -15,7 +14,7 @@ use Rattle.vs_flat.specs.Arena.{Arena}
 use Rattle.vs_flat.specs.Arena as A
 use Rattle.vs_flat.specs.Lawful.{NamesEarlier}
 use Rattle.vs_flat.specs.Laws.{EachStatement, StatementNames}
-use Rattle.vs_flat.specs.Named.{all_below, statement_expressions, statement_statements, statement_names_below}
+use Rattle.vs_flat.specs.Named.{all_below, statement_expressions, statement_statements}
 use Rattle.vs_flat.specs.Trees.{statement_at, statement_tree, tree_at, sequence}
 use Rattle.vs_flat.specs.DesignOf.{arena_statements, arena_trees}
 use Rattle.vs_clock.specs.Forms.{if_branch}

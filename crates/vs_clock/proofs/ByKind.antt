@@ -1,9 +1,8 @@
 -- The process that an item of a flat design stands for, by its kind.
-use Rattle.std.proofs.Common.{◌≡◌, ℕ, zero, suc, ◌<◌, Bool, true, false, List, [], ◌∷◌, ◌&&◌, refl, sym, ap, ◌∙◌, subst, Some, None, Option, option_map, nat_lt, length, is_some}
+use Rattle.std.proofs.Common.{◌≡◌, ℕ, zero, suc, ◌<◌, Bool, true, List, [], ◌∷◌, ◌&&◌, refl, sym, ap, ◌∙◌, subst, Some, None, Option, option_map, nat_lt, length}
 use Rattle.std.specs.Prelude.{slice_get}
 use Rattle.std.specs.List.{list_all}
 use Rattle.std.proofs.lemmas.Bool.{ltb-true}
-use Rattle.vs_design.specs.Expressions as E
 use Rattle.vs_design.specs.Designs.{process_place}
 use Rattle.vs_design.specs.Designs as D
 use Rattle.vs_design.specs.Clocks.{name_of}
@@ -22,7 +21,7 @@ use Rattle.vs_flat.specs.Lawful.{NamesEarlier, IsLawful, has_target}
 use Rattle.vs_flat.specs.Laws.{EachProcess, ProcessNames, NodeNames}
 use Rattle.vs_flat.specs.Named.{kind_names_below, node_names_below}
 use Rattle.vs_flat.specs.Trees.{signal_at, tree_at, statement_at}
-use Rattle.vs_flat.specs.DesignOf.{kind_of, process_of, arena_signals, arena_trees, arena_statements, design_of}
+use Rattle.vs_flat.specs.DesignOf.{kind_of, arena_signals, arena_trees, arena_statements, design_of}
 use Rattle.vs_clock.specs.Ports.{port_bits, assign_bits}
 use Rattle.vs_clock.proofs.Tests.{and_both}
 use Rattle.vs_clock.proofs.Copies.{port_is}

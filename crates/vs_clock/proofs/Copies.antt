@@ -1,18 +1,16 @@
 -- Input ports that copy a bit.
-use Rattle.std.proofs.Common.{◌≡◌, ℕ, zero, suc, ◌+◌, ◌<◌, Bool, true, false, List, [], ◌∷◌, ◌++◌, ◌||◌, ◌&&◌, ◌==◌, refl, sym, ap, ◌∙◌, subst, eqb-true, eq-eqb, get_or, set, take, length, arith, Some, None, Option, is_some, option_map, ◌≢◌, cond, get_or-set_same, get_or-set_other, nat_lt}
+use Rattle.std.proofs.Common.{◌≡◌, ℕ, ◌+◌, ◌<◌, Bool, true, false, List, [], ◌∷◌, ◌++◌, ◌||◌, ◌&&◌, ◌==◌, refl, sym, ap, ◌∙◌, subst, eqb-true, eq-eqb, get_or, set, take, length, Some, None, Option, is_some, option_map, ◌≢◌, cond, get_or-set_same, get_or-set_other}
 use Rattle.std.specs.Prelude.{slice_get, unwrap_or}
-use Rattle.std.specs.List.{list_any}
 use Rattle.std.proofs.Math.ListN.{length-set}
 use Rattle.std.proofs.lemmas.List.{take_more}
 use Rattle.std.proofs.lemmas.List.Folds.{list_any-append}
-use Rattle.std.proofs.lemmas.Bool.{ltb-true}
 use Rattle.std.proofs.lemmas.Option.{slice_get_within, get_or_from_slice_get}
 use Rattle.vs_design.specs.Expressions as E
 use Rattle.vs_design.specs.Expressions.{Signal, signal_length, Expression, Name, At}
 use Rattle.vs_design.specs.Values.{count_from, bits_of_signal}
-use Rattle.vs_design.specs.Statements.{Target, Whole, PartOf, Both}
+use Rattle.vs_design.specs.Statements.{Whole, PartOf, Both}
 use Rattle.vs_design.specs.Designs.{Process, Written, InputPort, OutputPort, Continuous, Always, Design, bit_count}
-use Rattle.vs_design.specs.Footprints.{contains, all_reads, read_bits, target_reads, target_bits, writes_of, waits_of}
+use Rattle.vs_design.specs.Footprints.{contains, all_reads, read_bits, writes_of, waits_of}
 use Rattle.vs_design.specs.Clocks.{name_of}
 use Rattle.vs_design.specs.Elaborated.{IsLawfulDesign}
 use Rattle.vs_design.specs.Laws.{BitsOfDesign}
@@ -23,7 +21,7 @@ use Rattle.vs_flat.specs.Targets.{target_of}
 use Rattle.vs_flat.specs.Trees.{no_signal, placed_tree, target_tree}
 use Rattle.vs_clock.specs.Spread.{targets_at}
 use Rattle.vs_clock.specs.Ports.{one_bit, bit_of, both_bits, port_bits, is_copy, copies, AreTargets}
-use Rattle.vs_clock.proofs.Tests.{by_test, either_way, or_left, or_right, and_both, contains-append, contains_head}
+use Rattle.vs_clock.proofs.Tests.{by_test, either_way, or_left, or_right, contains-append, contains_head}
 
 same_other : (q p : ℕ) → (q == p) ≡ false → q ≡ p → ⊥
 same_other q p h e = either_way (q == p) (subst (λ m. (q == m) ≡ true) e (eq-eqb q q refl)) h
@@ -118,9 +116,10 @@ copy_in (Always place star events statement) b t h = cc
 
 pub copy_below : BitsOfDesign → (d : Design) → IsLawfulDesign d → (p : ℕ) (x : Process) (b t : ℕ) → slice_get d.processes p ≡ Some x → port_bits x ≡ Some (b, t) → (b < bit_count d) × (t < bit_count d)
 copy_below law d l p x b t e h =
-    let c = copy_in x b t h in
-    (law d l p x e b (contains-append (all_reads x) (writes_of x ++ waits_of x) b ∙ or_left (contains (all_reads x) b) (contains (writes_of x ++ waits_of x) b) c.0),
-    law d l p x e t (contains-append (all_reads x) (writes_of x ++ waits_of x) t ∙ or_right (contains (all_reads x) t) (contains (writes_of x ++ waits_of x) t) (contains-append (writes_of x) (waits_of x) t ∙ or_left (contains (writes_of x) t) (contains (waits_of x) t) c.1)))
+    let c = copy_in x b t h in (
+      law d l p x e b (contains-append (all_reads x) (writes_of x ++ waits_of x) b ∙ or_left (contains (all_reads x) b) (contains (writes_of x ++ waits_of x) b) c.0),
+      law d l p x e t (contains-append (all_reads x) (writes_of x ++ waits_of x) t ∙ or_right (contains (all_reads x) t) (contains (writes_of x ++ waits_of x) t) (contains-append (writes_of x) (waits_of x) t ∙ or_left (contains (writes_of x) t) (contains (waits_of x) t) c.1)),
+    )
 
 -- ---- the table of targets
 

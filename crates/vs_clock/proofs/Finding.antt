@@ -1,12 +1,11 @@
 -- Signals that are found by name, and inputs that may be resets.
-use Rattle.std.proofs.Common.{◌≡◌, ℕ, zero, suc, ◌+◌, ◌≤◌, ◌<◌, Bool, true, false, List, [], ◌∷◌, ◌++◌, ◌||◌, ◌&&◌, ◌==◌, not, refl, sym, ap, ◌∙◌, subst, eqb-true, get_or, map, take, length, arith, Some, None, Option, is_some, find, if◌then◌else◌, nat_lt, sum_by}
+use Rattle.std.proofs.Common.{◌≡◌, ℕ, zero, suc, ◌+◌, ◌≤◌, ◌<◌, Bool, true, false, List, [], ◌∷◌, ◌++◌, ◌||◌, ◌&&◌, ◌==◌, not, refl, sym, ap, ◌∙◌, subst, eqb-true, get_or, map, take, length, arith, Some, None, Option, is_some, find, if◌then◌else◌, sum_by}
 use Rattle.std.specs.Prelude.{slice_get, filter}
 use Rattle.std.specs.List.{filter_map, cons_option}
 use Rattle.std.specs.Cmp.Lexicographic.{pointwise}
 use Rattle.std.specs.Prelude.{nat_eq}
 use Rattle.std.proofs.lemmas.List.{take_more, take_all}
 use Rattle.std.proofs.lemmas.List.Sums.{sum_by-cons}
-use Rattle.std.proofs.lemmas.Option.{slice_get_within}
 use Rattle.vs_design.specs.Expressions.{Signal, signal_length}
 use Rattle.vs_design.specs.Designs.{Design, bit_count, top_inputs}
 use Rattle.vs_design.specs.Footprints.{contains}
@@ -20,7 +19,7 @@ use Rattle.vs_flat.specs.Trees.{no_signal, signal_at}
 use Rattle.vs_flat.specs.DesignOf.{arena_signals, design_of}
 use Rattle.vs_clock.specs.Inputs.{is_named_input, reset_bit}
 use Rattle.vs_clock.specs.Ports.{one_bit}
-use Rattle.vs_clock.proofs.Tests.{by_test, either_way, and_both, contains_head, contains_tail}
+use Rattle.vs_clock.proofs.Tests.{by_test, and_both}
 
 -- ---- names
 

@@ -1,11 +1,11 @@
 -- Branches that name no signal.
-use Rattle.std.proofs.Common.{◌≡◌, ℕ, zero, suc, Bool, true, false, not, List, [], ◌∷◌, ◌++◌, ◌||◌, ◌&&◌, ◌==◌, refl, sym, ap, ◌∙◌, subst, length, eqb-true, arith, ◌-◌, Option, Some, None, if◌then◌else◌}
+use Rattle.std.proofs.Common.{◌≡◌, ℕ, suc, Bool, true, false, List, [], ◌∷◌, ◌++◌, ◌&&◌, ◌==◌, refl, sym, ap, ◌∙◌, length, eqb-true, arith, ◌-◌, Option, Some, None, if◌then◌else◌}
 use Rattle.vs_four.specs.declared.Range.{Range}
 use Rattle.vs_four.specs.Selects.{is_descending}
 use Rattle.vs_design.specs.Values.{count_from}
-use Rattle.vs_design.specs.Expressions.{Signal, range_or_one, Source, OfSignal, OfConstant, Expression, Literal, Name, Select, Unary, Binary, Choice, Join, Repeat, At, is_constant}
+use Rattle.vs_design.specs.Expressions.{Signal, range_or_one, OfSignal, OfConstant, Expression, Literal, Name, Select, Unary, Binary, Choice, Join, Repeat, At, is_constant}
 use Rattle.vs_design.specs.Statements.{Target, Whole, PartOf, Both, Statement, Empty, Assignment, Then, If, Case, Arms, Arm, Default}
-use Rattle.vs_design.specs.Footprints.{read_signals, source_signals, target_signals, items_signals, statement_signals, arms_signals, signals_bits}
+use Rattle.vs_design.specs.Footprints.{read_signals, target_signals, items_signals, statement_signals, arms_signals, signals_bits}
 use Rattle.vs_design.specs.Elaborated.{has_constant_selects}
 use Rattle.vs_design.specs.Resets.{has_none, are_constant, arms_constant, is_fixed}
 use Rattle.vs_clock.proofs.Tests.{by_test, and_true}

@@ -1,8 +1,7 @@
 -- The nets that a bit leads to through input ports, and the labels that spread along them.
-use Rattle.std.proofs.Common.{◌≡◌, ℕ, zero, suc, ◌+◌, ◌<◌, Bool, true, false, List, [], ◌∷◌, ◌++◌, ◌||◌, ◌&&◌, ◌==◌, not, refl, sym, ap, ◌∙◌, subst, eqb-true, eq-eqb, get_or, take, length, arith, Some, None, Option, is_some, find, if◌then◌else◌, nat_lt, ◌⊎◌, inl, inr}
+use Rattle.std.proofs.Common.{◌≡◌, ℕ, zero, suc, ◌+◌, ◌<◌, Bool, true, false, List, [], ◌∷◌, ◌++◌, ◌||◌, ◌&&◌, ◌==◌, refl, sym, ap, ◌∙◌, subst, eqb-true, eq-eqb, get_or, take, length, arith, Some, None, Option, is_some, find, if◌then◌else◌, nat_lt, inl, inr}
 use Rattle.std.specs.Prelude.{slice_get}
-use Rattle.std.specs.List.{list_any}
-use Rattle.std.proofs.lemmas.Bool.{lt-ltb, ltb-true, ltb-false}
+use Rattle.std.proofs.lemmas.Bool.{ltb-true, ltb-false}
 use Rattle.std.proofs.lemmas.List.{take_more, take_all}
 use Rattle.std.proofs.Math.ListN.{get_or-eq_default}
 use Rattle.std.proofs.Math.Seq.{take-append_seam}
@@ -14,10 +13,10 @@ use Rattle.vs_design.specs.Footprints.{contains}
 use Rattle.vs_design.specs.Clocks.{name_of, is_one_of, port_target, port_targets, nets_within, clock_nets}
 use Rattle.vs_design.specs.Elaborated.{IsLawfulDesign}
 use Rattle.vs_design.specs.Laws.{BitsOfDesign, ClockNetsAre}
-use Rattle.vs_clock.specs.Ports.{one_bit, bit_of, both_bits, port_bits, is_copy, copies, AreTargets}
+use Rattle.vs_clock.specs.Ports.{bit_of, both_bits, port_bits, is_copy, copies, AreTargets}
 use Rattle.vs_clock.specs.Roots.{AreAllTargets, root_among, AreRoots}
 use Rattle.vs_clock.specs.Spread.{targets_at, label_at, has_label, IsClosedSet, Spreads}
-use Rattle.vs_clock.proofs.Tests.{by_test, either_way, same_test, or_left, or_right, and_both, and_true, contains-append, contains_head}
+use Rattle.vs_clock.proofs.Tests.{by_test, either_way, or_left, or_right, and_both, and_true, contains-append}
 use Rattle.vs_clock.proofs.Copies.{copy_below}
 
 or_nothing : (a : Bool) → (a || false) ≡ a

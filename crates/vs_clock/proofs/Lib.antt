@@ -11,3 +11,4 @@ pub mod Finding
 pub mod Ruled
 pub mod Fixed
 pub mod Branches
+pub mod Refusing

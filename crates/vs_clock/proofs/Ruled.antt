@@ -1,5 +1,5 @@
 -- The rules of single processes.
-use Rattle.std.proofs.Common.{◌≡◌, ℕ, zero, suc, ◌+◌, ◌≤◌, ◌<◌, Bool, true, false, not, List, [], ◌∷◌, ◌++◌, ◌||◌, ◌&&◌, ◌==◌, refl, sym, ap, ◌∙◌, subst, eqb-true, eq-eqb, get_or, map, length, arith, Some, None, Option, is_some, if◌then◌else◌, nat_lt, ◌≢◌}
+use Rattle.std.proofs.Common.{◌≡◌, ℕ, zero, suc, ◌+◌, ◌≤◌, ◌<◌, Bool, true, false, not, List, [], ◌∷◌, ◌++◌, ◌||◌, ◌&&◌, ◌==◌, refl, sym, ap, ◌∙◌, subst, eqb-true, eq-eqb, get_or, map, length, arith, Some, None, Option, is_some, option_map, if◌then◌else◌, nat_lt, ◌≢◌}
 use Rattle.std.specs.Prelude.{slice_get}
 use Rattle.std.specs.List.{list_any, list_all}
 use Rattle.std.proofs.lemmas.Bool.{ltb-true}
@@ -9,22 +9,27 @@ use Rattle.vs_design.specs.Expressions.{Signal}
 use Rattle.vs_design.specs.Designs.{Process, is_clocked, has_edge, Design, bit_count}
 use Rattle.vs_design.specs.Designs as D
 use Rattle.vs_design.specs.Footprints.{contains, reads_of, waits_of}
-use Rattle.vs_design.specs.Clocks.{port_target, is_clock_port, reads_clock, clock_nets, root_of, is_clock_event, is_reset_event, both_events, events_of, block_events, has_other_clock, Events, ByClock, ByBoth}
-use Rattle.vs_design.specs.RefusalLaws.{IsFirstOf}
+use Rattle.vs_design.specs.Clocks.{port_target, is_clock_port, reads_clock, clock_nets, root_of, is_clock_event, is_reset_event, both_events, events_of, has_other_clock, Events, ByClock, ByBoth}
+use Rattle.vs_design.specs.Fits.{fits_statement, fits_process}
+use Rattle.vs_design.specs.Refusals.{width_refusal}
+use Rattle.vs_design.specs.Resets.{has_form, has_other_form}
+use Rattle.vs_design.specs.Statements.{Statement}
 use Rattle.vs_flat.specs.declared.processes.Event.{Event}
+use Rattle.vs_flat.specs.declared.processes.Signal.{Signal as FlatSignal}
 use Rattle.vs_flat.specs.declared.processes.Process.{Process as Flat}
-use Rattle.vs_flat.specs.declared.processes.Kind.{Kind}
 use Rattle.vs_flat.specs.declared.processes.Kind.TheVariants as K
 use Rattle.vs_flat.specs.declared.processes.Port.{Port}
 use Rattle.vs_flat.specs.Arena.{Arena}
-use Rattle.vs_flat.specs.Lawful.{NamesEarlier}
-use Rattle.vs_flat.specs.Laws.{EachProcess, ProcessNames}
+use Rattle.vs_flat.specs.Lawful.{NamesEarlier, IsLawful}
+use Rattle.vs_flat.specs.Laws.{EachProcess, EachSignal, ProcessNames}
 use Rattle.vs_flat.specs.Named.{all_below, kind_names_below}
 use Rattle.vs_flat.specs.Trees.{signal_at, statement_at}
 use Rattle.vs_flat.specs.DesignOf.{event_of, arena_signals, arena_statements, design_of}
+use Rattle.vs_width.specs.Laws.{EachProcessFits}
 use Rattle.vs_clock.specs.Nets.{Labelled, is_clock_bit, AreNets}
+use Rattle.vs_clock.specs.declared.events.BlockEvents.{BlockEvents}
 use Rattle.vs_clock.specs.Ports.{port_bits}
-use Rattle.vs_clock.specs.Tests.{IsFirst, NoneBefore, is_edge_event}
+use Rattle.vs_clock.specs.Tests.{IsFirst, NoneBefore, is_edge_event, AreEvents}
 use Rattle.vs_clock.proofs.Tests.{by_test, either_way, and_both, contains_head, any_same, any_test}
 use Rattle.vs_clock.proofs.Least.{hits, target_hits}
 use Rattle.vs_clock.proofs.ByKind.{kind_in, kind_is, process_same}
@@ -178,3 +183,49 @@ seen_clock o h = sym (ap is_some h.1)
 
 pub seen_reset : (o : Option Events) (reset : D.Event) → (clock : D.Event) × (o ≡ Some (ByBoth clock reset)) → true ≡ is_some o
 seen_reset o reset h = sym (ap is_some h.1)
+
+-- ---- forms
+
+pub statement_there : ProcessNames → (a : Arena) → NamesEarlier a → (p : ℕ) (r : Flat) (star : Bool) (events : List Event) (statement : ℕ) → slice_get a.processes p ≡ Some r → r.kind ≡ K.Block star events statement → statement < length a.statements
+statement_there law a n p r star events statement i h =
+    let c : kind_names_below (length a.signals) (length a.nodes) (length a.statements) (K.Block star events statement) ≡ true = sym (ap (kind_names_below (length a.signals) (length a.nodes) (length a.statements)) h) ∙ law a n p r i in
+    ltb-true statement (length a.statements) (and_both (nat_lt statement (length a.statements)) true (and_both (all_below (length a.signals) (map (λ (e : Event). e.signal) events) && true) (nat_lt statement (length a.statements) && true) c).1).0
+
+all_at : (f : Process → Bool) (ps : List Process) (p : ℕ) (x : Process) → list_all f ps ≡ true → slice_get ps p ≡ Some x → f x ≡ true
+all_at f [] p x h e = cc
+all_at f (y ∷ ps) zero x h e = subst (λ z. f z ≡ true) (some_same y x e) (and_both (f y) (list_all f ps) h).0
+  where
+    some_same : (x y : Process) → Some x ≡ Some y → x ≡ y
+    some_same x y e = cc
+all_at f (y ∷ ps) (suc p) x h e = all_at f ps p x (and_both (f y) (list_all f ps) h).1 e
+
+pub statement_fits : EachProcessFits → EachProcess → (a : Arena) → IsLawful a → width_refusal (design_of a) ≡ None → (p : ℕ) (r : Flat) (star : Bool) (events : List Event) (statement : ℕ) → slice_get a.processes p ≡ Some r → r.kind ≡ K.Block star events statement → fits_statement (statement_at (arena_statements a) statement) ≡ true
+statement_fits fits each a l w p r star events statement i h = all_at fits_process (design_of a).processes p (kind_in a r.at (K.Block star events statement)) (fits (design_of a) l.design w) (kind_is each a p r (K.Block star events statement) i h)
+
+pub assign_form : EachProcess → (a : Arena) (p : ℕ) (r : Flat) (target e : ℕ) (port : Port) → slice_get a.processes p ≡ Some r → r.kind ≡ K.Assign target e port → (nets : List ℕ) (roots : ℕ → Option ℕ) (x : Process) → slice_get (design_of a).processes p ≡ Some x → false ≡ has_other_form nets roots x
+assign_form each a p r target e port i h nets roots x f = ap {B = Bool} (has_other_form nets roots) (process_same (kind_in a r.at (K.Assign target e port)) x (slice_get (design_of a).processes p) (kind_is each a p r (K.Assign target e port) i h) f)
+
+-- by its events
+pub form_by : EachProcess → (a : Arena) (p : ℕ) (r : Flat) (star : Bool) (events : List Event) (statement : ℕ) → slice_get a.processes p ≡ Some r → r.kind ≡ K.Block star events statement → (nets : List ℕ) (roots : ℕ → Option ℕ) (o : Option Events)
+    → events_of nets roots (map (event_of (signal_at (arena_signals a))) events) ≡ o → (x : Process) → slice_get (design_of a).processes p ≡ Some x → not (has_form o (statement_at (arena_statements a) statement)) ≡ has_other_form nets roots x
+form_by each a p r star events statement i h nets roots o e x f =
+    ap {B = Bool} (λ o. not (has_form o (statement_at (arena_statements a) statement))) (sym e)
+    ∙ ap {B = Bool} (has_other_form nets roots) (process_same (kind_in a r.at (K.Block star events statement)) x (slice_get (design_of a).processes p) (kind_is each a p r (K.Block star events statement) i h) f)
+
+pub first_bit_is : EachSignal → (a : Arena) (n : ℕ) (s : FlatSignal) → slice_get a.signals n ≡ Some s → s.first_bit ≡ (signal_at (arena_signals a) n).first
+first_bit_is each a n s e = sym (ap (λ (z : Signal). z.first) (each a n s e))
+
+-- what is known of the events of a design is known of the same one
+pub moved : (a b : Arena) (nets : Labelled) (arm : BlockEvents) (es fs : List Event) → a ≡ b → es ≡ fs
+    → ((n : ℕ) → AreNets (design_of a) n nets → AreEvents (signal_at (arena_signals a)) arm (events_of (clock_nets (design_of a) n) (root_of (design_of a) n) (map (event_of (signal_at (arena_signals a))) es)))
+    → (n : ℕ) → AreNets (design_of b) n nets → AreEvents (signal_at (arena_signals b)) arm (events_of (clock_nets (design_of b) n) (root_of (design_of b) n) (map (event_of (signal_at (arena_signals b))) fs))
+moved a b nets arm es fs e f h =
+    subst (λ (c : Arena). (n : ℕ) → AreNets (design_of c) n nets → AreEvents (signal_at (arena_signals c)) arm (events_of (clock_nets (design_of c) n) (root_of (design_of c) n) (map (event_of (signal_at (arena_signals c))) fs))) e
+    (subst (λ (gs : List Event). (n : ℕ) → AreNets (design_of a) n nets → AreEvents (signal_at (arena_signals a)) arm (events_of (clock_nets (design_of a) n) (root_of (design_of a) n) (map (event_of (signal_at (arena_signals a))) gs))) f h)
+
+-- whether the branch was found
+pub found_none : (f : ℕ → Statement) (found : Option ℕ) (r : Bool) (o : Option Statement) → is_some found ≡ not r → option_map f found ≡ o → r ≡ not (is_some o)
+found_none f None true o k h = ap {B = Bool} (λ o. not (is_some o)) h
+found_none f None false o k h = cc
+found_none f (Some n) true o k h = cc
+found_none f (Some n) false o k h = ap {B = Bool} (λ o. not (is_some o)) h

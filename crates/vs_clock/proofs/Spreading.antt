@@ -1,5 +1,5 @@
 -- How labels spread.
-use Rattle.std.proofs.Common.{◌≡◌, ℕ, zero, suc, ◌+◌, ◌*◌, ◌≤◌, ◌<◌, Bool, true, false, List, [], ◌∷◌, ◌++◌, ◌||◌, ◌&&◌, ◌==◌, not, refl, sym, ap, ◌∙◌, subst, eqb-true, eq-eqb, get_or, set, take, length, sum_by, arith, Some, None, Option, is_some, is_none, ◌≢◌, get_or-set_same, get_or-set_other, length-append}
+use Rattle.std.proofs.Common.{◌≡◌, ℕ, zero, suc, ◌+◌, ◌≤◌, ◌<◌, Bool, true, false, List, [], ◌∷◌, ◌++◌, ◌||◌, ◌&&◌, ◌==◌, not, refl, sym, ap, ◌∙◌, subst, eqb-true, eq-eqb, get_or, set, take, length, sum_by, arith, Some, None, Option, is_some, is_none, ◌≢◌, get_or-set_same, get_or-set_other, length-append}
 use Rattle.std.proofs.lemmas.List.Sums.{sum_by-set}
 use Rattle.vs_design.specs.Footprints.{contains}
 use Rattle.vs_clock.specs.Spread.{targets_at, label_at, has_label, IsClosedSet, is_free, effort, Labels, Spreads}

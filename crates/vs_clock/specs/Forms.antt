@@ -1,6 +1,5 @@
 -- The form of a block with a reset.
-use Rattle.std.specs.Prelude.{ℕ, Bool, if◌then◌else◌, Option, None, Some}
-use Rattle.vs_design.specs.Expressions.{Expression}
+use Rattle.std.specs.Prelude.{ℕ, if◌then◌else◌, Option, None, Some}
 use Rattle.vs_design.specs.Statements.{Statement, If}
 use Rattle.vs_design.specs.Designs.{Edge}
 use Rattle.vs_design.specs.Resets.{is_condition}

@@ -1,8 +1,10 @@
+pub mod Clocked
 pub mod Forms
 pub mod Inputs
 pub mod Kept
 pub mod Nets
 pub mod Ports
+pub mod Refused
 pub mod Roots
 pub mod Spread
 pub mod Tests

@@ -1,5 +1,5 @@
 -- The clock nets and the reset nets of a design.
-use Rattle.std.specs.Prelude.{◌≡◌, ℕ, Bool, List, is_some, Option}
+use Rattle.std.specs.Prelude.{◌≡◌, ℕ, Bool, List, Option}
 use Rattle.vs_design.specs.Designs.{Design}
 use Rattle.vs_design.specs.Footprints.{contains}
 use Rattle.vs_design.specs.Clocks.{clock_nets, root_of}

@@ -1,5 +1,5 @@
 -- How labels spread from a bit along input ports.
-use Rattle.std.specs.Prelude.{◌≡◌, ℕ, ◌+◌, ◌*◌, ◌≤◌, ◌<◌, Bool, true, false, ◌&&◌, ◌||◌, List, [], ◌∷◌, length, sum_by, slice_index_or, is_some, is_none, Option, Some, None}
+use Rattle.std.specs.Prelude.{◌≡◌, ℕ, ◌+◌, ◌*◌, ◌≤◌, Bool, true, false, ◌&&◌, ◌||◌, List, [], length, sum_by, slice_index_or, is_some, is_none, Option, Some, None}
 use Rattle.vs_design.specs.Footprints.{contains}
 
 abbrev pub targets_at : List (List ℕ) → ℕ → List ℕ

@@ -1,5 +1,5 @@
 -- The tests of processes, one after the other.
-use Rattle.std.specs.Prelude.{◌≡◌, ℕ, ◌<◌, Bool, false, List, slice_get, Option, Some, None}
+use Rattle.std.specs.Prelude.{◌≡◌, ℕ, ◌<◌, Bool, false, slice_get, Option, Some, None}
 use Rattle.vs_design.specs.Expressions.{Signal}
 use Rattle.vs_design.specs.Designs.{Process, is_edge, Design}
 use Rattle.vs_design.specs.Designs as D
@@ -29,3 +29,9 @@ abbrev pub AreEvents : (ℕ → Signal) → BlockEvents → Option Events → Ty
 AreEvents signal Other events = events ≡ None
 AreEvents signal Clock events = (clock : D.Event) × (events ≡ Some (ByClock clock))
 AreEvents signal (Reset e) events = (clock : D.Event) × (events ≡ Some (ByBoth clock (event_of signal e)))
+
+-- and this event's signal is among so many
+abbrev pub HasSignal : ℕ → BlockEvents → Type 0
+HasSignal count Other = Unit {0}
+HasSignal count Clock = Unit {0}
+HasSignal count (Reset e) = e.signal < count

@@ -6,7 +6,7 @@ ghost use Rattle.vs_design.specs.Clocks.{is_clock_event, is_reset_event, both_ev
 ghost use Rattle.vs_flat.specs.DesignOf.{arena_signals, design_of, event_of};
 ghost use Rattle.vs_flat.specs.Trees.{signal_at};
 ghost use Rattle.vs_clock.specs.Nets.{AreNets};
-ghost use Rattle.vs_clock.specs.Tests.{AreEvents};
+ghost use Rattle.vs_clock.specs.Tests.{AreEvents, HasSignal};
 
 use crate::nets::Nets;
 use crate::ports::only_bit;
@@ -69,7 +69,8 @@ fn are_both(flat: &Flat, nets: &Nets, clock: Event, reset: Event) -> bool
 fn both_events(flat: &Flat, nets: &Nets, e: Event, f: Event) -> BlockEvents
     requires first { e.signal < length flat.now.signals }
     requires second { f.signal < length flat.now.signals }
-    ensures { (c : ℕ) → AreNets (design_of flat.now) c nets.now → AreEvents (signal_at (arena_signals flat.now)) result
+    ensures there { HasSignal (length flat.now.signals) result }
+    ensures events { (c : ℕ) → AreNets (design_of flat.now) c nets.now → AreEvents (signal_at (arena_signals flat.now)) result
         (both_events (clock_nets (design_of flat.now) c) (root_of (design_of flat.now) c) (event_of (signal_at (arena_signals flat.now)) e) (event_of (signal_at (arena_signals flat.now)) f)) }
 {
     if are_both(flat, nets, e, f) {
@@ -84,7 +85,8 @@ fn both_events(flat: &Flat, nets: &Nets, e: Event, f: Event) -> BlockEvents
 /// What a block with these events waits for.
 pub(crate) fn events_of(flat: &Flat, nets: &Nets, events: &[Event]) -> BlockEvents
     requires { (k : ℕ) (e : Event) → slice_get events.now k ≡ Some e → e.signal < length flat.now.signals }
-    ensures { (c : ℕ) → AreNets (design_of flat.now) c nets.now → AreEvents (signal_at (arena_signals flat.now)) result
+    ensures there { HasSignal (length flat.now.signals) result }
+    ensures events { (c : ℕ) → AreNets (design_of flat.now) c nets.now → AreEvents (signal_at (arena_signals flat.now)) result
         (events_of (clock_nets (design_of flat.now) c) (root_of (design_of flat.now) c) (map (event_of (signal_at (arena_signals flat.now))) events.now)) }
 {
     if events.len() == 1 {

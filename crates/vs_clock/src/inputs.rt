@@ -53,13 +53,7 @@ fn bit_for_reset(flat: &Flat, signal: u32, clock: u32) -> Option<u32>
     ensures { result ≡ reset_bit clock (signal_at (arena_signals flat.now) signal) }
 {
     match only_bit(flat, signal) {
-        Some(bit) => {
-            if bit == clock {
-                None
-            } else {
-                Some(bit)
-            }
-        }
+        Some(bit) => { if bit == clock { None } else { Some(bit) } }
         None => None,
     }
 }

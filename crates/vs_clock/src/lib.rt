@@ -2,6 +2,8 @@
 #![tactic(auto)]
 
 mod bits;
+mod clocked;
+mod clocks;
 mod error;
 mod events;
 mod first;
@@ -14,4 +16,6 @@ mod rules;
 mod spread;
 mod targets;
 
+pub use clocked::check;
+pub use clocks::Clocks;
 pub use error::ClockError;

@@ -97,7 +97,9 @@ pub(crate) fn is_formless(
     match &flat.process(p).kind {
         Kind::Assign { .. } => Ok(false),
         Kind::Block {
-            events, statement, ..
+            events,
+            statement,
+            ..
         } => match events_of(flat, nets, events.as_slice()) {
             BlockEvents::Reset(reset) => {
                 let bit = flat.signal(reset.signal).first_bit;

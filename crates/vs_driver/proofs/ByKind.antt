@@ -1,5 +1,5 @@
 -- The process that an item of a flat design stands for, by its kind.
-use Rattle.std.proofs.Common.{◌≡◌, ℕ, zero, suc, ◌<◌, Bool, true, false, List, [], ◌∷◌, ◌&&◌, map, is_some, None, refl, sym, ap, ◌∙◌, subst, Some, nat_lt, length, take, replicate}
+use Rattle.std.proofs.Common.{◌≡◌, ℕ, zero, suc, ◌<◌, Bool, true, List, [], ◌∷◌, ◌&&◌, map, is_some, None, refl, sym, ap, ◌∙◌, subst, Some, nat_lt, length, take, replicate}
 use Rattle.std.specs.Prelude.{slice_get}
 use Rattle.std.specs.List.Sorted.{IsStrictlyIncreasing}
 use Rattle.std.proofs.lemmas.Bool.{ltb-true}
@@ -21,16 +21,14 @@ use Rattle.vs_flat.specs.declared.processes.Process.{Process}
 use Rattle.vs_flat.specs.declared.processes.Kind.{Kind}
 use Rattle.vs_flat.specs.declared.processes.Kind.TheVariants as K
 use Rattle.vs_flat.specs.declared.processes.Port.{Port}
-use Rattle.vs_flat.specs.Operators.{port_of}
-use Rattle.vs_flat.specs.Targets.{place_of}
 use Rattle.vs_flat.specs.Arena.{Arena}
 use Rattle.vs_flat.specs.Lawful.{NamesEarlier, IsLawful}
 use Rattle.vs_flat.specs.Laws.{EachProcess, ProcessNames, AssignTargets}
-use Rattle.vs_flat.specs.Named.{kind_names_below, covers_process}
+use Rattle.vs_flat.specs.Named.{kind_names_below}
 use Rattle.vs_flat.specs.Trees.{signal_at, tree_at, statement_at, target_tree}
-use Rattle.vs_flat.specs.DesignOf.{event_of, kind_of, process_of, arena_signals, arena_trees, arena_statements, design_of}
+use Rattle.vs_flat.specs.DesignOf.{event_of, kind_of, arena_signals, arena_trees, arena_statements, design_of}
 use Rattle.vs_driver.specs.declared.drivers.Drivers.{Drivers}
-use Rattle.vs_driver.specs.declared.drivers.Drivers.TheVariants.{Nobody, One, Two}
+use Rattle.vs_driver.specs.declared.drivers.Drivers.TheVariants.{Nobody, Two}
 use Rattle.vs_driver.specs.Drivers.{first_two, drivers_at, AreDrivers, IsTableOf}
 use Rattle.vs_driver.proofs.Tests.{and_both, contains_head, contains_tail}
 use Rattle.vs_driver.proofs.Counting.{block_driver}

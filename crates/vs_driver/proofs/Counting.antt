@@ -4,13 +4,12 @@ use Rattle.std.specs.Prelude.{slice_get}
 use Rattle.std.specs.List.Sorted.{IsStrictlyIncreasing}
 use Rattle.std.proofs.lemmas.List.{take_more, replicate-append-replicate}
 use Rattle.vs_design.specs.Statements.{Statement}
-use Rattle.vs_design.specs.Designs.{Process, Continuous, Always, Event, Design}
-use Rattle.vs_design.specs.Footprints.{contains, target_bits, statement_bits, writes_of}
+use Rattle.vs_design.specs.Designs.{Process, Always, Event, Design}
+use Rattle.vs_design.specs.Footprints.{contains, statement_bits}
 use Rattle.vs_design.specs.Rules.{times, driver, drivers_from}
 use Rattle.vs_driver.specs.declared.drivers.Drivers.{Drivers}
-use Rattle.vs_driver.specs.declared.drivers.Drivers.TheVariants.{Nobody}
 use Rattle.vs_driver.specs.Drivers.{first_two, drivers_at, AreDrivers}
-use Rattle.vs_driver.proofs.Tests.{by_test, either_way, place_of, same_turned}
+use Rattle.vs_driver.proofs.Tests.{by_test, either_way, place_of}
 
 same_other : (q p : ℕ) → (q == p) ≡ false → q ≡ p → ⊥
 same_other q p h e = either_way (q == p) (subst (λ m. (q == m) ≡ true) e (eq-eqb q q refl)) h

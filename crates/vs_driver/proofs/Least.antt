@@ -1,18 +1,18 @@
 -- The least bit with two drivers.
-use Rattle.std.proofs.Common.{◌≡◌, ℕ, zero, suc, ◌+◌, ◌<◌, ◌≤◌, Bool, true, false, not, List, [], ◌∷◌, ◌++◌, ◌||◌, ◌&&◌, ◌==◌, refl, sym, ap, ◌∙◌, subst, eqb-true, get_or, length, arith, min, nat_lt, Some, None, option_map, ◌⊎◌, inl, inr}
+use Rattle.std.proofs.Common.{◌≡◌, ℕ, zero, suc, ◌<◌, ◌≤◌, Bool, true, false, List, [], ◌∷◌, ◌++◌, ◌||◌, ◌&&◌, ◌==◌, refl, sym, ap, ◌∙◌, subst, eqb-true, get_or, length, arith, min, nat_lt, Some, None, option_map, ◌⊎◌, inl, inr}
 use Rattle.std.specs.Prelude.{slice_get, filter}
 use Rattle.std.proofs.lemmas.Bool.{lt-ltb, ltb-true, ltb-false, le-ltb}
-use Rattle.vs_design.specs.Designs.{Process, process_place, Design, bit_count}
+use Rattle.vs_design.specs.Designs.{Process, Design, bit_count}
 use Rattle.vs_design.specs.Footprints.{contains, all_reads, writes_of, waits_of}
 use Rattle.vs_design.specs.Elaborated.{IsLawfulDesign}
 use Rattle.vs_design.specs.Laws.{BitsOfDesign}
-use Rattle.vs_design.specs.Rules.{drivers, drivers_from, written_bits, shared_bits}
+use Rattle.vs_design.specs.Rules.{drivers, written_bits, shared_bits}
 use Rattle.vs_design.specs.Refusals.{least_with, least, place_at, driver_refusal}
 use Rattle.vs_design.specs.Refusals as R
 use Rattle.vs_design.specs.RefusalLaws.{DriversAre}
 use Rattle.vs_driver.specs.declared.drivers.Drivers.{Drivers}
 use Rattle.vs_driver.specs.declared.drivers.Drivers.TheVariants.{Nobody, One, Two}
-use Rattle.vs_driver.specs.Drivers.{first_two, drivers_at}
+use Rattle.vs_driver.specs.Drivers.{first_two}
 use Rattle.vs_driver.proofs.Tests.{by_test, either_way, same_test, or_left, or_right, and_both, and_true, contains-append, contains_head, contains_tail}
 
 abbrev pub is_two : Drivers → Bool

@@ -1,5 +1,5 @@
 -- The drivers of bits, as far as they matter.
-use Rattle.std.specs.Prelude.{◌≡◌, ℕ, ◌<◌, List, [], ◌∷◌, ◌++◌, length, take, slice_index_or}
+use Rattle.std.specs.Prelude.{◌≡◌, ℕ, ◌<◌, List, [], ◌∷◌, length, take, slice_index_or}
 use Rattle.vs_design.specs.Designs.{Design, bit_count}
 use Rattle.vs_design.specs.Rules.{drivers_from, drivers}
 use Rattle.vs_driver.specs.declared.drivers.Drivers.{Drivers}

@@ -1,7 +1,6 @@
 //! Single drivers: no bit of a design is written by two processes, or twice by one assign.
 #![tactic(auto)]
 
-
 mod drivers;
 mod error;
 mod single;

@@ -1,5 +1,5 @@
 -- Lists without repetition, and least numbers.
-use Rattle.std.proofs.Common.{◌≡◌, ℕ, zero, suc, ◌≤◌, ◌<◌, true, false, List, [], ◌∷◌, ◌++◌, ◌||◌, ◌==◌, refl, sym, ap, ◌∙◌, subst, length, arith, get_or}
+use Rattle.std.proofs.Common.{◌≡◌, ℕ, zero, suc, ◌≤◌, ◌<◌, false, List, [], ◌∷◌, ◌++◌, ◌==◌, refl, sym, ap, ◌∙◌, subst, length, arith, get_or}
 use Rattle.vs_design.specs.Footprints.{contains}
 use Rattle.vs_design.specs.Cycles.{AreApart, AreAtLeast}
 use Rattle.vs_level.proofs.Tests.{or_neither, or_false, contains-append, same_turned}

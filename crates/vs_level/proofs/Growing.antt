@@ -1,20 +1,17 @@
 -- How the writers and the graph of a design grow process by process.
-use Rattle.std.proofs.Common.{◌≡◌, ℕ, zero, suc, ◌+◌, ◌<◌, ◌≤◌, Bool, true, false, List, [], ◌∷◌, ◌++◌, ◌||◌, ◌&&◌, ◌==◌, not, refl, sym, ap, ◌∙◌, subst, eqb-true, eq-eqb, get_or, set, take, length, arith, nat_lt, Some, ◌≢◌, get_or-set_same, get_or-set_other, length-append}
+use Rattle.std.proofs.Common.{◌≡◌, ℕ, zero, suc, ◌+◌, ◌<◌, Bool, true, false, List, [], ◌∷◌, ◌++◌, ◌||◌, ◌&&◌, ◌==◌, not, refl, sym, ap, ◌∙◌, subst, eqb-true, eq-eqb, get_or, set, take, length, arith, nat_lt, Some, ◌≢◌, get_or-set_same, get_or-set_other, length-append}
 use Rattle.std.specs.Prelude.{slice_get}
 use Rattle.std.specs.List.{list_any}
 use Rattle.std.proofs.lemmas.Bool.{lt-ltb, ltb-true}
 use Rattle.std.proofs.lemmas.List.Folds.{list_any-append}
-use Rattle.std.proofs.Math.ListN.{length-set}
 use Rattle.std.proofs.Math.Seq.{get_or-append_seam}
 use Rattle.std.proofs.lemmas.List.{get_or_append_left}
-use Rattle.vs_design.specs.Designs.{Process, is_clocked, Design, bit_count}
+use Rattle.vs_design.specs.Designs.{Process, is_clocked, Design}
 use Rattle.vs_design.specs.Footprints.{contains, writes_of, reads_of, waits_of}
 use Rattle.vs_design.specs.Levels.{needs, at_number}
-use Rattle.vs_reads.specs.Laws.{HasBits}
-use Rattle.vs_reads.specs.Footprint.{footprints_of, reads_at, waits_at, writes_at}
-use Rattle.vs_level.specs.Graph.{Feeding, feeders_at, is_node, is_fed_by}
+use Rattle.vs_level.specs.Graph.{Feeding, is_node, is_fed_by}
 use Rattle.vs_level.specs.Feeders.{settles, is_writer, is_feeder, writers_at, AreWriters, IsGraphUpTo, with_node, with_other}
-use Rattle.vs_level.proofs.Tests.{by_test, either_way, same_test, contains-append, contains_more, any_more, any_same, any_test, below_same, below_other}
+use Rattle.vs_level.proofs.Tests.{by_test, either_way, contains-append, contains_more, any_same, any_test, below_same, below_other}
 use Rattle.vs_level.proofs.Numbered.{number_at}
 
 same_other : (q p : ℕ) → (q == p) ≡ false → q ≡ p → ⊥

@@ -1,10 +1,9 @@
 -- Rings of processes: where one is cut, and how it is turned.
-use Rattle.std.proofs.Common.{◌≡◌, ℕ, zero, suc, ◌≤◌, ◌<◌, true, false, List, [], ◌∷◌, ◌++◌, refl, sym, ap, ◌∙◌, subst, length, arith, get_or, take, drop}
+use Rattle.std.proofs.Common.{◌≡◌, ℕ, suc, ◌≤◌, ◌<◌, List, [], ◌∷◌, ◌++◌, refl, sym, ap, ◌∙◌, subst, length, get_or, take, drop}
 use Rattle.std.proofs.Math.Seq.{drop-cons}
 use Rattle.std.proofs.lemmas.List.{take-append-drop}
-use Rattle.vs_design.specs.Footprints.{contains}
-use Rattle.vs_design.specs.Cycles.{AreApart, AreAtLeast}
-use Rattle.vs_level.specs.Graph.{Feeding, is_fed_by, IsLinked, IsRing, IsCircle}
+use Rattle.vs_design.specs.Cycles.{AreAtLeast}
+use Rattle.vs_level.specs.Graph.{Feeding, IsLinked, IsRing, IsCircle}
 use Rattle.vs_level.proofs.Apart.{apart_turned, least_join, least_parts, least_of}
 
 linked_parts : (g : Feeding) (xs : List ℕ) (y : ℕ) (ys : List ℕ) (last : ℕ) → IsLinked g (xs ++ y ∷ ys) last → IsLinked g xs y × IsLinked g (y ∷ ys) last

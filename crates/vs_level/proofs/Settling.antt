@@ -1,5 +1,5 @@
 -- Which processes of a flat design settle, and how many bits it has.
-use Rattle.std.proofs.Common.{◌≡◌, ℕ, ◌+◌, ◌≤◌, ◌<◌, ◌^◌, Bool, true, false, not, List, [], ◌∷◌, ◌||◌, map, refl, sym, ap, ◌∙◌, subst, Some, take, length, arith, get_or, sum_by}
+use Rattle.std.proofs.Common.{◌≡◌, ℕ, ◌+◌, ◌≤◌, ◌^◌, Bool, false, not, List, [], ◌∷◌, ◌||◌, map, refl, ap, ◌∙◌, Some, take, arith, get_or}
 use Rattle.std.specs.Prelude.{slice_get}
 use Rattle.std.specs.List.{list_any}
 use Rattle.std.proofs.lemmas.Option.{slice_get_within, get_or_from_slice_get}

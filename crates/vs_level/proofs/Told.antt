@@ -1,9 +1,8 @@
 -- What footprints tell of a process.
-use Rattle.std.proofs.Common.{◌≡◌, ℕ, ◌<◌, Bool, true, List, [], ◌||◌, refl, sym, ap, ◌∙◌, subst, Some, length}
+use Rattle.std.proofs.Common.{◌≡◌, ℕ, ◌<◌, Bool, true, List, [], ◌||◌, sym, ap, ◌∙◌, subst, Some, length}
 use Rattle.std.specs.Prelude.{slice_get}
-use Rattle.vs_design.specs.Designs.{Process, Design, bit_count}
+use Rattle.vs_design.specs.Designs.{Process, Design}
 use Rattle.vs_design.specs.Footprints.{contains}
-use Rattle.vs_design.specs.Elaborated.{IsLawfulDesign}
 use Rattle.vs_flat.specs.Arena.{Arena}
 use Rattle.vs_flat.specs.DesignOf.{design_of}
 use Rattle.vs_flat.specs.Laws.{HasCounts}

@@ -1,7 +1,7 @@
 -- The graph of a design: its assigns and combinational blocks, and what feeds each.
-use Rattle.std.specs.Prelude.{◌≡◌, ℕ, suc, ◌<◌, ◌≤◌, Bool, true, false, not, ◌&&◌, List, [], ◌∷◌, ◌++◌, length, slice_index_or, nat_lt}
+use Rattle.std.specs.Prelude.{◌≡◌, ℕ, ◌<◌, Bool, not, ◌&&◌, List, [], ◌∷◌, ◌++◌, length, slice_index_or, nat_lt}
 use Rattle.std.specs.List.{list_any}
-use Rattle.vs_design.specs.Designs.{Process, is_edge, is_clocked, Design}
+use Rattle.vs_design.specs.Designs.{is_edge, is_clocked, Design}
 use Rattle.vs_design.specs.Footprints.{contains, writes_of}
 use Rattle.vs_design.specs.Levels.{needs, at_number}
 use Rattle.vs_flat.specs.declared.processes.Event.{Event}

@@ -8,9 +8,9 @@ ghost use Rattle.vs_reads.specs.Footprint.{footprints_of};
 ghost use Rattle.vs_level.specs.Level.{IsLevelError};
 ghost use Rattle.vs_level.specs.SortError.{IsSortErrorOf};
 
-use crate::{LevelError, Order};
 use crate::feeders::graph_of;
 use crate::search::{SortError, sort};
+use crate::{LevelError, Order};
 use std::alloc::Global;
 use vs_design::cycle_law;
 use vs_flat::{Flat, trees_law};
@@ -34,11 +34,7 @@ fn error_of(flat: &Flat, error: SortError) -> LevelError
 }
 
 /// A level order of a design. Cycle: there is none, since assigns and combinational blocks feed one another in a circle; which of several circles is answered is left open. The time is linear in the lengths of the footprints, where no bit has two writers.
-pub fn order(
-    alloc: Global,
-    typed: &Typed,
-    footprints: &Footprints,
-) -> Result<Order, LevelError>
+pub fn order(alloc: Global, typed: &Typed, footprints: &Footprints) -> Result<Order, LevelError>
     requires { footprints.now ≡ footprints_of (design_of typed.now) }
     ensures order { IfOk result (λ o. is_level_order (design_of typed.now) o ≡ true) }
     ensures acyclic { OnOk result (has_no_cycle (design_of typed.now) ≡ true) }

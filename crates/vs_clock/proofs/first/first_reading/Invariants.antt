@@ -1,5 +1,5 @@
 use Rattle.std.proofs.Common.{ℕ}
-use Rattle.vs_design.specs.Clocks.{reads_clock, has_other_clock, clock_nets, root_of}
+use Rattle.vs_design.specs.Clocks.{reads_clock, clock_nets}
 use Rattle.vs_flat.specs.DesignOf.{design_of}
 use Rattle.vs_clock.specs.Nets.{AreNets}
 use Rattle.vs_clock.specs.Tests.{NoneBefore}

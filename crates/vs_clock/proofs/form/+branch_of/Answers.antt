@@ -1,4 +1,4 @@
-use Rattle.std.proofs.Common.{◌≡◌, ◌<◌, arith, ap, ◌∙◌}
+use Rattle.std.proofs.Common.{◌<◌, arith, ap, ◌∙◌}
 use Rattle.vs_flat.specs.Operators.{edge_of}
 use Rattle.vs_clock.specs.Forms.{if_branch}
 use Rattle.vs_clock.proofs.Branches.{if_below, part_below, part_same, parts_none}

@@ -1,9 +1,6 @@
-use Rattle.std.proofs.Common.{◌≡◌, Some, None, true, sym, ap, ◌∙◌, subst, if◌then◌else◌}
-use Rattle.vs_design.specs.Fits.{fits_statement}
+use Rattle.std.proofs.Common.{◌≡◌, Some, None, sym, ap, ◌∙◌, subst, if◌then◌else◌}
 use Rattle.vs_flat.specs.Lawful.{IsLawful}
-use Rattle.vs_flat.specs.DesignOf.{arena_statements}
 use Rattle.vs_flat.specs.Operators.{edge_of}
-use Rattle.vs_flat.specs.Trees.{statement_at}
 use Rattle.vs_clock.specs.Forms.{if_branch}
 use Rattle.vs_clock.proofs.Branches.{body_of, branch_fits, branch_is, branch_none}
 use Rattle.vs_clock.proofs.form.reset_branch.Goals as goal

@@ -1,8 +1,8 @@
-use Rattle.std.proofs.Common.{◌≡◌, ◌<◌, ◌≤◌, length, sym, ap, ◌∙◌, subst, arith}
+use Rattle.std.proofs.Common.{◌<◌, length, sym, ◌∙◌}
 use Rattle.vs_flat.specs.DesignOf.{arena_signals}
 use Rattle.vs_clock.specs.Inputs.{is_named_input}
 use Rattle.vs_clock.proofs.Told.{there}
-use Rattle.vs_clock.proofs.Finding.{find_more, find_at, find_none}
+use Rattle.vs_clock.proofs.Finding.{find_more, find_at}
 use Rattle.vs_clock.proofs.inputs.find_clock.Goals as goal
 
 pub returns-then-is_named-clause-clock : goal.returns-then-is_named-clause-clock

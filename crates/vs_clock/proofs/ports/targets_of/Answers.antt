@@ -1,4 +1,4 @@
-use Rattle.std.proofs.Common.{◌≡◌, ◌+◌, ◌<◌, ℕ, List, length, sym, ap, ◌∙◌, subst, arith}
+use Rattle.std.proofs.Common.{◌≡◌, ◌+◌, ◌<◌, ℕ, List, length, sym, ◌∙◌, subst, arith}
 use Rattle.std.proofs.Math.ListN.{length-set}
 use Rattle.vs_design.specs.Designs.{bit_count}
 use Rattle.vs_flat.specs.DesignOf.{design_of}
@@ -23,10 +23,10 @@ loop-p-preserved c =
     let x = process_there d.processes p (there (there c.loop-p-test.true c.process_count-p-end.ensures.count) (sym (c.trees_law.ensures.counts c.args.flat.now).processes)) in
     let P : List (List ℕ) → Type 0 = λ ts. (length ts ≡ bit_count d) × AreTargets d (p + 1) ts in
     elim c.match-copied_bits.branch [
-      in-Some+in_ok-add-in-Some w ↦
-        let k = sym (w.in-Some.ensures x.0 x.1) in
-        let l = subst (λ n. w.in-Some.from < n) (sym c.loop-p.invariant.0) (copy_below c.footprint_law.ensures.bits d c.requires.design p x.0 _ _ x.1 k).0 in
-        subst P (sym (w.targets-is ∙ w.in_ok-add-in-Some.ensures)) (length-set c.loop-p.targets w.in-Some.from _ ∙ c.loop-p.invariant.0, targets_more d p x.0 w.in-Some.from w.in-Some.to c.loop-p.targets x.1 k l c.loop-p.invariant.1)
+      | in-Some+in_ok-add-in-Some w ↦
+          let k = sym (w.in-Some.ensures x.0 x.1) in
+          let l = subst (λ n. w.in-Some.from < n) (sym c.loop-p.invariant.0) (copy_below c.footprint_law.ensures.bits d c.requires.design p x.0 _ _ x.1 k).0 in
+          subst P (sym (w.targets-is ∙ w.in_ok-add-in-Some.ensures)) (length-set c.loop-p.targets w.in-Some.from _ ∙ c.loop-p.invariant.0, targets_more d p x.0 w.in-Some.from w.in-Some.to c.loop-p.targets x.1 k l c.loop-p.invariant.1)
       | in-None w ↦ subst P (sym w.targets-is) (c.loop-p.invariant.0, targets_same d p x.0 c.loop-p.targets x.1 (sym (w.in-None.ensures x.0 x.1)) c.loop-p.invariant.1)
     ]
 

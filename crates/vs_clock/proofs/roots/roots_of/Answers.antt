@@ -1,4 +1,4 @@
-use Rattle.std.proofs.Common.{◌≡◌, ◌+◌, ◌<◌, ℕ, true, List, Option, [], ◌++◌, length, take, drop, get_or, sym, ap, ◌∙◌, subst, refl}
+use Rattle.std.proofs.Common.{◌≡◌, ◌+◌, ◌<◌, ℕ, true, List, Option, [], length, take, drop, get_or, sym, ap, ◌∙◌, subst}
 use Rattle.vs_design.specs.Footprints.{contains}
 use Rattle.vs_flat.specs.DesignOf.{design_of}
 use Rattle.vs_clock.specs.Roots.{AreRoots}

@@ -1,4 +1,4 @@
-use Rattle.std.proofs.Common.{◌≡◌, ◌||◌, ℕ, length, take}
+use Rattle.std.proofs.Common.{◌≡◌, ◌||◌, ℕ, take}
 use Rattle.std.specs.List.{list_any}
 use Rattle.vs_design.specs.Footprints.{contains}
 use Rattle.vs_level.specs.Feeders.{writers_at}

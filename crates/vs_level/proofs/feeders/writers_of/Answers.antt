@@ -21,9 +21,9 @@ loop-p-preserved c =
     let x = process_is c.footprint_law.ensures.bits c.args.flat.now (c.trees_law.ensures.counts c.args.flat.now) c.requires.lawful p (there c.loop-p-test.true c.process_count-p-end.ensures.count) in
     let P : List (List ℕ) → Type 0 = λ ws. (length ws ≡ bit_count d) × AreWriters d (p + 1) ws in
     elim c.if-is_settling.branch [
-      then-is_settling+in_ok-add_writer w ↦
-        let bits = told (bit_count d) _ _ _ (w.writes.ensures ∙ ap (λ fs. writes_at fs p) c.requires.footprints) x.bits.writes in
-        let k = w.in_ok-add_writer.ensures in
-        subst P (sym w.writers-is) (k.count ∙ c.loop-p.invariant.0, writers_more d p x.process c.loop-p.writers _ _ k.count x.is (sym c.is_settling.ensures ∙ w.if-is_settling.true) bits.same k.added c.loop-p.invariant.1)
+      | then-is_settling+in_ok-add_writer w ↦
+          let bits = told (bit_count d) _ _ _ (w.writes.ensures ∙ ap (λ fs. writes_at fs p) c.requires.footprints) x.bits.writes in
+          let k = w.in_ok-add_writer.ensures in
+          subst P (sym w.writers-is) (k.count ∙ c.loop-p.invariant.0, writers_more d p x.process c.loop-p.writers _ _ k.count x.is (sym c.is_settling.ensures ∙ w.if-is_settling.true) bits.same k.added c.loop-p.invariant.1)
       | else-is_settling w ↦ subst P (sym w.writers-is) (c.loop-p.invariant.0, writers_same d p c.loop-p.writers (sym c.is_settling.ensures ∙ w.if-is_settling.false) c.loop-p.invariant.1)
     ]

@@ -1,4 +1,4 @@
-use Rattle.std.proofs.Common.{◌≡◌, ℕ, ◌<◌, sym, subst, length, get_or, true, arith, List}
+use Rattle.std.proofs.Common.{◌≡◌, ℕ, ◌<◌, subst, length, get_or, true, arith, List}
 use Rattle.vs_design.specs.Footprints.{contains}
 use Rattle.vs_level.proofs.Steps.{sorted, root_there}
 use Rattle.vs_level.proofs.search.sort.Goals as goal

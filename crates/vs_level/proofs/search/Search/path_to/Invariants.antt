@@ -1,4 +1,4 @@
-use Rattle.std.proofs.Common.{◌≡◌, ◌++◌, false, true, reverse, vec_len}
+use Rattle.std.proofs.Common.{◌≡◌, ◌++◌, true, reverse, vec_len}
 use Rattle.vs_design.specs.Footprints.{contains}
 use Rattle.vs_level.proofs.search.Search.path_to.Given as goal
 

@@ -1,4 +1,4 @@
-use Rattle.std.proofs.Common.{◌≡◌, ℕ, ◌<◌, sym, ◌∙◌, subst}
+use Rattle.std.proofs.Common.{◌<◌, sym, ◌∙◌, subst}
 use Rattle.vs_level.specs.Search.{IsSearch, effort}
 use Rattle.vs_level.proofs.Steps.{last_left, last_mark, last_open, search_placed, effort_placed}
 use Rattle.vs_level.proofs.search.Search.step.Goals as goal

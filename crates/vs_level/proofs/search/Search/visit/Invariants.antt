@@ -1,5 +1,5 @@
 use Rattle.std.proofs.Common.{◌≡◌, true}
-use Rattle.vs_level.specs.Search.{IsSearch, KeepsMet, effort, has_met, progress_of}
+use Rattle.vs_level.specs.Search.{IsSearch, KeepsMet, effort, has_met}
 use Rattle.vs_level.proofs.search.Search.visit.Given as goal
 
 abbrev pub invariant-loop-p : goal.invariant-loop-p

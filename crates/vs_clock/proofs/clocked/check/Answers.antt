@@ -1,0 +1,81 @@
+use Rattle.std.proofs.Common.{◌≡◌, ◌<◌, Some, None, length, sym, ap, ◌∙◌, subst}
+use Rattle.std.specs.Prelude.{slice_get}
+use Rattle.vs_design.specs.Clocks.{clock_nets, root_of, reads_clock, has_other_clock}
+use Rattle.vs_design.specs.Designs.{bit_count}
+use Rattle.vs_design.specs.Resets.{has_other_form}
+use Rattle.vs_flat.specs.Arena.{Arena}
+use Rattle.vs_flat.specs.DesignOf.{design_of}
+use Rattle.vs_flat.specs.Lawful.{IsLawful}
+use Rattle.vs_reads.specs.Footprint.{footprints_of}
+use Rattle.vs_clock.specs.Clocked.{IsClockOf}
+use Rattle.vs_clock.specs.Nets.{AreNets}
+use Rattle.vs_clock.specs.Tests.{IsFirst}
+use Rattle.vs_clock.proofs.ByKind.{place_at_is}
+use Rattle.vs_clock.proofs.Refusing.{is_read, is_other, is_formless, none_refused, clock_below, clock_found, carried, first_there}
+use Rattle.vs_clock.proofs.clocked.check.Goals as goal
+
+pub of-requires-clause-lawful : goal.of-requires-clause-lawful
+of-requires-clause-lawful c = subst IsLawful (sym c.flat-flat.ensures.same) c.flat-flat.ensures.lawful
+
+pub of-requires-clause-clock : goal.of-requires-clause-clock
+of-requires-clause-clock c =
+    let k = clock_found c.trees_law.ensures.signals c.trees_law.ensures.counts c.flat-flat.result.now c.args.typed.now c.flat-flat.ensures.same c.args.clock.now c.in-Some.input c.signal.result.now c.in-Some.ensures.clock c.in-Some.ensures.there c.signal.ensures in
+    let d = design_of c.args.typed.now in
+    subst (λ (a : Arena). c.signal.result.now.first_bit < bit_count (design_of a)) (sym c.flat-flat.ensures.same) (subst (λ n. n < bit_count d) (sym k.bit_is) (clock_below d c.flat-flat.ensures.lawful.design c.args.clock.now c.in-Some.input k.signal k.there k.is))
+
+pub first_reading-requires-clause-lawful : goal.first_reading-requires-clause-lawful
+first_reading-requires-clause-lawful c = subst IsLawful (sym c.flat-flat.ensures.same) c.flat-flat.ensures.lawful
+
+pub first_reading-requires-clause-footprints : goal.first_reading-requires-clause-footprints
+first_reading-requires-clause-footprints c = c.requires ∙ ap (λ a. footprints_of (design_of a)) (sym c.flat-flat.ensures.same)
+
+pub process-requires : goal.process-requires
+process-requires c =
+    let k = clock_found c.trees_law.ensures.signals c.trees_law.ensures.counts c.flat-flat.result.now c.args.typed.now c.flat-flat.ensures.same c.args.clock.now c.in-Some.input c.signal.result.now c.in-Some.ensures.clock c.in-Some.ensures.there c.signal.ensures in
+    let d = design_of c.args.typed.now in
+    subst (λ (a : Arena). c.in-Some-first_reading.process < length a.processes) (sym c.flat-flat.ensures.same) (subst (λ n. c.in-Some-first_reading.process < n) (c.trees_law.ensures.counts c.args.typed.now).processes (first_there d _ c.in-Some-first_reading.process (carried (λ a n. IsFirst (design_of a) (reads_clock (clock_nets (design_of a) n)) (Some c.in-Some-first_reading.process)) c.flat-flat.result.now c.args.typed.now c.signal.result.now.first_bit k.signal.first c.flat-flat.ensures.same k.bit_is (c.in-Some-first_reading.ensures c.signal.result.now.first_bit c.in_ok-nets.ensures))))
+
+pub returns-in-Some-first_reading-clause-refused : goal.returns-in-Some-first_reading-clause-refused
+returns-in-Some-first_reading-clause-refused c =
+    let k = clock_found c.trees_law.ensures.signals c.trees_law.ensures.counts c.flat-flat.result.now c.args.typed.now c.flat-flat.ensures.same c.args.clock.now c.in-Some.input c.signal.result.now c.in-Some.ensures.clock c.in-Some.ensures.there c.signal.ensures in
+    let d = design_of c.args.typed.now in
+    is_read d c.args.clock.now k.signal c.in-Some-first_reading.process c.process.result.now.at k.is (carried (λ a n. IsFirst (design_of a) (reads_clock (clock_nets (design_of a) n)) (Some c.in-Some-first_reading.process)) c.flat-flat.result.now c.args.typed.now c.signal.result.now.first_bit k.signal.first c.flat-flat.ensures.same k.bit_is (c.in-Some-first_reading.ensures c.signal.result.now.first_bit c.in_ok-nets.ensures)) (place_at_is c.trees_law.ensures.processes c.args.typed.now c.in-Some-first_reading.process c.process.result.now (subst (λ (a : Arena). slice_get a.processes c.in-Some-first_reading.process ≡ Some c.process.result.now) c.flat-flat.ensures.same c.process.ensures))
+
+pub first_other-requires : goal.first_other-requires
+first_other-requires c = subst IsLawful (sym c.flat-flat.ensures.same) c.flat-flat.ensures.lawful
+
+pub process-requires-in-Some-first_other : goal.process-requires-in-Some-first_other
+process-requires-in-Some-first_other c =
+    let k = clock_found c.trees_law.ensures.signals c.trees_law.ensures.counts c.flat-flat.result.now c.args.typed.now c.flat-flat.ensures.same c.args.clock.now c.in-Some.input c.signal.result.now c.in-Some.ensures.clock c.in-Some.ensures.there c.signal.ensures in
+    let d = design_of c.args.typed.now in
+    subst (λ (a : Arena). c.in-Some-first_other.process < length a.processes) (sym c.flat-flat.ensures.same) (subst (λ n. c.in-Some-first_other.process < n) (c.trees_law.ensures.counts c.args.typed.now).processes (first_there d _ c.in-Some-first_other.process (carried (λ a n. IsFirst (design_of a) (has_other_clock (clock_nets (design_of a) n) (root_of (design_of a) n)) (Some c.in-Some-first_other.process)) c.flat-flat.result.now c.args.typed.now c.signal.result.now.first_bit k.signal.first c.flat-flat.ensures.same k.bit_is (c.in-Some-first_other.ensures c.signal.result.now.first_bit c.in_ok-nets.ensures))))
+
+pub returns-in-Some-first_other-clause-refused : goal.returns-in-Some-first_other-clause-refused
+returns-in-Some-first_other-clause-refused c =
+    let k = clock_found c.trees_law.ensures.signals c.trees_law.ensures.counts c.flat-flat.result.now c.args.typed.now c.flat-flat.ensures.same c.args.clock.now c.in-Some.input c.signal.result.now c.in-Some.ensures.clock c.in-Some.ensures.there c.signal.ensures in
+    let d = design_of c.args.typed.now in
+    is_other d c.args.clock.now k.signal c.in-Some-first_other.process c.process-in-Some-first_other.result.now.at k.is (carried (λ a n. IsFirst (design_of a) (reads_clock (clock_nets (design_of a) n)) None) c.flat-flat.result.now c.args.typed.now c.signal.result.now.first_bit k.signal.first c.flat-flat.ensures.same k.bit_is (c.in-None-first_reading.ensures c.signal.result.now.first_bit c.in_ok-nets.ensures)) (carried (λ a n. IsFirst (design_of a) (has_other_clock (clock_nets (design_of a) n) (root_of (design_of a) n)) (Some c.in-Some-first_other.process)) c.flat-flat.result.now c.args.typed.now c.signal.result.now.first_bit k.signal.first c.flat-flat.ensures.same k.bit_is (c.in-Some-first_other.ensures c.signal.result.now.first_bit c.in_ok-nets.ensures)) (place_at_is c.trees_law.ensures.processes c.args.typed.now c.in-Some-first_other.process c.process-in-Some-first_other.result.now (subst (λ (a : Arena). slice_get a.processes c.in-Some-first_other.process ≡ Some c.process-in-Some-first_other.result.now) c.flat-flat.ensures.same c.process-in-Some-first_other.ensures))
+
+pub process-requires-in-Some-2 : goal.process-requires-in-Some-2
+process-requires-in-Some-2 c =
+    let k = clock_found c.trees_law.ensures.signals c.trees_law.ensures.counts c.flat-flat.result.now c.args.typed.now c.flat-flat.ensures.same c.args.clock.now c.in-Some.input c.signal.result.now c.in-Some.ensures.clock c.in-Some.ensures.there c.signal.ensures in
+    let d = design_of c.args.typed.now in
+    subst (λ (a : Arena). c.in-Some-2.process < length a.processes) (sym c.flat-flat.ensures.same) (subst (λ n. c.in-Some-2.process < n) (c.trees_law.ensures.counts c.args.typed.now).processes (first_there d _ c.in-Some-2.process (subst (λ r. IsFirst d (has_other_form (clock_nets d k.signal.first) (root_of d k.signal.first)) r) c.in-Some-2.is (c.in_ok-process.ensures k.signal.first (carried (λ a n. AreNets (design_of a) n c.in_ok-nets.nets) c.flat-flat.result.now c.args.typed.now c.signal.result.now.first_bit k.signal.first c.flat-flat.ensures.same k.bit_is c.in_ok-nets.ensures)))))
+
+pub returns-in-Some-2-clause-refused : goal.returns-in-Some-2-clause-refused
+returns-in-Some-2-clause-refused c =
+    let k = clock_found c.trees_law.ensures.signals c.trees_law.ensures.counts c.flat-flat.result.now c.args.typed.now c.flat-flat.ensures.same c.args.clock.now c.in-Some.input c.signal.result.now c.in-Some.ensures.clock c.in-Some.ensures.there c.signal.ensures in
+    let d = design_of c.args.typed.now in
+    is_formless d c.args.clock.now k.signal c.in-Some-2.process c.process-in-Some-2.result.now.at k.is (carried (λ a n. IsFirst (design_of a) (reads_clock (clock_nets (design_of a) n)) None) c.flat-flat.result.now c.args.typed.now c.signal.result.now.first_bit k.signal.first c.flat-flat.ensures.same k.bit_is (c.in-None-first_reading.ensures c.signal.result.now.first_bit c.in_ok-nets.ensures)) (carried (λ a n. IsFirst (design_of a) (has_other_clock (clock_nets (design_of a) n) (root_of (design_of a) n)) None) c.flat-flat.result.now c.args.typed.now c.signal.result.now.first_bit k.signal.first c.flat-flat.ensures.same k.bit_is (c.in-None-first_other.ensures c.signal.result.now.first_bit c.in_ok-nets.ensures)) (subst (λ r. IsFirst d (has_other_form (clock_nets d k.signal.first) (root_of d k.signal.first)) r) c.in-Some-2.is (c.in_ok-process.ensures k.signal.first (carried (λ a n. AreNets (design_of a) n c.in_ok-nets.nets) c.flat-flat.result.now c.args.typed.now c.signal.result.now.first_bit k.signal.first c.flat-flat.ensures.same k.bit_is c.in_ok-nets.ensures))) (place_at_is c.trees_law.ensures.processes c.args.typed.now c.in-Some-2.process c.process-in-Some-2.result.now (subst (λ (a : Arena). slice_get a.processes c.in-Some-2.process ≡ Some c.process-in-Some-2.result.now) c.flat-flat.ensures.same c.process-in-Some-2.ensures))
+
+pub returns-clause-clock : goal.returns-clause-clock
+returns-clause-clock c =
+    let k = clock_found c.trees_law.ensures.signals c.trees_law.ensures.counts c.flat-flat.result.now c.args.typed.now c.flat-flat.ensures.same c.args.clock.now c.in-Some.input c.signal.result.now c.in-Some.ensures.clock c.in-Some.ensures.there c.signal.ensures in
+    let d = design_of c.args.typed.now in
+    subst (IsClockOf d c.args.clock.now) (sym c.of-2.ensures) (record { signal = k.signal; there = k.there; is = sym k.is; bit_is = k.bit_is; nets_are = carried (λ a n. AreNets (design_of a) n c.in_ok-nets.nets) c.flat-flat.result.now c.args.typed.now c.signal.result.now.first_bit k.signal.first c.flat-flat.ensures.same k.bit_is c.in_ok-nets.ensures })
+
+pub returns-clause-lawful : goal.returns-clause-lawful
+returns-clause-lawful c =
+    let k = clock_found c.trees_law.ensures.signals c.trees_law.ensures.counts c.flat-flat.result.now c.args.typed.now c.flat-flat.ensures.same c.args.clock.now c.in-Some.input c.signal.result.now c.in-Some.ensures.clock c.in-Some.ensures.there c.signal.ensures in
+    let d = design_of c.args.typed.now in
+    none_refused d c.args.clock.now k.signal k.is (carried (λ a n. IsFirst (design_of a) (reads_clock (clock_nets (design_of a) n)) None) c.flat-flat.result.now c.args.typed.now c.signal.result.now.first_bit k.signal.first c.flat-flat.ensures.same k.bit_is (c.in-None-first_reading.ensures c.signal.result.now.first_bit c.in_ok-nets.ensures)) (carried (λ a n. IsFirst (design_of a) (has_other_clock (clock_nets (design_of a) n) (root_of (design_of a) n)) None) c.flat-flat.result.now c.args.typed.now c.signal.result.now.first_bit k.signal.first c.flat-flat.ensures.same k.bit_is (c.in-None-first_other.ensures c.signal.result.now.first_bit c.in_ok-nets.ensures)) (subst (λ r. IsFirst d (has_other_form (clock_nets d k.signal.first) (root_of d k.signal.first)) r) c.in-None-2.is (c.in_ok-process.ensures k.signal.first (carried (λ a n. AreNets (design_of a) n c.in_ok-nets.nets) c.flat-flat.result.now c.args.typed.now c.signal.result.now.first_bit k.signal.first c.flat-flat.ensures.same k.bit_is c.in_ok-nets.ensures)))

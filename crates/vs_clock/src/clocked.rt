@@ -1,0 +1,62 @@
+//! The rules on the clock of a design, and on its resets.
+
+ghost use Rattle.std.specs.Prelude.{◌≡◌, ◌<◌, None, IfOk, IfErr, OnOk};
+ghost use Rattle.vs_design.specs.Refusals.{clock_refusal};
+ghost use Rattle.vs_flat.specs.DesignOf.{design_of};
+ghost use Rattle.vs_reads.specs.Footprint.{footprints_of};
+ghost use Rattle.vs_clock.specs.Clocked.{IsClockOf};
+ghost use Rattle.vs_clock.specs.Refused.{IsClockError};
+
+use crate::clocks::Clocks;
+use crate::error::ClockError;
+use crate::first::{first_formless, first_other, first_reading};
+use crate::inputs::find_clock;
+use crate::nets::Nets;
+use std::alloc::Global;
+use vs_flat::trees_law;
+use vs_reads::Footprints;
+use vs_width::Typed;
+
+/// The clock of a design by the name of its input. The rules are tried in the order of `ClockError`, and each answers its first process.
+pub fn check(
+    alloc: Global,
+    typed: &Typed,
+    footprints: &Footprints,
+    clock: &[u8],
+) -> Result<Clocks, ClockError>
+    requires { footprints.now ≡ footprints_of (design_of typed.now) }
+    ensures clock { IfOk result (IsClockOf (design_of typed.now) clock.now) }
+    ensures lawful { OnOk result (clock_refusal (design_of typed.now) clock.now ≡ None) }
+    ensures refused { IfErr result (IsClockError (design_of typed.now) clock.now) }
+{
+    trees_law();
+    let flat = typed.flat();
+    let input = match find_clock(flat, clock) {
+        Some(input) => input,
+        None => return Err(ClockError::NoClock),
+    };
+    let bit = flat.signal(input).first_bit;
+    let nets = Nets::of(alloc, flat, bit)?;
+    match first_reading(flat, footprints, &nets) {
+        Some(process) => {
+            let at = flat.process(process).at;
+            return Err(ClockError::ClockRead { process, at });
+        }
+        None => {}
+    }
+    match first_other(flat, &nets) {
+        Some(process) => {
+            let at = flat.process(process).at;
+            return Err(ClockError::NotTheClock { process, at });
+        }
+        None => {}
+    }
+    match first_formless(alloc, typed, &nets)? {
+        Some(process) => {
+            let at = flat.process(process).at;
+            return Err(ClockError::ResetForm { process, at });
+        }
+        None => {}
+    }
+    Ok(Clocks::of(input, bit, nets))
+}
