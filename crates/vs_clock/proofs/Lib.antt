@@ -2,7 +2,6 @@ pub mod Tests
 pub mod Numbered
 pub mod Told
 pub mod Table
-pub mod BitCounts
 pub mod Copies
 pub mod Spreading
 pub mod ByKind

@@ -1,7 +1,6 @@
 //! The clock nets and the reset nets of a design, and the rules on them (IEEE 1364-2005, 9.7.2).
 #![tactic(auto)]
 
-mod bits;
 mod clocked;
 mod clocks;
 mod error;

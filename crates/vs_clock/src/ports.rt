@@ -9,11 +9,10 @@ ghost use Rattle.vs_flat.specs.Trees.{signal_at, tree_at};
 ghost use Rattle.vs_clock.specs.Roots.{AreAllTargets};
 ghost use Rattle.vs_clock.specs.Ports.{assign_bits, bit_of, one_bit, port_bits};
 
-use crate::bits::count_bits;
 use crate::targets::Targets;
 use std::alloc::{AllocError, Global};
 use vs_design::footprint_law;
-use vs_flat::{Flat, Kind, Node, Port, names_law, trees_law};
+use vs_flat::{Flat, Kind, Node, Port, count_bits, names_law, trees_law};
 
 /// The signal that an expression is the name of.
 pub(crate) fn named_signal(flat: &Flat, e: u32) -> Option<u32>

@@ -7,12 +7,11 @@ ghost use Rattle.vs_flat.specs.DesignOf.{design_of};
 ghost use Rattle.vs_flat.specs.Lawful.{IsLawful};
 ghost use Rattle.vs_clock.specs.Roots.{AreAllTargets, AreRoots};
 
-use crate::bits::count_bits;
 use crate::spread::spread;
 use crate::targets::Targets;
 use std::alloc::{AllocError, Global};
 use vs_design::{clock_law, footprint_law};
-use vs_flat::{Flat, trees_law};
+use vs_flat::{Flat, count_bits, trees_law};
 
 /// For each bit the first of these bits that it copies through input ports, or that it is.
 pub(crate) fn roots_of(
