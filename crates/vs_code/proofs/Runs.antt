@@ -1,15 +1,15 @@
 -- Calls one after the other, and the lanes that they change.
-use Rattle.std.proofs.Common.{◌≡◌, ℕ, zero, suc, ◌<◌, Bool, List, [], ◌∷◌, ◌++◌, length, get_or, take, ◌+◌, ◌≤◌, sym, ap, ◌∙◌, subst, refl, arith}
+use Rattle.std.proofs.Common.{◌≡◌, ℕ, zero, suc, ◌<◌, Bool, List, [], ◌∷◌, ◌++◌, length, get_or, take, drop, ◌+◌, ◌-◌, ◌≤◌, sym, ap, ◌∙◌, subst, refl, arith}
 use Rattle.std.proofs.lemmas.List.{take_more, take_all}
-use Rattle.std.proofs.lemmas.List.Sums.{sum_by_more}
-use Rattle.std.specs.List.{All, Contains, flat_map}
-use Rattle.std.proofs.lemmas.List.Elements.{All-contains, Contains-get_or, Contains-append_left, Contains-append_right}
+use Rattle.std.proofs.lemmas.List.Sums.{sum_by_more, sum_by_more_le, sum_by-take-le, sum_by-take-drop}
+use Rattle.std.specs.List.{All, Contains, flat_map, slice_range}
+use Rattle.std.proofs.lemmas.List.Elements.{All-contains, Contains-get_or, Contains-append_left, Contains-append_right, All-take, All-drop}
 use mathlib.Core.Path.{fun_ext}
 use Rattle.vs_plane.specs.declared.pairs.Pair.{Pair}
 use Rattle.vs_plane.specs.Lanes.{slot_lane, lane_or_x}
 use Rattle.vs_plane.specs.Kernels.{Computes}
 use Rattle.vs_code.specs.Kernels.{operator_of}
-use Rattle.vs_code.specs.Calls.{Call, State, IsCalled, AreCalled, call_cost, length_of}
+use Rattle.vs_code.specs.Calls.{Call, State, IsCall, IsCalled, AreCalled, call_cost, length_of}
 
 -- calls, and then others from the state that they led to
 pub called-append : (first second : List Call) (before middle after : State) → AreCalled first before middle → AreCalled second middle after → AreCalled (first ++ second) before after
@@ -43,6 +43,18 @@ called_all calls n before after l h = subst (λ (cs : List Call). AreCalled cs b
 
 pub length_more : (calls : List Call) (n : ℕ) (call : Call) → n < length calls → call ≡ get_or calls n call → length_of (take (n + 1) calls) ≡ length_of (take n calls) + call_cost call
 length_more calls n call l e = sum_by_more call_cost calls n call l ∙ ap (λ (c : Call). length_of (take n calls) + call_cost c) (sym e)
+
+-- the calls so far and the next one make no more stores than all of them
+pub length_within : (calls : List Call) (n : ℕ) (call : Call) → n < length calls → call ≡ get_or calls n call → length_of (take n calls) + call_cost call ≤ length_of calls
+length_within calls n call l e =
+    subst (λ (c : Call). length_of (take n calls) + call_cost c ≤ length_of calls) (sym e) (sum_by_more_le call_cost calls n call l)
+
+-- a part of calls is of calls, and makes no more stores than all of them
+pub part_calls : (calls : List Call) (i j : ℕ) → All IsCall calls → All IsCall (slice_range calls i j)
+part_calls calls i j h = All-take IsCall (j - i) (drop i calls) (All-drop IsCall i calls h)
+
+pub part_length : (calls : List Call) (i j : ℕ) → length_of (slice_range calls i j) ≤ length_of calls
+part_length calls i j = omega (arith, sum_by-take-le call_cost (drop i calls) (j - i), sum_by-take-drop call_cost calls i)
 
 -- what a kernel computes in all lanes it does in each
 pub lane_called : {W : Type 0} (lane : W → ℕ → Bool) (lanes : ℕ) (call : Call) (before after : List (Pair W)) (i : ℕ) → i < lanes

@@ -1,6 +1,6 @@
 //! The program.
 
-ghost use Rattle.std.specs.Prelude.{◌≡◌, ◌≢◌, ℕ, ◌+◌, ◌<◌, ◌≤◌, ◌^◌, [], ◌∷◌, ◌++◌, length, slice_get, All, Any, Contains, OnOk, OnErr};
+ghost use Rattle.std.specs.Prelude.{◌≡◌, ◌≢◌, ℕ, ◌+◌, ◌<◌, ◌≤◌, ◌^◌, [], ◌∷◌, ◌++◌, length, slice_get, slice_range, All, Any, Contains, OnOk, OnErr, IsTrue, ◌↔◌};
 ghost use Rattle.vs_plane.specs.Lanes.{slot_lane};
 ghost use Rattle.vs_code.specs.Calls.{AreCalled, IsCall, call_cost, length_of, slots_of, targets_of};
 
@@ -59,6 +59,20 @@ impl Program {
         Ok(())
     }
 
+    /// How many calls there are.
+    pub fn len(&self) -> usize
+        ensures { result ≡ length self.now }
+    {
+        self.ops.len()
+    }
+
+    /// Whether there is no call.
+    pub fn is_empty(&self) -> bool
+        ensures { IsTrue result ↔ (self.now ≡ []) }
+    {
+        self.ops.is_empty()
+    }
+
     /// How many stores an execution makes, at most 2^32.
     pub fn length(&self) -> u64
         ensures exact { result ≡ length_of self.now }
@@ -66,6 +80,16 @@ impl Program {
         ensures calls { All IsCall self.now }
     {
         self.length
+    }
+
+    /// How many stores the calls from number `from` to before number `to` make, at most 2^32.
+    pub fn length_of_part(&self, from: usize, to: usize) -> u64
+        requires order { from ≤ to }
+        requires there { to ≤ length self.now }
+        ensures exact { result ≡ length_of (slice_range self.now from to) }
+        ensures most { result ≤ 2 ^ 32 }
+    {
+        count_stores(&self.ops.as_slice()[from..to])
     }
 
     /// The least number of slots that a file must have to have all that the calls name, at most 2^32.
@@ -91,6 +115,39 @@ impl Program {
     {
         run_all(self.ops.as_slice(), file, steps);
     }
+
+    /// Makes the calls from number `from` to before number `to`, in their order, as `execute` makes all of them.
+    pub fn execute_part<W: Chunked, L: Ledger>(
+        &self,
+        from: usize,
+        to: usize,
+        file: &mut PlaneFile<W>,
+        steps: &mut Steps<L>,
+    )
+        requires order { from ≤ to }
+        requires there { to ≤ length self.now }
+        requires below { All (λ slot. slot < length file.old) (slots_of (slice_range self.now from to)) }
+        ensures applied { (i : ℕ) → i < W.LANES
+            → AreCalled (slice_range self.now from to) (λ slot. slot_lane W.lane file.old slot i) (λ slot. slot_lane W.lane file.new slot i) }
+        ensures slots { length file.new ≡ length file.old }
+        ensures kept { (slot : ℕ) → ¬ Contains (targets_of (slice_range self.now from to)) slot → slice_get file.new slot ≡ slice_get file.old slot }
+        ensures ticked { steps.new ≡ steps.old + length_of (slice_range self.now from to) }
+    {
+        run_all(&self.ops.as_slice()[from..to], file, steps);
+    }
+}
+
+/// How many stores these calls make.
+fn count_stores(ops: &[Op]) -> u64
+    requires calls { All IsCall ops.now }
+    requires few { length_of ops.now ≤ 2 ^ 32 }
+    ensures { result ≡ length_of ops.now }
+{
+    let mut count = 0;
+    for op in ops {
+        count += op.cost();
+    }
+    count
 }
 
 /// Makes these calls in their order.

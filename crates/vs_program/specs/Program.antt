@@ -6,6 +6,8 @@ use Rattle.vs_four.specs.declared.Bit4.TheVariants.{X}
 use Rattle.vs_net.specs.Network as N
 use Rattle.vs_code.specs.Calls.{Call, State, length_of, slots_of}
 use Rattle.vs_program.specs.declared.compiled.Span.{Span}
+use Rattle.vs_program.specs.declared.compiled.Phase.{Phase}
+use Rattle.vs_program.specs.declared.compiled.Phase.TheVariants.{First, Fall, Next, Rise}
 use Rattle.vs_program.specs.Lowered.{home}
 
 -- what contracts see of a compiled design
@@ -26,6 +28,13 @@ pub record Program : Type 0 where
   -- where the clock rises, the calls that give the registers their next values, and those that then settle the slot
   pub next : List Call
   pub rise : List Call
+
+-- the calls of a phase
+abbrev pub calls_at : Program → Phase → List Call
+calls_at p First = p.first
+calls_at p Fall = p.fall
+calls_at p Next = p.next
+calls_at p Rise = p.rise
 
 -- the values of the design's bits that a lane's slots hold; past the last bit all is x
 abbrev pub values : ℕ → State → N.State
