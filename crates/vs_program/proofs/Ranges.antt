@@ -107,51 +107,6 @@ small fewer fit d name a order ordered l low regs p made =
 
 -- ---- slots
 
-calls_in : (d : Design) (count : ℕ) (l : Layout) (ps : List ℕ) (calls : List Call) → AreCallsOf d l ps calls
-    → ((q : ℕ) (x : Process) → slice_get d.processes q ≡ Some x → l.first_temp + process_weight x ≤ count) → AreIn count calls
-calls_in d count l [] calls none room = subst (AreIn count) (sym none) (All-nil (λ slot. slot < count))
-calls_in d count l (p ∷ ps) calls made room =
-    subst (AreIn count) (sym made.2)
-    (subst (All (λ slot. slot < count)) (sym (flat_map-append call_slots made.0 made.1))
-    (All-append (λ slot. slot < count) (slots_of made.0) (slots_of made.1)
-    (let enough = room p made.3.0 made.3.1 in All-weaker (λ slot. slot < l.first_temp + process_weight made.3.0) (λ slot. slot < count) (λ slot k. omega (arith, k, enough)) (slots_of made.0) (lowered_slots d l (mask_of d p) made.3.0 made.0 made.3.2))
-    (calls_in d count l ps made.1 made.4 room)))
-
-resets_in : (d : Design) (clock count : ℕ) (l : Layout) (ps : List ℕ) (calls : List Call) → AreResetsOf d clock l ps calls
-    → ((q : ℕ) (x : Process) → slice_get d.processes q ≡ Some x → l.first_temp + process_weight x ≤ count) → AreIn count calls
-resets_in d clock count l [] calls none room = subst (AreIn count) (sym none) (All-nil (λ slot. slot < count))
-resets_in d clock count l (p ∷ ps) calls made room =
-    subst (AreIn count) (sym made.2)
-    (subst (All (λ slot. slot < count)) (sym (flat_map-append call_slots made.0 made.1))
-    (All-append (λ slot. slot < count) (slots_of made.0) (slots_of made.1)
-    (let enough = room p made.3.0 made.3.1 in All-weaker (λ slot. slot < l.first_temp + process_weight made.3.0) (λ slot. slot < count) (λ slot k. omega (arith, k, enough)) (slots_of made.0) made.3.2.slots)
-    (resets_in d clock count l ps made.1 made.4 room)))
-
--- of calls and more calls
-both_in : (count : ℕ) (calls first rest : List Call) → calls ≡ first ++ rest → AreIn count first → AreIn count rest → AreIn count calls
-both_in count calls first rest is f r =
-    subst (AreIn count) (sym is)
-    (subst (All (λ slot. slot < count)) (sym (flat_map-append call_slots first rest))
-    (All-append (λ slot. slot < count) (slots_of first) (slots_of rest) f r))
-
--- each number of a list that a function gives
-all_map : (count : ℕ) (f : ℕ → ℕ) (bs : List ℕ) → ((b : ℕ) → contains bs b ≡ true → f b < count) → All (λ slot. slot < count) (map f bs)
-all_map count f [] h = All-nil (λ slot. slot < count)
-all_map count f (b ∷ bs) h = All-append (λ slot. slot < count) (f b ∷ []) (map f bs) (single (f b) (h b (in_first b bs))) (all_map count f bs (λ c k. h c (in_rest b bs c k)))
-  where
-    single : (x : ℕ) → x < count → All (λ slot. slot < count) (x ∷ [])
-    single x h zero d l = h
-    single x h (suc k) d l = absurd (omega arith)
-
-copy_in : (count : ℕ) (l : Layout) (bs : List ℕ) → ((b : ℕ) → contains bs b ≡ true → l.shadow b < count) → ((b : ℕ) → contains bs b ≡ true → home b < count) → AreIn count (copy_shadows l bs)
-copy_in count l [] h k = All-nil (λ slot. slot < count)
-copy_in count l (b ∷ bs) h k =
-    subst (All (λ slot. slot < count)) (sym (shape (map l.shadow (b ∷ bs)) (map home (b ∷ bs))))
-    (All-append (λ slot. slot < count) (map l.shadow (b ∷ bs)) (map home (b ∷ bs)) (all_map count l.shadow (b ∷ bs) h) (all_map count home (b ∷ bs) k))
-  where
-    shape : (xs ys : List ℕ) → (concat (xs ∷ []) ++ (ys ++ [])) ++ [] ≡ xs ++ ys
-    shape xs ys = simp Rattle.std.proofs.Common.append-nil
-
 all_below : (count : ℕ) (bs : List ℕ) → ((b : ℕ) → contains bs b ≡ true → b < count) → list_all (is_below count) bs ≡ true
 all_below count [] h = refl
 all_below count (b ∷ bs) h = ap (λ c. c && list_all (is_below count) bs) (lt_true b count (h b (in_first b bs))) ∙ all_below count bs (λ c k. h c (in_rest b bs c k))
@@ -220,16 +175,10 @@ in_range fewer fit sources d name a order ordered l low regs p made =
       inputs = all_below p.bits p.inputs (λ b h. subst (λ k. b < k) (sym made.bits) (from.data_below b (subst (λ bs. contains bs b ≡ true) made.inputs h)));
       clocks = all_below p.bits p.clocks (λ b h. subst (λ k. b < k) (sym made.bits) (from.nets_below b (sym (made.clocks.has b) ∙ h)));
       signals = subst (λ (ss : List Span). list_all (spans p.bits) ss ≡ true) (sym made.signals) (spans_fit d 0 p.bits d.signals a.lawful.declared a.lawful.bits_numbered (omega (arith, made.bits)));
-      first = both_in (length p.initial) p.first made.resets made.settle_first made.first (resets_in d a.clock.first (length p.initial) l (clocked d) made.resets made.resets_are made.room) (calls_in d (length p.initial) l (first_processes d a.clock.first order) made.settle_first made.first_are made.room);
-      fall = both_in (length p.initial) p.fall made.resets_again made.settle_fall made.fall (resets_in d a.clock.first (length p.initial) l (clocked d) made.resets_again made.again_are made.room) (calls_in d (length p.initial) l (fall_processes d a.clock.first order) made.settle_fall made.fall_are made.room);
-      next = subst (AreIn (length p.initial)) (sym made.next)
-          (subst (All (λ slot. slot < length p.initial)) (sym (flat_map-append call_slots made.blocks (copy_shadows l regs)))
-          (All-append (λ slot. slot < length p.initial) (slots_of made.blocks) (slots_of (copy_shadows l regs))
-          (calls_in d (length p.initial) l (clocked d) made.blocks made.blocks_are made.room)
-          (copy_in (length p.initial) l regs
-          (λ b h. let below = low.layout.shadow_below b (sym (made.registers.has b) ∙ h) in omega (arith, below, made.slots))
-          (λ b h. let below = from.registers_below b (sym (made.registers.has b) ∙ h) in omega (arith, below, homes, made.bits)))));
-      rise = calls_in d (length p.initial) l (rise_processes d a.clock.first order) p.rise made.rise made.room;
+      first = made.first_in;
+      fall = made.fall_in;
+      next = made.next_in;
+      rise = made.rise_in;
       few_first = omega (arith, fits.first, a.small);
       few_fall = omega (arith, fits.fall, a.small);
       few_rise = omega (arith, fits.rise, a.small);

@@ -1,9 +1,9 @@
 -- Programs that are made of the calls of a design's processes.
-use Rattle.std.specs.Prelude.{◌≡◌, ℕ, ◌+◌, ◌≤◌, true, List, [], ◌∷◌, ◌++◌, map, length, Option, Some, None, slice_get}
+use Rattle.std.specs.Prelude.{◌≡◌, ℕ, ◌≤◌, true, List, [], ◌∷◌, ◌++◌, map, length, Option, Some, None, slice_get}
 use Rattle.vs_four.specs.declared.Bit4.TheVariants.{Zero}
 use Rattle.vs_net.specs.Network.{Sleeper}
 use Rattle.vs_design.specs.Designs.{Process, Design, bit_count}
-use Rattle.vs_design.specs.Sizes.{process_weight, register_bits}
+use Rattle.vs_design.specs.Sizes.{register_bits}
 use Rattle.vs_design.specs.Footprints.{contains, ascending}
 use Rattle.vs_design.specs.Clocks.{clock_nets}
 use Rattle.vs_design.specs.Resets.{reset_of}
@@ -19,7 +19,7 @@ use Rattle.vs_code.specs.declared.kernels.AnyKernel.TheVariants.{Logic}
 use Rattle.vs_code.specs.Calls.{Call, length_of}
 use Rattle.vs_program.specs.Lowered.{Layout, IsLoweredProcess, IsLoweredReset, IsLoweredSleeper, HasConstants, home}
 use Rattle.vs_program.specs.Layouts.{slots_of_design, AreRegisters, IsLayoutOf, sleepers, mask_of}
-use Rattle.vs_program.specs.Program.{Program, IsInRange, values, initial_slots}
+use Rattle.vs_program.specs.Program.{Program, IsInRange, AreIn, values, initial_slots}
 use Rattle.vs_program.specs.Compiled.{IsProgramOf, span_of}
 
 -- these are calls of the process, as one that sleeps or one that doesn't
@@ -95,9 +95,12 @@ pub record IsMadeOf (d : Design) (clock : ℕ) (order regs : List ℕ) (l : Layo
   pub blocks_are : AreCallsOf d l (clocked d) blocks
   pub next : p.next ≡ blocks ++ copy_shadows l regs
   pub rise : AreCallsOf d l (rise_processes d clock order) p.rise
-  -- there is a slot for each temporary
+  -- there is a slot for each that the calls name
   pub slots : l.first_temp ≤ length p.initial
-  pub room : (q : ℕ) (x : Process) → slice_get d.processes q ≡ Some x → l.first_temp + process_weight x ≤ length p.initial
+  pub first_in : AreIn (length p.initial) p.first
+  pub fall_in : AreIn (length p.initial) p.fall
+  pub next_in : AreIn (length p.initial) p.next
+  pub rise_in : AreIn (length p.initial) p.rise
   pub few_slots : length p.initial ≤ slots_of_design d
 
 -- it is a program of the design
