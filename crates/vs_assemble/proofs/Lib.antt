@@ -1,0 +1,9 @@
+pub mod Lists
+pub mod Slices
+pub mod Joining
+pub mod Flags
+pub mod Reaching
+pub mod Running
+pub mod Stepping
+pub mod Planned
+pub mod Copying

@@ -1,0 +1,5 @@
+pub mod Flags
+pub mod Plans
+pub mod Runs
+pub mod Together
+pub mod Copies

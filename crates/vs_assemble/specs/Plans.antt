@@ -1,0 +1,70 @@
+-- Which processes run in each kind of time slot, and what a program has besides their calls.
+use Rattle.std.specs.Prelude.{◌≡◌, ℕ, ◌+◌, ◌<◌, ◌≤◌, Bool, true, false, List, [], ◌∷◌, ◌++◌, map, length, replicate, if◌then◌else◌, Option, Some, None, slice_get, All}
+use Rattle.vs_four.specs.declared.Bit4.{Bit4}
+use Rattle.vs_four.specs.declared.Bit4.TheVariants.{Zero, One, X, Z}
+use Rattle.vs_design.specs.Expressions.{Signal, signal_length}
+use Rattle.vs_design.specs.Designs.{Process, is_clocked, Design, bit_count}
+use Rattle.vs_design.specs.Footprints.{is_net}
+use Rattle.vs_design.specs.Sizes.{process_weight}
+use Rattle.vs_design.specs.Resets.{reset_of}
+use Rattle.vs_cone.specs.Given.{data_bits, bits_of_reset, fall_bits}
+use Rattle.vs_cone.specs.Counts.{clocked, stores_of}
+use Rattle.vs_program.specs.declared.compiled.Span.{Span}
+use Rattle.vs_program.specs.Lowered.{Layout}
+use Rattle.vs_program.specs.Layouts.{AreRegisters, IsLayoutOf, first_mask, sleepers, slots_of_design}
+use Rattle.vs_program.specs.Compiled.{span_of}
+use Rattle.vs_program.specs.Made.{AreClockNets, first_processes}
+use Rattle.vs_assemble.specs.Flags.{HasBitsOf}
+
+-- the stores that a process may make; where there is none, none
+abbrev pub may_store_or : Design → Option Process → ℕ
+may_store_or d None = 0
+may_store_or d (Some x) = stores_of d x
+
+-- those of the process of this number
+abbrev pub may_store : Design → ℕ → ℕ
+may_store d p = may_store_or d (slice_get d.processes p)
+
+-- whether it is a clocked block
+abbrev pub is_clocked_or : Option Process → Bool
+is_clocked_or None = false
+is_clocked_or (Some x) = is_clocked x
+
+-- the bits that its reset sets
+abbrev pub reset_bits_or : Design → ℕ → Option Process → List ℕ
+reset_bits_or d clock None = []
+reset_bits_or d clock (Some x) = if is_clocked x then bits_of_reset (reset_of d clock x) else []
+
+-- the layout is one of the design, and its temporaries stand right behind the masks
+pub record IsTightLayout (d : Design) (l : Layout) : Type 0 where
+  pub layout : IsLayoutOf d l
+  pub first : l.first_temp ≡ first_mask d + length (sleepers d)
+
+-- the temporaries of each process have room
+pub record HasRoom (d : Design) (l : Layout) : Type 0 where
+  pub room : (q : ℕ) (x : Process) → slice_get d.processes q ≡ Some x → l.first_temp + process_weight x ≤ slots_of_design d
+
+-- the processes that settle a first slot, in a level order; the clocked blocks; the bits of the registers; and the bits that change where the clock falls
+pub record IsPlanOf (d : Design) (clock : ℕ) (order settling blocks registers falling : List ℕ) : Type 0 where
+  pub settling_are : settling ≡ first_processes d clock order
+  pub blocks_are : blocks ≡ clocked d
+  pub registers_are : AreRegisters d registers
+  pub registers_below : All (λ b. b < bit_count d) registers
+  pub falling_are : HasBitsOf (bit_count d) falling (fall_bits d clock)
+
+-- what each bit of the signals begins with: z in a net, and x in an input or a variable (4.2)
+abbrev pub idle_bits : List Signal → List Bit4
+idle_bits [] = []
+idle_bits (s ∷ ss) = replicate (signal_length s) (if is_net s then Z else X) ++ idle_bits ss
+
+-- what the slots of the constants and of the bits begin with
+abbrev pub begin_bits : Design → List Bit4
+begin_bits d = (Zero ∷ One ∷ X ∷ Z ∷ []) ++ idle_bits d.signals
+
+-- what a program has besides its calls: the design's bits, data inputs, clock nets and signals, and what the bits begin with
+pub record IsFrameOf (d : Design) (clock : ℕ) (bits : ℕ) (inputs clocks : List ℕ) (initial : List Bit4) (signals : List Span) : Type 0 where
+  pub bits_are : bits ≡ bit_count d
+  pub inputs_are : inputs ≡ data_bits d clock
+  pub clocks_are : AreClockNets d clock clocks
+  pub initial_is : initial ≡ begin_bits d
+  pub signals_are : signals ≡ map span_of d.signals

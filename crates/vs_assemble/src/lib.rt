@@ -1,0 +1,13 @@
+//! The program of a design, put together from the calls of its processes (IEEE 1364-2005, clause 11).
+#![tactic(auto)]
+
+mod assembling;
+mod cones;
+mod laws;
+mod lowering;
+mod planning;
+mod runs;
+
+pub use assembling::{Frame, assemble};
+pub use laws::copy_law;
+pub use lowering::Lowering;
