@@ -19,9 +19,10 @@ calls_of_both calls first others = flat_map-append (calls_of_run calls) first ot
 
 -- of a list that ends with one, the list before it and that one
 last_of : (P : Run → Type 0) (init : List Run) (last : Run) → All P (init ++ last ∷ []) → All P init × P last
-last_of P init last h =
-    (subst (All P) (front init last) (All-take P (length init) (init ++ last ∷ []) h),
-    subst P (at_end init last) (All-get_or P (init ++ last ∷ []) (length init) last (let long = Rattle.std.proofs.Common.length-append init (last ∷ []) in omega (arith, long)) h))
+last_of P init last h = (
+  subst (All P) (front init last) (All-take P (length init) (init ++ last ∷ []) h),
+  subst P (at_end init last) (All-get_or P (init ++ last ∷ []) (length init) last (let long = Rattle.std.proofs.Common.length-append init (last ∷ []) in omega (arith, long)) h),
+)
   where
     front : (xs : List Run) (x : Run) → take (length xs) (xs ++ x ∷ []) ≡ xs
     front xs x = Rattle.std.proofs.Math.Seq.take-append_seam xs (x ∷ [])

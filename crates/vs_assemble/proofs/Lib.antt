@@ -7,3 +7,5 @@ pub mod Running
 pub mod Stepping
 pub mod Planned
 pub mod Copying
+pub mod Fitting
+pub mod Phased

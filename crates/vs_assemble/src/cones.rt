@@ -29,9 +29,19 @@ pub(crate) fn cone_of<T: Lowering>(
     ensures { (calls : List Call) → AreRunsOf (T.design lowering.now) (T.layout lowering.now) calls order.now runs.now
         → IfOk result (λ v. AreRunsOf (T.design lowering.now) (T.layout lowering.now) calls (cone (T.design lowering.now) changed.now order.now) v.items) }
 {
-    let mut flags = vec![in alloc; false; bits as usize]?;
-    set_all(changed, flags.as_mut_slice());
+    let mut flags = flags_of(alloc, bits, changed)?;
     cone(alloc, lowering, order, runs, flags.as_mut_slice())
+}
+
+/// Flags for so many bits, of which those of these are set.
+fn flags_of(alloc: Global, bits: u32, set: &[u32]) -> Result<Vec<bool>, AllocError>
+    requires { All (λ b. b < bits) set.now }
+    ensures count { IfOk result (λ v. length v.items ≡ bits) }
+    ensures flags { IfOk result (λ v. AreFlags v.items set.now) }
+{
+    let mut flags = vec![in alloc; false; bits as usize]?;
+    set_all(set, flags.as_mut_slice());
+    Ok(flags)
 }
 
 /// The runs of the processes that the bits lead to whose flags are set. Afterwards the flags of all bits are set that they write, too.

@@ -30,12 +30,14 @@ loop-n-preserved g c =
             sym (same_any (contains inv.0) c.needs.result.now (needs_at d p) c.needs.ensures.same) ∙ sym (c.is_set.ensures inv.0 inv.2) ∙ w.if-is_set.true in
             let set : AreFlags c.if-is_set.flags (w.writes.result.now ++ inv.0) =
             subst (λ fs. AreFlags fs (w.writes.result.now ++ inv.0)) (sym w.flags-is) (w.set_all.ensures.set inv.0 inv.2) in
-            let items : c.if-is_set.reached.items ≡ c.loop-n.reached.items ++ run_at c.args.runs.now n ∷ [] = cc (w.reached-is, w.in_ok-push.ensures.items) in
-            (writes_at d p ++ inv.0, inv.1 ++ p ∷ [],
-            same_flags c.if-is_set.flags (w.writes.result.now ++ inv.0) (writes_at d p ++ inv.0) (same_more w.writes.result.now (writes_at d p) inv.0 w.writes.ensures.same) set,
-            subst (λ (rs : List Run). AreRunsOf d lay calls (inv.1 ++ p ∷ []) rs) (sym items)
-            (runs_push d lay calls inv.1 c.loop-n.reached.items p (run_at c.args.runs.now n) inv.3 (run_is d lay calls c.args.order.now c.args.runs.now n c.loop-n-test.true runs)),
-            taken d inv.0 c.args.order.now inv.1 n c.loop-n-test.true touched ∙ inv.4);
+            let items : c.if-is_set.reached.items ≡ c.loop-n.reached.items ++ run_at c.args.runs.now n ∷ [] = cc (w.reached-is, w.in_ok-push.ensures.items) in (
+              writes_at d p ++ inv.0,
+              inv.1 ++ p ∷ [],
+              same_flags c.if-is_set.flags (w.writes.result.now ++ inv.0) (writes_at d p ++ inv.0) (same_more w.writes.result.now (writes_at d p) inv.0 w.writes.ensures.same) set,
+              subst (λ (rs : List Run). AreRunsOf d lay calls (inv.1 ++ p ∷ []) rs) (sym items)
+                  (runs_push d lay calls inv.1 c.loop-n.reached.items p (run_at c.args.runs.now n) inv.3 (run_is d lay calls c.args.order.now c.args.runs.now n c.loop-n-test.true runs)),
+              taken d inv.0 c.args.order.now inv.1 n c.loop-n-test.true touched ∙ inv.4,
+            );
       }
       | else-is_set w ↦ record {
         count = ap length w.flags-is ∙ c.loop-n.invariant.count;
@@ -43,10 +45,12 @@ loop-n-preserved g c =
             let inv = c.loop-n.invariant.so_far calls bits flags runs in
             let touched : is_touched d inv.0 p ≡ false =
             sym (same_any (contains inv.0) c.needs.result.now (needs_at d p) c.needs.ensures.same) ∙ sym (c.is_set.ensures inv.0 inv.2) ∙ w.if-is_set.false in
-            let items : c.if-is_set.reached.items ≡ c.loop-n.reached.items = cc (w.reached-is) in
-            (inv.0, inv.1,
-            subst (λ fs. AreFlags fs inv.0) (sym w.flags-is) inv.2,
-            subst (λ (rs : List Run). AreRunsOf d lay calls inv.1 rs) (sym items) inv.3,
-            passed d inv.0 c.args.order.now inv.1 n c.loop-n-test.true touched ∙ inv.4);
+            let items : c.if-is_set.reached.items ≡ c.loop-n.reached.items = cc (w.reached-is) in (
+              inv.0,
+              inv.1,
+              subst (λ fs. AreFlags fs inv.0) (sym w.flags-is) inv.2,
+              subst (λ (rs : List Run). AreRunsOf d lay calls inv.1 rs) (sym items) inv.3,
+              passed d inv.0 c.args.order.now inv.1 n c.loop-n-test.true touched ∙ inv.4,
+            );
       }
     ]
