@@ -36,7 +36,7 @@ places (b ∷ bs) h zero (suc k) l m e = absurd (both_ways (contains bs b) h.0 (
 places (b ∷ bs) h (suc j) zero l m e = absurd (both_ways (contains bs b) h.0 (subst (λ z. contains bs z ≡ true) e (at_in bs j (omega arith))))
 places (b ∷ bs) h (suc j) (suc k) l m e = ap suc (places bs h.1 j k (omega arith) (omega arith) e)
 
-below_all : (count : ℕ) (f : ℕ → ℕ) (bs : List ℕ) → ((b : ℕ) → contains bs b ≡ true → f b < count) → All (λ slot. slot < count) (map f bs)
+pub below_all : (count : ℕ) (f : ℕ → ℕ) (bs : List ℕ) → ((b : ℕ) → contains bs b ≡ true → f b < count) → All (λ slot. slot < count) (map f bs)
 below_all count f [] h = All-nil (λ slot. slot < count)
 below_all count f (b ∷ bs) h = All-cons (λ slot. slot < count) (f b) (map f bs) (h b (first_in b bs)) (below_all count f bs (λ c k. h c (rest_in b bs c k)))
 

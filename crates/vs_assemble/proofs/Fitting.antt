@@ -9,13 +9,16 @@ use Rattle.vs_design.specs.Designs.{Process, is_clocked, Design}
 use Rattle.vs_design.specs.Clocks.{clock_nets}
 use Rattle.vs_design.specs.Levels.{is_level_order}
 use Rattle.vs_design.specs.Laws.{LevelOrderIs}
-use Rattle.vs_design.specs.Sizes.{process_weight, register_bits, size}
+use Rattle.vs_design.specs.Footprints.{waits_of, writes_of}
+use Rattle.vs_design.specs.Sizes.{distinct, process_weight, register_bits, size, sleeper_weight}
+use Rattle.vs_design.specs.Sleepers.{is_sleeping}
+use Rattle.std.proofs.lemmas.List.Sums.{sum_by-cons}
 use Rattle.vs_cone.specs.Cones.{is_port_or}
 use Rattle.vs_cone.specs.Counts.{clocked_from, clocked, stores_of, AreWithin, StoresFit, StoresFitIn}
 use Rattle.vs_cone.specs.Lists.{FewAreApart}
 use Rattle.vs_code.specs.Calls.{length_of}
 use Rattle.vs_program.specs.Lowered.{Layout, home}
-use Rattle.vs_program.specs.Layouts.{AreRegisters, LayoutsFit}
+use Rattle.vs_program.specs.Layouts.{AreRegisters, LayoutsFit, sleepers_from}
 use Rattle.vs_program.specs.Compiled.{IsAcceptedAt}
 use Rattle.vs_program.specs.Made.{copy_shadows, first_processes}
 use Rattle.vs_assemble.specs.Plans.{may_store, may_store_or, HasRoom, IsPlanOf, IsTightLayout}
@@ -86,3 +89,22 @@ pub plan_there : LevelOrderIs → (d : Design) (clock : ℕ) (order : List ℕ) 
 plan_there levels d clock order ordered settling blocks registers falling plan =
     subst (AreThere d) (sym plan.settling_are)
     (All-filter (λ p. not (is_port_or (clock_nets d clock) (slice_get d.processes p))) (λ p. p < length d.processes) order (order_there levels d order ordered))
+
+-- the sleeping blocks are within the size
+sleepers_small : (d : Design) (k : ℕ) (xs : List Process) → length (sleepers_from d k xs) ≤ sum_by (sleeper_weight d) xs
+sleepers_small d k [] = omega arith
+sleepers_small d k (x ∷ xs) =
+    let rest = sleepers_small d (suc k) xs in
+    let sum = sum_by-cons (sleeper_weight d) x xs in
+    by_test (is_sleeping d x)
+    (λ e. let here : length (sleepers_from d k (x ∷ xs)) ≡ suc (length (sleepers_from d (suc k) xs)) = ap (λ (c : Bool). length (if c then (k ∷ sleepers_from d (suc k) xs) else sleepers_from d (suc k) xs)) e in
+    let weight : sleeper_weight d x ≡ distinct (waits_of x) + 1 + distinct (writes_of x) = ap (λ (c : Bool). if c then (distinct (waits_of x) + 1 + distinct (writes_of x)) else 0) e in
+    omega (arith, rest, sum, here, weight))
+    (λ e. let here : length (sleepers_from d k (x ∷ xs)) ≡ length (sleepers_from d (suc k) xs) = ap (λ (c : Bool). length (if c then (k ∷ sleepers_from d (suc k) xs) else sleepers_from d (suc k) xs)) e in
+    omega (arith, rest, sum, here))
+
+-- all slots below the temporaries can be numbered
+pub first_low : (d : Design) (l : Layout) (clock : ℕ) → IsAcceptedAt d clock → IsTightLayout d l → l.first_temp ≤ 67108868
+first_low d l clock at tight =
+    let masks = sleepers_small d 0 d.processes in
+    omega (arith, tight.first, masks, at.accepted.small, at.accepted.lawful.few_bits)

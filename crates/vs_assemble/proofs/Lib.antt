@@ -9,3 +9,4 @@ pub mod Planned
 pub mod Copying
 pub mod Fitting
 pub mod Phased
+pub mod Whole
