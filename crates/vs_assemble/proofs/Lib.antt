@@ -10,3 +10,5 @@ pub mod Copying
 pub mod Fitting
 pub mod Phased
 pub mod Whole
+pub mod Begins
+pub mod Finished

@@ -1,28 +1,25 @@
-use Rattle.std.proofs.Common.{rules, ◌≡◌, ℕ, ◌+◌, ◌<◌, ◌≤◌, ◌^◌, [], ◌∷◌, ◌++◌, List, length, replicate, sum_by, All, IfOk, OnOk, true, ◌-◌, ◌*◌, ◌/◌, ◌%◌, Bool, false, nat_eq, nat_lt, slice_index_or, slice_set, bit_and, bit_or, Fits, w8, w32, w64, Bor, MutBor}
-use Rattle.vs_design.specs.Designs.{bit_count}
-use Rattle.vs_design.specs.Footprints.{contains}
-use Rattle.vs_design.specs.Levels.{is_level_order}
-use Rattle.vs_design.specs.Sizes.{register_bits}
-use Rattle.vs_kern_logic.specs.declared.costs.Kernel.TheVariants.{Copy}
-use Rattle.vs_code.specs.Calls.{Call, IsCall, length_of}
-use Rattle.vs_program.specs.Compiled.{IsProgramOf, IsAcceptedAt}
-use Rattle.vs_program.specs.Layouts.{slots_of_design}
-use Rattle.vs_program.specs.Lowered.{home}
-use Rattle.vs_program.specs.Made.{AreResetsOf, copy_shadows}
-use Rattle.vs_program.specs.Program.{AreIn}
-use Rattle.vs_assemble.specs.Plans.{HasRoom, IsFrameOf, IsPlanOf, IsTightLayout, may_store}
-use Rattle.vs_assemble.specs.Runs.{AreRunsOf}
-use Rattle.vs_assemble.specs.Together.{ArePhasesOf, IsLoweredDesign}
+use Rattle.std.proofs.Common.{sym, ap, ◌∙◌, subst, refl, arith, length}
+use Rattle.vs_program.specs.Phases.{calls_of_runs}
+use Rattle.vs_program.specs.Compiled.{IsProgramOf}
+use Rattle.vs_assemble.proofs.Finished.{bits_below, finished_by}
 use Rattle.vs_assemble.proofs.assembling.finish.Goals as goal
 
--- src/assembling.rt:118:19
 pub padded-requires : goal.padded-requires
-padded-requires g c = ?
+padded-requires g c =
+    let below = bits_below (g.T.Lowering.design c.args.lowering.now) (g.T.Lowering.layout c.args.lowering.now) c.requires.layout in
+    omega (arith, below, ap length c.requires.frame.initial_is, c.max-count.ensures, c.from.ensures, c.first_temp.ensures)
 
--- src/assembling.rt:119:8
 pub of-requires-clause-in_range : goal.of-requires-clause-in_range
-of-requires-clause-in_range g c = ?
+of-requires-clause-in_range g c =
+    (finished_by c.program_law.ensures.made c.program_law.ensures.in_range (g.T.Lowering.design c.args.lowering.now) c.args.clock c.requires.accepted c.args.order.now c.requires.order (g.T.Lowering.layout c.args.lowering.now) c.requires.layout c.args.plan.now.settling.items c.args.plan.now.blocks.items c.args.plan.now.registers.items c.args.plan.now.falling.items c.requires.plan c.args.lowered c.requires.lowered c.args.phases c.requires.phases
+    c.max-count.result c.slots.result c.from.result c.max-count.ensures (c.from.ensures ∙ c.first_temp.ensures) c.slots.ensures.enough c.slots.ensures.least c.args.frame.initial.items
+    (record { bits = c.args.frame.bits; inputs = c.args.frame.inputs.items; clocks = c.args.frame.clocks.items; initial = c.in_ok-initial.initial.items; signals = c.args.frame.signals.items; first = calls_of_runs c.args.lowered.program c.args.phases.first.items; fall = calls_of_runs c.args.lowered.program c.args.phases.fall.items; next = calls_of_runs c.args.lowered.program c.args.phases.next.items; rise = calls_of_runs c.args.lowered.program c.args.phases.rise.items })
+    c.requires.frame c.in_ok-initial.ensures refl refl refl refl).0
 
--- src/assembling.rt:90:1
 pub returns : goal.returns
-returns g c = ?
+returns g c =
+    subst (IsProgramOf (g.T.Lowering.design c.args.lowering.now) c.args.clock) (sym c.of.ensures)
+    (finished_by c.program_law.ensures.made c.program_law.ensures.in_range (g.T.Lowering.design c.args.lowering.now) c.args.clock c.requires.accepted c.args.order.now c.requires.order (g.T.Lowering.layout c.args.lowering.now) c.requires.layout c.args.plan.now.settling.items c.args.plan.now.blocks.items c.args.plan.now.registers.items c.args.plan.now.falling.items c.requires.plan c.args.lowered c.requires.lowered c.args.phases c.requires.phases
+    c.max-count.result c.slots.result c.from.result c.max-count.ensures (c.from.ensures ∙ c.first_temp.ensures) c.slots.ensures.enough c.slots.ensures.least c.args.frame.initial.items
+    (record { bits = c.args.frame.bits; inputs = c.args.frame.inputs.items; clocks = c.args.frame.clocks.items; initial = c.in_ok-initial.initial.items; signals = c.args.frame.signals.items; first = calls_of_runs c.args.lowered.program c.args.phases.first.items; fall = calls_of_runs c.args.lowered.program c.args.phases.fall.items; next = calls_of_runs c.args.lowered.program c.args.phases.next.items; rise = calls_of_runs c.args.lowered.program c.args.phases.rise.items })
+    c.requires.frame c.in_ok-initial.ensures refl refl refl refl).1
