@@ -5,7 +5,7 @@ use Rattle.vs_net.specs.Network.{State, Network}
 use Rattle.vs_design.specs.Designs.{Design}
 use Rattle.vs_design.specs.Networks.{network_of}
 use Rattle.vs_desk.specs.Desk.{Contents}
-use Rattle.vs_engine.specs.Compiled.{IsProgramOf}
+use Rattle.vs_program.specs.Compiled.{IsProgramOf}
 use Rattle.vs_engine.specs.Lanes.{Running, state}
 use Rattle.vs_stim.specs.declared.input.Input.{Input}
 use Rattle.vs_stim.specs.Known.{Known, remaining}

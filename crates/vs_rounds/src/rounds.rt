@@ -3,7 +3,7 @@
 ghost use Rattle.std.specs.Prelude.{◌≡◌, ℕ, ◌+◌, ◌*◌, ◌<◌, ◌≤◌, length, IsTrue, IfOk, IfErr, OnOk};
 ghost use Rattle.vs_design.specs.Designs.{Design};
 ghost use Rattle.vs_design.specs.Sizes.{size};
-ghost use Rattle.vs_engine.specs.Compiled.{IsProgramOf};
+ghost use Rattle.vs_program.specs.Compiled.{IsProgramOf};
 ghost use Rattle.vs_drive.specs.Lanes.{AreAttached, OtherPlacesKept};
 ghost use Rattle.vs_waves.specs.Puts.{AreWritable};
 ghost use Rattle.vs_rounds.specs.Lanes.{Run, AreInRound, AreOpened, AreBegun};
@@ -14,7 +14,7 @@ ghost use Rattle.vs_rounds.specs.Counts.{AreDone, AreCounted, TicksRounds};
 use crate::{Machine, Stop};
 use std::sync::ledger::Ledger;
 use vs_desk::Desk;
-use vs_plane::{Lanes, Steps};
+use vs_plane::{Chunked, Lanes, Steps};
 
 /// A stimulus has at most 16,777,216 vectors, and its end is read in one more round.
 const MOST_ROUNDS: u64 = 16_777_217;
@@ -28,7 +28,7 @@ pub struct Counts {
     pub settlings: u64,
 }
 
-impl<W: Lanes> Machine<W> {
+impl<W: Lanes + Chunked> Machine<W> {
     /// Reads the first vector of each lane, by lane.
     ///
     /// It is a step of its own: nothing is put, and the places of the waves need not be attached. It stops at the first lane whose text
@@ -85,10 +85,10 @@ impl<W: Lanes> Machine<W> {
         ensures same { OnOk result (D.register desk.new ≡ D.register desk.old) }
 
         // The engine's steps are those of a fall and a rise in each round, for all lanes together, within the design's size each.
-        ensures ticked { IfOk result (λ counts. (n : ℕ) × (counts.settlings ≡ 2 * n) × TicksRounds self.old.engine.program n steps.old steps.new) }
+        ensures ticked { IfOk result (λ counts. (n : ℕ) × (counts.settlings ≡ 2 * n) × TicksRounds self.old.engine.program self.old.engine.begun n steps.old steps.new) }
         ensures within { (d : Design) (clock : ℕ) → IsProgramOf d clock self.old.engine.program
             → IfOk result (λ counts. steps.new ≤ steps.old + size d * counts.settlings) }
-        ensures ticked_always { (n : ℕ) × TicksRounds self.old.engine.program n steps.old steps.new }
+        ensures ticked_always { (n : ℕ) × TicksRounds self.old.engine.program self.old.engine.begun n steps.old steps.new }
 
         // A stimulus or a call on the desk stops it, in some round; a stimulus not in the first, whose vectors were read before.
         ensures stops { IsTrue D.tells → (run : Run) → AreInRound W.lane run 0 self.old (D.contents desk.old)
