@@ -6,8 +6,11 @@ mod cones;
 mod laws;
 mod lowering;
 mod planning;
+mod processes;
 mod runs;
 
 pub use assembling::{Frame, assemble};
 pub use laws::copy_law;
 pub use lowering::Lowering;
+pub use planning::registers;
+pub use processes::Processes;

@@ -17,7 +17,7 @@ use Rattle.vs_assemble.proofs.cones.cone.Goals.{then-is_set+in_ok-push, else-is_
 
 pub loop-n-preserved : goal.loop-n-preserved
 loop-n-preserved g c =
-    let d : Design = g.T.Lowering.design c.args.lowering.now in
+    let d : Design = g.T.Processes.design c.args.lowering.now in
     let lay : Layout = g.T.Lowering.layout c.args.lowering.now in
     let n : ℕ = c.loop-n.n in
     let p : ℕ = get_or c.args.order.now n 0 in
