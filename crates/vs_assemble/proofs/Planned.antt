@@ -93,7 +93,7 @@ registers_same d n l e =
     ∙ append-nil (register_bits (take n d.processes))
 
 -- numbers counted up
-count_next : (first n : ℕ) → count_from first (suc n) ≡ count_from first n ++ (first + n) ∷ []
+pub count_next : (first n : ℕ) → count_from first (suc n) ≡ count_from first n ++ (first + n) ∷ []
 count_next first zero = let same : first ≡ first + 0 = omega arith in ap (λ j. j ∷ []) same
 count_next first (suc n) =
     let same : suc first + n ≡ first + suc n = omega arith in

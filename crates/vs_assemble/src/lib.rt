@@ -3,6 +3,7 @@
 
 mod assembling;
 mod cones;
+mod frames;
 mod laws;
 mod lowering;
 mod planning;
@@ -10,6 +11,7 @@ mod processes;
 mod runs;
 
 pub use assembling::{Frame, assemble};
+pub use frames::frame;
 pub use laws::copy_law;
 pub use lowering::Lowering;
 pub use planning::registers;
