@@ -1,7 +1,7 @@
-use Rattle.std.proofs.Common.{◌≡◌, ◌+◌, ◌<◌, ℕ, List, ◌++◌, length, sym, ap, ◌∙◌, subst, arith}
+use Rattle.std.proofs.Common.{◌<◌, ℕ, List, ◌++◌, length, sym, ap, ◌∙◌, subst, arith}
 use Rattle.std.specs.Prelude.{sum_by}
 use Rattle.std.specs.List.{All}
-use Rattle.vs_code.specs.Calls.{Call, IsCall, length_of}
+use Rattle.vs_code.specs.Calls.{IsCall, length_of}
 use Rattle.vs_program.specs.Made.{AreResetsOf, copy_shadows}
 use Rattle.vs_assemble.specs.Plans.{may_store}
 use Rattle.vs_assemble.specs.Runs.{AreRunsOf}

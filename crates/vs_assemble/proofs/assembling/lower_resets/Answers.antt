@@ -1,7 +1,6 @@
-use Rattle.std.proofs.Common.{◌≡◌, ◌+◌, ◌<◌, List, [], length, ap, sym, subst, arith}
-use Rattle.std.specs.List.{All}
+use Rattle.std.proofs.Common.{◌≡◌, ◌<◌, ap, sym, subst, arith}
 use Rattle.std.proofs.lemmas.List.Elements.{All-nil}
-use Rattle.vs_code.specs.Calls.{Call, length_of}
+use Rattle.vs_code.specs.Calls.{length_of}
 use Rattle.vs_program.specs.Layouts.{slots_of_design}
 use Rattle.vs_program.specs.Program.{AreIn}
 use Rattle.vs_assemble.proofs.Stepping.{room_after, one_reset, all_resets, all_few}

@@ -1,6 +1,5 @@
 use Rattle.std.proofs.Common.{◌≡◌, ◌<◌, ℕ, List, [], ◌∷◌, length, sym, ap, ◌∙◌, subst}
 use Rattle.std.specs.List.{All}
-use Rattle.std.proofs.lemmas.List.Elements.{All-filter}
 use Rattle.vs_cone.specs.Cones.{cone}
 use Rattle.vs_program.specs.declared.compiled.Run.{Run}
 use Rattle.vs_assemble.specs.Runs.{AreJoinedRuns, AreRunsOf}

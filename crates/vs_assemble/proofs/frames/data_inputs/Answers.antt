@@ -1,7 +1,5 @@
-use Rattle.std.proofs.Common.{◌≡◌, ◌<◌, ℕ, List, get_or, length, sym, ap, arith}
+use Rattle.std.proofs.Common.{ℕ, get_or, arith}
 use Rattle.vs_program.specs.declared.compiled.Span.{Span}
-use Rattle.vs_program.specs.Compiled.{span_of}
-use Rattle.vs_flat.specs.Trees.{signal_of}
 use Rattle.vs_assemble.proofs.Signals.{span_at, span_low, spans_long, data_more, data_all, added_input, added_none}
 use Rattle.vs_assemble.proofs.frames.data_inputs.Goals as goal
 use Rattle.vs_assemble.proofs.frames.data_inputs.Goals.{then-signal+in_ok-push_bits, else-signal}

@@ -1,4 +1,4 @@
-use Rattle.std.proofs.Common.{◌≡◌, ◌-◌, ◌+◌, length, sym, ap, ◌∙◌, subst, arith}
+use Rattle.std.proofs.Common.{◌≡◌, ◌-◌, length, ap, arith}
 use Rattle.vs_design.specs.Designs.{bit_count}
 use Rattle.vs_flat.specs.DesignOf.{design_of}
 use Rattle.vs_assemble.proofs.Begins.{begin_length}

@@ -1,4 +1,4 @@
-use Rattle.std.proofs.Common.{◌≡◌, ◌<◌, ℕ, get_or, length, arith}
+use Rattle.std.proofs.Common.{ℕ, get_or, arith}
 use Rattle.vs_flat.specs.DesignOf.{design_of}
 use Rattle.vs_program.specs.declared.compiled.Span.{Span}
 use Rattle.vs_assemble.specs.Plans.{begin_bits}

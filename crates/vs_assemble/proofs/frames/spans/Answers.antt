@@ -1,4 +1,4 @@
-use Rattle.std.proofs.Common.{◌≡◌, ◌+◌, ℕ, List, [], ◌∷◌, ◌++◌, map, drop, sym, ap, subst, arith}
+use Rattle.std.proofs.Common.{◌≡◌, ◌+◌, ℕ, List, ◌++◌, map, drop, sym, ap, subst, arith}
 use Rattle.vs_flat.specs.DesignOf.{arena_signals}
 use Rattle.vs_program.specs.declared.compiled.Span.{Span}
 use Rattle.vs_program.specs.Compiled.{span_of}

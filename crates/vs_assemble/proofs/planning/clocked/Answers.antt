@@ -1,4 +1,4 @@
-use Rattle.std.proofs.Common.{◌≡◌, ◌<◌, length, true, false, sym, ◌∙◌, arith}
+use Rattle.std.proofs.Common.{◌<◌, length, sym, ◌∙◌, arith}
 use Rattle.vs_assemble.proofs.Planned.{clocked_more, clocked_same}
 use Rattle.vs_assemble.proofs.planning.clocked.Goals as goal
 use Rattle.vs_assemble.proofs.planning.clocked.Goals.{then-is_clocked+in_ok-push, else-is_clocked}

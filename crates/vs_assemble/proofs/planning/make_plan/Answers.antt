@@ -1,10 +1,9 @@
-use Rattle.std.proofs.Common.{◌≡◌, ℕ, ◌<◌, List, true, length, sym, ap, ◌∙◌, subst}
-use Rattle.std.specs.List.{All}
+use Rattle.std.proofs.Common.{◌≡◌, ◌<◌, true, length, sym, ap, ◌∙◌, subst}
 use Rattle.std.proofs.lemmas.Option.{slice_get_within}
 use Rattle.vs_design.specs.Designs.{bit_count}
 use Rattle.vs_design.specs.Footprints.{ascending, contains}
 use Rattle.vs_design.specs.Sizes.{register_bits}
-use Rattle.vs_cone.specs.Given.{data_bits, fall_bits}
+use Rattle.vs_cone.specs.Given.{fall_bits}
 use Rattle.vs_cone.specs.Lists.{HasEachOnce}
 use Rattle.vs_cone.specs.Sources.{SourcesAre}
 use Rattle.vs_assemble.specs.Flags.{HasBitsOf}

@@ -1,4 +1,4 @@
-use Rattle.std.proofs.Common.{◌≡◌, ◌+◌, ◌<◌, List, ℕ, ◌++◌, length, take, true, false, sym, ap, ◌∙◌, subst, arith}
+use Rattle.std.proofs.Common.{◌+◌, ◌<◌, List, ℕ, ◌++◌, length, take, sym, ap, ◌∙◌, subst, arith}
 use Rattle.vs_design.specs.Sizes.{register_bits}
 use Rattle.vs_assemble.specs.Flags.{AreFlags}
 use Rattle.vs_assemble.proofs.Flags.{same_flags}
