@@ -1,10 +1,9 @@
-use Rattle.std.proofs.Common.{◌≡◌, ℕ, ◌<◌, ◌∙◌, true, List, length, sym, subst}
+use Rattle.std.proofs.Common.{◌≡◌, ℕ, ◌<◌, ◌∙◌, true, length, sym, subst}
 use Rattle.vs_net.specs.Queue.{Rise}
 use Rattle.vs_net.specs.Solution.{IsSlotEnd}
 use Rattle.vs_design.specs.Designs.{Design}
 use Rattle.vs_design.specs.Networks.{network_of}
 use Rattle.vs_design.specs.Footprints.{contains}
-use Rattle.vs_code.specs.Calls.{Call, AreCalled}
 use Rattle.vs_program.specs.Program.{values}
 use Rattle.vs_program.specs.Compiled.{IsProgramOf, IsEnd}
 use Rattle.vs_engine.specs.Lanes.{Running, lane_slots, state}
