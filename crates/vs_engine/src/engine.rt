@@ -22,6 +22,7 @@ ghost use Rattle.vs_engine.specs.Lanes.{differ_below, home_writes, lane_slots, s
 use std::alloc::{AllocError, Global};
 use std::marker::Model;
 use std::sync::ledger::Ledger;
+use vs_cone::write_law;
 use vs_four::{Bit4, Bits, join};
 use vs_plane::{Chunked, Lanes, Pair, PlaneFile, Steps, Word};
 use vs_program::{Compiled, Phase, Span};
@@ -128,6 +129,7 @@ impl<W: Chunked> Engine<W> {
             → IsSlotEnd (network_of d clock) (state W.lane self.old i) (Fall (vector W.lane self.old.program.inputs inputs.now i)) (state W.lane self.new i) }
         ensures ticked { steps.new ≡ steps.old + (if self.old.begun then fall_stores self.old.program else first_stores self.old.program) }
     {
+        write_law();
         feed(self.compiled.inputs(), inputs, &mut self.file, steps);
         store_all(self.compiled.clocks(), Bit4::Zero, &mut self.file, steps);
         self.compiled

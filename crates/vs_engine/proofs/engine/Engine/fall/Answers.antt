@@ -40,7 +40,7 @@ ended g c d clock i is in_lanes =
     (c.self.invariant.constants d clock i is in_lanes)
     (c.self.invariant.masks d clock i is in_lanes)
     (λ e. c.self.invariant.reached e d clock i is in_lanes)
-    (fallen_is g.W.Word.lane c.self.inside.compiled c.args.inputs.now i (lane_slots g.W.Word.lane c.self.inside.file i) (lane_slots g.W.Word.lane c.feed.new.file i) (lane_slots g.W.Word.lane c.store_all.new.file i)
+    (fallen_is c.write_law.ensures g.W.Word.lane c.self.inside.compiled c.args.inputs.now i (lane_slots g.W.Word.lane c.self.inside.file i) (lane_slots g.W.Word.lane c.feed.new.file i) (lane_slots g.W.Word.lane c.store_all.new.file i)
     c.self.invariant.in_range
     (long g c)
     (λ slot. c.feed.ensures.lanes i slot ∙ ap (λ (bits : List ℕ). write_all (lane_slots g.W.Word.lane c.self.inside.file i) (home_writes g.W.Word.lane bits c.args.inputs.now i) slot) c.inputs.ensures)

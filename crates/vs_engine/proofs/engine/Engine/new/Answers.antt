@@ -11,7 +11,7 @@ use Rattle.vs_program.specs.Lowered.{HasConstants}
 use Rattle.vs_program.specs.Masks.{HaveMasks}
 use Rattle.vs_program.specs.Program.{values, initial_slots}
 use Rattle.vs_engine.specs.Lanes.{lane_slots}
-use Rattle.vs_engine.proofs.Writes.{by_test}
+use Rattle.vs_engine.proofs.Numbers.{by_test}
 use Rattle.vs_engine.proofs.engine.Engine.new.Goals as goal
 
 -- where each slot begins with its bit, a lane does
