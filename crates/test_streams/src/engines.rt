@@ -7,7 +7,7 @@ use std::marker::Brand;
 use std::process::Abort;
 use std::sync::ledger::{Blank, Ledger};
 use std::test::Fail;
-use vs_engine::Engine;
+use vs_thin::Engine;
 use vs_four::Bit4;
 use vs_plane::{Pair, Steps, Words};
 use vs_setup::{Loaded, load};

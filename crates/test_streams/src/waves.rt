@@ -14,7 +14,7 @@ use std::process::Abort;
 use std::sync::ledger::{Blank, Ledger};
 use std::test::Fail;
 use vs_desk::MemoryDesk;
-use vs_engine::Engine;
+use vs_thin::Engine;
 use vs_flat::Flat;
 use vs_four::Bit4;
 use vs_front::AcceptError;

@@ -1,5 +1,5 @@
 -- The copy of next values.
-use Rattle.std.proofs.Common.{◌≡◌, ◌≢◌, ℕ, zero, suc, ◌^◌, ◌<◌, true, List, [], ◌∷◌, ◌&&◌, ◌||◌, ◌==◌, nat_le, map, length, get_or, sym, ap, ◌∙◌, subst, refl, arith, eq-eqb}
+use Rattle.std.proofs.Common.{◌≡◌, ◌≢◌, ℕ, zero, suc, ◌^◌, ◌<◌, true, List, [], ◌∷◌, ◌&&◌, ◌==◌, nat_le, map, length, get_or, sym, ap, ◌∙◌, subst, refl, arith, eq-eqb}
 use Rattle.std.specs.Prelude.{All}
 use Rattle.std.proofs.lemmas.Bool.{both_ways}
 use Rattle.std.proofs.lemmas.List.{length-map}
@@ -17,7 +17,7 @@ use Rattle.vs_code.specs.declared.kernels.AnyKernel.TheVariants.{Logic}
 use Rattle.vs_program.specs.Lowered.{Layout, home}
 use Rattle.vs_program.specs.Made.{copy_shadows}
 use Rattle.vs_assemble.specs.Copies.{CopyIsCall}
-use Rattle.vs_assemble.proofs.Lists.{by_test, first_in, rest_in}
+use Rattle.vs_assemble.proofs.Lists.{first_in, rest_in}
 
 at_in : (bs : List ℕ) (n : ℕ) → n < length bs → contains bs (get_or bs n 0) ≡ true
 at_in [] n l = absurd (omega arith)

@@ -1,22 +1,19 @@
 -- What is put together is a program of the design.
-use Rattle.std.proofs.Common.{◌≡◌, ◌≢◌, ℕ, zero, suc, ◌+◌, ◌-◌, ◌<◌, ◌≤◌, true, List, [], ◌∷◌, ◌++◌, length, get_or, take, drop, max, replicate, sym, ap, ◌∙◌, subst, refl, arith, length-append}
-use Rattle.std.specs.Prelude.{slice_index_or}
-use Rattle.std.specs.List.{All, Any, flat_map}
+use Rattle.std.proofs.Common.{◌≡◌, ◌≢◌, ℕ, zero, suc, ◌+◌, ◌-◌, ◌<◌, ◌≤◌, true, List, [], ◌∷◌, ◌++◌, length, get_or, take, drop, max, replicate, sym, ap, ◌∙◌, subst, arith, length-append}
+use Rattle.std.specs.List.{All, Any}
 use Rattle.std.proofs.lemmas.List.{length-replicate, take-append-drop}
 use Rattle.std.proofs.lemmas.List.Concat.{flat_map-append}
 use Rattle.std.proofs.lemmas.List.Elements.{All-nil, All-append, All-take, All-drop, All-weaker}
 use Rattle.std.proofs.Math.Seq.{take-append_seam, drop-append_seam}
 use Rattle.vs_four.specs.declared.Bit4.{Bit4}
 use Rattle.vs_four.specs.declared.Bit4.TheVariants.{Zero, X}
-use Rattle.vs_design.specs.Designs.{Design, bit_count}
-use Rattle.vs_design.specs.Footprints.{contains}
+use Rattle.vs_design.specs.Designs.{Design}
 use Rattle.vs_design.specs.Levels.{is_level_order}
-use Rattle.vs_design.specs.Networks.{network_of}
 use Rattle.vs_code.specs.Calls.{Call, call_slots, slots_of}
 use Rattle.vs_program.specs.declared.compiled.Run.{Run}
 use Rattle.vs_program.specs.declared.compiled.Phases.{Phases}
 use Rattle.vs_program.specs.Lowered.{Layout, HasConstants}
-use Rattle.vs_program.specs.Layouts.{slots_of_design, sleepers, mask_of}
+use Rattle.vs_program.specs.Layouts.{slots_of_design, mask_of}
 use Rattle.vs_program.specs.Phases.{calls_of_run, calls_of_runs}
 use Rattle.vs_program.specs.Program.{Program, AreIn, IsInRange, values, initial_slots}
 use Rattle.vs_program.specs.Compiled.{IsProgramOf, IsAcceptedAt}

@@ -1,7 +1,7 @@
 -- How many stores the processes of a plan make, and which there are.
-use Rattle.std.proofs.Common.{◌≡◌, ℕ, suc, ◌+◌, ◌^◌, ◌<◌, ◌≤◌, Bool, true, not, List, [], ◌∷◌, ◌==◌, if◌then◌else◌, map, length, sym, ap, ◌∙◌, subst, arith, refl, slice_get}
+use Rattle.std.proofs.Common.{◌≡◌, ℕ, suc, ◌+◌, ◌<◌, ◌≤◌, Bool, true, not, List, [], ◌∷◌, if◌then◌else◌, map, length, sym, ap, ◌∙◌, subst, arith, refl, slice_get}
 use Rattle.std.specs.Prelude.{sum_by}
-use Rattle.std.specs.List.{All, filter}
+use Rattle.std.specs.List.{All}
 use Rattle.std.proofs.lemmas.List.{length-map}
 use Rattle.std.proofs.lemmas.List.Elements.{All-nil, All-cons, All-filter}
 use Rattle.std.proofs.lemmas.Option.{slice_get_within}
@@ -10,7 +10,7 @@ use Rattle.vs_design.specs.Clocks.{clock_nets}
 use Rattle.vs_design.specs.Levels.{is_level_order}
 use Rattle.vs_design.specs.Laws.{LevelOrderIs}
 use Rattle.vs_design.specs.Footprints.{waits_of, writes_of}
-use Rattle.vs_design.specs.Sizes.{distinct, process_weight, register_bits, size, sleeper_weight}
+use Rattle.vs_design.specs.Sizes.{distinct, register_bits, size, sleeper_weight}
 use Rattle.vs_design.specs.Sleepers.{is_sleeping}
 use Rattle.std.proofs.lemmas.List.Sums.{sum_by-cons}
 use Rattle.vs_cone.specs.Cones.{is_port_or}
@@ -20,7 +20,7 @@ use Rattle.vs_code.specs.Calls.{length_of}
 use Rattle.vs_program.specs.Lowered.{Layout, home}
 use Rattle.vs_program.specs.Layouts.{AreRegisters, LayoutsFit, sleepers_from}
 use Rattle.vs_program.specs.Compiled.{IsAcceptedAt}
-use Rattle.vs_program.specs.Made.{copy_shadows, first_processes}
+use Rattle.vs_program.specs.Made.{copy_shadows}
 use Rattle.vs_assemble.specs.Plans.{may_store, may_store_or, HasRoom, IsPlanOf, IsTightLayout}
 use Rattle.vs_assemble.proofs.Lists.{by_test, all_from}
 

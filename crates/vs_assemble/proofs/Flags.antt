@@ -1,5 +1,5 @@
 -- Flags of bits.
-use Rattle.std.proofs.Common.{◌≡◌, ◌≢◌, ℕ, ◌+◌, ◌<◌, ◌≤◌, Bool, true, false, List, [], ◌∷◌, ◌++◌, ◌||◌, ◌==◌, if◌then◌else◌, length, get_or, replicate, take, drop, drop_of_length-le, slice_set, sym, ap, ◌∙◌, subst, refl, arith, eqb-true, eq-eqb, ne_eqb, length-set}
+use Rattle.std.proofs.Common.{◌≡◌, ℕ, ◌+◌, ◌<◌, ◌≤◌, Bool, true, false, List, [], ◌∷◌, ◌++◌, ◌||◌, ◌==◌, length, get_or, replicate, take, drop, drop_of_length-le, slice_set, sym, ap, ◌∙◌, subst, refl, arith, eqb-true, eq-eqb, length-set}
 use Rattle.std.specs.List.{list_any}
 use Rattle.std.proofs.lemmas.List.{length-replicate, get_or-replicate, at_drop_more, take_more, take_all, get_or-set_same, get_or-set_other}
 use Rattle.vs_design.specs.Footprints.{contains}

@@ -3,7 +3,7 @@ use Rattle.std.proofs.Common.{◌≡◌, ℕ, ◌+◌, ◌<◌, ◌≤◌, List,
 use Rattle.std.specs.List.{All}
 use Rattle.std.proofs.lemmas.List.{take_more, take_all}
 use Rattle.std.proofs.lemmas.List.Concat.{flat_map-append}
-use Rattle.std.proofs.lemmas.List.Elements.{All-nil, All-append, All-push, All-pop, All-head, All-take, All-get_or}
+use Rattle.std.proofs.lemmas.List.Elements.{All-nil, All-append, All-push, All-head, All-take, All-get_or}
 use Rattle.vs_code.specs.Calls.{Call}
 use Rattle.vs_program.specs.declared.compiled.Run.{Run}
 use Rattle.vs_program.specs.Phases.{IsRunWithin, calls_of_run, calls_of_runs}

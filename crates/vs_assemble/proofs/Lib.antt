@@ -12,3 +12,4 @@ pub mod Phased
 pub mod Whole
 pub mod Begins
 pub mod Finished
+pub mod Signals

@@ -1,5 +1,5 @@
 -- The phases of a design's calls.
-use Rattle.std.proofs.Common.{◌≡◌, ℕ, Bool, true, List, [], ◌∷◌, ◌++◌, ◌||◌, if◌then◌else◌, length, sym, ap, ◌∙◌, subst, refl, append-nil}
+use Rattle.std.proofs.Common.{◌≡◌, ℕ, Bool, List, [], ◌∷◌, ◌++◌, ◌||◌, if◌then◌else◌, length, sym, ap, ◌∙◌, subst, refl, append-nil}
 use Rattle.std.specs.List.{All, list_any}
 use Rattle.std.proofs.lemmas.List.Elements.{All-nil, All-cons}
 use Rattle.vs_design.specs.Designs.{Design}
@@ -16,11 +16,10 @@ use Rattle.vs_program.specs.Lowered.{Layout}
 use Rattle.vs_program.specs.Phases.{IsRunWithin, calls_of_run, calls_of_runs, runs_at}
 use Rattle.vs_program.specs.Made.{AreCallsOf, fall_processes, rise_processes}
 use Rattle.vs_assemble.specs.declared.assembling.Lowered.{Lowered}
-use Rattle.vs_assemble.specs.Flags.{HasBitsOf}
 use Rattle.vs_assemble.specs.Plans.{IsPlanOf}
 use Rattle.vs_assemble.specs.Runs.{AreJoinedRuns, AreRunsOf}
 use Rattle.vs_assemble.specs.Together.{ArePhasesOf, IsLoweredDesign}
-use Rattle.vs_assemble.proofs.Lists.{by_test, contains-append, same_any}
+use Rattle.vs_assemble.proofs.Lists.{contains-append}
 use Rattle.vs_assemble.proofs.Running.{runs_within, runs_calls}
 
 -- a cone depends on which bits the list has

@@ -1,6 +1,6 @@
 -- The lists of a plan, element by element.
 use Rattle.std.proofs.Common.{◌≡◌, ℕ, zero, suc, ◌+◌, ◌<◌, ◌≤◌, Bool, true, false, not, List, [], ◌∷◌, ◌++◌, ◌||◌, if◌then◌else◌, length, get_or, take, slice_get, sym, ap, ◌∙◌, subst, refl, arith, append_assoc, append-nil}
-use Rattle.std.specs.List.{All, filter}
+use Rattle.std.specs.List.{filter}
 use Rattle.std.proofs.lemmas.List.Elements.{All-append, filter-append, filter_more}
 use Rattle.vs_design.specs.Values.{count_from}
 use Rattle.vs_design.specs.Designs.{Process, is_clocked, Design}
@@ -93,7 +93,7 @@ registers_same d n l e =
     ∙ append-nil (register_bits (take n d.processes))
 
 -- numbers counted up
-count_next : (first n : ℕ) → count_from first (suc n) ≡ count_from first n ++ (first + n) ∷ []
+pub count_next : (first n : ℕ) → count_from first (suc n) ≡ count_from first n ++ (first + n) ∷ []
 count_next first zero = let same : first ≡ first + 0 = omega arith in ap (λ j. j ∷ []) same
 count_next first (suc n) =
     let same : suc first + n ≡ first + suc n = omega arith in

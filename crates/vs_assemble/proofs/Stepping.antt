@@ -14,7 +14,7 @@ use Rattle.vs_code.specs.Calls.{Call, call_cost, call_slots, length_of, slots_of
 use Rattle.vs_program.specs.declared.compiled.Run.{Run}
 use Rattle.vs_program.specs.Lowered.{Layout}
 use Rattle.vs_program.specs.Layouts.{mask_of, slots_of_design}
-use Rattle.vs_program.specs.Phases.{IsRunWithin, calls_of_run}
+use Rattle.vs_program.specs.Phases.{calls_of_run}
 use Rattle.vs_program.specs.Program.{AreIn}
 use Rattle.vs_program.specs.Made.{IsLoweredAs, IsLoweredAt, IsResetAt, AreResetsOf, ResetsGrow, StoresAreFew}
 use Rattle.vs_assemble.specs.Plans.{HasRoom, may_store, may_store_or}

@@ -1,13 +1,11 @@
 -- All calls of a design, and the slots that they name.
-use Rattle.std.proofs.Common.{◌≡◌, ℕ, ◌+◌, ◌-◌, ◌<◌, ◌≤◌, true, List, [], ◌∷◌, ◌++◌, map, length, take, append-nil, append_assoc, length-append, sym, ap, ◌∙◌, subst, arith}
+use Rattle.std.proofs.Common.{◌≡◌, ℕ, ◌+◌, ◌-◌, ◌<◌, true, List, [], ◌∷◌, ◌++◌, map, length, append-nil, append_assoc, length-append, sym, ap, ◌∙◌, subst, arith}
 use Rattle.std.specs.List.{All, concat}
 use Rattle.std.proofs.lemmas.List.{take_all}
 use Rattle.std.proofs.lemmas.List.Elements.{All-nil, All-append}
 use Rattle.vs_design.specs.Designs.{Design, bit_count}
 use Rattle.vs_design.specs.Footprints.{contains}
-use Rattle.vs_design.specs.Sizes.{register_bits}
 use Rattle.vs_code.specs.Calls.{Call}
-use Rattle.vs_program.specs.declared.compiled.Run.{Run}
 use Rattle.vs_program.specs.Lowered.{Layout, home}
 use Rattle.vs_program.specs.Layouts.{AreRegisters, slots_of_design}
 use Rattle.vs_program.specs.Phases.{IsRunWithin, calls_of_run}

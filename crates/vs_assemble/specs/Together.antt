@@ -2,7 +2,6 @@
 use Rattle.std.specs.Prelude.{◌≡◌, ℕ, List, ◌++◌, length}
 use Rattle.vs_design.specs.Designs.{Design}
 use Rattle.vs_code.specs.Calls.{Call}
-use Rattle.vs_program.specs.declared.compiled.Run.{Run}
 use Rattle.vs_program.specs.declared.compiled.Phases.{Phases}
 use Rattle.vs_program.specs.Lowered.{Layout}
 use Rattle.vs_program.specs.Layouts.{slots_of_design}

@@ -3,11 +3,16 @@
 
 mod assembling;
 mod cones;
+mod frames;
 mod laws;
 mod lowering;
 mod planning;
+mod processes;
 mod runs;
 
 pub use assembling::{Frame, assemble};
+pub use frames::frame;
 pub use laws::copy_law;
 pub use lowering::Lowering;
+pub use planning::registers;
+pub use processes::Processes;

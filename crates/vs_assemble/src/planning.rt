@@ -12,7 +12,7 @@ ghost use Rattle.vs_program.specs.Compiled.{IsAcceptedAt};
 ghost use Rattle.vs_assemble.specs.Flags.{AreFlags, HasBitsOf};
 ghost use Rattle.vs_assemble.specs.Plans.{IsPlanOf};
 
-use crate::Lowering;
+use crate::Processes;
 use crate::cones::set_all;
 use std::alloc::{AllocError, Global};
 use vs_cone::{list_law, sources_law};
@@ -32,7 +32,7 @@ pub(crate) struct Plan {
 }
 
 /// The plan of a design with so many bits, whose data inputs are these.
-pub(crate) fn make_plan<T: Lowering>(
+pub(crate) fn make_plan<T: Processes>(
     alloc: Global,
     lowering: &T,
     clock: u32,
@@ -62,7 +62,7 @@ pub(crate) fn make_plan<T: Lowering>(
 }
 
 /// Of an order the processes but the ports that copy the clock.
-fn but_ports<T: Lowering>(
+fn but_ports<T: Processes>(
     alloc: Global,
     lowering: &T,
     clock: u32,
@@ -81,7 +81,7 @@ fn but_ports<T: Lowering>(
 }
 
 /// The numbers of the clocked blocks, ascending.
-fn clocked<T: Lowering>(alloc: Global, lowering: &T) -> Result<Vec<u32>, AllocError>
+fn clocked<T: Processes>(alloc: Global, lowering: &T) -> Result<Vec<u32>, AllocError>
     ensures { IfOk result (λ v. v.items ≡ clocked (T.design lowering.now)) }
 {
     let mut blocks = Vec::new(alloc);
@@ -93,8 +93,12 @@ fn clocked<T: Lowering>(alloc: Global, lowering: &T) -> Result<Vec<u32>, AllocEr
     Ok(blocks)
 }
 
-/// The bits of the registers, ascending.
-fn registers<T: Lowering>(alloc: Global, lowering: &T, bits: u32) -> Result<Vec<u32>, AllocError>
+/// The bits of the registers of a design with so many bits, ascending. The only error is that there is no memory.
+pub fn registers<T: Processes>(
+    alloc: Global,
+    lowering: &T,
+    bits: u32,
+) -> Result<Vec<u32>, AllocError>
     requires { bits ≡ bit_count (T.design lowering.now) }
     ensures { IfOk result (λ v. v.items ≡ ascending bits (register_bits (T.design lowering.now).processes)) }
 {
@@ -104,7 +108,7 @@ fn registers<T: Lowering>(alloc: Global, lowering: &T, bits: u32) -> Result<Vec<
 }
 
 /// Sets the flags of the bits of the registers.
-fn set_registers<T: Lowering>(lowering: &T, flags: &mut [bool])
+fn set_registers<T: Processes>(lowering: &T, flags: &mut [bool])
     requires { length flags.old ≡ bit_count (T.design lowering.now) }
     ensures count { length flags.new ≡ length flags.old }
     ensures set { AreFlags flags.old [] → AreFlags flags.new (register_bits (T.design lowering.now).processes) }
@@ -131,7 +135,7 @@ fn flagged(alloc: Global, flags: &[bool]) -> Result<Vec<u32>, AllocError>
 }
 
 /// The bits that change where the clock falls: these data inputs, and what the resets of the clocked blocks set.
-fn falling<T: Lowering>(
+fn falling<T: Processes>(
     alloc: Global,
     lowering: &T,
     clock: u32,

@@ -9,6 +9,7 @@ ghost use Rattle.vs_cone.specs.Given.{FirstFall, LaterFall, LaterRise};
 ghost use Rattle.vs_cone.specs.Laws.{FirstSlots, LaterSlots};
 ghost use Rattle.vs_cone.specs.Lists.{AscendingIsOnce, FewAreApart};
 ghost use Rattle.vs_cone.specs.Sources.{SourcesOfDesign};
+ghost use Rattle.vs_cone.specs.Writes.{WritesAre};
 
 use vs_design::{clock_law, cycle_law, footprint_law, lawful_law, pass_law};
 
@@ -73,6 +74,11 @@ pub fn list_law()
 {
     footprint_law();
 }
+
+/// A bit's value after writes: which values before it depends on.
+pub fn write_law()
+    ensures { WritesAre }
+{}
 
 /// Worked designs: the processes that each kind of slot runs.
 pub fn cone_examples()

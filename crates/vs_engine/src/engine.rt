@@ -1,43 +1,49 @@
 //! The engine.
 
-ghost use Rattle.std.specs.Prelude.{◌≡◌, ℕ, ◌+◌, ◌<◌, ◌^◌, length, slice_get, IfOk, Some, true};
+ghost use Rattle.std.specs.Prelude.{◌≡◌, ℕ, ◌+◌, ◌<◌, ◌≤◌, ◌^◌, [], length, slice_get, IfOk, Some, true, false, not, if◌then◌else◌};
 ghost use Rattle.std.specs.List.{list_all};
+ghost use Rattle.vs_four.specs.declared.Bit4.{Bit4};
 ghost use Rattle.vs_net.specs.Network.{write_all};
 ghost use Rattle.vs_net.specs.Queue.{Fall, Rise};
 ghost use Rattle.vs_net.specs.Solution.{IsSlotEnd};
 ghost use Rattle.vs_design.specs.Designs.{Design};
 ghost use Rattle.vs_design.specs.Networks.{network_of};
 ghost use Rattle.vs_design.specs.Values.{read};
-ghost use Rattle.vs_four.specs.Tables.{and_bit};
+ghost use Rattle.vs_design.specs.Footprints.{contains};
 ghost use Rattle.vs_plane.specs.Lanes.{pair_lane, slot_lane};
-ghost use Rattle.vs_engine.specs.declared.program.Span.{Span};
-ghost use Rattle.vs_engine.specs.Program.{after, fits, is_below, spans};
-ghost use Rattle.vs_engine.specs.Compiled.{IsProgramOf, fall_stores, rise_stores, span_bits};
-ghost use Rattle.vs_engine.specs.Lanes.{lane_of_file, lane_writes, state, vector};
+ghost use Rattle.vs_program.specs.declared.compiled.Span.{Span};
+ghost use Rattle.vs_program.specs.Lowered.{home};
+ghost use Rattle.vs_code.specs.Calls.{length_of};
+ghost use Rattle.vs_program.specs.Program.{calls_at, values, first_stores, fall_stores, rise_stores};
+ghost use Rattle.vs_program.specs.Compiled.{IsProgramOf, span_bits};
+ghost use Rattle.vs_four.specs.Tables.{same};
+ghost use Rattle.vs_engine.specs.Lanes.{differ_below, home_writes, lane_slots, state, vector};
 
-use crate::{And, Compiled, Span};
 use std::alloc::{AllocError, Global};
 use std::marker::Model;
 use std::sync::ledger::Ledger;
+use vs_cone::write_law;
 use vs_four::{Bit4, Bits, join};
-use vs_plane::{Lanes, Pair, PlaneFile, Steps, Word};
+use vs_plane::{Chunked, Lanes, Pair, PlaneFile, Steps, Word};
+use vs_program::{Compiled, Phase, Span};
 
 /// A compiled design at work: its slots, in every lane. Each lane is a run of the design of its own.
 #[derive(Drop)]
 pub struct Engine<W: Word> {
     compiled: Compiled,
     file: PlaneFile<W>,
+    begun: bool,
 }
 
-// Clauses see the program, and the pairs by slot number.
+// Clauses see the program, the pairs by slot number, and whether a slot was run.
 impl<W: Word> Model for Engine<W> {
     ghost use Rattle.vs_engine.specs.Lanes.{Running, IsWhole};
 
     ghost Value = { Running W };
 
-    ghost view = { λ e. record { program = e.compiled; file = e.file } };
+    ghost view = { λ e. record { program = e.compiled; file = e.file; begun = e.begun } };
 
-    ghost invariant = { λ e. IsWhole (record { program = e.compiled; file = e.file }) };
+    ghost invariant = { λ e. IsWhole W.lane W.LANES (record { program = e.compiled; file = e.file; begun = e.begun }) };
 }
 
 impl<W: Word> Engine<W> {
@@ -45,38 +51,16 @@ impl<W: Word> Engine<W> {
     /// memory, and the only error is that there is none.
     pub fn new(alloc: Global, compiled: Compiled) -> Result<Engine<W>, AllocError>
         ensures program { IfOk result (λ e. e.program ≡ compiled) }
+        ensures begun { IfOk result (λ e. e.begun ≡ false) }
         ensures idle { IfOk result (λ e. (d : Design) (clock i : ℕ) → IsProgramOf d clock compiled → i < W.LANES
             → state W.lane e i ≡ (network_of d clock).idle) }
     {
         let file = PlaneFile::new(alloc, compiled.initial())?;
-        Ok(Engine { compiled, file })
-    }
-
-    /// A slot in which the clock falls: each lane gets its vector, one pair for each bit of the data inputs in bit order, and has then the
-    /// values at the end of that slot.
-    pub fn fall<L: Ledger>(&mut self, inputs: &[Pair<W>], steps: &mut Steps<L>)
-        requires { length inputs.now ≡ length self.old.program.inputs }
-        ensures program { self.new.program ≡ self.old.program }
-        ensures ends { (d : Design) (clock i : ℕ) → IsProgramOf d clock self.old.program → i < W.LANES
-            → IsSlotEnd (network_of d clock) (state W.lane self.old i) (Fall (vector W.lane self.old.program.inputs inputs.now i)) (state W.lane self.new i) }
-        ensures ticked { steps.new ≡ steps.old + fall_stores self.old.program }
-    {
-        feed(self.compiled.inputs(), inputs, &mut self.file, steps);
-        self.file
-            .store(self.compiled.clock(), Pair::of_bit(Bit4::Zero), steps);
-        run(self.compiled.operations(), &mut self.file, steps);
-    }
-
-    /// A slot in which the clock rises. Each lane has then the values at the end of that slot.
-    pub fn rise<L: Ledger>(&mut self, steps: &mut Steps<L>)
-        ensures program { self.new.program ≡ self.old.program }
-        ensures ends { (d : Design) (clock i : ℕ) → IsProgramOf d clock self.old.program → i < W.LANES
-            → IsSlotEnd (network_of d clock) (state W.lane self.old i) Rise (state W.lane self.new i) }
-        ensures ticked { steps.new ≡ steps.old + rise_stores self.old.program }
-    {
-        self.file
-            .store(self.compiled.clock(), Pair::of_bit(Bit4::One), steps);
-        run(self.compiled.operations(), &mut self.file, steps);
+        Ok(Engine {
+            compiled,
+            file,
+            begun: false,
+        })
     }
 
     /// What it runs.
@@ -86,14 +70,85 @@ impl<W: Word> Engine<W> {
         &self.compiled
     }
 
-    /// How many steps each fall takes, and how many each rise.
+    /// The planes of a bit, all lanes at once, as they are at the end of the last slot.
+    #[inline]
+    pub fn pair(&self, bit: u32) -> Pair<W>
+        requires { bit < self.now.program.bits }
+        ensures { (i : ℕ) → pair_lane W.lane result i ≡ state W.lane self.now i bit }
+    {
+        self.file.load(4 + bit)
+    }
+
+    /// The lanes in which a signal has another value than these planes of its bits.
+    pub fn changed(&self, signal: u32, old: &[Pair<W>]) -> W
+        requires signal { signal < length self.now.program.signals }
+        requires old { (s : Span) → slice_get self.now.program.signals signal ≡ Some s → length old.now ≡ s.length }
+        ensures { (s : Span) (i : ℕ) → slice_get self.now.program.signals signal ≡ Some s → i < W.LANES
+            → W.lane result i ≡ differ_below (λ k. slot_lane W.lane old.now k i) (λ k. state W.lane self.now i (s.first + k)) s.length }
+    {
+        let span = self.compiled.signals()[signal as usize];
+        differing(&self.file, 4 + span.first, span.length, old)
+    }
+
+    /// How many steps the next fall takes, and how many each rise.
     pub fn stores(&self) -> (u64, u64)
-        ensures fall { result.0 ≡ fall_stores self.now.program }
+        ensures fall { result.0 ≡ (if self.now.begun then fall_stores self.now.program else first_stores self.now.program) }
         ensures rise { result.1 ≡ rise_stores self.now.program }
     {
-        let operations = self.compiled.operations().len() as u64;
+        let clocks = self.compiled.clocks().len() as u64;
+        let next = self.compiled.length(Phase::Next);
+        let rise = self.compiled.length(Phase::Rise);
+        (self.fall_stores(settling(self.begun)), clocks + next + rise)
+    }
+
+    /// How many steps each fall takes but the first.
+    pub fn later_stores(&self) -> u64
+        ensures { result ≡ fall_stores self.now.program }
+    {
+        self.fall_stores(Phase::Fall)
+    }
+
+    /// How many steps a fall takes that runs this phase.
+    fn fall_stores(&self, phase: Phase) -> u64
+        ensures { result ≡ length self.now.program.inputs + length self.now.program.clocks + length_of (calls_at self.now.program phase) }
+    {
         let inputs = self.compiled.inputs().len() as u64;
-        (inputs + 1 + operations, 1 + operations)
+        let clocks = self.compiled.clocks().len() as u64;
+        inputs + clocks + self.compiled.length(phase)
+    }
+}
+
+impl<W: Chunked> Engine<W> {
+    /// A slot in which the clock falls: each lane gets its vector, one pair for each bit of the data inputs in bit order, and has then the
+    /// values at the end of that slot.
+    pub fn fall<L: Ledger>(&mut self, inputs: &[Pair<W>], steps: &mut Steps<L>)
+        requires { length inputs.now ≡ length self.old.program.inputs }
+        ensures program { self.new.program ≡ self.old.program }
+        ensures begun { self.new.begun ≡ true }
+        ensures ends { (d : Design) (clock i : ℕ) → IsProgramOf d clock self.old.program → i < W.LANES
+            → IsSlotEnd (network_of d clock) (state W.lane self.old i) (Fall (vector W.lane self.old.program.inputs inputs.now i)) (state W.lane self.new i) }
+        ensures ticked { steps.new ≡ steps.old + (if self.old.begun then fall_stores self.old.program else first_stores self.old.program) }
+    {
+        write_law();
+        feed(self.compiled.inputs(), inputs, &mut self.file, steps);
+        store_all(self.compiled.clocks(), Bit4::Zero, &mut self.file, steps);
+        self.compiled
+            .execute(settling(self.begun), &mut self.file, steps);
+        self.begun = true;
+    }
+
+    /// A slot in which the clock rises, after one in which it fell. Each lane has then the values at the end of that slot.
+    pub fn rise<L: Ledger>(&mut self, steps: &mut Steps<L>)
+        requires { self.old.begun ≡ true }
+        ensures program { self.new.program ≡ self.old.program }
+        ensures begun { self.new.begun ≡ true }
+        ensures ends { (d : Design) (clock i : ℕ) → IsProgramOf d clock self.old.program → i < W.LANES
+            → IsSlotEnd (network_of d clock) (state W.lane self.old i) Rise (state W.lane self.new i) }
+        ensures ticked { steps.new ≡ steps.old + rise_stores self.old.program }
+    {
+        self.compiled.execute(Phase::Next, &mut self.file, steps);
+        store_all(self.compiled.clocks(), Bit4::One, &mut self.file, steps);
+        self.compiled.execute(Phase::Rise, &mut self.file, steps);
     }
 }
 
@@ -107,59 +162,105 @@ impl<W: Lanes> Engine<W> {
         let span = self.compiled.signals()[signal as usize];
         read(&self.file, lane, span)
     }
+
+    /// The values of a signal in all lanes, by lane.
+    pub fn values(&self, signal: u32, out: &mut [Bits])
+        requires signal { signal < length self.now.program.signals }
+        requires lanes { length out.old ≡ W.LANES }
+        ensures lanes { length out.new ≡ length out.old }
+        ensures values { (s : Span) (i : ℕ) → slice_get self.now.program.signals signal ≡ Some s → i < length out.new
+            → slice_get out.new i ≡ Some (read (state W.lane self.now i) (span_bits s)) }
+    {
+        for lane in 0..W::LANES {
+            out[lane as usize] = self.value(lane, signal);
+        }
+    }
+}
+
+/// The lanes in which these slots have other planes.
+fn differing<W: Word>(file: &PlaneFile<W>, first: u32, count: u32, old: &[Pair<W>]) -> W
+    requires inside { first + count ≤ length file.now }
+    requires few { length file.now < 2 ^ 32 }
+    requires old { length old.now ≡ count }
+    ensures { (i : ℕ) → i < W.LANES
+        → W.lane result i ≡ differ_below (λ k. slot_lane W.lane old.now k i) (λ k. slot_lane W.lane file.now (first + k) i) count }
+{
+    let mut lanes = W::none();
+    for k in 0..count {
+        let new = file.load(first + k);
+        let other = differ(old[k as usize], new);
+        lanes = lanes.or(other);
+    }
+    lanes
+}
+
+/// The lanes in which two pairs aren't one.
+fn differ<W: Word>(a: Pair<W>, b: Pair<W>) -> W
+    ensures { (i : ℕ) → i < W.LANES → W.lane result i ≡ not (same (pair_lane W.lane a i) (pair_lane W.lane b i)) }
+{
+    a.value.xor(b.value).or(a.unknown.xor(b.unknown))
+}
+
+/// What settles a slot in which the clock falls: a first one, or a later one.
+fn settling(begun: bool) -> Phase
+    ensures { result ≡ (if begun then Phase.Fall else Phase.First) }
+{
+    if begun { Phase::Fall } else { Phase::First }
 }
 
 /// The bits of a signal in a lane.
 fn read<W: Lanes>(file: &PlaneFile<W>, lane: u32, span: Span) -> Bits
     requires lane { lane < W.LANES }
-    requires span { spans (length file.now) span ≡ true }
+    requires some { 1 ≤ span.length }
+    requires short { span.length ≤ 64 }
+    requires inside { home (span.first + span.length) ≤ length file.now }
     requires few { length file.now < 2 ^ 32 }
-    ensures { result ≡ read (lane_of_file W.lane file.now lane) (span_bits span) }
+    ensures { result ≡ read (λ b. slot_lane W.lane file.now (home b) lane) (span_bits span) }
 {
-    let mut bits = Bits::of(&[file.lane(span.first, lane)]);
+    let first = 4 + span.first;
+    let mut bits = Bits::of(&[file.lane(first, lane)]);
     for k in 1..span.length {
-        let next = file.lane(span.first + k, lane);
+        let next = file.lane(first + k, lane);
         bits = join(Bits::of(&[next]), bits);
     }
     bits
 }
 
-/// Runs the operations in their order, in every lane at once.
-fn run<W: Word, L: Ledger>(operations: &[And], file: &mut PlaneFile<W>, steps: &mut Steps<L>)
-    requires { list_all (fits (length file.old)) operations.now ≡ true }
-    ensures lanes { (i b : ℕ) → i < W.LANES → lane_of_file W.lane file.new i b ≡ after operations.now (lane_of_file W.lane file.old i) b }
-    ensures slots { length file.new ≡ length file.old }
-    ensures ticked { steps.new ≡ steps.old + length operations.now }
-{
-    for operation in operations {
-        let pair = conjunction(file, *operation);
-        file.store(operation.to, pair, steps);
-    }
-}
-
-/// The `&` of the operation's two slots, in every lane.
-fn conjunction<W: Word>(file: &PlaneFile<W>, operation: And) -> Pair<W>
-    requires { fits (length file.now) operation ≡ true }
-    ensures { (i : ℕ) → i < W.LANES → pair_lane W.lane result i
-        ≡ and_bit (slot_lane W.lane file.now operation.a i) (slot_lane W.lane file.now operation.b i) }
-{
-    file.load(operation.a).and(file.load(operation.b))
-}
-
-/// Gives each of these slots its pair.
+/// Gives each of these bits its pair.
 fn feed<W: Word, L: Ledger>(
-    slots: &[u32],
+    bits: &[u32],
     pairs: &[Pair<W>],
     file: &mut PlaneFile<W>,
     steps: &mut Steps<L>,
 )
-    requires pairs { length slots.now ≡ length pairs.now }
-    requires slots { list_all (is_below (length file.old)) slots.now ≡ true }
-    ensures lanes { (i b : ℕ) → lane_of_file W.lane file.new i b ≡ write_all (lane_of_file W.lane file.old i) (lane_writes W.lane slots.now pairs.now i) b }
+    requires pairs { length bits.now ≡ length pairs.now }
+    requires room { (b : ℕ) → contains bits.now b ≡ true → home b < length file.old }
+    requires few { length file.old < 2 ^ 32 }
+    ensures lanes { (i slot : ℕ) → lane_slots W.lane file.new i slot ≡ write_all (lane_slots W.lane file.old i) (home_writes W.lane bits.now pairs.now i) slot }
     ensures slots { length file.new ≡ length file.old }
-    ensures ticked { steps.new ≡ steps.old + length slots.now }
+    ensures ticked { steps.new ≡ steps.old + length bits.now }
 {
-    for (n, slot) in slots.iter().enumerate() {
-        file.store(*slot, pairs[n], steps);
+    for (n, bit) in bits.iter().enumerate() {
+        file.store(4 + *bit, pairs[n], steps);
+    }
+}
+
+/// Gives each of these bits one value, in every lane.
+fn store_all<W: Word, L: Ledger>(
+    bits: &[u32],
+    value: Bit4,
+    file: &mut PlaneFile<W>,
+    steps: &mut Steps<L>,
+)
+    requires room { (b : ℕ) → contains bits.now b ≡ true → home b < length file.old }
+    requires few { length file.old < 2 ^ 32 }
+    ensures stored { (i b : ℕ) → i < W.LANES → contains bits.now b ≡ true → slot_lane W.lane file.new (home b) i ≡ value }
+    ensures kept { (i slot : ℕ) → ((b : ℕ) → contains bits.now b ≡ true → ¬ (slot ≡ home b)) → slot_lane W.lane file.new slot i ≡ slot_lane W.lane file.old slot i }
+    ensures slots { length file.new ≡ length file.old }
+    ensures ticked { steps.new ≡ steps.old + length bits.now }
+{
+    let pair = Pair::of_bit(value);
+    for bit in bits {
+        file.store(4 + *bit, pair, steps);
     }
 }

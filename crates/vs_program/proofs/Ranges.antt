@@ -1,12 +1,10 @@
 -- The slots of a made program are there, and its stores are within the size of the design.
 use Rattle.std.proofs.Common.{◌≡◌, ℕ, zero, suc, ◌+◌, ◌*◌, ◌^◌, ◌<◌, ◌≤◌, Bool, true, false, not, List, [], ◌∷◌, ◌++◌, ◌&&◌, ◌||◌, ◌==◌, if◌then◌else◌, nat_lt, nat_le, map, length, get_or, Option, Some, None, sym, ap, ◌∙◌, subst, refl, arith, eqb-true, slice_get, length-append}
-use Rattle.std.specs.Prelude.{sum_by, All}
-use Rattle.std.specs.List.{list_all, concat}
+use Rattle.std.specs.Prelude.{sum_by}
+use Rattle.std.specs.List.{list_all}
 use Rattle.std.proofs.lemmas.Bool.{and_parts}
 use Rattle.std.proofs.lemmas.List.{length-map}
 use Rattle.std.proofs.lemmas.List.Sums.{sum_by-append, sum_by-cons}
-use Rattle.std.proofs.lemmas.List.Elements.{All-append, All-weaker, All-nil}
-use Rattle.std.proofs.lemmas.Grind.{flat_map-append}
 use Rattle.vs_four.specs.declared.Range.{Range}
 use Rattle.vs_four.specs.Selects.{range_length, is_descending}
 use Rattle.vs_design.specs.Expressions.{Signal, signal_length, range_or_one}
@@ -21,18 +19,18 @@ use Rattle.vs_cone.specs.Given.{data_bits, fall_bits}
 use Rattle.vs_cone.specs.Lists.{FewAreApart}
 use Rattle.vs_cone.specs.Counts.{clocked, stores_of, AreWithin, StoresFit, StoresFitIn}
 use Rattle.vs_cone.specs.Sources.{SourcesAre, SourcesOfDesign}
-use Rattle.vs_code.specs.Calls.{Call, call_cost, call_slots, length_of, slots_of}
+use Rattle.vs_code.specs.Calls.{Call, call_cost, length_of}
 use Rattle.vs_program.specs.declared.compiled.Span.{Span}
 use Rattle.vs_program.specs.Lowered.{Layout, home}
-use Rattle.vs_program.specs.Program.{Program, IsInRange, AreIn, is_below, spans, first_stores, fall_stores, rise_stores}
+use Rattle.vs_program.specs.Program.{Program, IsInRange, is_below, spans, first_stores, fall_stores, rise_stores}
 use Rattle.vs_program.specs.Compiled.{span_of}
 use Rattle.vs_program.specs.Layouts.{slots_of_design, widest_of}
 use Rattle.vs_program.specs.Layouts.{IsLayoutOf, mask_of}
-use Rattle.vs_program.specs.Made.{AreCallsOf, AreResetsOf, IsMadeOf, copy_shadows, first_processes, fall_processes, rise_processes}
+use Rattle.vs_program.specs.Made.{AreCallsOf, AreResetsOf, IsMadeOf, copy_shadows, fall_processes, rise_processes}
 use Rattle.vs_program.proofs.Lists.{in_first, in_rest}
 use Rattle.vs_program.proofs.Passes.{lt_true}
 use Rattle.vs_program.proofs.Layouts.{few_registers}
-use Rattle.vs_program.proofs.Sleeping.{lowered_stores, lowered_slots, sleepers_small}
+use Rattle.vs_program.proofs.Sleeping.{lowered_stores, sleepers_small}
 
 -- ---- stores
 

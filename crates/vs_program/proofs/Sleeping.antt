@@ -19,15 +19,16 @@ use Rattle.vs_code.specs.Calls.{Call, length_of, slots_of}
 use Rattle.vs_program.specs.Lowered.{Layout, IsLoweredProcess}
 use Rattle.vs_program.specs.Made.{IsLoweredAs}
 use Rattle.vs_program.specs.Layouts.{place_of, sleepers_from, sleepers}
-use Rattle.vs_program.proofs.Writes.{by_test, write_all_covered, write_all_other}
+use Rattle.vs_cone.specs.Writes.{WritesAre}
+use Rattle.vs_program.proofs.Lists.{by_test}
 use Rattle.vs_program.proofs.Lists.{in_first, in_rest}
 use Rattle.vs_program.proofs.Processes.{some_is}
 
 -- writes that leave one state leave another that has the same in the bits that they write
-pub left_too : (ws : List Write) (s t : State) → write_all t ws ≡ t → ((b : ℕ) → is_written ws b ≡ true → s b ≡ t b) → write_all s ws ≡ s
-left_too ws s t h same = fun_ext (λ b. by_test (is_written ws b)
-    (λ e. write_all_covered ws s t b e ∙ ap (λ (f : State). f b) h ∙ sym (same b e))
-    (λ e. write_all_other ws s b e))
+pub left_too : WritesAre → (ws : List Write) (s t : State) → write_all t ws ≡ t → ((b : ℕ) → is_written ws b ≡ true → s b ≡ t b) → write_all s ws ≡ s
+left_too law ws s t h same = fun_ext (λ b. by_test (is_written ws b)
+    (λ e. law.covered ws s t b e ∙ ap (λ (f : State). f b) h ∙ sym (same b e))
+    (λ e. law.other ws s b e))
 
 -- ---- writes of x
 
@@ -37,13 +38,13 @@ blank_written [] b = refl
 blank_written (w ∷ ws) b = ap (λ c. (b == w.bit) || c) (blank_written ws b)
 
 -- they leave x in each bit that they write
-pub blank_value : (ws : List Write) (s : State) (b : ℕ) → is_written ws b ≡ true → write_all s (blank ws) b ≡ X
+pub blank_value : WritesAre → (ws : List Write) (s : State) (b : ℕ) → is_written ws b ≡ true → write_all s (blank ws) b ≡ X
 unfolding write_all is_written
-blank_value [] s b h = cc
-blank_value (w ∷ ws) s b h =
+blank_value law [] s b h = cc
+blank_value law (w ∷ ws) s b h =
     by_test (is_written ws b)
-    (λ e. blank_value ws (λ r. if r == w.bit then X else s r) b e)
-    (λ e. write_all_other (blank ws) (λ r. if r == w.bit then X else s r) b (blank_written ws b ∙ e)
+    (λ e. blank_value law ws (λ r. if r == w.bit then X else s r) b e)
+    (λ e. law.other (blank ws) (λ r. if r == w.bit then X else s r) b (blank_written ws b ∙ e)
     ∙ ap (λ (c : Bool). if c then X else s b) (left (b == w.bit) (is_written ws b) h e))
   where
     left : (u v : Bool) → (u || v) ≡ true → v ≡ false → u ≡ true

@@ -1,5 +1,5 @@
 -- The kernels' own weights against those of the size of a design (`Sizes` of vs_design): each kernel weighs what its operator weighs, so no call of one makes more stores than the operator may.
-use Rattle.std.specs.Prelude.{◌≡◌, ◌≤◌, ℕ, ◌+◌, ◌*◌, Bool, List, [], ◌∷◌, max}
+use Rattle.std.specs.Prelude.{◌≡◌, ◌≤◌, ℕ, ◌+◌, ◌*◌, Bool, [], ◌∷◌, max}
 use Rattle.vs_four.specs.Selects.{range_length}
 use Rattle.vs_kern_logic.specs.declared.costs.Kernel.TheVariants as logic
 use Rattle.vs_kern_logic.specs.Costs as L

@@ -24,7 +24,7 @@ use Rattle.vs_code.specs.Kernels.{operator_of, takes, cost_of, room_of}
 use Rattle.vs_code.specs.Calls.{Call, State, IsCall, AreCalled, call_cost, length_of, call_slots, slots_of}
 use Rattle.vs_program.specs.Lowered.{Layout, home, bits_of, HasConstants, IsResetRun}
 use Rattle.vs_reset.specs.Calls.{constant_slot, set_value, condition_kernel, condition_call, between, constants_of, choice_call, copy_call, NoneAreNeeded, ResetCallsAre}
-use Rattle.vs_reset.proofs.Writes.{write_all_covered, write_all_other}
+use Rattle.vs_cone.specs.Writes.{WritesAre}
 use Rattle.vs_reset.proofs.Lists.{by_test, in_first, in_rest, first_or, place_in, in_map, in_count, length-count, all_in, apart, none_apart, none_different, different, map_apart, count_apart}
 use Rattle.vs_reset.proofs.Weights.{reset_wide}
 
@@ -99,20 +99,20 @@ written [] b = refl
 written (w ∷ ws) b = ap (λ c. (b == w.bit) || c) (written ws b)
 
 -- the value that a reset gives, active or not
-active_value : (r : Reset) (s : State) (b : ℕ) (v : Bit4) (c : Bool) → is_written (flatten r.updates) b ≡ true → (if c then set_value r b else s b) ≡ write_all s (flatten (if c then r.updates else [])) b
+active_value : WritesAre → (r : Reset) (s : State) (b : ℕ) (v : Bit4) (c : Bool) → is_written (flatten r.updates) b ≡ true → (if c then set_value r b else s b) ≡ write_all s (flatten (if c then r.updates else [])) b
 unfolding write_all flatten
-active_value r s b v true h = write_all_covered (flatten r.updates) (λ c. X) s b h
-active_value r s b v false h = refl
+active_value law r s b v true h = law.covered (flatten r.updates) (λ c. X) s b h
+active_value law r s b v false h = refl
 
-idle_value : (r : Reset) (s : State) (b : ℕ) (c : Bool) → is_written (flatten r.updates) b ≡ false → s b ≡ write_all s (flatten (if c then r.updates else [])) b
+idle_value : WritesAre → (r : Reset) (s : State) (b : ℕ) (c : Bool) → is_written (flatten r.updates) b ≡ false → s b ≡ write_all s (flatten (if c then r.updates else [])) b
 unfolding write_all flatten
-idle_value r s b true h = sym (write_all_other (flatten r.updates) s b h)
-idle_value r s b false h = refl
+idle_value law r s b true h = sym (law.other (flatten r.updates) s b h)
+idle_value law r s b false h = refl
 
 pub none_at : {P : Type 0} (k : ℕ) → k < length {A = ℕ} [] → P
 none_at k l = absurd (omega arith)
 
-module _ (l : Layout) (r : Reset) (bits : List ℕ) (has : HasEachOnce (bits_of_reset (Some r)) bits) (temps : home l.bits ≤ l.first_temp) (input : r.input < l.bits) (low : (b : ℕ) → contains bits b ≡ true → b < l.bits) where
+module _ (law : WritesAre) (l : Layout) (r : Reset) (bits : List ℕ) (has : HasEachOnce (bits_of_reset (Some r)) bits) (temps : home l.bits ≤ l.first_temp) (input : r.input < l.bits) (low : (b : ℕ) → contains bits b ≡ true → b < l.bits) where
   set_is : (b : ℕ) → contains bits b ≡ is_written (flatten r.updates) b
   set_is b = has.has b ∙ written (flatten r.updates) b
 
@@ -196,9 +196,9 @@ module _ (l : Layout) (r : Reset) (bits : List ℕ) (has : HasEachOnce (bits_of_
     ran : IsResetRun l (Some r) before after
     ran = record {
       bits = λ b h. by_test (contains bits b)
-          (λ k. last (home b) ∙ set b k ∙ active_value r (bits_of before) b X (same (before (home r.input)) (to_value r.edge)) (sym (set_is b) ∙ k))
+          (λ k. last (home b) ∙ set b k ∙ active_value law r (bits_of before) b X (same (before (home r.input)) (to_value r.edge)) (sym (set_is b) ∙ k))
           (λ k. kept (home b) (omega (arith, h, temps)) (λ u. let p = in_map home bits (home b) u in both_ways (contains bits b) k (subst (λ z. contains bits z ≡ true) (homes_apart p.0 b (sym p.2)) p.1))
-          ∙ idle_value r (bits_of before) b (same (before (home r.input)) (to_value r.edge)) (sym (set_is b) ∙ k));
+          ∙ idle_value law r (bits_of before) b (same (before (home r.input)) (to_value r.edge)) (sym (set_is b) ∙ k));
       constants = λ slot h. kept slot (omega (arith, h, temps)) (λ u. let p = home_in slot u in omega (arith, h, p.0));
       others = λ slot h k. kept slot k (λ u. let p = home_in slot u in omega (arith, h, p.1));
     }
@@ -368,9 +368,9 @@ module _ (l : Layout) (r : Reset) (bits : List ℕ) (has : HasEachOnce (bits_of_
       third = All-append P (between l bits ++ []) (map home bits ++ []) (All-append P (between l bits) [] ways (All-nil P)) (All-append P (map home bits) [] homes (All-nil P))
 
 -- a reset that sets nothing does nothing
-idle_run : (l : Layout) (r : Reset) → HasEachOnce (bits_of_reset (Some r)) [] → (before after : State) → AreCalled [] before after → IsResetRun l (Some r) before after
-idle_run l r has before after called = record {
-  bits = λ b h. called (home b) ∙ idle_value r (bits_of before) b (same (before (home r.input)) (to_value r.edge)) (sym (has.has b ∙ written (flatten r.updates) b));
+idle_run : WritesAre → (l : Layout) (r : Reset) → HasEachOnce (bits_of_reset (Some r)) [] → (before after : State) → AreCalled [] before after → IsResetRun l (Some r) before after
+idle_run law l r has before after called = record {
+  bits = λ b h. called (home b) ∙ idle_value law r (bits_of before) b (same (before (home r.input)) (to_value r.edge)) (sym (has.has b ∙ written (flatten r.updates) b));
   constants = λ slot h. called slot;
   others = λ slot h k. called slot;
 }
@@ -391,14 +391,14 @@ none_needed l x = record {
       others = λ slot h k. called slot;
     }
 
-pub reset_calls_are : SourcesOfDesign → FewAreApart → ResetCallsAre
-reset_calls_are sources fewer d name a l layout room p x e k r is [] has = record {
+pub reset_calls_are : SourcesOfDesign → FewAreApart → WritesAre → ResetCallsAre
+reset_calls_are sources fewer law d name a l layout room p x e k r is [] has = record {
   are_calls = All-nil IsCall;
   stores = omega arith;
   slots = All-nil (λ slot. slot < l.first_temp + process_weight x);
-  run = λ before after const called. idle_run l r has before after called;
+  run = λ before after const called. idle_run law l r has before after called;
 }
-reset_calls_are sources fewer d name a l layout room p x e k r is (b ∷ bs) has =
+reset_calls_are sources fewer law d name a l layout room p x e k r is (b ∷ bs) has =
     let from : SourcesAre d a.clock.first = sources d name a in
     let wide = reset_wide d a.clock.first x r is in
     let own : (c : ℕ) → contains (b ∷ bs) c ≡ true → contains (writes_of x) c ≡ true = λ c h.
@@ -411,12 +411,12 @@ reset_calls_are sources fewer d name a l layout room p x e k r is (b ∷ bs) has
     let fits : l.first_temp + length (b ∷ bs) < 2 ^ 32 = omega (arith, room, wide, few, small) in
     let some : 1 ≤ length (b ∷ bs) = omega arith in
     record {
-      are_calls = All-cons IsCall (condition_call l r) (choice_call l r (b ∷ bs) ∷ copy_call l (b ∷ bs) ∷ []) (condition_ok l r (b ∷ bs) has temps input low fits some)
-          (All-cons IsCall (choice_call l r (b ∷ bs)) (copy_call l (b ∷ bs) ∷ []) (choice_ok l r (b ∷ bs) has temps input low fits some)
-          (All-cons IsCall (copy_call l (b ∷ bs)) [] (copy_ok l r (b ∷ bs) has temps input low fits some) (All-nil IsCall)));
-      stores = let stores = stores_are l r (b ∷ bs) has temps input low in let block : (if is_clocked x then distinct (writes_of x) else 0) ≡ distinct (writes_of x) = ap (λ (c : Bool). if c then distinct (writes_of x) else 0) k in omega (arith, stores, wide, few, block);
-      slots = slots_in l r (b ∷ bs) has temps input low (l.first_temp + process_weight x) (omega (arith, wide, few));
-      run = λ before after const called. ran l r (b ∷ bs) has temps input low before after const called;
+      are_calls = All-cons IsCall (condition_call l r) (choice_call l r (b ∷ bs) ∷ copy_call l (b ∷ bs) ∷ []) (condition_ok law l r (b ∷ bs) has temps input low fits some)
+          (All-cons IsCall (choice_call l r (b ∷ bs)) (copy_call l (b ∷ bs) ∷ []) (choice_ok law l r (b ∷ bs) has temps input low fits some)
+          (All-cons IsCall (copy_call l (b ∷ bs)) [] (copy_ok law l r (b ∷ bs) has temps input low fits some) (All-nil IsCall)));
+      stores = let stores = stores_are law l r (b ∷ bs) has temps input low in let block : (if is_clocked x then distinct (writes_of x) else 0) ≡ distinct (writes_of x) = ap (λ (c : Bool). if c then distinct (writes_of x) else 0) k in omega (arith, stores, wide, few, block);
+      slots = slots_in law l r (b ∷ bs) has temps input low (l.first_temp + process_weight x) (omega (arith, wide, few));
+      run = λ before after const called. ran law l r (b ∷ bs) has temps input low before after const called;
     }
   where
     register : (c : ℕ) → contains (writes_of x) c ≡ true → contains (Rattle.vs_design.specs.Sizes.register_bits d.processes) c ≡ true

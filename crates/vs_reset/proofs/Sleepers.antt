@@ -38,7 +38,7 @@ use Rattle.vs_program.specs.Lowered.{Layout, home, bits_of, made_of, is_woken, H
 use Rattle.vs_program.specs.Layouts.{IsLayoutOf, mask_of, MasksFit}
 use Rattle.vs_program.specs.Made.{IsLoweredAs}
 use Rattle.vs_reset.specs.Sleepers.{x_slots, compare_call, mask_call, finish_call, wake_calls, sleeper_calls, IsBodyRun, IsBody, SleeperCallsAre}
-use Rattle.vs_reset.proofs.Writes.{write_all_other}
+use Rattle.vs_cone.specs.Writes.{WritesAre}
 use Rattle.vs_reset.proofs.Lists.{by_test, in_first, in_rest, first_or, place_in, in_map, all_in, apart, none_apart, none_different, different, map_apart}
 use Rattle.vs_reset.proofs.Calls.{le_true, map_same, none_at}
 
@@ -49,13 +49,13 @@ unfolding is_written
 blank_written [] b = refl
 blank_written (w ∷ ws) b = ap (λ c. (b == w.bit) || c) (blank_written ws b)
 
-blank_value : (ws : List Write) (s : N.State) (b : ℕ) → is_written ws b ≡ true → write_all s (blank ws) b ≡ X
+blank_value : WritesAre → (ws : List Write) (s : N.State) (b : ℕ) → is_written ws b ≡ true → write_all s (blank ws) b ≡ X
 unfolding write_all is_written
-blank_value [] s b h = cc
-blank_value (w ∷ ws) s b h =
+blank_value law [] s b h = cc
+blank_value law (w ∷ ws) s b h =
     by_test (is_written ws b)
-    (λ e. blank_value ws (λ r. if r == w.bit then X else s r) b e)
-    (λ e. write_all_other (blank ws) (λ r. if r == w.bit then X else s r) b (blank_written ws b ∙ e)
+    (λ e. blank_value law ws (λ r. if r == w.bit then X else s r) b e)
+    (λ e. law.other (blank ws) (λ r. if r == w.bit then X else s r) b (blank_written ws b ∙ e)
     ∙ ap (λ (c : Bool). if c then X else s b) (left (b == w.bit) (is_written ws b) h e))
   where
     left : (u v : Bool) → (u || v) ≡ true → v ≡ false → u ≡ true
@@ -182,7 +182,7 @@ record HasRoom (l : Layout) (p : Process) (s : Sleeper) (mask : ℕ) (waits bits
   on_same : (b : ℕ) → contains waits b ≡ contains s.on b
   wakes : (b : ℕ) → contains waits b ≡ true → 1 ≤ distinct s.on
 
-module _ (sequence : SequenceIsBoth) (l : Layout) (p : Process) (s : Sleeper) (mask spare : ℕ) (waits bits now : List ℕ) (body : List Call) (is : IsBody l p spare bits now body) (room : HasRoom l p s mask waits bits) where
+module _ (sequence : SequenceIsBoth) (law : WritesAre) (l : Layout) (p : Process) (s : Sleeper) (mask spare : ℕ) (waits bits now : List ℕ) (body : List Call) (is : IsBody l p spare bits now body) (room : HasRoom l p s mask waits bits) where
   nothing : {P : Type 0} (a : ℕ) → contains [] a ≡ true → P
   nothing a h = absurd (none h)
     where
@@ -290,11 +290,11 @@ module _ (sequence : SequenceIsBoth) (l : Layout) (p : Process) (s : Sleeper) (m
 
           chosen : (S : N.State) (c : Bool) (b : ℕ) → is_written (made_of p S) b ≡ true → (if c then write_all S (made_of p S) b else X) ≡ write_all S (if c then made_of p S else blank (made_of p S)) b
           chosen S true b h = refl
-          chosen S false b h = sym (blank_value (made_of p S) S b h)
+          chosen S false b h = sym (blank_value law (made_of p S) S b h)
 
           other : (S : N.State) (c : Bool) (b : ℕ) → is_written (made_of p S) b ≡ false → S b ≡ write_all S (if c then made_of p S else blank (made_of p S)) b
-          other S true b h = sym (write_all_other (made_of p S) S b h)
-          other S false b h = sym (write_all_other (blank (made_of p S)) S b (blank_written (made_of p S) b ∙ h))
+          other S true b h = sym (law.other (made_of p S) S b h)
+          other S false b h = sym (law.other (blank (made_of p S)) S b (blank_written (made_of p S) b ∙ h))
 
   -- ---- they are calls
 
@@ -597,10 +597,10 @@ module _ (fewer : FewAreApart) (lawful : AcceptedIsLawful) (footprint : BitsOfDe
       nothing_there : (c : ℕ) → contains [] c ≡ true → ⊥
       nothing_there c k = cc
 
-pub sleeper_calls_are : SequenceIsBoth → FewAreApart → AcceptedIsLawful → BitsOfDesign → MasksFit → SleeperCallsAre
-sleeper_calls_are sequence fewer lawful footprint masks d name a l layout numbers p x e h on bits on_is bits_is spare now body is = (
+pub sleeper_calls_are : SequenceIsBoth → WritesAre → FewAreApart → AcceptedIsLawful → BitsOfDesign → MasksFit → SleeperCallsAre
+sleeper_calls_are sequence law fewer lawful footprint masks d name a l layout numbers p x e h on bits on_is bits_is spare now body is = (
   x,
   e,
   subst (λ (c : Bool). IsLoweredAs l (mask_of d p) (sleeper_if c x) x (sleeper_calls (mask_of d p) spare on bits now body)) (sym h)
-      (lowered sequence l x (record { on = waits_of x; bits = writes_of x }) (mask_of d p) spare on bits now body is (room_is fewer lawful footprint masks d name a l layout numbers p x e h on bits on_is bits_is)),
+      (lowered sequence law l x (record { on = waits_of x; bits = writes_of x }) (mask_of d p) spare on bits now body is (room_is fewer lawful footprint masks d name a l layout numbers p x e h on bits on_is bits_is)),
 )

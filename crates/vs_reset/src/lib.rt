@@ -8,7 +8,7 @@ ghost use Rattle.vs_reset.specs.Example.{CallsComputed};
 ghost use Rattle.vs_reset.specs.Sleepers.{SleeperCallsAre};
 
 use vs_code::sequence_law;
-use vs_cone::{list_law, sources_law};
+use vs_cone::{list_law, sources_law, write_law};
 use vs_design::{footprint_law, lawful_law};
 use vs_program::program_law;
 
@@ -19,6 +19,7 @@ pub fn reset_law()
 {
     sources_law();
     list_law();
+    write_law();
 }
 
 /// A block's statement lowered to temporaries, a comparison, a copy and a choice do what a sleeping block does, within what it may store.
@@ -26,6 +27,7 @@ pub fn sleeper_law()
     ensures { SleeperCallsAre }
 {
     sequence_law();
+    write_law();
     list_law();
     lawful_law();
     footprint_law();

@@ -2,9 +2,9 @@
 use Rattle.std.proofs.Common.{◌≡◌, ◌<◌, ◌*◌, ◌+◌, ◌∙◌, ℕ, Bool, List, length, sym, ap, subst, arith}
 use Rattle.vs_desk.specs.Desk.{Contents}
 use Rattle.vs_drive.specs.Lanes.{OtherPlacesKept}
-use Rattle.vs_engine.specs.Lanes.{Running}
-use Rattle.vs_engine.specs.Compiled.{IsProgramOf, fall_stores, rise_stores}
-use Rattle.vs_engine.specs.Program.{Program}
+use Rattle.vs_thin.specs.Lanes.{Running}
+use Rattle.vs_thin.specs.Compiled.{IsProgramOf, fall_stores, rise_stores}
+use Rattle.vs_thin.specs.Program.{Program}
 use Rattle.vs_rounds.specs.Lanes.{Run, Simulation, HaveNext, HaveVectors, AreBeforeRound, AreInRound}
 use Rattle.vs_rounds.specs.Ready.{Ticks}
 use Rattle.vs_rounds.specs.Stops.{OthersStay}

@@ -2,8 +2,8 @@
 use Rattle.std.specs.Prelude.{◌≡◌, ℕ, zero, suc, ◌+◌, ◌*◌, ◌<◌, [], length, max, None}
 use Rattle.vs_desk.specs.Desk.{Contents}
 use Rattle.vs_net.specs.Bound.{sum_below}
-use Rattle.vs_engine.specs.Program.{Program}
-use Rattle.vs_engine.specs.Compiled.{fall_stores, rise_stores}
+use Rattle.vs_thin.specs.Program.{Program}
+use Rattle.vs_thin.specs.Compiled.{fall_stores, rise_stores}
 use Rattle.vs_stim.specs.Known.{place_of}
 use Rattle.vs_waves.specs.Puts.{wave_place}
 use Rattle.vs_rounds.specs.Given.{IsGiven}

@@ -3,7 +3,7 @@
 ghost use Rattle.std.specs.Prelude.{◌≡◌, ℕ, [], ◌+◌, ◌<◌, ◌≤◌, length, suc, true, IsTrue, IfOk, IfErr, OnOk};
 ghost use Rattle.std.specs.List.{count_by};
 ghost use Rattle.vs_design.specs.Designs.{Design};
-ghost use Rattle.vs_engine.specs.Compiled.{IsProgramOf, fall_stores, rise_stores};
+ghost use Rattle.vs_thin.specs.Compiled.{IsProgramOf, fall_stores, rise_stores};
 ghost use Rattle.vs_drive.specs.Lanes.{AreAttached, OtherPlacesKept, lane_at};
 ghost use Rattle.vs_waves.specs.Puts.{AreWritable};
 ghost use Rattle.vs_rounds.specs.Lanes.{Run, Simulation, HaveNext, HaveVectors, AreBeforeRound, AreInRound};
@@ -17,7 +17,7 @@ use std::marker::Model;
 use std::sync::ledger::Ledger;
 use vs_desk::Desk;
 use vs_drive::Drive;
-use vs_engine::Engine;
+use vs_thin::Engine;
 use vs_four::Bit4;
 use vs_plane::{Lanes, Pair, Steps};
 use vs_waves::Waves;

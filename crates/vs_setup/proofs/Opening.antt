@@ -10,7 +10,7 @@ use Rattle.vs_stim.specs.Source.{IsHeaderError}
 use Rattle.vs_drive.specs.Opened.{path_at, with_lanes, HaveHeaders}
 use Rattle.vs_design.specs.Designs.{Design}
 use Rattle.vs_flat.specs.DesignOf.{design_of}
-use Rattle.vs_engine.specs.Lanes.{Running}
+use Rattle.vs_thin.specs.Lanes.{Running}
 use Rattle.vs_front.specs.Lent.{Acceptance}
 use Rattle.vs_front.specs.Source.{Spells}
 use Rattle.vs_front.specs.Accepted.{IsAcceptedText, most_bytes}

@@ -17,7 +17,7 @@ use Rattle.vs_flat.specs.DesignOf.{arena_signals, design_of}
 use Rattle.vs_flat.specs.Thin.{is_scalar, IsThin}
 use Rattle.vs_stim.specs.declared.input.Input.{Input}
 use Rattle.vs_stim.specs.Header.{IsInput, lengths}
-use Rattle.vs_engine.specs.Compiled.{data_bits}
+use Rattle.vs_thin.specs.Compiled.{data_bits}
 use Rattle.vs_rounds.specs.Inputs.{is_data_input, input_of, inputs_among}
 
 some_is : {A : Type 0} (x y : A) → Some x ≡ Some y → x ≡ y

@@ -5,8 +5,8 @@ use Rattle.vs_design.specs.Sizes.{size as size_of}
 use Rattle.vs_flat.specs.DesignOf.{design_of}
 use Rattle.vs_stim.specs.declared.input.Input.{Input}
 use Rattle.vs_stim.specs.Header.{IsInput, lengths}
-use Rattle.vs_engine.specs.Compiled.{IsProgramOf}
-use Rattle.vs_engine.specs.Lanes.{Running, state}
+use Rattle.vs_thin.specs.Compiled.{IsProgramOf}
+use Rattle.vs_thin.specs.Lanes.{Running, state}
 use Rattle.vs_front.specs.Lent.{Acceptance}
 use Rattle.vs_front.specs.Accepted.{IsAcceptedText}
 use Rattle.vs_rounds.specs.Inputs.{data_inputs}

@@ -4,7 +4,7 @@ use Rattle.vs_desk.specs.Desk.{Register, Contents}
 use Rattle.vs_desk.specs.Places.{design_place}
 use Rattle.vs_design.specs.Designs.{Design}
 use Rattle.vs_design.specs.Sizes.{size as size_of}
-use Rattle.vs_engine.specs.Compiled.{IsProgramOf, fall_stores, rise_stores}
+use Rattle.vs_thin.specs.Compiled.{IsProgramOf, fall_stores, rise_stores}
 use Rattle.vs_front.specs.Accepted.{IsAcceptedText}
 use Rattle.vs_stim.specs.Header.{IsInput}
 use Rattle.vs_drive.specs.Lanes.{AreAttached}
@@ -17,7 +17,7 @@ use Rattle.vs_rounds.specs.Ready.{IsReady}
 use Rattle.vs_setup.specs.Loaded.{IsLoaded}
 use Rattle.vs_front.specs.Lent.{Acceptance}
 use Rattle.vs_stim.specs.declared.input.Input.{Input}
-use Rattle.vs_engine.specs.Lanes.{Running}
+use Rattle.vs_thin.specs.Lanes.{Running}
 use Rattle.vs_setup.specs.Places.{with_texts}
 
 -- What a job runs where the files have these bytes: its design, with the bit of its clock, and a text for each lane.

@@ -5,7 +5,7 @@ ghost use Rattle.vs_desk.specs.declared.desk.Way.TheVariants.{Read};
 ghost use Rattle.vs_desk.specs.Taking.{OnlyTaken};
 ghost use Rattle.vs_desk.specs.Places.{design_place, most_lanes};
 ghost use Rattle.vs_design.specs.Designs.{Design};
-ghost use Rattle.vs_engine.specs.Compiled.{fall_stores, rise_stores};
+ghost use Rattle.vs_thin.specs.Compiled.{fall_stores, rise_stores};
 ghost use Rattle.vs_flat.specs.DesignOf.{design_of};
 ghost use Rattle.vs_front.specs.Accepted.{IsAcceptedText, most_bytes};
 ghost use Rattle.vs_setup.specs.Loaded.{IsLoaded};

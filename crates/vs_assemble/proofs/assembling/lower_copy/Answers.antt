@@ -1,8 +1,8 @@
-use Rattle.std.proofs.Common.{◌≡◌, List, ℕ, [], ◌∷◌, ◌==◌, true, length, map, take, sym, ap, ◌∙◌, subst}
+use Rattle.std.proofs.Common.{◌≡◌, List, ℕ, [], ◌∷◌, ◌==◌, true, length, map, sym, ap, ◌∙◌, subst}
 use Rattle.std.proofs.lemmas.List.{take_all}
 use Rattle.vs_kern_logic.specs.declared.costs.Kernel.TheVariants.{Copy}
 use Rattle.vs_code.specs.declared.kernels.AnyKernel.TheVariants.{Logic}
-use Rattle.vs_code.specs.Calls.{Call, IsCall}
+use Rattle.vs_code.specs.Calls.{IsCall}
 use Rattle.vs_program.specs.Lowered.{home}
 use Rattle.vs_assemble.proofs.Copying.{one_copy}
 use Rattle.vs_assemble.proofs.assembling.lower_copy.Goals as goal

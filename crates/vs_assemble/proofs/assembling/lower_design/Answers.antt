@@ -1,7 +1,7 @@
-use Rattle.std.proofs.Common.{◌≡◌, ◌+◌, ◌<◌, ℕ, List, ◌++◌, length, sym, ap, ◌∙◌, subst, arith}
+use Rattle.std.proofs.Common.{◌<◌, ℕ, List, ◌++◌, length, sym, ap, ◌∙◌, subst, arith}
 use Rattle.std.specs.Prelude.{sum_by}
 use Rattle.std.specs.List.{All}
-use Rattle.vs_code.specs.Calls.{Call, IsCall, length_of}
+use Rattle.vs_code.specs.Calls.{IsCall, length_of}
 use Rattle.vs_program.specs.Made.{AreResetsOf, copy_shadows}
 use Rattle.vs_assemble.specs.Plans.{may_store}
 use Rattle.vs_assemble.specs.Runs.{AreRunsOf}
@@ -11,34 +11,34 @@ use Rattle.vs_assemble.proofs.assembling.lower_design.Goals as goal
 
 pub lower_resets-requires-clause-blocks : goal.lower_resets-requires-clause-blocks
 lower_resets-requires-clause-blocks g c =
-    subst (λ (ps : List ℕ). All (λ p. p < length (g.T.Lowering.design c.args.lowering.now).processes) ps) (sym c.as_slice-blocks.ensures.value) (plan_fits c.stores_law.ensures c.cycle_law.ensures.order (g.T.Lowering.design c.args.lowering.now) c.args.clock c.requires.accepted c.args.order.now c.requires.order c.args.plan.now.settling.items c.args.plan.now.blocks.items c.args.plan.now.registers.items c.args.plan.now.falling.items c.requires.plan).blocks_there
+    subst (λ (ps : List ℕ). All (λ p. p < length (g.T.Processes.design c.args.lowering.now).processes) ps) (sym c.as_slice-blocks.ensures.value) (plan_fits c.stores_law.ensures c.cycle_law.ensures.order (g.T.Processes.design c.args.lowering.now) c.args.clock c.requires.accepted c.args.order.now c.requires.order c.args.plan.now.settling.items c.args.plan.now.blocks.items c.args.plan.now.registers.items c.args.plan.now.falling.items c.requires.plan).blocks_there
 
 pub lower_resets-requires-clause-few : goal.lower_resets-requires-clause-few
 lower_resets-requires-clause-few g c =
-    let fits = (plan_fits c.stores_law.ensures c.cycle_law.ensures.order (g.T.Lowering.design c.args.lowering.now) c.args.clock c.requires.accepted c.args.order.now c.requires.order c.args.plan.now.settling.items c.args.plan.now.blocks.items c.args.plan.now.registers.items c.args.plan.now.falling.items c.requires.plan) in
-    omega (arith, fits.few_rises, ap (sum_by (may_store (g.T.Lowering.design c.args.lowering.now))) c.as_slice-blocks.ensures.value)
+    let fits = (plan_fits c.stores_law.ensures c.cycle_law.ensures.order (g.T.Processes.design c.args.lowering.now) c.args.clock c.requires.accepted c.args.order.now c.requires.order c.args.plan.now.settling.items c.args.plan.now.blocks.items c.args.plan.now.registers.items c.args.plan.now.falling.items c.requires.plan) in
+    omega (arith, fits.few_rises, ap (sum_by (may_store (g.T.Processes.design c.args.lowering.now))) c.as_slice-blocks.ensures.value)
 
 pub lower_each-requires-clause-processes : goal.lower_each-requires-clause-processes
 lower_each-requires-clause-processes g c =
-    subst (λ (ps : List ℕ). All (λ p. p < length (g.T.Lowering.design c.args.lowering.now).processes) ps) (sym c.as_slice.ensures.value) (plan_fits c.stores_law.ensures c.cycle_law.ensures.order (g.T.Lowering.design c.args.lowering.now) c.args.clock c.requires.accepted c.args.order.now c.requires.order c.args.plan.now.settling.items c.args.plan.now.blocks.items c.args.plan.now.registers.items c.args.plan.now.falling.items c.requires.plan).settling_there
+    subst (λ (ps : List ℕ). All (λ p. p < length (g.T.Processes.design c.args.lowering.now).processes) ps) (sym c.as_slice.ensures.value) (plan_fits c.stores_law.ensures c.cycle_law.ensures.order (g.T.Processes.design c.args.lowering.now) c.args.clock c.requires.accepted c.args.order.now c.requires.order c.args.plan.now.settling.items c.args.plan.now.blocks.items c.args.plan.now.registers.items c.args.plan.now.falling.items c.requires.plan).settling_there
 
 pub lower_each-requires-clause-few : goal.lower_each-requires-clause-few
 lower_each-requires-clause-few g c =
-    let fits = (plan_fits c.stores_law.ensures c.cycle_law.ensures.order (g.T.Lowering.design c.args.lowering.now) c.args.clock c.requires.accepted c.args.order.now c.requires.order c.args.plan.now.settling.items c.args.plan.now.blocks.items c.args.plan.now.registers.items c.args.plan.now.falling.items c.requires.plan) in
-    omega (arith, fits.few_falls, c.in_ok-lower_resets.ensures.few, ap (sum_by (may_store (g.T.Lowering.design c.args.lowering.now))) c.as_slice-blocks.ensures.value, ap (sum_by (may_store (g.T.Lowering.design c.args.lowering.now))) c.as_slice.ensures.value)
+    let fits = (plan_fits c.stores_law.ensures c.cycle_law.ensures.order (g.T.Processes.design c.args.lowering.now) c.args.clock c.requires.accepted c.args.order.now c.requires.order c.args.plan.now.settling.items c.args.plan.now.blocks.items c.args.plan.now.registers.items c.args.plan.now.falling.items c.requires.plan) in
+    omega (arith, fits.few_falls, c.in_ok-lower_resets.ensures.few, ap (sum_by (may_store (g.T.Processes.design c.args.lowering.now))) c.as_slice-blocks.ensures.value, ap (sum_by (may_store (g.T.Processes.design c.args.lowering.now))) c.as_slice.ensures.value)
 
 pub lower_each-requires-2-clause-processes : goal.lower_each-requires-2-clause-processes
 lower_each-requires-2-clause-processes g c =
-    subst (λ (ps : List ℕ). All (λ p. p < length (g.T.Lowering.design c.args.lowering.now).processes) ps) (sym c.as_slice-blocks.ensures.value) (plan_fits c.stores_law.ensures c.cycle_law.ensures.order (g.T.Lowering.design c.args.lowering.now) c.args.clock c.requires.accepted c.args.order.now c.requires.order c.args.plan.now.settling.items c.args.plan.now.blocks.items c.args.plan.now.registers.items c.args.plan.now.falling.items c.requires.plan).blocks_there
+    subst (λ (ps : List ℕ). All (λ p. p < length (g.T.Processes.design c.args.lowering.now).processes) ps) (sym c.as_slice-blocks.ensures.value) (plan_fits c.stores_law.ensures c.cycle_law.ensures.order (g.T.Processes.design c.args.lowering.now) c.args.clock c.requires.accepted c.args.order.now c.requires.order c.args.plan.now.settling.items c.args.plan.now.blocks.items c.args.plan.now.registers.items c.args.plan.now.falling.items c.requires.plan).blocks_there
 
 pub lower_each-requires-2-clause-few : goal.lower_each-requires-2-clause-few
 lower_each-requires-2-clause-few g c =
-    let fits = (plan_fits c.stores_law.ensures c.cycle_law.ensures.order (g.T.Lowering.design c.args.lowering.now) c.args.clock c.requires.accepted c.args.order.now c.requires.order c.args.plan.now.settling.items c.args.plan.now.blocks.items c.args.plan.now.registers.items c.args.plan.now.falling.items c.requires.plan) in
-    omega (arith, fits.few_falls, fits.few_rises, c.in_ok-lower_resets.ensures.few, c.in_ok-settling.ensures.few, ap (sum_by (may_store (g.T.Lowering.design c.args.lowering.now))) c.as_slice-blocks.ensures.value, ap (sum_by (may_store (g.T.Lowering.design c.args.lowering.now))) c.as_slice.ensures.value)
+    let fits = (plan_fits c.stores_law.ensures c.cycle_law.ensures.order (g.T.Processes.design c.args.lowering.now) c.args.clock c.requires.accepted c.args.order.now c.requires.order c.args.plan.now.settling.items c.args.plan.now.blocks.items c.args.plan.now.registers.items c.args.plan.now.falling.items c.requires.plan) in
+    omega (arith, fits.few_falls, fits.few_rises, c.in_ok-lower_resets.ensures.few, c.in_ok-settling.ensures.few, ap (sum_by (may_store (g.T.Processes.design c.args.lowering.now))) c.as_slice-blocks.ensures.value, ap (sum_by (may_store (g.T.Processes.design c.args.lowering.now))) c.as_slice.ensures.value)
 
 pub lower_copy-requires-clause-call : goal.lower_copy-requires-clause-call
 lower_copy-requires-clause-call g c =
-    let d = g.T.Lowering.design c.args.lowering.now in
+    let d = g.T.Processes.design c.args.lowering.now in
     let lay = g.T.Lowering.layout c.args.lowering.now in
     let at = c.requires.accepted in
     let low = first_low d lay c.args.clock at c.requires.layout in
@@ -47,16 +47,25 @@ lower_copy-requires-clause-call g c =
 
 pub lower_copy-requires-clause-few : goal.lower_copy-requires-clause-few
 lower_copy-requires-clause-few g c =
-    let fits = (plan_fits c.stores_law.ensures c.cycle_law.ensures.order (g.T.Lowering.design c.args.lowering.now) c.args.clock c.requires.accepted c.args.order.now c.requires.order c.args.plan.now.settling.items c.args.plan.now.blocks.items c.args.plan.now.registers.items c.args.plan.now.falling.items c.requires.plan) in
+    let fits = (plan_fits c.stores_law.ensures c.cycle_law.ensures.order (g.T.Processes.design c.args.lowering.now) c.args.clock c.requires.accepted c.args.order.now c.requires.order c.args.plan.now.settling.items c.args.plan.now.blocks.items c.args.plan.now.registers.items c.args.plan.now.falling.items c.requires.plan) in
     let lay = g.T.Lowering.layout c.args.lowering.now in
-    let copy = copy_small c.list_law.ensures.few (g.T.Lowering.design c.args.lowering.now) lay c.args.plan.now.registers.items c.requires.plan.registers_are c.requires.accepted.accepted.small in
-    omega (arith, copy, fits.few_falls, fits.few_rises, c.in_ok-lower_resets.ensures.few, c.in_ok-settling.ensures.few, c.in_ok-stepping.ensures.few,
-    ap (sum_by (may_store (g.T.Lowering.design c.args.lowering.now))) c.as_slice-blocks.ensures.value, ap (sum_by (may_store (g.T.Lowering.design c.args.lowering.now))) c.as_slice.ensures.value,
-    ap (λ (regs : List ℕ). length_of (copy_shadows lay regs)) c.as_slice-2.ensures.value)
+    let copy = copy_small c.list_law.ensures.few (g.T.Processes.design c.args.lowering.now) lay c.args.plan.now.registers.items c.requires.plan.registers_are c.requires.accepted.accepted.small in
+    omega (
+      arith,
+      copy,
+      fits.few_falls,
+      fits.few_rises,
+      c.in_ok-lower_resets.ensures.few,
+      c.in_ok-settling.ensures.few,
+      c.in_ok-stepping.ensures.few,
+      ap (sum_by (may_store (g.T.Processes.design c.args.lowering.now))) c.as_slice-blocks.ensures.value,
+      ap (sum_by (may_store (g.T.Processes.design c.args.lowering.now))) c.as_slice.ensures.value,
+      ap (λ (regs : List ℕ). length_of (copy_shadows lay regs)) c.as_slice-2.ensures.value,
+    )
 
 pub returns : goal.returns
 returns g c =
-    let d = g.T.Lowering.design c.args.lowering.now in
+    let d = g.T.Processes.design c.args.lowering.now in
     let lay = g.T.Lowering.layout c.args.lowering.now in
     let plan = c.args.plan.now in
     let resets = c.in_ok-lower_resets.ensures in

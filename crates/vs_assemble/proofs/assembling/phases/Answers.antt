@@ -1,6 +1,5 @@
 use Rattle.std.proofs.Common.{◌≡◌, ◌<◌, ℕ, List, [], ◌∷◌, length, sym, ap, ◌∙◌, subst}
 use Rattle.std.specs.List.{All}
-use Rattle.std.proofs.lemmas.List.Elements.{All-filter}
 use Rattle.vs_cone.specs.Cones.{cone}
 use Rattle.vs_program.specs.declared.compiled.Run.{Run}
 use Rattle.vs_assemble.specs.Runs.{AreJoinedRuns, AreRunsOf}
@@ -12,30 +11,30 @@ use Rattle.vs_assemble.proofs.assembling.phases.Goals as goal
 pub cone_of-requires-clause-runs : goal.cone_of-requires-clause-runs
 cone_of-requires-clause-runs g c =
     ap length c.as_slice-settling.ensures.value
-    ∙ runs_count (g.T.Lowering.design c.args.lowering.now) (g.T.Lowering.layout c.args.lowering.now) c.args.lowered.now.program c.args.plan.now.settling.items c.args.lowered.now.settling.items c.requires.lowered.settling_are
+    ∙ runs_count (g.T.Processes.design c.args.lowering.now) (g.T.Lowering.layout c.args.lowering.now) c.args.lowered.now.program c.args.plan.now.settling.items c.args.lowered.now.settling.items c.requires.lowered.settling_are
     ∙ sym (ap length c.as_slice.ensures.value)
 
 pub cone_of-requires-clause-order : goal.cone_of-requires-clause-order
 cone_of-requires-clause-order g c =
-    let d = g.T.Lowering.design c.args.lowering.now in
+    let d = g.T.Processes.design c.args.lowering.now in
     subst (λ (ps : List ℕ). All (λ p. p < length d.processes) ps) (sym c.as_slice.ensures.value)
     (plan_there c.cycle_law.ensures.order d c.args.clock c.args.order.now c.requires.order c.args.plan.now.settling.items c.args.plan.now.blocks.items c.args.plan.now.registers.items c.args.plan.now.falling.items c.requires.plan)
 
 pub cone_of-requires-2-clause-runs : goal.cone_of-requires-2-clause-runs
 cone_of-requires-2-clause-runs g c =
     ap length c.as_slice-settling.ensures.value
-    ∙ runs_count (g.T.Lowering.design c.args.lowering.now) (g.T.Lowering.layout c.args.lowering.now) c.args.lowered.now.program c.args.plan.now.settling.items c.args.lowered.now.settling.items c.requires.lowered.settling_are
+    ∙ runs_count (g.T.Processes.design c.args.lowering.now) (g.T.Lowering.layout c.args.lowering.now) c.args.lowered.now.program c.args.plan.now.settling.items c.args.lowered.now.settling.items c.requires.lowered.settling_are
     ∙ sym (ap length c.as_slice-3.ensures.value)
 
 pub cone_of-requires-2-clause-order : goal.cone_of-requires-2-clause-order
 cone_of-requires-2-clause-order g c =
-    let d = g.T.Lowering.design c.args.lowering.now in
+    let d = g.T.Processes.design c.args.lowering.now in
     subst (λ (ps : List ℕ). All (λ p. p < length d.processes) ps) (sym c.as_slice-3.ensures.value)
     (plan_there c.cycle_law.ensures.order d c.args.clock c.args.order.now c.requires.order c.args.plan.now.settling.items c.args.plan.now.blocks.items c.args.plan.now.registers.items c.args.plan.now.falling.items c.requires.plan)
 
 pub returns : goal.returns
 returns g c =
-    let d = g.T.Lowering.design c.args.lowering.now in
+    let d = g.T.Processes.design c.args.lowering.now in
     let lay = g.T.Lowering.layout c.args.lowering.now in
     let plan = c.args.plan.now in
     let lowered = c.args.lowered.now in

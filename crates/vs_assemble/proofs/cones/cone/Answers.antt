@@ -1,9 +1,7 @@
-use Rattle.std.proofs.Common.{◌≡◌, ℕ, ◌+◌, ◌<◌, true, false, List, [], ◌∷◌, ◌++◌, length, get_or, drop, sym, ap, ◌∙◌, subst, arith}
-use Rattle.std.specs.List.{list_any}
+use Rattle.std.proofs.Common.{◌≡◌, ℕ, true, false, List, [], ◌∷◌, ◌++◌, length, get_or, sym, ap, ◌∙◌, subst}
 use Rattle.vs_design.specs.Designs.{Design}
 use Rattle.vs_design.specs.Footprints.{contains}
-use Rattle.vs_cone.specs.Cones.{cone, is_touched, needs_at, writes_at}
-use Rattle.vs_code.specs.Calls.{Call}
+use Rattle.vs_cone.specs.Cones.{is_touched, needs_at, writes_at}
 use Rattle.vs_program.specs.declared.compiled.Run.{Run}
 use Rattle.vs_program.specs.Lowered.{Layout}
 use Rattle.vs_assemble.specs.Flags.{AreFlags}
@@ -17,7 +15,7 @@ use Rattle.vs_assemble.proofs.cones.cone.Goals.{then-is_set+in_ok-push, else-is_
 
 pub loop-n-preserved : goal.loop-n-preserved
 loop-n-preserved g c =
-    let d : Design = g.T.Lowering.design c.args.lowering.now in
+    let d : Design = g.T.Processes.design c.args.lowering.now in
     let lay : Layout = g.T.Lowering.layout c.args.lowering.now in
     let n : ℕ = c.loop-n.n in
     let p : ℕ = get_or c.args.order.now n 0 in

@@ -10,8 +10,8 @@ abbrev pub invariant-loop-n : goal.invariant-loop-n
 invariant-loop-n g l = record {
   count : length l.flags ≡ length l.initial.flags;
   so_far : (calls : List Call) (bits : List ℕ) → AreFlags l.initial.flags bits
-      → AreRunsOf (g.T.Lowering.design l.lowering) (g.T.Lowering.layout l.lowering) calls l.order l.runs
+      → AreRunsOf (g.T.Processes.design l.lowering) (g.T.Lowering.layout l.lowering) calls l.order l.runs
       → (now : List ℕ) × (done : List ℕ) × AreFlags l.flags now
-      × AreRunsOf (g.T.Lowering.design l.lowering) (g.T.Lowering.layout l.lowering) calls done l.reached.items
-      × (done ++ cone (g.T.Lowering.design l.lowering) now (drop l.n l.order) ≡ cone (g.T.Lowering.design l.lowering) bits l.order);
+      × AreRunsOf (g.T.Processes.design l.lowering) (g.T.Lowering.layout l.lowering) calls done l.reached.items
+      × (done ++ cone (g.T.Processes.design l.lowering) now (drop l.n l.order) ≡ cone (g.T.Processes.design l.lowering) bits l.order);
 }

@@ -7,7 +7,7 @@ use Rattle.vs_assemble.proofs.planning.falling.Goals as goal
 
 pub loop-process-preserved : goal.loop-process-preserved
 loop-process-preserved g c =
-    let d = g.T.Lowering.design c.args.lowering.now in
+    let d = g.T.Processes.design c.args.lowering.now in
     let there : c.loop-process.process < length d.processes = omega (arith, c.loop-process-test.true, c.process_count-process-end.ensures) in
     let more = c.in_ok-add_reset_bits.ensures in
     subst (λ bits. HasBitsOf c.args.bits bits (c.args.inputs.now ++ bits_of_resets d c.args.clock (take (c.loop-process.process + 1) d.processes))) (sym more.1)

@@ -1,4 +1,3 @@
-use Rattle.std.proofs.Common.{◌∙◌, ◌∷◌, ◌++◌, [], ap}
 use Rattle.vs_assemble.proofs.Planned.{flag_more, flag_same}
 use Rattle.vs_assemble.proofs.planning.flagged.Goals as goal
 use Rattle.vs_assemble.proofs.planning.flagged.Goals.{then-flag+in_ok-push, else-flag}

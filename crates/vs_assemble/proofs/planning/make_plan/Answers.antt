@@ -1,10 +1,9 @@
-use Rattle.std.proofs.Common.{◌≡◌, ℕ, ◌<◌, List, true, length, sym, ap, ◌∙◌, subst}
-use Rattle.std.specs.List.{All}
+use Rattle.std.proofs.Common.{◌≡◌, ◌<◌, true, length, sym, ap, ◌∙◌, subst}
 use Rattle.std.proofs.lemmas.Option.{slice_get_within}
 use Rattle.vs_design.specs.Designs.{bit_count}
 use Rattle.vs_design.specs.Footprints.{ascending, contains}
 use Rattle.vs_design.specs.Sizes.{register_bits}
-use Rattle.vs_cone.specs.Given.{data_bits, fall_bits}
+use Rattle.vs_cone.specs.Given.{fall_bits}
 use Rattle.vs_cone.specs.Lists.{HasEachOnce}
 use Rattle.vs_cone.specs.Sources.{SourcesAre}
 use Rattle.vs_assemble.specs.Flags.{HasBitsOf}
@@ -13,13 +12,13 @@ use Rattle.vs_assemble.proofs.planning.make_plan.Goals as goal
 
 pub but_ports-requires : goal.but_ports-requires
 but_ports-requires g c =
-    let d = g.T.Lowering.design c.args.lowering.now in
+    let d = g.T.Processes.design c.args.lowering.now in
     all_from (λ p. p < length d.processes) c.args.order.now
     (λ q h. let r = ((c.cycle_law.ensures.order d c.args.order.now c.requires.order).members q).0 h in slice_get_within d.processes q r.0 r.1)
 
 pub falling-requires-clause-below : goal.falling-requires-clause-below
 falling-requires-clause-below g c =
-    let d = g.T.Lowering.design c.args.lowering.now in
+    let d = g.T.Processes.design c.args.lowering.now in
     let at = c.requires.accepted in
     let sources : SourcesAre d c.args.clock = subst (SourcesAre d) at.clock_is (c.sources_law.ensures d at.name at.accepted) in
     all_from (λ b. b < c.args.bits) c.args.inputs.now
@@ -27,7 +26,7 @@ falling-requires-clause-below g c =
 
 pub returns : goal.returns
 returns g c =
-    let d = g.T.Lowering.design c.args.lowering.now in
+    let d = g.T.Processes.design c.args.lowering.now in
     let at = c.requires.accepted in
     let sources : SourcesAre d c.args.clock = subst (SourcesAre d) at.clock_is (c.sources_law.ensures d at.name at.accepted) in
     let items : c.in_ok-registers.registers.items ≡ ascending (bit_count d) (register_bits d.processes) =

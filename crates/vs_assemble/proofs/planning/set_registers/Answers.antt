@@ -1,4 +1,4 @@
-use Rattle.std.proofs.Common.{◌≡◌, ◌+◌, ◌<◌, List, ℕ, ◌++◌, length, take, true, false, sym, ap, ◌∙◌, subst, arith}
+use Rattle.std.proofs.Common.{◌+◌, ◌<◌, List, ℕ, ◌++◌, length, take, sym, ap, ◌∙◌, subst, arith}
 use Rattle.vs_design.specs.Sizes.{register_bits}
 use Rattle.vs_assemble.specs.Flags.{AreFlags}
 use Rattle.vs_assemble.proofs.Flags.{same_flags}
@@ -8,7 +8,7 @@ use Rattle.vs_assemble.proofs.planning.set_registers.Goals.{then-is_clocked, els
 
 pub loop-process-preserved : goal.loop-process-preserved
 loop-process-preserved g c =
-    let d = g.T.Lowering.design c.args.lowering.now in
+    let d = g.T.Processes.design c.args.lowering.now in
     let n : ℕ = c.loop-process.process in
     let there : c.loop-process.process < length d.processes = omega (arith, c.loop-process-test.true, c.process_count-process-end.ensures) in
     elim c.if-is_clocked.branch [

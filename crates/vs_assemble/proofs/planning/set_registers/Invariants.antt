@@ -7,5 +7,5 @@ use Rattle.vs_assemble.proofs.planning.set_registers.Given as goal
 abbrev pub invariant-loop-process : goal.invariant-loop-process
 invariant-loop-process g l = record {
   count : length l.flags ≡ length l.initial.flags;
-  set : AreFlags l.initial.flags [] → AreFlags l.flags (register_bits (take l.process (g.T.Lowering.design l.lowering).processes));
+  set : AreFlags l.initial.flags [] → AreFlags l.flags (register_bits (take l.process (g.T.Processes.design l.lowering).processes));
 }

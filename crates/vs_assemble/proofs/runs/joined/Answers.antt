@@ -1,4 +1,4 @@
-use Rattle.std.proofs.Common.{[], subst}
+use Rattle.std.proofs.Common.{subst}
 use Rattle.vs_assemble.specs.Runs.{AreJoinedRuns}
 use Rattle.vs_assemble.proofs.Joining.{both_joined}
 use Rattle.vs_assemble.proofs.runs.joined.Goals as goal

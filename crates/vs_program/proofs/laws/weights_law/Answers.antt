@@ -1,4 +1,4 @@
-use Rattle.std.proofs.Common.{◌≡◌, ◌≤◌, ℕ, ◌+◌, ◌*◌, Bool, refl, arith, mul_assoc}
+use Rattle.std.proofs.Common.{ℕ, ◌+◌, Bool, refl, arith, mul_assoc}
 use Rattle.vs_four.specs.Selects.{range_length}
 use Rattle.vs_kern_select.specs.declared.costs.Selection.{Selection}
 use Rattle.vs_program.specs.Weights.{LogicWeights, ArithmeticWeights, SelectWeights}

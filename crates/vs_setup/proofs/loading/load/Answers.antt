@@ -12,7 +12,7 @@ use Rattle.vs_design.specs.Levels.{is_level_order}
 use Rattle.std.specs.Prelude.{sum}
 use Rattle.vs_design.specs.Networks.{network_of}
 use Rattle.vs_stim.specs.Header.{IsInput, lengths}
-use Rattle.vs_engine.specs.Compiled.{IsAcceptedAt, IsProgramOf}
+use Rattle.vs_thin.specs.Compiled.{IsAcceptedAt, IsProgramOf}
 use Rattle.vs_rounds.specs.Inputs.{inputs_among, data_inputs}
 use Rattle.vs_setup.proofs.Signals.{clock_below, clock_first, are_inputs, bits_of_inputs}
 use Rattle.vs_setup.proofs.loading.load.Goals as goal

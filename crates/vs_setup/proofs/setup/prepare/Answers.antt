@@ -3,8 +3,8 @@ use Rattle.std.proofs.lemmas.List.{take_all}
 use Rattle.std.proofs.lemmas.Result.{err_from_is_err_and}
 use Rattle.vs_desk.specs.Desk.{Register}
 use Rattle.vs_flat.specs.DesignOf.{design_of}
-use Rattle.vs_engine.specs.Compiled.{fall_stores, rise_stores}
-use Rattle.vs_engine.specs.Lanes.{Running}
+use Rattle.vs_thin.specs.Compiled.{fall_stores, rise_stores}
+use Rattle.vs_thin.specs.Lanes.{Running}
 use Rattle.vs_stim.specs.Header.{IsInput}
 use Rattle.vs_drive.specs.Opened as drive
 use Rattle.vs_drive.specs.Opened.{with_lanes, HaveHeaders}

@@ -4,9 +4,9 @@ use Rattle.std.proofs.lemmas.List.{length-map, take-map}
 use Rattle.vs_desk.specs.declared.desk.Way.TheVariants.{Write}
 use Rattle.vs_desk.specs.Desk.{Register, Contents, Fails, IsAttached}
 use Rattle.vs_desk.specs.Places.{with_places, waveform_place}
-use Rattle.vs_engine.specs.Lanes.{Running}
-use Rattle.vs_engine.specs.Program.{Program}
-use Rattle.vs_engine.specs.Compiled.{IsProgramOf, fall_stores, rise_stores}
+use Rattle.vs_thin.specs.Lanes.{Running}
+use Rattle.vs_thin.specs.Program.{Program}
+use Rattle.vs_thin.specs.Compiled.{IsProgramOf, fall_stores, rise_stores}
 use Rattle.vs_design.specs.Sizes.{size as size_of}
 use Rattle.vs_drive.specs.Lanes.{AreAttached}
 use Rattle.vs_drive.specs.Opened.{path_at}

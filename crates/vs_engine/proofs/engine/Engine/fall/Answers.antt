@@ -1,28 +1,66 @@
-use Rattle.std.proofs.Common.{◌≡◌, ◌<◌, ◌∙◌, ℕ, sym, ap, subst, List, length}
-use Rattle.vs_net.specs.Network.{write_all}
+use Rattle.std.proofs.Common.{◌≡◌, ℕ, ◌<◌, ◌∙◌, Bool, true, false, if◌then◌else◌, refl, List, length, sym, ap, subst}
 use Rattle.vs_net.specs.Queue.{Fall}
+use Rattle.vs_net.specs.Network.{write_all}
 use Rattle.vs_net.specs.Solution.{IsSlotEnd}
+use Rattle.vs_design.specs.Designs.{Design}
 use Rattle.vs_design.specs.Networks.{network_of}
-use Rattle.vs_engine.specs.declared.program.And.{And}
-use Rattle.vs_engine.specs.Program.{after}
-use Rattle.vs_engine.specs.Compiled.{IsProgramOf}
-use Rattle.vs_engine.specs.Lanes.{Running, lane_of_file, lane_writes, state, vector}
-use Rattle.vs_engine.proofs.Slots.{fall_ends}
+use Rattle.vs_design.specs.Footprints.{contains}
+use Rattle.vs_code.specs.Calls.{Call, AreCalled}
+use Rattle.vs_program.specs.declared.compiled.Phase.TheVariants as Phase
+use Rattle.vs_program.specs.Program.{Program, calls_at, values}
+use Rattle.vs_program.specs.Compiled.{IsProgramOf, IsEnd}
+use Rattle.vs_engine.specs.Lanes.{Running, lane_slots, home_writes, state, vector}
+use Rattle.vs_engine.proofs.Slots.{fallen_is, fall_ends, reached_at, has_slot}
 use Rattle.vs_engine.proofs.engine.Engine.fall.Goals as goal
+
+pub feed-requires-clause-room : goal.feed-requires-clause-room
+feed-requires-clause-room g c = λ b h.
+    has_slot c.self.inside.compiled (length c.self.inside.file) c.self.inside.compiled.inputs c.self.invariant.in_range c.self.invariant.slots c.self.invariant.in_range.inputs b
+    (subst (λ bits. contains bits b ≡ true) c.inputs.ensures h)
+
+pub store_all-requires-clause-room : goal.store_all-requires-clause-room
+store_all-requires-clause-room g c = λ b h.
+    has_slot c.self.inside.compiled (length c.feed.new.file) c.self.inside.compiled.clocks c.self.invariant.in_range (c.feed.ensures.slots ∙ c.self.invariant.slots) c.self.invariant.in_range.clocks b
+    (subst (λ bits. contains bits b ≡ true) c.clocks.ensures h)
+
+long : (g : _) (c : goal.After-self-1 g) → length c.self.inside.compiled.inputs ≡ length c.args.inputs.now
+long g c = let P : Running _ → Type 0 = λ e. length c.args.inputs.now ≡ length e.program.inputs in sym (subst P (sym c.self.view_is) c.requires)
+
+-- the calls of a first fall, or of a later one
+settling_calls : (p : Program) (begun : Bool) → calls_at p (if begun then Phase.Fall else Phase.First) ≡ (if begun then p.fall else p.first)
+settling_calls p true = refl
+settling_calls p false = refl
+
+-- each lane has come to the end of the slot
+ended : (g : _) (c : goal.After-self-1 g) (d : Design) (clock i : ℕ) → IsProgramOf d clock c.self.inside.compiled → i < g.W.Word.LANES
+    → IsEnd d clock c.self.inside.compiled (lane_slots g.W.Word.lane c.self.inside.file i) (Fall (vector g.W.Word.lane c.self.inside.compiled.inputs c.args.inputs.now i)) (lane_slots g.W.Word.lane c.execute.new.file i)
+ended g c d clock i is in_lanes =
+    fall_ends d clock c.self.inside.compiled is c.self.inside.begun (vector g.W.Word.lane c.self.inside.compiled.inputs c.args.inputs.now i)
+    (lane_slots g.W.Word.lane c.self.inside.file i) (lane_slots g.W.Word.lane c.store_all.new.file i) (lane_slots g.W.Word.lane c.execute.new.file i)
+    (c.self.invariant.constants d clock i is in_lanes)
+    (c.self.invariant.masks d clock i is in_lanes)
+    (λ e. c.self.invariant.reached e d clock i is in_lanes)
+    (fallen_is c.write_law.ensures g.W.Word.lane c.self.inside.compiled c.args.inputs.now i (lane_slots g.W.Word.lane c.self.inside.file i) (lane_slots g.W.Word.lane c.feed.new.file i) (lane_slots g.W.Word.lane c.store_all.new.file i)
+    c.self.invariant.in_range
+    (long g c)
+    (λ slot. c.feed.ensures.lanes i slot ∙ ap (λ (bits : List ℕ). write_all (lane_slots g.W.Word.lane c.self.inside.file i) (home_writes g.W.Word.lane bits c.args.inputs.now i) slot) c.inputs.ensures)
+    (λ b h. c.store_all.ensures.stored i b in_lanes (subst (λ bits. contains bits b ≡ true) (sym c.clocks.ensures) h))
+    (λ slot none. c.store_all.ensures.kept i slot (λ b h. none b (subst (λ bits. contains bits b ≡ true) c.clocks.ensures h))))
+    (subst (λ (calls : List Call). AreCalled calls (lane_slots g.W.Word.lane c.store_all.new.file i) (lane_slots g.W.Word.lane c.execute.new.file i)) (ap (calls_at c.self.inside.compiled) c.settling.ensures ∙ settling_calls c.self.inside.compiled c.self.inside.begun) (c.execute.ensures.applied i in_lanes))
+
+pub invariant_of-self : goal.invariant_of-self
+invariant_of-self g c = record {
+  in_range = c.self.invariant.in_range;
+  slots = c.execute.ensures.slots ∙ c.store_all.ensures.slots ∙ c.feed.ensures.slots ∙ c.self.invariant.slots;
+  constants = λ d clock i is in_lanes. (ended g c d clock i is in_lanes).constants;
+  masks = λ d clock i is in_lanes. (ended g c d clock i is in_lanes).masks;
+  reached = λ e d clock i is in_lanes.
+      reached_at d clock c.self.inside.compiled (lane_slots g.W.Word.lane c.self.inside.file i) (lane_slots g.W.Word.lane c.execute.new.file i) (Fall (vector g.W.Word.lane c.self.inside.compiled.inputs c.args.inputs.now i)) (ended g c d clock i is in_lanes);
+}
 
 pub returns-clause-ends : goal.returns-clause-ends
 returns-clause-ends g c = λ d clock i.
     let P : Running _ → Type 0 = λ e.
-    length e.program.inputs ≡ length c.args.inputs.now
-    → IsProgramOf d clock e.program → i < g.W.Word.LANES
-    → IsSlotEnd (network_of d clock) (state g.W.Word.lane e i) (Fall (vector g.W.Word.lane e.program.inputs c.args.inputs.now i)) (lane_of_file g.W.Word.lane c.run.new.file i) in
-    subst P c.self.view_is
-    (λ long is_program in_lanes.
-    fall_ends g.W.Word.lane d clock c.self.inside.compiled is_program c.args.inputs.now i
-    (lane_of_file g.W.Word.lane c.self.inside.file i) (lane_of_file g.W.Word.lane c.feed.new.file i) (lane_of_file g.W.Word.lane c.store.new.self i) (lane_of_file g.W.Word.lane c.run.new.file i)
-    long
-    (λ b. c.feed.ensures.lanes i b ∙ ap (λ (bits : List ℕ). write_all (lane_of_file g.W.Word.lane c.self.inside.file i) (lane_writes g.W.Word.lane bits c.args.inputs.now i) b) c.inputs.ensures)
-    (ap (lane_of_file g.W.Word.lane c.store.new.self i) (sym c.clock.ensures) ∙ c.store.ensures.written i ∙ c.of_bit.ensures i in_lanes)
-    (λ k ne. c.store.ensures.kept k i (λ e. ne (e ∙ c.clock.ensures)))
-    (λ b. c.run.ensures.lanes i b in_lanes ∙ ap (λ (ops : List And). after ops (lane_of_file g.W.Word.lane c.store.new.self i) b) c.operations.ensures))
-    (sym c.requires)
+    IsProgramOf d clock e.program → i < g.W.Word.LANES
+    → IsSlotEnd (network_of d clock) (state g.W.Word.lane e i) (Fall (vector g.W.Word.lane e.program.inputs c.args.inputs.now i)) (values c.self.inside.compiled.bits (lane_slots g.W.Word.lane c.execute.new.file i)) in
+    subst P c.self.view_is (λ is in_lanes. (ended g c d clock i is in_lanes).ends)

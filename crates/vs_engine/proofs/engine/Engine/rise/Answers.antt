@@ -1,23 +1,49 @@
-use Rattle.std.proofs.Common.{◌<◌, ◌∙◌, sym, ap, subst, List}
+use Rattle.std.proofs.Common.{◌≡◌, ℕ, ◌<◌, ◌∙◌, true, length, sym, subst}
 use Rattle.vs_net.specs.Queue.{Rise}
 use Rattle.vs_net.specs.Solution.{IsSlotEnd}
+use Rattle.vs_design.specs.Designs.{Design}
 use Rattle.vs_design.specs.Networks.{network_of}
-use Rattle.vs_engine.specs.declared.program.And.{And}
-use Rattle.vs_engine.specs.Program.{after}
-use Rattle.vs_engine.specs.Compiled.{IsProgramOf}
-use Rattle.vs_engine.specs.Lanes.{Running, lane_of_file, state}
-use Rattle.vs_engine.proofs.Slots.{rise_ends}
+use Rattle.vs_design.specs.Footprints.{contains}
+use Rattle.vs_program.specs.Program.{values}
+use Rattle.vs_program.specs.Compiled.{IsProgramOf, IsEnd}
+use Rattle.vs_engine.specs.Lanes.{Running, lane_slots, state}
+use Rattle.vs_engine.proofs.Slots.{risen_is, rise_ends, reached_at, has_slot}
 use Rattle.vs_engine.proofs.engine.Engine.rise.Goals as goal
+
+pub store_all-requires-clause-room : goal.store_all-requires-clause-room
+store_all-requires-clause-room g c = λ b h.
+    has_slot c.self.inside.compiled (length c.execute.new.file) c.self.inside.compiled.clocks c.self.invariant.in_range (c.execute.ensures.slots ∙ c.self.invariant.slots) c.self.invariant.in_range.clocks b
+    (subst (λ bits. contains bits b ≡ true) c.clocks.ensures h)
+
+begun : (g : _) (c : goal.After-execute-2 g) → c.self.inside.begun ≡ true
+begun g c = let P : Running _ → Type 0 = λ e. e.begun ≡ true in subst P (sym c.self.view_is) c.requires
+
+-- each lane has come to the end of the slot
+ended : (g : _) (c : goal.After-execute-2 g) (d : Design) (clock i : ℕ) → IsProgramOf d clock c.self.inside.compiled → i < g.W.Word.LANES
+    → IsEnd d clock c.self.inside.compiled (lane_slots g.W.Word.lane c.self.inside.file i) Rise (lane_slots g.W.Word.lane c.execute-2.new.file i)
+ended g c d clock i is in_lanes =
+    rise_ends d clock c.self.inside.compiled is
+    (lane_slots g.W.Word.lane c.self.inside.file i) (lane_slots g.W.Word.lane c.execute.new.file i) (lane_slots g.W.Word.lane c.store_all.new.file i) (lane_slots g.W.Word.lane c.execute-2.new.file i)
+    (c.self.invariant.reached (begun g c) d clock i is in_lanes)
+    (c.execute.ensures.applied i in_lanes)
+    (risen_is c.self.inside.compiled (lane_slots g.W.Word.lane c.execute.new.file i) (lane_slots g.W.Word.lane c.store_all.new.file i) c.self.invariant.in_range
+    (λ b h. c.store_all.ensures.stored i b in_lanes (subst (λ bits. contains bits b ≡ true) (sym c.clocks.ensures) h))
+    (λ slot none. c.store_all.ensures.kept i slot (λ b h. none b (subst (λ bits. contains bits b ≡ true) c.clocks.ensures h))))
+    (c.execute-2.ensures.applied i in_lanes)
+
+pub invariant_of-self : goal.invariant_of-self
+invariant_of-self g c = record {
+  in_range = c.self.invariant.in_range;
+  slots = c.execute-2.ensures.slots ∙ c.store_all.ensures.slots ∙ c.execute.ensures.slots ∙ c.self.invariant.slots;
+  constants = λ d clock i is in_lanes. (ended g c d clock i is in_lanes).constants;
+  masks = λ d clock i is in_lanes. (ended g c d clock i is in_lanes).masks;
+  reached = λ e d clock i is in_lanes.
+      reached_at d clock c.self.inside.compiled (lane_slots g.W.Word.lane c.self.inside.file i) (lane_slots g.W.Word.lane c.execute-2.new.file i) Rise (ended g c d clock i is in_lanes);
+}
 
 pub returns-clause-ends : goal.returns-clause-ends
 returns-clause-ends g c = λ d clock i.
     let P : Running _ → Type 0 = λ e.
     IsProgramOf d clock e.program → i < g.W.Word.LANES
-    → IsSlotEnd (network_of d clock) (state g.W.Word.lane e i) Rise (lane_of_file g.W.Word.lane c.run.new.file i) in
-    subst P c.self.view_is
-    (λ is_program in_lanes.
-    rise_ends d clock c.self.inside.compiled is_program
-    (lane_of_file g.W.Word.lane c.self.inside.file i) (lane_of_file g.W.Word.lane c.store.new.self i) (lane_of_file g.W.Word.lane c.run.new.file i)
-    (ap (lane_of_file g.W.Word.lane c.store.new.self i) (sym c.clock.ensures) ∙ c.store.ensures.written i ∙ c.of_bit.ensures i in_lanes)
-    (λ k ne. c.store.ensures.kept k i (λ e. ne (e ∙ c.clock.ensures)))
-    (λ b. c.run.ensures.lanes i b in_lanes ∙ ap (λ (ops : List And). after ops (lane_of_file g.W.Word.lane c.store.new.self i) b) c.operations.ensures))
+    → IsSlotEnd (network_of d clock) (state g.W.Word.lane e i) Rise (values c.self.inside.compiled.bits (lane_slots g.W.Word.lane c.execute-2.new.file i)) in
+    subst P c.self.view_is (λ is in_lanes. (ended g c d clock i is in_lanes).ends)

@@ -1,4 +1,4 @@
-use Rattle.std.proofs.Common.{◌≡◌, List, sym, ap, ◌∙◌, subst, refl}
+use Rattle.std.proofs.Common.{◌≡◌, List, ap, ◌∙◌, subst, refl}
 use Rattle.std.specs.List.{Contains}
 use Rattle.vs_code.specs.Calls.{Call, targets_of}
 use Rattle.vs_program.specs.declared.compiled.Compiled.TheInside.{Inside}

@@ -4,7 +4,7 @@ use Rattle.std.proofs.lemmas.List.Sums.{count_by-le-length}
 use Rattle.std.proofs.lemmas.Result.{err_from_is_err_and}
 use Rattle.vs_desk.specs.Desk.{Register, IsWritable}
 use Rattle.vs_waves.specs.Puts.{wave_place}
-use Rattle.vs_engine.specs.Compiled.{fall_stores, rise_stores}
+use Rattle.vs_thin.specs.Compiled.{fall_stores, rise_stores}
 use Rattle.vs_design.specs.Sizes.{size}
 use Rattle.vs_rounds.specs.Lanes.{AreInRound}
 use Rattle.vs_rounds.specs.Ready.{IsReady}

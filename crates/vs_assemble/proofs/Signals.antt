@@ -1,0 +1,191 @@
+-- What is made of a design's signals, one by one.
+use Rattle.std.proofs.Common.{◌≡◌, ℕ, zero, suc, ◌+◌, ◌<◌, ◌≤◌, Bool, true, false, not, List, [], ◌∷◌, ◌++◌, ◌&&◌, ◌||◌, ◌==◌, if◌then◌else◌, length, map, get_or, drop, replicate, Some, slice_get, sym, ap, ◌∙◌, refl, arith, append_assoc, append-nil, drop_of_length-le, eqb-true, eq-eqb, ne_eqb}
+use Rattle.std.specs.Prelude.{sum_by}
+use Rattle.std.specs.List.{filter}
+use Rattle.std.proofs.lemmas.Bool.{and_parts}
+use Rattle.std.proofs.lemmas.List.{length-map}
+use Rattle.std.proofs.lemmas.List.Elements.{filter-append}
+use Rattle.std.proofs.lemmas.List.Sums.{sum_by-cons}
+use Rattle.vs_four.specs.declared.Bit4.{Bit4}
+use Rattle.vs_four.specs.declared.Bit4.TheVariants.{X, Z}
+use Rattle.vs_design.specs.Expressions.{Signal, range_or_one, signal_length}
+use Rattle.vs_design.specs.Values.{count_from, bits_of_signal}
+use Rattle.vs_design.specs.Elaborated.{have_bits_from}
+use Rattle.vs_design.specs.Footprints.{contains, without, signals_bits, is_input, is_net}
+use Rattle.vs_flat.specs.declared.processes.Signal as F
+use Rattle.vs_flat.specs.Arena.{Arena, bit_count}
+use Rattle.vs_flat.specs.Trees.{signal_of, signals_from}
+use Rattle.vs_flat.specs.DesignOf.{arena_signals}
+use Rattle.vs_program.specs.declared.compiled.Span.{Span}
+use Rattle.vs_program.specs.Compiled.{span_of}
+use Rattle.vs_assemble.specs.Plans.{idle_bits}
+use Rattle.vs_assemble.proofs.Lists.{by_test}
+use Rattle.vs_assemble.proofs.Planned.{count_next}
+
+some_is : {A : Type 0} (x y : A) → Some x ≡ Some y → x ≡ y
+some_is x y e = cc
+
+-- ---- lists that are made element by element
+
+drop_some : {A : Type 0} (xs : List A) (n : ℕ) (x : A) → slice_get xs n ≡ Some x → drop n xs ≡ x ∷ drop (n + 1) xs
+drop_some [] n x e = cc
+drop_some (y ∷ ys) zero x e = ap (λ z. z ∷ ys) (some_is y x e)
+drop_some (y ∷ ys) (suc n) x e =
+    let next : suc (n + 1) ≡ suc n + 1 = omega arith in
+    drop_some ys n x e ∙ ap (λ m. x ∷ drop m (y ∷ ys)) next
+
+made_more : {A B : Type 0} (f : List A → List B) (xs : List A) (n : ℕ) (x : A) (here so_far all : List B) → slice_get xs n ≡ Some x → ((ys : List A) → f (x ∷ ys) ≡ here ++ f ys) → so_far ++ f (drop n xs) ≡ all → (so_far ++ here) ++ f (drop (n + 1) xs) ≡ all
+made_more f xs n x here so_far all at each is =
+    append_assoc so_far here (f (drop (n + 1) xs)) ∙ ap (λ r. so_far ++ r) (sym (each (drop (n + 1) xs)) ∙ ap f (sym (drop_some xs n x at))) ∙ is
+
+made_all : {A B : Type 0} (f : List A → List B) → f [] ≡ [] → (xs : List A) (n : ℕ) (so_far all : List B) → length xs ≤ n → so_far ++ f (drop n xs) ≡ all → so_far ≡ all
+made_all f none xs n so_far all past is = sym (append-nil so_far) ∙ ap (λ r. so_far ++ r) (sym (ap f (drop_of_length-le xs past) ∙ none)) ∙ is
+
+-- ---- the signals of a flat design
+
+signal_number : (k : ℕ) (ss : List F.Signal) (n : ℕ) (s : F.Signal) → slice_get ss n ≡ Some s → slice_get (signals_from k ss) n ≡ Some (signal_of (k + n) s)
+signal_number k [] n s e = cc
+signal_number k (t ∷ ss) zero s e =
+    let at : k ≡ k + 0 = omega arith in
+    ap (λ (x : F.Signal). Some (signal_of k x)) (some_is t s e) ∙ ap (λ m. Some (signal_of m s)) at
+signal_number k (t ∷ ss) (suc n) s e =
+    let at : suc k + n ≡ k + suc n = omega arith in
+    signal_number (suc k) ss n s e ∙ ap (λ m. Some (signal_of m s)) at
+
+signal_there : (a : Arena) (n : ℕ) (s : F.Signal) → slice_get a.signals n ≡ Some s → slice_get (arena_signals a) n ≡ Some (signal_of n s)
+signal_there a n s e =
+    let at : 0 + n ≡ n = omega arith in
+    signal_number 0 a.signals n s e ∙ ap (λ m. Some (signal_of m s)) at
+
+length-signals_from : (k : ℕ) (ss : List F.Signal) → length (signals_from k ss) ≡ length ss
+length-signals_from k [] = refl
+length-signals_from k (s ∷ ss) = ap suc (length-signals_from (suc k) ss)
+
+past_all : (a : Arena) (n count : ℕ) → count ≡ length a.signals → count ≤ n → length (arena_signals a) ≤ n
+past_all a n count is past = omega (arith, is, past, length-signals_from 0 a.signals)
+
+-- a signal has no more bits than all
+pub few_bits : (ss : List F.Signal) (n : ℕ) (s : F.Signal) → slice_get ss n ≡ Some s → range_or_one s.range ≤ bit_count ss
+few_bits [] n s e = cc
+few_bits (t ∷ ss) zero s e =
+    let same : range_or_one t.range ≡ range_or_one s.range = ap (λ (x : F.Signal). range_or_one x.range) (some_is t s e) in
+    omega (arith, same, sum_by-cons (λ (x : F.Signal). range_or_one x.range) t ss)
+few_bits (t ∷ ss) (suc n) s e = omega (arith, few_bits ss n s e, sum_by-cons (λ (x : F.Signal). range_or_one x.range) t ss)
+
+-- its bits lie among all
+low_bits : (k : ℕ) (ss : List Signal) (n : ℕ) (s : Signal) → have_bits_from k ss ≡ true → slice_get ss n ≡ Some s → s.first + signal_length s ≤ k + sum_by signal_length ss
+low_bits k [] n s h e = cc
+low_bits k (t ∷ ss) zero s h e =
+    let parts = and_parts (t.first == k) (have_bits_from (k + signal_length t) ss) h in
+    let first : t.first ≡ k = eqb-true t.first k parts.0 in
+    let same : t.first + signal_length t ≡ s.first + signal_length s = ap (λ (x : Signal). x.first + signal_length x) (some_is t s e) in
+    omega (arith, first, same, sum_by-cons signal_length t ss)
+low_bits k (t ∷ ss) (suc n) s h e =
+    let parts = and_parts (t.first == k) (have_bits_from (k + signal_length t) ss) h in
+    omega (arith, low_bits (k + signal_length t) ss n s parts.1 e, sum_by-cons signal_length t ss)
+
+-- the span of a signal
+pub span_at : (a : Arena) (spans : List Span) (n : ℕ) (s : F.Signal) (d : Span) → spans ≡ map span_of (arena_signals a) → slice_get a.signals n ≡ Some s → get_or spans n d ≡ span_of (signal_of n s)
+span_at a spans n s d is e = ap (λ (xs : List Span). get_or xs n d) is ∙ at_map (arena_signals a) n (signal_of n s) (signal_there a n s e)
+  where
+    at_map : (ss : List Signal) (n : ℕ) (t : Signal) → slice_get ss n ≡ Some t → get_or (map span_of ss) n d ≡ span_of t
+    at_map [] n t e = cc
+    at_map (x ∷ ss) zero t e = ap span_of (some_is x t e)
+    at_map (x ∷ ss) (suc n) t e = at_map ss n t e
+
+pub span_low : (a : Arena) (n : ℕ) (s : F.Signal) (span : Span) → have_bits_from 0 (arena_signals a) ≡ true → sum_by signal_length (arena_signals a) ≤ 1048576 → slice_get a.signals n ≡ Some s → span ≡ span_of (signal_of n s) → span.first + span.length < 4294967296
+span_low a n s span numbered few e is =
+    let low = low_bits 0 (arena_signals a) n (signal_of n s) numbered (signal_there a n s e) in
+    let same : span.first + span.length ≡ s.first_bit + range_or_one s.range = ap (λ (x : Span). x.first + x.length) is in
+    omega (arith, low, same, few)
+
+-- one more span
+pub spans_more : (a : Arena) (n : ℕ) (s : F.Signal) (so_far : List Span) (span : Span) → slice_get a.signals n ≡ Some s → span ≡ span_of (signal_of n s)
+    → so_far ++ map span_of (drop n (arena_signals a)) ≡ map span_of (arena_signals a) → (so_far ++ span ∷ []) ++ map span_of (drop (n + 1) (arena_signals a)) ≡ map span_of (arena_signals a)
+spans_more a n s so_far span at is h =
+    ap (λ (x : Span). (so_far ++ x ∷ []) ++ map span_of (drop (n + 1) (arena_signals a))) is
+    ∙ made_more (map span_of) (arena_signals a) n (signal_of n s) (span_of (signal_of n s) ∷ []) so_far (map span_of (arena_signals a)) (signal_there a n s at) (λ ys. refl) h
+
+pub spans_all : (a : Arena) (n count : ℕ) (so_far : List Span) → count ≡ length a.signals → count ≤ n → so_far ++ map span_of (drop n (arena_signals a)) ≡ map span_of (arena_signals a) → so_far ≡ map span_of (arena_signals a)
+spans_all a n count so_far is past h = made_all (map span_of) refl (arena_signals a) n so_far (map span_of (arena_signals a)) (past_all a n count is past) h
+
+-- ---- the data inputs
+
+abbrev pub data_of : ℕ → List Signal → List ℕ
+data_of clock ss = without (signals_bits (filter is_input ss)) (clock ∷ [])
+
+-- what a signal adds
+abbrev pub added : ℕ → Signal → List ℕ
+added clock s = if s.input then without (bits_of_signal s) (clock ∷ []) else []
+
+one_more : (clock : ℕ) (s : Signal) (ss : List Signal) → data_of clock (s ∷ ss) ≡ added clock s ++ data_of clock ss
+one_more clock s ss = by_test s.input
+    (λ e.
+    ap (λ (c : Bool). without (signals_bits (if c then (s ∷ filter is_input ss) else filter is_input ss)) (clock ∷ [])) e
+    ∙ filter-append (λ b. not (contains (clock ∷ []) b)) (bits_of_signal s) (signals_bits (filter is_input ss))
+    ∙ sym (ap (λ (c : Bool). (if c then without (bits_of_signal s) (clock ∷ []) else []) ++ data_of clock ss) e))
+    (λ e.
+    ap (λ (c : Bool). without (signals_bits (if c then (s ∷ filter is_input ss) else filter is_input ss)) (clock ∷ [])) e
+    ∙ sym (ap (λ (c : Bool). (if c then without (bits_of_signal s) (clock ∷ []) else []) ++ data_of clock ss) e))
+
+pub data_more : (clock : ℕ) (a : Arena) (n : ℕ) (s : F.Signal) (so_far new : List ℕ) → slice_get a.signals n ≡ Some s → new ≡ so_far ++ added clock (signal_of n s)
+    → so_far ++ data_of clock (drop n (arena_signals a)) ≡ data_of clock (arena_signals a) → new ++ data_of clock (drop (n + 1) (arena_signals a)) ≡ data_of clock (arena_signals a)
+data_more clock a n s so_far new at is h =
+    ap (λ (bs : List ℕ). bs ++ data_of clock (drop (n + 1) (arena_signals a))) is
+    ∙ made_more (data_of clock) (arena_signals a) n (signal_of n s) (added clock (signal_of n s)) so_far (data_of clock (arena_signals a)) (signal_there a n s at) (λ ys. one_more clock (signal_of n s) ys) h
+
+pub data_all : (clock : ℕ) (a : Arena) (n count : ℕ) (so_far : List ℕ) → count ≡ length a.signals → count ≤ n → so_far ++ data_of clock (drop n (arena_signals a)) ≡ data_of clock (arena_signals a) → so_far ≡ data_of clock (arena_signals a)
+data_all clock a n count so_far is past h = made_all (data_of clock) refl (arena_signals a) n so_far (data_of clock (arena_signals a)) (past_all a n count is past) h
+
+pub added_input : (clock n : ℕ) (s : F.Signal) (so_far new : List ℕ) (span : Span) → s.input ≡ true → span ≡ span_of (signal_of n s) → new ≡ so_far ++ without (count_from span.first span.length) (clock ∷ []) → new ≡ so_far ++ added clock (signal_of n s)
+added_input clock n s so_far new span e is h =
+    h ∙ ap (λ (x : Span). so_far ++ without (count_from x.first x.length) (clock ∷ [])) is
+    ∙ sym (ap (λ (c : Bool). so_far ++ (if c then without (bits_of_signal (signal_of n s)) (clock ∷ []) else [])) e)
+
+pub added_none : (clock n : ℕ) (s : F.Signal) (so_far : List ℕ) → s.input ≡ false → so_far ≡ so_far ++ added clock (signal_of n s)
+added_none clock n s so_far e =
+    sym (append-nil so_far) ∙ sym (ap (λ (c : Bool). so_far ++ (if c then without (bits_of_signal (signal_of n s)) (clock ∷ []) else [])) e)
+
+-- ---- what the bits begin with
+
+pub idle_more : (a : Arena) (n : ℕ) (s : F.Signal) (so_far new all : List Bit4) (bit : Bit4) (span : Span) → slice_get a.signals n ≡ Some s → span ≡ span_of (signal_of n s)
+    → bit ≡ (if s.net && not s.input then Z else X) → new ≡ so_far ++ replicate span.length bit
+    → so_far ++ idle_bits (drop n (arena_signals a)) ≡ all → new ++ idle_bits (drop (n + 1) (arena_signals a)) ≡ all
+idle_more a n s so_far new all bit span at is bit_is pushed h =
+    let t : Signal = signal_of n s in
+    let here : List Bit4 = replicate (signal_length t) (if is_net t then Z else X) in
+    let same : replicate span.length bit ≡ here = ap (λ (x : Span). replicate x.length bit) is ∙ ap (λ (b : Bit4). replicate (signal_length t) b) bit_is in
+    ap (λ (bs : List Bit4). bs ++ idle_bits (drop (n + 1) (arena_signals a))) (pushed ∙ ap (λ (bs : List Bit4). so_far ++ bs) same)
+    ∙ made_more idle_bits (arena_signals a) n t here so_far all (signal_there a n s at) (λ ys. refl) h
+
+pub idle_all : (a : Arena) (n count : ℕ) (so_far all : List Bit4) → count ≡ length a.signals → count ≤ n → so_far ++ idle_bits (drop n (arena_signals a)) ≡ all → so_far ≡ all
+idle_all a n count so_far all is past h = made_all idle_bits refl (arena_signals a) n so_far all (past_all a n count is past) h
+
+-- as many spans as signals
+pub spans_long : (a : Arena) (spans : List Span) → spans ≡ map span_of (arena_signals a) → length spans ≡ length a.signals
+spans_long a spans is = ap length is ∙ length-map (arena_signals a) span_of ∙ length-signals_from 0 a.signals
+
+-- ---- the bits of a span but the clock's
+
+next_bit : (first k clock : ℕ) → without (count_from first (k + 1)) (clock ∷ []) ≡ without (count_from first k) (clock ∷ []) ++ (if not ((first + k) == clock) then ((first + k) ∷ []) else [])
+next_bit first k clock =
+    let at : k + 1 ≡ suc k = omega arith in
+    ap (λ n. without (count_from first n) (clock ∷ [])) at
+    ∙ ap (λ (bs : List ℕ). without bs (clock ∷ [])) (count_next first k)
+    ∙ filter-append (λ b. not (contains (clock ∷ []) b)) (count_from first k) ((first + k) ∷ [])
+    ∙ ap (λ (c : Bool). without (count_from first k) (clock ∷ []) ++ (if not c then ((first + k) ∷ []) else [])) (or_none ((first + k) == clock))
+  where
+    or_none : (u : Bool) → (u || false) ≡ u
+    or_none true = refl
+    or_none false = refl
+
+pub bit_kept : (first k clock : ℕ) (start so_far new : List ℕ) → ((first + k) ≡ clock → ⊥) → new ≡ so_far ++ (first + k) ∷ [] → so_far ≡ start ++ without (count_from first k) (clock ∷ [])
+    → new ≡ start ++ without (count_from first (k + 1)) (clock ∷ [])
+bit_kept first k clock start so_far new other is h =
+    is ∙ ap (λ (bs : List ℕ). bs ++ (first + k) ∷ []) h ∙ append_assoc start (without (count_from first k) (clock ∷ [])) ((first + k) ∷ [])
+    ∙ sym (ap (λ (bs : List ℕ). start ++ bs) (next_bit first k clock ∙ ap (λ (c : Bool). without (count_from first k) (clock ∷ []) ++ (if not c then ((first + k) ∷ []) else [])) (ne_eqb (first + k) clock other)))
+
+pub bit_left : (first k clock : ℕ) (start so_far new : List ℕ) → (first + k) ≡ clock → new ≡ so_far → so_far ≡ start ++ without (count_from first k) (clock ∷ [])
+    → new ≡ start ++ without (count_from first (k + 1)) (clock ∷ [])
+bit_left first k clock start so_far new same is h =
+    is ∙ h ∙ sym (ap (λ (bs : List ℕ). start ++ bs) (next_bit first k clock ∙ ap (λ (c : Bool). without (count_from first k) (clock ∷ []) ++ (if not c then ((first + k) ∷ []) else [])) (eq-eqb (first + k) clock same) ∙ append-nil (without (count_from first k) (clock ∷ []))))

@@ -1,0 +1,133 @@
+//! What a program has besides its calls, read off a flat design.
+
+ghost use Rattle.std.specs.Prelude.{◌≡◌, ℕ, ◌+◌, ◌<◌, ◌≤◌, ◌^◌, ◌∷◌, [], ◌++◌, ◌&&◌, not, if◌then◌else◌, length, map, replicate, IfOk, OnOk};
+ghost use Rattle.vs_design.specs.Expressions.{range_or_one};
+ghost use Rattle.vs_design.specs.Footprints.{without};
+ghost use Rattle.vs_design.specs.Values.{count_from};
+ghost use Rattle.vs_cone.specs.Given.{data_bits};
+ghost use Rattle.vs_flat.specs.DesignOf.{arena_signals, design_of};
+ghost use Rattle.vs_flat.specs.Lawful.{IsLawful};
+ghost use Rattle.vs_program.specs.Compiled.{span_of};
+ghost use Rattle.vs_program.specs.Made.{AreClockNets};
+ghost use Rattle.vs_assemble.specs.Plans.{IsFrameOf, begin_bits};
+
+use crate::Frame;
+use std::alloc::{AllocError, Global};
+use vs_flat::{Flat, Signal, lawful_law};
+use vs_four::{Bit4, Range};
+use vs_program::Span;
+
+/// What a program of a flat design has besides its calls, where its clock is this bit and these are the clock nets. The only error is that there is no memory.
+pub fn frame(alloc: Global, flat: &Flat, clock: u32, clocks: Vec<u32>) -> Result<Frame, AllocError>
+    requires lawful { IsLawful flat.now }
+    requires clocks { AreClockNets (design_of flat.now) clock clocks.items }
+    ensures { IfOk result (λ f. IsFrameOf (design_of flat.now) clock f.bits f.inputs.items f.clocks.items f.initial.items f.signals.items) }
+{
+    lawful_law();
+    let signals = spans(alloc, flat)?;
+    let inputs = data_inputs(alloc, flat, clock, signals.as_slice())?;
+    let initial = initial(alloc, flat, signals.as_slice())?;
+    let bits = (initial.len() - 4) as u32;
+    Ok(Frame {
+        bits,
+        inputs,
+        clocks,
+        initial,
+        signals,
+    })
+}
+
+/// The bits of each signal, by its number.
+fn spans(alloc: Global, flat: &Flat) -> Result<Vec<Span>, AllocError>
+    ensures { IfOk result (λ v. v.items ≡ map span_of (design_of flat.now).signals) }
+{
+    let mut spans = Vec::new(alloc);
+    for n in 0..flat.signal_count() {
+        let signal = flat.signal(n);
+        let length = range_length(signal.range) as u32;
+        spans.push(Span {
+            first: signal.first_bit,
+            length,
+        })?;
+    }
+    Ok(spans)
+}
+
+/// How many bits a signal has.
+fn range_length(range: Option<Range>) -> u64
+    ensures { result ≡ range_or_one range }
+{
+    match range {
+        None => 1,
+        Some(r) if r.right <= r.left => u64::from(r.left - r.right) + 1,
+        Some(r) => u64::from(r.right - r.left) + 1,
+    }
+}
+
+/// The bits of the inputs of the top but the clock's, where these are the bits of all signals.
+fn data_inputs(
+    alloc: Global,
+    flat: &Flat,
+    clock: u32,
+    spans: &[Span],
+) -> Result<Vec<u32>, AllocError>
+    requires lawful { IsLawful flat.now }
+    requires spans { spans.now ≡ map span_of (design_of flat.now).signals }
+    ensures { IfOk result (λ v. v.items ≡ data_bits (design_of flat.now) clock) }
+{
+    let mut bits = Vec::new(alloc);
+    for n in 0..flat.signal_count() {
+        if flat.signal(n).input {
+            push_bits(&mut bits, spans[n as usize], clock)?;
+        }
+    }
+    Ok(bits)
+}
+
+/// Adds the bits of a signal, but the clock's.
+fn push_bits(bits: &mut Vec<u32>, span: Span, clock: u32) -> Result<(), AllocError>
+    requires { span.first + span.length < 2 ^ 32 }
+    ensures { OnOk result (bits.new.items ≡ bits.old.items ++ without (count_from span.first span.length) (clock ∷ [])) }
+{
+    for k in 0..span.length {
+        let bit = span.first + k;
+        if bit != clock {
+            bits.push(bit)?;
+        }
+    }
+    Ok(())
+}
+
+/// What the constants and the bits begin with: z in a net, and x in an input or a variable (IEEE 1364-2005, 4.2).
+fn initial(alloc: Global, flat: &Flat, spans: &[Span]) -> Result<Vec<Bit4>, AllocError>
+    requires { spans.now ≡ map span_of (design_of flat.now).signals }
+    ensures { IfOk result (λ v. v.items ≡ begin_bits (design_of flat.now)) }
+{
+    let mut bits = vec![in alloc; Bit4::Zero, Bit4::One, Bit4::X, Bit4::Z]?;
+    for n in 0..flat.signal_count() {
+        let bit = begin_bit(flat.signal(n));
+        push_copies(&mut bits, bit, spans[n as usize].length)?;
+    }
+    Ok(bits)
+}
+
+/// What each bit of a signal begins with.
+fn begin_bit(signal: &Signal) -> Bit4
+    ensures { result ≡ (if signal.now.net && not signal.now.input then Bit4.Z else Bit4.X) }
+{
+    if signal.net && !signal.input {
+        Bit4::Z
+    } else {
+        Bit4::X
+    }
+}
+
+/// Adds a bit so many times.
+fn push_copies(bits: &mut Vec<Bit4>, bit: Bit4, count: u32) -> Result<(), AllocError>
+    ensures { OnOk result (bits.new.items ≡ bits.old.items ++ replicate count bit) }
+{
+    for k in 0..count {
+        bits.push(bit)?;
+    }
+    Ok(())
+}

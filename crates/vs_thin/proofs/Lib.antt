@@ -1,0 +1,15 @@
+pub mod Writes
+pub mod Running
+pub mod Slots
+pub mod Spans
+pub mod Gates
+pub mod Ordered
+pub mod Feeding
+pub mod Small
+pub mod Clock
+pub mod Numbered
+pub mod Solves
+pub mod Trees
+pub mod Lists
+pub mod Gating
+pub mod Inputs

@@ -1,0 +1,28 @@
+use Rattle.std.proofs.Common.{◌≡◌, ◌<◌, ◌∙◌, ℕ, sym, ap, subst, List, length}
+use Rattle.vs_net.specs.Network.{write_all}
+use Rattle.vs_net.specs.Queue.{Fall}
+use Rattle.vs_net.specs.Solution.{IsSlotEnd}
+use Rattle.vs_design.specs.Networks.{network_of}
+use Rattle.vs_thin.specs.declared.program.And.{And}
+use Rattle.vs_thin.specs.Program.{after}
+use Rattle.vs_thin.specs.Compiled.{IsProgramOf}
+use Rattle.vs_thin.specs.Lanes.{Running, lane_of_file, lane_writes, state, vector}
+use Rattle.vs_thin.proofs.Slots.{fall_ends}
+use Rattle.vs_thin.proofs.engine.Engine.fall.Goals as goal
+
+pub returns-clause-ends : goal.returns-clause-ends
+returns-clause-ends g c = λ d clock i.
+    let P : Running _ → Type 0 = λ e.
+    length e.program.inputs ≡ length c.args.inputs.now
+    → IsProgramOf d clock e.program → i < g.W.Word.LANES
+    → IsSlotEnd (network_of d clock) (state g.W.Word.lane e i) (Fall (vector g.W.Word.lane e.program.inputs c.args.inputs.now i)) (lane_of_file g.W.Word.lane c.run.new.file i) in
+    subst P c.self.view_is
+    (λ long is_program in_lanes.
+    fall_ends g.W.Word.lane d clock c.self.inside.compiled is_program c.args.inputs.now i
+    (lane_of_file g.W.Word.lane c.self.inside.file i) (lane_of_file g.W.Word.lane c.feed.new.file i) (lane_of_file g.W.Word.lane c.store.new.self i) (lane_of_file g.W.Word.lane c.run.new.file i)
+    long
+    (λ b. c.feed.ensures.lanes i b ∙ ap (λ (bits : List ℕ). write_all (lane_of_file g.W.Word.lane c.self.inside.file i) (lane_writes g.W.Word.lane bits c.args.inputs.now i) b) c.inputs.ensures)
+    (ap (lane_of_file g.W.Word.lane c.store.new.self i) (sym c.clock.ensures) ∙ c.store.ensures.written i ∙ c.of_bit.ensures i in_lanes)
+    (λ k ne. c.store.ensures.kept k i (λ e. ne (e ∙ c.clock.ensures)))
+    (λ b. c.run.ensures.lanes i b in_lanes ∙ ap (λ (ops : List And). after ops (lane_of_file g.W.Word.lane c.store.new.self i) b) c.operations.ensures))
+    (sym c.requires)
