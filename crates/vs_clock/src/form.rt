@@ -13,7 +13,8 @@ ghost use Rattle.vs_clock.specs.Ports.{bit_of};
 use crate::ports::named_bit;
 use std::alloc::{AllocError, Global};
 use vs_flat::{Edge, Flat, Node, Statement, UnaryOp, names_law, trees_law};
-use vs_width::{Typed, Walk};
+use vs_length::Walk;
+use vs_width::Typed;
 
 /// The bit whose name stands behind `!` or `~`.
 fn inverted_bit(flat: &Flat, e: u32) -> Option<u32>
