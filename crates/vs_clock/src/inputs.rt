@@ -27,7 +27,7 @@ fn is_named(flat: &Flat, signal: u32, name: &[u8]) -> bool
     if !s.input {
         return false;
     }
-    if !are_same(s.name.as_str().as_bytes(), name) {
+    if !are_same(s.name.as_slice(), name) {
         return false;
     }
     only_bit(flat, signal).is_some()
