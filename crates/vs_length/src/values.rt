@@ -60,7 +60,7 @@ impl Shapes {
 
     /// The value of a constant expression in a length and a sign.
     #[cycle(values)]
-    fn value(&self, e: u32, w: u32, signed: bool) -> Bits
+    pub fn value(&self, e: u32, w: u32, signed: bool) -> Bits
         requires there { e < length self.now.nodes }
         requires valued { IsValued (tree_of self.now e) }
         requires fits { E.width (tree_of self.now e) ≤ w }

@@ -1,0 +1,15 @@
+pub mod Steps
+pub mod PlaceSteps
+pub mod Fit
+pub mod Widths
+pub mod ExtremeSteps
+pub mod Names
+pub mod Joins
+pub mod Families
+pub mod TargetFacts
+pub mod BranchSteps
+pub mod Unwritten
+pub mod CaseSteps
+pub mod StatementNames
+pub mod Running
+pub mod AtOnce

@@ -1,0 +1,196 @@
+-- Statements that run one after the other, and branches.
+use Rattle.std.proofs.Common.{◌≡◌, ℕ, zero, suc, ◌+◌, ◌<◌, ◌≤◌, Bool, true, false, List, [], ◌∷◌, ◌++◌, length, map, take, drop, get_or, Option, Some, None, refl, sym, ap, ap₂, ◌∙◌, subst, arith, ◌⊎◌, inl, inr}
+use Rattle.std.specs.Prelude.{◌&&◌, ◌||◌, ◌==◌, slice_get, slice_index, if◌then◌else◌, All}
+use Rattle.std.specs.List.{list_all}
+use mathlib.Core.Path.{fun_ext}
+use Rattle.std.proofs.lemmas.List.{drop_more}
+use Rattle.std.proofs.lemmas.List.Folds.{list_any-append}
+use Rattle.std.proofs.lemmas.Bool.{cond-true, cond-false}
+use Rattle.vs_design.specs.Footprints.{contains, statement_bits, arms_bits}
+use Rattle.vs_design.specs.Expressions.{Expression}
+use Rattle.vs_design.specs.Statements.{Statement, Empty, If}
+use Rattle.vs_design.specs.Fits.{is_fit, fits_statement, fits_arms}
+use Rattle.vs_four.specs.declared.Bit4.TheVariants.{X}
+use Rattle.vs_design.specs.Sets.{union, only, is_only_x}
+use Rattle.vs_design.specs.Lifted.{Family}
+use Rattle.vs_design.specs.LiftedBodies.{either, lifted_body}
+use Rattle.vs_design.specs.Sleepers.{at_once}
+use Rattle.vs_flat.specs.declared.statements.Arm as F
+use Rattle.vs_flat.specs.Arena.{Arena}
+use Rattle.vs_flat.specs.Trees as R
+use Rattle.vs_sets.specs.Branches.{replaced, branch_sets}
+use Rattle.vs_sets.specs.Matches.{branches_of, IsOneOf, IsEither}
+use Rattle.vs_sets.specs.StatementParts.{BranchBelow, ArmsBelow, BranchFacts, Covers, EachRuns, statement_of, arms_of}
+use Rattle.vs_sets.specs.Nodes.{tree_of}
+use Rattle.vs_sets.proofs.Fit.{and_left, and_right}
+use Rattle.vs_sets.proofs.BranchSteps.{union_same, or_true}
+use Rattle.vs_sets.proofs.Unwritten.{body_other, branch_sets-append}
+
+-- ---- sequences
+
+pub sequence_step : (s : Statement) (ss : List Statement) (f : Family) → lifted_body (at_once (R.sequence (s ∷ ss))) f ≡ lifted_body (at_once (R.sequence ss)) (lifted_body (at_once s) f)
+sequence_step s [] f = refl
+sequence_step s (t ∷ ss) f = refl
+
+pub parts_step : (st : ℕ → Statement) (parts : List ℕ) (k : ℕ) (f : Family) → k < length parts
+    → lifted_body (at_once (R.sequence (map st (drop k parts)))) f ≡ lifted_body (at_once (R.sequence (map st (drop (k + 1) parts)))) (lifted_body (at_once (st (get_or parts k 0))) f)
+parts_step st parts k f h = ap (λ ps. lifted_body (at_once (R.sequence (map st ps))) f) (drop_more parts k 0 h) ∙ sequence_step (st (get_or parts k 0)) (map st (drop (k + 1) parts)) f
+
+-- ---- what is written is covered
+
+left_covers : (bits xs ys : List ℕ) → ((b : ℕ) → contains (xs ++ ys) b ≡ true → contains bits b ≡ true) → (b : ℕ) → contains xs b ≡ true → contains bits b ≡ true
+left_covers bits xs ys h b k = h b (list_any-append (λ c. b == c) xs ys ∙ ap (λ q. q || contains ys b) k)
+
+right_covers : (bits xs ys : List ℕ) → ((b : ℕ) → contains (xs ++ ys) b ≡ true → contains bits b ≡ true) → (b : ℕ) → contains ys b ≡ true → contains bits b ≡ true
+right_covers bits xs ys h b k = h b (list_any-append (λ c. b == c) xs ys ∙ ap (λ q. contains xs b || q) k ∙ or_true (contains xs b))
+
+nothing_covered : (bits : List ℕ) → Covers bits Empty
+nothing_covered bits b h = absurd (let z : ⊥ = cc in z)
+
+sequence_facts : (st : ℕ → Statement) (bits parts : List ℕ) (k : ℕ) → fits_statement (R.sequence (map st parts)) ≡ true → Covers bits (R.sequence (map st parts)) → k < length parts
+    → (fits_statement (st (get_or parts k 0)) ≡ true) × Covers bits (st (get_or parts k 0))
+sequence_facts st bits [] k h c inside = absurd (omega arith)
+sequence_facts st bits (p ∷ []) zero h c inside = (h, c)
+sequence_facts st bits (p ∷ []) (suc k) h c inside = absurd (omega arith)
+sequence_facts st bits (p ∷ q ∷ parts) zero h c inside = (and_left _ _ h, left_covers bits (statement_bits (st p)) (statement_bits (R.sequence (map st (q ∷ parts)))) c)
+sequence_facts st bits (p ∷ q ∷ parts) (suc k) h c inside =
+    sequence_facts st bits (q ∷ parts) k (and_right (fits_statement (st p)) _ h) (right_covers bits (statement_bits (st p)) (statement_bits (R.sequence (map st (q ∷ parts)))) c) (omega arith)
+
+pub parts_run : (a : Arena) (n : ℕ) (bits parts : List ℕ) → ((k : ℕ) → k < length parts → slice_index parts k < n) → fits_statement (R.sequence (map (statement_of a) parts)) ≡ true
+    → Covers bits (R.sequence (map (statement_of a) parts)) → EachRuns a n bits parts
+parts_run a n bits parts below fit covers k inside =
+    let facts = sequence_facts (statement_of a) bits parts k fit covers inside in
+    record { earlier = below k inside; fits = facts.0; covers = facts.1 }
+
+-- ---- branches of an `if`
+
+pub either_facts : (a : Arena) (n : ℕ) (bits : List ℕ) (taken : ℕ) (other : Option ℕ) (c : Expression) → taken < n → BranchBelow n other → fits_statement (statement_of a taken) ≡ true
+    → fits_statement (R.branch (statement_of a) other) ≡ true → Covers bits (If c (statement_of a taken) (R.branch (statement_of a) other)) → (b : Option ℕ) → IsEither taken other b → BranchFacts a n bits b
+either_facts a n bits taken other c below otherwise fit fits covers b (inl e) =
+    subst (BranchFacts a n bits) (sym e) (record { earlier = below; fits = fit; covers = left_covers bits (statement_bits (statement_of a taken)) (statement_bits (R.branch (statement_of a) other)) covers })
+either_facts a n bits taken other c below otherwise fit fits covers b (inr e) =
+    subst (BranchFacts a n bits) (sym e) (record { earlier = otherwise; fits = fits; covers = right_covers bits (statement_bits (statement_of a taken)) (statement_bits (R.branch (statement_of a) other)) covers })
+
+-- ---- arms of a case
+
+arm_facts : (tree : ℕ → Expression) (st : ℕ → Statement) (other : Option ℕ) (bits : List ℕ) (arms : List F.Arm) → fits_arms (R.arms_tree tree st other arms) ≡ true
+    → ((b : ℕ) → contains (arms_bits (R.arms_tree tree st other arms)) b ≡ true → contains bits b ≡ true) → (k : ℕ) (arm : F.Arm) → slice_get arms k ≡ Some arm
+    → (fits_statement (st arm.statement) ≡ true) × Covers bits (st arm.statement)
+arm_facts tree st other bits [] h c k arm e = absurd (let z : ⊥ = cc in z)
+arm_facts tree st other bits (x ∷ arms) h c zero arm e =
+    let same : x ≡ arm = cc in
+    subst (λ (y : F.Arm). (fits_statement (st y.statement) ≡ true) × Covers bits (st y.statement)) same
+    (and_right (list_all is_fit (map tree x.items)) _ (and_left _ _ h), left_covers bits (statement_bits (st x.statement)) (arms_bits (R.arms_tree tree st other arms)) c)
+arm_facts tree st other bits (x ∷ arms) h c (suc k) arm e =
+    arm_facts tree st other bits arms (and_right (list_all is_fit (map tree x.items) && fits_statement (st x.statement)) _ h) (right_covers bits (statement_bits (st x.statement)) (arms_bits (R.arms_tree tree st other arms)) c) k arm e
+
+other_facts : (tree : ℕ → Expression) (st : ℕ → Statement) (other : Option ℕ) (bits : List ℕ) (arms : List F.Arm) → fits_arms (R.arms_tree tree st other arms) ≡ true
+    → ((b : ℕ) → contains (arms_bits (R.arms_tree tree st other arms)) b ≡ true → contains bits b ≡ true)
+    → (fits_statement (R.branch st other) ≡ true) × Covers bits (R.branch st other)
+other_facts tree st other bits [] h c = (h, c)
+other_facts tree st other bits (x ∷ arms) h c =
+    other_facts tree st other bits arms (and_right (list_all is_fit (map tree x.items) && fits_statement (st x.statement)) _ h) (right_covers bits (statement_bits (st x.statement)) (arms_bits (R.arms_tree tree st other arms)) c)
+
+pub case_facts : (a : Arena) (nodes n : ℕ) (bits : List ℕ) (arms : List F.Arm) (other : Option ℕ) → ArmsBelow nodes n arms → BranchBelow n other → fits_arms (arms_of a other arms) ≡ true
+    → ((b : ℕ) → contains (arms_bits (arms_of a other arms)) b ≡ true → contains bits b ≡ true) → (b : Option ℕ) → IsOneOf arms other b → BranchFacts a n bits b
+case_facts a nodes n bits arms other below otherwise fit covers b (inl e) =
+    let facts = other_facts (tree_of a) (statement_of a) other bits arms fit covers in
+    subst (BranchFacts a n bits) (sym e) (record { earlier = otherwise; fits = facts.0; covers = facts.1 })
+case_facts a nodes n bits arms other below otherwise fit covers b (inr i) =
+    let facts = arm_facts (tree_of a) (statement_of a) other bits arms fit covers i.0 i.1 i.2 in
+    subst (BranchFacts a n bits) (sym i.3) (record { earlier = (below i.0 i.1 i.2).1; fits = facts.0; covers = facts.1 })
+
+-- what holds of each that passes
+pub all_facts : {A : Type 0} (P Q : A → Type 0) (xs : List A) → ((x : A) → P x → Q x) → All P xs → All Q xs
+all_facts P Q xs h k n d inside = h (get_or xs n d) (k n d inside)
+
+-- ---- joins
+
+covered_or_not : (bits : List ℕ) (b : ℕ) (s : Statement) → Covers bits s → contains bits b ≡ false → contains (statement_bits s) b ≡ false
+covered_or_not bits b s c h = at (contains (statement_bits s) b) refl where
+  at : (k : Bool) → contains (statement_bits s) b ≡ k → contains (statement_bits s) b ≡ false
+  at true e = absurd (let t = c b e in let z : ⊥ = cc in z)
+  at false e = e
+
+-- a bit that no branch writes keeps its set, where there is a branch
+branches_other : (a : Arena) (n : ℕ) (bits : List ℕ) (bs : List (Option ℕ)) (f : Family) (b : ℕ) → All (BranchFacts a n bits) bs → 1 ≤ length bs → contains bits b ≡ false → branch_sets (branches_of a bs) f b ≡ f b
+branches_other a n bits [] f b h some absent = absurd (omega arith)
+branches_other a n bits (x ∷ []) f b h some absent =
+    let here = body_other (R.branch (statement_of a) x) f b (covered_or_not bits b (R.branch (statement_of a) x) (h 0 x (omega arith)).covers absent) in
+    Rattle.vs_sets.proofs.BranchSteps.union_none (lifted_body (at_once (R.branch (statement_of a) x)) f b) ∙ here
+branches_other a n bits (x ∷ y ∷ bs) f b h some absent =
+    let here = body_other (R.branch (statement_of a) x) f b (covered_or_not bits b (R.branch (statement_of a) x) (h 0 x (omega arith)).covers absent) in
+    ap₂ union here (branches_other a n bits (y ∷ bs) f b (λ k d i. h (suc k) d (omega (arith, i))) (omega arith) absent) ∙ union_same (f b)
+
+-- what is put back is as before
+pub back : (a : Arena) (n : ℕ) (bits : List ℕ) (bs : List (Option ℕ)) (f : Family) → All (BranchFacts a n bits) bs → 1 ≤ length bs → replaced bits f (branch_sets (branches_of a bs) f) ≡ f
+back a n bits bs f h some = fun_ext (λ b. at b (contains bits b) refl) where
+  at : (b : ℕ) (k : Bool) → contains bits b ≡ k → (if contains bits b then f b else branch_sets (branches_of a bs) f b) ≡ f b
+  at b true e = cond-true (contains bits b) _ _ e
+  at b false e = cond-false (contains bits b) _ _ e ∙ branches_other a n bits bs f b h some e
+
+-- and what is united is the union
+pub both : (a : Arena) (n : ℕ) (bits : List ℕ) (bs cs : List (Option ℕ)) (f : Family) → All (BranchFacts a n bits) bs → 1 ≤ length bs → All (BranchFacts a n bits) cs → 1 ≤ length cs
+    → replaced bits (either (branch_sets (branches_of a bs) f) (branch_sets (branches_of a cs) f)) (branch_sets (branches_of a cs) f) ≡ either (branch_sets (branches_of a bs) f) (branch_sets (branches_of a cs) f)
+both a n bits bs cs f h some i others = fun_ext (λ b. at b (contains bits b) refl) where
+  at : (b : ℕ) (k : Bool) → contains bits b ≡ k
+      → (if contains bits b then either (branch_sets (branches_of a bs) f) (branch_sets (branches_of a cs) f) b else branch_sets (branches_of a cs) f b) ≡ either (branch_sets (branches_of a bs) f) (branch_sets (branches_of a cs) f) b
+  at b true e = cond-true (contains bits b) _ _ e
+  at b false e =
+      let x = branches_other a n bits bs f b h some e in
+      let y = branches_other a n bits cs f b i others e in
+      cond-false (contains bits b) _ _ e ∙ y ∙ sym (union_same (f b)) ∙ ap₂ union (sym x) (sym y)
+
+pub branches_append : (a : Arena) (bs cs : List (Option ℕ)) → branches_of a (bs ++ cs) ≡ branches_of a bs ++ branches_of a cs
+branches_append a [] cs = refl
+branches_append a (b ∷ bs) cs = ap (λ xs. at_once (R.branch (statement_of a) b) ∷ xs) (branches_append a bs cs)
+
+pub join_is : (a : Arena) (n : ℕ) (bits : List ℕ) (all left right : List (Option ℕ)) (f t1 t2 t3 t4 : Family) → left ++ right ≡ all → All (BranchFacts a n bits) left → 1 ≤ length left → All (BranchFacts a n bits) right → 1 ≤ length right
+    → t1 ≡ branch_sets (branches_of a left) f → t2 ≡ replaced bits f t1 → t3 ≡ branch_sets (branches_of a right) t2 → t4 ≡ replaced bits (either t1 t3) t3 → t4 ≡ branch_sets (branches_of a all) f
+join_is a n bits all left right f t1 t2 t3 t4 e h some i others p q r s =
+    let back_is : t2 ≡ f = q ∙ ap (replaced bits f) p ∙ back a n bits left f h some in
+    let second : t3 ≡ branch_sets (branches_of a right) f = r ∙ ap (branch_sets (branches_of a right)) back_is in
+    s ∙ ap₂ (λ x y. replaced bits (either x y) y) p second ∙ both a n bits left right f h some i others
+    ∙ sym (branch_sets-append (branches_of a left) (branches_of a right) f) ∙ ap (λ bs. branch_sets bs f) (sym (branches_append a left right)) ∙ ap (λ bs. branch_sets (branches_of a bs) f) e
+
+pub All_same : {A : Type 0} (P : A → Type 0) (xs ys : List A) → xs ≡ ys → All P xs → All P ys
+All_same {A} P xs ys e h = subst (λ (zs : List A). All P zs) e h
+
+-- ---- bits that are x
+
+-- after the statement each bit that isn't covered is x
+pub x_elsewhere : (bits : List ℕ) (s : Statement) → Covers bits s → replaced bits (λ b. only X) (lifted_body (at_once s) (λ b. only X)) ≡ (λ b. only X)
+x_elsewhere bits s c = fun_ext (λ b. at b (contains bits b) refl) where
+  at : (b : ℕ) (k : Bool) → contains bits b ≡ k → (if contains bits b then only X else lifted_body (at_once s) (λ b. only X) b) ≡ only X
+  at b true e = cond-true (contains bits b) _ _ e
+  at b false e = cond-false (contains bits b) _ _ e ∙ body_other s (λ b. only X) b (covered_or_not bits b s c e)
+
+all_of_each : (p : ℕ → Bool) (xs : List ℕ) → ((b : ℕ) → contains xs b ≡ true → p b ≡ true) → list_all p xs ≡ true
+all_of_each p [] h = refl
+all_of_each p (x ∷ xs) h = Rattle.vs_sets.proofs.Fit.and_both (p x) (list_all p xs) (h x (ap (λ k. k || contains xs x) (Rattle.vs_sets.proofs.Families.equal_test x))) (all_of_each p xs (λ b k. h b (ap (λ q. (b == x) || q) k ∙ or_true (b == x))))
+
+each_of_all : (p : ℕ → Bool) (xs : List ℕ) → list_all p xs ≡ true → (b : ℕ) → contains xs b ≡ true → p b ≡ true
+each_of_all p [] h b k = absurd (let z : ⊥ = cc in z)
+each_of_all p (x ∷ xs) h b k = at (Rattle.vs_sets.proofs.Families.same_or_other b x) k (each_of_all p xs (and_right (p x) _ h) b) where
+  at : (((b == x) ≡ true) × (b ≡ x)) ⊎ (((b == x) ≡ false) × (Rattle.std.proofs.Common.◌≢◌ b x)) → ((b == x) || contains xs b) ≡ true → (contains xs b ≡ true → p b ≡ true) → p b ≡ true
+  at (inl e) k rest = ap p e.1 ∙ and_left (p x) _ h
+  at (inr e) k rest = rest (sym (ap (λ q. q || contains xs b) e.0) ∙ k)
+
+same_truth : (a b : Bool) → (a ≡ true → b ≡ true) → (b ≡ true → a ≡ true) → a ≡ b
+same_truth true b h k = sym (h refl)
+same_truth false true h k = k refl
+same_truth false false h k = refl
+
+-- a test that passes elsewhere tells of the covered bits what it tells of those that are written
+pub x_of_all : (bits : List ℕ) (s : Statement) → Covers bits s
+    → list_all (λ b. is_only_x (lifted_body (at_once s) (λ c. only X) b)) bits ≡ list_all (λ b. is_only_x (lifted_body (at_once s) (λ c. only X) b)) (statement_bits s)
+x_of_all bits s c =
+    same_truth _ _ (λ h. all_of_each p (statement_bits s) (λ b k. each_of_all p bits h b (c b k)))
+    (λ h. all_of_each p bits (λ b k. at b (contains (statement_bits s) b) refl (each_of_all p (statement_bits s) h b)))
+  where
+    p : ℕ → Bool
+    p b = is_only_x (lifted_body (at_once s) (λ c. only X) b)
+
+    at : (b : ℕ) (k : Bool) → contains (statement_bits s) b ≡ k → (contains (statement_bits s) b ≡ true → p b ≡ true) → p b ≡ true
+    at b true e h = h e
+    at b false e h = ap is_only_x (body_other s (λ c. only X) b e)

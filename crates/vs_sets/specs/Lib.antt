@@ -1,0 +1,17 @@
+pub mod BitOperators
+pub mod Arithmetic
+pub mod Choosing
+pub mod KeptPlaces
+pub mod SameLength
+pub mod Tables
+pub mod Nodes
+pub mod FitParts
+pub mod PartSets
+pub mod Ways
+pub mod Extremes
+pub mod Operands
+pub mod TargetsOf
+pub mod Branches
+pub mod StatementParts
+pub mod Matches
+pub mod Laws

@@ -1,0 +1,141 @@
+//! The sets of an expression's bits (IEEE 1364-2005, clause 5).
+
+ghost use Rattle.std.specs.Prelude.{◌≡◌, ◌≤◌, ◌<◌, ◌+◌, length, map, true};
+ghost use Rattle.vs_four.specs.declared.Bit4.TheVariants.{X};
+ghost use Rattle.vs_four.specs.Selects.{range_length};
+ghost use Rattle.vs_four.specs.Lengths.{repeat};
+ghost use Rattle.vs_design.specs.Designs.{bit_count};
+ghost use Rattle.vs_design.specs.Expressions as E;
+ghost use Rattle.vs_design.specs.Fits.{is_fit, source_length};
+ghost use Rattle.vs_design.specs.Lifted as L;
+ghost use Rattle.vs_design.specs.Sets.{only};
+ghost use Rattle.vs_design.specs.Values.{value, bits_of_signal};
+ghost use Rattle.vs_flat.specs.Arena.{node_at};
+ghost use Rattle.vs_flat.specs.DesignOf.{design_of};
+ghost use Rattle.vs_flat.specs.Operators.{unary_of, binary_of};
+ghost use Rattle.vs_flat.specs.Targets.{source_of};
+ghost use Rattle.vs_sets.specs.FitParts.{FitParts, Is64};
+ghost use Rattle.vs_sets.specs.Nodes.{HasNames, tree_of, place_of, tree_of_node, signal_of};
+ghost use Rattle.vs_sets.specs.Tables.{family_of};
+
+use crate::context::Context;
+use crate::operators::list_of;
+use crate::places::range_length;
+use crate::values::only_each;
+use crate::{Set4, SetList};
+use vs_flat::{Node, names_law, trees_law};
+use vs_four::Range;
+use vs_length::Shapes;
+
+/// A signal's bits: the number of the least significant one, and how many there are.
+#[derive(Clone, Copy, Debug)]
+pub(crate) struct Span {
+    pub(crate) first: usize,
+    pub(crate) len: usize,
+}
+
+/// A design and the shapes of its expressions, with a set for each of its bits, from which those of its expressions follow.
+#[derive(Drop)]
+pub(crate) struct Lifter<'a> {
+    pub(crate) shapes: &'a Shapes,
+    pub(crate) table: &'a [Set4],
+    ghost covers: { length table.now ≡ bit_count (design_of shapes.now) },
+}
+
+/// How many bits a signal has.
+fn signal_length(range: Option<Range>) -> u64
+    ensures { result ≡ E.range_or_one range }
+{
+    match range {
+        None => 1,
+        Some(range) => range_length(range),
+    }
+}
+
+/// The bits of signal n.
+pub(crate) fn span_of(shapes: &Shapes, n: u32) -> Span
+    requires { n < length shapes.now.signals }
+    ensures first { result.first ≡ (signal_of shapes.now n).first }
+    ensures len { result.len ≡ E.signal_length (signal_of shapes.now n) }
+    ensures within { result.first + result.len ≤ bit_count (design_of shapes.now) }
+    ensures few { Is64 result.len }
+{
+    trees_law();
+    let signal = shapes.flat().signal(n);
+    Span {
+        first: signal.first_bit as usize,
+        len: signal_length(signal.range) as usize,
+    }
+}
+
+/// Expression e of a lawful design: it names earlier ones, and its tree is made of theirs.
+pub(crate) fn node_of(shapes: &Shapes, e: u32) -> &Node
+    requires { e < length shapes.now.nodes }
+    ensures names { HasNames (length shapes.now.signals) e result.now }
+    ensures tree { tree_of shapes.now e ≡ E.At (place_of shapes.now e) (tree_of_node shapes.now result.now) }
+{
+    names_law();
+    trees_law();
+    shapes.flat().expr(e)
+}
+
+impl Lifter<'_> {
+    /// Expression e, with what holds of its parts.
+    pub(crate) fn node(&self, e: u32) -> &Node
+        requires there { e < length self.now.shapes.now.nodes }
+        requires fit { is_fit (tree_of self.now.shapes.now e) ≡ true }
+        ensures names { HasNames (length self.now.shapes.now.signals) e result.now }
+        ensures tree { tree_of self.now.shapes.now e ≡ E.At (place_of self.now.shapes.now e) (tree_of_node self.now.shapes.now result.now) }
+        ensures parts { FitParts (tree_of_node self.now.shapes.now result.now) }
+    {
+        node_of(self.shapes, e)
+    }
+
+    /// The context of an expression that stands by itself.
+    pub(crate) fn own_context(&self, e: u32) -> Context
+        requires there { e < length self.now.shapes.now.nodes }
+        requires fit { is_fit (tree_of self.now.shapes.now e) ≡ true }
+        ensures len { result.len ≡ E.width (tree_of self.now.shapes.now e) }
+        ensures sign { result.signed ≡ E.sign (tree_of self.now.shapes.now e) }
+        ensures few { Is64 result.len }
+    {
+        let shape = self.shapes.shape(e);
+        Context {
+            len: u32::from(shape.width),
+            signed: shape.signed,
+        }
+    }
+
+    /// The sets of a signal's bits.
+    pub(crate) fn signal_sets(&self, n: u32) -> SetList
+        requires { n < length self.now.shapes.now.signals }
+        ensures { result ≡ map (family_of self.now.table.now) (bits_of_signal (signal_of self.now.shapes.now n)) }
+    {
+        let span = span_of(self.shapes, n);
+        list_of(&self.table[span.first..span.first + span.len])
+    }
+
+    /// The sets of the bits that a select is taken of: a signal's, or the values of a parameter's.
+    pub(crate) fn source_sets(&self, of: u32) -> SetList
+        requires { of < length self.now.shapes.now.nodes }
+        ensures { result ≡ L.source_sets (family_of self.now.table.now) (source_of (tree_of self.now.shapes.now of)) }
+    {
+        match node_of(self.shapes, of) {
+            Node::Name { signal } => self.signal_sets(*signal),
+            Node::Literal { bits, .. } => only_each(*bits),
+            _ => SetList::new(),
+        }
+    }
+
+    /// The sets of a constant in a context.
+    pub(crate) fn constant(&self, e: u32, context: Context) -> SetList
+        requires there { e < length self.now.shapes.now.nodes }
+        requires fit { is_fit (tree_of self.now.shapes.now e) ≡ true }
+        requires constant { E.is_constant (tree_of self.now.shapes.now e) ≡ true }
+        requires wide { E.width (tree_of self.now.shapes.now e) ≤ context.len }
+        requires few { context.len ≤ 64 }
+        ensures { result ≡ map only (value (tree_of self.now.shapes.now e) context.len context.signed (λ b. X)) }
+    {
+        only_each(self.shapes.value(e, context.len, context.signed))
+    }
+}

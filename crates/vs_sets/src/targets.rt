@@ -1,0 +1,149 @@
+//! Writing the sets of a value to a target (IEEE 1364-2005, clause 6 and 9.2).
+
+ghost use Rattle.std.specs.Prelude.{◌≡◌, ◌≤◌, ◌<◌, ◌+◌, ◌-◌, ℕ, length, map, max, true, Some};
+ghost use Rattle.vs_design.specs.Designs.{bit_count};
+ghost use Rattle.vs_design.specs.Expressions as E;
+ghost use Rattle.vs_design.specs.Statements as T;
+ghost use Rattle.vs_design.specs.Fits.{is_fit, fits_target};
+ghost use Rattle.vs_design.specs.Lifted as L;
+ghost use Rattle.vs_design.specs.LiftedBodies.{write_sets, assign_sets};
+ghost use Rattle.vs_flat.specs.DesignOf.{design_of};
+ghost use Rattle.vs_flat.specs.Targets.{source_of, target_of};
+ghost use Rattle.vs_flat.specs.Trees.{joined};
+ghost use Rattle.vs_sets.specs.Nodes.{EachBelow, tree_of, signal_of};
+ghost use Rattle.vs_sets.specs.TargetsOf.{IsSignal, IsTarget, target_tree};
+ghost use Rattle.vs_sets.specs.Tables.{family_of};
+
+use crate::context::Context;
+use crate::folds::all_of;
+use crate::lift::first_copy;
+use crate::lifter::{Lifter, node_of, span_of};
+use crate::places::{Part, places_of};
+use crate::table::{put_places, put_run, widen_run};
+use crate::{Set4, SetList};
+use vs_flat::Node;
+use vs_length::Shapes;
+
+/// The number of the signal that expression e is the name of.
+fn named_signal(shapes: &Shapes, name: u32) -> u32
+    requires there { name < length shapes.now.nodes }
+    requires is_name { IsSignal (source_of (tree_of shapes.now name)) }
+    ensures there { result < length shapes.now.signals }
+    ensures is { source_of (tree_of shapes.now name) ≡ E.OfSignal (signal_of shapes.now result) }
+{
+    match node_of(shapes, name) {
+        Node::Name { signal } => *signal,
+        _ => unreachable!(),
+    }
+}
+
+/// Writes sets to the target that expression e is, least significant first.
+#[cycle(writing)]
+fn write(shapes: &Shapes, e: u32, sets: &[Set4], table: &mut [Set4])
+    requires covers { length table.old ≡ bit_count (design_of shapes.now) }
+    requires there { e < length shapes.now.nodes }
+    requires target { IsTarget (tree_of shapes.now e) }
+    requires many { length sets.now ≡ E.width (tree_of shapes.now e) }
+    ensures { family_of table.new ≡ write_sets (target_tree (tree_of shapes.now e)) sets.now (family_of table.old) }
+{
+    match node_of(shapes, e) {
+        Node::Name { signal } => put_run(table, span_of(shapes, *signal).first, sets),
+        Node::Bit { of, range, index } => {
+            let part = Part {
+                range: *range,
+                up: true,
+                width: 1,
+            };
+            write_part(shapes, *of, part, *index, sets, table);
+        }
+        Node::Part {
+            of,
+            range,
+            base,
+            up,
+            width,
+        } => {
+            let part = Part {
+                range: *range,
+                up: *up,
+                width: *width,
+            };
+            write_part(shapes, *of, part, *base, sets, table);
+        }
+        Node::Join { parts } => write_parts(shapes, e, first_copy(parts.as_slice()), sets, table),
+        _ => unreachable!(),
+    }
+}
+
+/// Writes sets to a select (IEEE 1364-2005, 5.2.1): by a constant index to its bits, by any other each bit of the signal may have any of them.
+fn write_part(shapes: &Shapes, of: u32, part: Part, index: u32, sets: &[Set4], table: &mut [Set4])
+    requires covers { length table.old ≡ bit_count (design_of shapes.now) }
+    requires of_there { of < length shapes.now.nodes }
+    requires index_there { index < length shapes.now.nodes }
+    requires target { IsTarget (E.Select (source_of (tree_of shapes.now of)) part (tree_of shapes.now index)) }
+    requires many { length sets.now ≡ part.width }
+    ensures { family_of table.new ≡ write_sets (target_tree (E.Select (source_of (tree_of shapes.now of)) part (tree_of shapes.now index))) sets.now (family_of table.old) }
+{
+    let span = span_of(shapes, named_signal(shapes, of));
+    let shape = shapes.shape(index);
+    if shape.constant {
+        let places = places_of(part, shape.signed, shapes.constant_value(index));
+        put_places(table, span.first, &places, sets);
+    } else {
+        widen_run(table, span.first, span.len, all_of(sets));
+    }
+}
+
+/// Writes sets to the parts of a concatenation, of which the first takes the most significant ones.
+#[cycle(writing)]
+fn write_parts(shapes: &Shapes, e: u32, parts: &[u32], sets: &[Set4], table: &mut [Set4])
+    requires covers { length table.old ≡ bit_count (design_of shapes.now) }
+    requires there { e < length shapes.now.nodes }
+    requires before { EachBelow e parts.now }
+    requires target { IsTarget (joined (map (tree_of shapes.now) parts.now)) }
+    requires many { length sets.now ≡ E.width (joined (map (tree_of shapes.now) parts.now)) }
+    ensures { family_of table.new ≡ write_sets (target_tree (joined (map (tree_of shapes.now) parts.now))) sets.now (family_of table.old) }
+{
+    let Some((first, rest)) = parts.split_first() else {
+        unreachable!()
+    };
+    if rest.is_empty() {
+        write(shapes, *first, sets, table);
+        return;
+    }
+    let low = sets.len() - shapes.shape(*first).width as usize;
+    write(shapes, *first, &sets[low..], table);
+    write_parts(shapes, e, rest, &sets[..low], table);
+}
+
+/// The sets of a right side for a target of this length (IEEE 1364-2005, 5.5.3): in the larger of both lengths and its own sign, and then cut.
+fn assigned_sets(lifter: &Lifter, e: u32, len: u32) -> SetList
+    requires there { e < length lifter.now.shapes.now.nodes }
+    requires fit { is_fit (tree_of lifter.now.shapes.now e) ≡ true }
+    requires few { len ≤ 64 }
+    ensures value { result ≡ L.assigned_sets (tree_of lifter.now.shapes.now e) len (family_of lifter.now.table.now) }
+    ensures length { length result ≡ len }
+{
+    let own = lifter.own_context(e);
+    let context = Context {
+        len: own.len.max(len),
+        signed: own.signed,
+    };
+    let mut list = lifter.lifted(e, context);
+    list.cut(len as usize);
+    list
+}
+
+/// The sets after an assignment of expression e to a target, whose bits alone change.
+pub fn assign(shapes: &Shapes, target: u32, e: u32, table: &mut [Set4])
+    requires covers { length table.old ≡ bit_count (design_of shapes.now) }
+    requires target_there { target < length shapes.now.nodes }
+    requires there { e < length shapes.now.nodes }
+    requires target { IsTarget (tree_of shapes.now target) }
+    requires fit { is_fit (tree_of shapes.now e) ≡ true }
+    ensures { family_of table.new ≡ assign_sets (target_tree (tree_of shapes.now target)) (tree_of shapes.now e) (family_of table.old) }
+{
+    let lifter = Lifter { shapes, table };
+    let sets = assigned_sets(&lifter, e, u32::from(shapes.shape(target).width));
+    write(shapes, target, sets.as_slice(), table);
+}
