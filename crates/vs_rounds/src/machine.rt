@@ -17,9 +17,9 @@ use std::marker::Model;
 use std::sync::ledger::Ledger;
 use vs_desk::Desk;
 use vs_drive::Drive;
-use vs_thin::Engine;
 use vs_four::Bit4;
 use vs_plane::{Lanes, Pair, Steps};
+use vs_thin::Engine;
 use vs_waves::Waves;
 
 /// What a run needs in its rounds: the stimuli, the waves and the engine of all lanes. Lanes have no part in each other.

@@ -8,10 +8,10 @@ ghost use Rattle.vs_setup.specs.Loaded.{IsLoaded};
 
 use crate::inputs::data_inputs;
 use std::alloc::Global;
-use vs_thin::{Engine, compile};
 use vs_front::{AcceptError, Accepted, accept};
 use vs_plane::{Lanes, Word};
 use vs_stim::Input;
+use vs_thin::{Engine, compile};
 
 /// A design that is ready to run.
 #[derive(Drop)]
