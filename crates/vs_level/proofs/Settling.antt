@@ -1,18 +1,15 @@
 -- Which processes of a flat design settle, and how many bits it has.
-use Rattle.std.proofs.Common.{◌≡◌, ℕ, ◌+◌, ◌≤◌, ◌^◌, Bool, false, not, List, [], ◌∷◌, ◌||◌, map, refl, ap, ◌∙◌, Some, take, arith, get_or}
+use Rattle.std.proofs.Common.{◌≡◌, ℕ, Bool, false, not, List, [], ◌∷◌, ◌||◌, map, refl, ap, ◌∙◌, Some}
 use Rattle.std.specs.Prelude.{slice_get}
 use Rattle.std.specs.List.{list_any}
-use Rattle.std.proofs.lemmas.Option.{slice_get_within, get_or_from_slice_get}
-use Rattle.std.proofs.lemmas.List.Sums.{sum_by_more, sum_by_more_le}
 use Rattle.vs_design.specs.Expressions as E
 use Rattle.vs_design.specs.Statements as T
 use Rattle.vs_design.specs.Designs.{is_clocked, has_edge}
 use Rattle.vs_flat.specs.declared.processes.Event.{Event}
-use Rattle.vs_flat.specs.declared.processes.Signal.{Signal}
 use Rattle.vs_flat.specs.declared.processes.Process.{Process}
 use Rattle.vs_flat.specs.declared.processes.Kind.{Kind}
 use Rattle.vs_flat.specs.declared.processes.Kind.TheVariants as K
-use Rattle.vs_flat.specs.Arena.{Arena, bit_count}
+use Rattle.vs_flat.specs.Arena.{Arena}
 use Rattle.vs_flat.specs.Laws.{EachProcess}
 use Rattle.vs_flat.specs.Trees.{signal_at, tree_at, statement_at}
 use Rattle.vs_flat.specs.DesignOf.{event_of, kind_of, process_of, arena_signals, arena_trees, arena_statements, design_of}

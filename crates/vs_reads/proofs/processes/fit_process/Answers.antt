@@ -1,7 +1,6 @@
 use Rattle.std.proofs.Common.{refl, subst, ap, sym, ◌∙◌}
 use Rattle.std.specs.Prelude.{slice_get}
 use Rattle.vs_flat.specs.Arena.{Arena}
-use Rattle.vs_flat.specs.DesignOf.{design_of}
 use Rattle.vs_flat.specs.Lawful.{IsLawful}
 use Rattle.vs_reads.proofs.FitKinds.{fit_kind}
 use Rattle.vs_reads.proofs.processes.fit_process.Goals as goal

@@ -1,0 +1,105 @@
+-- The indices of a target's parts.
+use Rattle.std.proofs.Common.{◌≡◌, ℕ, zero, suc, ◌+◌, ◌<◌, ◌≤◌, true, List, [], ◌∷◌, ◌++◌, map, length, take, get_or, sum_by, sym, ap, ◌∙◌, subst, refl, arith, append-nil}
+use Rattle.std.specs.List.{All, flat_map}
+use Rattle.std.proofs.lemmas.List.{take_more, length-map}
+use Rattle.std.proofs.lemmas.List.Concat.{flat_map-append}
+use Rattle.std.proofs.lemmas.List.Sums.{sum_by-append, sum_by-cons}
+use Rattle.std.proofs.lemmas.List.Elements.{All-nil, All-cons}
+use Rattle.vs_four.specs.Logic.{BitList}
+use Rattle.vs_net.specs.Network as N
+use Rattle.vs_design.specs.Expressions.{Expression, Signal, width, sign}
+use Rattle.vs_design.specs.Fits.{fits_target}
+use Rattle.vs_design.specs.Statements.{Target, Whole, PartOf}
+use Rattle.vs_design.specs.TreeLaws.{ConstantValue}
+use Rattle.vs_four.specs.Selects.{Part}
+use Rattle.vs_lower.specs.declared.leaves.Leaf.{Leaf}
+use Rattle.vs_lower.specs.Added.{IsEnv, AreValues}
+use Rattle.vs_lower.specs.Coded.{Coding}
+use Rattle.vs_lower.specs.Done.{index_values}
+use Rattle.vs_lower.specs.Ready.{IsReady}
+use Rattle.vs_lower.specs.Valued.{AddsValue}
+use Rattle.vs_lower.specs.Written.{HasRoom, IsIndexed, AreIndexed, index_weight, AddsIndex, AddsIndices}
+use Rattle.vs_lower.proofs.Adding.{values_none, values_more, values_as, env_more}
+use Rattle.vs_lower.proofs.Partwise.{fit_part}
+use Rattle.vs_lower.proofs.Readying.{stores_of, two_added}
+use Rattle.vs_lower.proofs.Taking.{index_is}
+
+-- ---- of one part
+
+pub ready_index_of : (bits : ℕ) (env : List ℕ) (code : Coding) (signal : Signal) (part : Part) (index : Expression) (w : ℕ) → w ≡ width index → fits_target (PartOf signal part index) ≡ true
+    → HasRoom bits env code (index_weight (PartOf signal part index)) → IsReady bits env code index w
+ready_index_of bits env code signal part index w e f r =
+    let p = fit_part signal part index f in
+    subst (IsReady bits env code index) (sym e) (record { is_env = r.is_env; has_bits = r.has_bits; fit = p.index_fit; wide = omega arith; at_most_64 = p.index_most; slots = r.slots; few = r.few })
+
+pub adds_whole_index : (bits : ℕ) (env : List ℕ) (code : Coding) (signal : Signal) (ti : List ℕ) (w : ℕ) → HasRoom bits env code w → ti ≡ [] → AddsIndex env code code (Whole signal) ti
+adds_whole_index bits env code signal ti w r e =
+    subst (AddsIndex env code code (Whole signal)) (sym e) (record {
+      calls = [];
+      is = sym (append-nil code.calls);
+      values = values_as env code.next [] [] code.next 0 (λ state. []) ([] ∷ []) 0 (λ state. [] ∷ []) r.is_env (values_none env code.next) (omega arith)
+          (All-cons (λ to. All (λ slot. slot < code.next) to) [] [] (All-nil (λ slot. slot < code.next)) (All-nil (λ to. All (λ slot. slot < code.next) to))) (λ slots state h k. refl);
+      indexed = tt;
+    })
+
+pub adds_part_index : ConstantValue → (env : List ℕ) (code after : Coding) (signal : Signal) (part : Part) (index : Expression) (ti : List ℕ)
+    → AddsValue env code.calls code.next after.calls after.next index (width index) (sign index) ti → AddsIndex env code after (PartOf signal part index) ti
+adds_part_index law env code after signal part index ti v = record {
+  calls = v.calls;
+  is = v.is;
+  values = v.value.values;
+  indexed = record { long = v.value.length; constant = v.value.constant; fixed = λ h. index_is law env code.next index v.calls ti after.next v.value h };
+}
+
+-- ---- of several
+
+pub adds_no_indices : (env : List ℕ) (code : Coding) (tis : List (List ℕ)) → tis ≡ [] → AddsIndices env code code [] tis
+adds_no_indices env code tis e = subst (AddsIndices env code code []) (sym e) (record { calls = []; is = sym (append-nil code.calls); values = values_none env code.next; indexed = tt })
+
+indexed_more : (ts : List Target) (tis : List (List ℕ)) (t : Target) (ti : List ℕ) → AreIndexed ts tis → IsIndexed t ti → AreIndexed (ts ++ t ∷ []) (tis ++ ti ∷ [])
+indexed_more [] [] t ti h k = (k, tt)
+indexed_more [] (x ∷ tis) t ti h k = absurd h
+indexed_more (s ∷ ts) [] t ti h k = absurd h
+indexed_more (s ∷ ts) (x ∷ tis) t ti h k = (h.0, indexed_more ts tis t ti h.1 k)
+
+pub adds_index_more : (env : List ℕ) (code one two : Coding) (ts : List Target) (tis : List (List ℕ)) (t : Target) (ti : List ℕ) → IsEnv env code.next
+    → AddsIndices env code one ts tis → AddsIndex env one two t ti → AddsIndices env code two (ts ++ t ∷ []) (tis ++ ti ∷ [])
+adds_index_more env code one two ts tis t ti e p q =
+    let W = λ (n : ℕ) (v : N.State → List BitList). AreValues env code.next (p.calls ++ q.calls) (tis ++ ti ∷ []) two.next n v in
+    let both = values_more env code.next p.calls tis one.next (sum_by index_weight ts) (λ state. flat_map (λ x. index_values x state) ts) q.calls (ti ∷ []) two.next (index_weight t) (λ state. index_values t state) e p.values q.values in
+    let total : sum_by index_weight (ts ++ t ∷ []) ≡ sum_by index_weight ts + index_weight t = sum_by-append index_weight ts (t ∷ []) ∙ omega (arith, sum_by-cons index_weight t []) in
+    record {
+      calls = p.calls ++ q.calls;
+      is = two_added code.calls p.calls q.calls one.calls two.calls p.is q.is;
+      values = values_as env code.next (p.calls ++ q.calls) (tis ++ ti ∷ []) two.next (sum_by index_weight ts + index_weight t) (λ state. flat_map (λ x. index_values x state) ts ++ index_values t state) (tis ++ ti ∷ []) (sum_by index_weight (ts ++ t ∷ []))
+          (λ state. flat_map (λ x. index_values x state) (ts ++ t ∷ [])) e both (omega (arith, total)) both.below
+          (λ slots state h k. k ∙ ap (λ (vs : List BitList). flat_map (λ x. index_values x state) ts ++ vs) (sym (append-nil (index_values t state))) ∙ sym (flat_map-append (λ x. index_values x state) ts (t ∷ [])));
+      indexed = indexed_more ts tis t ti p.indexed q.indexed;
+    }
+
+-- ---- by the parts as they are kept
+
+sums_more : (f : Target → ℕ) (g : Leaf → Target) (ls : List Leaf) (n : ℕ) (d : Leaf) → n < length ls → sum_by f (take n (map g ls)) + f (g (get_or ls n d)) ≤ sum_by f (map g ls)
+sums_more f g [] n d l = absurd (omega arith)
+sums_more f g (x ∷ ls) zero d l = omega (arith, sum_by-cons f (g x) (map g ls))
+sums_more f g (x ∷ ls) (suc n) d l = omega (arith, sums_more f g ls n d (omega arith), sum_by-cons f (g x) (take n (map g ls)), sum_by-cons f (g x) (map g ls))
+
+pub taken_leaf : (g : Leaf → Target) (ls : List Leaf) (n : ℕ) (d : Leaf) → n < length ls → take n (map g ls) ++ g (get_or ls n d) ∷ [] ≡ take (n + 1) (map g ls)
+taken_leaf g ls n d l = ap (λ (t : Target). take n (map g ls) ++ t ∷ []) (sym (at g ls n d l)) ∙ sym (take_more (map g ls) n (g d) (omega (arith, length-map ls g)))
+  where
+    at : (g : Leaf → Target) (ls : List Leaf) (n : ℕ) (d : Leaf) → n < length ls → get_or (map g ls) n (g d) ≡ g (get_or ls n d)
+    at g [] n d l = refl
+    at g (x ∷ ls) zero d l = refl
+    at g (x ∷ ls) (suc n) d l = at g ls n d (omega arith)
+
+pub room_for_next : (bits : ℕ) (env : List ℕ) (code one : Coding) (g : Leaf → Target) (ls : List Leaf) (tis : List (List ℕ)) (n : ℕ) (d : Leaf) → n < length ls
+    → HasRoom bits env code (sum_by index_weight (map g ls)) → AddsIndices env code one (take n (map g ls)) tis → HasRoom bits env one (index_weight (g (get_or ls n d)))
+room_for_next bits env code one g ls tis n d l r p =
+    let more = sums_more index_weight g ls n d l in
+    let added = p.values.added in
+    record {
+      is_env = env_more env code.next one.next added.grown r.is_env;
+      has_bits = r.has_bits;
+      slots = omega (arith, r.slots, more, added.paid, added.stores);
+      few = omega (arith, r.few, more, added.stores, stores_of code.calls p.calls one.calls p.is);
+    }

@@ -1,0 +1,432 @@
+-- Statements one after the other, and branches.
+use Rattle.std.proofs.Common.{◌≡◌, ℕ, ◌+◌, ◌<◌, ◌≤◌, Bool, true, false, ◌||◌, ◌==◌, if◌then◌else◌, List, [], ◌∷◌, ◌++◌, map, length, slice_index, Some, sym, ap, ◌∙◌, subst, refl, arith, true≢false, ◌⊎◌, inl, inr}
+use Rattle.std.specs.List.{All, Contains, range_with_len}
+use Rattle.std.proofs.lemmas.List.Elements.{All-nil, All-cons, All-head, All-tail, All-weaker, All-map, All-contains}
+use mathlib.Core.Path.{fun_ext}
+use Rattle.vs_four.specs.Logic.{BitList, truth}
+use Rattle.vs_four.specs.Tables.{is_one}
+use Rattle.vs_net.specs.Network as N
+use Rattle.vs_design.specs.Bodies.{no_effect, both_effects, pair_up}
+use Rattle.vs_design.specs.Footprints.{contains}
+use Rattle.vs_kern_select.specs.declared.costs.Kernel.TheVariants as S
+use Rattle.vs_code.specs.declared.kernels.AnyKernel.TheVariants.{Select}
+use Rattle.vs_code.specs.Calls.{Call, State, IsCall, IsCalled, AreCalled, call_cost}
+use Rattle.vs_lower.specs.Added.{AreAdded, IsEnv, Holds, AreValues, fresh_call}
+use Rattle.vs_lower.specs.Done.{placed, IsDone, IsCondition, IsNew}
+use Rattle.vs_lower.proofs.Lists.{range_below, range_from}
+use Rattle.vs_lower.proofs.Adding.{called_parts, one_called, holds_after, vector_stays, added_none, added_more, added_call, env_more}
+use Rattle.vs_lower.proofs.Placing.{by_test, write_all-append, flatten-append, placed_length, placed_all, placed_holds, placed_other, placed_from, written_as}
+
+-- ---- no statement
+
+pub done_none : (now later : List ℕ) (mark : ℕ) → IsEnv now mark → IsEnv later mark → IsDone now later [] (λ state. []) mark (λ state. no_effect) [] 0 [] now later mark
+unfolding N.write_all N.flatten
+done_none now later mark e f = record {
+  added = added_none mark;
+  now_env = e;
+  later_env = f;
+  now_length = refl;
+  later_length = refl;
+  now_kept = λ b h. refl;
+  later_kept = λ b h. refl;
+  now_from = λ b l. inl refl;
+  later_from = λ b l. inl refl;
+  now_values = λ before after state ahead h k g c. subst (λ (s : State). Holds now s state) (sym (fun_ext c)) h;
+  later_values = λ before after state ahead h k g c. subst (λ (s : State). Holds later s ahead) (sym (fun_ext c)) k;
+}
+
+-- ---- one after the other
+
+pub neither : (xs ys : List ℕ) (b : ℕ) → contains (xs ++ ys) b ≡ false → (contains xs b ≡ false) × (contains ys b ≡ false)
+neither [] ys b h = (refl, h)
+neither (x ∷ xs) ys b h =
+    by_test (b == x)
+    (λ e. absurd (true≢false (sym (ap (λ q. q || contains (xs ++ ys) b) e) ∙ h)))
+    (λ e.
+    let rest = neither xs ys b (sym (ap (λ q. q || contains (xs ++ ys) b) e) ∙ h) in
+    (ap (λ q. q || contains xs b) e ∙ rest.0, rest.1))
+
+new_more : (m n slot : ℕ) → m ≤ n → IsNew n slot → IsNew m slot
+new_more m n slot l (inl h) = inl h
+new_more m n slot l (inr h) = inr (omega arith)
+
+pub from_both : (m n x y z : ℕ) → m ≤ n → (x ≡ y) ⊎ IsNew n x → (y ≡ z) ⊎ IsNew m y → (x ≡ z) ⊎ IsNew m x
+from_both m n x y z l (inl e) (inl f) = inl (e ∙ f)
+from_both m n x y z l (inl e) (inr h) = inr (subst (IsNew m) (sym e) h)
+from_both m n x y z l (inr h) g = inr (new_more m n x l h)
+
+-- which slot one of `later` is
+abbrev pub IsLaterSlot : List ℕ → ℕ → ℕ → ℕ → Type 0
+IsLaterSlot now m x z = (x ≡ z) ⊎ (IsNew m x ⊎ ((c : ℕ) × (c < length now) × (x ≡ slice_index now c)))
+
+later_moved : (now : List ℕ) (m x y z : ℕ) → x ≡ y → IsLaterSlot now m y z → IsLaterSlot now m x z
+later_moved now m x y z e (inl f) = inl (e ∙ f)
+later_moved now m x y z e (inr (inl h)) = inr (inl (subst (IsNew m) (sym e) h))
+later_moved now m x y z e (inr (inr h)) = inr (inr (h.0, h.1, e ∙ h.2))
+
+now_moved : (now : List ℕ) (m x z c y : ℕ) → c < length now → x ≡ y → (y ≡ slice_index now c) ⊎ IsNew m y → IsLaterSlot now m x z
+now_moved now m x z c y l e (inl f) = inr (inr (c, l, e ∙ f))
+now_moved now m x z c y l e (inr h) = inr (inl (subst (IsNew m) (sym e) h))
+
+later_both : (now now1 : List ℕ) (m n x y z : ℕ) → m ≤ n → length now1 ≡ length now → ((b : ℕ) → b < length now → (slice_index now1 b ≡ slice_index now b) ⊎ IsNew m (slice_index now1 b))
+    → IsLaterSlot now1 n x y → IsLaterSlot now m y z → IsLaterSlot now m x z
+later_both now now1 m n x y z l long from (inl e) g = later_moved now m x y z e g
+later_both now now1 m n x y z l long from (inr (inl h)) g = inr (inl (new_more m n x l h))
+later_both now now1 m n x y z l long from (inr (inr h)) g =
+    let inside : h.0 < length now = omega (arith, h.1) in
+    now_moved now m x z h.0 (slice_index now1 h.0) inside h.2 (from h.0 inside)
+
+pub done_then : (now later : List ℕ) (m : ℕ) (run : N.State → N.Effect) (bits : List ℕ) (most : ℕ) (c : List Call) (now1 later1 : List ℕ) (n : ℕ)
+    → (next_run : N.State → N.Effect) (next_bits : List ℕ) (more : ℕ) (d : List Call) (now2 later2 : List ℕ) (p : ℕ)
+    → IsDone now later [] (λ state. []) m run bits most c now1 later1 n
+    → IsDone now1 later1 [] (λ state. []) n next_run next_bits more d now2 later2 p
+    → IsDone now later [] (λ state. []) m (λ state. let done = run state in both_effects done (next_run (N.write_all state done.writes))) (bits ++ next_bits) (most + more) (c ++ d) now2 later2 p
+done_then now later m run bits most c now1 later1 n next_run next_bits more d now2 later2 p a b = record {
+  added = added_more m c n most d p more a.added b.added;
+  now_env = b.now_env;
+  later_env = b.later_env;
+  now_length = b.now_length ∙ a.now_length;
+  later_length = b.later_length ∙ a.later_length;
+  now_kept = λ bit h. let q = neither bits next_bits bit h in b.now_kept bit q.1 ∙ a.now_kept bit q.0;
+  later_kept = λ bit h. let q = neither bits next_bits bit h in b.later_kept bit q.1 ∙ a.later_kept bit q.0;
+  now_from = λ bit l. from_both m n (slice_index now2 bit) (slice_index now1 bit) (slice_index now bit) a.added.grown (b.now_from bit (omega (arith, a.now_length))) (a.now_from bit l);
+  later_from = λ bit l. later_both now now1 m n (slice_index later2 bit) (slice_index later1 bit) (slice_index later bit) a.added.grown a.now_length a.now_from (b.later_from bit (omega (arith, a.later_length))) (a.later_from bit l);
+  now_values = λ before after state ahead h k g called.
+      let parts = called_parts c d before after called in
+      let first = a.now_values before parts.0 state ahead h k refl parts.1 in
+      let first_later = a.later_values before parts.0 state ahead h k refl parts.1 in
+      subst (λ (s : N.State). Holds now2 after s) (sym (write_all-append (run state).writes (next_run (N.write_all state (run state).writes)).writes state))
+      (b.now_values parts.0 after (N.write_all state (run state).writes) (N.write_all ahead (N.flatten (run state).updates)) first first_later refl parts.2);
+  later_values = λ before after state ahead h k g called.
+      let parts = called_parts c d before after called in
+      let first = a.now_values before parts.0 state ahead h k refl parts.1 in
+      let first_later = a.later_values before parts.0 state ahead h k refl parts.1 in
+      let rest = (next_run (N.write_all state (run state).writes)).updates in
+      subst (λ (s : N.State). Holds later2 after s)
+      (sym (ap (N.write_all ahead) (flatten-append (run state).updates rest) ∙ write_all-append (N.flatten (run state).updates) (N.flatten rest) ahead))
+      (b.later_values parts.0 after (N.write_all state (run state).writes) (N.write_all ahead (N.flatten (run state).updates)) first first_later refl parts.2);
+}
+
+-- ---- two branches
+
+-- which of two runs is taken
+abbrev pub either_run : (N.State → BitList) → (N.State → N.Effect) → (N.State → N.Effect) → N.State → N.Effect
+either_run c taken other state = if is_one (truth (c state)) then taken state else other state
+
+pub by_bool : {A : Type 0} (P : A → Type 0) (b : Bool) (x y : A) → (b ≡ true → P x) → (b ≡ false → P y) → P (if b then x else y)
+by_bool P true x y f g = f refl
+by_bool P false x y f g = g refl
+
+-- the slots that these bits have
+abbrev pub picked : List ℕ → List ℕ → List ℕ
+picked env bits = map (slice_index env) bits
+
+pub picked_are : (env : List ℕ) (slots : State) (s : N.State) (bits : List ℕ) → All (λ b. b < length env) bits → Holds env slots s → map slots (picked env bits) ≡ map s bits
+picked_are env slots s [] i h = refl
+picked_are env slots s (b ∷ bits) i h =
+    ap (λ v. v ∷ map slots (picked env bits)) (h.bits b (All-head (λ b. b < length env) b bits i))
+    ∙ ap (λ vs. s b ∷ vs) (picked_are env slots s bits (All-tail (λ b. b < length env) b bits i) h)
+
+one_list : (x y : BitList) → (x ∷ []) ≡ (y ∷ []) → x ≡ y
+one_list x y h = cc
+
+-- what a lane's slots hold after the condition and both branches, before the join
+pub record IsBranched (now later : List ℕ) (cond : N.State → BitList) (tc : List ℕ) (taken : N.State → N.Effect) (now1 later1 : List ℕ) (other : N.State → N.Effect) (now2 later2 : List ℕ) (last : State) (state ahead : N.State) : Type 0 where
+  pub cond_is : map last tc ≡ cond state
+  pub now_t : Holds now1 last (N.write_all state (taken state).writes)
+  pub now_o : Holds now2 last (N.write_all state (other state).writes)
+  pub later_t : Holds later1 last (N.write_all ahead (N.flatten (taken state).updates))
+  pub later_o : Holds later2 last (N.write_all ahead (N.flatten (other state).updates))
+  pub now_at : Holds now last state
+  pub later_at : Holds later last ahead
+
+branched : (now later tv : List ℕ) (sv : N.State → BitList) (m : ℕ) (cond : N.State → BitList) (cc : List Call) (tc : List ℕ) (n cost : ℕ)
+    → (taken : N.State → N.Effect) (bits : List ℕ) (most : ℕ) (ct : List Call) (now1 later1 : List ℕ) (n1 : ℕ)
+    → (other : N.State → N.Effect) (others : List ℕ) (more : ℕ) (co : List Call) (now2 later2 : List ℕ) (n2 : ℕ)
+    → IsEnv now m → IsEnv later m
+    → All (λ slot. slot < m) tv
+    → IsCondition now tv sv m cc tc n cost cond
+    → IsDone now later [] (λ state. []) n taken bits most ct now1 later1 n1
+    → IsDone now later tv sv n1 other others more co now2 later2 n2
+    → (before last : State) (state ahead : N.State) → Holds now before state → Holds later before ahead → map before tv ≡ sv state → AreCalled ((cc ++ ct) ++ co) before last
+    → IsBranched now later cond tc taken now1 later1 other now2 later2 last state ahead
+branched now later tv sv m cond cc tc n cost taken bits most ct now1 later1 n1 other others more co now2 later2 n2 e f low c t o before last state ahead h k g called =
+    let parts = called_parts (cc ++ ct) co before last called in
+    let firsts = called_parts cc ct before parts.0 parts.1 in
+    let s0 = firsts.0 in
+    let s1 = parts.0 in
+    let tc_below = c.below in
+    let h0 = holds_after now cc m before s0 state e c.added.fresh firsts.1 h in
+    let k0 = holds_after later cc m before s0 ahead f c.added.fresh firsts.1 k in
+    let e0 = env_more now m n c.added.grown e in
+    let f0 = env_more later m n c.added.grown f in
+    let low0 : All (λ slot. slot < n) tv = All-weaker (λ slot. slot < m) (λ slot. slot < n) (λ slot l. omega (arith, c.added.grown)) tv low in
+    let g1 : map s1 tv ≡ sv state = vector_stays ct n s0 s1 tv t.added.fresh firsts.2 low0 ∙ vector_stays cc m before s0 tv c.added.fresh firsts.1 low ∙ g in
+    let h1 = holds_after now ct n s0 s1 state e0 t.added.fresh firsts.2 h0 in
+    let k1 = holds_after later ct n s0 s1 ahead f0 t.added.fresh firsts.2 k0 in
+    let e1 = env_more now n n1 t.added.grown e0 in
+    let f1 = env_more later n n1 t.added.grown f0 in
+    record {
+      cond_is = vector_stays co n1 s1 last tc o.added.fresh parts.2 (All-weaker (λ slot. slot < n) (λ slot. slot < n1) (λ slot l. omega (arith, t.added.grown)) tc tc_below)
+          ∙ vector_stays ct n s0 s1 tc t.added.fresh firsts.2 tc_below
+          ∙ c.values before s0 state h g firsts.1;
+      now_t = holds_after now1 co n1 s1 last (N.write_all state (taken state).writes) t.now_env o.added.fresh parts.2 (t.now_values s0 s1 state ahead h0 k0 refl firsts.2);
+      later_t = holds_after later1 co n1 s1 last (N.write_all ahead (N.flatten (taken state).updates)) t.later_env o.added.fresh parts.2 (t.later_values s0 s1 state ahead h0 k0 refl firsts.2);
+      now_o = o.now_values s1 last state ahead h1 k1 g1 parts.2;
+      later_o = o.later_values s1 last state ahead h1 k1 g1 parts.2;
+      now_at = holds_after now co n1 s1 last state e1 o.added.fresh parts.2 h1;
+      later_at = holds_after later co n1 s1 last ahead f1 o.added.fresh parts.2 k1;
+    }
+
+-- a bit that keeps its slot keeps its value
+same_value : (env env1 : List ℕ) (slots : State) (s t : N.State) (b : ℕ) → b < length env → length env1 ≡ length env → slice_index env1 b ≡ slice_index env b → Holds env slots s → Holds env1 slots t → s b ≡ t b
+same_value env env1 slots s t b l long kept h k = sym (h.bits b l) ∙ ap slots (sym kept) ∙ k.bits b (omega arith)
+
+-- The join of one of both. After the second branch the bits are in `env2`. The bits `js`, among which are all that differ in both, get the
+-- values that they have after the branch that is taken
+pub join_values : (env1 env2 tc : List ℕ) (js : List ℕ) (to : List ℕ) (last after : State) (c : BitList) (t1 t2 : N.State)
+    → All (λ b. b < length env2) js → length env1 ≡ length env2
+    → ((b : ℕ) → b < length env2 → contains js b ≡ false → slice_index env1 b ≡ slice_index env2 b)
+    → Holds env1 last t1 → Holds env2 last t2
+    → map last tc ≡ c
+    → map after to ≡ (if is_one (truth (map last tc)) then map last (picked env1 js) else map last (picked env2 js))
+    → Holds env2 after t2
+    → Holds (placed env2 (map Some js) to) after (if is_one (truth c) then t1 else t2)
+join_values env1 env2 tc js to last after c t1 t2 inside long same h1 h2 cond value holds =
+    let target : N.State = if is_one (truth c) then t1 else t2 in
+    let inside1 : All (λ b. b < length env1) js = All-weaker (λ b. b < length env2) (λ b. b < length env1) (λ b l. omega arith) js inside in
+    let is : map after to ≡ map target js =
+    value
+    ∙ ap (λ (x : BitList). if is_one (truth x) then map last (picked env1 js) else map last (picked env2 js)) cond
+    ∙ by_bool (λ (x : BitList). x ≡ map target js) (is_one (truth c)) (map last (picked env1 js)) (map last (picked env2 js))
+    (λ q. picked_are env1 last t1 js inside1 h1 ∙ ap (λ (y : Bool). map (if y then t1 else t2) js) (sym q))
+    (λ q. picked_are env2 last t2 js inside h2 ∙ ap (λ (y : Bool). map (if y then t1 else t2) js) (sym q)) in
+    let placed_is = placed_holds env2 after t2 (map Some js) to holds in
+    record {
+      constants = holds.constants;
+      bits = λ b l.
+          let inside_b : b < length env2 = omega (arith, placed_length env2 (map Some js) to) in
+          placed_is.bits b l ∙ ap (λ (x : BitList). N.write_all t2 (pair_up (map Some js) x) b) is
+          ∙ written_as js t2 target b (λ out.
+          by_bool (λ (x : N.State). t2 b ≡ x b) (is_one (truth c)) t1 t2
+          (λ q. sym (h2.bits b inside_b) ∙ ap last (sym (same b inside_b out)) ∙ h1.bits b (omega arith))
+          (λ q. refl));
+    }
+
+-- the call that joins
+abbrev pub join_call : List ℕ → List ℕ → List ℕ → List ℕ → ℕ → Call
+join_call tc env1 env2 js n = fresh_call (Select S.Branch) (tc ∷ picked env1 js ∷ picked env2 js ∷ []) n (length js)
+
+pub taken_writes : (b : Bool) (x y : N.Effect) (s : N.State) → N.write_all s (if b then x else y).writes ≡ (if b then N.write_all s x.writes else N.write_all s y.writes)
+taken_writes true x y s = refl
+taken_writes false x y s = refl
+
+pub taken_updates : (b : Bool) (x y : N.Effect) (s : N.State) → N.write_all s (N.flatten (if b then x else y).updates) ≡ (if b then N.write_all s (N.flatten x.updates) else N.write_all s (N.flatten y.updates))
+taken_updates true x y s = refl
+taken_updates false x y s = refl
+
+pub joined_value : (tc env1 env2 js : List ℕ) (n : ℕ) (last after : State) → IsCalled (join_call tc env1 env2 js n) last after
+    → map after (range_with_len n (length js)) ≡ (if is_one (truth (map last tc)) then map last (picked env1 js) else map last (picked env2 js))
+joined_value tc env1 env2 js n last after h = h.value
+
+pub picked_below : (env : List ℕ) (m : ℕ) (js : List ℕ) → All (λ b. b < length env) js → All (λ slot. slot < m) env → All (λ slot. slot < m) (picked env js)
+picked_below env m js i h = All-map (λ slot. slot < m) (slice_index env) js (All-weaker (λ b. b < length env) (λ b. slice_index env b < m) (λ b l. h b 0 l) js i)
+
+-- what the branches of an `if` share: the bits `js` are among those that either branch writes, and among them are all that have different
+-- slots after both
+pub record IsJoin (env1 env2 bits others js : List ℕ) (call : Call) (extra : ℕ) : Type 0 where
+  pub inside : All (λ b. b < length env2) js
+  pub same : (b : ℕ) → b < length env2 → contains js b ≡ false → slice_index env1 b ≡ slice_index env2 b
+  pub within : (b : ℕ) → contains (bits ++ others) b ≡ false → contains js b ≡ false
+  pub is : IsCall call
+  pub paid : length js ≤ call_cost call
+  pub stores : call_cost call ≤ extra
+
+pub join_added : (tc env1 env2 js : List ℕ) (n extra : ℕ) → IsCall (join_call tc env1 env2 js n) → length js ≤ call_cost (join_call tc env1 env2 js n) → call_cost (join_call tc env1 env2 js n) ≤ extra
+    → All (λ slot. slot < n) tc → All (λ slot. slot < n) (picked env1 js) → All (λ slot. slot < n) (picked env2 js)
+    → AreAdded n (join_call tc env1 env2 js n ∷ []) (n + length js) extra
+join_added tc env1 env2 js n extra is paid stores a b c =
+    let P : List ℕ → Type 0 = λ to. All (λ slot. slot < n) to in
+    added_call (Select S.Branch) (tc ∷ picked env1 js ∷ picked env2 js ∷ []) n (length js) extra is
+    (All-cons P tc (picked env1 js ∷ picked env2 js ∷ []) a (All-cons P (picked env1 js) (picked env2 js ∷ []) b (All-cons P (picked env2 js) [] c (All-nil P))))
+    (omega arith) stores
+
+pub join_from : (env js to : List ℕ) (m b n2 : ℕ) → m ≤ n2 → All (λ slot. n2 ≤ slot) to → (slice_index (placed env (map Some js) to) b ≡ slice_index env b) ⊎ Contains to (slice_index (placed env (map Some js) to) b)
+    → (slice_index (placed env (map Some js) to) b ≡ slice_index env b) ⊎ IsNew m (slice_index (placed env (map Some js) to) b)
+join_from env js to m b n2 l h (inl e) = inl e
+join_from env js to m b n2 l h (inr c) = let q : n2 ≤ slice_index (placed env (map Some js) to) b = All-contains (λ slot. n2 ≤ slot) to (slice_index (placed env (map Some js) to) b) h c in inr (inr (omega arith))
+
+pub from_more : (m n x z : ℕ) → m ≤ n → (x ≡ z) ⊎ IsNew n x → (x ≡ z) ⊎ IsNew m x
+from_more m n x z l (inl e) = inl e
+from_more m n x z l (inr h) = inr (new_more m n x l h)
+
+pub later_more : (now : List ℕ) (m n x z : ℕ) → m ≤ n → IsLaterSlot now n x z → IsLaterSlot now m x z
+later_more now m n x z l (inl e) = inl e
+later_more now m n x z l (inr (inl h)) = inr (inl (new_more m n x l h))
+later_more now m n x z l (inr (inr h)) = inr (inr h)
+
+pub joined_later : (now : List ℕ) (m n x y z : ℕ) → m ≤ n → (x ≡ y) ⊎ IsNew n x → IsLaterSlot now n y z → IsLaterSlot now m x z
+joined_later now m n x y z l (inl e) g = later_moved now m x y z e (later_more now m n y z l g)
+joined_later now m n x y z l (inr h) g = inr (inl (new_more m n x l h))
+
+-- blocking assignments in both branches: the bits' slots are joined
+pub done_if_now : (now later tv : List ℕ) (sv : N.State → BitList) (m : ℕ) (cond : N.State → BitList) (cc : List Call) (tc : List ℕ) (n cost : ℕ)
+    → (taken : N.State → N.Effect) (bits : List ℕ) (most : ℕ) (ct : List Call) (now1 : List ℕ) (n1 : ℕ)
+    → (other : N.State → N.Effect) (others : List ℕ) (more : ℕ) (co : List Call) (now2 : List ℕ) (n2 : ℕ)
+    → (js : List ℕ) (extra : ℕ)
+    → IsEnv now m → IsEnv later m
+    → All (λ slot. slot < m) tv
+    → IsCondition now tv sv m cc tc n cost cond
+    → IsDone now later [] (λ state. []) n taken bits most ct now1 later n1
+    → IsDone now later tv sv n1 other others more co now2 later n2
+    → IsJoin now1 now2 bits others js (join_call tc now1 now2 js n2) extra
+    → IsDone now later tv sv m (either_run cond taken other) (bits ++ others) (cost + most + more + extra) (((cc ++ ct) ++ co) ++ join_call tc now1 now2 js n2 ∷ [])
+    (placed now2 (map Some js) (range_with_len n2 (length js))) later (n2 + length js)
+done_if_now now later tv sv m cond cc tc n cost taken bits most ct now1 n1 other others more co now2 n2 js extra e f low c t o j =
+    let call = join_call tc now1 now2 js n2 in
+    let to = range_with_len n2 (length js) in
+    let top = n2 + length js in
+    let up1 : m ≤ n1 = omega (arith, c.added.grown, t.added.grown) in
+    let grown : m ≤ n2 = omega (arith, c.added.grown, t.added.grown, o.added.grown) in
+    let tc_below : All (λ slot. slot < n2) tc = All-weaker (λ slot. slot < n) (λ slot. slot < n2) (λ slot l. omega (arith, t.added.grown, o.added.grown)) tc c.below in
+    let below1 : All (λ slot. slot < n2) now1 = All-weaker (λ slot. slot < n1) (λ slot. slot < n2) (λ slot l. omega (arith, o.added.grown)) now1 t.now_env.below in
+    let inside1 : All (λ b. b < length now1) js = All-weaker (λ b. b < length now2) (λ b. b < length now1) (λ b l. omega (arith, t.now_length, o.now_length)) js j.inside in
+    let inside2 = j.inside in
+    let one = join_added tc now1 now2 js n2 extra j.is j.paid j.stores tc_below (picked_below now1 n2 js inside1 below1) (picked_below now2 n2 js inside2 o.now_env.below) in
+    let e2 = env_more now m n2 grown e in
+    let f2 = env_more later m n2 grown f in
+    let way = λ (before last : State) (state ahead : N.State) (h : Holds now before state) (k : Holds later before ahead) (g : map before tv ≡ sv state) (called : AreCalled ((cc ++ ct) ++ co) before last).
+    branched now later tv sv m cond cc tc n cost taken bits most ct now1 later n1 other others more co now2 later n2 e f low c t o before last state ahead h k g called in
+    record {
+      added = added_more m ((cc ++ ct) ++ co) n2 (cost + most + more) (call ∷ []) top extra
+          (added_more m (cc ++ ct) n1 (cost + most) co n2 more (added_more m cc n cost ct n1 most c.added t.added) o.added) one;
+      now_env = record {
+        constants = omega (arith, e.constants, grown);
+        below = placed_all (λ slot. slot < top) now2 (map Some js) to (range_below n2 (length js) top (omega arith)) (All-weaker (λ slot. slot < n2) (λ slot. slot < top) (λ slot l. omega arith) now2 o.now_env.below);
+      };
+      later_env = env_more later m top (omega (arith, grown)) f;
+      now_length = placed_length now2 (map Some js) to ∙ o.now_length;
+      later_length = refl;
+      now_kept = λ b h. placed_other now2 js to b (j.within b h) ∙ o.now_kept b (neither bits others b h).1;
+      later_kept = λ b h. refl;
+      now_from = λ b l. from_both m n1 (slice_index (placed now2 (map Some js) to) b) (slice_index now2 b) (slice_index now b) up1 (join_from now2 js to n1 b n2 o.added.grown (range_from n2 (length js) n2 (omega arith)) (placed_from now2 (map Some js) to b (omega (arith, o.now_length)))) (from_more m n1 (slice_index now2 b) (slice_index now b) up1 (o.now_from b l));
+      later_from = λ b l. inl refl;
+      now_values = λ before after state ahead h k g called.
+          let parts = called_parts ((cc ++ ct) ++ co) (call ∷ []) before after called in
+          let w = way before parts.0 state ahead h k g parts.1 in
+          subst (λ (s : N.State). Holds (placed now2 (map Some js) to) after s) (sym (taken_writes (is_one (truth (cond state))) (taken state) (other state) state))
+          (join_values now1 now2 tc js to parts.0 after (cond state) (N.write_all state (taken state).writes) (N.write_all state (other state).writes)
+          j.inside (t.now_length ∙ sym o.now_length) j.same
+          w.now_t w.now_o w.cond_is
+          (joined_value tc now1 now2 js n2 parts.0 after (one_called call parts.0 after parts.2))
+          (holds_after now2 (call ∷ []) n2 parts.0 after (N.write_all state (other state).writes) o.now_env one.fresh parts.2 w.now_o));
+      later_values = λ before after state ahead h k g called.
+          let parts = called_parts ((cc ++ ct) ++ co) (call ∷ []) before after called in
+          let w = way before parts.0 state ahead h k g parts.1 in
+          subst (λ (s : N.State). Holds later after s) (sym (taken_updates (is_one (truth (cond state))) (taken state) (other state) ahead))
+          (by_bool (λ (s : N.State). Holds later after s) (is_one (truth (cond state))) (N.write_all ahead (N.flatten (taken state).updates)) (N.write_all ahead (N.flatten (other state).updates))
+          (λ q. holds_after later (call ∷ []) n2 parts.0 after (N.write_all ahead (N.flatten (taken state).updates)) f2 one.fresh parts.2 w.later_t)
+          (λ q. holds_after later (call ∷ []) n2 parts.0 after (N.write_all ahead (N.flatten (other state).updates)) f2 one.fresh parts.2 w.later_o));
+    }
+
+-- and nonblocking ones
+pub done_if_later : (now later tv : List ℕ) (sv : N.State → BitList) (m : ℕ) (cond : N.State → BitList) (cc : List Call) (tc : List ℕ) (n cost : ℕ)
+    → (taken : N.State → N.Effect) (bits : List ℕ) (most : ℕ) (ct : List Call) (later1 : List ℕ) (n1 : ℕ)
+    → (other : N.State → N.Effect) (others : List ℕ) (more : ℕ) (co : List Call) (later2 : List ℕ) (n2 : ℕ)
+    → (js : List ℕ) (extra : ℕ)
+    → IsEnv now m → IsEnv later m
+    → All (λ slot. slot < m) tv
+    → IsCondition now tv sv m cc tc n cost cond
+    → IsDone now later [] (λ state. []) n taken bits most ct now later1 n1
+    → IsDone now later tv sv n1 other others more co now later2 n2
+    → IsJoin later1 later2 bits others js (join_call tc later1 later2 js n2) extra
+    → IsDone now later tv sv m (either_run cond taken other) (bits ++ others) (cost + most + more + extra) (((cc ++ ct) ++ co) ++ join_call tc later1 later2 js n2 ∷ [])
+    now (placed later2 (map Some js) (range_with_len n2 (length js))) (n2 + length js)
+done_if_later now later tv sv m cond cc tc n cost taken bits most ct later1 n1 other others more co later2 n2 js extra e f low c t o j =
+    let call = join_call tc later1 later2 js n2 in
+    let to = range_with_len n2 (length js) in
+    let top = n2 + length js in
+    let up1 : m ≤ n1 = omega (arith, c.added.grown, t.added.grown) in
+    let grown : m ≤ n2 = omega (arith, c.added.grown, t.added.grown, o.added.grown) in
+    let tc_below : All (λ slot. slot < n2) tc = All-weaker (λ slot. slot < n) (λ slot. slot < n2) (λ slot l. omega (arith, t.added.grown, o.added.grown)) tc c.below in
+    let below1 : All (λ slot. slot < n2) later1 = All-weaker (λ slot. slot < n1) (λ slot. slot < n2) (λ slot l. omega (arith, o.added.grown)) later1 t.later_env.below in
+    let inside1 : All (λ b. b < length later1) js = All-weaker (λ b. b < length later2) (λ b. b < length later1) (λ b l. omega (arith, t.later_length, o.later_length)) js j.inside in
+    let inside2 = j.inside in
+    let one = join_added tc later1 later2 js n2 extra j.is j.paid j.stores tc_below (picked_below later1 n2 js inside1 below1) (picked_below later2 n2 js inside2 o.later_env.below) in
+    let e2 = env_more now m n2 grown e in
+    let f2 = env_more later m n2 grown f in
+    let way = λ (before last : State) (state ahead : N.State) (h : Holds now before state) (k : Holds later before ahead) (g : map before tv ≡ sv state) (called : AreCalled ((cc ++ ct) ++ co) before last).
+    branched now later tv sv m cond cc tc n cost taken bits most ct now later1 n1 other others more co now later2 n2 e f low c t o before last state ahead h k g called in
+    record {
+      added = added_more m ((cc ++ ct) ++ co) n2 (cost + most + more) (call ∷ []) top extra
+          (added_more m (cc ++ ct) n1 (cost + most) co n2 more (added_more m cc n cost ct n1 most c.added t.added) o.added) one;
+      now_env = env_more now m top (omega (arith, grown)) e;
+      later_env = record {
+        constants = omega (arith, f.constants, grown);
+        below = placed_all (λ slot. slot < top) later2 (map Some js) to (range_below n2 (length js) top (omega arith)) (All-weaker (λ slot. slot < n2) (λ slot. slot < top) (λ slot l. omega arith) later2 o.later_env.below);
+      };
+      now_length = refl;
+      later_length = placed_length later2 (map Some js) to ∙ o.later_length;
+      now_kept = λ b h. refl;
+      later_kept = λ b h. placed_other later2 js to b (j.within b h) ∙ o.later_kept b (neither bits others b h).1;
+      now_from = λ b l. inl refl;
+      later_from = λ b l. joined_later now m n1 (slice_index (placed later2 (map Some js) to) b) (slice_index later2 b) (slice_index later b) up1 (join_from later2 js to n1 b n2 o.added.grown (range_from n2 (length js) n2 (omega arith)) (placed_from later2 (map Some js) to b (omega (arith, o.later_length)))) (o.later_from b l);
+      later_values = λ before after state ahead h k g called.
+          let parts = called_parts ((cc ++ ct) ++ co) (call ∷ []) before after called in
+          let w = way before parts.0 state ahead h k g parts.1 in
+          subst (λ (s : N.State). Holds (placed later2 (map Some js) to) after s) (sym (taken_updates (is_one (truth (cond state))) (taken state) (other state) ahead))
+          (join_values later1 later2 tc js to parts.0 after (cond state) (N.write_all ahead (N.flatten (taken state).updates)) (N.write_all ahead (N.flatten (other state).updates))
+          j.inside (t.later_length ∙ sym o.later_length) j.same
+          w.later_t w.later_o w.cond_is
+          (joined_value tc later1 later2 js n2 parts.0 after (one_called call parts.0 after parts.2))
+          (holds_after later2 (call ∷ []) n2 parts.0 after (N.write_all ahead (N.flatten (other state).updates)) o.later_env one.fresh parts.2 w.later_o));
+      now_values = λ before after state ahead h k g called.
+          let parts = called_parts ((cc ++ ct) ++ co) (call ∷ []) before after called in
+          let w = way before parts.0 state ahead h k g parts.1 in
+          subst (λ (s : N.State). Holds now after s) (sym (taken_writes (is_one (truth (cond state))) (taken state) (other state) state))
+          (by_bool (λ (s : N.State). Holds now after s) (is_one (truth (cond state))) (N.write_all state (taken state).writes) (N.write_all state (other state).writes)
+          (λ q. holds_after now (call ∷ []) n2 parts.0 after (N.write_all state (taken state).writes) e2 one.fresh parts.2 w.now_t)
+          (λ q. holds_after now (call ∷ []) n2 parts.0 after (N.write_all state (other state).writes) e2 one.fresh parts.2 w.now_o));
+    }
+
+-- a value as a condition
+pub condition_is : (now : List ℕ) (m : ℕ) (c : List Call) (tc : List ℕ) (n most : ℕ) (v : N.State → BitList) → AreValues now m c (tc ∷ []) n most (λ state. v state ∷ []) → IsCondition now [] (λ state. []) m c tc n most v
+condition_is now m c tc n most v a = record {
+  added = a.added;
+  below = All-head (λ to. All (λ slot. slot < n) to) tc [] a.below;
+  values = λ before after state h g called. one_list (map after tc) (v state) (a.values before after state h called);
+}
+
+-- branches after which the bits have the same slots need no join
+pub done_if_same : (now later tv : List ℕ) (sv : N.State → BitList) (m : ℕ) (cond : N.State → BitList) (cc : List Call) (tc : List ℕ) (n cost : ℕ)
+    → (taken : N.State → N.Effect) (bits : List ℕ) (most : ℕ) (ct : List Call) (now1 later1 : List ℕ) (n1 : ℕ)
+    → (other : N.State → N.Effect) (others : List ℕ) (more : ℕ) (co : List Call) (n2 : ℕ)
+    → IsEnv now m → IsEnv later m
+    → All (λ slot. slot < m) tv
+    → IsCondition now tv sv m cc tc n cost cond
+    → IsDone now later [] (λ state. []) n taken bits most ct now1 later1 n1
+    → IsDone now later tv sv n1 other others more co now1 later1 n2
+    → IsDone now later tv sv m (either_run cond taken other) (bits ++ others) (cost + most + more) ((cc ++ ct) ++ co) now1 later1 n2
+done_if_same now later tv sv m cond cc tc n cost taken bits most ct now1 later1 n1 other others more co n2 e f low c t o =
+    let up1 : m ≤ n1 = omega (arith, c.added.grown, t.added.grown) in
+    let way = λ (before last : State) (state ahead : N.State) (h : Holds now before state) (k : Holds later before ahead) (g : map before tv ≡ sv state) (called : AreCalled ((cc ++ ct) ++ co) before last).
+    branched now later tv sv m cond cc tc n cost taken bits most ct now1 later1 n1 other others more co now1 later1 n2 e f low c t o before last state ahead h k g called in
+    record {
+      added = added_more m (cc ++ ct) n1 (cost + most) co n2 more (added_more m cc n cost ct n1 most c.added t.added) o.added;
+      now_env = o.now_env;
+      later_env = o.later_env;
+      now_length = o.now_length;
+      later_length = o.later_length;
+      now_kept = λ b h. o.now_kept b (neither bits others b h).1;
+      later_kept = λ b h. o.later_kept b (neither bits others b h).1;
+      now_from = λ b l. from_more m n1 (slice_index now1 b) (slice_index now b) up1 (o.now_from b l);
+      later_from = λ b l. later_more now m n1 (slice_index later1 b) (slice_index later b) up1 (o.later_from b l);
+      now_values = λ before after state ahead h k g called.
+          let w = way before after state ahead h k g called in
+          subst (λ (s : N.State). Holds now1 after s) (sym (taken_writes (is_one (truth (cond state))) (taken state) (other state) state))
+          (by_bool (λ (s : N.State). Holds now1 after s) (is_one (truth (cond state))) (N.write_all state (taken state).writes) (N.write_all state (other state).writes) (λ q. w.now_t) (λ q. w.now_o));
+      later_values = λ before after state ahead h k g called.
+          let w = way before after state ahead h k g called in
+          subst (λ (s : N.State). Holds later1 after s) (sym (taken_updates (is_one (truth (cond state))) (taken state) (other state) ahead))
+          (by_bool (λ (s : N.State). Holds later1 after s) (is_one (truth (cond state))) (N.write_all ahead (N.flatten (taken state).updates)) (N.write_all ahead (N.flatten (other state).updates)) (λ q. w.later_t) (λ q. w.later_o));
+    }

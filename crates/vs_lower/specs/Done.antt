@@ -1,0 +1,78 @@
+-- What the lowering of a statement gives: which slots hold the bits' values afterwards.
+use Rattle.std.specs.Prelude.{◌≡◌, ◌⊎◌, ℕ, ◌<◌, ◌≤◌, false, List, [], ◌∷◌, map, ◌++◌, length, set, slice_index, All, Contains, Option, Some, None}
+use Rattle.vs_net.specs.Network as N
+use Rattle.vs_code.specs.Calls.{Call, State, AreCalled}
+use Rattle.vs_four.specs.Logic.{BitList}
+use Rattle.vs_design.specs.Values.{own_value}
+use Rattle.vs_design.specs.Statements.{Target, Whole, PartOf, Both, Statement}
+use Rattle.vs_design.specs.Bodies.{target_writes, body}
+use Rattle.vs_design.specs.Footprints.{contains, target_bits, statement_bits}
+use Rattle.vs_design.specs.Sizes.{statement_weight}
+use Rattle.vs_lower.specs.Added.{AreAdded, IsEnv, Holds, vectors}
+
+-- the slots of the bits after a write: these bits have these slots, one after the other; what is no bit is left out
+abbrev pub placed : List ℕ → List (Option ℕ) → List ℕ → List ℕ
+placed env [] to = env
+placed env (p ∷ ps) [] = env
+placed env (None ∷ ps) (t ∷ ts) = placed env ps ts
+placed env (Some b ∷ ps) (t ∷ ts) = placed (set env b t) ps ts
+
+-- the slots of the bits after one of them, if it is one, got another
+abbrev pub put_at : List ℕ → Option ℕ → ℕ → List ℕ
+put_at env None slot = env
+put_at env (Some b) slot = set env b slot
+
+-- a constant's slot, or one that was new before the calls
+abbrev pub IsNew : ℕ → ℕ → Type 0
+IsNew mark slot = (slot < 4) ⊎ (mark ≤ slot)
+
+-- What calls do whose run gives these effects. `now` says which slots hold the bits' values, and `later` which hold the values that the bits have
+-- once the updates so far are made (9.2.2); a run writes to the first by its blocking writes and to the second by its updates. Bits that are none
+-- of `bits` keep their slots in both. `tv` are slots that hold this value before the calls: the subject's of a case within whose arms they are, and none elsewhere.
+pub record IsDone (now later tv : List ℕ) (sv : N.State → BitList) (mark : ℕ) (run : N.State → N.Effect) (bits : List ℕ) (most : ℕ) (calls : List Call) (now_after later_after : List ℕ) (next : ℕ) : Type 0 where
+  pub added : AreAdded mark calls next most
+  pub now_env : IsEnv now_after next
+  pub later_env : IsEnv later_after next
+  pub now_length : length now_after ≡ length now
+  pub later_length : length later_after ≡ length later
+  pub now_kept : (b : ℕ) → contains bits b ≡ false → slice_index now_after b ≡ slice_index now b
+  pub later_kept : (b : ℕ) → contains bits b ≡ false → slice_index later_after b ≡ slice_index later b
+  -- what is new in `now` is a constant's slot or a new one, and in `later` also one of `now`
+  pub now_from : (b : ℕ) → b < length now → (slice_index now_after b ≡ slice_index now b) ⊎ IsNew mark (slice_index now_after b)
+  pub later_from : (b : ℕ) → b < length later → (slice_index later_after b ≡ slice_index later b) ⊎ (IsNew mark (slice_index later_after b) ⊎ ((c : ℕ) × (c < length now) × (slice_index later_after b ≡ slice_index now c)))
+  pub now_values : (before after : State) (state ahead : N.State) → Holds now before state → Holds later before ahead → map before tv ≡ sv state → AreCalled calls before after
+      → Holds now_after after (N.write_all state (run state).writes)
+  pub later_values : (before after : State) (state ahead : N.State) → Holds now before state → Holds later before ahead → map before tv ≡ sv state → AreCalled calls before after
+      → Holds later_after after (N.write_all ahead (N.flatten (run state).updates))
+
+-- the slots `tc` have this value of whatever state the slots held before the calls, and of what `tv` has
+pub record IsCondition (now tv : List ℕ) (sv : N.State → BitList) (mark : ℕ) (calls : List Call) (tc : List ℕ) (next most : ℕ) (cond : N.State → BitList) : Type 0 where
+  pub added : AreAdded mark calls next most
+  pub below : All (λ slot. slot < next) tc
+  pub values : (before after : State) (state : N.State) → Holds now before state → map before tv ≡ sv state → AreCalled calls before after → map after tc ≡ cond state
+
+-- a statement lowered
+abbrev pub IsStatementDone : (now later : List ℕ) (mark : ℕ) (st : Statement) (calls : List Call) (now_after later_after : List ℕ) (next : ℕ) → Type 0
+IsStatementDone now later mark st calls now_after later_after next = IsDone now later [] (λ state. []) mark (body st) (statement_bits st) (statement_weight st) calls now_after later_after next
+
+-- what is added to a program for a statement
+pub record AddsStatement (now later : List ℕ) (old : List Call) (mark : ℕ) (new : List Call) (next : ℕ) (st : Statement) (now_after later_after : List ℕ) : Type 0 where
+  pub calls : List Call
+  pub is : new ≡ old ++ calls
+  pub done : IsStatementDone now later mark st calls now_after later_after next
+
+-- the values of the indices of a target's parts, in the order of the text; a whole signal has an empty one
+abbrev pub index_values : Target → N.State → List BitList
+index_values (Whole signal) state = [] ∷ []
+index_values (PartOf signal part index) state = own_value index state ∷ []
+index_values (Both high low) state = index_values high state ++ index_values low state
+
+-- What calls do that write a value, in the slots `tv`, to a target whose indices are in the slots `tis`
+pub record IsWritten (env : List ℕ) (mark : ℕ) (target : Target) (tis : List (List ℕ)) (tv : List ℕ) (most : ℕ) (calls : List Call) (env_after : List ℕ) (next : ℕ) : Type 0 where
+  pub added : AreAdded mark calls next most
+  pub is_env : IsEnv env_after next
+  pub same_length : length env_after ≡ length env
+  pub kept : (b : ℕ) → contains (target_bits target) b ≡ false → slice_index env_after b ≡ slice_index env b
+  pub from : (b : ℕ) → b < length env → (slice_index env_after b ≡ slice_index env b) ⊎ (Contains tv (slice_index env_after b) ⊎ (mark ≤ slice_index env_after b))
+  pub values : (before after : State) (state base : N.State) → Holds env before base → vectors before tis ≡ index_values target state → AreCalled calls before after
+      → Holds env_after after (N.write_all base (target_writes target (map before tv) state))

@@ -1,0 +1,29 @@
+-- What the lowering of a process needs and gives.
+use Rattle.std.specs.Prelude.{◌≡◌, ℕ, ◌+◌, ◌<◌, ◌≤◌, ◌^◌, true, false, List, ◌++◌}
+use Rattle.vs_design.specs.Designs.{Process}
+use Rattle.vs_design.specs.Elaborated.{has_constant_selects}
+use Rattle.vs_design.specs.Expressions.{Expression}
+use Rattle.vs_design.specs.Fits.{fits_target, is_fit}
+use Rattle.vs_design.specs.Footprints.{contains, read_bits, target_bits}
+use Rattle.vs_design.specs.Sizes.{assignment_weight}
+use Rattle.vs_design.specs.Statements.{Target}
+use Rattle.vs_program.specs.Lowered.{Layout, IsLoweredProcess, home}
+use Rattle.vs_code.specs.Calls.{Call, length_of}
+use Rattle.vs_lower.specs.Coded.{Coding}
+
+-- these calls, and no others, are added for the process
+pub record AddsProcess (l : Layout) (p : Process) (old new : List Call) : Type 0 where
+  pub calls : List Call
+  pub is : new ≡ old ++ calls
+  pub lowered : IsLoweredProcess l p calls
+
+-- What the lowering of an assign needs, in a design of as many bits: what it writes are bits of the design and none that it reads, by constant selects alone, all of it fits, and there is room
+pub record IsContinuousReady (bits : ℕ) (code : Coding) (target : Target) (e : Expression) : Type 0 where
+  pub temps : home bits ≤ code.next
+  pub inside : (b : ℕ) → contains (target_bits target) b ≡ true → b < bits
+  pub apart : (b : ℕ) → contains (target_bits target) b ≡ true → contains (read_bits e) b ≡ false
+  pub fixed : has_constant_selects target ≡ true
+  pub target_fits : fits_target target ≡ true
+  pub fit : is_fit e ≡ true
+  pub slots : code.next + assignment_weight target e < 2 ^ 32
+  pub few : length_of code.calls + assignment_weight target e ≤ 2 ^ 32

@@ -1,0 +1,131 @@
+//! The join of the branches of an `if`.
+
+ghost use Rattle.std.specs.Prelude.{◌≡◌, ◌<◌, ◌^◌, [], ◌∷◌, map, length, slice_index, All, IfOk, OnOk, Some};
+ghost use Rattle.std.specs.List.{range_with_len};
+ghost use Rattle.vs_kern_select.specs.declared.costs.Kernel.TheVariants as S;
+ghost use Rattle.vs_code.specs.declared.kernels.AnyKernel.TheVariants as K;
+ghost use Rattle.vs_lower.specs.Branched.{unwritten, written};
+ghost use Rattle.vs_lower.specs.Coded.{with_call};
+ghost use Rattle.vs_lower.specs.Done.{placed};
+ghost use Rattle.vs_lower.specs.Made.{IsCallable};
+ghost use Rattle.vs_lower.specs.Joined.{IsJoined, differing_bits, differing_slots, join_args};
+
+use crate::applied::triple;
+use crate::code::Code;
+use crate::environment::{Environment, Environments, picked, place};
+use std::alloc::{AllocError, Global};
+use vs_code::AnyKernel;
+
+/// Those of these bits whose slots differ in both.
+pub(crate) fn differing(
+    alloc: Global,
+    bits: &[u32],
+    first: &[u32],
+    env: &Environment,
+) -> Result<Vec<u32>, AllocError>
+    requires inside { All (λ b. b < length env.now) bits.now }
+    requires alike { length bits.now ≡ length first.now }
+    ensures { IfOk result (λ those. those.items ≡ differing_bits bits.now first.now env.now) }
+{
+    let mut those = Vec::new(alloc);
+    for n in 0..bits.len() {
+        if first[n] != env.slot(bits[n]) {
+            those.push(bits[n])?;
+        }
+    }
+    Ok(those)
+}
+
+/// And their slots in the first.
+fn differing_first(
+    alloc: Global,
+    bits: &[u32],
+    first: &[u32],
+    env: &Environment,
+) -> Result<Vec<u32>, AllocError>
+    requires inside { All (λ b. b < length env.now) bits.now }
+    requires alike { length bits.now ≡ length first.now }
+    ensures { IfOk result (λ those. those.items ≡ differing_slots bits.now first.now env.now) }
+{
+    let mut those = Vec::new(alloc);
+    for n in 0..bits.len() {
+        if first[n] != env.slot(bits[n]) {
+            those.push(first[n])?;
+        }
+    }
+    Ok(those)
+}
+
+/// Calls the join of these bits, which are some.
+fn joined(
+    alloc: Global,
+    condition: Vec<u32>,
+    taken: Vec<u32>,
+    bits: &[u32],
+    env: &mut Environment,
+    code: &mut Code,
+) -> Result<(), AllocError>
+    requires inside { All (λ b. b < length env.old) bits.now }
+    requires few { length bits.now < 2 ^ 32 }
+    requires call { IsCallable code.old (K.Select S.Branch) (condition.items ∷ taken.items ∷ map (slice_index env.old) bits.now ∷ []) (length bits.now) }
+    ensures code { OnOk result (code.new ≡ with_call code.old (K.Select S.Branch) (condition.items ∷ taken.items ∷ map (slice_index env.old) bits.now ∷ []) (length bits.now)) }
+    ensures env { OnOk result (env.new ≡ placed env.old (map Some bits.now) (range_with_len code.old.next (length bits.now))) }
+{
+    let other = picked(alloc, env, bits)?;
+    let args = triple(alloc, condition, taken, other)?;
+    let to = code.call(
+        alloc,
+        AnyKernel::Select(vs_kern_select::Kernel::Branch),
+        args,
+        bits.len() as u32,
+    )?;
+    place(env, bits, to.as_slice())
+}
+
+/// After both branches of an `if`: these bits have the slots `first` after its first branch, and those of the environment after its other
+/// one. Those that differ get new slots.
+pub(crate) fn join(
+    alloc: Global,
+    condition: Vec<u32>,
+    bits: &[u32],
+    first: &[u32],
+    env: &mut Environment,
+    code: &mut Code,
+) -> Result<(), AllocError>
+    requires inside { All (λ b. b < length env.old) bits.now }
+    requires alike { length bits.now ≡ length first.now }
+    requires few { length bits.now < 2 ^ 32 }
+    requires call { (differing_bits bits.now first.now env.old ≡ [] → ⊥) → IsCallable code.old (K.Select S.Branch) (join_args condition.items bits.now first.now env.old) (length (differing_bits bits.now first.now env.old)) }
+    ensures { OnOk result (IsJoined condition.items bits.now first.now env.old env.new code.old code.new) }
+{
+    let those = differing(alloc, bits, first, env)?;
+    if those.is_empty() {
+        return Ok(());
+    }
+    let taken = differing_first(alloc, bits, first, env)?;
+    joined(alloc, condition, taken, those.as_slice(), env, code)
+}
+
+/// The join of these bits in the environment that a block's assignments change.
+pub(crate) fn join_written(
+    alloc: Global,
+    condition: Vec<u32>,
+    bits: &[u32],
+    first: &[u32],
+    clocked: bool,
+    env: &mut Environments,
+    code: &mut Code,
+) -> Result<(), AllocError>
+    requires inside { All (λ b. b < length (written clocked env.old.values env.old.ahead)) bits.now }
+    requires alike { length bits.now ≡ length first.now }
+    requires few { length bits.now < 2 ^ 32 }
+    requires call { (differing_bits bits.now first.now (written clocked env.old.values env.old.ahead) ≡ [] → ⊥) → IsCallable code.old (K.Select S.Branch) (join_args condition.items bits.now first.now (written clocked env.old.values env.old.ahead)) (length (differing_bits bits.now first.now (written clocked env.old.values env.old.ahead))) }
+    ensures joined { OnOk result (IsJoined condition.items bits.now first.now (written clocked env.old.values env.old.ahead) (written clocked env.new.values env.new.ahead) code.old code.new) }
+    ensures other { OnOk result (unwritten clocked env.new.values env.new.ahead ≡ unwritten clocked env.old.values env.old.ahead) }
+{
+    if clocked {
+        join(alloc, condition, bits, first, &mut env.ahead, code)
+    } else {
+        join(alloc, condition, bits, first, &mut env.values, code)
+    }
+}

@@ -1,0 +1,74 @@
+//! The tests of a case's arms.
+
+ghost use Rattle.std.specs.Prelude.{◌≡◌, ◌<◌, [], ◌∷◌, map, length, All, IfOk, OnOk};
+ghost use Rattle.std.specs.List.{range_with_len};
+ghost use Rattle.vs_flat.specs.Arena.{bit_count};
+ghost use Rattle.vs_flat.specs.DesignOf.{arena_trees};
+ghost use Rattle.vs_flat.specs.Operators.{case_of};
+ghost use Rattle.vs_flat.specs.Trees.{tree_at};
+ghost use Rattle.vs_lower.specs.Choices.{match_kernel};
+ghost use Rattle.vs_lower.specs.Coded.{with_call};
+ghost use Rattle.vs_lower.specs.Made.{IsCallable};
+ghost use Rattle.vs_lower.specs.Tested.{AddsTests, AreTestsReady};
+
+use crate::code::Code;
+use crate::environment::Environment;
+use crate::expressions::{Context, lower, pair};
+use crate::joins::appended;
+use std::alloc::{AllocError, Global};
+use vs_code::AnyKernel;
+use vs_flat::CaseKind;
+use vs_width::Typed;
+
+/// The kernel by which a case compares (IEEE 1364-2005, 9.5).
+fn match_kernel(kind: CaseKind) -> AnyKernel
+    ensures { result ≡ match_kernel (case_of kind) }
+{
+    match kind {
+        CaseKind::Exact => AnyKernel::Logic(vs_kern_logic::Kernel::CaseEqual),
+        CaseKind::CaseZ => AnyKernel::Logic(vs_kern_logic::Kernel::MatchesZ),
+        CaseKind::CaseX => AnyKernel::Logic(vs_kern_logic::Kernel::MatchesX),
+    }
+}
+
+/// Calls the match of a case's expression and an item, and answers the new slot.
+fn matched(
+    alloc: Global,
+    kind: CaseKind,
+    subject: Vec<u32>,
+    item: Vec<u32>,
+    code: &mut Code,
+) -> Result<Vec<u32>, AllocError>
+    requires call { IsCallable code.old (match_kernel (case_of kind)) (subject.items ∷ item.items ∷ []) 1 }
+    ensures to { IfOk result (λ to. to.items ≡ range_with_len code.old.next 1) }
+    ensures ok { OnOk result (code.new ≡ with_call code.old (match_kernel (case_of kind)) (subject.items ∷ item.items ∷ []) 1) }
+{
+    let args = pair(alloc, subject, item)?;
+    let kernel = match_kernel(kind);
+    code.call(alloc, kernel, args, 1)
+}
+
+/// Adds the calls of the tests of an arm's items, and answers the slots of the matches, a bit for each item. The expression is in the slots `subject`, in the context that it shares with all items.
+pub(crate) fn tests(
+    alloc: Global,
+    typed: &Typed,
+    kind: CaseKind,
+    subject: &[u32],
+    items: &[u32],
+    context: Context,
+    env: &Environment,
+    code: &mut Code,
+) -> Result<Vec<u32>, AllocError>
+    requires items { All (λ e. e < length typed.now.nodes) items.now }
+    requires ready { AreTestsReady (bit_count typed.now.signals) env.now subject.now code.old (map (tree_at (arena_trees typed.now)) items.now) context.width }
+    ensures { IfOk result (λ ms. AddsTests env.now subject.now code.old code.new (case_of kind) context.width context.signed (map (tree_at (arena_trees typed.now)) items.now) ms.items) }
+{
+    let mut matches = Vec::new(alloc);
+    for n in 0..items.len() {
+        let item = lower(alloc, typed, env, items[n], context, code)?;
+        let copy = Vec::from_slice(alloc, subject)?;
+        let to = matched(alloc, kind, copy, item, code)?;
+        matches = appended(matches, to)?;
+    }
+    Ok(matches)
+}

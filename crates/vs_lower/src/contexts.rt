@@ -1,0 +1,44 @@
+//! The context that a case's expression and items share.
+
+ghost use Rattle.std.specs.Prelude.{◌≡◌, ◌<◌, length, map, max, ◌&&◌, All, true};
+ghost use Rattle.vs_design.specs.Expressions as E;
+ghost use Rattle.vs_design.specs.Fits.{is_fit};
+ghost use Rattle.vs_design.specs.Statements.{all_signed, widest};
+ghost use Rattle.vs_flat.specs.DesignOf.{arena_trees};
+ghost use Rattle.vs_flat.specs.Trees.{tree_at};
+ghost use Rattle.vs_lower.specs.Cases.{arms_signed, arms_widest};
+
+use crate::expressions::{Context, shared};
+use crate::typed::own;
+use vs_flat::Arm;
+use vs_width::Typed;
+
+/// The context of an expression and these items (IEEE 1364-2005, 9.5).
+pub(crate) fn with_items(typed: &Typed, context: Context, items: &[u32]) -> Context
+    requires items { All (λ e. e < length typed.now.nodes) items.now }
+    requires fit { All (λ e. is_fit (tree_at (arena_trees typed.now) e) ≡ true) items.now }
+    ensures width { result.width ≡ widest context.width (map (tree_at (arena_trees typed.now)) items.now) }
+    ensures signed { result.signed ≡ all_signed context.signed (map (tree_at (arena_trees typed.now)) items.now) }
+{
+    let mut all = context;
+    for n in 0..items.len() {
+        all = shared(all, own(typed, items[n]));
+    }
+    all
+}
+
+/// The context that a case's expression and all its items share.
+pub(crate) fn case_context(typed: &Typed, of: u32, arms: &[Arm]) -> Context
+    requires of { of < length typed.now.nodes }
+    requires fit { is_fit (tree_at (arena_trees typed.now) of) ≡ true }
+    requires items { All (λ arm. All (λ e. e < length typed.now.nodes) arm.items) arms.now }
+    requires items_fit { All (λ arm. All (λ e. is_fit (tree_at (arena_trees typed.now) e) ≡ true) arm.items) arms.now }
+    ensures width { result.width ≡ arms_widest (tree_at (arena_trees typed.now)) arms.now (E.width (tree_at (arena_trees typed.now) of)) }
+    ensures signed { result.signed ≡ arms_signed (tree_at (arena_trees typed.now)) arms.now (E.sign (tree_at (arena_trees typed.now) of)) }
+{
+    let mut all = own(typed, of);
+    for n in 0..arms.len() {
+        all = with_items(typed, all, arms[n].items.as_slice());
+    }
+    all
+}

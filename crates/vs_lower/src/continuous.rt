@@ -1,0 +1,62 @@
+//! Assigns (IEEE 1364-2005, 6.1).
+
+ghost use Rattle.std.specs.Prelude.{◌≡◌, ◌<◌, length, IfOk, OnOk, IsSome, ℕ};
+ghost use Rattle.std.specs.List.Sorted.{IsStrictlyIncreasing};
+ghost use Rattle.vs_design.specs.Designs.{Continuous, Port};
+ghost use Rattle.vs_design.specs.Footprints.{contains, target_bits};
+ghost use Rattle.vs_flat.specs.Arena.{bit_count};
+ghost use Rattle.vs_flat.specs.DesignOf.{arena_trees};
+ghost use Rattle.vs_flat.specs.Targets.{target_of};
+ghost use Rattle.vs_flat.specs.Trees.{target_tree, tree_at};
+ghost use Rattle.vs_program.specs.Lowered.{Layout};
+ghost use Rattle.vs_length.specs.Walked.{IsTarget};
+ghost use Rattle.vs_lower.specs.Processed.{AddsProcess, IsContinuousReady};
+
+use crate::assigns::assign;
+use crate::code::Code;
+use crate::copies::copy_home;
+use crate::environment::{Environment, Environments};
+use std::alloc::{AllocError, Global};
+use vs_design::footprint_law;
+use vs_length::ascend;
+use vs_width::Typed;
+
+/// The bits that a target writes, in ascending order and each once.
+fn target_written(alloc: Global, typed: &Typed, target: u32) -> Result<Vec<u32>, AllocError>
+    requires there { target < length typed.now.nodes }
+    requires target { IsTarget (tree_at (arena_trees typed.now) target) }
+    ensures rising { IfOk result (λ v. IsStrictlyIncreasing v.items) }
+    ensures same { IfOk result (λ v. (b : ℕ) → contains v.items b ≡ contains (target_bits (target_tree (tree_at (arena_trees typed.now) target))) b) }
+{
+    let mut bits = Vec::new(alloc);
+    typed.shapes().push_target(target, &mut bits)?;
+    footprint_law();
+    ascend(&mut bits);
+    Ok(bits)
+}
+
+/// Adds the calls of an assign (IEEE 1364-2005, 6.1), in a design of `count` bits.
+pub(crate) fn continuous(
+    alloc: Global,
+    typed: &Typed,
+    target: u32,
+    e: u32,
+    count: u32,
+    code: &mut Code,
+) -> Result<(), AllocError>
+    requires count { count ≡ bit_count typed.now.signals }
+    requires target { target < length typed.now.nodes }
+    requires e { e < length typed.now.nodes }
+    requires is_target { IsSome (target_of (tree_at (arena_trees typed.now) target)) }
+    requires ready { IsContinuousReady (bit_count typed.now.signals) code.old (target_tree (tree_at (arena_trees typed.now) target)) (tree_at (arena_trees typed.now) e) }
+    ensures { OnOk result ((l : Layout) (place target_place : ℕ) (port : Port) → l.bits ≡ bit_count typed.now.signals → l.first_temp ≡ code.old.next → AddsProcess l (Continuous place port target_place (target_tree (tree_at (arena_trees typed.now) target)) (tree_at (arena_trees typed.now) e)) code.old.calls code.new.calls) }
+{
+    let mut env = Environments {
+        values: Environment::at_home(alloc, count),
+        ahead: Environment::at_home(alloc, count),
+    };
+    assign(alloc, typed, target, e, true, &mut env, code)?;
+    let bits = target_written(alloc, typed, target)?;
+    copy_home(alloc, &env.ahead, count, bits.as_slice(), code)?;
+    Ok(())
+}

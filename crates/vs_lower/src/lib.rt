@@ -1,0 +1,26 @@
+//! Lowering of processes to calls of kernels.
+#![tactic(auto)]
+
+mod applied;
+mod assigns;
+mod branches;
+mod cases;
+mod code;
+mod contexts;
+mod continuous;
+mod copies;
+mod environment;
+mod expressions;
+mod indices;
+mod joins;
+mod leaves;
+mod names;
+mod selects;
+mod shifts;
+mod slots;
+mod sources;
+mod statements;
+mod typed;
+mod writes;
+
+pub use code::Code;

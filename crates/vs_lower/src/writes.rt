@@ -1,0 +1,289 @@
+//! Writes to targets: which slots hold the bits' values afterwards.
+
+ghost use Rattle.std.specs.Prelude.{◌≡◌, ◌+◌, ◌<◌, ◌≤◌, ◌^◌, [], ◌∷◌, map, length, slice_index, sum_by, unsigned_abs, All, IfOk, OnOk, Some, true, option_map};
+ghost use Rattle.std.specs.List.{range_with_len};
+ghost use Rattle.vs_four.specs.Selects.{Part, below, indices_up, places, range_length};
+ghost use Rattle.vs_design.specs.Expressions.{sign, signal_length};
+ghost use Rattle.vs_design.specs.Bodies.{bits_at};
+ghost use Rattle.vs_design.specs.Fits.{fits_target};
+ghost use Rattle.vs_design.specs.Statements.{target_width};
+ghost use Rattle.vs_design.specs.Values.{bits_of_signal};
+ghost use Rattle.vs_flat.specs.Arena.{bit_count};
+ghost use Rattle.vs_flat.specs.DesignOf.{arena_signals, arena_trees};
+ghost use Rattle.vs_flat.specs.Trees.{signal_at, tree_at};
+ghost use Rattle.vs_kern_select.specs.declared.costs.Kernel.TheVariants as S;
+ghost use Rattle.vs_code.specs.declared.kernels.AnyKernel.TheVariants as K;
+ghost use Rattle.vs_lower.specs.Coded.{with_call};
+ghost use Rattle.vs_lower.specs.Constants.{constant_bits};
+ghost use Rattle.vs_lower.specs.Done.{placed, put_at};
+ghost use Rattle.vs_lower.specs.Leaves.{IsInside, joined_target, leaf_target};
+ghost use Rattle.vs_lower.specs.Made.{IsCallable};
+ghost use Rattle.vs_lower.specs.Written.{AddsWrites, AreIndexed, HasRoom, IsIndexed, write_weight};
+
+use crate::applied::triple;
+use crate::code::Code;
+use crate::environment::{Environment, place};
+use crate::leaves::Leaf;
+use crate::names::{length_of, signal_bits, signal_slots};
+use crate::selects::{shifted, start};
+use crate::slots::{are_constant, constant_bits};
+use std::alloc::{AllocError, Global};
+use vs_code::{AnyKernel, List};
+use vs_flat::{lawful_law, trees_law};
+use vs_four::{Range, integer, is_known};
+use vs_kern_select::Selection;
+use vs_width::Typed;
+
+/// The place, where there are so many.
+fn place_below(place: i128, count: u32) -> Option<u32>
+    ensures { result ≡ below count place }
+{
+    if place < 0 || place >= count as i128 {
+        None
+    } else {
+        Some(place as u32)
+    }
+}
+
+/// Gives the bit at a place of a signal another slot, where there is that place. The signal has its bits from `first` on.
+fn set_at(
+    env: &mut Environment,
+    first: u32,
+    count: u32,
+    place: i128,
+    slot: u32,
+) -> Result<(), AllocError>
+    requires inside { first + count ≤ length env.old }
+    requires few { first + count < 2 ^ 32 }
+    ensures { OnOk result (env.new ≡ put_at env.old (option_map (λ n. first + n) (below count place)) slot) }
+{
+    match place_below(place, count) {
+        Some(n) => env.set(first + n, slot),
+        None => Ok(()),
+    }
+}
+
+/// Gives the bits from a place on these slots.
+fn place_from(
+    env: &mut Environment,
+    first: u32,
+    count: u32,
+    start: i128,
+    value: &[u32],
+) -> Result<(), AllocError>
+    requires fits { unsigned_abs start < 2 ^ 66 }
+    requires most { length value.now ≤ 64 }
+    requires inside { first + count ≤ length env.old }
+    requires few { first + count < 2 ^ 32 }
+    ensures { OnOk result (env.new ≡ placed env.old (map (λ p. option_map (λ n. first + n) p) (map (below count) (indices_up start (length value.now)))) value.now) }
+{
+    for k in 0..value.len() {
+        set_at(env, first, count, shifted(start, k as u32), value[k])?;
+    }
+    Ok(())
+}
+
+/// Gives the bits of a select by a constant index these slots.
+fn place_select(
+    alloc: Global,
+    typed: &Typed,
+    env: &mut Environment,
+    signal: u32,
+    selection: Selection,
+    index: &[u32],
+    value: &[u32],
+) -> Result<(), AllocError>
+    requires signal { signal < length typed.now.signals }
+    requires bits { length env.old ≡ bit_count typed.now.signals }
+    requires of_range { range_length selection.range ≡ signal_length (signal_at (arena_signals typed.now) signal) }
+    requires some { 1 ≤ length value.now }
+    requires most { length value.now ≤ 64 }
+    requires some_index { 1 ≤ length index.now }
+    requires index { length index.now ≤ 64 }
+    ensures { OnOk result (env.new ≡ placed env.old (bits_at (signal_at (arena_signals typed.now) signal) (places (record { range = selection.range; up = selection.up; width = length value.now }) selection.signed (constant_bits index.now))) value.now) }
+{
+    trees_law();
+    lawful_law();
+    let bits = constant_bits(alloc, index)?;
+    if is_known(bits) {
+        let base = integer(bits, selection.signed);
+        let first = start(selection.range, base, selection.up, value.len() as u32);
+        let flat = typed.flat();
+        let of = flat.signal(signal);
+        place_from(env, of.first_bit, length_of(of.range), first, value)?;
+        return Ok(());
+    }
+    Ok(())
+}
+
+/// Gives a whole signal these slots.
+fn place_signal(
+    alloc: Global,
+    typed: &Typed,
+    env: &mut Environment,
+    signal: u32,
+    value: &[u32],
+) -> Result<(), AllocError>
+    requires signal { signal < length typed.now.signals }
+    requires bits { length env.old ≡ bit_count typed.now.signals }
+    requires alike { length value.now ≡ signal_length (signal_at (arena_signals typed.now) signal) }
+    ensures { OnOk result (env.new ≡ placed env.old (map Some (bits_of_signal (signal_at (arena_signals typed.now) signal))) value.now) }
+{
+    typed.flat();
+    let bits = signal_bits(alloc, typed, signal)?;
+    place(env, bits.as_slice(), value)
+}
+
+/// Calls the kernel of a write by a variable index, and answers the new slots of the signal.
+fn written_slots(
+    alloc: Global,
+    selection: Selection,
+    under: Vec<u32>,
+    index: Vec<u32>,
+    value: Vec<u32>,
+    width: u32,
+    code: &mut Code,
+) -> Result<Vec<u32>, AllocError>
+    requires call { IsCallable code.old (K.Select (S.Write selection)) (under.items ∷ index.items ∷ value.items ∷ []) width }
+    ensures to { IfOk result (λ to. to.items ≡ range_with_len code.old.next width) }
+    ensures ok { OnOk result (code.new ≡ with_call code.old (K.Select (S.Write selection)) (under.items ∷ index.items ∷ value.items ∷ []) width) }
+{
+    let args = triple(alloc, under, index, value)?;
+    code.call(
+        alloc,
+        AnyKernel::Select(vs_kern_select::Kernel::Write(selection)),
+        args,
+        width,
+    )
+}
+
+/// Writes by a variable index: each bit of the signal gets a new slot.
+fn call_write(
+    alloc: Global,
+    typed: &Typed,
+    env: &mut Environment,
+    signal: u32,
+    selection: Selection,
+    index: &[u32],
+    value: &[u32],
+    code: &mut Code,
+) -> Result<(), AllocError>
+    requires signal { signal < length typed.now.signals }
+    requires bits { length env.old ≡ bit_count typed.now.signals }
+    requires few { signal_length (signal_at (arena_signals typed.now) signal) < 2 ^ 32 }
+    requires call { IsCallable code.old (K.Select (S.Write selection)) (map (slice_index env.old) (bits_of_signal (signal_at (arena_signals typed.now) signal)) ∷ index.now ∷ value.now ∷ []) (signal_length (signal_at (arena_signals typed.now) signal)) }
+    ensures code { OnOk result (code.new ≡ with_call code.old (K.Select (S.Write selection)) (map (slice_index env.old) (bits_of_signal (signal_at (arena_signals typed.now) signal)) ∷ index.now ∷ value.now ∷ []) (signal_length (signal_at (arena_signals typed.now) signal))) }
+    ensures env { OnOk result (env.new ≡ placed env.old (map Some (bits_of_signal (signal_at (arena_signals typed.now) signal))) (range_with_len code.old.next (signal_length (signal_at (arena_signals typed.now) signal)))) }
+{
+    let under = signal_slots(alloc, typed, env, signal)?;
+    let width = under.as_slice().len() as u32;
+    let at = Vec::from_slice(alloc, index)?;
+    let with = Vec::from_slice(alloc, value)?;
+    let to = written_slots(alloc, selection, under, at, with, width, code)?;
+    place_signal(alloc, typed, env, signal, to.as_slice())?;
+    Ok(())
+}
+
+/// How many bits a part of a target has.
+fn leaf_width(typed: &Typed, leaf: Leaf) -> u32
+    requires { IsInside typed.now leaf }
+    ensures { result ≡ target_width (leaf_target typed.now leaf) }
+{
+    trees_law();
+    lawful_law();
+    match leaf {
+        Leaf::Whole { signal } => length_of(typed.flat().signal(signal).range),
+        Leaf::Select { width, .. } => width,
+    }
+}
+
+/// Adds the calls of a write to a part of a target, whose index is in these slots.
+fn write_leaf(
+    alloc: Global,
+    typed: &Typed,
+    env: &mut Environment,
+    leaf: Leaf,
+    index: &[u32],
+    value: &[u32],
+    code: &mut Code,
+) -> Result<(), AllocError>
+    requires inside { IsInside typed.now leaf }
+    requires room { HasRoom (bit_count typed.now.signals) env.old code.old (write_weight (leaf_target typed.now leaf)) }
+    requires fit { fits_target (leaf_target typed.now leaf) ≡ true }
+    requires long { length value.now ≡ target_width (leaf_target typed.now leaf) }
+    requires value { All (λ slot. slot < code.old.next) value.now }
+    requires index { All (λ slot. slot < code.old.next) index.now }
+    requires indexed { IsIndexed (leaf_target typed.now leaf) index.now }
+    ensures { OnOk result (AddsWrites env.old env.new code.old code.new (leaf_target typed.now leaf) (index.now ∷ []) value.now (write_weight (leaf_target typed.now leaf))) }
+{
+    typed.flat();
+    match leaf {
+        Leaf::Whole { signal } => {
+            place_signal(alloc, typed, env, signal, value)?;
+            Ok(())
+        }
+        Leaf::Select {
+            signal,
+            range,
+            up,
+            index: at,
+            ..
+        } => {
+            let selection = Selection {
+                range,
+                signed: typed.signed(at),
+                up,
+            };
+            if are_constant(index) {
+                place_select(alloc, typed, env, signal, selection, index, value)?;
+                return Ok(());
+            }
+            call_write(alloc, typed, env, signal, selection, index, value, code)?;
+            Ok(())
+        }
+    }
+}
+
+/// Adds the calls of a write to the parts of a target, whose indices are in these slots. All of them were lowered before, so an index has its value from before the write.
+pub(crate) fn write_leaves(
+    alloc: Global,
+    typed: &Typed,
+    env: &mut Environment,
+    leaves: &[Leaf],
+    indices: &[List<u32>],
+    value: &[u32],
+    code: &mut Code,
+) -> Result<(), AllocError>
+    requires some { 1 ≤ length leaves.now }
+    requires inside { All (IsInside typed.now) leaves.now }
+    requires fit { All (λ leaf. fits_target (leaf_target typed.now leaf) ≡ true) leaves.now }
+    requires room { HasRoom (bit_count typed.now.signals) env.old code.old (sum_by write_weight (map (leaf_target typed.now) leaves.now)) }
+    requires long { length value.now ≡ sum_by target_width (map (leaf_target typed.now) leaves.now) }
+    requires value { All (λ slot. slot < code.old.next) value.now }
+    requires indices { All (λ ti. All (λ slot. slot < code.old.next) ti) indices.now }
+    requires indexed { AreIndexed (map (leaf_target typed.now) leaves.now) indices.now }
+    ensures { OnOk result (AddsWrites env.old env.new code.old code.new (joined_target (map (leaf_target typed.now) leaves.now)) indices.now value.now (sum_by write_weight (map (leaf_target typed.now) leaves.now))) }
+{
+    let low = value.len() - leaf_width(typed, leaves[0]) as usize;
+    write_leaf(
+        alloc,
+        typed,
+        env,
+        leaves[0],
+        indices[0].as_slice(),
+        &value[low..],
+        code,
+    )?;
+    if leaves.len() > 1 {
+        write_leaves(
+            alloc,
+            typed,
+            env,
+            &leaves[1..],
+            &indices[1..],
+            &value[..low],
+            code,
+        )?;
+    }
+    Ok(())
+}
