@@ -43,7 +43,6 @@ mod Settling
 mod Storing
 mod Testing
 pub mod Branching
-pub mod Writing
 pub mod Sequencing
 pub mod Conditional
 pub mod Casing

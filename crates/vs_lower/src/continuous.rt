@@ -17,7 +17,6 @@ use crate::code::Code;
 use crate::copies::copy_home;
 use crate::environment::{Environment, Environments};
 use std::alloc::{AllocError, Global};
-use vs_design::footprint_law;
 use vs_length::ascend;
 use vs_width::Typed;
 
@@ -30,7 +29,6 @@ fn target_written(alloc: Global, typed: &Typed, target: u32) -> Result<Vec<u32>,
 {
     let mut bits = Vec::new(alloc);
     typed.shapes().push_target(target, &mut bits)?;
-    footprint_law();
     ascend(&mut bits);
     Ok(bits)
 }

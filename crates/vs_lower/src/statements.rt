@@ -7,7 +7,6 @@ ghost use Rattle.vs_design.specs.Footprints.{contains, statement_bits};
 ghost use Rattle.vs_length.specs.Bodies.{body_of};
 
 use std::alloc::{AllocError, Global};
-use vs_design::footprint_law;
 use vs_length::{Walk, ascend};
 use vs_width::Typed;
 
@@ -20,7 +19,6 @@ pub(crate) fn written_bits(alloc: Global, typed: &Typed, s: u32) -> Result<Vec<u
 {
     let mut bits = Vec::new(alloc);
     typed.shapes().push_statement(s, Walk::Writes, &mut bits)?;
-    footprint_law();
     ascend(&mut bits);
     Ok(bits)
 }

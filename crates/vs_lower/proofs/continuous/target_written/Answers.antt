@@ -4,15 +4,10 @@ use Rattle.vs_flat.specs.Arena.{Arena}
 use Rattle.vs_flat.specs.DesignOf.{arena_trees}
 use Rattle.vs_flat.specs.Trees.{target_tree, tree_at}
 use Rattle.vs_length.specs.Walked.{IsTarget}
-use Rattle.vs_lower.proofs.Writing.{ascending_is}
 use Rattle.vs_lower.proofs.continuous.target_written.Goals as goal
 
 pub push_target-requires-clause-target : goal.push_target-requires-clause-target
 push_target-requires-clause-target c = subst (λ (a : Arena). IsTarget (tree_at (arena_trees a) c.args.target)) (sym c.shapes.ensures) c.requires.target
-
-pub returns-clause-rising : goal.returns-clause-rising
-returns-clause-rising c =
-    (ascending_is c.footprint_law.ensures.ascending c.footprint_law.ensures.rises c.ascend.new.bits.items c.push_target.new.out.items c.ascend.ensures).rising
 
 pub returns-clause-same : goal.returns-clause-same
 returns-clause-same c b =
@@ -20,5 +15,5 @@ returns-clause-same c b =
     let is : c.push_target.new.out.items ≡ c.new-bits.result.items ++ bits c.shapes.result.now = c.in_ok-push_target.ensures in
     let none = ap (λ (xs : List ℕ). xs ++ bits c.shapes.result.now) c.new-bits.ensures.items in
     let same = ap bits c.shapes.ensures in
-    (ascending_is c.footprint_law.ensures.ascending c.footprint_law.ensures.rises c.ascend.new.bits.items c.push_target.new.out.items c.ascend.ensures).same b
+    c.ascend.ensures.same b
     ∙ ap (λ (xs : List ℕ). contains xs b) (is ∙ none ∙ same)
