@@ -1,0 +1,100 @@
+-- A design that is being built: what it is so far, and the expressions and statements that nothing in it names yet, in the order in which they were built.
+use Rattle.std.specs.Prelude.{◌≡◌, ◌≤◌, ℕ, suc, Bool, true, List, [], ◌∷◌, ◌++◌, length, max, nat_le}
+use Rattle.std.specs.List.{list_all}
+use Rattle.vs_design.specs.Expressions.{Signal, Expression}
+use Rattle.vs_design.specs.Statements.{Statement}
+use Rattle.vs_design.specs.Designs.{Scope, Process, Design}
+use Rattle.vs_design.specs.Elaborated.{is_formed_select}
+use Rattle.vs_four.specs.Selects.{Part}
+use Rattle.vs_flat.specs.Targets.{source_of}
+
+-- an expression, and on how many levels it stands: the longest chain of expressions, each within the one before it
+pub record Root : Type 0 where
+  pub tree : Expression
+  pub levels : ℕ
+
+-- a statement, and on how many levels it stands
+pub record Body : Type 0 where
+  pub statement : Statement
+  pub levels : ℕ
+
+pub record Draft : Type 0 where
+  pub design : Design
+  pub expressions : List Root
+  pub statements : List Body
+
+-- nothing was built
+abbrev pub no_design : Design
+no_design = record { scopes = []; signals = []; processes = [] }
+
+abbrev pub no_draft : Draft
+no_draft = record { design = no_design; expressions = []; statements = [] }
+
+-- everything that was built is part of the design
+pub record IsIdle (s : Draft) : Type 0 where
+  pub expressions : s.expressions ≡ []
+  pub statements : s.statements ≡ []
+
+-- ---- with one more of a kind
+
+abbrev pub and_scope : Draft → Scope → Draft
+and_scope s x = record s { design = record s.design { scopes = s.design.scopes ++ x ∷ [] } }
+
+abbrev pub and_signal : Draft → Signal → Draft
+and_signal s x = record s { design = record s.design { signals = s.design.signals ++ x ∷ [] } }
+
+abbrev pub and_process : Draft → Process → Draft
+and_process s x = record s { design = record s.design { processes = s.design.processes ++ x ∷ [] } }
+
+abbrev pub and_root : Draft → Root → Draft
+and_root s x = record s { expressions = s.expressions ++ x ∷ [] }
+
+abbrev pub and_roots : Draft → List Root → Draft
+and_roots s xs = record s { expressions = s.expressions ++ xs }
+
+abbrev pub and_body : Draft → Body → Draft
+and_body s x = record s { statements = s.statements ++ x ∷ [] }
+
+abbrev pub and_bodies : Draft → List Body → Draft
+and_bodies s xs = record s { statements = s.statements ++ xs }
+
+-- ---- levels
+
+-- the most levels of several
+abbrev pub most_levels : List Root → ℕ
+most_levels [] = 0
+most_levels (r ∷ rs) = max r.levels (most_levels rs)
+
+abbrev pub most_body_levels : List Body → ℕ
+most_body_levels [] = 0
+most_body_levels (b ∷ bs) = max b.levels (most_body_levels bs)
+
+-- the last so many expressions are on so few levels that each may be part of one more
+pub record EndsWith (count : ℕ) (s : Draft) : Type 0 where
+  pub before : Draft
+  pub last : List Root
+  pub is : s ≡ and_roots before last
+  pub many : length last ≡ count
+  pub few : most_levels last ≤ 254
+
+-- the last ones are an index and a signal's name or a parameter's value, of which these bits may be selected (5.2.1)
+pub record EndsInSelect (part : Part) (s : Draft) : Type 0 where
+  pub before : Draft
+  pub index : Root
+  pub of : Root
+  pub is : s ≡ and_roots before (index ∷ of ∷ [])
+  pub few : most_levels (index ∷ of ∷ []) ≤ 254
+  pub formed : is_formed_select s.design (source_of of.tree) part ≡ true
+
+-- ---- what a step does
+
+-- one more expression, on at most so many levels
+pub record AddsExpression (old new : Draft) (tree : Expression) (most : ℕ) : Type 0 where
+  pub levels : ℕ
+  pub few : levels ≤ most
+  pub is : new ≡ and_root old (record { tree = tree; levels = levels })
+
+pub record AddsStatement (old new : Draft) (statement : Statement) (most : ℕ) : Type 0 where
+  pub levels : ℕ
+  pub few : levels ≤ most
+  pub is : new ≡ and_body old (record { statement = statement; levels = levels })
