@@ -1,2 +1,2 @@
+mod Firsts
 mod Repeats
-mod KnownModules

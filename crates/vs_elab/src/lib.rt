@@ -3,3 +3,4 @@
 
 mod faults;
 mod modules;
+mod noted;
