@@ -3,7 +3,10 @@ use Rattle.std.proofs.Common.{◌≡◌, ℕ, suc, ◌+◌, ◌<◌, length, map
 use Rattle.std.specs.Prelude.{is_some, option_map}
 use Rattle.std.specs.Borrow.{Bor}
 use Rattle.vs_ast.specs.declared.modules.Module.{Module as Module'}
+use Rattle.vs_ast.specs.declared.items.Item.{Item}
+use Rattle.vs_ast.specs.Views as view
 use Rattle.vs_ast.specs.Views.{module_tree}
+use Rattle.vs_grammar.specs.Trees.{items_list}
 use Rattle.vs_scope.specs.Maps.{Pair, value_at}
 use Rattle.vs_elab.specs.Noted.{AreFirst, named}
 use Rattle.vs_elab.specs.Modules.{module_at}
@@ -100,3 +103,7 @@ module_had ps ms name a = mapped (value_at name ps) ∙ ap is_some (module_found
     mapped : (o : Option (Bor Module')) → is_some o ≡ is_some (option_map (λ (m : Bor Module'). module_tree m.now) o)
     mapped None = refl
     mapped (Some x) = refl
+
+pub items_are : (is : List Item) → items_list (view.items is) ≡ map view.item is
+items_are [] = refl
+items_are (i ∷ is) = ap (λ r. view.item i ∷ r) (items_are is)

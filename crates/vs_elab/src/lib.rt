@@ -4,3 +4,4 @@
 mod faults;
 mod modules;
 mod noted;
+mod ports;

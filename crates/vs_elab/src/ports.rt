@@ -1,0 +1,137 @@
+//! The ports of a module, and the parameters that an instance may override (IEEE 1364-2005, 12.2 and 12.3).
+
+ghost use Rattle.std.specs.Prelude.{◌≡◌, ◌++◌, List, Bool, IfOk, OnOk, map, flat_map};
+ghost use Rattle.vs_grammar.specs.Shapes.{is_port_kind};
+ghost use Rattle.vs_grammar.specs.Trees as tree;
+ghost use Rattle.vs_ast.specs.Views as view;
+ghost use Rattle.vs_hierarchy.specs.Ports as spec_ports;
+ghost use Rattle.vs_hierarchy.specs.Ports.{Direction, directions_in, item_directions, header_ports};
+ghost use Rattle.vs_hierarchy.specs.Signals as spec;
+ghost use Rattle.vs_scope.specs.Maps.{Pair};
+ghost use Rattle.vs_scope.specs.MapViews.{pairs};
+ghost use Rattle.vs_elab.specs.Noted.{AreFirst};
+ghost use Rattle.vs_elab.specs.Ports.{declared_port, named_direction, port_of};
+
+use crate::noted::note;
+use std::alloc::{AllocError, Global};
+use vs_ast::{Header, Item, Module, Name, SignalKind, Signals};
+use vs_scope::NameMap;
+
+/// A port of a module: its name, and whether it is an input. A name of a plain header that the body gives no direction has none.
+#[derive(Clone, Copy)]
+pub(crate) struct Port<'a> {
+    pub name: &'a [u8],
+    pub input: Option<bool>,
+}
+
+/// Whether a declaration is one of ports.
+fn is_port_kind(kind: SignalKind) -> bool
+    ensures { result ≡ is_port_kind (view.signal_kind kind) }
+{
+    !matches!(kind, SignalKind::Reg | SignalKind::Wire)
+}
+
+/// Whether a declaration is one of inputs.
+fn is_input(kind: SignalKind) -> bool
+    ensures { result ≡ spec.is_input (view.signal_kind kind) }
+{
+    matches!(kind, SignalKind::Input | SignalKind::InputWire)
+}
+
+/// Gives all names of a declaration its direction, but those that have one.
+fn note_signals<'a>(
+    directions: &mut NameMap<'a, bool>,
+    signals: &'a Signals,
+) -> Result<(), AllocError>
+    ensures { OnOk result ((all : List (Pair Bool)) → AreFirst (pairs directions.old) all
+        → AreFirst (pairs directions.new) (all ++ map named_direction (directions_in (view.signals signals.now)))) }
+{
+    let input = is_input(signals.kind);
+    for declarator in &signals.names {
+        note(directions, declarator.name.text.as_bytes(), input)?;
+    }
+    Ok(())
+}
+
+/// The same of an item, if it declares ports.
+fn note_item<'a>(directions: &mut NameMap<'a, bool>, item: &'a Item) -> Result<(), AllocError>
+    ensures { OnOk result ((all : List (Pair Bool)) → AreFirst (pairs directions.old) all
+        → AreFirst (pairs directions.new) (all ++ map named_direction (item_directions (view.item item.now)))) }
+{
+    match item {
+        Item::Signals(signals) if is_port_kind(signals.kind) => note_signals(directions, signals),
+        _ => Ok(()),
+    }
+}
+
+/// The directions that a module's body gives to names (IEEE 1364-2005, 12.3.3).
+fn body_directions<'a>(
+    alloc: Global,
+    items: &'a [Item],
+) -> Result<NameMap<'a, bool>, AllocError>
+    ensures { IfOk result (λ m. AreFirst (pairs m) (map named_direction (flat_map item_directions (map view.item items.now)))) }
+{
+    let mut directions = NameMap::new(alloc);
+    for item in items {
+        note_item(&mut directions, item)?;
+    }
+    Ok(directions)
+}
+
+/// The ports of a plain header, whose directions stand in the body.
+fn plain_ports<'a>(
+    alloc: Global,
+    names: &'a [Name],
+    directions: &NameMap<'a, bool>,
+) -> Result<Vec<Port<'a>>, AllocError>
+    ensures { (ds : List Direction) → AreFirst (pairs directions.now) (map named_direction ds)
+        → IfOk result (λ v. map port_of v.items ≡ header_ports (tree.PlainPorts (map view.name names.now)) ds) }
+{
+    let mut ports = Vec::new(alloc);
+    for name in names {
+        let name = name.text.as_bytes();
+        let input = directions.get(name).copied();
+        ports.push(Port { name, input })?;
+    }
+    Ok(ports)
+}
+
+/// The ports that one declaration of a header declares.
+fn push_ports<'a>(ports: &mut Vec<Port<'a>>, signals: &'a Signals) -> Result<(), AllocError>
+    ensures { OnOk result (map port_of ports.new.items ≡ map port_of ports.old.items ++ map declared_port (directions_in (view.signals signals.now))) }
+{
+    let input = Some(is_input(signals.kind));
+    for declarator in &signals.names {
+        let name = declarator.name.text.as_bytes();
+        ports.push(Port { name, input })?;
+    }
+    Ok(())
+}
+
+/// The ports of a header with declarations.
+fn declared_ports<'a>(
+    alloc: Global,
+    declarations: &'a [Signals],
+) -> Result<Vec<Port<'a>>, AllocError>
+    ensures { IfOk result (λ v. map port_of v.items ≡ map declared_port (flat_map directions_in (map view.signals declarations.now))) }
+{
+    let mut ports = Vec::new(alloc);
+    for signals in declarations {
+        push_ports(&mut ports, signals)?;
+    }
+    Ok(ports)
+}
+
+/// The ports of a module, in the order of its header (IEEE 1364-2005, 12.3.1).
+pub(crate) fn ports_of<'a>(alloc: Global, module: &'a Module) -> Result<Vec<Port<'a>>, AllocError>
+    ensures { IfOk result (λ v. map port_of v.items ≡ spec_ports.ports_of (view.module_tree module.now)) }
+{
+    match &module.header {
+        Header::NoPorts => Ok(Vec::new(alloc)),
+        Header::Plain(names) => {
+            let directions = body_directions(alloc, &module.items)?;
+            plain_ports(alloc, names, &directions)
+        }
+        Header::Declared(declarations) => declared_ports(alloc, declarations),
+    }
+}
