@@ -1,3 +1,4 @@
 mod Firsts
 mod Repeats
 mod Directions
+mod Overridable

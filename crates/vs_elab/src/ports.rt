@@ -5,16 +5,16 @@ ghost use Rattle.vs_grammar.specs.Shapes.{is_port_kind};
 ghost use Rattle.vs_grammar.specs.Trees as tree;
 ghost use Rattle.vs_ast.specs.Views as view;
 ghost use Rattle.vs_hierarchy.specs.Ports as spec_ports;
-ghost use Rattle.vs_hierarchy.specs.Ports.{Direction, directions_in, item_directions, header_ports};
+ghost use Rattle.vs_hierarchy.specs.Ports.{Direction, directions_in, item_directions, header_ports, item_parameters, parameter_names};
 ghost use Rattle.vs_hierarchy.specs.Signals as spec;
 ghost use Rattle.vs_scope.specs.Maps.{Pair};
 ghost use Rattle.vs_scope.specs.MapViews.{pairs};
 ghost use Rattle.vs_elab.specs.Noted.{AreFirst};
-ghost use Rattle.vs_elab.specs.Ports.{declared_port, named_direction, port_of};
+ghost use Rattle.vs_elab.specs.Ports.{body_parameters, declared_port, name_bytes, named_direction, port_of, setting_bytes};
 
 use crate::noted::note;
 use std::alloc::{AllocError, Global};
-use vs_ast::{Header, Item, Module, Name, SignalKind, Signals};
+use vs_ast::{Header, Item, Module, Name, Parameters, Setting, SignalKind, Signals};
 use vs_scope::NameMap;
 
 /// A port of a module: its name, and whether it is an input. A name of a plain header that the body gives no direction has none.
@@ -134,4 +134,70 @@ pub(crate) fn ports_of<'a>(alloc: Global, module: &'a Module) -> Result<Vec<Port
         }
         Header::Declared(declarations) => declared_ports(alloc, declarations),
     }
+}
+
+/// The names that a declaration of parameters declares, unless they are local.
+fn push_parameters<'a>(
+    names: &mut Vec<&'a [u8]>,
+    parameters: &'a Parameters,
+) -> Result<(), AllocError>
+    ensures { OnOk result (map name_bytes names.new.items ≡ map name_bytes names.old.items ++ parameter_names (view.parameters parameters.now)) }
+{
+    if parameters.is_local {
+        return Ok(());
+    }
+    push_settings(names, &parameters.settings)
+}
+
+/// The names of settings.
+fn push_settings<'a>(names: &mut Vec<&'a [u8]>, settings: &'a [Setting]) -> Result<(), AllocError>
+    ensures { OnOk result (map name_bytes names.new.items ≡ map name_bytes names.old.items ++ map setting_bytes settings.now) }
+{
+    for setting in settings {
+        names.push(setting.name.text.as_bytes())?;
+    }
+    Ok(())
+}
+
+/// The names of the parameters that an item declares, unless they are local.
+fn push_item_parameters<'a>(names: &mut Vec<&'a [u8]>, item: &'a Item) -> Result<(), AllocError>
+    ensures { OnOk result (map name_bytes names.new.items ≡ map name_bytes names.old.items ++ flat_map parameter_names (item_parameters (view.item item.now))) }
+{
+    match item {
+        Item::Parameters(parameters) => push_parameters(names, parameters),
+        _ => Ok(()),
+    }
+}
+
+/// The names of a header's parameters.
+fn push_header<'a>(names: &mut Vec<&'a [u8]>, header: &'a [Parameters]) -> Result<(), AllocError>
+    ensures { OnOk result (map name_bytes names.new.items ≡ map name_bytes names.old.items ++ flat_map parameter_names (map view.parameters header.now)) }
+{
+    for parameters in header {
+        push_parameters(names, parameters)?;
+    }
+    Ok(())
+}
+
+/// The names of the parameters that items declare.
+fn push_body<'a>(names: &mut Vec<&'a [u8]>, items: &'a [Item]) -> Result<(), AllocError>
+    ensures { OnOk result (map name_bytes names.new.items ≡ map name_bytes names.old.items ++ flat_map body_parameters (map view.item items.now)) }
+{
+    for item in items {
+        push_item_parameters(names, item)?;
+    }
+    Ok(())
+}
+
+/// The names of the parameters of a module that may be overridden, in the order of the text (IEEE 1364-2005, 12.2.2).
+pub(crate) fn overridable<'a>(
+    alloc: Global,
+    module: &'a Module,
+) -> Result<Vec<&'a [u8]>, AllocError>
+    ensures { IfOk result (λ v. map name_bytes v.items ≡ spec_ports.overridable (view.module_tree module.now)) }
+{
+    let mut names = Vec::new(alloc);
+    push_header(&mut names, &module.parameters)?;
+    push_body(&mut names, &module.items)?;
+    Ok(names)
 }
