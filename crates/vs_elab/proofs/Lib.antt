@@ -2,3 +2,4 @@ mod Firsts
 mod Repeats
 mod Directions
 mod Overridable
+mod ConnectedNames

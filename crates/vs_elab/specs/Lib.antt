@@ -1,3 +1,4 @@
 pub mod Noted
 pub mod Modules
 pub mod Ports
+pub mod Connected

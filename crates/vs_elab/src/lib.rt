@@ -1,6 +1,7 @@
 //! Elaboration (IEEE 1364-2005, clause 12): from the tree of a text and the name of its top to a flat design, or to the first rule that is broken.
 #![tactic(auto)]
 
+mod connected;
 mod faults;
 mod modules;
 mod noted;
