@@ -3,3 +3,4 @@ mod Repeats
 mod Directions
 mod Overridable
 mod ConnectedNames
+mod PortTables

@@ -9,7 +9,7 @@ use Rattle.vs_scope.specs.Maps.{value_at}
 use Rattle.vs_scope.specs.MapViews.{pairs}
 
 -- one of these, or any where nothing is known of them
-abbrev pub is_known : Option (Bor (NameMap ℕ)) → List ℕ → Bool
+abbrev pub is_known : {V : Type 0} → Option (Bor (NameMap V)) → List ℕ → Bool
 is_known None name = true
 is_known (Some names) name = is_some (value_at name (pairs names.now))
 

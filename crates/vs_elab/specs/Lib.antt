@@ -2,3 +2,4 @@ pub mod Noted
 pub mod Modules
 pub mod Ports
 pub mod Connected
+pub mod PortTables

@@ -15,7 +15,7 @@ use vs_const::Fault;
 use vs_scope::NameMap;
 
 /// Whether a name may be connected: it is one of these, or all are where nothing is known of them.
-fn is_known(known: Option<&NameMap<'_, u32>>, name: &[u8]) -> bool
+fn is_known<V: Drop>(known: Option<&NameMap<'_, V>>, name: &[u8]) -> bool
     ensures { result ≡ is_known known.entry name.now }
 {
     match known {
@@ -25,7 +25,11 @@ fn is_known(known: Option<&NameMap<'_, u32>>, name: &[u8]) -> bool
 }
 
 /// What is wrong with a name that is connected: it is so again, or it isn't known.
-fn wrong_name(known: Option<&NameMap<'_, u32>>, again: bool, name: &Name) -> Option<Fault>
+fn wrong_name<V: Drop>(
+    known: Option<&NameMap<'_, V>>,
+    again: bool,
+    name: &Name,
+) -> Option<Fault>
     ensures { result ≡ least (name_faults (is_known known.entry) again (view.name name.now)) }
 {
     if again {
@@ -36,9 +40,9 @@ fn wrong_name(known: Option<&NameMap<'_, u32>>, again: bool, name: &Name) -> Opt
 }
 
 /// The first name that is connected a second time, or that isn't known.
-pub(crate) fn name_fault(
+pub(crate) fn name_fault<V: Drop>(
     alloc: Global,
-    known: Option<&NameMap<'_, u32>>,
+    known: Option<&NameMap<'_, V>>,
     connections: &[NamedConnection],
 ) -> Result<Option<Fault>, AllocError>
     ensures { IfOk result (λ f. f ≡ least (connected_names (is_known known.entry) [] (map view.named_connection connections.now))) }

@@ -1,6 +1,6 @@
 //! The ports of a module, and the parameters that an instance may override (IEEE 1364-2005, 12.2 and 12.3).
 
-ghost use Rattle.std.specs.Prelude.{◌≡◌, ◌++◌, List, Bool, IfOk, OnOk, map, flat_map};
+ghost use Rattle.std.specs.Prelude.{◌≡◌, ◌++◌, List, Bool, IfOk, OnOk, map, flat_map, option_map};
 ghost use Rattle.vs_grammar.specs.Shapes.{is_port_kind};
 ghost use Rattle.vs_grammar.specs.Trees as tree;
 ghost use Rattle.vs_ast.specs.Views as view;
@@ -10,7 +10,8 @@ ghost use Rattle.vs_hierarchy.specs.Signals as spec;
 ghost use Rattle.vs_scope.specs.Maps.{Pair};
 ghost use Rattle.vs_scope.specs.MapViews.{pairs};
 ghost use Rattle.vs_elab.specs.Noted.{AreFirst};
-ghost use Rattle.vs_elab.specs.Ports.{body_parameters, declared_port, name_bytes, named_direction, port_of, setting_bytes};
+ghost use Rattle.vs_elab.specs.Ports.{body_parameters, declared_port, name_bytes, named_direction, named_port, port_of, setting_bytes};
+ghost use Rattle.vs_elab.specs.PortTables.{ArePorts};
 
 use crate::noted::note;
 use std::alloc::{AllocError, Global};
@@ -200,4 +201,49 @@ pub(crate) fn overridable<'a>(
     push_header(&mut names, &module.parameters)?;
     push_body(&mut names, &module.items)?;
     Ok(names)
+}
+
+/// The ports of a module in the order of its header, and by name whether the first of each name is an input.
+#[derive(Drop)]
+pub(crate) struct Ports<'a> {
+    pub list: Vec<Port<'a>>,
+    pub inputs: NameMap<'a, Option<bool>>,
+}
+
+/// The ports of a module.
+pub(crate) fn port_table<'a>(alloc: Global, module: &'a Module) -> Result<Ports<'a>, AllocError>
+    ensures { IfOk result (λ p. ArePorts p (spec_ports.ports_of (view.module_tree module.now))) }
+{
+    let list = ports_of(alloc, module)?;
+    let inputs = inputs(alloc, &list)?;
+    Ok(Ports { list, inputs })
+}
+
+/// By name whether the first port of each name is an input.
+fn inputs<'a>(
+    alloc: Global,
+    list: &[Port<'a>],
+) -> Result<NameMap<'a, Option<bool>>, AllocError>
+    ensures { IfOk result (λ m. AreFirst (pairs m) (map named_port (map port_of list.now))) }
+{
+    let mut inputs = NameMap::new(alloc);
+    for port in list {
+        note(&mut inputs, port.name, port.input)?;
+    }
+    Ok(inputs)
+}
+
+impl<'a> Ports<'a> {
+    /// The first port of this name, if there is one.
+    pub(crate) fn find(&self, name: &'a [u8]) -> Option<Port<'a>>
+        ensures { (ps : List spec_ports.Port) → ArePorts self.now ps → option_map port_of result ≡ spec_ports.find_port ps name.now }
+    {
+        match self.inputs.get(name) {
+            None => None,
+            Some(input) => Some(Port {
+                name,
+                input: *input,
+            }),
+        }
+    }
 }

@@ -13,7 +13,7 @@ use Rattle.vs_elab.proofs.ConnectedNames.{named_only, is_again, connected_more}
 use Rattle.vs_elab.proofs.connected.name_fault.Goals as goal
 
 pub loop-connection-preserved : goal.loop-connection-preserved
-loop-connection-preserved c =
+loop-connection-preserved g c =
     let cs = map view.named_connection (take c.loop-connection.connection-index c.args.connections.now) in
     let d = view.named_connection c.connection-item.result in
     let next = one_more view.named_connection c.args.connections.now c.loop-connection.connection-index c.connection-item.result c.loop-connection-test.true c.connection-item.is in

@@ -10,7 +10,7 @@ use Rattle.vs_elab.proofs.connected.name_fault.Given as goal
 
 -- those before this one
 abbrev pub invariant-loop-connection : goal.invariant-loop-connection
-invariant-loop-connection l = record {
+invariant-loop-connection g l = record {
   seen : AreFirst (pairs l.seen) (map named_only (map view.named_connection (take l.connection-index l.connections)));
   fault : l.fault ≡ least (connected_names (is_known l.known) [] (map view.named_connection (take l.connection-index l.connections)));
 }
