@@ -4,3 +4,4 @@ mod Directions
 mod Overridable
 mod ConnectedNames
 mod PortTables
+mod ConnectionSteps

@@ -3,3 +3,4 @@ pub mod Modules
 pub mod Ports
 pub mod Connected
 pub mod PortTables
+pub mod Connections

@@ -2,6 +2,7 @@
 #![tactic(auto)]
 
 mod connected;
+mod connections;
 mod faults;
 mod modules;
 mod noted;
