@@ -5,3 +5,4 @@ mod Overridable
 mod ConnectedNames
 mod PortTables
 mod ConnectionSteps
+mod NamedConnections
