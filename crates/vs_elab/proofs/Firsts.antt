@@ -35,9 +35,9 @@ value_more {V} key name v (p ∷ ps) new = by (same_name p.name key) new (value_
 pub first_more : {V : Type 0} (ps all : List (Pair V)) (key : List ℕ) (v : V) → AreFirst ps all → value_at key ps ≡ None → AreFirst (with_value key v ps) (all ++ named key v ∷ [])
 first_more ps all key v first new = record {
   each = λ name.
-    value_more key name v ps new
-    ∙ ap (λ o. if is_some o then o else (if same_name key name then Some v else None)) (first.each name)
-    ∙ sym (value_behind all (named key v) name)
+      value_more key name v ps new
+      ∙ ap (λ o. if is_some o then o else (if same_name key name then Some v else None)) (first.each name)
+      ∙ sym (value_behind all (named key v) name);
 }
 
 some_is_none : {V : Type 0} (o : Option V) → is_some o ≡ true → o ≡ None → ⊥
@@ -47,7 +47,7 @@ some_is_none (Some x) h k = cc
 -- a name that had a value
 pub first_again : {V : Type 0} (ps all : List (Pair V)) (key : List ℕ) (v : V) → AreFirst ps all → is_some (value_at key ps) ≡ true → AreFirst ps (all ++ named key v ∷ [])
 first_again ps all key v first had = record {
-  each = λ name. first.each name ∙ by name (value_at name all) refl (same_name key name) refl ∙ sym (value_behind all (named key v) name)
+  each = λ name. first.each name ∙ by name (value_at name all) refl (same_name key name) refl ∙ sym (value_behind all (named key v) name);
 }
   where
     by : (name : List ℕ) (o : Option _) → value_at name all ≡ o → (same : Bool) → same_name key name ≡ same → o ≡ (if is_some o then o else (if same then Some v else None))

@@ -48,7 +48,6 @@ repeated_behind seen (x ∷ xs) m =
 pub repeated_more : (ms : List Module) (m : Module) → repeated_modules [] (ms ++ m ∷ []) ≡ repeated_modules [] ms ++ fault_if (is_some (find_in ms m.name.bytes)) 33 m.name.place
 repeated_more ms m = repeated_behind [] ms m
 
-
 -- the elements before a place and the one there
 pub one_more : {A B : Type 0} (f : A → B) (xs : List A) (i : ℕ) (x : A) → i < length xs → x ≡ get_or xs i x → map f (take (i + 1) xs) ≡ map f (take i xs) ++ f x ∷ []
 one_more f xs i x h e =
@@ -74,8 +73,8 @@ modules_more ps new ms m name is a more = record {
   all = a.all ++ named name m ∷ [];
   first = more a.all a.first;
   are =
-    map-append named_tree a.all (named name m ∷ []) ∙ ap (λ xs. xs ++ named name (module_tree m.now) ∷ []) a.are ∙ ap (λ n. map named_module ms ++ named n (module_tree m.now) ∷ []) is
-    ∙ sym (map-append named_module ms (module_tree m.now ∷ []));
+      map-append named_tree a.all (named name m ∷ []) ∙ ap (λ xs. xs ++ named name (module_tree m.now) ∷ []) a.are ∙ ap (λ n. map named_module ms ++ named n (module_tree m.now) ∷ []) is
+      ∙ sym (map-append named_module ms (module_tree m.now ∷ []));
 }
 
 value_of_trees : (ps : List (Pair (Bor Module'))) (name : List ℕ) → value_at name (map named_tree ps) ≡ module_at ps name

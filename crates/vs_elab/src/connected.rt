@@ -25,11 +25,7 @@ fn is_known<V: Drop>(known: Option<&NameMap<'_, V>>, name: &[u8]) -> bool
 }
 
 /// What is wrong with a name that is connected: it is so again, or it isn't known.
-fn wrong_name<V: Drop>(
-    known: Option<&NameMap<'_, V>>,
-    again: bool,
-    name: &Name,
-) -> Option<Fault>
+fn wrong_name<V: Drop>(known: Option<&NameMap<'_, V>>, again: bool, name: &Name) -> Option<Fault>
     ensures { result ≡ least (name_faults (is_known known.entry) again (view.name name.now)) }
 {
     if again {

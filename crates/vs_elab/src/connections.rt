@@ -33,10 +33,12 @@ fn push_connection<'a>(
 ) -> Result<(), AllocError>
     ensures { (env : Env) → OnOk result (said env list.new.items ≡ said env list.old.items ++ (connected (option_map port_of port.entry) (view.option view.expr value.now) env).connections) }
 {
-    if let Some(Port {
-        name,
-        input: Some(input),
-    }) = port
+    if let Some(
+        Port {
+            name,
+            input: Some(input),
+        },
+    ) = port
     {
         if let Some(e) = value {
             list.push(Connection { name, input, e })?;

@@ -66,10 +66,7 @@ fn note_item<'a>(directions: &mut NameMap<'a, bool>, item: &'a Item) -> Result<(
 }
 
 /// The directions that a module's body gives to names (IEEE 1364-2005, 12.3.3).
-fn body_directions<'a>(
-    alloc: Global,
-    items: &'a [Item],
-) -> Result<NameMap<'a, bool>, AllocError>
+fn body_directions<'a>(alloc: Global, items: &'a [Item]) -> Result<NameMap<'a, bool>, AllocError>
     ensures { IfOk result (λ m. AreFirst (pairs m) (map named_direction (flat_map item_directions (map view.item items.now)))) }
 {
     let mut directions = NameMap::new(alloc);
@@ -220,10 +217,7 @@ pub(crate) fn port_table<'a>(alloc: Global, module: &'a Module) -> Result<Ports<
 }
 
 /// By name whether the first port of each name is an input.
-fn inputs<'a>(
-    alloc: Global,
-    list: &[Port<'a>],
-) -> Result<NameMap<'a, Option<bool>>, AllocError>
+fn inputs<'a>(alloc: Global, list: &[Port<'a>]) -> Result<NameMap<'a, Option<bool>>, AllocError>
     ensures { IfOk result (λ m. AreFirst (pairs m) (map named_port (map port_of list.now))) }
 {
     let mut inputs = NameMap::new(alloc);

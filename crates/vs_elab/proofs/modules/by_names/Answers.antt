@@ -19,11 +19,11 @@ loop-module-preserved c =
     record {
       by_name = subst (AreModules (pairs c.note.new.map)) (sym next) (modules_more (pairs c.loop-module.by_name) (pairs c.note.new.map) ms _ c.as_bytes.result.now c.as_bytes.ensures before.by_name c.in_ok-had.ensures.first);
       repeated =
-        c.first_of-repeated.ensures ∙ ap (λ a. better a c.fault_if.result) before.repeated
-        ∙ ap (better (least (repeated_modules [] ms))) (c.fault_if.ensures ∙ ap (λ b. least (fault_if b 33 m.name.place)) (c.in_ok-had.ensures.had ∙ ap (λ n. is_some (value_at n (pairs c.loop-module.by_name))) c.as_bytes.ensures ∙ module_had (pairs c.loop-module.by_name) ms m.name.bytes before.by_name))
-        ∙ sym (least_append (repeated_modules [] ms) (fault_if (is_some (find_in ms m.name.bytes)) 33 m.name.place))
-        ∙ ap least (sym (repeated_more ms m))
-        ∙ ap (λ xs. least (repeated_modules [] xs)) (sym next);
+          c.first_of-repeated.ensures ∙ ap (λ a. better a c.fault_if.result) before.repeated
+          ∙ ap (better (least (repeated_modules [] ms))) (c.fault_if.ensures ∙ ap (λ b. least (fault_if b 33 m.name.place)) (c.in_ok-had.ensures.had ∙ ap (λ n. is_some (value_at n (pairs c.loop-module.by_name))) c.as_bytes.ensures ∙ module_had (pairs c.loop-module.by_name) ms m.name.bytes before.by_name))
+          ∙ sym (least_append (repeated_modules [] ms) (fault_if (is_some (find_in ms m.name.bytes)) 33 m.name.place))
+          ∙ ap least (sym (repeated_more ms m))
+          ∙ ap (λ xs. least (repeated_modules [] xs)) (sym next);
     }
 
 pub returns : goal.returns
