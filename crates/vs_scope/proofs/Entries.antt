@@ -1,8 +1,7 @@
 -- The entries of a scope, as the pairs of its map.
-use Rattle.std.proofs.Common.{◌≡◌, ℕ, Bool, true, false, ◌&&◌, ◌==◌, List, [], ◌∷◌, Option, Some, None, map, MatchOption, option_map, if◌then◌else◌, refl, sym, ap, ◌∙◌, subst, cond}
-use Rattle.std.proofs.lemmas.Bool.{eqb-true, eqb-false}
+use Rattle.std.proofs.Common.{◌≡◌, ℕ, Bool, true, false, ◌&&◌, ◌==◌, List, [], ◌∷◌, Option, Some, None, map, MatchOption, option_map, if◌then◌else◌, refl, sym, ap, subst}
+use Rattle.std.proofs.lemmas.Bool.{eqb-true}
 use Rattle.vs_design.specs.Clocks.{same_name}
-use Rattle.vs_hierarchy.specs.Environments as environment
 use Rattle.vs_hierarchy.specs.Environments.{find_entry}
 use Rattle.vs_scope.specs.declared.names.Entry.{Entry}
 use Rattle.vs_scope.specs.Maps.{Pair, value_at}
@@ -31,6 +30,6 @@ find_value name (p ∷ ps) = by (same_name p.name name) refl (find_value name ps
   where
     by : (b : Bool) → same_name p.name name ≡ b → MatchOption (value_at name ps) (find_entry (map pair_entry ps) name ≡ None) (λ v. find_entry (map pair_entry ps) name ≡ Some (entry_of name v))
         → MatchOption (if b then Some p.value else value_at name ps) ((if b then Some (pair_entry p) else find_entry (map pair_entry ps) name) ≡ None)
-          (λ v. (if b then Some (pair_entry p) else find_entry (map pair_entry ps) name) ≡ Some (entry_of name v))
+        (λ v. (if b then Some (pair_entry p) else find_entry (map pair_entry ps) name) ≡ Some (entry_of name v))
     by true e rest = ap (λ n. Some (entry_of n p.value)) (same_is p.name name e)
     by false e rest = rest

@@ -1,5 +1,5 @@
 -- Each value that a name stands for has 1 to 64 bits, and a range of as many.
-use Rattle.std.proofs.Common.{◌≡◌, ℕ, zero, suc, ◌<◌, ◌≤◌, Bool, true, false, List, [], ◌∷◌, ◌++◌, length, slice_index_or, map, Option, Some, None, if◌then◌else◌, refl, sym, ap, ◌∙◌, subst, arith}
+use Rattle.std.proofs.Common.{ℕ, zero, suc, Bool, true, false, List, [], ◌∷◌, ◌++◌, slice_index_or, map, Option, Some, None, if◌then◌else◌, refl, sym, subst, arith}
 use Rattle.vs_four.specs.declared.Range.{Range}
 use Rattle.vs_design.specs.Clocks.{same_name}
 use Rattle.vs_const.specs.Meanings.{ConstantValue, Unknown, IsFairValue, IsFairMeaning, IsFair}
@@ -8,10 +8,12 @@ use Rattle.vs_scope.specs.Maps.{Pair}
 use Rattle.vs_scope.specs.MapViews.{pairs}
 use Rattle.vs_scope.specs.declared.names.Declared.{Declared as DeclaredOf}
 use Rattle.vs_scope.specs.declared.names.Declared.TheVariants as states
+use Rattle.vs_scope.specs.declared.names.Evaluated.{Evaluated}
+use Rattle.vs_scope.specs.declared.names.Evaluated.TheVariants.{Value, Undefined}
 use Rattle.vs_scope.specs.declared.names.Entry.{Entry as EntryOf}
 use Rattle.vs_scope.specs.declared.frames.Frame.{Frame}
 use Rattle.vs_scope.specs.declared.frames.View.{View}
-use Rattle.vs_scope.specs.Views.{declared, entry_of, pair_entry, entries}
+use Rattle.vs_scope.specs.Views.{declared, evaluated, pair_entry}
 use Rattle.vs_scope.specs.Frames.{env_at, frame_env, envs_after, envs, around_env, view_env}
 use Rattle.vs_scope.proofs.Scopes.{turned_frames}
 
@@ -29,13 +31,16 @@ AreFair es = Each (λ (e : Entry). FairDeclared e.declared) es
 abbrev IsFairEnv : Env → Type 0
 IsFairEnv env = Each AreFair env.frames
 
+fair_evaluated : (v : Evaluated) → FairDeclared (evaluated v)
+fair_evaluated (Value p) = p.fair
+fair_evaluated (Undefined None) = tt
+fair_evaluated (Undefined (Some r)) = tt
+
 fair_declared : (d : DeclaredOf) → FairDeclared (declared d)
 fair_declared states.Later = tt
 fair_declared states.Announced = tt
 fair_declared (states.Signal s) = tt
-fair_declared (states.Value p) = p.fair
-fair_declared (states.Undefined None) = tt
-fair_declared (states.Undefined (Some r)) = tt
+fair_declared (states.Parameter value) = fair_evaluated value
 fair_declared states.Genvar = tt
 fair_declared states.Scope = tt
 

@@ -2,3 +2,15 @@ pub mod NameMaps
 pub mod Scopes
 pub mod Entries
 pub mod Fair
+pub mod Steps
+pub mod Collected
+pub mod NamedLists
+pub mod NamedPairs
+pub mod DeclaredSoFar
+pub mod Changes
+pub mod Evaluations
+pub mod Signalling
+pub mod SignalLoops
+pub mod FirstFaults
+pub mod WholeScopes
+pub mod ShapedDeclarations

@@ -1,11 +1,11 @@
 -- A map whose keys are references to names, as a list of names with values.
-use Rattle.std.proofs.Common.{◌≡◌, ℕ, Bool, true, false, ◌&&◌, ◌==◌, eqb, List, [], ◌∷◌, Option, Some, None, map, cond, if◌then◌else◌, refl, sym, ap, ◌∙◌, subst, arith}
+use Rattle.std.proofs.Common.{◌≡◌, ℕ, Bool, true, false, ◌&&◌, ◌==◌, List, [], ◌∷◌, Some, map, length, suc, cond, refl, sym, ap, ◌∙◌, arith}
 use Rattle.std.specs.Cmp.Lexicographic.{pointwise}
 use Rattle.std.specs.List.{IsDistinct, AllByRecursion}
 use Rattle.std.specs.Map.{keys_of, lookup}
 use Rattle.indexmap.specs.IndexMap.{insert_entry}
 use Rattle.vs_design.specs.Clocks.{same_name}
-use Rattle.vs_scope.specs.Maps.{Pair, value_at, with_value, IsNew, AreDistinct}
+use Rattle.vs_scope.specs.Maps.{Pair, value_at, values_of, with_value, IsNew, AreDistinct}
 
 eqb_sym : (m n : ℕ) → (m == n) ≡ (n == m)
 eqb_sym m n = grind arith
@@ -46,3 +46,11 @@ module _ {K V : Type 0} (name_of : K → List ℕ) where
   unfolding IsDistinct
   distinct_of [] h = tt
   distinct_of (e ∷ es) h = (new_of_apart (name_of e.0) es h.0, distinct_of es h.1)
+
+  pub values_are : (es : List (K × V)) → values_of (map pair_of es) ≡ map (λ e. e.1) es
+  values_are [] = refl
+  values_are (e ∷ es) = ap (λ r. e.1 ∷ r) (values_are es)
+
+  pub length_is : (es : List (K × V)) → length (map pair_of es) ≡ length es
+  length_is [] = refl
+  length_is (e ∷ es) = ap suc (length_is es)

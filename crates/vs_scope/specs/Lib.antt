@@ -3,3 +3,10 @@ pub mod MapViews
 pub mod Views
 pub mod Frames
 pub mod Laws
+pub mod Contents
+pub mod Declares
+pub mod Numbers
+pub mod Overrides
+pub mod Shaped
+pub mod Signalled
+pub mod Scopes

@@ -1,5 +1,5 @@
 -- Values by names, as lists.
-use Rattle.std.specs.Prelude.{◌≡◌, ℕ, Bool, false, List, [], ◌∷◌, Option, Some, None, if◌then◌else◌}
+use Rattle.std.specs.Prelude.{◌≡◌, ℕ, false, List, [], ◌∷◌, map, Option, Some, None, if◌then◌else◌}
 use Rattle.vs_design.specs.Clocks.{same_name}
 
 -- a name with its value
@@ -12,6 +12,10 @@ module _ {V : Type 0} where
   abbrev pub value_at : List ℕ → List (Pair V) → Option V
   value_at name [] = None
   value_at name (p ∷ ps) = if same_name p.name name then Some p.value else value_at name ps
+
+  -- the values, in order
+  abbrev pub values_of : List (Pair V) → List V
+  values_of ps = map (λ (p : Pair V). p.value) ps
 
   -- the first of this name has this value now; a new name comes last
   abbrev pub with_value : List ℕ → V → List (Pair V) → List (Pair V)

@@ -1,5 +1,5 @@
 -- What the names of the code stand for.
-use Rattle.std.specs.Prelude.{ℕ, false, List, map, Option, Some, None}
+use Rattle.std.specs.Prelude.{ℕ, Bool, true, false, List, map, Some, None}
 use Rattle.vs_ast.specs.Views as view
 use Rattle.vs_const.specs.Meanings.{SignalMeaning}
 use Rattle.vs_hierarchy.specs.Environments as environment
@@ -9,7 +9,8 @@ use Rattle.vs_scope.specs.declared.names.Sort.{Sort}
 use Rattle.vs_scope.specs.declared.names.Sort.TheVariants as sorts
 use Rattle.vs_scope.specs.declared.names.Declaration.{Declaration}
 use Rattle.vs_scope.specs.declared.names.Signal.{Signal}
-use Rattle.vs_scope.specs.declared.names.Parameter.{Parameter}
+use Rattle.vs_scope.specs.declared.names.Evaluated.{Evaluated}
+use Rattle.vs_scope.specs.declared.names.Evaluated.TheVariants.{Value, Undefined}
 use Rattle.vs_scope.specs.declared.names.Declared.{Declared}
 use Rattle.vs_scope.specs.declared.names.Declared.TheVariants as states
 use Rattle.vs_scope.specs.declared.names.Entry.{Entry}
@@ -36,13 +37,17 @@ signal_meaning s = record { signal = record { name = s.name.now; scope = s.scope
 abbrev pub unknown_signal : SignalMeaning
 unknown_signal = record { signal = no_signal; input = false; known = false }
 
+-- what a parameter is found to be
+abbrev pub evaluated : Evaluated → environment.Declared
+evaluated (Value p) = environment.OfParameter (Some (record { bits = p.value.bits; signed = p.value.signed })) (Some p.range)
+evaluated (Undefined range) = environment.OfParameter None range
+
 -- what is known of a name
 abbrev pub declared : Declared → environment.Declared
 declared states.Later = environment.Later
 declared states.Announced = environment.OfSignal unknown_signal
 declared (states.Signal s) = environment.OfSignal (signal_meaning s)
-declared (states.Value p) = environment.OfParameter (Some (record { bits = p.value.bits; signed = p.value.signed })) (Some p.range)
-declared (states.Undefined range) = environment.OfParameter None range
+declared (states.Parameter value) = evaluated value
 declared states.Genvar = environment.OfGenvar
 declared states.Scope = environment.OfScope
 
@@ -57,3 +62,8 @@ pair_entry p = entry_of p.name p.value
 -- the names of a scope
 abbrev pub entries : Names → List environment.Entry
 entries names = map pair_entry (pairs names.map)
+
+-- whether it is a parameter that wasn't evaluated yet
+abbrev pub is_later : environment.Declared → Bool
+is_later environment.Later = true
+is_later _ = false

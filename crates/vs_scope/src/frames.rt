@@ -6,7 +6,7 @@ ghost use Rattle.vs_hierarchy.specs.Environments as spec;
 ghost use Rattle.vs_scope.specs.Views.{declared, entries, entry_of};
 ghost use Rattle.vs_scope.specs.Frames as view;
 
-use crate::names::{Declared, Entry, Names};
+use crate::names::{Declared, Entry, Evaluated, Names};
 use vs_const::{Constant, Env, Named, SignalShape};
 use vs_four::{Range, of_number};
 
@@ -191,13 +191,12 @@ impl<'f, 'a> View<'f, 'a> {
                 signed: s.signed,
                 known: s.known,
             }),
-            Declared::Value(_) if self.is_late(place) => Named::Unknown,
-            Declared::Value(p) => Named::Value {
+            Declared::Parameter(_) if self.is_late(place) => Named::Unknown,
+            Declared::Parameter(Evaluated::Value(p)) => Named::Value {
                 value: p.value,
                 range: p.range,
             },
-            Declared::Undefined(_) if self.is_late(place) => Named::Unknown,
-            Declared::Undefined(range) => Named::Undefined { range },
+            Declared::Parameter(Evaluated::Undefined(range)) => Named::Undefined { range },
             Declared::Genvar => genvar_meaning(self.turn(place)),
             Declared::Scope => Named::Other,
         }

@@ -1,8 +1,8 @@
 //! Maps from names.
 
-ghost use Rattle.std.specs.Prelude.{◌≡◌, [], OnOk, OnErr};
+ghost use Rattle.std.specs.Prelude.{◌≡◌, ◌<◌, ◌==◌, [], Some, OnOk, OnErr, length, slice_get};
 ghost use Rattle.std.specs.Option.{option_copied};
-ghost use Rattle.vs_scope.specs.Maps.{value_at, with_value, AreDistinct};
+ghost use Rattle.vs_scope.specs.Maps.{value_at, values_of, with_value, AreDistinct};
 
 use indexmap::IndexMap;
 use std::alloc::{AllocError, Global};
@@ -27,9 +27,13 @@ impl<'a, V: Drop> NameMap<'a, V> {
 
     /// The value of this name, if it has one.
     pub fn get(&self, name: &[u8]) -> Option<&V>
-        ensures { option_copied result ≡ value_at name.now (pairs self.now) }
+        ensures value { option_copied result ≡ value_at name.now (pairs self.now) }
+        ensures distinct { AreDistinct (pairs self.now) }
     {
-        self.map.get(name)
+        match self.map.get_index_of(name) {
+            None => None,
+            Some(index) => Some(&self.map[index]),
+        }
     }
 
     /// Gives the name this value, in place of the one that it had. After an error the map is as before.
@@ -40,5 +44,27 @@ impl<'a, V: Drop> NameMap<'a, V> {
     {
         self.map.insert(name, value)?;
         Ok(())
+    }
+
+    /// How many names there are.
+    pub fn len(&self) -> usize
+        ensures { result ≡ length (pairs self.now) }
+    {
+        self.map.len()
+    }
+
+    /// Whether there is none.
+    pub fn is_empty(&self) -> bool
+        ensures { result ≡ (length (pairs self.now) == 0) }
+    {
+        self.len() == 0
+    }
+
+    /// The value of the name that came at this place.
+    pub fn at(&self, index: usize) -> &V
+        requires { index < length (pairs self.now) }
+        ensures { slice_get (values_of (pairs self.now)) index ≡ Some result.now }
+    {
+        &self.map[index]
     }
 }

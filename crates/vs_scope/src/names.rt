@@ -13,7 +13,10 @@ use vs_four::Range;
 #[derive(Clone, Copy)]
 pub enum Sort<'a> {
     /// A signal, by all that its declaration says; `header` says whether it is one of a header's ports.
-    Signal { signals: &'a Signals, header: bool },
+    Signal {
+        signals: &'a Signals,
+        header: bool,
+    },
     /// A parameter, with its default.
     Parameter {
         parameters: &'a Parameters,
@@ -32,10 +35,12 @@ pub struct Declaration<'a> {
 }
 
 /// A signal of a scope (3.2, 3.3). `number` and `first` are the numbers of the signal and of its first bit in the design, `input` says whether
-/// it is an input of the top and `is_input` whether it is one of its own module, and `known` that no fault leaves its range undefined.
+/// it is an input of the top and `is_input` whether it is one of its own module, and `known` that no fault leaves its range undefined. `place` is
+/// that of its first declaration.
 #[derive(Clone, Copy)]
 pub struct Signal<'a> {
     pub name: &'a [u8],
+    pub place: u32,
     pub scope: u32,
     pub number: u32,
     pub net: bool,
@@ -55,6 +60,14 @@ pub struct Parameter {
     ghost fair: { IsFairValue (record { bits = value.bits; signed = value.signed }) range },
 }
 
+/// What a parameter is found to be.
+#[derive(Clone, Copy)]
+pub enum Evaluated {
+    Value(Parameter),
+    /// A fault leaves the value undefined; the range may be known.
+    Undefined(Option<Range>),
+}
+
 /// What is known of a declared name.
 #[derive(Clone, Copy)]
 pub enum Declared<'a> {
@@ -63,9 +76,7 @@ pub enum Declared<'a> {
     /// A signal whose range and number aren't known yet.
     Announced,
     Signal(Signal<'a>),
-    Value(Parameter),
-    /// A parameter whose value a fault leaves undefined; its range may be known.
-    Undefined(Option<Range>),
+    Parameter(Evaluated),
     Genvar,
     /// An instance or a named generate block.
     Scope,

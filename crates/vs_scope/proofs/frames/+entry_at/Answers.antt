@@ -18,7 +18,7 @@ returns-in-None-find t c =
     let name = c.args.name.now in
     let f = c.index-frames-i.result in
     let same = ap (λ (p : Option ℕ). find_name (env_at (envs fs) p).frames name) c.below.ensures
-        ∙ sym (found_above fs c.in-Some.i f name c.if-i-frames.true c.index-frames-i.is c.in-None-find.ensures) ∙ sym (ap (λ (n : Option ℕ). find_name (env_at (envs fs) n).frames name) c.in-Some.is) in
+    ∙ sym (found_above fs c.in-Some.i f name c.if-i-frames.true c.index-frames-i.is c.in-None-find.ensures) ∙ sym (ap (λ (n : Option ℕ). find_name (env_at (envs fs) n).frames name) c.in-Some.is) in
     subst (λ (x : Option Entry). MatchOption c.entry_at.result (x ≡ None) (λ e. x ≡ Some (entry_of name e.now))) same c.entry_at.ensures
 
 pub returns-else-i-frames : goal.returns-else-i-frames

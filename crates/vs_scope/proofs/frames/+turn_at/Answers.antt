@@ -1,4 +1,4 @@
-use Rattle.std.proofs.Common.{◌≡◌, ℕ, Option, None, Some, sym, ap, ◌∙◌}
+use Rattle.std.proofs.Common.{ℕ, Option, sym, ap, ◌∙◌}
 use Rattle.vs_hierarchy.specs.Environments.{Env, turn_of}
 use Rattle.vs_scope.specs.Frames.{value_or, envs, env_at}
 use Rattle.vs_scope.proofs.Scopes.{turn_step, env_past}

@@ -1,6 +1,6 @@
-use Rattle.std.proofs.Common.{◌≡◌, ℕ, Option, None, Some, sym, ap, ◌∙◌}
+use Rattle.std.proofs.Common.{ℕ, Option, sym, ap, ◌∙◌}
 use Rattle.vs_ast.specs.Views.{option}
-use Rattle.vs_hierarchy.specs.Environments.{Env, within}
+use Rattle.vs_hierarchy.specs.Environments.{within}
 use Rattle.vs_hierarchy.specs.Surveys.{turned}
 use Rattle.vs_scope.specs.Views.{entries}
 use Rattle.vs_scope.specs.Frames.{turn, envs, env_at}

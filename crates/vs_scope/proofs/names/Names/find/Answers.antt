@@ -9,4 +9,4 @@ pub returns : goal.returns
 returns c =
     let es = entries c.args.self.now in
     let name = c.args.name.now in
-    match_copied (λ x. x.now) (find_entry es name ≡ None) (λ v. find_entry es name ≡ Some (entry_of name v)) c.get.result _ c.get.ensures (find_value name (pairs c.args.self.now.map))
+    match_copied (λ x. x.now) (find_entry es name ≡ None) (λ v. find_entry es name ≡ Some (entry_of name v)) c.get.result _ c.get.ensures.value (find_value name (pairs c.args.self.now.map))

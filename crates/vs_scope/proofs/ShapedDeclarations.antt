@@ -1,0 +1,89 @@
+-- Every declaration of a module's tree is as the grammar has it.
+use Rattle.std.proofs.Common.{Bool, true, false, List, [], ◌∷◌, ◌++◌, map, flat_map}
+use Rattle.vs_grammar.specs.Trees as tree
+use Rattle.vs_grammar.specs.Trees.{items_list}
+use Rattle.vs_grammar.specs.Shapes.{IsRange, Given, Each, OneOrMore, IsSetting, AreParameters, ArePorts, AreHeaderParameters, IsGenerateItem, IsItem, AreItems, IsHeader, IsModule}
+use Rattle.vs_hierarchy.specs.Declarations.{Declaration, signals_declared, parameters_declared, item_declared, header_declared, module_declared}
+use Rattle.vs_scope.specs.Shaped.{AreShaped}
+use Rattle.vs_scope.proofs.Collected.{signal_declared, parameter_declared, genvar_declared, instance_declared}
+
+both_shaped : (xs ys : List Declaration) → AreShaped xs → AreShaped ys → AreShaped (xs ++ ys)
+both_shaped [] ys h k = k
+both_shaped (x ∷ xs) ys h k = (h.0, both_shaped xs ys h.1 k)
+
+signals_shaped : (header : Bool) (t : tree.Signals) (ds : List tree.Declarator) → Given IsRange t.range → AreShaped (map (signal_declared header t) ds)
+signals_shaped header t [] h = tt
+signals_shaped header t (d ∷ ds) h = (h, signals_shaped header t ds h)
+
+settings_shaped : (t : tree.Parameters) (ss : List tree.Setting) → Given IsRange t.range → Each IsSetting ss → AreShaped (map (parameter_declared t) ss)
+settings_shaped t [] h k = tt
+settings_shaped t (s ∷ ss) h k = ((h, k.0.1), settings_shaped t ss h k.1)
+
+some_settings : (t : tree.Parameters) (ss : List tree.Setting) → Given IsRange t.range → OneOrMore IsSetting ss → AreShaped (map (parameter_declared t) ss)
+some_settings t [] h k = tt
+some_settings t (s ∷ ss) h k = ((h, k.0.1), settings_shaped t ss h k.1)
+
+genvars_shaped : (ns : List tree.Name) → AreShaped (map genvar_declared ns)
+genvars_shaped [] = tt
+genvars_shaped (n ∷ ns) = (tt, genvars_shaped ns)
+
+instances_shaped : (is : List tree.Instance) → AreShaped (map instance_declared is)
+instances_shaped [] = tt
+instances_shaped (i ∷ is) = (tt, instances_shaped is)
+
+parameters_shaped : (t : tree.Parameters) → AreParameters t → AreShaped (parameters_declared t)
+parameters_shaped t h = some_settings t t.settings h.range h.settings
+
+item_shaped : (i : tree.Item) → IsItem i → AreShaped (item_declared i)
+item_shaped (tree.SignalsItem t) h = signals_shaped false t t.names h.range
+item_shaped (tree.ParametersItem t) h = parameters_shaped t h
+item_shaped (tree.AssignsItem place assigns) h = tt
+item_shaped (tree.AlwaysItem block) h = tt
+item_shaped (tree.GenvarsItem place names) h = genvars_shaped names
+item_shaped (tree.InstancesItem t) h = instances_shaped t.instances
+item_shaped (tree.GenerateFor head block) h = tt
+item_shaped (tree.GenerateIf place c taken other) h = tt
+item_shaped (tree.GenerateCase place subject arms other) h = tt
+
+items_shaped : (is : tree.Items) → AreItems is → AreShaped (flat_map item_declared (items_list is))
+items_shaped tree.NoItem h = tt
+items_shaped (tree.AndItem i is) h = both_shaped (item_declared i) (flat_map item_declared (items_list is)) (item_shaped i h.0) (items_shaped is h.1)
+
+header_parameters : (ps : List tree.Parameters) → Each AreHeaderParameters ps → AreShaped (flat_map parameters_declared ps)
+header_parameters [] h = tt
+header_parameters (p ∷ ps) h = both_shaped (parameters_declared p) (flat_map parameters_declared ps) (parameters_shaped p h.0.0) (header_parameters ps h.1)
+
+ports_shaped : (ps : List tree.Signals) → Each ArePorts ps → AreShaped (flat_map (signals_declared true) ps)
+ports_shaped [] h = tt
+ports_shaped (p ∷ ps) h = both_shaped (signals_declared true p) (flat_map (signals_declared true) ps) (signals_shaped true p p.names h.0.0.range) (ports_shaped ps h.1)
+
+some_ports : (ps : List tree.Signals) → OneOrMore ArePorts ps → AreShaped (flat_map (signals_declared true) ps)
+some_ports [] h = tt
+some_ports (p ∷ ps) h = both_shaped (signals_declared true p) (flat_map (signals_declared true) ps) (signals_shaped true p p.names h.0.0.range) (ports_shaped ps h.1)
+
+header_shaped : (h : tree.Header) → IsHeader h → AreShaped (header_declared h)
+header_shaped tree.NoPorts h = tt
+header_shaped (tree.PlainPorts names) h = tt
+header_shaped (tree.DeclaredPorts ports) h = some_ports ports h
+
+-- of a module
+pub module_shaped : (m : tree.Module) → IsModule m → AreShaped (module_declared m)
+module_shaped m h =
+    both_shaped (flat_map parameters_declared m.parameters) (header_declared m.header ++ flat_map item_declared (items_list m.items)) (header_parameters m.parameters h.parameters)
+    (both_shaped (header_declared m.header) (flat_map item_declared (items_list m.items)) (header_shaped m.header h.header) (items_shaped m.items h.items))
+
+generate_item : (i : tree.Item) → IsGenerateItem i → IsItem i
+generate_item (tree.SignalsItem t) h = h.0
+generate_item (tree.ParametersItem t) h = h.0
+generate_item (tree.AssignsItem place assigns) h = h
+generate_item (tree.AlwaysItem block) h = h
+generate_item (tree.GenvarsItem place names) h = h
+generate_item (tree.InstancesItem t) h = h
+generate_item (tree.GenerateFor head block) h = h
+generate_item (tree.GenerateIf place c taken other) h = h
+generate_item (tree.GenerateCase place subject arms other) h = h
+
+-- of the items of a generate block
+pub block_shaped : (is : List tree.Item) → Each IsGenerateItem is → AreShaped (flat_map item_declared is)
+block_shaped [] h = tt
+block_shaped (i ∷ is) h = both_shaped (item_declared i) (flat_map item_declared is) (item_shaped i (generate_item i h.0)) (block_shaped is h.1)

@@ -1,0 +1,27 @@
+-- A signal, by what is found of its declarations.
+use Rattle.std.proofs.Common.{◌≡◌, ℕ, Bool, List, Option, Some, None, refl, ap}
+use Rattle.vs_four.specs.declared.Range.{Range}
+use Rattle.vs_ast.specs.Views.{option}
+use Rattle.vs_grammar.specs.Trees.{RangeTree}
+use Rattle.vs_const.specs.Faults.{fault_if}
+use Rattle.vs_const.specs.Meanings.{SignalMeaning}
+use Rattle.vs_hierarchy.specs.Environments.{Env}
+use Rattle.vs_hierarchy.specs.Declarations.{SignalSort}
+use Rattle.vs_hierarchy.specs.Parameters.{said_range}
+use Rattle.vs_hierarchy.specs.Signals as spec
+use Rattle.vs_scope.specs.declared.names.Declaration.{Declaration}
+use Rattle.vs_scope.specs.Views.{declaration}
+use Rattle.vs_scope.specs.Signalled.{second_faults}
+
+abbrev meaning_of : List ℕ → ℕ → ℕ → Bool → Bool → Option Range → Bool → ℕ → Bool → Bool → SignalMeaning
+meaning_of name scope number net input range signed first is_input known =
+    record { signal = record { name = name; scope = scope; number = number; net = net; input = input; range = range; signed = signed; first = first }; input = is_input; known = known }
+
+pub same_meaning : (scope number first : ℕ) (n m : List ℕ) (a b c d e f g h k l : Bool) (r q : Option Range) → n ≡ m → a ≡ b → c ≡ d → e ≡ f → g ≡ h → k ≡ l → r ≡ q
+    → meaning_of n scope number a c r e first g k ≡ meaning_of m scope number b d q f first h l
+same_meaning scope number first n m a b c d e f g h k l r q x1 x2 x3 x4 x5 x6 x7 = cc
+
+pub same_faults : (env : Env) (s : SignalSort) (other : Option RangeTree) (second : Option Declaration) → other ≡ (spec.second_sort s (option declaration second)).range
+    → second_faults (said_range s.range env) (said_range other env) second ≡ spec.second_faults env s (option declaration second)
+same_faults env s other None h = refl
+same_faults env s other (Some d) h = ap (λ (x : Option RangeTree). fault_if (spec.are_unequal (said_range s.range env) (said_range x env)) 37 d.name.now.place) h

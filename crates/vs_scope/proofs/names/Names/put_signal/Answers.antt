@@ -1,0 +1,35 @@
+use Rattle.std.proofs.Common.{◌≡◌, map, refl, sym, ap, ◌∙◌, subst}
+use Rattle.vs_hierarchy.specs.Environments.{OfSignal}
+use Rattle.vs_scope.specs.declared.names.Entry.{Entry}
+use Rattle.vs_scope.specs.declared.names.Declared.TheVariants as states
+use Rattle.vs_scope.specs.Maps.{with_value, AreDistinct}
+use Rattle.vs_scope.specs.MapViews.{pairs}
+use Rattle.vs_scope.specs.Views.{signal_meaning, pair_entry}
+use Rattle.vs_scope.specs.Declares.{named_of}
+use Rattle.vs_scope.proofs.Changes.{changed_none, changed_some, named_changed}
+use Rattle.vs_scope.proofs.names.Names.put_signal.Goals as goal
+
+pub returns-in-None-clause-entries : goal.returns-in-None-clause-entries
+returns-in-None-clause-entries c =
+    let found = sym c.get.ensures.value ∙ sym c.copied.ensures ∙ c.in-None.is in
+    changed_none (λ d. OfSignal (signal_meaning c.args.signal)) c.args.signal.name.now (pairs c.args.self.now.map) found
+
+pub returns-in_ok-put-in-Some-clause-entries : goal.returns-in_ok-put-in-Some-clause-entries
+returns-in_ok-put-in-Some-clause-entries c =
+    let ps = pairs c.args.self.now.map in
+    let name = c.args.signal.name.now in
+    let old = c.in-Some.field-0 in
+    let new : Entry = record { first = old.first; second = old.second; declared = states.Signal c.args.signal } in
+    let found = sym c.get.ensures.value ∙ sym c.copied.ensures ∙ c.in-Some.is in
+    let put : pairs c.put.new.self ≡ with_value name new ps = c.in_ok-put-in-Some.ensures.put in
+    ap (map pair_entry) put ∙ changed_some (λ d. OfSignal (signal_meaning c.args.signal)) name old new ps (subst AreDistinct put c.in_ok-put-in-Some.ensures.distinct) found refl refl
+
+pub returns-in_ok-put-in-Some-clause-named : goal.returns-in_ok-put-in-Some-clause-named
+returns-in_ok-put-in-Some-clause-named c =
+    let ps = pairs c.args.self.now.map in
+    let name = c.args.signal.name.now in
+    let old = c.in-Some.field-0 in
+    let new : Entry = record { first = old.first; second = old.second; declared = states.Signal c.args.signal } in
+    let found = sym c.get.ensures.value ∙ sym c.copied.ensures ∙ c.in-Some.is in
+    let put : pairs c.put.new.self ≡ with_value name new ps = c.in_ok-put-in-Some.ensures.put in
+    ap (map named_of) put ∙ named_changed name old new ps found refl

@@ -1,0 +1,18 @@
+use Rattle.std.proofs.Common.{[], ◌∷◌, ap}
+use Rattle.vs_ast.specs.Views as view
+use Rattle.vs_hierarchy.specs.Signals as spec
+use Rattle.vs_scope.specs.declared.names.Sort.{Sort}
+use Rattle.vs_scope.specs.Frames.{view_env}
+use Rattle.vs_scope.specs.Views as scope
+use Rattle.vs_scope.specs.Signalled.{start_of, signal_sort}
+use Rattle.vs_scope.proofs.signals.signal_at.Goals as goal
+
+pub returns-in_ok-one-in-Signal : goal.returns-in_ok-one-in-Signal
+returns-in_ok-one-in-Signal c =
+    let env = view_env c.args.here.now in
+    let start = start_of c.args.start in
+    let second = view.option scope.declaration c.args.second in (
+      spec.said_signal env start (record { first = scope.declaration c.args.first; second = second }) (signal_sort c.in-Signal.signals.now c.in-Signal.header),
+      ap (λ (x : Sort). spec.said_signals env start (record { first = record { name = view.name c.args.first.name.now; sort = scope.sort x }; second = second } ∷ [])) c.in-Signal.is,
+      c.in_ok-one-in-Signal.ensures c.in-Signal.header,
+    )

@@ -1,0 +1,68 @@
+-- What the code finds of signals.
+use Rattle.std.specs.Prelude.{◌≡◌, ℕ, Bool, List, [], ◌∷◌, Option, Some, None}
+use Rattle.vs_ast.specs.Views as view
+use Rattle.vs_ast.specs.declared.items.Signals.{Signals}
+use Rattle.vs_const.specs.declared.faults.Fault.{Fault}
+use Rattle.vs_const.specs.Faults.{least, fault_if}
+use Rattle.vs_const.specs.Meanings.{SignalMeaning}
+use Rattle.vs_hierarchy.specs.Environments.{Entry}
+use Rattle.vs_hierarchy.specs.Declarations.{SignalSort}
+use Rattle.vs_hierarchy.specs.Parameters as parameters
+use Rattle.vs_hierarchy.specs.Signals as spec
+use Rattle.vs_scope.specs.declared.names.Declaration.{Declaration}
+use Rattle.vs_scope.specs.declared.names.Signal.{Signal}
+use Rattle.vs_scope.specs.declared.signals.Start.{Start}
+use Rattle.vs_scope.specs.declared.signals.SaidSignal.{SaidSignal}
+use Rattle.vs_scope.specs.Views.{signal_meaning}
+
+-- where signals begin
+abbrev pub start_of : Start → spec.Start
+start_of s = record { scope = s.scope; top = s.top; signal = s.signal; bit = s.bit }
+
+-- a declaration of signals
+abbrev pub signal_sort : Signals → Bool → SignalSort
+signal_sort s header = record { kind = view.signal_kind s.kind; signed = s.signed; range = view.option view.range s.range; header = header }
+
+-- the ranges of both declarations are equal
+abbrev pub second_faults : parameters.SaidRange → parameters.SaidRange → Option Declaration → List Fault
+second_faults r q None = []
+second_faults r q (Some d) = fault_if (spec.are_unequal r q) 37 d.name.now.place
+
+-- but for where it stands
+pub record IsSortOf (c : Signals) (s : SignalSort) : Type 0 where
+  pub kind : view.signal_kind c.kind ≡ s.kind
+  pub signed : c.signed ≡ s.signed
+  pub range : view.option view.range c.range ≡ s.range
+
+-- a signal, where it is first declared, and of its faults the first
+pub record IsSaidSignal (c : SaidSignal) (s : spec.SaidSignal) : Type 0 where
+  pub place : c.signal.place ≡ s.place
+  pub meaning : signal_meaning c.signal ≡ s.meaning
+  pub fault : c.fault ≡ least s.faults
+
+-- a signal, and where it is declared
+pub record Placed : Type 0 where
+  pub place : ℕ
+  pub meaning : SignalMeaning
+
+-- as the code has it
+abbrev pub placed : Signal → Placed
+placed s = record { place = s.place; meaning = signal_meaning s }
+
+-- as it is said
+abbrev pub placed_of : spec.SaidSignal → Placed
+placed_of s = record { place = s.place; meaning = s.meaning }
+
+-- the faults of a signal
+abbrev pub faults_of : spec.SaidSignal → List Fault
+faults_of s = s.faults
+
+-- the signal of one name, if it is one
+abbrev pub IsSignalAt : Option SaidSignal → List spec.SaidSignal → Type 0
+IsSignalAt None said = said ≡ []
+IsSignalAt (Some c) said = (s : spec.SaidSignal) × (said ≡ s ∷ []) × IsSaidSignal c s
+
+-- all signals of these meanings are known now
+abbrev pub put_all : List SignalMeaning → List Entry → List Entry
+put_all [] es = es
+put_all (m ∷ ms) es = put_all ms (spec.put_signal m es)

@@ -1,0 +1,166 @@
+//! The declarations of a scope in the order of the text (IEEE 1364-2005, 12.7).
+
+ghost use Rattle.std.specs.Prelude.{◌≡◌, ◌++◌, true, OnOk, IfOk, map, flat_map};
+ghost use Rattle.vs_grammar.specs.Trees as tree;
+ghost use Rattle.vs_ast.specs.Views as view;
+ghost use Rattle.vs_hierarchy.specs.Declarations as spec;
+ghost use Rattle.vs_scope.specs.Views.{declaration};
+ghost use Rattle.vs_scope.specs.Contents.{contents_declared};
+
+use crate::contents::{BlockItems, Contents};
+use crate::names::{Declaration, Sort};
+use std::alloc::{AllocError, Global};
+use vs_ast::{Header, Instances, Item, Module, Name, Parameters, Signals};
+
+/// All names of one declaration of signals.
+fn collect_signals<'a>(
+    list: &mut Vec<Declaration<'a>>,
+    header: bool,
+    signals: &'a Signals,
+) -> Result<(), AllocError>
+    ensures { OnOk result (map declaration list.new.items ≡ map declaration list.old.items ++ spec.signals_declared header (view.signals signals.now)) }
+{
+    for d in &signals.names {
+        let sort = Sort::Signal { signals, header };
+        list.push(Declaration {
+            name: &d.name,
+            sort,
+        })?;
+    }
+    Ok(())
+}
+
+/// All names of one declaration of parameters.
+fn collect_parameters<'a>(
+    list: &mut Vec<Declaration<'a>>,
+    parameters: &'a Parameters,
+) -> Result<(), AllocError>
+    ensures { OnOk result (map declaration list.new.items ≡ map declaration list.old.items ++ spec.parameters_declared (view.parameters parameters.now)) }
+{
+    for s in &parameters.settings {
+        let sort = Sort::Parameter {
+            parameters,
+            value: &s.value,
+        };
+        list.push(Declaration {
+            name: &s.name,
+            sort,
+        })?;
+    }
+    Ok(())
+}
+
+/// The genvars of an item.
+fn collect_genvars<'a>(
+    list: &mut Vec<Declaration<'a>>,
+    place: u32,
+    names: &'a [Name],
+) -> Result<(), AllocError>
+    ensures { OnOk result (map declaration list.new.items ≡ map declaration list.old.items ++ spec.item_declared (tree.GenvarsItem place (map view.name names.now))) }
+{
+    for name in names {
+        list.push(Declaration {
+            name,
+            sort: Sort::Genvar,
+        })?;
+    }
+    Ok(())
+}
+
+/// The instances of an item.
+fn collect_instances<'a>(
+    list: &mut Vec<Declaration<'a>>,
+    instances: &'a Instances,
+) -> Result<(), AllocError>
+    ensures { OnOk result (map declaration list.new.items ≡ map declaration list.old.items ++ spec.item_declared (tree.InstancesItem (view.instances instances.now))) }
+{
+    for i in &instances.instances {
+        list.push(Declaration {
+            name: &i.name,
+            sort: Sort::Scope,
+        })?;
+    }
+    Ok(())
+}
+
+/// The names that an item declares in its scope.
+fn collect_item<'a>(list: &mut Vec<Declaration<'a>>, item: &'a Item) -> Result<(), AllocError>
+    ensures { OnOk result (map declaration list.new.items ≡ map declaration list.old.items ++ spec.item_declared (view.item item.now)) }
+{
+    match item {
+        Item::Signals(s) => collect_signals(list, false, s),
+        Item::Parameters(p) => collect_parameters(list, p),
+        Item::Genvars { place, names } => collect_genvars(list, *place, names),
+        Item::Instances(i) => collect_instances(list, i),
+        _ => Ok(()),
+    }
+}
+
+/// The names that items declare.
+fn collect_items<'a>(list: &mut Vec<Declaration<'a>>, items: &'a [Item]) -> Result<(), AllocError>
+    ensures { OnOk result (map declaration list.new.items ≡ map declaration list.old.items ++ flat_map spec.item_declared (map view.item items.now)) }
+{
+    for item in items {
+        collect_item(list, item)?;
+    }
+    Ok(())
+}
+
+/// The parameters of a module's header.
+fn collect_header_parameters<'a>(
+    list: &mut Vec<Declaration<'a>>,
+    all: &'a [Parameters],
+) -> Result<(), AllocError>
+    ensures { OnOk result (map declaration list.new.items ≡ map declaration list.old.items ++ flat_map spec.parameters_declared (map view.parameters all.now)) }
+{
+    for p in all {
+        collect_parameters(list, p)?;
+    }
+    Ok(())
+}
+
+/// The ports that a header declares with their directions.
+fn collect_ports<'a>(list: &mut Vec<Declaration<'a>>, all: &'a [Signals]) -> Result<(), AllocError>
+    ensures { OnOk result (map declaration list.new.items ≡ map declaration list.old.items ++ flat_map (spec.signals_declared true) (map view.signals all.now)) }
+{
+    for s in all {
+        collect_signals(list, true, s)?;
+    }
+    Ok(())
+}
+
+/// The names that a header declares (12.3.4).
+fn collect_header<'a>(list: &mut Vec<Declaration<'a>>, header: &'a Header) -> Result<(), AllocError>
+    ensures { OnOk result (map declaration list.new.items ≡ map declaration list.old.items ++ spec.header_declared (view.header header.now)) }
+{
+    match header {
+        Header::Declared(ports) => collect_ports(list, ports),
+        _ => Ok(()),
+    }
+}
+
+/// A module's declarations.
+fn collect_module<'a>(list: &mut Vec<Declaration<'a>>, whole: &'a Module) -> Result<(), AllocError>
+    ensures { OnOk result (map declaration list.new.items ≡ map declaration list.old.items ++ spec.module_declared (view.module_tree whole.now)) }
+{
+    collect_header_parameters(list, &whole.parameters)?;
+    collect_header(list, &whole.header)?;
+    collect_items(list, &whole.items)?;
+    Ok(())
+}
+
+/// The declarations of a scope.
+pub(crate) fn collect<'a>(
+    alloc: Global,
+    contents: Contents<'a>,
+) -> Result<Vec<Declaration<'a>>, AllocError>
+    ensures { IfOk result (λ list. map declaration list.items ≡ contents_declared contents.entry) }
+{
+    let mut list = Vec::new(alloc);
+    match contents {
+        Contents::Module(whole) => collect_module(&mut list, whole)?,
+        Contents::Block(BlockItems::One(item)) => collect_item(&mut list, item)?,
+        Contents::Block(BlockItems::Many(items)) => collect_items(&mut list, items)?,
+    }
+    Ok(list)
+}

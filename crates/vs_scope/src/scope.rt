@@ -1,0 +1,137 @@
+//! What a scope declares, but for its generate blocks (IEEE 1364-2005, 3.2, 3.3, 4.10, 12.2 and 12.7).
+
+ghost use Rattle.std.specs.Prelude.{◌≡◌, ◌∷◌, ◌++◌, [], IfOk, OnOk, map, flat_map};
+ghost use Rattle.vs_const.specs.Faults.{least};
+ghost use Rattle.vs_hierarchy.specs.Environments.{within};
+ghost use Rattle.vs_hierarchy.specs.Declarations as declarations;
+ghost use Rattle.vs_hierarchy.specs.Parameters as parameters;
+ghost use Rattle.vs_hierarchy.specs.Signals as spec;
+ghost use Rattle.vs_scope.specs.Contents.{contents_declared};
+ghost use Rattle.vs_scope.specs.Declares.{named_list};
+ghost use Rattle.vs_scope.specs.Frames.{around_env, view_env};
+ghost use Rattle.vs_scope.specs.Overrides.{AreOverrides, overrides_of};
+ghost use Rattle.vs_scope.specs.Scopes.{said_entries, said_signals_of, said_faults};
+ghost use Rattle.vs_scope.specs.Shaped.{AreShaped, IsShaped};
+ghost use Rattle.vs_scope.specs.Signalled.{placed, placed_of, put_all, start_of};
+ghost use Rattle.vs_scope.specs.Views.{declaration, entries, signal_meaning};
+
+use crate::collect::collect;
+use crate::contents::Contents;
+use crate::declare::{DeclaredNames, declared_names};
+use crate::faults::first_of;
+use crate::frames::{Around, View};
+use crate::maps::NameMap;
+use crate::names::{Declaration, Names, Signal, Sort};
+use crate::numbers::said_range;
+use crate::parameters::{Override, evaluate};
+use crate::signals::{SaidSignals, Start, said_signals};
+use std::alloc::{AllocError, Global};
+use vs_const::Fault;
+
+/// The names of a scope with the values of its parameters and its signals, the signals in order of declaration, the first fault of the
+/// declarations, and where the next scope's signals begin.
+#[derive(Drop)]
+pub struct SaidScope<'a> {
+    pub names: Names<'a>,
+    pub signals: Vec<Signal<'a>>,
+    pub fault: Option<Fault>,
+    pub next: Start,
+}
+
+/// All signals are known now.
+fn put_signals<'a>(names: &mut Names<'a>, signals: &[Signal<'a>]) -> Result<(), AllocError>
+    ensures entries { OnOk result (entries names.new ≡ put_all (map signal_meaning signals.now) (entries names.old)) }
+{
+    for s in signals {
+        names.put_signal(*s)?;
+    }
+    Ok(())
+}
+
+/// The first fault of the range of one declaration, if it declares a signal.
+fn range_fault(
+    alloc: Global,
+    here: &View<'_, '_>,
+    d: &Declaration<'_>,
+) -> Result<Option<Fault>, AllocError>
+    requires { IsShaped (declaration d.now) }
+    ensures { IfOk result (λ f. f ≡ least (spec.range_faults (view_env here.now) (declaration d.now ∷ []))) }
+{
+    match d.sort {
+        Sort::Signal { signals, .. } => {
+            let r = said_range(alloc, &signals.range, here)?;
+            Ok(r.fault)
+        }
+        _ => Ok(None),
+    }
+}
+
+/// The first fault of the ranges of all declarations of signals.
+fn range_faults(
+    alloc: Global,
+    here: &View<'_, '_>,
+    declarations: &[Declaration<'_>],
+) -> Result<Option<Fault>, AllocError>
+    requires { AreShaped (map declaration declarations.now) }
+    ensures { IfOk result (λ f. f ≡ least (spec.range_faults (view_env here.now) (map declaration declarations.now))) }
+{
+    let mut fault = None;
+    for d in declarations {
+        let found = range_fault(alloc, here, d)?;
+        fault = first_of(fault, found);
+    }
+    Ok(fault)
+}
+
+/// What a scope declares, but for its generate blocks: its names with the values of its parameters and its signals. `around` is what is around
+/// the scope, `overrides` are those of an instance, and `start` says where its signals begin.
+///
+/// `fault` is the first rule that the declarations break, at a token of the text. Where several are, it is the one at the least token, and there
+/// the one with the least number:
+/// - 36: a second declaration of a name (12.7).
+/// - 37: a range that has no meaning, or unequal ranges of one signal.
+/// - and what a constant of a parameter or a range breaks: 30, 31, 35, 37 and 43.
+///
+/// An error is want of memory; more signals or bits than 32 bits count are too many, too.
+pub fn declare_scope<'a>(
+    alloc: Global,
+    contents: Contents<'a>,
+    overrides: &NameMap<'a, Override<'a>>,
+    around: Around<'_, 'a>,
+    start: Start,
+) -> Result<SaidScope<'a>, AllocError>
+    requires overrides { AreOverrides around.frames.now overrides.now }
+    requires shaped { AreShaped (contents_declared contents) }
+    ensures entries { IfOk result (λ r. entries r.names ≡ said_entries (around_env around.entry) (overrides_of around.entry.frames.now overrides.now) (start_of start) (contents_declared contents.entry)) }
+    ensures signals { IfOk result (λ r. map placed r.signals.items ≡ map placed_of (said_signals_of (around_env around.entry) (overrides_of around.entry.frames.now overrides.now) (start_of start) (contents_declared contents.entry))) }
+    ensures fault { IfOk result (λ r. r.fault ≡ least (said_faults (around_env around.entry) (overrides_of around.entry.frames.now overrides.now) (start_of start) (contents_declared contents.entry))) }
+{
+    let list = collect(alloc, contents)?;
+    let all = list.as_slice();
+    let DeclaredNames {
+        names,
+        fault: repeated,
+    } = declared_names(alloc, all)?;
+    let mut names = names;
+    let parameters = evaluate(alloc, around, overrides, all, &mut names)?;
+    let here = View {
+        around,
+        names: &names,
+        inside: None,
+        before: None,
+    };
+    let ranges = range_faults(alloc, &here, all)?;
+    let said = said_signals(alloc, &here, start, &names)?;
+    put_signals(&mut names, said.signals.as_slice())?;
+    let SaidSignals {
+        signals,
+        fault,
+        next,
+    } = said;
+    Ok(SaidScope {
+        names,
+        signals,
+        fault: first_of(repeated, first_of(parameters, first_of(ranges, fault))),
+        next,
+    })
+}

@@ -1,0 +1,263 @@
+//! The signals of a scope, with their ranges and numbers (IEEE 1364-2005, 3.2, 3.3 and 12.3.3).
+
+ghost use Rattle.std.specs.Prelude.{◌≡◌, ◌&&◌, ◌||◌, ◌∷◌, [], not, Bool, IfOk, map, flat_map};
+ghost use Rattle.vs_design.specs.Expressions.{range_or_one};
+ghost use Rattle.vs_design.specs.Elaborated.{same_range};
+ghost use Rattle.vs_grammar.specs.Shapes.{IsRange, Given};
+ghost use Rattle.vs_ast.specs.Views as view;
+ghost use Rattle.vs_const.specs.Faults.{least};
+ghost use Rattle.vs_hierarchy.specs.Signals as spec;
+ghost use Rattle.vs_hierarchy.specs.Parameters as parameters;
+ghost use Rattle.vs_const.specs.Meanings.{SignalMeaning};
+ghost use Rattle.vs_scope.specs.Declares.{named_list};
+ghost use Rattle.vs_scope.specs.Frames.{view_env};
+ghost use Rattle.vs_scope.specs.Numbers.{IsSaidRange};
+ghost use Rattle.vs_scope.specs.Shaped.{IsShaped, AreShapedNames};
+ghost use Rattle.vs_scope.specs.Signalled.{start_of, signal_sort, second_faults, placed, placed_of, faults_of, IsSortOf, IsSaidSignal, IsSignalAt};
+ghost use Rattle.vs_scope.specs.Views as scope;
+
+use crate::faults::{fault_if, first_of};
+use crate::frames::View;
+use crate::names::{Declaration, Entry, Names, Signal, Sort};
+use crate::numbers::{SaidRange, length_of, said_range};
+use std::alloc::{AllocError, Global};
+use vs_ast::{SignalKind, Signals};
+use vs_const::Fault;
+use vs_four::Range;
+
+/// Where the signals of a scope begin: the scope's number, whether it is the top, and the numbers of the next signal and of its first bit.
+#[derive(Clone, Copy)]
+pub struct Start {
+    pub scope: u32,
+    pub top: bool,
+    pub signal: u32,
+    pub bit: u32,
+}
+
+/// A signal, and the fault of its second declaration.
+#[derive(Clone, Copy)]
+pub(crate) struct SaidSignal<'a> {
+    pub(crate) signal: Signal<'a>,
+    pub(crate) fault: Option<Fault>,
+}
+
+/// Whether it declares a variable.
+fn is_reg(kind: SignalKind) -> bool
+    ensures { result ≡ spec.is_reg (view.signal_kind kind) }
+{
+    match kind {
+        SignalKind::Reg | SignalKind::OutputReg => true,
+        _ => false,
+    }
+}
+
+/// Whether it declares an input.
+pub(crate) fn is_input(kind: SignalKind) -> bool
+    ensures { result ≡ spec.is_input (view.signal_kind kind) }
+{
+    match kind {
+        SignalKind::Input | SignalKind::InputWire => true,
+        _ => false,
+    }
+}
+
+/// Whether two declarations of a signal declare a net.
+fn is_net(a: SignalKind, b: SignalKind) -> bool
+    ensures { result ≡ not (spec.is_reg (view.signal_kind a) || spec.is_reg (view.signal_kind b)) }
+{
+    !(is_reg(a) || is_reg(b))
+}
+
+/// Whether one of two declarations of a signal declares an input.
+fn is_input_of(a: SignalKind, b: SignalKind) -> bool
+    ensures { result ≡ (spec.is_input (view.signal_kind a) || spec.is_input (view.signal_kind b)) }
+{
+    is_input(a) || is_input(b)
+}
+
+/// Whether one of two declarations of a signal says that it is signed.
+fn is_signed(a: bool, b: bool) -> bool
+    ensures { result ≡ (a || b) }
+{
+    a || b
+}
+
+/// Whether an input is one of the top.
+fn is_input_of_top(is_input: bool, top: bool) -> bool
+    ensures { result ≡ (is_input && top) }
+{
+    is_input && top
+}
+
+/// Whether two ranges are equal.
+fn same_range(a: Option<Range>, b: Option<Range>) -> bool
+    ensures { result ≡ same_range a b }
+{
+    match (a, b) {
+        (None, None) => true,
+        (Some(a), Some(b)) => a.left == b.left && a.right == b.right,
+        _ => false,
+    }
+}
+
+/// Whether two ranges are known and aren't equal.
+fn are_unequal(a: SaidRange, b: SaidRange) -> bool
+    ensures { (r q : parameters.SaidRange) → IsSaidRange a r → IsSaidRange b q → result ≡ spec.are_unequal r q }
+{
+    a.known && (b.known && !same_range(a.range, b.range))
+}
+
+/// The second declaration of a signal, or else the first one.
+fn second_of<'a>(signals: &'a Signals, second: Option<Declaration<'a>>) -> &'a Signals
+    ensures sort { (header : Bool) → IsSortOf result.now (spec.second_sort (signal_sort signals.now header) (view.option scope.declaration second.entry)) }
+    ensures shaped { Given IsRange (view.option view.range signals.now.range) → Given IsShaped (view.option scope.declaration second.entry)
+        → Given IsRange (view.option view.range result.now.range) }
+{
+    match second {
+        None => signals,
+        Some(d) => match d.sort {
+            Sort::Signal {
+                signals: others,
+                ..
+            } => others,
+            _ => signals,
+        },
+    }
+}
+
+/// The fault of a second declaration.
+fn second_fault(
+    second: Option<Declaration<'_>>,
+    range: SaidRange,
+    second_range: SaidRange,
+) -> Option<Fault>
+    ensures { (r q : parameters.SaidRange) → IsSaidRange range r → IsSaidRange second_range q → result ≡ least (second_faults r q second.entry) }
+{
+    match second {
+        None => None,
+        Some(d) => fault_if(are_unequal(range, second_range), 37, d.name.place),
+    }
+}
+
+/// How many bits a signal of this range has.
+fn length_or_one(range: Option<Range>) -> u64
+    ensures { result ≡ range_or_one range }
+{
+    match range {
+        None => 1,
+        Some(r) => length_of(r),
+    }
+}
+
+/// One signal, of its one or two declarations: a variable, an input, signed where one of them says so.
+pub(crate) fn said_signal<'a>(
+    alloc: Global,
+    here: &View<'_, 'a>,
+    start: Start,
+    first: Declaration<'a>,
+    second: Option<Declaration<'a>>,
+    signals: &'a Signals,
+) -> Result<SaidSignal<'a>, AllocError>
+    requires range { Given IsRange (view.option view.range signals.now.range) }
+    requires second { Given IsShaped (view.option scope.declaration second) }
+    ensures { (header : Bool) → IfOk result (λ r. IsSaidSignal r (spec.said_signal (view_env here.now) (start_of start)
+        (record { first = scope.declaration first.entry; second = view.option scope.declaration second.entry }) (signal_sort signals.now header))) }
+{
+    let other = second_of(signals, second);
+    let range = said_range(alloc, &signals.range, here)?;
+    let second_range = said_range(alloc, &other.range, here)?;
+    let is_input = is_input_of(signals.kind, other.kind);
+    let signal = Signal {
+        name: first.name.text.as_bytes(),
+        place: first.name.place,
+        scope: start.scope,
+        number: start.signal,
+        net: is_net(signals.kind, other.kind),
+        input: is_input_of_top(is_input, start.top),
+        range: range.range,
+        signed: is_signed(signals.signed, other.signed),
+        first: start.bit,
+        is_input,
+        known: range.known,
+    };
+    Ok(SaidSignal {
+        signal,
+        fault: second_fault(second, range, second_range),
+    })
+}
+
+/// The signals of a scope in order of declaration, the first fault of their second declarations, and where the next scope's signals begin.
+#[derive(Drop)]
+pub struct SaidSignals<'a> {
+    pub signals: Vec<Signal<'a>>,
+    pub fault: Option<Fault>,
+    pub next: Start,
+}
+
+/// The signal of a name, if it is one.
+fn signal_at<'a>(
+    alloc: Global,
+    here: &View<'_, 'a>,
+    start: Start,
+    first: Declaration<'a>,
+    second: Option<Declaration<'a>>,
+) -> Result<Option<SaidSignal<'a>>, AllocError>
+    requires first { IsShaped (scope.declaration first) }
+    requires second { Given IsShaped (view.option scope.declaration second) }
+    ensures { IfOk result (λ o. IsSignalAt o (spec.said_signals (view_env here.now) (start_of start) (record { first = scope.declaration first.entry; second = view.option scope.declaration second.entry } ∷ []))) }
+{
+    match first.sort {
+        Sort::Signal { signals, .. } => {
+            let one = said_signal(alloc, here, start, first, second, signals)?;
+            Ok(Some(one))
+        }
+        _ => Ok(None),
+    }
+}
+
+/// Where the next signal begins, behind one of this range. More signals or bits than 32 bits count are too many for memory.
+fn after(start: Start, range: Option<Range>) -> Result<Start, AllocError>
+    ensures { (m : SignalMeaning) → m.signal.range ≡ range → IfOk result (λ r. start_of r ≡ spec.after (start_of start) m) }
+{
+    let signal = start.signal.checked_add(1).ok_or(AllocError)?;
+    let length = u32::try_from(length_or_one(range)).map_err(|_| AllocError)?;
+    let bit = start.bit.checked_add(length).ok_or(AllocError)?;
+    Ok(Start {
+        scope: start.scope,
+        top: start.top,
+        signal,
+        bit,
+    })
+}
+
+/// The signals of a scope, by the names and values that its parameters have.
+pub(crate) fn said_signals<'a>(
+    alloc: Global,
+    here: &View<'_, 'a>,
+    start: Start,
+    names: &Names<'a>,
+) -> Result<SaidSignals<'a>, AllocError>
+    requires { AreShapedNames (named_list names.now) }
+    ensures signals { IfOk result (λ r. map placed r.signals.items ≡ map placed_of (spec.said_signals (view_env here.now) (start_of start) (named_list names.now))) }
+    ensures fault { IfOk result (λ r. r.fault ≡ least (flat_map faults_of (spec.said_signals (view_env here.now) (start_of start) (named_list names.now)))) }
+{
+    let mut signals = Vec::new(alloc);
+    let mut fault = None;
+    let mut next = start;
+    for i in 0..names.map.len() {
+        let Entry { first, second, .. } = *names.map.at(i);
+        match signal_at(alloc, here, next, first, second)? {
+            None => {}
+            Some(one) => {
+                next = after(next, one.signal.range)?;
+                fault = first_of(fault, one.fault);
+                signals.push(one.signal)?;
+            }
+        }
+    }
+    Ok(SaidSignals {
+        signals,
+        fault,
+        next,
+    })
+}
