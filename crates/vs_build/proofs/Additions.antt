@@ -1,5 +1,5 @@
 -- One more process, scope or signal, and the end: what makes the flat design lawful stays.
-use Rattle.std.proofs.Common.{◌≡◌, ℕ, suc, ◌+◌, ◌-◌, ◌<◌, ◌≤◌, ◌^◌, Bool, true, List, [], ◌∷◌, ◌++◌, length, map, refl, sym, ap, ◌∙◌, subst, arith, length-append}
+use Rattle.std.proofs.Common.{◌≡◌, ℕ, ◌+◌, ◌-◌, ◌<◌, ◌^◌, true, List, [], ◌∷◌, ◌++◌, length, map, refl, sym, ap, ◌∙◌, subst, arith, length-append}
 use Rattle.std.specs.List.{list_all, flat_map}
 use Rattle.vs_design.specs.Designs as D
 use Rattle.vs_design.specs.Elaborated.{is_formed, is_formed_statement, IsLawfulDesign}
@@ -18,7 +18,7 @@ use Rattle.vs_flat.proofs.Different.{once_different}
 use Rattle.vs_flat.proofs.Earlier.{names_empty, names_with_process, names_with_scope, names_with_signal}
 use Rattle.vs_flat.proofs.Growing.{process_added, scope_added, signal_added, trees_with_signal, statements_with_signal}
 use Rattle.vs_build.specs.Drafts.{Root, Body, and_process, and_scope, and_signal}
-use Rattle.vs_build.specs.Growth.{times, IsGrowing, node_levels, statement_levels, root_at, body_at, draft_of}
+use Rattle.vs_build.specs.Growth.{times, IsGrowing, node_levels, statement_levels, root_at, draft_of}
 use Rattle.vs_build.proofs.Counting.{times-append, times-flat, once_less, there_less, all_pushed}
 use Rattle.vs_build.proofs.Wider.{IsWider, all_wider, expression_wider, statement_wider, same_signals, more_signals}
 
@@ -51,9 +51,13 @@ expressions_named a p k =
     let next : List ℕ = flat_map (λ (s : Placed Statement). statement_expressions s.item) a.statements in
     let f : Process → List ℕ = λ q. kind_expressions q.kind in
     omega (
-    arith,
-    times-append k first (next ++ flat_map f (a.processes ++ p ∷ [])), times-append k next (flat_map f (a.processes ++ p ∷ [])),
-    times-append k first (next ++ flat_map f a.processes), times-append k next (flat_map f a.processes), times-flat f a.processes p k)
+      arith,
+      times-append k first (next ++ flat_map f (a.processes ++ p ∷ [])),
+      times-append k next (flat_map f (a.processes ++ p ∷ [])),
+      times-append k first (next ++ flat_map f a.processes),
+      times-append k next (flat_map f a.processes),
+      times-flat f a.processes p k,
+    )
 
 statements_named : (a : Arena) (p : Process) (k : ℕ) → times k (named_statements (with_process a p)) ≡ times k (named_statements a) + times k (kind_statements p.kind)
 statements_named a p k =

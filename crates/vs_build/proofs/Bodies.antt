@@ -1,5 +1,5 @@
 -- One more statement: what makes the flat design lawful stays, and what it stands for has the new statement in the place of what it names.
-use Rattle.std.proofs.Common.{◌≡◌, ℕ, suc, ◌+◌, ◌-◌, ◌<◌, ◌≤◌, ◌^◌, Bool, true, List, [], ◌∷◌, ◌++◌, length, get_or, map, max, refl, sym, ap, ◌∙◌, subst, arith, length-append}
+use Rattle.std.proofs.Common.{◌≡◌, ℕ, suc, ◌+◌, ◌-◌, ◌<◌, ◌≤◌, ◌^◌, true, List, [], ◌∷◌, ◌++◌, length, get_or, map, max, sym, ap, ◌∙◌, subst, arith, length-append}
 use Rattle.std.specs.List.{list_all, flat_map}
 use Rattle.std.proofs.lemmas.Bool.{le-leb}
 use Rattle.std.proofs.lemmas.List.{map-append}
@@ -19,7 +19,7 @@ use Rattle.vs_flat.proofs.Building.{built-append, length-built}
 use Rattle.vs_flat.proofs.Earlier.{names_with_statement}
 use Rattle.vs_flat.proofs.Growing.{length-arena_statements, statements_with_statement, statement_added}
 use Rattle.vs_build.specs.Drafts.{Body, and_body}
-use Rattle.vs_build.specs.Growth.{times, IsGrowing, statement_levels, root_at, body_at, draft_of}
+use Rattle.vs_build.specs.Growth.{times, IsGrowing, statement_levels, body_at, draft_of}
 use Rattle.vs_build.proofs.Counting.{times-append, times-flat, once_more, there_more, once_less, there_less, none_below, all_pushed, last_at, kept_at}
 
 statement_more : (a : Arena) (s : Statement) (at : ℕ) → EqualBelow (length a.statements) (statement_at (arena_statements (with_statement a s at))) (statement_at (arena_statements a))
@@ -48,9 +48,13 @@ expressions_named a s at k =
     let f : Placed Statement → List ℕ = λ m. statement_expressions m.item in
     let after : List ℕ = flat_map (λ (p : Process). kind_expressions p.kind) a.processes in
     omega (
-    arith,
-    times-append k before (flat_map f (a.statements ++ placed s at ∷ []) ++ after), times-append k (flat_map f (a.statements ++ placed s at ∷ [])) after,
-    times-append k before (flat_map f a.statements ++ after), times-append k (flat_map f a.statements) after, times-flat f a.statements (placed s at) k)
+      arith,
+      times-append k before (flat_map f (a.statements ++ placed s at ∷ []) ++ after),
+      times-append k (flat_map f (a.statements ++ placed s at ∷ [])) after,
+      times-append k before (flat_map f a.statements ++ after),
+      times-append k (flat_map f a.statements) after,
+      times-flat f a.statements (placed s at) k,
+    )
 
 statements_named : (a : Arena) (s : Statement) (at k : ℕ) → times k (named_statements (with_statement a s at)) ≡ times k (named_statements a) + times k (statement_statements s)
 statements_named a s at k =

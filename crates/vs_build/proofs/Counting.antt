@@ -1,11 +1,10 @@
 -- How often a number stands in a list, and lists with one more at the end.
-use Rattle.std.proofs.Common.{◌≡◌, ℕ, suc, ◌+◌, ◌<◌, ◌≤◌, Bool, true, false, ◌==◌, ◌&&◌, cond, nat_lt, List, [], ◌∷◌, ◌++◌, length, get_or, map, refl, sym, ap, ◌∙◌, subst, arith, eqb-true, eq-eqb}
+use Rattle.std.proofs.Common.{◌≡◌, ℕ, suc, ◌+◌, ◌<◌, ◌≤◌, Bool, true, false, ◌==◌, cond, nat_lt, List, [], ◌∷◌, ◌++◌, length, get_or, refl, sym, ap, ◌∙◌, arith, eqb-true, eq-eqb}
 use Rattle.std.specs.List.{list_all, flat_map}
 use Rattle.std.proofs.Math.ListN.{get_or-append}
 use Rattle.std.proofs.Math.Seq.{get_or-append_seam}
-use Rattle.std.proofs.lemmas.Bool.{lt-ltb, ltb-false}
+use Rattle.std.proofs.lemmas.Bool.{ltb-false}
 use Rattle.std.proofs.lemmas.Grind.{flat_map-append}
-use Rattle.std.proofs.lemmas.List.{map-append}
 use Rattle.std.proofs.lemmas.List.Folds.{list_all-append}
 use Rattle.std.proofs.lemmas.List.Sums.{sum_by-append}
 use Rattle.vs_flat.specs.Named.{all_below}
@@ -22,10 +21,10 @@ times-append n xs ys = sum_by-append (λ (k : ℕ). cond (k == n) 1 0) xs ys
 times-cons : (n m : ℕ) (ms : List ℕ) → times n (m ∷ ms) ≡ cond (m == n) 1 0 + times n ms
 times-cons n m ms = times-append n (m ∷ []) ms ∙ ap (λ k. k + times n ms) (omega arith)
 
-times_here : (n m : ℕ) (ms : List ℕ) → (m == n) ≡ true → times n (m ∷ ms) ≡ suc (times n ms)
+pub times_here : (n m : ℕ) (ms : List ℕ) → (m == n) ≡ true → times n (m ∷ ms) ≡ suc (times n ms)
 times_here n m ms e = times-cons n m ms ∙ ap (λ b. cond b 1 0 + times n ms) e ∙ omega arith
 
-times_elsewhere : (n m : ℕ) (ms : List ℕ) → (m == n) ≡ false → times n (m ∷ ms) ≡ times n ms
+pub times_elsewhere : (n m : ℕ) (ms : List ℕ) → (m == n) ≡ false → times n (m ∷ ms) ≡ times n ms
 times_elsewhere n m ms e = times-cons n m ms ∙ ap (λ b. cond b 1 0 + times n ms) e ∙ omega arith
 
 pub times-flat : {X : Type 0} (f : X → List ℕ) (xs : List X) (x : X) (n : ℕ) → times n (flat_map f (xs ++ x ∷ [])) ≡ times n (flat_map f xs) + times n (f x)

@@ -5,3 +5,14 @@ pub mod Wider
 pub mod Additions
 pub mod Steps
 pub mod NodeKinds
+pub mod Copies
+pub mod SignalNames
+pub mod Arms
+mod Planes
+pub mod Lists
+pub mod Selects
+pub mod Whole
+pub mod TargetFacts
+pub mod AssignFacts
+pub mod OutputFacts
+pub mod EventFaults

@@ -1,8 +1,7 @@
 -- The step for each kind of node.
-use Rattle.std.proofs.Common.{◌≡◌, ℕ, suc, ◌+◌, ◌-◌, ◌<◌, ◌≤◌, Bool, true, ◌&&◌, nat_lt, List, [], ◌∷◌, ◌++◌, length, get_or, take, max, Result, OnOk, refl, sym, ap, ◌∙◌, subst, arith}
+use Rattle.std.proofs.Common.{◌≡◌, ℕ, ◌+◌, ◌-◌, ◌<◌, ◌≤◌, Bool, true, ◌&&◌, nat_lt, List, [], ◌∷◌, ◌++◌, length, get_or, take, max, Result, OnOk, refl, sym, ap, ◌∙◌, subst, arith}
 use Rattle.std.proofs.lemmas.Bool.{lt-ltb}
 use Rattle.vs_four.specs.declared.Range.{Range}
-use Rattle.vs_four.specs.Logic.{BitList}
 use Rattle.vs_four.specs.Selects.{one_bit, Part}
 use Rattle.vs_design.specs.Expressions as E
 use Rattle.vs_design.specs.Elaborated.{is_formed, is_formed_select}
@@ -18,7 +17,7 @@ use Rattle.vs_flat.specs.Trees.{signal_at, tree_at, placed_tree, node_tree}
 use Rattle.vs_flat.specs.DesignOf.{arena_signals, arena_trees, design_of}
 use Rattle.vs_flat.specs.Lawful.{deepest, node_depths, node_names, has_copies}
 use Rattle.vs_flat.proofs.Agreeing.{and_both, and_true, first_below, rest_below}
-use Rattle.vs_build.specs.Drafts.{Root, Draft, and_roots, most_levels, EndsWith, EndsInSelect, AddsExpression}
+use Rattle.vs_build.specs.Drafts.{Root, Draft, most_levels, EndsWith, EndsInSelect, AddsExpression}
 use Rattle.vs_flat.proofs.Growing.{length-signals}
 use Rattle.vs_build.specs.Growth.{times, Growing, IsGrowing, root_at, draft_of, draft}
 use Rattle.vs_build.proofs.Counting.{times-append}
@@ -219,7 +218,7 @@ choice_adds r a b rs after rest bs x y z at s q w t u v m n k p d h i j =
 
 -- ---- found at the end of the stack
 
-ends_in : (count : ℕ) (a : Arena) (rs bs : List ℕ) (v : Growing) → (let w : Growing = record { arena = a; roots = rs; bodies = bs } in w) ≡ v → EndsWith count (draft v) → EndsWith count (draft_of a rs bs)
+pub ends_in : (count : ℕ) (a : Arena) (rs bs : List ℕ) (v : Growing) → (let w : Growing = record { arena = a; roots = rs; bodies = bs } in w) ≡ v → EndsWith count (draft v) → EndsWith count (draft_of a rs bs)
 ends_in count a rs bs v e h = subst (λ (w : Growing). EndsWith count (draft w)) (sym e) h
 
 at_last : (rs : List ℕ) (len k x : ℕ) → len ≡ length rs → x ≡ get_or rs (len - k) x → x ≡ get_or rs (length rs - k) x

@@ -1,12 +1,9 @@
 -- One more expression: what makes the flat design lawful stays, and what it stands for has the new tree in the place of those that it names.
 use Rattle.std.proofs.Common.{◌≡◌, ℕ, suc, ◌+◌, ◌-◌, ◌<◌, ◌≤◌, ◌^◌, Bool, true, ◌&&◌, List, [], ◌∷◌, ◌++◌, length, get_or, map, max, refl, sym, ap, ◌∙◌, subst, arith, length-append}
-use Rattle.std.specs.Prelude.{slice_get, Some}
 use Rattle.std.specs.List.{list_all, flat_map}
 use Rattle.std.proofs.lemmas.Bool.{le-leb}
 use Rattle.std.proofs.lemmas.List.{map-append}
 use Rattle.vs_design.specs.Expressions as E
-use Rattle.vs_design.specs.Statements as T
-use Rattle.vs_design.specs.Designs.{Design}
 use Rattle.vs_design.specs.Elaborated.{is_formed, is_formed_statement}
 use Rattle.vs_flat.specs.declared.placed.Placed.{Placed}
 use Rattle.vs_flat.specs.declared.expressions.Node.{Node}
@@ -19,7 +16,7 @@ use Rattle.vs_flat.specs.Arena.{Arena, placed, with_node}
 use Rattle.vs_flat.specs.Named.{all_below, node_expressions, statement_expressions, statement_statements, kind_expressions, kind_names_below, statement_names_below, covers_node}
 use Rattle.vs_flat.specs.Trees.{no_expression, signal_at, tree_at, statement_at, placed_tree}
 use Rattle.vs_flat.specs.DesignOf.{arena_signals, arena_trees, arena_statements, design_of}
-use Rattle.vs_flat.specs.Lawful.{NamesEarlier, statements_name_earlier, has_copies, is_target, has_target, assigns_target, node_names, named_expressions, named_statements, deepest, node_depths, statement_depths, are_chains}
+use Rattle.vs_flat.specs.Lawful.{NamesEarlier, statements_name_earlier, has_copies, is_target, has_target, assigns_target, node_names, named_expressions, deepest, node_depths, statement_depths, are_chains}
 use Rattle.vs_flat.proofs.Agreeing.{EqualBelow, and_both, and_true, first_below, rest_below, map_agrees, statement_parts, kind_parts}
 use Rattle.vs_flat.proofs.Building.{built-append, built_agrees, length-built}
 use Rattle.vs_flat.proofs.Earlier.{names_with_node}

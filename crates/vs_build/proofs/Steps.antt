@@ -1,8 +1,7 @@
 -- One more expression over the last ones.
-use Rattle.std.proofs.Common.{◌≡◌, ℕ, zero, suc, ◌+◌, ◌-◌, ◌<◌, ◌≤◌, ◌^◌, Bool, true, false, ◌&&◌, nat_lt, List, [], ◌∷◌, ◌++◌, length, get_or, map, max, take, drop, Result, Ok, Err, OnOk, OnErr, refl, sym, ap, ◌∙◌, subst, arith, append_assoc, length-append, drop-cons}
+use Rattle.std.proofs.Common.{◌≡◌, ℕ, zero, suc, ◌+◌, ◌-◌, ◌<◌, ◌≤◌, ◌^◌, true, List, [], ◌∷◌, ◌++◌, length, get_or, map, max, take, drop, Result, Ok, Err, OnOk, OnErr, refl, sym, ap, ◌∙◌, subst, arith, append_assoc, length-append, drop-cons}
 use Rattle.std.proofs.lemmas.List.{map-append, take-append-drop, length-map}
 use Rattle.std.proofs.lemmas.Option.{slice_get-get_or}
-use Rattle.vs_four.specs.Selects.{one_bit, Part}
 use Rattle.vs_design.specs.Expressions as E
 use Rattle.vs_design.specs.Elaborated.{is_formed}
 use Rattle.vs_flat.specs.declared.expressions.Node.{Node}
@@ -11,12 +10,12 @@ use Rattle.vs_flat.specs.Named.{all_below, node_expressions, covers_node}
 use Rattle.vs_flat.specs.Trees.{no_expression, signal_at, tree_at, placed_tree}
 use Rattle.vs_flat.specs.DesignOf.{arena_signals, arena_trees, design_of}
 use Rattle.vs_flat.specs.Lawful.{has_copies, node_names, deepest, node_depths}
-use Rattle.vs_flat.proofs.Agreeing.{and_both, and_true, below_append}
+use Rattle.vs_flat.proofs.Agreeing.{below_append}
 use Rattle.vs_flat.proofs.Earlier.{all_at}
 use Rattle.vs_flat.proofs.Growing.{length-arena_trees}
-use Rattle.vs_build.specs.Drafts.{Root, Body, Draft, and_root, and_roots, most_levels, EndsWith, AddsExpression}
-use Rattle.vs_build.specs.Growth.{times, Growing, IsGrowing, root_at, body_at, draft_of, draft}
-use Rattle.vs_build.proofs.Counting.{times-append, none_below}
+use Rattle.vs_build.specs.Drafts.{Root, Draft, and_root, and_roots, most_levels, EndsWith, AddsExpression}
+use Rattle.vs_build.specs.Growth.{times, IsGrowing, root_at, body_at, draft_of}
+use Rattle.vs_build.proofs.Counting.{times-append}
 use Rattle.vs_build.proofs.Nodes.{node_kept, node_draft, roots_below}
 
 -- ---- lists that end alike
@@ -69,8 +68,7 @@ ends_enough count a rs bs e =
 pub parts_are : (a : Arena) (rest used bs : List ℕ) (s : Draft) (ts : List Root) → draft_of a (rest ++ used) bs ≡ and_roots s ts → length used ≡ length ts → (map (root_at a) used ≡ ts) × (draft_of a rest bs ≡ s)
 parts_are a rest used bs s ts e h =
     let trees : map (root_at a) rest ++ map (root_at a) used ≡ s.expressions ++ ts = sym (map-append (root_at a) rest used) ∙ ap (λ (d : Draft). d.expressions) e in
-    let p = append_same (map (root_at a) rest) s.expressions (map (root_at a) used) ts trees (length-map used (root_at a) ∙ h) in
-    (
+    let p = append_same (map (root_at a) rest) s.expressions (map (root_at a) used) ts trees (length-map used (root_at a) ∙ h) in (
       p.1,
       ap (λ d. record (draft_of a rest bs) { design = d }) (ap (λ (d : Draft). d.design) e)
           ∙ ap (λ xs. (let r : Draft = record { design = s.design; expressions = xs; statements = map (body_at a) bs } in r)) p.0

@@ -1,8 +1,8 @@
 -- What is formed over a design is formed over one that has its signals too.
-use Rattle.std.proofs.Common.{◌≡◌, ℕ, zero, suc, Bool, true, false, not, ◌&&◌, List, [], ◌∷◌, ◌++◌, refl, sym, ap, ◌∙◌}
-use Rattle.std.specs.Prelude.{slice_get, Some, None, Option}
+use Rattle.std.proofs.Common.{◌≡◌, ℕ, zero, suc, Bool, true, not, ◌&&◌, List, [], ◌∷◌, ◌++◌, refl, ap, ◌∙◌}
+use Rattle.std.specs.Prelude.{slice_get, Some}
 use Rattle.std.specs.List.{list_all}
-use Rattle.vs_four.specs.Selects.{Part, range_length}
+use Rattle.vs_four.specs.Selects.{Part}
 use Rattle.vs_design.specs.Expressions.{Signal, Source, OfSignal, OfConstant, Expression, Literal, Name, Select, Unary, Binary, Choice, Join, Repeat, At}
 use Rattle.vs_design.specs.Statements.{Target, Whole, PartOf, Both, Statement, Empty, Assignment, Then, If, Case, Arms, Arm, Default}
 use Rattle.vs_design.specs.Designs.{Design}

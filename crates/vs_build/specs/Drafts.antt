@@ -1,12 +1,13 @@
 -- A design that is being built: what it is so far, and the expressions and statements that nothing in it names yet, in the order in which they were built.
-use Rattle.std.specs.Prelude.{◌≡◌, ◌≤◌, ℕ, suc, Bool, true, List, [], ◌∷◌, ◌++◌, length, max, nat_le}
-use Rattle.std.specs.List.{list_all}
+use Rattle.std.specs.Prelude.{◌≡◌, ◌≤◌, ℕ, true, List, [], ◌∷◌, ◌++◌, map, length, max}
 use Rattle.vs_design.specs.Expressions.{Signal, Expression}
 use Rattle.vs_design.specs.Statements.{Statement}
 use Rattle.vs_design.specs.Designs.{Scope, Process, Design}
 use Rattle.vs_design.specs.Elaborated.{is_formed_select}
 use Rattle.vs_four.specs.Selects.{Part}
+use Rattle.vs_flat.specs.declared.processes.Port.{Port}
 use Rattle.vs_flat.specs.Targets.{source_of}
+use Rattle.vs_flat.specs.Lawful.{is_target}
 
 -- an expression, and on how many levels it stands: the longest chain of expressions, each within the one before it
 pub record Root : Type 0 where
@@ -29,11 +30,6 @@ no_design = record { scopes = []; signals = []; processes = [] }
 
 abbrev pub no_draft : Draft
 no_draft = record { design = no_design; expressions = []; statements = [] }
-
--- everything that was built is part of the design
-pub record IsIdle (s : Draft) : Type 0 where
-  pub expressions : s.expressions ≡ []
-  pub statements : s.statements ≡ []
 
 -- ---- with one more of a kind
 
@@ -86,6 +82,14 @@ pub record EndsInSelect (part : Part) (s : Draft) : Type 0 where
   pub few : most_levels (index ∷ of ∷ []) ≤ 254
   pub formed : is_formed_select s.design (source_of of.tree) part ≡ true
 
+-- the last ones are what an assign of this kind writes, and its expression
+pub record EndsInAssign (port : Port) (s : Draft) : Type 0 where
+  pub before : Draft
+  pub target : Root
+  pub value : Root
+  pub is : s ≡ and_roots before (target ∷ value ∷ [])
+  pub written : is_target port target.tree ≡ true
+
 -- ---- what a step does
 
 -- one more expression, on at most so many levels
@@ -93,6 +97,13 @@ pub record AddsExpression (old new : Draft) (tree : Expression) (most : ℕ) : T
   pub levels : ℕ
   pub few : levels ≤ most
   pub is : new ≡ and_root old (record { tree = tree; levels = levels })
+
+-- these expressions more, in this order
+pub record AddsParts (old new : Draft) (trees : List Expression) (most : ℕ) : Type 0 where
+  pub roots : List Root
+  pub are : map (λ (r : Root). r.tree) roots ≡ trees
+  pub few : most_levels roots ≤ most
+  pub is : new ≡ and_roots old roots
 
 pub record AddsStatement (old new : Draft) (statement : Statement) (most : ℕ) : Type 0 where
   pub levels : ℕ

@@ -1,2 +1,5 @@
 pub mod Drafts
 pub mod Growth
+pub mod Buildable
+pub mod Writable
+pub mod Outputs

@@ -1,12 +1,13 @@
 //! A flat design that grows.
 
-ghost use Rattle.std.specs.Prelude.{◌≡◌, ◌<◌, ◌≤◌, ◌^◌, ◌-◌, ◌+◌, [], ◌∷◌, ◌++◌, true, length, max, suc, take, IsTrue, IfOk, OnOk, OnErr, vec_len, vec_capacity, ℕ};
+ghost use Rattle.std.specs.Prelude.{◌≡◌, ◌<◌, ◌≤◌, ◌^◌, ◌-◌, ◌+◌, [], ◌∷◌, ◌++◌, true, length, max, suc, take, IsTrue, IfOk, OnOk, OnErr, vec_len, vec_capacity, ℕ, List, nat_lt, option_to_list};
+ghost use Rattle.vs_four.specs.Lengths.{repeat};
 ghost use Rattle.vs_flat.specs.Arena.{with_node, with_statement};
-ghost use Rattle.vs_flat.specs.Named.{covers_node};
+ghost use Rattle.vs_flat.specs.Named.{all_below, covers_node};
 
 use std::alloc::{AllocError, Global};
 use std::marker::Model;
-use vs_flat::{BinaryOp, Flat, Node, UnaryOp};
+use vs_flat::{BinaryOp, Flat, Kind, List, Node, Port, Process, Scope, Signal, UnaryOp};
 use vs_four::{Bits, Range};
 
 /// A flat design that grows, with the expressions and statements that nothing in it names yet, in the order in which they were built.
@@ -27,22 +28,18 @@ impl Model for Builder {
     ghost invariant = { λ b. IsGrowing b.flat b.roots.items b.bodies.items };
 }
 
-/// What a select takes bits of: a signal by its number, or the value of a parameter.
-#[derive(Clone, Copy, Debug)]
-pub enum Source {
-    Signal(u32),
-    Constant { bits: Bits, signed: bool },
-}
-
 impl Builder {
-    ghost use Rattle.vs_build.specs.Drafts.{no_draft, Draft, Root, AddsExpression, EndsWith, EndsInSelect};
+    ghost use Rattle.vs_build.specs.Drafts.{no_draft, Draft, Root, AddsExpression, AddsParts, EndsWith, EndsInSelect, EndsInAssign, and_scope, and_signal, and_process};
     ghost use Rattle.vs_build.specs.Growth.{draft};
     ghost use Rattle.vs_design.specs.Expressions as E;
-    ghost use Rattle.vs_design.specs.Elaborated.{is_formed};
-    ghost use Rattle.vs_flat.specs.Operators.{unary_of, binary_of};
-    ghost use Rattle.vs_flat.specs.Targets.{source_of};
+    ghost use Rattle.vs_design.specs.Designs.{Continuous, bit_count as design_bits};
+    ghost use Rattle.vs_design.specs.Elaborated.{is_formed, IsLawfulDesign};
+    ghost use Rattle.vs_flat.specs.Operators.{unary_of, binary_of, port_of};
+    ghost use Rattle.vs_flat.specs.DesignOf.{scope_of, design_of};
+    ghost use Rattle.vs_flat.specs.Lawful.{IsLawful};
+    ghost use Rattle.vs_flat.specs.Targets.{source_of, place_of};
     ghost use Rattle.vs_four.specs.Selects.{one_bit};
-    ghost use Rattle.vs_flat.specs.Trees.{signal_at};
+    ghost use Rattle.vs_flat.specs.Trees.{signal_at, signal_of, joined, target_tree};
 
     /// Nothing. It takes no memory.
     pub fn new(alloc: Global) -> Builder
@@ -84,12 +81,7 @@ impl Builder {
         requires formed { is_formed (draft self.old).design (E.Name (signal_at (draft self.old).design.signals signal)) ≡ true }
         ensures { OnOk result (AddsExpression (draft self.old) (draft self.new) (E.At at (E.Name (signal_at (draft self.old).design.signals signal))) 1) }
     {
-        add_leaf(
-            &mut self.flat,
-            &mut self.roots,
-            Node::Name { signal },
-            at,
-        )
+        add_leaf(&mut self.flat, &mut self.roots, Node::Name { signal }, at)
     }
 
     /// Builds an operator on the last expression.
@@ -166,13 +158,7 @@ impl Builder {
     }
 
     /// Builds a part select of `width` bits, upwards or downwards from an index on.
-    pub fn part(
-        &mut self,
-        range: Range,
-        up: bool,
-        width: u32,
-        at: u32,
-    ) -> Result<(), AllocError>
+    pub fn part(&mut self, range: Range, up: bool, width: u32, at: u32) -> Result<(), AllocError>
         requires { EndsInSelect (record { range = range; up = up; width = width }) (draft self.old) }
         ensures { (s r : Draft) (t u : E.Expression) (m n : ℕ) → AddsExpression s r t m → AddsExpression r (draft self.old) u n
             → OnOk result (AddsExpression s (draft self.new) (E.At at (E.Select (source_of u) (record { range = range; up = up; width = width }) t)) (1 + max m n)) }
@@ -194,15 +180,102 @@ impl Builder {
             at,
         )
     }
+
+    /// Builds a replication of the last expressions, `count` of them, in so many copies (IEEE 1364-2005, 5.1.14); a concatenation is one copy.
+    pub fn join(
+        &mut self,
+        alloc: Global,
+        count: usize,
+        copies: u32,
+        at: u32,
+    ) -> Result<(), AllocError>
+        requires parts { EndsWith count (draft self.old) }
+        requires some { 1 ≤ count }
+        requires copied { 1 ≤ copies }
+        requires most { copies ≤ 64 }
+        ensures { (s : Draft) (ts : List E.Expression) (m : ℕ) → AddsParts s (draft self.old) ts m → length ts ≡ count
+            → OnOk result (AddsExpression s (draft self.new) (E.At at (E.Repeat copies (joined ts))) (1 + m)) }
+    {
+        let kept = self.roots.len() - count;
+        let parts = copied(alloc, &self.roots[kept..], copies)?;
+        add_over(
+            &mut self.flat,
+            &mut self.roots,
+            count,
+            Node::Join {
+                parts: List::of(parts),
+            },
+            at,
+        )
+    }
+
+    /// Adds a scope and answers its number.
+    pub fn add_scope(&mut self, scope: Scope) -> Result<u32, AllocError>
+        requires { IsTrue (all_below (length (draft self.old).design.scopes) (option_to_list scope.parent)) }
+        ensures number { IfOk result (λ n. n ≡ length (draft self.old).design.scopes) }
+        ensures ok { OnOk result (draft self.new ≡ and_scope (draft self.old) (scope_of scope)) }
+    {
+        self.flat.add_scope(scope)
+    }
+
+    /// Adds a signal and answers its number.
+    pub fn add_signal(&mut self, signal: Signal) -> Result<u32, AllocError>
+        requires scope { IsTrue (nat_lt signal.scope (length (draft self.old).design.scopes)) }
+        requires bits { design_bits (draft self.old).design + E.range_or_one signal.range ≤ 2 ^ 20 }
+        ensures number { IfOk result (λ n. n ≡ length (draft self.old).design.signals) }
+        ensures ok { OnOk result (draft self.new ≡ and_signal (draft self.old) (signal_of (length (draft self.old).design.signals) signal)) }
+    {
+        self.flat.add_signal(signal)
+    }
+
+    /// The flat design, which is lawful where its plain design is.
+    pub fn finish(self) -> Flat
+        requires { IsLawfulDesign (draft self).design }
+        ensures design { design_of result ≡ (draft self).design }
+        ensures lawful { IsLawful result }
+    {
+        let Builder {
+            flat,
+            roots: _,
+            bodies: _,
+        } = self;
+        flat
+    }
+
+    /// Builds an assign, written or of a port (IEEE 1364-2005, 6.1 and 12.3.9.2), from the last expression to the one before it.
+    pub(crate) fn assign(&mut self, port: Port, at: u32) -> Result<(), AllocError>
+        requires room { length (draft self.old).design.processes < 2 ^ 16 }
+        requires ends { EndsInAssign port (draft self.old) }
+        ensures { (s r : Draft) (t u : E.Expression) (m n : ℕ) → AddsExpression s r t m → AddsExpression r (draft self.old) u n
+            → OnOk result (draft self.new ≡ and_process s (Continuous at (port_of port) (place_of t) (target_tree t) u)) }
+    {
+        let n = self.roots.len();
+        let target = self.roots[n - 2];
+        let expr = self.roots[n - 1];
+        self.flat.add_process(Process {
+            at,
+            kind: Kind::Assign { target, expr, port },
+        })?;
+        self.roots.truncate(n - 2);
+        Ok(())
+    }
+}
+
+/// These numbers, so many times.
+fn copied(alloc: Global, part: &[u32], copies: u32) -> Result<Vec<u32>, AllocError>
+    ensures { IfOk result (λ v. v.items ≡ repeat copies part.now) }
+{
+    let mut all = Vec::new(alloc);
+    let mut made = 0;
+    while made < copies {
+        all.extend_from_slice(part)?;
+        made += 1;
+    }
+    Ok(all)
 }
 
 /// Adds a node that names no other one.
-fn add_leaf(
-    flat: &mut Flat,
-    roots: &mut Vec<u32>,
-    node: Node,
-    at: u32,
-) -> Result<(), AllocError>
+fn add_leaf(flat: &mut Flat, roots: &mut Vec<u32>, node: Node, at: u32) -> Result<(), AllocError>
     requires { IsTrue (covers_node flat.old node) }
     ensures flat { OnOk result (flat.new ≡ with_node flat.old node at) }
     ensures roots { OnOk result (roots.new.items ≡ roots.old.items ++ length flat.old.nodes ∷ []) }

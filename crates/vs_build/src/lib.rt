@@ -1,6 +1,16 @@
 //! Trees of the text as nodes of the flat design (IEEE 1364-2005, clauses 5, 6 and 9).
 #![tactic(auto)]
 
+mod assigns;
 mod builder;
+mod checks;
+mod expressions;
+mod names;
+mod operators;
+mod outputs;
+mod targets;
 
-pub use builder::{Builder, Source};
+pub use assigns::{assign, input_port, wire};
+pub use builder::Builder;
+pub use checks::{check_control, first_fault};
+pub use outputs::output_port;

@@ -1,9 +1,8 @@
-use Rattle.std.proofs.Common.{◌≡◌, ℕ, ◌-◌, ◌++◌, ◌∷◌, [], take, length, max, refl, sym, ap, ◌∙◌, subst, arith}
+use Rattle.std.proofs.Common.{[], refl}
 use Rattle.vs_design.specs.Expressions as E
-use Rattle.vs_four.specs.Selects.{one_bit}
 use Rattle.vs_flat.specs.declared.expressions.Node.TheVariants as N
 use Rattle.vs_build.proofs.Steps.{step_kept}
-use Rattle.vs_build.proofs.NodeKinds.{leaf_step, leaf_adds, covers_name, unary_found, unary_adds, binary_found, binary_adds, choice_found, choice_adds, select_found, select_enough, select_adds, bit_is, part_is, with_enough, last_added, first_added, formed_in, name_in, signal_in}
+use Rattle.vs_build.proofs.NodeKinds.{leaf_step, leaf_adds, first_added, formed_in}
 use Rattle.vs_build.proofs.builder.Builder.literal.Goals as goal
 
 pub invariant_of-self : goal.invariant_of-self

@@ -1,13 +1,12 @@
-use Rattle.std.proofs.Common.{◌≡◌, ℕ, ◌-◌, ◌++◌, ◌∷◌, [], take, length, max, refl, sym, ap, ◌∙◌, subst, arith}
+use Rattle.std.proofs.Common.{[], refl, ap, ◌∙◌}
 use Rattle.vs_design.specs.Expressions as E
-use Rattle.vs_four.specs.Selects.{one_bit}
 use Rattle.vs_flat.specs.declared.expressions.Node.TheVariants as N
 use Rattle.vs_design.specs.Elaborated.{is_formed}
 use Rattle.vs_flat.specs.DesignOf.{design_of}
 use Rattle.vs_flat.specs.Trees.{signal_at}
 use Rattle.vs_build.specs.Growth.{draft}
 use Rattle.vs_build.proofs.Steps.{step_kept}
-use Rattle.vs_build.proofs.NodeKinds.{leaf_step, leaf_adds, covers_name, unary_found, unary_adds, binary_found, binary_adds, choice_found, choice_adds, select_found, select_enough, select_adds, bit_is, part_is, with_enough, last_added, first_added, formed_in, name_in, signal_in}
+use Rattle.vs_build.proofs.NodeKinds.{leaf_step, leaf_adds, covers_name, first_added, formed_in, name_in, signal_in}
 use Rattle.vs_build.proofs.builder.Builder.name.Goals as goal
 
 pub add_leaf-requires : goal.add_leaf-requires

@@ -1,0 +1,254 @@
+-- Targets without a fault.
+use Rattle.std.proofs.Common.{rules, ◌≡◌, ℕ, zero, suc, ◌+◌, ◌*◌, ◌<◌, ◌≤◌, Bool, true, false, not, ◌&&◌, ◌||◌, List, [], ◌∷◌, ◌++◌, length, get_or, map, take, Option, Some, Vec, Global, Result, OnOk, refl, sym, ap, ◌∙◌, subst, arith}
+use Rattle.std.proofs.Math.Seq.{take-suc, take-length}
+use Rattle.std.proofs.lemmas.List.{map-append, length-map}
+use denote.Param.Weighed.{most, at_most}
+use Rattle.vs_four.specs.declared.Range.{Range}
+use Rattle.vs_design.specs.Expressions as E
+use Rattle.vs_design.specs.Expressions.{Expression}
+use Rattle.vs_design.specs.Statements.{Whole, PartOf}
+use Rattle.vs_design.specs.Designs.{Design}
+use Rattle.vs_design.specs.Elaborated.{is_signal, is_formed, is_formed_select}
+use Rattle.vs_grammar.specs.Trees as tree
+use Rattle.vs_grammar.specs.Trees.{expr_place, target_place}
+use Rattle.vs_grammar.specs.Shapes.{IsSelect, IsTarget, ArePartsOfTarget, AreTargets}
+use Rattle.vs_grammar.specs.Depths.{target_depth, targets_depth}
+use Rattle.vs_ast.proofs.statements.Target.TheLaws.{the_size}
+use Rattle.vs_ast.specs.declared.statements.Target.{Target, Concatenation, the_lemmas}
+use Rattle.vs_ast.specs.Views.{target, targets}
+use Rattle.vs_ast.proofs.Rows.{target_rows}
+use Rattle.vs_const.specs.Faults.{fault_if}
+use Rattle.vs_const.specs.Meanings.{SignalMeaning, Meaning, AValue, Undefined, ASignal, Another, Unknown, Find}
+use Rattle.vs_const.specs.Sound.{IsSound, AreSound}
+use Rattle.vs_const.specs.Typed.{Typed, begins_at, fine}
+use Rattle.vs_const.specs.Selects.{Base, signal_base, base_of, is_scalar, name_typed, known_signal, Taken, taken, slice_taken, first_needed, select_if, select_typed}
+use Rattle.vs_const.specs.Expressions.{typed}
+use Rattle.vs_const.proofs.Formed.{both_nil, both, no_fault, sound_needed, first_sound, signal_base_fine, IsFineTaken, bit_fine, slice_fine, taken_faults, typed_fine}
+use Rattle.vs_flat.specs.Targets.{target_of, both_of, place_of}
+use Rattle.vs_flat.specs.Trees.{joined}
+use Rattle.vs_hierarchy.specs.Targets.{meant_signal, TypedTarget, is_wrong_target, target_base, part_target, selected_target, typed_target, typed_targets}
+use Rattle.vs_build.specs.Drafts.{Draft, AddsExpression, AddsParts}
+use Rattle.vs_build.specs.Buildable.{selected_by, IsSelectable}
+use Rattle.vs_build.specs.Writable.{target_expression, targets_expression, IsWritable, AreWritable, target_expressions}
+use Rattle.vs_build.proofs.Lists.{parts_design}
+
+-- ---- names
+
+either_false : (a b : Bool) → (a || b) ≡ false → (a ≡ false) × (b ≡ false)
+either_false true b h = cc
+either_false false b h = (refl, h)
+
+-- what a target names is a signal
+pub record NamesSignal (d : Design) (place : ℕ) (selected : Bool) (m : Meaning) : Type 0 where
+  pub s : SignalMeaning
+  pub is : m ≡ ASignal s
+  pub of_design : is_signal d s.signal ≡ true
+  pub known : s.known ≡ true
+  pub vector : (selected && is_scalar s) ≡ false
+
+names_signal : (d : Design) (procedural selected : Bool) (place : ℕ) (m : Meaning) → IsSound d false m → (target_base procedural place selected m).faults ≡ [] → NamesSignal d place selected m
+names_signal d procedural selected place (AValue v r) h f = cc
+names_signal d procedural selected place (Undefined r) h f = cc
+names_signal d procedural selected place (ASignal s) h f =
+    record { s = s; is = refl; of_design = h.0; known = h.1; vector = (either_false (is_wrong_target procedural s) (selected && is_scalar s) (no_fault (is_wrong_target procedural s || (selected && is_scalar s)) 43 place f)).1 }
+names_signal d procedural selected place Another h f = cc
+names_signal d procedural selected place Unknown h f = cc
+
+-- the parts of what bits of a signal are
+pub record IsNamedTarget (d : Design) (find : Find) (procedural : Bool) (name : tree.Name) (select : tree.Select) : Type 0 where
+  pub good : (selected_by select name find false (not procedural)).good ≡ true
+  pub clean : (selected_by select name find false (not procedural)).faults ≡ []
+  pub formed : is_formed d (selected_by select name find false (not procedural)).expression ≡ true
+  pub written : target_of (selected_by select name find false (not procedural)).expression ≡ Some (selected_target select name find procedural).target
+
+whole_target : (d : Design) (find : Find) (procedural : Bool) (name : tree.Name) → IsSound d false (find name.bytes) → (selected_target tree.Whole name find procedural).faults ≡ [] → IsNamedTarget d find procedural name tree.Whole
+whole_target d find procedural name sound h =
+    let n = names_signal d procedural false name.place (find name.bytes) sound h in
+    let is : name_typed false name.place (find name.bytes) ≡ fine (E.Name n.s.signal) [] = ap (name_typed false name.place) n.is ∙ ap (λ k. known_signal k n.s.signal) n.known in
+    record {
+      good = ap (λ (t : Typed). t.good) is;
+      clean = ap (λ (t : Typed). t.faults) is;
+      formed = ap (λ (t : Typed). is_formed d t.expression) is ∙ n.of_design;
+      written = ap (λ (t : Typed). target_of t.expression) is ∙ ap (λ m. Some (Whole (meant_signal m))) (sym n.is);
+    }
+
+select_of : (d : Design) (needed : Bool) (s : SignalMeaning) (b : Base) (t : Taken) (r : Range) → b.source ≡ E.OfSignal s.signal → b.good ≡ true → IsFineTaken d needed r t → select_typed b t ≡ record { expression = E.Select (E.OfSignal s.signal) t.part t.index; length = t.length; good = true; faults = b.faults ++ t.faults }
+select_of d needed s b t r source good f =
+    ap (λ c. select_if c b t) (both b.good t.good good f.good) ∙ ap (λ x. (let y : Typed = record { expression = E.Select x t.part t.index; length = t.length; good = true; faults = b.faults ++ t.faults } in y)) source
+
+-- whatever bits are taken
+part_case : (d : Design) (find : Find) (procedural : Bool) (name : tree.Name) (select : tree.Select) (tk : Option Range → Taken) → IsSound d false (find name.bytes)
+    → (selected_by select name find false (not procedural)) ≡ select_typed (base_of false name.place (find name.bytes)) (tk (base_of false name.place (find name.bytes)).range)
+    → selected_target select name find procedural ≡ part_target (meant_signal (find name.bytes)) (target_base procedural name.place true (find name.bytes)) (tk (target_base procedural name.place true (find name.bytes)).range)
+    → ((r : Range) (o : Option Range) → o ≡ Some r → (tk o).faults ≡ [] → IsFineTaken d (not procedural) r (tk o))
+    → (selected_target select name find procedural).faults ≡ [] → IsNamedTarget d find procedural name select
+part_case d find procedural name select tk sound by_name by_target fine_if h =
+    let m = find name.bytes in
+    let tb = target_base procedural name.place true m in
+    let k = both_nil tb.faults (tk tb.range).faults (sym (ap (λ (t : TypedTarget). t.faults) by_target) ∙ h) in
+    let n = names_signal d procedural true name.place m sound k.0 in
+    let s = n.s in
+    let none : fault_if (is_scalar s) 43 name.place ≡ [] = ap (λ b. fault_if b 43 name.place) n.vector in
+    let fb = signal_base_fine d name.place s s.signal.range refl n.of_design n.known none in
+    let range_is : tb.range ≡ s.signal.range = ap (λ x. (target_base procedural name.place true x).range) n.is in
+    let t = tk s.signal.range in
+    let clean : t.faults ≡ [] = ap (λ o. (tk o).faults) (sym range_is) ∙ k.1 in
+    let f : IsFineTaken d (not procedural) fb.r t = fine_if fb.r s.signal.range fb.range clean in
+    let base_is : base_of false name.place m ≡ signal_base [] s = ap (base_of false name.place) n.is ∙ ap (λ fs. signal_base fs s) none in
+    let is : selected_by select name find false (not procedural) ≡ (let y : Typed = record { expression = E.Select (E.OfSignal s.signal) t.part t.index; length = t.length; good = true; faults = t.faults } in y) =
+    by_name ∙ ap (λ b. select_typed b (tk b.range)) base_is ∙ select_of d (not procedural) s (signal_base [] s) t fb.r refl n.known f
+    in
+    record {
+      good = ap (λ (x : Typed). x.good) is;
+      clean = ap (λ (x : Typed). x.faults) is ∙ clean;
+      formed = ap (λ (x : Typed). is_formed d x.expression) is ∙ both (is_formed_select d (E.OfSignal s.signal) t.part) (is_formed d t.index) (fb.formed t.part f.range f.fits) f.formed;
+      written =
+          ap (λ (x : Typed). target_of x.expression) is
+          ∙ ap (λ o. Some (PartOf s.signal (tk o).part (tk o).index)) (sym range_is)
+          ∙ ap (λ x. Some (PartOf (meant_signal x) (tk tb.range).part (tk tb.range).index)) (sym n.is)
+          ∙ ap (λ (x : TypedTarget). Some x.target) (sym by_target);
+    }
+
+needed_sound : (d : Design) (needed : Bool) (find : Find) → AreSound d false find → AreSound d needed find
+needed_sound d true find s = λ name. sound_needed d false (find name) (s name)
+needed_sound d false find s = s
+
+pub named_target : (d : Design) (find : Find) (procedural : Bool) (name : tree.Name) (select : tree.Select) → IsSelect select → AreSound d false find → (selected_target select name find procedural).faults ≡ [] → IsNamedTarget d find procedural name select
+named_target d find procedural name tree.Whole x sound h = whole_target d find procedural name (sound name.bytes) h
+named_target d find procedural name (tree.BitAt bracket index) x sound h =
+    let i = typed index find (not procedural) in
+    part_case d find procedural name (tree.BitAt bracket index) (λ o. taken o true 1 i i.faults) (sound name.bytes) refl refl
+    (λ r o e f. bit_fine d (not procedural) o r i e (typed_fine d find index (not procedural) (needed_sound d (not procedural) find sound) x (sym (taken_faults o true 1 i i.faults) ∙ f))) h
+named_target d find procedural name (tree.Slice bracket kind a b) x sound h =
+    let needed = not procedural in
+    let all = needed_sound d needed find sound in
+    part_case d find procedural name (tree.Slice bracket kind a b) (λ o. slice_taken o bracket kind (expr_place a) (typed a find (first_needed kind needed)) (expr_place b) (typed b find true)) (sound name.bytes) refl refl
+    (λ r o e f. slice_fine d needed o r bracket kind (expr_place a) (typed a find (first_needed kind needed)) (expr_place b) (typed b find true) e
+    (λ k. typed_fine d find a (first_needed kind needed) (first_sound d kind needed find all) x.0 k) (λ k. typed_fine d find b true (needed_sound d true find sound) x.1 k) f) h
+
+pub named_selectable : (d : Design) (find : Find) (procedural : Bool) (name : tree.Name) (select : tree.Select) → IsWritable d find procedural (tree.NamedTarget name select) → IsSelectable d find false (not procedural) name select
+named_selectable d find procedural name select w =
+    let n = named_target d find procedural name select w.shaped.1 w.sound w.clean in
+    record { shaped = w.shaped.1; signals = w.sound name.bytes; sound = needed_sound d (not procedural) find w.sound; clean = n.clean; good = n.good; formed = n.formed; shallow = w.shallow }
+
+-- ---- the whole is a target, that of the definition
+
+begins_target : (p : ℕ) (e : Expression) → target_of (begins_at p e) ≡ target_of e
+begins_target p (E.Literal bits signed sized) = refl
+begins_target p (E.Name signal) = refl
+begins_target p (E.Select source part index) = refl
+begins_target p (E.Unary op a) = refl
+begins_target p (E.Binary op a b) = refl
+begins_target p (E.Choice c a b) = refl
+begins_target p (E.Join a b) = refl
+begins_target p (E.Repeat n a) = refl
+begins_target p (E.At q e) = refl
+
+begins_place : (p : ℕ) (e : Expression) → place_of (begins_at p e) ≡ p
+begins_place p (E.Literal bits signed sized) = refl
+begins_place p (E.Name signal) = refl
+begins_place p (E.Select source part index) = refl
+begins_place p (E.Unary op a) = refl
+begins_place p (E.Binary op a b) = refl
+begins_place p (E.Choice c a b) = refl
+begins_place p (E.Join a b) = refl
+begins_place p (E.Repeat n a) = refl
+begins_place p (E.At q e) = refl
+
+mutual
+  pub written : (d : Design) (find : Find) (procedural : Bool) (t : tree.Target) → IsTarget t → AreSound d false find → (typed_target t find procedural).faults ≡ [] → target_of (target_expression t find procedural) ≡ Some (typed_target t find procedural).target
+  written d find procedural (tree.NamedTarget name select) x s h =
+      begins_target name.place (selected_by select name find false (not procedural)).expression ∙ (named_target d find procedural name select x.1 s h).written
+  written d find procedural (tree.Targeted place parts) x s h = parts_written d find procedural parts x s h
+
+  pub parts_written : (d : Design) (find : Find) (procedural : Bool) (ts : tree.Targets) → ArePartsOfTarget ts → AreSound d false find → (typed_targets ts find procedural).faults ≡ [] → target_of (targets_expression ts find procedural) ≡ Some (typed_targets ts find procedural).target
+  parts_written d find procedural tree.NoTarget x s h = absurd x
+  parts_written d find procedural (tree.AndTarget t tree.NoTarget) x s h = written d find procedural t x.0 s h
+  parts_written d find procedural (tree.AndTarget t (tree.AndTarget u rest)) x s h =
+      let k = both_nil (typed_target t find procedural).faults (typed_targets (tree.AndTarget u rest) find procedural).faults h in
+      ap (λ o. both_of o (target_of (targets_expression (tree.AndTarget u rest) find procedural))) (written d find procedural t x.0 s k.0)
+      ∙ ap (λ o. both_of (Some (typed_target t find procedural).target) o) (parts_written d find procedural (tree.AndTarget u rest) x.1 s k.1)
+
+pub begins_there : (t : tree.Target) (find : Find) (procedural : Bool) → place_of (target_expression t find procedural) ≡ target_place t
+begins_there (tree.NamedTarget name select) find procedural = begins_place name.place (selected_by select name find false (not procedural)).expression
+begins_there (tree.Targeted place parts) find procedural = refl
+
+-- ---- the parts, one after the other
+
+pub concatenation_view : (place : ℕ) (list : Vec Target Global) → target (Concatenation place list) ≡ tree.Targeted place (targets list.items)
+concatenation_view place list = search (rules, target_rows, the_lemmas)
+
+pub some_part : (ts : List Target) → ArePartsOfTarget (targets ts) → 1 ≤ length ts
+some_part [] x = absurd x
+some_part (t ∷ ts) x = omega arith
+
+each_shaped : (ts : List Target) (i : ℕ) (x : Target) → AreTargets (targets ts) → i < length ts → IsTarget (target (get_or ts i x))
+each_shaped [] i x s h = absurd (omega arith)
+each_shaped (t ∷ ts) zero x s h = s.0
+each_shaped (t ∷ ts) (suc i) x s h = each_shaped ts i x s.1 (omega arith)
+
+shaped_at : (ts : List Target) (i : ℕ) (x : Target) → ArePartsOfTarget (targets ts) → i < length ts → IsTarget (target (get_or ts i x))
+shaped_at [] i x s h = absurd s
+shaped_at (t ∷ ts) i x s h = each_shaped (t ∷ ts) i x s h
+
+clean_at : (find : Find) (procedural : Bool) (ts : List Target) (i : ℕ) (x : Target) → (typed_targets (targets ts) find procedural).faults ≡ [] → i < length ts → (typed_target (target (get_or ts i x)) find procedural).faults ≡ []
+clean_at find procedural [] i x h k = absurd (omega arith)
+clean_at find procedural (t ∷ []) zero x h k = h
+clean_at find procedural (t ∷ []) (suc i) x h k = absurd (omega arith)
+clean_at find procedural (t ∷ u ∷ ts) zero x h k = (both_nil (typed_target (target t) find procedural).faults (typed_targets (targets (u ∷ ts)) find procedural).faults h).0
+clean_at find procedural (t ∷ u ∷ ts) (suc i) x h k = clean_at find procedural (u ∷ ts) i x (both_nil (typed_target (target t) find procedural).faults (typed_targets (targets (u ∷ ts)) find procedural).faults h).1 (omega arith)
+
+depth_at : (ts : List Target) (i : ℕ) (x : Target) → i < length ts → target_depth (target (get_or ts i x)) ≤ targets_depth (targets ts)
+depth_at [] i x k = absurd (omega arith)
+depth_at (t ∷ ts) zero x k = omega arith
+depth_at (t ∷ ts) (suc i) x k = omega (arith, depth_at ts i x (omega arith))
+
+pub each_part : (d : Design) (find : Find) (procedural : Bool) (ts : List Target) (i : ℕ) (x : Target) → AreWritable d find procedural (targets ts) → i < length ts → x ≡ get_or ts i x → IsWritable d find procedural (target x)
+each_part d find procedural ts i x b k e = record {
+  shaped = subst (λ y. IsTarget (target y)) (sym e) (shaped_at ts i x b.shaped k);
+  sound = b.sound;
+  clean = subst (λ y. (typed_target (target y) find procedural).faults ≡ []) (sym e) (clean_at find procedural ts i x b.clean k);
+  shallow = omega (arith, b.shallow, depth_at ts i x k, ap (λ y. target_depth (target y)) e);
+}
+
+pub part_levels : (ts : List Target) (i : ℕ) (x : Target) → i < length ts → x ≡ get_or ts i x → target_depth (target x) ≤ targets_depth (targets ts)
+part_levels ts i x k e = omega (arith, depth_at ts i x k, ap (λ y. target_depth (target y)) e)
+
+pub taken_more : (find : Find) (procedural : Bool) (ts : List Target) (i : ℕ) (x : Target) → i < length ts → x ≡ get_or ts i x → target_expressions find procedural (take (i + 1) ts) ≡ target_expressions find procedural (take i ts) ++ target_expression (target x) find procedural ∷ []
+taken_more find procedural ts i x h e =
+    let f = λ (y : Target). target_expression (target y) find procedural in
+    let next : i + 1 ≡ suc i = omega arith in
+    ap (λ n. map f (take n ts)) next ∙ ap (map f) (take-suc ts i x h) ∙ map-append f (take i ts) (get_or ts i x ∷ []) ∙ ap (λ y. map f (take i ts) ++ f y ∷ []) (sym e)
+
+pub taken_all : (find : Find) (procedural : Bool) (ts : List Target) (i : ℕ) → i ≡ length ts → target_expressions find procedural (take i ts) ≡ target_expressions find procedural ts
+taken_all find procedural ts i e = ap (λ n. target_expressions find procedural (take n ts)) e ∙ ap (target_expressions find procedural) (take-length ts)
+
+pub part_count : (find : Find) (procedural : Bool) (ts : List Target) → length (target_expressions find procedural ts) ≡ length ts
+part_count find procedural ts = length-map ts (λ (y : Target). target_expression (target y) find procedural)
+
+parts_joined : (find : Find) (procedural : Bool) (ts : List Target) → 1 ≤ length ts → joined (target_expressions find procedural ts) ≡ targets_expression (targets ts) find procedural
+parts_joined find procedural [] h = absurd (omega arith)
+parts_joined find procedural (t ∷ []) h = refl
+parts_joined find procedural (t ∷ u ∷ ts) h = ap (λ e. E.Join (target_expression (target t) find procedural) e) (parts_joined find procedural (u ∷ ts) (omega arith))
+
+pub part_after : (s v : Draft) (es : List Expression) (m : ℕ) (find : Find) (procedural : Bool) (t : tree.Target) → AddsParts s v es m → IsWritable s.design find procedural t → IsWritable v.design find procedural t
+part_after s v es m find procedural t h b = subst (λ d. IsWritable d find procedural t) (parts_design s v es m h) b
+
+pub concatenation_parts : (d : Design) (find : Find) (procedural : Bool) (place : ℕ) (parts : tree.Targets) → IsWritable d find procedural (tree.Targeted place parts) → AreWritable d find procedural parts
+concatenation_parts d find procedural place parts b = record { shaped = b.shaped; sound = b.sound; clean = b.clean; shallow = omega (arith, b.shallow) }
+
+pub join_arm : {U F : Type 0} (r : Result U F) (s v new : Draft) (find : Find) (procedural : Bool) (at n : ℕ) (es xs : List Target) → xs ≡ es → 1 ≤ length es → n ≡ length es
+    → AddsParts s v (target_expressions find procedural xs) (1 + targets_depth (targets xs))
+    → ((q : Draft) (ts : List Expression) (m : ℕ) → AddsParts q v ts m → length ts ≡ n → OnOk r (AddsExpression q new (E.At at (E.Repeat 1 (joined ts))) (1 + m)))
+    → OnOk r (AddsExpression s new (E.At at (E.Repeat 1 (targets_expression (targets es) find procedural))) (1 + (1 + targets_depth (targets es))))
+join_arm r s v new find procedural at n es xs e some count h f =
+    let made = f s (target_expressions find procedural xs) (1 + targets_depth (targets xs)) h (part_count find procedural xs ∙ ap length e ∙ sym count) in
+    let same : OnOk r (AddsExpression s new (E.At at (E.Repeat 1 (joined (target_expressions find procedural es)))) (1 + (1 + targets_depth (targets es)))) =
+    subst (λ ys. OnOk r (AddsExpression s new (E.At at (E.Repeat 1 (joined (target_expressions find procedural ys)))) (1 + (1 + targets_depth (targets ys))))) e made
+    in
+    subst (λ t. OnOk r (AddsExpression s new (E.At at (E.Repeat 1 t)) (1 + (1 + targets_depth (targets es))))) (parts_joined find procedural es some) same
+
+pub part_falls : (ts : List Target) (i : ℕ) (x : Target) (t : ℕ) → i < length ts → x ≡ get_or ts i x → 2 * most the_size ts + 1 ≡ t → 2 * the_size x + 0 < t
+part_falls ts i x t h k m =
+    let b : the_size x ≤ most the_size ts = subst (λ z. the_size z ≤ most the_size ts) (sym k) (at_most the_size ts i x h) in
+    omega (arith, b, m)

@@ -1,0 +1,21 @@
+use Rattle.std.proofs.Common.{false, ◌+◌}
+use Rattle.vs_design.specs.Expressions as E
+use Rattle.vs_grammar.specs.Depths.{expr_depth}
+use Rattle.vs_ast.specs.Views as view
+use Rattle.vs_const.specs.Expressions.{typed}
+use Rattle.vs_flat.specs.Trees.{signal_at}
+use Rattle.vs_build.specs.Growth.{draft}
+use Rattle.vs_build.proofs.AssignFacts.{value_after, room_after, input_ends}
+use Rattle.vs_build.proofs.assigns.input_port.Goals as goal
+
+pub operand-requires : goal.operand-requires
+operand-requires g c = value_after (draft c.args.builder.now) (draft c.name.new.self) (E.At c.args.place (E.Name (signal_at (draft c.args.builder.now).design.signals c.args.inner))) 1 (g.E.Env.names c.args.env.now) (view.expr c.args.e.now) c.in_ok-name.ensures c.requires.fine
+
+pub assign-requires-clause-room : goal.assign-requires-clause-room
+assign-requires-clause-room g c = room_after (draft c.args.builder.now) (draft c.name.new.self) (draft c.operand.new.builder) (E.At c.args.place (E.Name (signal_at (draft c.args.builder.now).design.signals c.args.inner))) (typed (view.expr c.args.e.now) (g.E.Env.names c.args.env.now) false).expression 1 (1 + expr_depth (view.expr c.args.e.now)) c.in_ok-name.ensures c.in_ok-operand.ensures c.requires.room
+
+pub assign-requires-clause-ends : goal.assign-requires-clause-ends
+assign-requires-clause-ends g c = input_ends (draft c.args.builder.now) (draft c.name.new.self) (draft c.operand.new.builder) c.args.place (signal_at (draft c.args.builder.now).design.signals c.args.inner) (typed (view.expr c.args.e.now) (g.E.Env.names c.args.env.now) false).expression 1 (1 + expr_depth (view.expr c.args.e.now)) c.in_ok-name.ensures c.in_ok-operand.ensures
+
+pub returns : goal.returns
+returns g c = c.assign.ensures (draft c.args.builder.now) (draft c.name.new.self) (E.At c.args.place (E.Name (signal_at (draft c.args.builder.now).design.signals c.args.inner))) (typed (view.expr c.args.e.now) (g.E.Env.names c.args.env.now) false).expression 1 (1 + expr_depth (view.expr c.args.e.now)) c.in_ok-name.ensures c.in_ok-operand.ensures

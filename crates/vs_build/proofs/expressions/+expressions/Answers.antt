@@ -1,0 +1,224 @@
+use Rattle.std.proofs.Common.{rules, ℕ, true, false, OnOk, ◌+◌, ◌≡◌, max, min, take, length, Some, refl, ap, subst, sym, ◌∙◌, arith}
+use Rattle.vs_four.specs.Numbers.{bits_of}
+use Rattle.vs_four.specs.Selects.{range_length}
+use Rattle.vs_design.specs.Expressions as E
+use Rattle.vs_grammar.specs.Trees as tree
+use Rattle.vs_grammar.specs.Trees.{expr_place}
+use Rattle.vs_grammar.specs.Depths.{expr_depth, exprs_depth, select_depth}
+use Rattle.vs_ast.specs.Views as view
+use Rattle.vs_ast.proofs.Rows.{expr_rows}
+use Rattle.vs_ast.specs.declared.expressions.Expr.{the_lemmas}
+use Rattle.vs_const.specs.Typed.{begins_at, natural}
+use Rattle.vs_const.specs.Expressions.{constant, typed}
+use Rattle.vs_const.proofs.Rows.{some_part}
+use Rattle.vs_flat.specs.Targets.{source_of}
+use Rattle.vs_build.specs.Drafts.{Draft, AddsExpression, EndsInSelect}
+use Rattle.vs_build.specs.Growth.{draft}
+use Rattle.vs_build.specs.Buildable.{IsBuildable, IsSelectable, AreBuildable, HasBits, IsNumbered, AreBounds, IsRangeOf, IsConstant, part_expressions, selected_by}
+use Rattle.vs_build.proofs.Arms.{child, child_ends, children_end, ends_three, after, same_design, ok_up_to, unary_operand, binary_left, binary_right, choice_condition, choice_yes, choice_no, unary_arm, cast_arm, binary_arm, choice_arm}
+use Rattle.vs_build.proofs.Lists.{concatenation_view, replication_view, each_part, part_levels, part_falls, taken_more, taken_all, parts_none, parts_more, parts_are, ends_parts, part_after, part_count, concatenation_parts, join_arm, replication_is, replication_expression, deeper_up_to}
+use Rattle.vs_build.proofs.Selects.{named_select, named_expression, bit_taken, bit_index, moving_taken, moving_is, between_is, between_taken, select_ends, select_arm, signed_operand, unsigned_operand, clog2_constant}
+use Rattle.vs_build.proofs.expressions.+expressions.Goals as goal
+
+pub expression-unary-requires : goal.expression-unary-requires
+expression-unary-requires g t c =
+    child_ends (draft c.args.builder.now).design (g.E.Env.names c.args.env.now) c.args.needed (view.expr c.deref.result.now) (draft c.args.builder.now) (draft c.operand.new.builder) (child (draft c.args.builder.now).design (g.E.Env.names c.args.env.now) c.args.needed c.deref.result.now c.in-Unary.a.value c.deref.ensures (unary_operand (draft c.args.builder.now).design (g.E.Env.names c.args.env.now) c.args.needed _ _ (view.expr c.in-Unary.a.value) (subst (λ x. IsBuildable (draft c.args.builder.now).design (g.E.Env.names c.args.env.now) c.args.needed (view.expr x)) c.in-Unary.is c.requires))) c.in_ok-operand-in-Unary.ensures
+
+pub expression-returns-in_ok-operand-in-Unary : goal.expression-returns-in_ok-operand-in-Unary
+expression-returns-in_ok-operand-in-Unary g t c =
+    subst (λ x. OnOk c.unary.result (AddsExpression (draft c.args.builder.now) (draft c.unary.new.self) (begins_at c.args.at (typed (view.expr x) (g.E.Env.names c.args.env.now) c.args.needed).expression) (1 + expr_depth (view.expr x)))) (sym c.in-Unary.is)
+    (unary_arm c.unary.result (draft c.args.builder.now) (draft c.operand.new.builder) (draft c.unary.new.self) (g.E.Env.names c.args.env.now) c.args.needed c.args.at (view.unary_op c.in-Unary.op) c.flat_unary.result c.in-Unary.a.value c.deref.result.now c.deref.ensures c.flat_unary.ensures c.in_ok-operand-in-Unary.ensures c.unary.ensures)
+
+pub expression-operand-requires-in-Binary : goal.expression-operand-requires-in-Binary
+expression-operand-requires-in-Binary g t c κs within =
+    (search (rules, the_lemmas), (within, (child (draft c.args.builder.now).design (g.E.Env.names c.args.env.now) c.args.needed c.deref-in-Binary.result.now c.in-Binary.left.value c.deref-in-Binary.ensures (binary_left (draft c.args.builder.now).design (g.E.Env.names c.args.env.now) c.args.needed (view.binary_op c.in-Binary.op) (view.expr c.in-Binary.left.value) (view.expr c.in-Binary.right.value) (subst (λ x. IsBuildable (draft c.args.builder.now).design (g.E.Env.names c.args.env.now) c.args.needed (view.expr x)) c.in-Binary.is c.requires)))))
+
+pub expression-operand-requires-in-Binary-2 : goal.expression-operand-requires-in-Binary-2
+expression-operand-requires-in-Binary-2 g t c κs within =
+    (search (rules, the_lemmas), (within, (after (draft c.args.builder.now) (draft c.operand-in-Binary.new.builder) (typed (view.expr c.deref-in-Binary.result.now) (g.E.Env.names c.args.env.now) c.args.needed).expression (1 + expr_depth (view.expr c.deref-in-Binary.result.now)) (g.E.Env.names c.args.env.now) c.args.needed (view.expr c.deref-in-Binary-2.result.now) c.in_ok-operand-in-Binary.ensures (child (draft c.args.builder.now).design (g.E.Env.names c.args.env.now) c.args.needed c.deref-in-Binary-2.result.now c.in-Binary.right.value c.deref-in-Binary-2.ensures (binary_right (draft c.args.builder.now).design (g.E.Env.names c.args.env.now) c.args.needed (view.binary_op c.in-Binary.op) (view.expr c.in-Binary.left.value) (view.expr c.in-Binary.right.value) (subst (λ x. IsBuildable (draft c.args.builder.now).design (g.E.Env.names c.args.env.now) c.args.needed (view.expr x)) c.in-Binary.is c.requires))))))
+
+pub expression-binary-requires : goal.expression-binary-requires
+expression-binary-requires g t c =
+    children_end (draft c.args.builder.now).design (g.E.Env.names c.args.env.now) c.args.needed (view.expr c.deref-in-Binary.result.now) (view.expr c.deref-in-Binary-2.result.now) (draft c.args.builder.now) (draft c.operand-in-Binary.new.builder) (draft c.operand-in-Binary-2.new.builder) (child (draft c.args.builder.now).design (g.E.Env.names c.args.env.now) c.args.needed c.deref-in-Binary.result.now c.in-Binary.left.value c.deref-in-Binary.ensures (binary_left (draft c.args.builder.now).design (g.E.Env.names c.args.env.now) c.args.needed (view.binary_op c.in-Binary.op) (view.expr c.in-Binary.left.value) (view.expr c.in-Binary.right.value) (subst (λ x. IsBuildable (draft c.args.builder.now).design (g.E.Env.names c.args.env.now) c.args.needed (view.expr x)) c.in-Binary.is c.requires))) (child (draft c.args.builder.now).design (g.E.Env.names c.args.env.now) c.args.needed c.deref-in-Binary-2.result.now c.in-Binary.right.value c.deref-in-Binary-2.ensures (binary_right (draft c.args.builder.now).design (g.E.Env.names c.args.env.now) c.args.needed (view.binary_op c.in-Binary.op) (view.expr c.in-Binary.left.value) (view.expr c.in-Binary.right.value) (subst (λ x. IsBuildable (draft c.args.builder.now).design (g.E.Env.names c.args.env.now) c.args.needed (view.expr x)) c.in-Binary.is c.requires))) c.in_ok-operand-in-Binary.ensures c.in_ok-operand-in-Binary-2.ensures
+
+pub expression-returns-in_ok-operand-in-Binary-2 : goal.expression-returns-in_ok-operand-in-Binary-2
+expression-returns-in_ok-operand-in-Binary-2 g t c =
+    subst (λ x. OnOk c.binary.result (AddsExpression (draft c.args.builder.now) (draft c.binary.new.self) (begins_at c.args.at (typed (view.expr x) (g.E.Env.names c.args.env.now) c.args.needed).expression) (1 + expr_depth (view.expr x)))) (sym c.in-Binary.is)
+    (binary_arm c.binary.result (draft c.args.builder.now) (draft c.operand-in-Binary.new.builder) (draft c.operand-in-Binary-2.new.builder) (draft c.binary.new.self) (g.E.Env.names c.args.env.now) c.args.needed c.args.at (view.binary_op c.in-Binary.op) c.flat_binary.result c.in-Binary.left.value c.in-Binary.right.value c.deref-in-Binary.result.now c.deref-in-Binary-2.result.now c.deref-in-Binary.ensures c.deref-in-Binary-2.ensures c.flat_binary.ensures c.in_ok-operand-in-Binary.ensures c.in_ok-operand-in-Binary-2.ensures c.binary.ensures)
+
+pub expression-operand-requires-in-Choice : goal.expression-operand-requires-in-Choice
+expression-operand-requires-in-Choice g t c κs within =
+    (search (rules, the_lemmas), (within, (child (draft c.args.builder.now).design (g.E.Env.names c.args.env.now) c.args.needed c.deref-in-Choice.result.now c.in-Choice.condition.value c.deref-in-Choice.ensures (choice_condition (draft c.args.builder.now).design (g.E.Env.names c.args.env.now) c.args.needed (view.expr c.in-Choice.condition.value) (view.expr c.in-Choice.yes.value) (view.expr c.in-Choice.no.value) (subst (λ x. IsBuildable (draft c.args.builder.now).design (g.E.Env.names c.args.env.now) c.args.needed (view.expr x)) c.in-Choice.is c.requires)))))
+
+pub expression-operand-requires-in-Choice-2 : goal.expression-operand-requires-in-Choice-2
+expression-operand-requires-in-Choice-2 g t c κs within =
+    (search (rules, the_lemmas), (within, (after (draft c.args.builder.now) (draft c.operand-in-Choice.new.builder) (typed (view.expr c.deref-in-Choice.result.now) (g.E.Env.names c.args.env.now) c.args.needed).expression (1 + expr_depth (view.expr c.deref-in-Choice.result.now)) (g.E.Env.names c.args.env.now) c.args.needed (view.expr c.deref-in-Choice-2.result.now) c.in_ok-operand-in-Choice.ensures (child (draft c.args.builder.now).design (g.E.Env.names c.args.env.now) c.args.needed c.deref-in-Choice-2.result.now c.in-Choice.yes.value c.deref-in-Choice-2.ensures (choice_yes (draft c.args.builder.now).design (g.E.Env.names c.args.env.now) c.args.needed (view.expr c.in-Choice.condition.value) (view.expr c.in-Choice.yes.value) (view.expr c.in-Choice.no.value) (subst (λ x. IsBuildable (draft c.args.builder.now).design (g.E.Env.names c.args.env.now) c.args.needed (view.expr x)) c.in-Choice.is c.requires))))))
+
+pub expression-operand-requires-in-Choice-3 : goal.expression-operand-requires-in-Choice-3
+expression-operand-requires-in-Choice-3 g t c κs within =
+    (search (rules, the_lemmas), (within, (after (draft c.operand-in-Choice.new.builder) (draft c.operand-in-Choice-2.new.builder) (typed (view.expr c.deref-in-Choice-2.result.now) (g.E.Env.names c.args.env.now) c.args.needed).expression (1 + expr_depth (view.expr c.deref-in-Choice-2.result.now)) (g.E.Env.names c.args.env.now) c.args.needed (view.expr c.deref-in-Choice-3.result.now) c.in_ok-operand-in-Choice-2.ensures (after (draft c.args.builder.now) (draft c.operand-in-Choice.new.builder) (typed (view.expr c.deref-in-Choice.result.now) (g.E.Env.names c.args.env.now) c.args.needed).expression (1 + expr_depth (view.expr c.deref-in-Choice.result.now)) (g.E.Env.names c.args.env.now) c.args.needed (view.expr c.deref-in-Choice-3.result.now) c.in_ok-operand-in-Choice.ensures (child (draft c.args.builder.now).design (g.E.Env.names c.args.env.now) c.args.needed c.deref-in-Choice-3.result.now c.in-Choice.no.value c.deref-in-Choice-3.ensures (choice_no (draft c.args.builder.now).design (g.E.Env.names c.args.env.now) c.args.needed (view.expr c.in-Choice.condition.value) (view.expr c.in-Choice.yes.value) (view.expr c.in-Choice.no.value) (subst (λ x. IsBuildable (draft c.args.builder.now).design (g.E.Env.names c.args.env.now) c.args.needed (view.expr x)) c.in-Choice.is c.requires)))))))
+
+pub expression-choice-requires : goal.expression-choice-requires
+expression-choice-requires g t c =
+    ends_three (draft c.args.builder.now) (draft c.operand-in-Choice.new.builder) (draft c.operand-in-Choice-2.new.builder) (draft c.operand-in-Choice-3.new.builder) (typed (view.expr c.deref-in-Choice.result.now) (g.E.Env.names c.args.env.now) c.args.needed).expression (typed (view.expr c.deref-in-Choice-2.result.now) (g.E.Env.names c.args.env.now) c.args.needed).expression (typed (view.expr c.deref-in-Choice-3.result.now) (g.E.Env.names c.args.env.now) c.args.needed).expression (1 + expr_depth (view.expr c.deref-in-Choice.result.now)) (1 + expr_depth (view.expr c.deref-in-Choice-2.result.now)) (1 + expr_depth (view.expr c.deref-in-Choice-3.result.now)) c.in_ok-operand-in-Choice.ensures c.in_ok-operand-in-Choice-2.ensures c.in_ok-operand-in-Choice-3.ensures (omega (arith, (child (draft c.args.builder.now).design (g.E.Env.names c.args.env.now) c.args.needed c.deref-in-Choice.result.now c.in-Choice.condition.value c.deref-in-Choice.ensures (choice_condition (draft c.args.builder.now).design (g.E.Env.names c.args.env.now) c.args.needed (view.expr c.in-Choice.condition.value) (view.expr c.in-Choice.yes.value) (view.expr c.in-Choice.no.value) (subst (λ x. IsBuildable (draft c.args.builder.now).design (g.E.Env.names c.args.env.now) c.args.needed (view.expr x)) c.in-Choice.is c.requires))).shallow)) (omega (arith, (child (draft c.args.builder.now).design (g.E.Env.names c.args.env.now) c.args.needed c.deref-in-Choice-2.result.now c.in-Choice.yes.value c.deref-in-Choice-2.ensures (choice_yes (draft c.args.builder.now).design (g.E.Env.names c.args.env.now) c.args.needed (view.expr c.in-Choice.condition.value) (view.expr c.in-Choice.yes.value) (view.expr c.in-Choice.no.value) (subst (λ x. IsBuildable (draft c.args.builder.now).design (g.E.Env.names c.args.env.now) c.args.needed (view.expr x)) c.in-Choice.is c.requires))).shallow)) (omega (arith, (child (draft c.args.builder.now).design (g.E.Env.names c.args.env.now) c.args.needed c.deref-in-Choice-3.result.now c.in-Choice.no.value c.deref-in-Choice-3.ensures (choice_no (draft c.args.builder.now).design (g.E.Env.names c.args.env.now) c.args.needed (view.expr c.in-Choice.condition.value) (view.expr c.in-Choice.yes.value) (view.expr c.in-Choice.no.value) (subst (λ x. IsBuildable (draft c.args.builder.now).design (g.E.Env.names c.args.env.now) c.args.needed (view.expr x)) c.in-Choice.is c.requires))).shallow))
+
+pub expression-returns-in_ok-operand-in-Choice-3 : goal.expression-returns-in_ok-operand-in-Choice-3
+expression-returns-in_ok-operand-in-Choice-3 g t c =
+    subst (λ x. OnOk c.choice.result (AddsExpression (draft c.args.builder.now) (draft c.choice.new.self) (begins_at c.args.at (typed (view.expr x) (g.E.Env.names c.args.env.now) c.args.needed).expression) (1 + expr_depth (view.expr x)))) (sym c.in-Choice.is)
+    (choice_arm c.choice.result (draft c.args.builder.now) (draft c.operand-in-Choice.new.builder) (draft c.operand-in-Choice-2.new.builder) (draft c.operand-in-Choice-3.new.builder) (draft c.choice.new.self) (g.E.Env.names c.args.env.now) c.args.needed c.args.at c.in-Choice.condition.value c.in-Choice.yes.value c.in-Choice.no.value c.deref-in-Choice.result.now c.deref-in-Choice-2.result.now c.deref-in-Choice-3.result.now c.deref-in-Choice.ensures c.deref-in-Choice-2.ensures c.deref-in-Choice-3.ensures c.in_ok-operand-in-Choice.ensures c.in_ok-operand-in-Choice-2.ensures c.in_ok-operand-in-Choice-3.ensures c.choice.ensures)
+
+pub expression-selected-requires : goal.expression-selected-requires
+expression-selected-requires g t c κs within =
+    (search (rules, the_lemmas), (within, named_select (draft c.args.builder.now).design (g.E.Env.names c.args.env.now) c.args.needed (view.name c.in-Named.name) (view.select c.in-Named.select) (subst (λ x. IsBuildable (draft c.args.builder.now).design (g.E.Env.names c.args.env.now) c.args.needed (view.expr x)) c.in-Named.is c.requires)))
+
+pub expression-returns-in-Named : goal.expression-returns-in-Named
+expression-returns-in-Named g t c =
+    subst (λ x. OnOk c.selected.result (AddsExpression (draft c.args.builder.now) (draft c.selected.new.builder) (begins_at c.args.at (typed (view.expr x) (g.E.Env.names c.args.env.now) c.args.needed).expression) (1 + expr_depth (view.expr x)))) (sym c.in-Named.is)
+    (subst (λ z. OnOk c.selected.result (AddsExpression (draft c.args.builder.now) (draft c.selected.new.builder) z (1 + select_depth (view.select c.in-Named.select)))) (named_expression (g.E.Env.names c.args.env.now) c.args.needed c.args.at (view.name c.in-Named.name) (view.select c.in-Named.select)) c.selected.ensures)
+
+pub expression-parts-requires : goal.expression-parts-requires
+expression-parts-requires g t c κs within =
+    (search (rules, expr_rows, the_lemmas), (within, (subst (λ xs. AreBuildable (draft c.args.builder.now).design (g.E.Env.names c.args.env.now) c.args.needed (view.exprs xs)) (sym c.deref-in-Concatenation.ensures.value) (concatenation_parts (draft c.args.builder.now).design (g.E.Env.names c.args.env.now) c.args.needed c.in-Concatenation.place (view.exprs c.in-Concatenation.list.items) (subst (λ x. IsBuildable (draft c.args.builder.now).design (g.E.Env.names c.args.env.now) c.args.needed x) (ap view.expr c.in-Concatenation.is ∙ concatenation_view c.in-Concatenation.place c.in-Concatenation.list) c.requires)))))
+
+pub expression-join-requires-clause-parts : goal.expression-join-requires-clause-parts
+expression-join-requires-clause-parts g t c =
+    ends_parts (draft c.args.builder.now) (draft c.parts.new.builder) (part_expressions (g.E.Env.names c.args.env.now) c.args.needed c.deref-in-Concatenation.result.now) (1 + exprs_depth (view.exprs c.deref-in-Concatenation.result.now)) c.len.result c.in_ok-parts-in-Concatenation.ensures (omega (arith, (subst (λ xs. AreBuildable (draft c.args.builder.now).design (g.E.Env.names c.args.env.now) c.args.needed (view.exprs xs)) (sym c.deref-in-Concatenation.ensures.value) (concatenation_parts (draft c.args.builder.now).design (g.E.Env.names c.args.env.now) c.args.needed c.in-Concatenation.place (view.exprs c.in-Concatenation.list.items) (subst (λ x. IsBuildable (draft c.args.builder.now).design (g.E.Env.names c.args.env.now) c.args.needed x) (ap view.expr c.in-Concatenation.is ∙ concatenation_view c.in-Concatenation.place c.in-Concatenation.list) c.requires))).shallow)) ((let n : c.len.result ≡ length c.in-Concatenation.list.items = search rules in n) ∙ ap length (sym c.deref-in-Concatenation.ensures.value) ∙ sym (part_count (g.E.Env.names c.args.env.now) c.args.needed c.deref-in-Concatenation.result.now))
+
+pub expression-join-requires-clause-some : goal.expression-join-requires-clause-some
+expression-join-requires-clause-some g t c =
+    let n : c.len.result ≡ length c.in-Concatenation.list.items = search rules in omega (arith, n, some_part c.in-Concatenation.list.items (concatenation_parts (draft c.args.builder.now).design (g.E.Env.names c.args.env.now) c.args.needed c.in-Concatenation.place (view.exprs c.in-Concatenation.list.items) (subst (λ x. IsBuildable (draft c.args.builder.now).design (g.E.Env.names c.args.env.now) c.args.needed x) (ap view.expr c.in-Concatenation.is ∙ concatenation_view c.in-Concatenation.place c.in-Concatenation.list) c.requires)).shaped)
+
+pub expression-returns-in_ok-parts-in-Concatenation : goal.expression-returns-in_ok-parts-in-Concatenation
+expression-returns-in_ok-parts-in-Concatenation g t c =
+    subst (λ x. OnOk c.join.result (AddsExpression (draft c.args.builder.now) (draft c.join.new.self) (begins_at c.args.at (typed x (g.E.Env.names c.args.env.now) c.args.needed).expression) (1 + expr_depth x))) (sym (ap view.expr c.in-Concatenation.is ∙ concatenation_view c.in-Concatenation.place c.in-Concatenation.list))
+    (join_arm c.join.result (draft c.args.builder.now) (draft c.parts.new.builder) (draft c.join.new.self) (g.E.Env.names c.args.env.now) c.args.needed c.args.at 1 c.len.result c.in-Concatenation.list.items c.deref-in-Concatenation.result.now c.deref-in-Concatenation.ensures.value (omega (arith, some_part c.in-Concatenation.list.items (concatenation_parts (draft c.args.builder.now).design (g.E.Env.names c.args.env.now) c.args.needed c.in-Concatenation.place (view.exprs c.in-Concatenation.list.items) (subst (λ x. IsBuildable (draft c.args.builder.now).design (g.E.Env.names c.args.env.now) c.args.needed x) (ap view.expr c.in-Concatenation.is ∙ concatenation_view c.in-Concatenation.place c.in-Concatenation.list) c.requires)).shaped)) (let n : c.len.result ≡ length c.in-Concatenation.list.items = search rules in n) c.in_ok-parts-in-Concatenation.ensures c.join.ensures)
+
+pub expression-number_within-requires : goal.expression-number_within-requires
+expression-number_within-requires g t c =
+    subst (λ x. IsNumbered 1 64 (g.E.Env.names c.args.env.now) (view.expr x)) (sym c.deref-in-Replication.ensures) (replication_is (draft c.args.builder.now).design (g.E.Env.names c.args.env.now) c.args.needed c.in-Replication.place (view.expr c.in-Replication.count.value) (view.exprs c.in-Replication.list.items) (subst (λ x. IsBuildable (draft c.args.builder.now).design (g.E.Env.names c.args.env.now) c.args.needed x) (ap view.expr c.in-Replication.is ∙ replication_view c.in-Replication.place c.in-Replication.count c.in-Replication.list) c.requires)).count_is
+
+pub expression-parts-requires-in-Replication : goal.expression-parts-requires-in-Replication
+expression-parts-requires-in-Replication g t c κs within =
+    (search (rules, expr_rows, the_lemmas), (within, (subst (λ xs. AreBuildable (draft c.args.builder.now).design (g.E.Env.names c.args.env.now) c.args.needed (view.exprs xs)) (sym c.deref-in-Replication-2.ensures.value) (replication_is (draft c.args.builder.now).design (g.E.Env.names c.args.env.now) c.args.needed c.in-Replication.place (view.expr c.in-Replication.count.value) (view.exprs c.in-Replication.list.items) (subst (λ x. IsBuildable (draft c.args.builder.now).design (g.E.Env.names c.args.env.now) c.args.needed x) (ap view.expr c.in-Replication.is ∙ replication_view c.in-Replication.place c.in-Replication.count c.in-Replication.list) c.requires)).parts_are)))
+
+pub expression-join-requires-in-Replication-clause-parts : goal.expression-join-requires-in-Replication-clause-parts
+expression-join-requires-in-Replication-clause-parts g t c =
+    ends_parts (draft c.args.builder.now) (draft c.parts-in-Replication.new.builder) (part_expressions (g.E.Env.names c.args.env.now) c.args.needed c.deref-in-Replication-2.result.now) (1 + exprs_depth (view.exprs c.deref-in-Replication-2.result.now)) c.len-in-Replication.result c.in_ok-parts-in-Replication.ensures (omega (arith, (subst (λ xs. AreBuildable (draft c.args.builder.now).design (g.E.Env.names c.args.env.now) c.args.needed (view.exprs xs)) (sym c.deref-in-Replication-2.ensures.value) (replication_is (draft c.args.builder.now).design (g.E.Env.names c.args.env.now) c.args.needed c.in-Replication.place (view.expr c.in-Replication.count.value) (view.exprs c.in-Replication.list.items) (subst (λ x. IsBuildable (draft c.args.builder.now).design (g.E.Env.names c.args.env.now) c.args.needed x) (ap view.expr c.in-Replication.is ∙ replication_view c.in-Replication.place c.in-Replication.count c.in-Replication.list) c.requires)).parts_are).shallow)) ((let n : c.len-in-Replication.result ≡ length c.in-Replication.list.items = search rules in n) ∙ ap length (sym c.deref-in-Replication-2.ensures.value) ∙ sym (part_count (g.E.Env.names c.args.env.now) c.args.needed c.deref-in-Replication-2.result.now))
+
+pub expression-join-requires-in-Replication-clause-some : goal.expression-join-requires-in-Replication-clause-some
+expression-join-requires-in-Replication-clause-some g t c =
+    let n : c.len-in-Replication.result ≡ length c.in-Replication.list.items = search rules in omega (arith, n, some_part c.in-Replication.list.items (replication_is (draft c.args.builder.now).design (g.E.Env.names c.args.env.now) c.args.needed c.in-Replication.place (view.expr c.in-Replication.count.value) (view.exprs c.in-Replication.list.items) (subst (λ x. IsBuildable (draft c.args.builder.now).design (g.E.Env.names c.args.env.now) c.args.needed x) (ap view.expr c.in-Replication.is ∙ replication_view c.in-Replication.place c.in-Replication.count c.in-Replication.list) c.requires)).parts_are.shaped)
+
+pub expression-returns-in_ok-parts-in-Replication : goal.expression-returns-in_ok-parts-in-Replication
+expression-returns-in_ok-parts-in-Replication g t c =
+    subst (λ x. OnOk c.join-in-Replication.result (AddsExpression (draft c.args.builder.now) (draft c.join-in-Replication.new.self) (begins_at c.args.at (typed x (g.E.Env.names c.args.env.now) c.args.needed).expression) (1 + expr_depth x))) (sym (ap view.expr c.in-Replication.is ∙ replication_view c.in-Replication.place c.in-Replication.count c.in-Replication.list))
+    (subst (λ e. OnOk c.join-in-Replication.result (AddsExpression (draft c.args.builder.now) (draft c.join-in-Replication.new.self) e (1 + expr_depth (tree.Replication c.in-Replication.place (view.expr c.in-Replication.count.value) (view.exprs c.in-Replication.list.items))))) (replication_expression (g.E.Env.names c.args.env.now) c.args.needed c.args.at c.in-Replication.place c.in_ok-copies-in-Replication.copies (view.expr c.in-Replication.count.value) (view.exprs c.in-Replication.list.items) (subst (λ x. (natural 1 64 (expr_place (view.expr x)) (constant (view.expr x) (g.E.Env.names c.args.env.now))).number ≡ Some c.in_ok-copies-in-Replication.copies) c.deref-in-Replication.ensures c.in_ok-copies-in-Replication.ensures))
+    (ok_up_to c.join-in-Replication.result (draft c.args.builder.now) (draft c.join-in-Replication.new.self) _ (1 + (1 + exprs_depth (view.exprs c.in-Replication.list.items))) (1 + expr_depth (tree.Replication c.in-Replication.place (view.expr c.in-Replication.count.value) (view.exprs c.in-Replication.list.items)))
+    (join_arm c.join-in-Replication.result (draft c.args.builder.now) (draft c.parts-in-Replication.new.builder) (draft c.join-in-Replication.new.self) (g.E.Env.names c.args.env.now) c.args.needed c.args.at c.in_ok-copies-in-Replication.copies c.len-in-Replication.result c.in-Replication.list.items c.deref-in-Replication-2.result.now c.deref-in-Replication-2.ensures.value (omega (arith, some_part c.in-Replication.list.items (replication_is (draft c.args.builder.now).design (g.E.Env.names c.args.env.now) c.args.needed c.in-Replication.place (view.expr c.in-Replication.count.value) (view.exprs c.in-Replication.list.items) (subst (λ x. IsBuildable (draft c.args.builder.now).design (g.E.Env.names c.args.env.now) c.args.needed x) (ap view.expr c.in-Replication.is ∙ replication_view c.in-Replication.place c.in-Replication.count c.in-Replication.list) c.requires)).parts_are.shaped)) (let n : c.len-in-Replication.result ≡ length c.in-Replication.list.items = search rules in n) c.in_ok-parts-in-Replication.ensures c.join-in-Replication.ensures)
+    (deeper_up_to (expr_depth (view.expr c.in-Replication.count.value)) (exprs_depth (view.exprs c.in-Replication.list.items)))))
+
+pub parts-operand-requires : goal.parts-operand-requires
+parts-operand-requires g t c κs within =
+    (part_falls c.args.list.now c.loop-part.part-index c.part-item.result t (omega arith) c.part-item.is c.decreases, (within, part_after (draft c.args.builder.now) (draft c.loop-part.builder) _ _ (g.E.Env.names c.args.env.now) c.args.needed (view.expr c.part-item.result) c.loop-part.invariant (each_part (draft c.args.builder.now).design (g.E.Env.names c.args.env.now) c.args.needed c.args.list.now c.loop-part.part-index c.part-item.result c.requires (omega arith) c.part-item.is)))
+
+pub parts-loop-part-init : goal.parts-loop-part-init
+parts-loop-part-init g t c =
+    parts_none (draft c.args.builder.now) (1 + exprs_depth (view.exprs c.args.list.now))
+
+pub parts-loop-part-preserved : goal.parts-loop-part-preserved
+parts-loop-part-preserved g t c =
+    parts_are (draft c.args.builder.now) (draft c.operand.new.builder) _ _ (1 + exprs_depth (view.exprs c.args.list.now)) (sym (taken_more (g.E.Env.names c.args.env.now) c.args.needed c.args.list.now c.loop-part.part-index c.part-item.result (omega arith) c.part-item.is))
+    (parts_more (draft c.args.builder.now) (draft c.loop-part.builder) (draft c.operand.new.builder) (part_expressions (g.E.Env.names c.args.env.now) c.args.needed (take c.loop-part.part-index c.args.list.now)) (typed (view.expr c.part-item.result) (g.E.Env.names c.args.env.now) c.args.needed).expression (1 + exprs_depth (view.exprs c.args.list.now)) (1 + expr_depth (view.expr c.part-item.result)) c.loop-part.invariant c.in_ok-operand.ensures
+    (omega (arith, part_levels c.args.list.now c.loop-part.part-index c.part-item.result (omega arith) c.part-item.is)))
+
+pub parts-returns : goal.parts-returns
+parts-returns g t c =
+    parts_are (draft c.args.builder.now) (draft c.loop-part.builder) _ _ (1 + exprs_depth (view.exprs c.args.list.now)) (taken_all (g.E.Env.names c.args.env.now) c.args.needed c.args.list.now c.loop-part.part-index (omega arith)) c.loop-part.invariant
+
+pub expression-unary-requires-in-AsSigned : goal.expression-unary-requires-in-AsSigned
+expression-unary-requires-in-AsSigned g t c =
+    child_ends (draft c.args.builder.now).design (g.E.Env.names c.args.env.now) c.args.needed (view.expr c.deref-in-AsSigned.result.now) (draft c.args.builder.now) (draft c.operand-in-AsSigned.new.builder) (child (draft c.args.builder.now).design (g.E.Env.names c.args.env.now) c.args.needed c.deref-in-AsSigned.result.now c.in-Call.a.value c.deref-in-AsSigned.ensures (signed_operand (draft c.args.builder.now).design (g.E.Env.names c.args.env.now) c.args.needed c.in-Call.place (view.expr c.in-Call.a.value) (subst (λ f. IsBuildable (draft c.args.builder.now).design (g.E.Env.names c.args.env.now) c.args.needed (tree.Call c.in-Call.place (view.system_function f) (view.expr c.in-Call.a.value))) c.in-AsSigned.is (subst (λ x. IsBuildable (draft c.args.builder.now).design (g.E.Env.names c.args.env.now) c.args.needed (view.expr x)) c.in-Call.is c.requires)))) c.in_ok-operand-in-AsSigned.ensures
+
+pub expression-returns-in_ok-operand-in-AsSigned : goal.expression-returns-in_ok-operand-in-AsSigned
+expression-returns-in_ok-operand-in-AsSigned g t c =
+    subst (λ x. OnOk c.unary-in-AsSigned.result (AddsExpression (draft c.args.builder.now) (draft c.unary-in-AsSigned.new.self) (begins_at c.args.at (typed (view.expr x) (g.E.Env.names c.args.env.now) c.args.needed).expression) (1 + expr_depth (view.expr x)))) (sym c.in-Call.is)
+    (subst (λ f. OnOk c.unary-in-AsSigned.result (AddsExpression (draft c.args.builder.now) (draft c.unary-in-AsSigned.new.self) (begins_at c.args.at (typed (tree.Call c.in-Call.place (view.system_function f) (view.expr c.in-Call.a.value)) (g.E.Env.names c.args.env.now) c.args.needed).expression) (1 + (1 + expr_depth (view.expr c.in-Call.a.value))))) (sym c.in-AsSigned.is)
+    (cast_arm c.unary-in-AsSigned.result (draft c.args.builder.now) (draft c.operand-in-AsSigned.new.builder) (draft c.unary-in-AsSigned.new.self) (g.E.Env.names c.args.env.now) c.args.needed c.args.at E.Signed c.in-Call.a.value c.deref-in-AsSigned.result.now c.deref-in-AsSigned.ensures c.in_ok-operand-in-AsSigned.ensures c.unary-in-AsSigned.ensures))
+
+pub expression-unary-requires-in-AsUnsigned : goal.expression-unary-requires-in-AsUnsigned
+expression-unary-requires-in-AsUnsigned g t c =
+    child_ends (draft c.args.builder.now).design (g.E.Env.names c.args.env.now) c.args.needed (view.expr c.deref-in-AsUnsigned.result.now) (draft c.args.builder.now) (draft c.operand-in-AsUnsigned.new.builder) (child (draft c.args.builder.now).design (g.E.Env.names c.args.env.now) c.args.needed c.deref-in-AsUnsigned.result.now c.in-Call.a.value c.deref-in-AsUnsigned.ensures (unsigned_operand (draft c.args.builder.now).design (g.E.Env.names c.args.env.now) c.args.needed c.in-Call.place (view.expr c.in-Call.a.value) (subst (λ f. IsBuildable (draft c.args.builder.now).design (g.E.Env.names c.args.env.now) c.args.needed (tree.Call c.in-Call.place (view.system_function f) (view.expr c.in-Call.a.value))) c.in-AsUnsigned.is (subst (λ x. IsBuildable (draft c.args.builder.now).design (g.E.Env.names c.args.env.now) c.args.needed (view.expr x)) c.in-Call.is c.requires)))) c.in_ok-operand-in-AsUnsigned.ensures
+
+pub expression-returns-in_ok-operand-in-AsUnsigned : goal.expression-returns-in_ok-operand-in-AsUnsigned
+expression-returns-in_ok-operand-in-AsUnsigned g t c =
+    subst (λ x. OnOk c.unary-in-AsUnsigned.result (AddsExpression (draft c.args.builder.now) (draft c.unary-in-AsUnsigned.new.self) (begins_at c.args.at (typed (view.expr x) (g.E.Env.names c.args.env.now) c.args.needed).expression) (1 + expr_depth (view.expr x)))) (sym c.in-Call.is)
+    (subst (λ f. OnOk c.unary-in-AsUnsigned.result (AddsExpression (draft c.args.builder.now) (draft c.unary-in-AsUnsigned.new.self) (begins_at c.args.at (typed (tree.Call c.in-Call.place (view.system_function f) (view.expr c.in-Call.a.value)) (g.E.Env.names c.args.env.now) c.args.needed).expression) (1 + (1 + expr_depth (view.expr c.in-Call.a.value))))) (sym c.in-AsUnsigned.is)
+    (cast_arm c.unary-in-AsUnsigned.result (draft c.args.builder.now) (draft c.operand-in-AsUnsigned.new.builder) (draft c.unary-in-AsUnsigned.new.self) (g.E.Env.names c.args.env.now) c.args.needed c.args.at E.Unsigned c.in-Call.a.value c.deref-in-AsUnsigned.result.now c.deref-in-AsUnsigned.ensures c.in_ok-operand-in-AsUnsigned.ensures c.unary-in-AsUnsigned.ensures))
+
+pub expression-constant_bits-requires : goal.expression-constant_bits-requires
+expression-constant_bits-requires g t c =
+    subst (λ x. IsConstant (g.E.Env.names c.args.env.now) (view.expr x)) (sym c.in-Call.is)
+    (subst (λ f. IsConstant (g.E.Env.names c.args.env.now) (tree.Call c.in-Call.place (view.system_function f) (view.expr c.in-Call.a.value))) (sym c.in-Clog2.is) (clog2_constant (draft c.args.builder.now).design (g.E.Env.names c.args.env.now) c.args.needed c.in-Call.place (view.expr c.in-Call.a.value) (subst (λ f. IsBuildable (draft c.args.builder.now).design (g.E.Env.names c.args.env.now) c.args.needed (tree.Call c.in-Call.place (view.system_function f) (view.expr c.in-Call.a.value))) c.in-Clog2.is (subst (λ x. IsBuildable (draft c.args.builder.now).design (g.E.Env.names c.args.env.now) c.args.needed (view.expr x)) c.in-Call.is c.requires))))
+
+pub selected-bit-requires : goal.selected-bit-requires
+selected-bit-requires g t c =
+    select_ends (draft c.args.builder.now).design (g.E.Env.names c.args.env.now) c.args.fixed c.args.needed (view.name c.args.name.now) (tree.BitAt c.in-Bit.bracket (view.expr c.in-Bit.index.value)) true 1 (typed (view.expr c.in-Bit.index.value) (g.E.Env.names c.args.env.now) c.args.needed).expression (draft c.args.builder.now) (draft c.operand.new.builder) (draft c.source.new.builder) (1 + expr_depth (view.expr c.in-Bit.index.value)) c.in_ok-range-in-Bit.range (bit_taken (draft c.args.builder.now).design (g.E.Env.names c.args.env.now) c.args.fixed c.args.needed (view.name c.args.name.now) c.in-Bit.bracket (view.expr c.in-Bit.index.value) (subst (λ x. IsSelectable (draft c.args.builder.now).design (g.E.Env.names c.args.env.now) c.args.fixed c.args.needed (view.name c.args.name.now) (view.select x)) c.in-Bit.is c.requires)) refl (subst (λ x. AddsExpression (draft c.args.builder.now) (draft c.operand.new.builder) (typed (view.expr x) (g.E.Env.names c.args.env.now) c.args.needed).expression (1 + expr_depth (view.expr x))) c.deref.ensures c.in_ok-operand-in-Bit.ensures) (omega (arith, (bit_index (draft c.args.builder.now).design (g.E.Env.names c.args.env.now) c.args.fixed c.args.needed (view.name c.args.name.now) c.in-Bit.bracket (view.expr c.in-Bit.index.value) (subst (λ x. IsSelectable (draft c.args.builder.now).design (g.E.Env.names c.args.env.now) c.args.fixed c.args.needed (view.name c.args.name.now) (view.select x)) c.in-Bit.is c.requires)).shallow)) c.in_ok-range-in-Bit.ensures
+
+pub selected-returns-in_ok-range-in-Bit : goal.selected-returns-in_ok-range-in-Bit
+selected-returns-in_ok-range-in-Bit g t c =
+    subst (λ x. OnOk c.bit.result (AddsExpression (draft c.args.builder.now) (draft c.bit.new.self) (begins_at c.args.at (selected_by (view.select x) (view.name c.args.name.now) (g.E.Env.names c.args.env.now) c.args.fixed c.args.needed).expression) (1 + select_depth (view.select x)))) (sym c.in-Bit.is)
+    (select_arm c.bit.result (draft c.args.builder.now).design (g.E.Env.names c.args.env.now) c.args.fixed c.args.needed (view.name c.args.name.now) (tree.BitAt c.in-Bit.bracket (view.expr c.in-Bit.index.value)) true 1 (typed (view.expr c.in-Bit.index.value) (g.E.Env.names c.args.env.now) c.args.needed).expression (draft c.args.builder.now) (draft c.operand.new.builder) (draft c.source.new.builder) (draft c.bit.new.self) (1 + expr_depth (view.expr c.in-Bit.index.value)) c.args.at (1 + (1 + expr_depth (view.expr c.in-Bit.index.value))) c.in_ok-range-in-Bit.range (bit_taken (draft c.args.builder.now).design (g.E.Env.names c.args.env.now) c.args.fixed c.args.needed (view.name c.args.name.now) c.in-Bit.bracket (view.expr c.in-Bit.index.value) (subst (λ x. IsSelectable (draft c.args.builder.now).design (g.E.Env.names c.args.env.now) c.args.fixed c.args.needed (view.name c.args.name.now) (view.select x)) c.in-Bit.is c.requires)) (subst (λ x. AddsExpression (draft c.args.builder.now) (draft c.operand.new.builder) (typed (view.expr x) (g.E.Env.names c.args.env.now) c.args.needed).expression (1 + expr_depth (view.expr x))) c.deref.ensures c.in_ok-operand-in-Bit.ensures) c.in_ok-range-in-Bit.ensures c.bit.ensures (omega arith))
+
+pub selected-number_within-requires : goal.selected-number_within-requires
+selected-number_within-requires g t c =
+    subst (λ x. IsNumbered 1 64 (g.E.Env.names c.args.env.now) (view.expr x)) (sym c.deref-in-Upward.ensures) (moving_is (draft c.args.builder.now).design (g.E.Env.names c.args.env.now) c.args.fixed c.args.needed true (view.name c.args.name.now) c.in-Slice.bracket tree.Upward (view.expr c.in-Slice.left.value) (view.expr c.in-Slice.right.value) (λ declared. refl) (subst (λ k. IsSelectable (draft c.args.builder.now).design (g.E.Env.names c.args.env.now) c.args.fixed c.args.needed (view.name c.args.name.now) (tree.Slice c.in-Slice.bracket (view.slice_kind k) (view.expr c.in-Slice.left.value) (view.expr c.in-Slice.right.value))) c.in-Upward.is (subst (λ x. IsSelectable (draft c.args.builder.now).design (g.E.Env.names c.args.env.now) c.args.fixed c.args.needed (view.name c.args.name.now) (view.select x)) c.in-Slice.is c.requires))).width
+
+pub selected-operand-requires-in-Upward : goal.selected-operand-requires-in-Upward
+selected-operand-requires-in-Upward g t c κs within =
+    (search (rules, the_lemmas), (within, child (draft c.args.builder.now).design (g.E.Env.names c.args.env.now) c.args.needed c.deref-in-Upward-2.result.now c.in-Slice.left.value c.deref-in-Upward-2.ensures (moving_is (draft c.args.builder.now).design (g.E.Env.names c.args.env.now) c.args.fixed c.args.needed true (view.name c.args.name.now) c.in-Slice.bracket tree.Upward (view.expr c.in-Slice.left.value) (view.expr c.in-Slice.right.value) (λ declared. refl) (subst (λ k. IsSelectable (draft c.args.builder.now).design (g.E.Env.names c.args.env.now) c.args.fixed c.args.needed (view.name c.args.name.now) (tree.Slice c.in-Slice.bracket (view.slice_kind k) (view.expr c.in-Slice.left.value) (view.expr c.in-Slice.right.value))) c.in-Upward.is (subst (λ x. IsSelectable (draft c.args.builder.now).design (g.E.Env.names c.args.env.now) c.args.fixed c.args.needed (view.name c.args.name.now) (view.select x)) c.in-Slice.is c.requires))).index))
+
+pub selected-part-requires-in-Upward : goal.selected-part-requires-in-Upward
+selected-part-requires-in-Upward g t c =
+    select_ends (draft c.args.builder.now).design (g.E.Env.names c.args.env.now) c.args.fixed c.args.needed (view.name c.args.name.now) (tree.Slice c.in-Slice.bracket tree.Upward (view.expr c.in-Slice.left.value) (view.expr c.in-Slice.right.value)) true c.in_ok-width-in-Upward.width (typed (view.expr c.in-Slice.left.value) (g.E.Env.names c.args.env.now) c.args.needed).expression (draft c.args.builder.now) (draft c.operand-in-Upward.new.builder) (draft c.source-in-Upward.new.builder) (1 + expr_depth (view.expr c.in-Slice.left.value)) c.in_ok-range-in-Upward.range (moving_taken (draft c.args.builder.now).design (g.E.Env.names c.args.env.now) c.args.fixed c.args.needed true (view.name c.args.name.now) c.in-Slice.bracket tree.Upward (view.expr c.in-Slice.left.value) (view.expr c.in-Slice.right.value) c.in_ok-width-in-Upward.width (λ declared. refl) (subst (λ k. IsSelectable (draft c.args.builder.now).design (g.E.Env.names c.args.env.now) c.args.fixed c.args.needed (view.name c.args.name.now) (tree.Slice c.in-Slice.bracket (view.slice_kind k) (view.expr c.in-Slice.left.value) (view.expr c.in-Slice.right.value))) c.in-Upward.is (subst (λ x. IsSelectable (draft c.args.builder.now).design (g.E.Env.names c.args.env.now) c.args.fixed c.args.needed (view.name c.args.name.now) (view.select x)) c.in-Slice.is c.requires)) (subst (λ x. (natural 1 64 (expr_place (view.expr x)) (constant (view.expr x) (g.E.Env.names c.args.env.now))).number ≡ Some c.in_ok-width-in-Upward.width) c.deref-in-Upward.ensures c.in_ok-width-in-Upward.ensures)) refl (subst (λ x. AddsExpression (draft c.args.builder.now) (draft c.operand-in-Upward.new.builder) (typed (view.expr x) (g.E.Env.names c.args.env.now) c.args.needed).expression (1 + expr_depth (view.expr x))) c.deref-in-Upward-2.ensures c.in_ok-operand-in-Upward.ensures) (omega (arith, (moving_is (draft c.args.builder.now).design (g.E.Env.names c.args.env.now) c.args.fixed c.args.needed true (view.name c.args.name.now) c.in-Slice.bracket tree.Upward (view.expr c.in-Slice.left.value) (view.expr c.in-Slice.right.value) (λ declared. refl) (subst (λ k. IsSelectable (draft c.args.builder.now).design (g.E.Env.names c.args.env.now) c.args.fixed c.args.needed (view.name c.args.name.now) (tree.Slice c.in-Slice.bracket (view.slice_kind k) (view.expr c.in-Slice.left.value) (view.expr c.in-Slice.right.value))) c.in-Upward.is (subst (λ x. IsSelectable (draft c.args.builder.now).design (g.E.Env.names c.args.env.now) c.args.fixed c.args.needed (view.name c.args.name.now) (view.select x)) c.in-Slice.is c.requires))).index.shallow)) c.in_ok-range-in-Upward.ensures
+
+pub selected-returns-in_ok-range-in-Upward : goal.selected-returns-in_ok-range-in-Upward
+selected-returns-in_ok-range-in-Upward g t c =
+    subst (λ x. OnOk c.part-in-Upward.result (AddsExpression (draft c.args.builder.now) (draft c.part-in-Upward.new.self) (begins_at c.args.at (selected_by (view.select x) (view.name c.args.name.now) (g.E.Env.names c.args.env.now) c.args.fixed c.args.needed).expression) (1 + select_depth (view.select x)))) (sym c.in-Slice.is)
+    (subst (λ k. OnOk c.part-in-Upward.result (AddsExpression (draft c.args.builder.now) (draft c.part-in-Upward.new.self) (begins_at c.args.at (selected_by (tree.Slice c.in-Slice.bracket (view.slice_kind k) (view.expr c.in-Slice.left.value) (view.expr c.in-Slice.right.value)) (view.name c.args.name.now) (g.E.Env.names c.args.env.now) c.args.fixed c.args.needed).expression) (1 + (1 + max (expr_depth (view.expr c.in-Slice.left.value)) (expr_depth (view.expr c.in-Slice.right.value)))))) (sym c.in-Upward.is)
+    (select_arm c.part-in-Upward.result (draft c.args.builder.now).design (g.E.Env.names c.args.env.now) c.args.fixed c.args.needed (view.name c.args.name.now) (tree.Slice c.in-Slice.bracket tree.Upward (view.expr c.in-Slice.left.value) (view.expr c.in-Slice.right.value)) true c.in_ok-width-in-Upward.width (typed (view.expr c.in-Slice.left.value) (g.E.Env.names c.args.env.now) c.args.needed).expression (draft c.args.builder.now) (draft c.operand-in-Upward.new.builder) (draft c.source-in-Upward.new.builder) (draft c.part-in-Upward.new.self) (1 + expr_depth (view.expr c.in-Slice.left.value)) c.args.at (1 + (1 + max (expr_depth (view.expr c.in-Slice.left.value)) (expr_depth (view.expr c.in-Slice.right.value)))) c.in_ok-range-in-Upward.range (moving_taken (draft c.args.builder.now).design (g.E.Env.names c.args.env.now) c.args.fixed c.args.needed true (view.name c.args.name.now) c.in-Slice.bracket tree.Upward (view.expr c.in-Slice.left.value) (view.expr c.in-Slice.right.value) c.in_ok-width-in-Upward.width (λ declared. refl) (subst (λ k. IsSelectable (draft c.args.builder.now).design (g.E.Env.names c.args.env.now) c.args.fixed c.args.needed (view.name c.args.name.now) (tree.Slice c.in-Slice.bracket (view.slice_kind k) (view.expr c.in-Slice.left.value) (view.expr c.in-Slice.right.value))) c.in-Upward.is (subst (λ x. IsSelectable (draft c.args.builder.now).design (g.E.Env.names c.args.env.now) c.args.fixed c.args.needed (view.name c.args.name.now) (view.select x)) c.in-Slice.is c.requires)) (subst (λ x. (natural 1 64 (expr_place (view.expr x)) (constant (view.expr x) (g.E.Env.names c.args.env.now))).number ≡ Some c.in_ok-width-in-Upward.width) c.deref-in-Upward.ensures c.in_ok-width-in-Upward.ensures)) (subst (λ x. AddsExpression (draft c.args.builder.now) (draft c.operand-in-Upward.new.builder) (typed (view.expr x) (g.E.Env.names c.args.env.now) c.args.needed).expression (1 + expr_depth (view.expr x))) c.deref-in-Upward-2.ensures c.in_ok-operand-in-Upward.ensures) c.in_ok-range-in-Upward.ensures c.part-in-Upward.ensures (omega arith)))
+
+pub selected-number_within-requires-in-Downward : goal.selected-number_within-requires-in-Downward
+selected-number_within-requires-in-Downward g t c =
+    subst (λ x. IsNumbered 1 64 (g.E.Env.names c.args.env.now) (view.expr x)) (sym c.deref-in-Downward.ensures) (moving_is (draft c.args.builder.now).design (g.E.Env.names c.args.env.now) c.args.fixed c.args.needed false (view.name c.args.name.now) c.in-Slice.bracket tree.Downward (view.expr c.in-Slice.left.value) (view.expr c.in-Slice.right.value) (λ declared. refl) (subst (λ k. IsSelectable (draft c.args.builder.now).design (g.E.Env.names c.args.env.now) c.args.fixed c.args.needed (view.name c.args.name.now) (tree.Slice c.in-Slice.bracket (view.slice_kind k) (view.expr c.in-Slice.left.value) (view.expr c.in-Slice.right.value))) c.in-Downward.is (subst (λ x. IsSelectable (draft c.args.builder.now).design (g.E.Env.names c.args.env.now) c.args.fixed c.args.needed (view.name c.args.name.now) (view.select x)) c.in-Slice.is c.requires))).width
+
+pub selected-operand-requires-in-Downward : goal.selected-operand-requires-in-Downward
+selected-operand-requires-in-Downward g t c κs within =
+    (search (rules, the_lemmas), (within, child (draft c.args.builder.now).design (g.E.Env.names c.args.env.now) c.args.needed c.deref-in-Downward-2.result.now c.in-Slice.left.value c.deref-in-Downward-2.ensures (moving_is (draft c.args.builder.now).design (g.E.Env.names c.args.env.now) c.args.fixed c.args.needed false (view.name c.args.name.now) c.in-Slice.bracket tree.Downward (view.expr c.in-Slice.left.value) (view.expr c.in-Slice.right.value) (λ declared. refl) (subst (λ k. IsSelectable (draft c.args.builder.now).design (g.E.Env.names c.args.env.now) c.args.fixed c.args.needed (view.name c.args.name.now) (tree.Slice c.in-Slice.bracket (view.slice_kind k) (view.expr c.in-Slice.left.value) (view.expr c.in-Slice.right.value))) c.in-Downward.is (subst (λ x. IsSelectable (draft c.args.builder.now).design (g.E.Env.names c.args.env.now) c.args.fixed c.args.needed (view.name c.args.name.now) (view.select x)) c.in-Slice.is c.requires))).index))
+
+pub selected-part-requires-in-Downward : goal.selected-part-requires-in-Downward
+selected-part-requires-in-Downward g t c =
+    select_ends (draft c.args.builder.now).design (g.E.Env.names c.args.env.now) c.args.fixed c.args.needed (view.name c.args.name.now) (tree.Slice c.in-Slice.bracket tree.Downward (view.expr c.in-Slice.left.value) (view.expr c.in-Slice.right.value)) false c.in_ok-width-in-Downward.width (typed (view.expr c.in-Slice.left.value) (g.E.Env.names c.args.env.now) c.args.needed).expression (draft c.args.builder.now) (draft c.operand-in-Downward.new.builder) (draft c.source-in-Downward.new.builder) (1 + expr_depth (view.expr c.in-Slice.left.value)) c.in_ok-range-in-Downward.range (moving_taken (draft c.args.builder.now).design (g.E.Env.names c.args.env.now) c.args.fixed c.args.needed false (view.name c.args.name.now) c.in-Slice.bracket tree.Downward (view.expr c.in-Slice.left.value) (view.expr c.in-Slice.right.value) c.in_ok-width-in-Downward.width (λ declared. refl) (subst (λ k. IsSelectable (draft c.args.builder.now).design (g.E.Env.names c.args.env.now) c.args.fixed c.args.needed (view.name c.args.name.now) (tree.Slice c.in-Slice.bracket (view.slice_kind k) (view.expr c.in-Slice.left.value) (view.expr c.in-Slice.right.value))) c.in-Downward.is (subst (λ x. IsSelectable (draft c.args.builder.now).design (g.E.Env.names c.args.env.now) c.args.fixed c.args.needed (view.name c.args.name.now) (view.select x)) c.in-Slice.is c.requires)) (subst (λ x. (natural 1 64 (expr_place (view.expr x)) (constant (view.expr x) (g.E.Env.names c.args.env.now))).number ≡ Some c.in_ok-width-in-Downward.width) c.deref-in-Downward.ensures c.in_ok-width-in-Downward.ensures)) refl (subst (λ x. AddsExpression (draft c.args.builder.now) (draft c.operand-in-Downward.new.builder) (typed (view.expr x) (g.E.Env.names c.args.env.now) c.args.needed).expression (1 + expr_depth (view.expr x))) c.deref-in-Downward-2.ensures c.in_ok-operand-in-Downward.ensures) (omega (arith, (moving_is (draft c.args.builder.now).design (g.E.Env.names c.args.env.now) c.args.fixed c.args.needed false (view.name c.args.name.now) c.in-Slice.bracket tree.Downward (view.expr c.in-Slice.left.value) (view.expr c.in-Slice.right.value) (λ declared. refl) (subst (λ k. IsSelectable (draft c.args.builder.now).design (g.E.Env.names c.args.env.now) c.args.fixed c.args.needed (view.name c.args.name.now) (tree.Slice c.in-Slice.bracket (view.slice_kind k) (view.expr c.in-Slice.left.value) (view.expr c.in-Slice.right.value))) c.in-Downward.is (subst (λ x. IsSelectable (draft c.args.builder.now).design (g.E.Env.names c.args.env.now) c.args.fixed c.args.needed (view.name c.args.name.now) (view.select x)) c.in-Slice.is c.requires))).index.shallow)) c.in_ok-range-in-Downward.ensures
+
+pub selected-returns-in_ok-range-in-Downward : goal.selected-returns-in_ok-range-in-Downward
+selected-returns-in_ok-range-in-Downward g t c =
+    subst (λ x. OnOk c.part-in-Downward.result (AddsExpression (draft c.args.builder.now) (draft c.part-in-Downward.new.self) (begins_at c.args.at (selected_by (view.select x) (view.name c.args.name.now) (g.E.Env.names c.args.env.now) c.args.fixed c.args.needed).expression) (1 + select_depth (view.select x)))) (sym c.in-Slice.is)
+    (subst (λ k. OnOk c.part-in-Downward.result (AddsExpression (draft c.args.builder.now) (draft c.part-in-Downward.new.self) (begins_at c.args.at (selected_by (tree.Slice c.in-Slice.bracket (view.slice_kind k) (view.expr c.in-Slice.left.value) (view.expr c.in-Slice.right.value)) (view.name c.args.name.now) (g.E.Env.names c.args.env.now) c.args.fixed c.args.needed).expression) (1 + (1 + max (expr_depth (view.expr c.in-Slice.left.value)) (expr_depth (view.expr c.in-Slice.right.value)))))) (sym c.in-Downward.is)
+    (select_arm c.part-in-Downward.result (draft c.args.builder.now).design (g.E.Env.names c.args.env.now) c.args.fixed c.args.needed (view.name c.args.name.now) (tree.Slice c.in-Slice.bracket tree.Downward (view.expr c.in-Slice.left.value) (view.expr c.in-Slice.right.value)) false c.in_ok-width-in-Downward.width (typed (view.expr c.in-Slice.left.value) (g.E.Env.names c.args.env.now) c.args.needed).expression (draft c.args.builder.now) (draft c.operand-in-Downward.new.builder) (draft c.source-in-Downward.new.builder) (draft c.part-in-Downward.new.self) (1 + expr_depth (view.expr c.in-Slice.left.value)) c.args.at (1 + (1 + max (expr_depth (view.expr c.in-Slice.left.value)) (expr_depth (view.expr c.in-Slice.right.value)))) c.in_ok-range-in-Downward.range (moving_taken (draft c.args.builder.now).design (g.E.Env.names c.args.env.now) c.args.fixed c.args.needed false (view.name c.args.name.now) c.in-Slice.bracket tree.Downward (view.expr c.in-Slice.left.value) (view.expr c.in-Slice.right.value) c.in_ok-width-in-Downward.width (λ declared. refl) (subst (λ k. IsSelectable (draft c.args.builder.now).design (g.E.Env.names c.args.env.now) c.args.fixed c.args.needed (view.name c.args.name.now) (tree.Slice c.in-Slice.bracket (view.slice_kind k) (view.expr c.in-Slice.left.value) (view.expr c.in-Slice.right.value))) c.in-Downward.is (subst (λ x. IsSelectable (draft c.args.builder.now).design (g.E.Env.names c.args.env.now) c.args.fixed c.args.needed (view.name c.args.name.now) (view.select x)) c.in-Slice.is c.requires)) (subst (λ x. (natural 1 64 (expr_place (view.expr x)) (constant (view.expr x) (g.E.Env.names c.args.env.now))).number ≡ Some c.in_ok-width-in-Downward.width) c.deref-in-Downward.ensures c.in_ok-width-in-Downward.ensures)) (subst (λ x. AddsExpression (draft c.args.builder.now) (draft c.operand-in-Downward.new.builder) (typed (view.expr x) (g.E.Env.names c.args.env.now) c.args.needed).expression (1 + expr_depth (view.expr x))) c.deref-in-Downward-2.ensures c.in_ok-operand-in-Downward.ensures) c.in_ok-range-in-Downward.ensures c.part-in-Downward.ensures (omega arith)))
+
+pub selected-bounds_of-requires : goal.selected-bounds_of-requires
+selected-bounds_of-requires g t c =
+    subst (λ x. AreBounds (g.E.Env.names c.args.env.now) (view.expr x) (view.expr c.deref-in-Between-2.result.now)) (sym c.deref-in-Between.ensures) (subst (λ x. AreBounds (g.E.Env.names c.args.env.now) (view.expr c.in-Slice.left.value) (view.expr x)) (sym c.deref-in-Between-2.ensures) (between_is (draft c.args.builder.now).design (g.E.Env.names c.args.env.now) c.args.fixed c.args.needed (view.name c.args.name.now) c.in-Slice.bracket (view.expr c.in-Slice.left.value) (view.expr c.in-Slice.right.value) (subst (λ k. IsSelectable (draft c.args.builder.now).design (g.E.Env.names c.args.env.now) c.args.fixed c.args.needed (view.name c.args.name.now) (tree.Slice c.in-Slice.bracket (view.slice_kind k) (view.expr c.in-Slice.left.value) (view.expr c.in-Slice.right.value))) c.in-Between.is (subst (λ x. IsSelectable (draft c.args.builder.now).design (g.E.Env.names c.args.env.now) c.args.fixed c.args.needed (view.name c.args.name.now) (view.select x)) c.in-Slice.is c.requires))).bounds_are)
+
+pub selected-source-requires-in-Between : goal.selected-source-requires-in-Between
+selected-source-requires-in-Between g t c =
+    subst (λ d. HasBits d c.args.fixed c.args.name.now.place ((g.E.Env.names c.args.env.now) c.args.name.now.text)) (same_design (draft c.args.builder.now) (draft c.literal.new.self) (E.At (expr_place (view.expr c.in-Slice.left.value)) (E.Literal (bits_of 32 (min c.in_ok-bounds-in-Between.bounds.left c.in_ok-bounds-in-Between.bounds.right)) true true)) 1 (subst (λ p. AddsExpression (draft c.args.builder.now) (draft c.literal.new.self) (E.At p (E.Literal (bits_of 32 (min c.in_ok-bounds-in-Between.bounds.left c.in_ok-bounds-in-Between.bounds.right)) true true)) 1) (c.place_of.ensures ∙ ap (λ x. expr_place (view.expr x)) c.deref-in-Between-3.ensures) (subst (λ z. AddsExpression (draft c.args.builder.now) (draft c.literal.new.self) (E.At c.place_of.result (E.Literal z true true)) 1) (c.of_number.ensures ∙ ap (bits_of 32) c.lesser.ensures) c.in_ok-literal-in-Between.ensures))) (between_taken (draft c.args.builder.now).design (g.E.Env.names c.args.env.now) c.args.fixed c.args.needed (view.name c.args.name.now) c.in-Slice.bracket (view.expr c.in-Slice.left.value) (view.expr c.in-Slice.right.value) c.in_ok-bounds-in-Between.bounds (subst (λ k. IsSelectable (draft c.args.builder.now).design (g.E.Env.names c.args.env.now) c.args.fixed c.args.needed (view.name c.args.name.now) (tree.Slice c.in-Slice.bracket (view.slice_kind k) (view.expr c.in-Slice.left.value) (view.expr c.in-Slice.right.value))) c.in-Between.is (subst (λ x. IsSelectable (draft c.args.builder.now).design (g.E.Env.names c.args.env.now) c.args.fixed c.args.needed (view.name c.args.name.now) (view.select x)) c.in-Slice.is c.requires)) (subst (λ x. IsRangeOf (g.E.Env.names c.args.env.now) (view.expr c.in-Slice.left.value) (view.expr x) c.in_ok-bounds-in-Between.bounds) c.deref-in-Between-2.ensures (subst (λ x. IsRangeOf (g.E.Env.names c.args.env.now) (view.expr x) (view.expr c.deref-in-Between-2.result.now) c.in_ok-bounds-in-Between.bounds) c.deref-in-Between.ensures c.in_ok-bounds-in-Between.ensures.range))).bits
+
+pub selected-part-requires : goal.selected-part-requires
+selected-part-requires g t c =
+    subst (λ n. EndsInSelect (record { range = c.in_ok-range-in-Between.range; up = true; width = n }) (draft c.source-in-Between.new.builder)) (sym c.range_length.ensures) (select_ends (draft c.args.builder.now).design (g.E.Env.names c.args.env.now) c.args.fixed c.args.needed (view.name c.args.name.now) (tree.Slice c.in-Slice.bracket tree.Between (view.expr c.in-Slice.left.value) (view.expr c.in-Slice.right.value)) true (range_length c.in_ok-bounds-in-Between.bounds) (E.At (expr_place (view.expr c.in-Slice.left.value)) (E.Literal (bits_of 32 (min c.in_ok-bounds-in-Between.bounds.left c.in_ok-bounds-in-Between.bounds.right)) true true)) (draft c.args.builder.now) (draft c.literal.new.self) (draft c.source-in-Between.new.builder) 1 c.in_ok-range-in-Between.range (between_taken (draft c.args.builder.now).design (g.E.Env.names c.args.env.now) c.args.fixed c.args.needed (view.name c.args.name.now) c.in-Slice.bracket (view.expr c.in-Slice.left.value) (view.expr c.in-Slice.right.value) c.in_ok-bounds-in-Between.bounds (subst (λ k. IsSelectable (draft c.args.builder.now).design (g.E.Env.names c.args.env.now) c.args.fixed c.args.needed (view.name c.args.name.now) (tree.Slice c.in-Slice.bracket (view.slice_kind k) (view.expr c.in-Slice.left.value) (view.expr c.in-Slice.right.value))) c.in-Between.is (subst (λ x. IsSelectable (draft c.args.builder.now).design (g.E.Env.names c.args.env.now) c.args.fixed c.args.needed (view.name c.args.name.now) (view.select x)) c.in-Slice.is c.requires)) (subst (λ x. IsRangeOf (g.E.Env.names c.args.env.now) (view.expr c.in-Slice.left.value) (view.expr x) c.in_ok-bounds-in-Between.bounds) c.deref-in-Between-2.ensures (subst (λ x. IsRangeOf (g.E.Env.names c.args.env.now) (view.expr x) (view.expr c.deref-in-Between-2.result.now) c.in_ok-bounds-in-Between.bounds) c.deref-in-Between.ensures c.in_ok-bounds-in-Between.ensures.range))) refl (subst (λ p. AddsExpression (draft c.args.builder.now) (draft c.literal.new.self) (E.At p (E.Literal (bits_of 32 (min c.in_ok-bounds-in-Between.bounds.left c.in_ok-bounds-in-Between.bounds.right)) true true)) 1) (c.place_of.ensures ∙ ap (λ x. expr_place (view.expr x)) c.deref-in-Between-3.ensures) (subst (λ z. AddsExpression (draft c.args.builder.now) (draft c.literal.new.self) (E.At c.place_of.result (E.Literal z true true)) 1) (c.of_number.ensures ∙ ap (bits_of 32) c.lesser.ensures) c.in_ok-literal-in-Between.ensures)) (omega arith) c.in_ok-range-in-Between.ensures)
+
+pub selected-returns-in_ok-range-in-Between : goal.selected-returns-in_ok-range-in-Between
+selected-returns-in_ok-range-in-Between g t c =
+    subst (λ x. OnOk c.part.result (AddsExpression (draft c.args.builder.now) (draft c.part.new.self) (begins_at c.args.at (selected_by (view.select x) (view.name c.args.name.now) (g.E.Env.names c.args.env.now) c.args.fixed c.args.needed).expression) (1 + select_depth (view.select x)))) (sym c.in-Slice.is)
+    (subst (λ k. OnOk c.part.result (AddsExpression (draft c.args.builder.now) (draft c.part.new.self) (begins_at c.args.at (selected_by (tree.Slice c.in-Slice.bracket (view.slice_kind k) (view.expr c.in-Slice.left.value) (view.expr c.in-Slice.right.value)) (view.name c.args.name.now) (g.E.Env.names c.args.env.now) c.args.fixed c.args.needed).expression) (1 + (1 + max (expr_depth (view.expr c.in-Slice.left.value)) (expr_depth (view.expr c.in-Slice.right.value)))))) (sym c.in-Between.is)
+    (select_arm c.part.result (draft c.args.builder.now).design (g.E.Env.names c.args.env.now) c.args.fixed c.args.needed (view.name c.args.name.now) (tree.Slice c.in-Slice.bracket tree.Between (view.expr c.in-Slice.left.value) (view.expr c.in-Slice.right.value)) true (range_length c.in_ok-bounds-in-Between.bounds) (E.At (expr_place (view.expr c.in-Slice.left.value)) (E.Literal (bits_of 32 (min c.in_ok-bounds-in-Between.bounds.left c.in_ok-bounds-in-Between.bounds.right)) true true)) (draft c.args.builder.now) (draft c.literal.new.self) (draft c.source-in-Between.new.builder) (draft c.part.new.self) 1 c.args.at (1 + (1 + max (expr_depth (view.expr c.in-Slice.left.value)) (expr_depth (view.expr c.in-Slice.right.value)))) c.in_ok-range-in-Between.range (between_taken (draft c.args.builder.now).design (g.E.Env.names c.args.env.now) c.args.fixed c.args.needed (view.name c.args.name.now) c.in-Slice.bracket (view.expr c.in-Slice.left.value) (view.expr c.in-Slice.right.value) c.in_ok-bounds-in-Between.bounds (subst (λ k. IsSelectable (draft c.args.builder.now).design (g.E.Env.names c.args.env.now) c.args.fixed c.args.needed (view.name c.args.name.now) (tree.Slice c.in-Slice.bracket (view.slice_kind k) (view.expr c.in-Slice.left.value) (view.expr c.in-Slice.right.value))) c.in-Between.is (subst (λ x. IsSelectable (draft c.args.builder.now).design (g.E.Env.names c.args.env.now) c.args.fixed c.args.needed (view.name c.args.name.now) (view.select x)) c.in-Slice.is c.requires)) (subst (λ x. IsRangeOf (g.E.Env.names c.args.env.now) (view.expr c.in-Slice.left.value) (view.expr x) c.in_ok-bounds-in-Between.bounds) c.deref-in-Between-2.ensures (subst (λ x. IsRangeOf (g.E.Env.names c.args.env.now) (view.expr x) (view.expr c.deref-in-Between-2.result.now) c.in_ok-bounds-in-Between.bounds) c.deref-in-Between.ensures c.in_ok-bounds-in-Between.ensures.range))) (subst (λ p. AddsExpression (draft c.args.builder.now) (draft c.literal.new.self) (E.At p (E.Literal (bits_of 32 (min c.in_ok-bounds-in-Between.bounds.left c.in_ok-bounds-in-Between.bounds.right)) true true)) 1) (c.place_of.ensures ∙ ap (λ x. expr_place (view.expr x)) c.deref-in-Between-3.ensures) (subst (λ z. AddsExpression (draft c.args.builder.now) (draft c.literal.new.self) (E.At c.place_of.result (E.Literal z true true)) 1) (c.of_number.ensures ∙ ap (bits_of 32) c.lesser.ensures) c.in_ok-literal-in-Between.ensures)) c.in_ok-range-in-Between.ensures (subst (λ n. (p k : Draft) (t u : E.Expression) (x y : ℕ) → AddsExpression p k t x → AddsExpression k (draft c.source-in-Between.new.builder) u y → OnOk c.part.result (AddsExpression p (draft c.part.new.self) (E.At c.args.at (E.Select (source_of u) (record { range = c.in_ok-range-in-Between.range; up = true; width = n }) t)) (1 + max x y))) c.range_length.ensures c.part.ensures) (omega arith)))

@@ -1,0 +1,179 @@
+//! Expressions of the text (IEEE 1364-2005, clause 5).
+
+ghost use Rattle.std.specs.Prelude.{◌≡◌, ◌≤◌, ◌+◌, ℕ, Bool, true, max, min, length, map, IfOk, OnOk};
+ghost use Rattle.vs_grammar.specs.Trees.{expr_place};
+ghost use Rattle.vs_grammar.specs.Depths.{expr_depth, exprs_depth, select_depth};
+ghost use Rattle.vs_ast.specs.Views as view;
+ghost use Rattle.vs_const.specs.Typed.{begins_at};
+ghost use Rattle.vs_const.specs.Expressions.{typed};
+ghost use Rattle.vs_build.specs.Drafts.{AddsExpression, AddsParts};
+ghost use Rattle.vs_build.specs.Growth.{draft};
+ghost use Rattle.vs_build.specs.Buildable.{IsBuildable, IsSelectable, AreBuildable, part_expressions, selected_by};
+
+use crate::builder::Builder;
+use crate::names::{
+    bounds_of, constant_bits, lesser, literal_bits, name_alone, number_within, range_length, source,
+};
+use crate::operators::{flat_binary, flat_unary};
+use std::alloc::{AllocError, Global};
+use vs_ast::{Expr, Name, Select, SliceKind, SystemFunction};
+use vs_const::{Env, place_of};
+use vs_flat::UnaryOp;
+use vs_four::of_number;
+
+/// Builds an expression that breaks no rule.
+#[cycle(expressions)]
+#[tactic(auto, using(crate::proofs::Arms::begins_itself))]
+pub fn operand<E: Env>(
+    builder: &mut Builder,
+    alloc: Global,
+    e: &Expr,
+    env: &E,
+    needed: bool,
+) -> Result<(), AllocError>
+    requires { IsBuildable (draft builder.old).design (E.names env.now) needed (view.expr e.now) }
+    ensures { OnOk result (AddsExpression (draft builder.old) (draft builder.new) (typed (view.expr e.now) (E.names env.now) needed).expression (1 + expr_depth (view.expr e.now))) }
+{
+    expression(builder, alloc, e, place_of(e), env, needed)
+}
+
+/// Builds an expression that breaks no rule, as one that begins at `at`.
+#[cycle(expressions)]
+pub(crate) fn expression<E: Env>(
+    builder: &mut Builder,
+    alloc: Global,
+    e: &Expr,
+    at: u32,
+    env: &E,
+    needed: bool,
+) -> Result<(), AllocError>
+    requires { IsBuildable (draft builder.old).design (E.names env.now) needed (view.expr e.now) }
+    ensures { OnOk result (AddsExpression (draft builder.old) (draft builder.new) (begins_at at (typed (view.expr e.now) (E.names env.now) needed).expression) (1 + expr_depth (view.expr e.now))) }
+{
+    match e {
+        Expr::Number(n) => builder.literal(literal_bits(n), n.signed, n.sized, at),
+        Expr::Named(name, select) => {
+            selected(builder, alloc, select, name, at, env, needed, needed)
+        }
+        Expr::Unary { op, operand: a, .. } => {
+            operand(builder, alloc, a, env, needed)?;
+            builder.unary(flat_unary(*op), at)
+        }
+        Expr::Binary { op, left, right } => {
+            operand(builder, alloc, left, env, needed)?;
+            operand(builder, alloc, right, env, needed)?;
+            builder.binary(flat_binary(*op), at)
+        }
+        Expr::Choice { condition, yes, no } => {
+            operand(builder, alloc, condition, env, needed)?;
+            operand(builder, alloc, yes, env, needed)?;
+            operand(builder, alloc, no, env, needed)?;
+            builder.choice(at)
+        }
+        Expr::Concatenation { parts: list, .. } => {
+            parts(builder, alloc, list, env, needed)?;
+            builder.join(alloc, list.len(), 1, at)
+        }
+        Expr::Replication {
+            count,
+            parts: list,
+            ..
+        } => {
+            let copies = number_within(alloc, 1, 64, count, env)?;
+            parts(builder, alloc, list, env, needed)?;
+            builder.join(alloc, list.len(), copies, at)
+        }
+        Expr::Call {
+            function,
+            operand: a,
+            ..
+        } => match function {
+            SystemFunction::AsSigned => {
+                operand(builder, alloc, a, env, needed)?;
+                builder.unary(UnaryOp::Signed, at)
+            }
+            SystemFunction::AsUnsigned => {
+                operand(builder, alloc, a, env, needed)?;
+                builder.unary(UnaryOp::Unsigned, at)
+            }
+            SystemFunction::Clog2 => {
+                let bits = constant_bits(alloc, e, env)?;
+                builder.literal(bits, true, true, at)
+            }
+        },
+        Expr::Brackets { inner, .. } => expression(builder, alloc, inner, at, env, needed),
+    }
+}
+
+/// Builds the parts of a concatenation, one after the other.
+#[cycle(expressions)]
+fn parts<E: Env>(
+    builder: &mut Builder,
+    alloc: Global,
+    list: &[Expr],
+    env: &E,
+    needed: bool,
+) -> Result<(), AllocError>
+    requires { AreBuildable (draft builder.old).design (E.names env.now) needed (view.exprs list.now) }
+    ensures { OnOk result (AddsParts (draft builder.old) (draft builder.new) (part_expressions (E.names env.now) needed list.now) (1 + exprs_depth (view.exprs list.now))) }
+{
+    for part in list {
+        operand(builder, alloc, part, env, needed)?;
+    }
+    Ok(())
+}
+
+/// Builds a name, with what is selected of it. `fixed` is where the name has to be a constant, `needed` where its index has to be one.
+#[cycle(expressions)]
+pub(crate) fn selected<E: Env>(
+    builder: &mut Builder,
+    alloc: Global,
+    select: &Select,
+    name: &Name,
+    at: u32,
+    env: &E,
+    fixed: bool,
+    needed: bool,
+) -> Result<(), AllocError>
+    requires { IsSelectable (draft builder.old).design (E.names env.now) fixed needed (view.name name.now) (view.select select.now) }
+    ensures { OnOk result (AddsExpression (draft builder.old) (draft builder.new) (begins_at at (selected_by (view.select select.now) (view.name name.now) (E.names env.now) fixed needed).expression) (1 + select_depth (view.select select.now))) }
+{
+    match select {
+        Select::Whole => name_alone(builder, fixed, name, at, env),
+        Select::Bit { index, .. } => {
+            operand(builder, alloc, index, env, needed)?;
+            let range = source(builder, fixed, name, env)?;
+            builder.bit(range, at)
+        }
+        Select::Slice {
+            kind,
+            left,
+            right,
+            ..
+        } => match kind {
+            SliceKind::Between => {
+                let bounds = bounds_of(alloc, left, right, env)?;
+                builder.literal(
+                    of_number(32, lesser(bounds) as u64),
+                    true,
+                    true,
+                    place_of(left),
+                )?;
+                let range = source(builder, fixed, name, env)?;
+                builder.part(range, true, range_length(bounds), at)
+            }
+            SliceKind::Upward => {
+                let width = number_within(alloc, 1, 64, right, env)?;
+                operand(builder, alloc, left, env, needed)?;
+                let range = source(builder, fixed, name, env)?;
+                builder.part(range, true, width, at)
+            }
+            SliceKind::Downward => {
+                let width = number_within(alloc, 1, 64, right, env)?;
+                operand(builder, alloc, left, env, needed)?;
+                let range = source(builder, fixed, name, env)?;
+                builder.part(range, false, width, at)
+            }
+        },
+    }
+}

@@ -1,0 +1,138 @@
+//! Names and numbers of the text.
+
+ghost use Rattle.std.specs.Prelude.{◌≡◌, ◌≤◌, ◌+◌, ◌-◌, ℕ, Bool, true, Some, IfOk, OnOk, min};
+ghost use Rattle.vs_four.specs.Selects as four;
+ghost use Rattle.vs_grammar.specs.Shapes.{IsLiteral};
+ghost use Rattle.vs_grammar.specs.Trees.{expr_place};
+ghost use Rattle.vs_ast.specs.Views as view;
+ghost use Rattle.vs_const.specs.Typed.{begins_at, natural};
+ghost use Rattle.vs_const.specs.Selects.{name_typed, base_of};
+ghost use Rattle.vs_design.specs.Values.{constant_value};
+ghost use Rattle.vs_const.specs.Expressions.{constant};
+ghost use Rattle.vs_build.specs.Drafts.{AddsExpression};
+ghost use Rattle.vs_build.specs.Growth.{draft};
+ghost use Rattle.vs_build.specs.Buildable.{IsNameable, HasBits, AddsSource, IsNumbered, AreBounds, IsRangeOf, IsConstant};
+
+use crate::builder::Builder;
+use std::alloc::{AllocError, Global};
+use vs_ast::{Expr, Literal, Name};
+use vs_const::{Env, Named, constant, number};
+use vs_four::{Bits, Range};
+
+/// Builds a name alone: a signal, or the value of a parameter.
+pub(crate) fn name_alone<E: Env>(
+    builder: &mut Builder,
+    needed: bool,
+    name: &Name,
+    at: u32,
+    env: &E,
+) -> Result<(), AllocError>
+    requires { IsNameable (draft builder.old).design needed name.now.place (E.names env.now name.now.text) }
+    ensures { OnOk result (AddsExpression (draft builder.old) (draft builder.new) (begins_at at (name_typed needed name.now.place (E.names env.now name.now.text)).expression) 1) }
+{
+    match env.find(name.text.as_bytes()) {
+        Named::Value { value, .. } => builder.literal(value.bits, value.signed, true, at),
+        Named::Signal(s) => builder.name(s.number, at),
+        _ => Err(AllocError),
+    }
+}
+
+/// Builds what bits are selected of, and answers its declared range.
+pub(crate) fn source<E: Env>(
+    builder: &mut Builder,
+    needed: bool,
+    name: &Name,
+    env: &E,
+) -> Result<Range, AllocError>
+    requires { HasBits (draft builder.old).design needed name.now.place (E.names env.now name.now.text) }
+    ensures { IfOk result (λ r. AddsSource (draft builder.old) (draft builder.new) (base_of needed name.now.place (E.names env.now name.now.text)) r) }
+{
+    match env.find(name.text.as_bytes()) {
+        Named::Value { value, range } => {
+            builder.literal(value.bits, value.signed, true, name.place)?;
+            Ok(range)
+        }
+        Named::Signal(s) => match s.range {
+            Some(range) => {
+                builder.name(s.number, name.place)?;
+                Ok(range)
+            }
+            None => Err(AllocError),
+        },
+        _ => Err(AllocError),
+    }
+}
+
+/// A number that is needed, where it has no fault: from `low` to `high`.
+pub(crate) fn number_within<E: Env>(
+    alloc: Global,
+    low: u32,
+    high: u32,
+    e: &Expr,
+    env: &E,
+) -> Result<u32, AllocError>
+    requires { IsNumbered low high (E.names env.now) (view.expr e.now) }
+    ensures { IfOk result (λ n. (natural low high (expr_place (view.expr e.now)) (constant (view.expr e.now) (E.names env.now))).number ≡ Some n) }
+{
+    match number(alloc, e, env) {
+        Ok(Some(n)) => match u32::try_from(n) {
+            Ok(n) => Ok(n),
+            Err(_) => Err(AllocError),
+        },
+        _ => Err(AllocError),
+    }
+}
+
+/// The bits of a literal.
+pub(crate) fn literal_bits(n: &Literal) -> Bits
+    requires { IsLiteral (view.literal n.now) }
+    ensures { result ≡ (view.literal n.now).bits }
+{
+    Bits::of_planes(n.size, n.value, n.unknown)
+}
+
+/// The bits of a constant without a fault.
+pub(crate) fn constant_bits<E: Env>(alloc: Global, e: &Expr, env: &E) -> Result<Bits, AllocError>
+    requires { IsConstant (E.names env.now) (view.expr e.now) }
+    ensures { IfOk result (λ b. b ≡ constant_value (constant (view.expr e.now) (E.names env.now)).expression) }
+{
+    match constant(alloc, e, env, None) {
+        Ok(Some(c)) => Ok(c.bits),
+        _ => Err(AllocError),
+    }
+}
+
+/// The range with these bounds.
+pub(crate) fn bounds_of<E: Env>(
+    alloc: Global,
+    left: &Expr,
+    right: &Expr,
+    env: &E,
+) -> Result<Range, AllocError>
+    requires { AreBounds (E.names env.now) (view.expr left.now) (view.expr right.now) }
+    ensures range { IfOk result (IsRangeOf (E.names env.now) (view.expr left.now) (view.expr right.now)) }
+    ensures short { IfOk result (λ r. four.range_length r ≤ 64) }
+{
+    let left = number_within(alloc, 0, 65535, left, env)?;
+    let right = number_within(alloc, 0, 65535, right, env)?;
+    Ok(Range { left, right })
+}
+
+/// The lesser bound.
+pub(crate) fn lesser(r: Range) -> u32
+    ensures { result ≡ min r.left r.right }
+{
+    r.left.min(r.right)
+}
+
+/// How many bits a short range has.
+pub(crate) fn range_length(r: Range) -> u32
+    requires { four.range_length r ≤ 64 }
+    ensures { result ≡ four.range_length r }
+{
+    if r.right <= r.left {
+        r.left - r.right + 1
+    } else {
+        r.right - r.left + 1
+    }
+}
