@@ -6,3 +6,4 @@ mod ConnectedNames
 mod PortTables
 mod ConnectionSteps
 mod NamedConnections
+mod FaultLists

@@ -4,3 +4,4 @@ pub mod Ports
 pub mod Connected
 pub mod PortTables
 pub mod Connections
+pub mod Values

@@ -7,3 +7,4 @@ mod faults;
 mod modules;
 mod noted;
 mod ports;
+mod values;
