@@ -7,3 +7,4 @@ mod PortTables
 mod ConnectionSteps
 mod NamedConnections
 mod FaultLists
+mod OverrideFaults

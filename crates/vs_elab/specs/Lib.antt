@@ -5,3 +5,6 @@ pub mod Connected
 pub mod PortTables
 pub mod Connections
 pub mod Values
+pub mod Interfaces
+pub mod Written
+pub mod Numbers

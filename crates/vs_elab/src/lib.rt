@@ -4,7 +4,11 @@
 mod connected;
 mod connections;
 mod faults;
+mod interfaces;
 mod modules;
 mod noted;
+mod numbers;
+mod overrides;
 mod ports;
 mod values;
+mod written;

@@ -12,7 +12,7 @@ use Rattle.vs_elab.proofs.ports.plain_ports.Goals as goal
 pub loop-name-preserved : goal.loop-name-preserved
 loop-name-preserved c = λ ds first.
     let n = view.name c.name-item.result in
-    let input = c.copied-input.ensures ∙ c.get.ensures ∙ ap (λ x. value_at x (pairs c.args.directions.now)) c.as_bytes-name.ensures ∙ first.each n.bytes ∙ direction_found ds n.bytes in
+    let input = c.copied-input.ensures ∙ c.get.ensures.value ∙ ap (λ x. value_at x (pairs c.args.directions.now)) c.as_bytes-name.ensures ∙ first.each n.bytes ∙ direction_found ds n.bytes in
     let q : Port = record { name = c.as_bytes-name.result.now; input = c.copied-input.result } in
     ap (map port_of) c.in_ok-push.ensures.items ∙ map-append port_of c.loop-name.ports.items _
     ∙ ap (λ r. r ++ q ∷ []) (c.loop-name.invariant ds first)
