@@ -8,3 +8,4 @@ mod ConnectionSteps
 mod NamedConnections
 mod FaultLists
 mod OverrideFaults
+mod SelectFaults

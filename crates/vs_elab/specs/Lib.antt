@@ -8,3 +8,4 @@ pub mod Values
 pub mod Interfaces
 pub mod Written
 pub mod Numbers
+pub mod Selects

@@ -10,5 +10,6 @@ mod noted;
 mod numbers;
 mod overrides;
 mod ports;
+mod selects;
 mod values;
 mod written;
