@@ -9,3 +9,4 @@ mod NamedConnections
 mod FaultLists
 mod OverrideFaults
 mod SelectFaults
+mod TargetFaults

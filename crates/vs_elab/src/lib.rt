@@ -11,5 +11,6 @@ mod numbers;
 mod overrides;
 mod ports;
 mod selects;
+mod targets;
 mod values;
 mod written;

@@ -48,10 +48,7 @@ fn between_fault(
     ensures { (needed : Bool) → IfOk result (λ f. f ≡ least (slice_faults declared bracket tree.Between (view.expr left.now) (view.expr right.now) (named (view_env here.now)) needed)) }
 {
     let b = bounds_at(alloc, bracket, left, right, here)?;
-    Ok(first_of(
-        b.fault,
-        against_fault(declared, bracket, b.range),
-    ))
+    Ok(first_of(b.fault, against_fault(declared, bracket, b.range)))
 }
 
 /// The first rule that `[left +: right]` or `[left -: right]` breaks.
