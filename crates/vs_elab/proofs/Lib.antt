@@ -10,3 +10,4 @@ mod FaultLists
 mod OverrideFaults
 mod SelectFaults
 mod TargetFaults
+mod OutputFaults

@@ -9,3 +9,4 @@ pub mod Interfaces
 pub mod Written
 pub mod Numbers
 pub mod Selects
+pub mod Outputs

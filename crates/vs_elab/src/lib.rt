@@ -8,6 +8,7 @@ mod interfaces;
 mod modules;
 mod noted;
 mod numbers;
+mod outputs;
 mod overrides;
 mod ports;
 mod selects;
