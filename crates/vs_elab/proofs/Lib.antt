@@ -11,3 +11,4 @@ mod OverrideFaults
 mod SelectFaults
 mod TargetFaults
 mod OutputFaults
+mod InstanceFaults

@@ -4,6 +4,7 @@
 mod connected;
 mod connections;
 mod faults;
+mod instances;
 mod interfaces;
 mod modules;
 mod noted;
