@@ -1,20 +1,24 @@
 -- The faults of what ports are connected to.
-use Rattle.std.proofs.Common.{◌≡◌, ℕ, suc, ◌+◌, ◌<◌, Bool, true, false, ◌||◌, List, [], ◌∷◌, ◌++◌, length, get_or, drop, map, flat_map, Option, Some, None, if◌then◌else◌, refl, sym, ap, ◌∙◌, append_assoc, drop-cons, add-one}
-use Rattle.std.specs.Prelude.{is_some, slice_get}
+use Rattle.std.proofs.Common.{◌≡◌, ℕ, suc, ◌+◌, ◌<◌, Bool, true, false, not, ◌||◌, List, [], ◌∷◌, ◌++◌, length, get_or, drop, map, flat_map, Option, Some, None, if◌then◌else◌, refl, sym, ap, ◌∙◌, append_assoc, drop-cons, add-one}
+use Rattle.std.specs.Prelude.{is_some, is_none, slice_get}
+use Rattle.std.specs.Borrow.{Bor}
 use Rattle.std.specs.List.{list_any}
 use Rattle.vs_design.specs.Clocks.{same_name}
 use Rattle.vs_grammar.specs.Trees as tree
 use Rattle.vs_ast.specs.declared.expressions.Expr.{Expr}
 use Rattle.vs_ast.specs.Views as view
 use Rattle.vs_const.specs.declared.faults.Fault.{Fault}
-use Rattle.vs_const.specs.Faults.{least, better}
+use Rattle.vs_const.specs.Faults.{least, better, fault_if}
 use Rattle.vs_const.proofs.Least.{least_append}
 use Rattle.vs_hierarchy.specs.Environments.{Env}
-use Rattle.vs_hierarchy.specs.Ports.{Port, find_port, ports_of}
-use Rattle.vs_hierarchy.specs.Instances.{directed, connected, connected_by_order, connected_by_name, module_ports, is_port}
+use Rattle.vs_hierarchy.specs.Ports.{Port, find_port, ports_of, find_module}
+use Rattle.vs_hierarchy.specs.Instances.{Around, Connected, known_instance, instance_said, unknown_module, instances_said, said_overrides, said_connections, directed, connected, connected_by_order, connected_by_name, module_ports, is_port}
+use Rattle.vs_hierarchy.specs.Parameters.{Override}
+use Rattle.vs_hierarchy.specs.Pieces.{all_said}
 use Rattle.vs_scope.specs.Maps.{value_at}
 use Rattle.vs_scope.specs.MapViews.{pairs}
 use Rattle.vs_elab.specs.declared.interfaces.Interface.{Interface}
+use Rattle.vs_elab.specs.Instances.{instance_faults}
 use Rattle.vs_elab.specs.Interfaces.{IsKnown}
 use Rattle.vs_elab.specs.Ports.{named_port, input_of}
 use Rattle.vs_elab.specs.PortTables.{ArePorts}
@@ -110,3 +114,45 @@ name_of (Some p) = p.name
 pub connected_has : (p : Option Port) (e : tree.Expr) (env : Env) → (directed (name_of p) (input_of p) e env).faults ≡ (connected p (Some e) env).faults
 connected_has None e env = refl
 connected_has (Some p) e env = refl
+
+-- ---- all instances of an item
+
+known_has : (around : Around) (place : ℕ) (name : List ℕ) (m : Option tree.Module) (os : List Override) (c : Connected) → (known_instance around place name m os c).faults ≡ c.faults
+known_has around place name None os c = refl
+known_has around place name (Some m) os c = refl
+
+instances_have : (around : Around) (place : ℕ) (m : Option tree.Module) (os : List Override) (is : List tree.Instance) → (all_said (instance_said around place m os) is).faults ≡ flat_map (instance_faults m around.env) is
+instances_have around place m os [] = refl
+instances_have around place m os (i ∷ is) =
+    ap (λ fs. fs ++ (all_said (instance_said around place m os) is).faults) (known_has around place i.name.bytes m os (said_connections m i.name i.connections around.env))
+    ∙ ap (λ fs. instance_faults m around.env i ++ fs) (instances_have around place m os is)
+
+missing_is : (k : Option (Bor Interface)) (m : Option tree.Module) (place : ℕ) → IsKnown k m → least (fault_if (is_none k) 34 place) ≡ least (unknown_module m place)
+missing_is None None place h = refl
+missing_is None (Some m) place h = absurd h
+missing_is (Some i) None place h = absurd h
+missing_is (Some i) (Some m) place h = refl
+
+-- what is found of an item, in its parts
+pub item_has : (source : tree.Source) (around : Around) (t : tree.Instances) (env : Env) (k : Option (Bor Interface)) (missing overrides connections one both : Option Fault)
+    → IsKnown k (find_module source t.of.bytes) → around.env ≡ env
+    → missing ≡ least (fault_if (is_none k) 34 t.of.place)
+    → overrides ≡ least (said_overrides t.of (find_module source t.of.bytes) t.overrides env).faults
+    → connections ≡ least (flat_map (instance_faults (find_module source t.of.bytes) env) t.instances)
+    → one ≡ better missing overrides → both ≡ better one connections → both ≡ least (instances_said source around t).faults
+item_has source around t env k missing overrides connections one both known same is_missing are_overrides are_connections is_one is_both =
+    let m = find_module source t.of.bytes in
+    let os : Env → List Fault = λ x. (said_overrides t.of m t.overrides x).faults in
+    let cs : Env → List Fault = λ x. flat_map (instance_faults m x) t.instances in
+    let unknown = unknown_module m t.of.place in
+    is_both ∙ ap (λ x. better x connections) (is_one ∙ ap (λ x. better x overrides) (is_missing ∙ missing_is k m t.of.place known) ∙ ap (better (least unknown)) are_overrides ∙ sym (least_append unknown (os env)))
+    ∙ ap (better (least (unknown ++ os env))) are_connections
+    ∙ sym (least_append (unknown ++ os env) (cs env))
+    ∙ ap (λ x. least ((unknown ++ os x) ++ cs x)) (sym same)
+    ∙ ap (λ fs. least ((unknown ++ os around.env) ++ fs)) (sym (instances_have around t.of.place m (said_overrides t.of m t.overrides around.env).overrides t.instances))
+
+pub none_is : {A : Type 0} (k : Option A) (b : Bool) → is_some k ≡ not b → b ≡ is_none k
+none_is None true h = refl
+none_is None false h = cc
+none_is (Some a) true h = cc
+none_is (Some a) false h = refl

@@ -10,3 +10,4 @@ pub mod Written
 pub mod Numbers
 pub mod Selects
 pub mod Outputs
+pub mod Instances

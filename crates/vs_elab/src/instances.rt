@@ -1,14 +1,15 @@
 //! The faults of what the ports of an instance are connected to (IEEE 1364-2005, 12.3.5, 12.3.6 and 12.3.9).
 
-ghost use Rattle.std.specs.Prelude.{◌≡◌, ℕ, List, Option, IfOk, map, option_map, slice_get};
+ghost use Rattle.std.specs.Prelude.{◌≡◌, ℕ, List, Option, IfOk, map, flat_map, option_map, slice_get};
 ghost use Rattle.vs_grammar.specs.Trees as tree;
-ghost use Rattle.vs_grammar.specs.Shapes.{AreConnections, IsExpr, Given, Each, IsConnection};
+ghost use Rattle.vs_grammar.specs.Shapes.{AreConnections, AreInstances, IsExpr, IsInstance, Given, Each, IsConnection};
 ghost use Rattle.vs_ast.specs.Views as view;
 ghost use Rattle.vs_const.specs.Faults.{least};
-ghost use Rattle.vs_hierarchy.specs.Ports.{find_port};
+ghost use Rattle.vs_hierarchy.specs.Ports.{find_module, find_port};
 ghost use Rattle.vs_hierarchy.specs.Instances as spec;
 ghost use Rattle.vs_scope.specs.Frames.{view_env};
 ghost use Rattle.vs_elab.specs.Connected.{is_known};
+ghost use Rattle.vs_elab.specs.Instances.{instance_faults};
 ghost use Rattle.vs_elab.specs.Interfaces.{IsKnown};
 ghost use Rattle.vs_elab.specs.Ports.{port_of, input_of};
 
@@ -16,10 +17,11 @@ use crate::connected::name_fault;
 use crate::faults::{fault_if, first_of};
 use crate::interfaces::Interface;
 use crate::outputs::output_fault;
+use crate::overrides::overrides_fault;
 use crate::ports::Port;
 use crate::values::expr_fault;
 use std::alloc::{AllocError, Global};
-use vs_ast::{Connections, Expr, Name, NamedConnection};
+use vs_ast::{Connections, Expr, Instance, Instances, Name, NamedConnection};
 use vs_const::Fault;
 use vs_scope::{NameMap, View};
 
@@ -196,4 +198,44 @@ pub(crate) fn connections_fault<'a>(
         Connections::ByOrder(parts) => order_fault(alloc, name, known, parts, here),
         Connections::ByName(parts) => names_fault(alloc, name, known, parts, here),
     }
+}
+
+/// The first rule that the connections of any of these instances break.
+fn all_fault<'a>(
+    alloc: Global,
+    known: Option<&Interface<'a>>,
+    instances: &'a [Instance],
+    here: &View<'_, '_>,
+) -> Result<Option<Fault>, AllocError>
+    requires { Each IsInstance (map view.instance instances.now) }
+    ensures { (m : Option tree.Module) → IsKnown known.entry m
+        → IfOk result (λ f. f ≡ least (flat_map (instance_faults m (view_env here.now)) (map view.instance instances.now))) }
+{
+    let mut fault = None;
+    for i in instances {
+        let found = connections_fault(alloc, &i.name, known, &i.connections, here)?;
+        fault = first_of(fault, found);
+    }
+    Ok(fault)
+}
+
+/// The first rule that an item of instances breaks (12.1.2): `known` is what is known of the module that it names.
+/// - 34: the text has no such module.
+/// - 36, 38, 39: a name that is connected twice, a wrong number of connections by order, an unknown name.
+/// - 43: what is connected to an output isn't a net.
+/// - and what the expressions break.
+pub(crate) fn instances_fault<'a>(
+    alloc: Global,
+    known: Option<&Interface<'a>>,
+    t: &'a Instances,
+    here: &View<'_, '_>,
+) -> Result<Option<Fault>, AllocError>
+    requires { AreInstances (view.instances t.now) }
+    ensures { (source : tree.Source) (around : spec.Around) → IsKnown known.entry (find_module source t.now.of.text) → around.env ≡ view_env here.now
+        → IfOk result (λ f. f ≡ least (spec.instances_said source around (view.instances t.now)).faults) }
+{
+    let missing = fault_if(known.is_none(), 34, t.of.place);
+    let overrides = overrides_fault(alloc, &t.of, known, &t.overrides, here)?;
+    let connections = all_fault(alloc, known, &t.instances, here)?;
+    Ok(first_of(first_of(missing, overrides), connections))
 }
