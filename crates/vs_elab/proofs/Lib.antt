@@ -12,3 +12,4 @@ mod SelectFaults
 mod TargetFaults
 mod OutputFaults
 mod InstanceFaults
+mod ItemFaults

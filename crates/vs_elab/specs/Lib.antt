@@ -11,3 +11,4 @@ pub mod Numbers
 pub mod Selects
 pub mod Outputs
 pub mod Instances
+pub mod Items

@@ -6,6 +6,7 @@ mod connections;
 mod faults;
 mod instances;
 mod interfaces;
+mod items;
 mod modules;
 mod noted;
 mod numbers;
