@@ -1,18 +1,16 @@
 -- The faults of overrides.
-use Rattle.std.proofs.Common.{◌≡◌, ℕ, suc, Bool, true, false, not, ◌||◌, List, [], ◌∷◌, ◌++◌, length, map, flat_map, Option, Some, None, if◌then◌else◌, refl, sym, ap, ◌∙◌}
+use Rattle.std.proofs.Common.{◌≡◌, ℕ, suc, Bool, true, false, not, ◌||◌, List, [], ◌∷◌, ◌++◌, map, flat_map, Option, Some, None, if◌then◌else◌, refl, sym, ap, ◌∙◌}
 use Rattle.std.specs.Prelude.{is_some, slice_get}
-use Rattle.std.specs.Borrow.{Bor}
 use Rattle.std.specs.List.{list_any}
 use Rattle.vs_design.specs.Clocks.{same_name}
 use Rattle.vs_grammar.specs.Trees as tree
 use Rattle.vs_grammar.specs.Trees.{Name}
 use Rattle.vs_grammar.specs.Shapes.{Each, Given, OneOrMore, AreOrdered, IsExpr}
 use Rattle.vs_const.specs.Faults.{fault, fault_if}
-use Rattle.vs_const.specs.Expressions.{constant}
-use Rattle.vs_hierarchy.specs.Environments.{Env, named}
+use Rattle.vs_hierarchy.specs.Environments.{Env}
 use Rattle.vs_hierarchy.specs.Ports.{overridable, is_named}
 use Rattle.vs_hierarchy.specs.Instances.{Overrides, and_override, overrides_by_order, overrides_by_name, connected_names, is_overridable}
-use Rattle.vs_scope.specs.Maps.{Pair, value_at}
+use Rattle.vs_scope.specs.Maps.{value_at}
 use Rattle.vs_scope.specs.MapViews.{pairs}
 use Rattle.vs_scope.proofs.Entries.{same_is}
 use Rattle.vs_scope.proofs.NamedLists.{same_self}

@@ -1,5 +1,5 @@
 -- The ports of a table by their names.
-use Rattle.std.proofs.Common.{◌≡◌, ℕ, Bool, true, false, List, [], ◌∷◌, map, Option, Some, None, option_map, if◌then◌else◌, refl, sym, ap, ◌∙◌}
+use Rattle.std.proofs.Common.{◌≡◌, ℕ, Bool, true, false, List, [], ◌∷◌, map, Option, Some, option_map, if◌then◌else◌, refl, sym, ap, ◌∙◌}
 use Rattle.vs_design.specs.Clocks.{same_name}
 use Rattle.vs_hierarchy.specs.Ports as ports
 use Rattle.vs_hierarchy.specs.Ports.{find_port}

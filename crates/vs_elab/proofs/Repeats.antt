@@ -1,5 +1,5 @@
 -- One more module behind others.
-use Rattle.std.proofs.Common.{◌≡◌, ℕ, suc, ◌+◌, ◌<◌, length, map, take, get_or, add-one, take-suc, Bool, true, false, ◌||◌, List, [], ◌∷◌, ◌++◌, Option, Some, None, if◌then◌else◌, refl, sym, ap, ◌∙◌, append_assoc}
+use Rattle.std.proofs.Common.{◌≡◌, ℕ, ◌+◌, ◌<◌, length, map, take, get_or, add-one, take-suc, Bool, true, false, ◌||◌, List, [], ◌∷◌, ◌++◌, Option, Some, None, if◌then◌else◌, refl, sym, ap, ◌∙◌, append_assoc}
 use Rattle.std.specs.Prelude.{is_some, option_map}
 use Rattle.std.specs.Borrow.{Bor}
 use Rattle.vs_ast.specs.declared.modules.Module.{Module as Module'}
@@ -10,11 +10,9 @@ use Rattle.vs_grammar.specs.Trees.{items_list}
 use Rattle.vs_scope.specs.Maps.{Pair, value_at}
 use Rattle.vs_elab.specs.Noted.{AreFirst, named}
 use Rattle.vs_elab.specs.Modules.{module_at}
-use Rattle.std.specs.List.{list_any}
 use Rattle.std.proofs.lemmas.List.{append-nil, map-append}
 use Rattle.vs_design.specs.Clocks.{same_name}
 use Rattle.vs_grammar.specs.Trees.{Name, Module}
-use Rattle.vs_const.specs.declared.faults.Fault.{Fault}
 use Rattle.vs_const.specs.Faults.{fault_if}
 use Rattle.vs_hierarchy.specs.Ports.{find_in, is_named}
 use Rattle.vs_hierarchy.specs.Elaborated.{repeated_modules}

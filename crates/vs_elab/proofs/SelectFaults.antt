@@ -1,11 +1,11 @@
 -- The faults of selects, without the bits.
-use Rattle.std.proofs.Common.{◌≡◌, ℕ, Bool, true, false, not, List, [], ◌++◌, Option, Some, None, refl, sym, ap, ◌∙◌}
+use Rattle.std.proofs.Common.{◌≡◌, ℕ, Bool, true, false, not, List, ◌++◌, Option, Some, None, refl, sym, ap}
 use Rattle.std.proofs.lemmas.List.{append-nil}
 use Rattle.vs_four.specs.declared.Range.{Range}
 use Rattle.vs_grammar.specs.Trees as tree
 use Rattle.vs_grammar.specs.Trees.{expr_place}
 use Rattle.vs_const.specs.declared.faults.Fault.{Fault}
-use Rattle.vs_const.specs.Faults.{fault, fault_if}
+use Rattle.vs_const.specs.Faults.{fault_if}
 use Rattle.vs_const.specs.Meanings.{Find}
 use Rattle.vs_const.specs.Typed.{Typed, natural}
 use Rattle.vs_const.specs.Expressions.{typed}

@@ -1,5 +1,5 @@
 -- What an instance sees of its module.
-use Rattle.std.specs.Prelude.{◌≡◌, List, map, Option, Some, None}
+use Rattle.std.specs.Prelude.{◌≡◌, map, Option, Some, None}
 use Rattle.std.specs.Borrow.{Bor}
 use Rattle.vs_grammar.specs.Trees as tree
 use Rattle.vs_hierarchy.specs.Ports.{ports_of, overridable}

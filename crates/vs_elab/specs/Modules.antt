@@ -1,5 +1,5 @@
 -- The modules of a text by their names.
-use Rattle.std.specs.Prelude.{ℕ, List, Option, option_map, map}
+use Rattle.std.specs.Prelude.{ℕ, List, Option, option_map}
 use Rattle.std.specs.Borrow.{Bor}
 use Rattle.vs_grammar.specs.Trees as tree
 use Rattle.vs_ast.specs.declared.modules.Module.{Module}

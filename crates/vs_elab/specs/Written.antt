@@ -1,5 +1,5 @@
 -- What a target names.
-use Rattle.std.specs.Prelude.{◌≡◌, ℕ, Bool, not, ◌&&◌, ◌||◌, Option, Some, None}
+use Rattle.std.specs.Prelude.{◌≡◌, ℕ, Bool, not, ◌&&◌, ◌||◌, Option}
 use Rattle.vs_four.specs.declared.Range.{Range}
 use Rattle.vs_const.specs.Faults.{least}
 use Rattle.vs_const.specs.Meanings.{SignalMeaning, Meaning, ASignal, Unknown}

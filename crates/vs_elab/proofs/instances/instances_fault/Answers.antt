@@ -1,5 +1,4 @@
-use Rattle.std.proofs.Common.{◌≡◌, ℕ, Bool, List, map, flat_map, ap, subst, sym, ◌∙◌}
-use Rattle.std.specs.Prelude.{is_none}
+use Rattle.std.proofs.Common.{Bool, List, map, flat_map, ap, subst, sym, ◌∙◌}
 use Rattle.vs_grammar.specs.Shapes.{Each, IsInstance}
 use Rattle.vs_ast.specs.declared.items.Instance.{Instance}
 use Rattle.vs_ast.specs.Views as view

@@ -1,4 +1,4 @@
-use Rattle.std.proofs.Common.{◌≡◌, option_map, List, sym, ap, ◌∙◌, subst}
+use Rattle.std.proofs.Common.{option_map, List, sym, ap, ◌∙◌, subst}
 use Rattle.std.specs.Prelude.{slice_get}
 use Rattle.std.proofs.lemmas.Option.{slice_get-map}
 use Rattle.vs_elab.specs.declared.ports.Port.{Port}

@@ -1,4 +1,4 @@
-use Rattle.std.proofs.Common.{◌≡◌, List, Option, map, flat_map, take, sym, ap, ◌∙◌}
+use Rattle.std.proofs.Common.{List, Option, map, flat_map, sym, ap, ◌∙◌}
 use Rattle.std.proofs.lemmas.List.{take_all}
 use Rattle.vs_grammar.specs.Shapes.{IsConnection}
 use Rattle.vs_ast.specs.declared.items.NamedConnection.{NamedConnection}

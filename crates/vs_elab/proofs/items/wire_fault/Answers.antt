@@ -1,4 +1,4 @@
-use Rattle.std.proofs.Common.{false, List, Option, ap, sym, ◌∙◌}
+use Rattle.std.proofs.Common.{false, Option, ap, sym, ◌∙◌}
 use Rattle.vs_ast.specs.declared.expressions.Expr.{Expr}
 use Rattle.vs_ast.specs.Views as view
 use Rattle.vs_const.specs.Faults.{least, better}

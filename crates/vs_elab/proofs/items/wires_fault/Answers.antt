@@ -1,4 +1,4 @@
-use Rattle.std.proofs.Common.{List, map, flat_map, take, ap, sym, ◌∙◌}
+use Rattle.std.proofs.Common.{List, map, flat_map, ap, sym, ◌∙◌}
 use Rattle.std.proofs.lemmas.List.{take_all}
 use Rattle.vs_grammar.specs.Shapes.{IsDeclarator}
 use Rattle.vs_ast.specs.declared.items.Declarator.{Declarator}

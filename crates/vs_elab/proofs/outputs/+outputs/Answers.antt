@@ -1,4 +1,4 @@
-use Rattle.std.proofs.Common.{rules, ◌≡◌, List, Option, IfOk, map, flat_map, take, ap, subst, sym, ◌∙◌, arith}
+use Rattle.std.proofs.Common.{rules, ◌≡◌, List, Option, IfOk, map, flat_map, ap, subst, sym, ◌∙◌, arith}
 use Rattle.std.proofs.lemmas.List.{take_all}
 use Rattle.vs_grammar.specs.Trees as tree
 use Rattle.vs_grammar.specs.Shapes.{IsExpr, AreExprs}

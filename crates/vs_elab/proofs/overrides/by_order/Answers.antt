@@ -1,4 +1,4 @@
-use Rattle.std.proofs.Common.{◌++◌, length, map, sym, ap, ◌∙◌}
+use Rattle.std.proofs.Common.{length, map, sym, ap, ◌∙◌}
 use Rattle.std.proofs.lemmas.List.{length-map}
 use Rattle.vs_ast.specs.Views as view
 use Rattle.vs_const.specs.Faults.{least, better, fault_if}

@@ -1,4 +1,4 @@
-use Rattle.std.proofs.Common.{◌≡◌, ◌++◌, [], map, flat_map, sym, ap, ◌∙◌}
+use Rattle.std.proofs.Common.{◌++◌, map, flat_map, sym, ap, ◌∙◌}
 use Rattle.std.proofs.lemmas.Grind.{flat_map-append}
 use Rattle.vs_ast.specs.Views as view
 use Rattle.vs_hierarchy.specs.Ports.{parameter_names, item_parameters}

@@ -1,7 +1,7 @@
-use Rattle.std.proofs.Common.{rules, ◌≡◌, List, Option, IfOk, map, flat_map, take, ap, subst, sym, ◌∙◌, arith}
+use Rattle.std.proofs.Common.{rules, ◌≡◌, List, Option, IfOk, map, flat_map, ap, subst, sym, ◌∙◌, arith}
 use Rattle.std.proofs.lemmas.List.{take_all}
 use Rattle.vs_grammar.specs.Trees as tree
-use Rattle.vs_grammar.specs.Shapes.{IsSelect, IsTarget, AreTargets}
+use Rattle.vs_grammar.specs.Shapes.{IsTarget, AreTargets}
 use Rattle.vs_ast.specs.Views as view
 use Rattle.vs_ast.proofs.Rows.{target_rows}
 use Rattle.vs_ast.specs.declared.statements.Target.{Target, the_lemmas}

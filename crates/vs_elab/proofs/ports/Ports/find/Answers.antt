@@ -1,7 +1,4 @@
-use Rattle.std.proofs.Common.{◌≡◌, Some, None, option_map, sym, ap, ◌∙◌}
-use Rattle.std.specs.Option.{option_copied}
-use Rattle.vs_scope.specs.MapViews.{pairs}
-use Rattle.vs_scope.specs.Maps.{value_at}
+use Rattle.std.proofs.Common.{Some, None, option_map, sym, ap, ◌∙◌}
 use Rattle.vs_elab.proofs.PortTables.{found_in}
 use Rattle.vs_elab.proofs.ports.Ports.find.Goals as goal
 
