@@ -13,3 +13,4 @@ mod TargetFaults
 mod OutputFaults
 mod InstanceFaults
 mod ItemFaults
+mod ConnectedApart

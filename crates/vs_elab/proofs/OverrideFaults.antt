@@ -53,7 +53,7 @@ names_alike p q h seen (c ∷ cs) =
     ap (λ b. (if is_named c.name.bytes seen then fault 36 c.name.place else fault_if (not b) 39 c.name.place) ++ connected_names p (c.name ∷ seen) cs) (h c.name.bytes)
     ∙ ap (λ fs. (if is_named c.name.bytes seen then fault 36 c.name.place else fault_if (not (q c.name.bytes)) 39 c.name.place) ++ fs) (names_alike p q h (c.name ∷ seen) cs)
 
-same_swapped : (a b : List ℕ) → same_name a b ≡ same_name b a
+pub same_swapped : (a b : List ℕ) → same_name a b ≡ same_name b a
 same_swapped a b = by (same_name a b) refl (same_name b a) refl
   where
     by : (p : Bool) → same_name a b ≡ p → (q : Bool) → same_name b a ≡ q → p ≡ q

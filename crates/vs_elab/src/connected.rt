@@ -1,11 +1,12 @@
 //! The names of connections and overrides (IEEE 1364-2005, 12.2.2.2 and 12.3.6).
 
-ghost use Rattle.std.specs.Prelude.{◌≡◌, ◌++◌, [], ◌∷◌, List, IfOk, map};
+ghost use Rattle.std.specs.Prelude.{◌≡◌, ◌++◌, [], ◌∷◌, List, IfOk, map, None};
 ghost use Rattle.vs_grammar.specs.Trees as tree;
 ghost use Rattle.vs_ast.specs.Views as view;
 ghost use Rattle.vs_const.specs.Faults.{least};
 ghost use Rattle.vs_hierarchy.specs.Instances.{connected_names};
 ghost use Rattle.vs_elab.specs.Connected.{is_known, name_faults};
+ghost use Rattle.vs_elab.specs.Connections.{AreApart};
 
 use crate::faults::{fault_at, fault_if, first_of};
 use crate::noted::note;
@@ -35,13 +36,14 @@ fn wrong_name<V: Drop>(known: Option<&NameMap<'_, V>>, again: bool, name: &Name)
     }
 }
 
-/// The first name that is connected a second time, or that isn't known.
+/// The first name that is connected a second time, or that isn't known. Where there is none, no name is connected twice.
 pub(crate) fn name_fault<V: Drop>(
     alloc: Global,
     known: Option<&NameMap<'_, V>>,
     connections: &[NamedConnection],
 ) -> Result<Option<Fault>, AllocError>
-    ensures { IfOk result (λ f. f ≡ least (connected_names (is_known known.entry) [] (map view.named_connection connections.now))) }
+    ensures first { IfOk result (λ f. f ≡ least (connected_names (is_known known.entry) [] (map view.named_connection connections.now))) }
+    ensures apart { IfOk result (λ f. f ≡ None → AreApart (map view.named_connection connections.now)) }
 {
     let mut seen = NameMap::new(alloc);
     let mut fault = None;

@@ -1,5 +1,7 @@
-use Rattle.std.proofs.Common.{◌++◌, [], ◌∷◌, map, take, is_some, sym, ap, ◌∙◌, subst}
-use Rattle.std.proofs.lemmas.List.{map-append}
+use Rattle.std.proofs.Common.{List, ◌++◌, [], ◌∷◌, map, take, is_some, sym, ap, ◌∙◌, subst}
+use Rattle.std.proofs.lemmas.List.{map-append, take_all}
+use Rattle.vs_ast.specs.declared.items.NamedConnection.{NamedConnection}
+use Rattle.vs_elab.proofs.ConnectedApart.{are_apart}
 use Rattle.vs_ast.specs.Views as view
 use Rattle.vs_const.specs.Faults.{least, better}
 use Rattle.vs_const.proofs.Least.{least_append}
@@ -31,3 +33,10 @@ loop-connection-preserved g c =
           ∙ ap least (sym (connected_more k cs d))
           ∙ ap (λ xs. least (connected_names k [] xs)) (sym next);
     }
+
+pub returns-clause-apart : goal.returns-clause-apart
+returns-clause-apart g c = λ none.
+    let cs = c.args.connections.now in
+    let all = take_all c.loop-connection.connection-index cs c.loop-connection-test.false in
+    are_apart (is_known c.args.known) (map view.named_connection cs)
+    (ap (λ (xs : List NamedConnection). least (connected_names (is_known c.args.known) [] (map view.named_connection xs))) (sym all) ∙ sym c.loop-connection.invariant.fault ∙ none)

@@ -14,6 +14,6 @@ returns c = λ m known.
     let cs = map view.named_connection c.args.parts.now in
     let k = is_overridable m in
     c.first_of.ensures
-    ∙ ap (λ a. better a c.in_ok-found.found) (c.in_ok-names.ensures ∙ ap least (names_alike (is_known c.parameter_names.result) k (c.parameter_names.ensures m known) [] cs))
+    ∙ ap (λ a. better a c.in_ok-found.found) (c.in_ok-names.ensures.first ∙ ap least (names_alike (is_known c.parameter_names.result) k (c.parameter_names.ensures m known) [] cs))
     ∙ ap (better (least (connected_names k [] cs))) (c.in_ok-found.ensures ∙ ap least (sym (named_override_faults cs env)))
     ∙ sym (least_append (connected_names k [] cs) (overrides_by_name cs env).faults)
