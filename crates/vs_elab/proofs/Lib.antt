@@ -1,0 +1,16 @@
+mod Firsts
+mod Repeats
+mod Directions
+mod Overridable
+mod ConnectedNames
+mod PortTables
+mod ConnectionSteps
+mod NamedConnections
+mod FaultLists
+mod OverrideFaults
+mod SelectFaults
+mod TargetFaults
+mod OutputFaults
+mod InstanceFaults
+mod ItemFaults
+mod ConnectedApart

@@ -1,0 +1,14 @@
+pub mod Noted
+pub mod Modules
+pub mod Ports
+pub mod Connected
+pub mod PortTables
+pub mod Connections
+pub mod Values
+pub mod Interfaces
+pub mod Written
+pub mod Numbers
+pub mod Selects
+pub mod Outputs
+pub mod Instances
+pub mod Items

@@ -1,0 +1,19 @@
+//! Elaboration (IEEE 1364-2005, clause 12): from the tree of a text and the name of its top to a flat design, or to the first rule that is broken.
+#![tactic(auto)]
+
+mod connected;
+mod connections;
+mod faults;
+mod instances;
+mod interfaces;
+mod items;
+mod modules;
+mod noted;
+mod numbers;
+mod outputs;
+mod overrides;
+mod ports;
+mod selects;
+mod targets;
+mod values;
+mod written;
