@@ -7,10 +7,10 @@ use std::marker::Brand;
 use std::process::Abort;
 use std::sync::ledger::{Blank, Ledger};
 use std::test::Fail;
-use vs_thin::Engine;
 use vs_four::Bit4;
 use vs_plane::{Pair, Steps, Words};
 use vs_setup::{Loaded, load};
+use vs_thin::Engine;
 
 const TEXT: &[u8] =
     b"module top(input clk, input a, input b, output y); assign y = a & b; endmodule";

@@ -14,12 +14,12 @@ use std::process::Abort;
 use std::sync::ledger::{Blank, Ledger};
 use std::test::Fail;
 use vs_desk::MemoryDesk;
-use vs_thin::Engine;
 use vs_flat::Flat;
 use vs_four::Bit4;
 use vs_front::AcceptError;
 use vs_plane::{Lanes, Pair, Steps, Words};
 use vs_setup::{Loaded, load};
+use vs_thin::Engine;
 use vs_waves::{LaneFault, Waves, attach, rounds_law};
 
 const HALF: u64 = 5;
