@@ -14,5 +14,6 @@ mod walks;
 
 pub use ascending::ascend;
 pub use bodies::Walk;
+pub use nodes::{copy_count, first_copy, node_of, statement_of};
 pub use shape::Shape;
 pub use shapes::Shapes;

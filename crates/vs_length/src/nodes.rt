@@ -11,7 +11,7 @@ ghost use Rattle.vs_length.specs.Nodes.{HasNames, tree_of, place_of, tree_of_nod
 use vs_flat::{Flat, Node, Statement, lawful_law, names_law, trees_law};
 
 /// Expression e of a lawful design: it names earlier ones, and its tree is made of theirs.
-pub(crate) fn node_of(flat: &Flat, e: u32) -> &Node
+pub fn node_of(flat: &Flat, e: u32) -> &Node
     requires lawful { IsLawful flat.now }
     requires there { e < length flat.now.nodes }
     ensures is { node_at flat.now e ≡ Some result.now }
@@ -24,7 +24,7 @@ pub(crate) fn node_of(flat: &Flat, e: u32) -> &Node
 }
 
 /// Statement s of a lawful design: it names expressions and earlier statements, and its tree is made of theirs.
-pub(crate) fn statement_of(flat: &Flat, s: u32) -> &Statement
+pub fn statement_of(flat: &Flat, s: u32) -> &Statement
     requires lawful { IsLawful flat.now }
     requires there { s < length flat.now.statements }
     ensures is { statement_at flat.now s ≡ Some result.now }
@@ -39,7 +39,7 @@ pub(crate) fn statement_of(flat: &Flat, s: u32) -> &Statement
 }
 
 /// The parts of a concatenation; of a replication those of its first copy, which ends where its first part comes again (IEEE 1364-2005, 5.1.14).
-pub(crate) fn first_copy(parts: &[u32]) -> &[u32]
+pub fn first_copy(parts: &[u32]) -> &[u32]
     ensures copy { result.now ≡ first_copy parts.now }
     ensures prefix { result.now ≡ take (length result.now) parts.now }
     ensures short { length result.now ≤ length parts.now }
@@ -58,7 +58,7 @@ fn length_before(numbers: &[u32], number: u32) -> usize
 }
 
 /// How many copies a replication has.
-pub(crate) fn copy_count(parts: &[u32]) -> u64
+pub fn copy_count(parts: &[u32]) -> u64
     ensures { result ≡ copy_count parts.now }
 {
     match parts.split_first() {

@@ -38,7 +38,7 @@ impl Model for Shapes {
 
 impl Shapes {
     /// A design of whose expressions nothing is noted.
-    pub(crate) fn new(alloc: Global, flat: Flat) -> Shapes
+    pub fn new(alloc: Global, flat: Flat) -> Shapes
         requires { IsLawful flat }
         ensures { result ≡ flat }
     {
@@ -49,7 +49,7 @@ impl Shapes {
     }
 
     /// Notes the shapes of expressions up to this many, so that each is found in one step from then on. Want of memory leaves the design as it was.
-    pub(crate) fn note(&mut self, count: u32) -> Result<(), AllocError>
+    pub fn note(&mut self, count: u32) -> Result<(), AllocError>
         requires { count ≤ length self.old.nodes }
         ensures { self.new ≡ self.old }
     {

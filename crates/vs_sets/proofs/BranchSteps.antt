@@ -14,7 +14,7 @@ use Rattle.vs_sets.specs.Tables.{family_of}
 use Rattle.vs_sets.specs.Branches.{replaced}
 use Rattle.vs_sets.proofs.Families.{same_or_other, put_family}
 
-or_false : (b : Bool) → (b || false) ≡ b
+pub or_false : (b : Bool) → (b || false) ≡ b
 or_false true = refl
 or_false false = refl
 
@@ -22,7 +22,7 @@ pub or_true : (b : Bool) → (b || true) ≡ true
 or_true true = refl
 or_true false = refl
 
-contains_more : (bits : List ℕ) (i c : ℕ) → i < length bits → contains (take (i + 1) bits) c ≡ (contains (take i bits) c || (c == get_or bits i 0))
+pub contains_more : (bits : List ℕ) (i c : ℕ) → i < length bits → contains (take (i + 1) bits) c ≡ (contains (take i bits) c || (c == get_or bits i 0))
 contains_more bits i c h =
     ap (λ bs. contains bs c) (take_more bits i 0 h) ∙ list_any-append (λ d. c == d) (take i bits) (get_or bits i 0 ∷ [])
     ∙ ap (λ b. contains (take i bits) c || b) (or_false (c == get_or bits i 0))

@@ -13,3 +13,5 @@ pub mod CaseSteps
 pub mod StatementNames
 pub mod Running
 pub mod AtOnce
+pub mod TwiceSteps
+pub mod FlagSteps

@@ -165,18 +165,18 @@ x_elsewhere bits s c = fun_ext (λ b. at b (contains bits b) refl) where
   at b true e = cond-true (contains bits b) _ _ e
   at b false e = cond-false (contains bits b) _ _ e ∙ body_other s (λ b. only X) b (covered_or_not bits b s c e)
 
-all_of_each : (p : ℕ → Bool) (xs : List ℕ) → ((b : ℕ) → contains xs b ≡ true → p b ≡ true) → list_all p xs ≡ true
+pub all_of_each : (p : ℕ → Bool) (xs : List ℕ) → ((b : ℕ) → contains xs b ≡ true → p b ≡ true) → list_all p xs ≡ true
 all_of_each p [] h = refl
 all_of_each p (x ∷ xs) h = Rattle.vs_sets.proofs.Fit.and_both (p x) (list_all p xs) (h x (ap (λ k. k || contains xs x) (Rattle.vs_sets.proofs.Families.equal_test x))) (all_of_each p xs (λ b k. h b (ap (λ q. (b == x) || q) k ∙ or_true (b == x))))
 
-each_of_all : (p : ℕ → Bool) (xs : List ℕ) → list_all p xs ≡ true → (b : ℕ) → contains xs b ≡ true → p b ≡ true
+pub each_of_all : (p : ℕ → Bool) (xs : List ℕ) → list_all p xs ≡ true → (b : ℕ) → contains xs b ≡ true → p b ≡ true
 each_of_all p [] h b k = absurd (let z : ⊥ = cc in z)
 each_of_all p (x ∷ xs) h b k = at (Rattle.vs_sets.proofs.Families.same_or_other b x) k (each_of_all p xs (and_right (p x) _ h) b) where
   at : (((b == x) ≡ true) × (b ≡ x)) ⊎ (((b == x) ≡ false) × (Rattle.std.proofs.Common.◌≢◌ b x)) → ((b == x) || contains xs b) ≡ true → (contains xs b ≡ true → p b ≡ true) → p b ≡ true
   at (inl e) k rest = ap p e.1 ∙ and_left (p x) _ h
   at (inr e) k rest = rest (sym (ap (λ q. q || contains xs b) e.0) ∙ k)
 
-same_truth : (a b : Bool) → (a ≡ true → b ≡ true) → (b ≡ true → a ≡ true) → a ≡ b
+pub same_truth : (a b : Bool) → (a ≡ true → b ≡ true) → (b ≡ true → a ≡ true) → a ≡ b
 same_truth true b h k = sym (h refl)
 same_truth false true h k = k refl
 same_truth false false h k = refl

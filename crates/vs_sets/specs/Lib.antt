@@ -15,3 +15,5 @@ pub mod Branches
 pub mod StatementParts
 pub mod Matches
 pub mod Laws
+pub mod Twice
+pub mod Flags

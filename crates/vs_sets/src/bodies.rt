@@ -30,7 +30,7 @@ use vs_four::Bit4;
 use vs_length::Shapes;
 
 /// Statement s of a lawful design, of which nothing is over 64 bits: what it names is there, and holds too.
-fn statement_node(shapes: &Shapes, s: u32) -> &Statement
+pub fn statement_node(shapes: &Shapes, s: u32) -> &Statement
     requires there { s < length shapes.now.statements }
     requires fit { fits_statement (statement_of shapes.now s) ≡ true }
     ensures names { HasStatementNames (length shapes.now.nodes) s result.now }

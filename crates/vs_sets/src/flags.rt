@@ -1,0 +1,172 @@
+//! Flags of bits: those on which sleeping blocks may wait.
+
+ghost use Rattle.std.specs.Prelude.{◌≡◌, ◌≤◌, ◌<◌, ◌+◌, ◌&&◌, not, ℕ, length, true, false, if◌then◌else◌, slice_get, Some, IfOk, OnOk, All};
+ghost use Rattle.std.specs.List.{list_all, list_any};
+ghost use Rattle.vs_design.specs.Designs as D;
+ghost use Rattle.vs_design.specs.Fits.{fits_process};
+ghost use Rattle.vs_design.specs.Footprints.{contains, variable_bits};
+ghost use Rattle.vs_design.specs.Sleepers.{is_still};
+ghost use Rattle.vs_flat.specs.declared.processes.Event.{Event as FlatEvent};
+ghost use Rattle.vs_flat.specs.DesignOf.{design_of};
+ghost use Rattle.vs_flat.specs.Operators.{edge_of};
+ghost use Rattle.vs_reads.specs.Footprint.{footprints_of};
+ghost use Rattle.vs_reads.specs.Named.{IsFitKind};
+ghost use Rattle.vs_sets.specs.Flags.{AreFlags, flag_at, variables_before, still_before};
+
+use crate::twice::push_twice;
+use std::alloc::{AllocError, Global};
+use vs_flat::{Edge, Event, Kind, Process, Signal, count_bits, lawful_law, names_law, trees_law};
+use vs_length::Shapes;
+use vs_reads::{Footprints, footprint_law};
+
+/// Whether an event is `posedge` or `negedge`.
+fn is_edge(edge: Edge) -> bool
+    ensures { result ≡ D.is_edge (edge_of edge) }
+{
+    match edge {
+        Edge::Any => false,
+        Edge::Pos | Edge::Neg => true,
+    }
+}
+
+/// Whether one of these events is an edge, so that the block is clocked (IEEE 1364-2005, 9.7.2).
+pub fn has_edge(events: &[Event]) -> bool
+    ensures { result ≡ list_any (λ (e : FlatEvent). D.is_edge (edge_of e.edge)) events.now }
+{
+    events.iter().any(|e| is_edge(e.edge))
+}
+
+/// Process p of a design in which all fits: what it names is there and has 1 to 64 bits.
+pub fn fit_process(shapes: &Shapes, p: u32) -> &Process
+    requires there { p < length shapes.now.processes }
+    requires fits { list_all fits_process (design_of shapes.now).processes ≡ true }
+    ensures is { slice_get shapes.now.processes p ≡ Some result.now }
+    ensures fit { IsFitKind shapes.now result.now.kind }
+{
+    names_law();
+    lawful_law();
+    trees_law();
+    shapes.flat().process(p)
+}
+
+/// Gives the flags of these bits this value.
+fn mark(flags: &mut [bool], bits: &[u32], value: bool)
+    requires { All (λ b. b < length flags.old) bits.now }
+    ensures { (b : ℕ) → flag_at flags.new b ≡ (if contains bits.now b then value else flag_at flags.old b) }
+{
+    for i in 0..bits.len() {
+        flags[bits[i] as usize] = value;
+    }
+}
+
+/// Whether all of these bits have a flag.
+pub(crate) fn are_set(flags: &[bool], bits: &[u32]) -> bool
+    requires { All (λ b. b < length flags.now) bits.now }
+    ensures { result ≡ list_all (flag_at flags.now) bits.now }
+{
+    for bit in bits {
+        if !flags[*bit as usize] {
+            return false;
+        }
+    }
+    true
+}
+
+/// Whether a signal is a variable (IEEE 1364-2005, 3.2.2).
+fn is_variable(signal: &Signal) -> bool
+    ensures { result ≡ (not signal.now.net && not signal.now.input) }
+{
+    !signal.net && !signal.input
+}
+
+/// Notes the bits of signal n if it is a variable.
+fn note_signal(
+    alloc: Global,
+    shapes: &Shapes,
+    n: u32,
+    flags: &mut [bool],
+) -> Result<(), AllocError>
+    requires there { n < length shapes.now.signals }
+    requires many { length flags.old ≡ D.bit_count (design_of shapes.now) }
+    requires so_far { AreFlags (contains (variables_before (design_of shapes.now).signals n)) flags.old }
+    ensures { OnOk result (AreFlags (contains (variables_before (design_of shapes.now).signals (n + 1))) flags.new) }
+{
+    trees_law();
+    let signal = shapes.flat().signal(n);
+    if is_variable(signal) {
+        let mut bits = Vec::new(alloc);
+        shapes.push_signal(n, &mut bits)?;
+        mark(flags, bits.as_slice(), true);
+    }
+    Ok(())
+}
+
+/// For each bit of the design whether it is a variable's.
+fn variable_flags(alloc: Global, shapes: &Shapes) -> Result<Vec<bool>, AllocError>
+    ensures many { IfOk result (λ v. length v.items ≡ D.bit_count (design_of shapes.now)) }
+    ensures is { IfOk result (λ v. AreFlags (contains (variable_bits (design_of shapes.now))) v.items) }
+{
+    trees_law();
+    let flat = shapes.flat();
+    let mut flags = vec![in alloc; false; count_bits(flat) as usize]?;
+    for n in 0..flat.signal_count() {
+        note_signal(alloc, shapes, n, flags.as_mut_slice())?;
+    }
+    Ok(flags)
+}
+
+/// Takes the flags of the bits that process p writes if it is a combinational block, and of those that it may write twice on a path if it is a clocked one.
+fn note_process(
+    alloc: Global,
+    shapes: &Shapes,
+    footprints: &Footprints,
+    p: u32,
+    flags: &mut [bool],
+) -> Result<(), AllocError>
+    requires fits { list_all fits_process (design_of shapes.now).processes ≡ true }
+    requires footprints { footprints.now ≡ footprints_of (design_of shapes.now) }
+    requires there { p < length shapes.now.processes }
+    requires many { length flags.old ≡ D.bit_count (design_of shapes.now) }
+    requires so_far { AreFlags (still_before (design_of shapes.now) p) flags.old }
+    ensures { OnOk result (AreFlags (still_before (design_of shapes.now) (p + 1)) flags.new) }
+{
+    trees_law();
+    footprint_law();
+    let _ = shapes.flat();
+    match &fit_process(shapes, p).kind {
+        Kind::Assign { .. } => Ok(()),
+        Kind::Block {
+            star: _,
+            events,
+            statement,
+        } => {
+            if has_edge(events.as_slice()) {
+                let mut twice = Vec::new(alloc);
+                push_twice(alloc, shapes, *statement, &mut twice)?;
+                mark(flags, twice.as_slice(), false);
+            } else {
+                mark(flags, footprints.writes(p), false);
+            }
+            Ok(())
+        }
+    }
+}
+
+/// For each bit of the design whether it is a variable's that no combinational block writes, and no clocked block more than once on a path.
+pub(crate) fn still_flags(
+    alloc: Global,
+    shapes: &Shapes,
+    footprints: &Footprints,
+) -> Result<Vec<bool>, AllocError>
+    requires fits { list_all fits_process (design_of shapes.now).processes ≡ true }
+    requires footprints { footprints.now ≡ footprints_of (design_of shapes.now) }
+    ensures many { IfOk result (λ v. length v.items ≡ D.bit_count (design_of shapes.now)) }
+    ensures is { IfOk result (λ v. AreFlags (is_still (design_of shapes.now)) v.items) }
+{
+    trees_law();
+    let mut flags = variable_flags(alloc, shapes)?;
+    for p in 0..shapes.flat().process_count() {
+        note_process(alloc, shapes, footprints, p, flags.as_mut_slice())?;
+    }
+    Ok(flags)
+}
