@@ -12,7 +12,7 @@ use Rattle.vs_flat.specs.declared.statements.Arm.{Arm}
 use Rattle.vs_flat.specs.Trees.{branch, sequence, arms_tree}
 use Rattle.vs_block.specs.Flags.{bit_at, is_set, AreSet, AreNoted, AreFlagged, AreShared, AreFresh}
 use Rattle.vs_block.specs.Walked.{IsWalked, IsArmWalked}
-use Rattle.vs_block.proofs.Truth.{and_both, or_false, contains-append, contains_without, contains_common, map_more}
+use Rattle.vs_block.proofs.Truth.{and_both, contains-append, contains_without, contains_common, map_more}
 
 -- ---- truth values
 
@@ -205,12 +205,6 @@ early_next (t ∷ u ∷ ss) s bits b =
 pub record AreWalked (own : List ℕ) (ss : List T.Statement) (start assigned before noted : List Bool) (found : List ℕ) : Type 0 where
   pub walked : IsWalked own (assigned_after (sequence ss)) (early_reads (sequence ss)) start before noted found
   pub set : AreSet own found true start assigned
-
-pub none_walked : (own : List ℕ) (start before : List Bool) → AreWalked own [] start start before before []
-none_walked own start before = record {
-  walked = record { assigns = λ k l bits stands. stands ∙ sym (or_false (is_set start k)); reads = λ k l bits stands. sym (or_false (is_set before k)); fresh = λ k l h. absurd (let z : ⊥ = cc in z) };
-  set = λ k l. refl;
-}
 
 set_or : (f x y : Bool) → y ≡ (if f then true else x) → y ≡ (x || f)
 set_or true true y h = h

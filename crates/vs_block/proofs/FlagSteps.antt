@@ -8,7 +8,7 @@ use Rattle.std.proofs.Math.Bool.{beq}
 use Rattle.std.proofs.lemmas.Bool.{ltb-true, ltb-false}
 use Rattle.std.proofs.lemmas.List.Sorted.{searched}
 use Rattle.vs_design.specs.Footprints.{contains}
-use Rattle.vs_block.specs.Flags.{bit_at, is_set, IsThere, IsIndexOf, AreSet, AreFlagged, AreShared, AreFresh}
+use Rattle.vs_block.specs.Flags.{bit_at, is_set, IsThere, IsIndexOf, AreSet, AreFlagged, AreFresh}
 use Rattle.vs_block.proofs.Truth.{by_test, either_way, same_flags, same_test, contains_more, contains-append, place_in, member_at}
 
 -- ---- rising lists
@@ -131,18 +131,6 @@ back_law false x y z fresh h g = g ∙ h
 pub put_back : (own bits : List ℕ) (first second third : List Bool) → length first ≡ length own → length third ≡ length own → AreFresh own first bits → AreSet own bits true first second → AreSet own bits false second third → third ≡ first
 put_back own bits first second third n m fresh f g =
     same_flags third first (m ∙ sym n) (λ k l. let inside : k < length own = omega (arith, l, m) in back_law (contains bits (bit_at own k)) (is_set first k) (is_set second k) (is_set third k) (fresh k inside) (f k inside) (g k inside))
-
-share_law : (c s x y : Bool) → y ≡ (if c then true else x) → (s && (if true then y else not y)) ≡ (s && (x || c))
-share_law true true true y h = h
-share_law true true false y h = h
-share_law true false x y h = refl
-share_law false true true y h = h
-share_law false true false y h = h
-share_law false false x y h = refl
-
-pub shared_is : (own first second : List ℕ) (assigned marked : List Bool) (found : List ℕ) → AreSet own first true assigned marked → AreFlagged own second marked true found → AreShared own first second assigned found
-shared_is own first second assigned marked found set kept k l =
-    kept k l ∙ share_law (contains first (bit_at own k)) (contains second (bit_at own k)) (is_set assigned k) (is_set marked k) (set k l)
 
 -- a bit is found where it is among the others
 pub among_is : (xs : List ℕ) (b : ℕ) (r : Result ℕ ℕ) (ok : Bool) → IsStrictlyIncreasing xs → IsBinarySearchResult (λ y. nat_cmp y b) xs r → ok ≡ is_ok r → ok ≡ contains xs b

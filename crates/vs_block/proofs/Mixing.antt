@@ -1,5 +1,5 @@
 -- The least of the places of mixed assignments.
-use Rattle.std.proofs.Common.{◌≡◌, ℕ, ◌+◌, ◌<◌, Bool, List, [], ◌∷◌, ◌++◌, map, min, take, length, get_or, refl, sym, ap, ◌∙◌, append_assoc, append-nil, Option, Some, None}
+use Rattle.std.proofs.Common.{◌≡◌, ℕ, ◌+◌, ◌<◌, Bool, List, [], ◌∷◌, ◌++◌, map, min, take, length, get_or, refl, sym, ap, ◌∙◌, append_assoc, append-nil, Option, Some}
 use Rattle.vs_design.specs.Statements as T
 use Rattle.vs_design.specs.Rules.{mixed_in, mixed_in_arms}
 use Rattle.vs_design.specs.Refusals.{least_with, least}
@@ -17,10 +17,6 @@ least_more n p (m ∷ ms) = least_more (min n m) p ms
 pub least_one : (places : List ℕ) (p before : ℕ) → Some before ≡ least places → Some (min before p) ≡ least (places ++ p ∷ [])
 least_one [] p before h = cc
 least_one (n ∷ ns) p before h = let e : before ≡ least_with n ns = cc in ap (λ m. Some (min m p)) e ∙ ap Some (sym (least_more n p ns))
-
-pub least_first : (places : List ℕ) (p : ℕ) → None ≡ least places → Some p ≡ least (places ++ p ∷ [])
-least_first [] p h = refl
-least_first (n ∷ ns) p h = cc
 
 pub mixed_append : (clocked : Bool) (xs ys : List T.Statement) → mixed_of clocked (xs ++ ys) ≡ mixed_of clocked xs ++ mixed_of clocked ys
 mixed_append clocked [] ys = refl

@@ -1,10 +1,9 @@
 -- What an expression and a statement of a lawful flat design name, and what a statement that fits consists of.
 use Rattle.std.proofs.Common.{◌≡◌, ℕ, zero, suc, ◌<◌, true, ◌&&◌, nat_lt, List, [], ◌∷◌, ◌++◌, length, map, refl, sym, ap, ◌∙◌, subst, Option, Some, None, arith}
-use Rattle.std.specs.Prelude.{option_map, slice_get, option_to_list, unwrap_or, is_some}
+use Rattle.std.specs.Prelude.{option_map, slice_get, option_to_list, is_some}
 use Rattle.std.specs.List.{list_all, flat_map}
 use Rattle.std.proofs.lemmas.Bool.{ltb-true}
 use Rattle.std.proofs.lemmas.List.Folds.{list_all-append}
-use Rattle.vs_design.specs.Expressions as E
 use Rattle.vs_design.specs.Fits.{fits, divides_constants, is_fit, fits_target, fits_statement, fits_arms}
 use Rattle.vs_flat.specs.declared.placed.Placed.{Placed}
 use Rattle.vs_flat.specs.declared.expressions.Node.{Node}
@@ -14,11 +13,11 @@ use Rattle.vs_flat.specs.declared.statements.Statement.{Statement}
 use Rattle.vs_flat.specs.declared.statements.Statement.TheVariants as S
 use Rattle.vs_flat.specs.Arena.{Arena, placed, node_at, statement_at, statement_place}
 use Rattle.vs_flat.specs.Lawful.{IsLawful}
-use Rattle.vs_flat.specs.Laws.{NodeNames, EachTree, StatementNames, EachStatement, StatementTargets}
+use Rattle.vs_flat.specs.Laws.{NodeNames, StatementNames, EachStatement, StatementTargets}
 use Rattle.vs_flat.specs.Named.{all_below, node_names_below, statement_names_below}
 use Rattle.vs_flat.specs.Targets.{target_of}
 use Rattle.vs_flat.specs.Trees.{branch, sequence, arms_tree, target_tree}
-use Rattle.vs_length.specs.Nodes.{HasNames, EachBelow, tree_of, place_of, tree_of_node}
+use Rattle.vs_length.specs.Nodes.{HasNames, EachBelow, tree_of}
 use Rattle.vs_length.specs.Bodies.{body_of, body_of_statement}
 use Rattle.vs_block.specs.Parts.{IsValue, IsPart, IsBranch, AreValues, AreParts, IsArm, AreArms, HasParts}
 use Rattle.vs_block.proofs.Truth.{and_both}
@@ -65,12 +64,6 @@ pub node_names : NodeNames → (a : Arena) → IsLawful a → (e : ℕ) (n : Nod
 node_names law a lawful e n at =
     let f = found_in a.nodes e n at in
     has_names (length a.signals) e n (subst (λ (x : Node). node_names_below (length a.signals) e x ≡ true) f.is (law a lawful.names e f.placed f.at))
-
-pub node_tree_is : EachTree → (a : Arena) → IsLawful a → (e : ℕ) (n : Node) → node_at a e ≡ Some n → tree_of a e ≡ E.At (place_of a e) (tree_of_node a n)
-node_tree_is law a lawful e n at =
-    let f = found_in a.nodes e n at in
-    let place : place_of a e ≡ f.placed.at = ap (λ (o : Option (Placed Node)). unwrap_or (option_map (λ (m : Placed Node). m.at) o) 0) f.at in
-    law a lawful.names e f.placed f.at ∙ ap (λ x. E.At f.placed.at (tree_of_node a x)) f.is ∙ ap (λ p. E.At p (tree_of_node a n)) (sym place)
 
 pub statement_tree_is : EachStatement → (a : Arena) → IsLawful a → (s place : ℕ) (b : Statement) → statement_at a s ≡ Some b → statement_place a s ≡ Some place → body_of a s ≡ body_of_statement a place b
 statement_tree_is law a lawful s place b at here =
