@@ -1,0 +1,223 @@
+-- The refusal of a block, by what is found of it.
+use Rattle.std.proofs.Common.{◌≡◌, ℕ, zero, suc, ◌+◌, ◌<◌, ◌≤◌, Bool, true, false, not, ◌||◌, ◌&&◌, if◌then◌else◌, List, [], ◌∷◌, map, length, nat_lt, refl, sym, ap, ◌∙◌, subst, arith, Option, Some, None, option_map}
+use Rattle.std.specs.Prelude.{slice_get, filter, Result, IfErr}
+use Rattle.std.specs.Result.{IsErrAnd}
+use Rattle.std.proofs.lemmas.Result.{err_from_is_err_and}
+use Rattle.std.specs.List.{list_any, list_all}
+use Rattle.std.proofs.lemmas.Bool.{ltb-true}
+use Rattle.vs_design.specs.Expressions.{Signal}
+use Rattle.vs_design.specs.Designs as D
+use Rattle.vs_design.specs.Designs.{Always, Continuous, Design, is_clocked, is_combinational}
+use Rattle.vs_design.specs.Statements as T
+use Rattle.vs_design.specs.Fits.{fits_process}
+use Rattle.vs_design.specs.Footprints.{contains, without, all_reads, reads_of, writes_of, waits_of, wait_signals, signals_bits, statement_bits}
+use Rattle.vs_design.specs.Latches.{assigned_after, early_reads, latch_bits}
+use Rattle.vs_design.specs.Rules.{mixed_in, mixed_assigns, missing_bits, latches}
+use Rattle.vs_design.specs.Refusals.{least, otherwise, first_found, signal_of, block_refusal_of, block_refusal, width_refusal}
+use Rattle.vs_design.specs.Refusals as R
+use Rattle.vs_flat.specs.declared.processes.Event.{Event}
+use Rattle.vs_flat.specs.Operators.{edge_of}
+use Rattle.vs_flat.specs.DesignOf.{event_of, kind_of, arena_signals, design_of}
+use Rattle.vs_flat.specs.declared.processes.Process.{Process}
+use Rattle.vs_flat.specs.declared.processes.Port.{Port}
+use Rattle.vs_flat.specs.declared.processes.Kind.{Kind}
+use Rattle.vs_flat.specs.declared.processes.Kind.TheVariants as K
+use Rattle.vs_flat.specs.Arena.{Arena}
+use Rattle.vs_flat.specs.Lawful.{IsLawful}
+use Rattle.vs_flat.specs.Laws.{EachProcess, ProcessNames}
+use Rattle.vs_flat.specs.Named.{all_below, kind_names_below}
+use Rattle.vs_flat.specs.Trees.{signal_at}
+use Rattle.vs_length.specs.Nodes.{tree_of}
+use Rattle.vs_length.specs.Bodies.{body_of}
+use Rattle.vs_width.specs.Laws.{EachProcessFits}
+use Rattle.vs_block.specs.declared.error.BlockError.{BlockError}
+use Rattle.vs_block.specs.declared.error.BlockError.TheVariants.{MixedAssign, Sensitivity, Latch, Memory}
+use Rattle.vs_block.specs.Blocks.{IsBlock}
+use Rattle.vs_block.specs.Refused.{IsErrorOf, IsBlockError}
+use Rattle.vs_reads.specs.Laws.{HasBitsOf}
+use Rattle.vs_block.specs.Flags.{bit_at, is_set, AreUnset, AreSet}
+use Rattle.vs_block.specs.Walked.{IsWalked}
+use Rattle.vs_block.proofs.Truth.{and_both, contains_without, contains_filter}
+use Rattle.vs_block.proofs.Least.{least_same}
+
+-- ---- latches
+
+set_or : (f x y : Bool) → y ≡ (if f then true else x) → y ≡ (x || f)
+set_or true true y h = h
+set_or true false y h = h
+set_or false true y h = h
+set_or false false y h = h
+
+-- what the walk finds, when nothing was assigned or read before
+pub latch_is : (own : List ℕ) (st : T.Statement) (assigned before noted after : List Bool) (found : List ℕ) (first : Option ℕ) → AreUnset own assigned → AreUnset own before
+    → ((b : ℕ) → contains own b ≡ contains (statement_bits st) b) → IsWalked own (assigned_after st) (early_reads st) assigned before noted found → AreSet own found true assigned after
+    → ((keeps : ℕ → Bool) → ((k : ℕ) → k < length own → keeps (bit_at own k) ≡ (is_set noted k || not (is_set after k))) → first ≡ least (filter keeps own)) → first ≡ least (latch_bits st)
+latch_is own st assigned before noted after found first unset unread same walked set is =
+    let keeps = λ (b : ℕ). contains (early_reads st []) b || not (contains (assigned_after st []) b) in
+    is keeps (λ k l.
+    let stands : contains [] (bit_at own k) ≡ is_set assigned k = sym (unset k l) in
+    let reads : is_set noted k ≡ contains (early_reads st []) (bit_at own k) = walked.reads k l [] stands ∙ ap {B = Bool} (λ t. t || contains (early_reads st []) (bit_at own k)) (unread k l) in
+    let assigns : is_set after k ≡ contains (assigned_after st []) (bit_at own k) = set_or (contains found (bit_at own k)) (is_set assigned k) (is_set after k) (set k l) ∙ sym (walked.assigns k l [] stands) in
+    ap {B = Bool} (λ t. t || not (contains (assigned_after st []) (bit_at own k))) (sym reads) ∙ ap {B = Bool} (λ t. is_set noted k || not t) (sym assigns))
+    ∙ least_same (filter keeps own) (latch_bits st) (λ b. contains_filter keeps own b ∙ ap {B = Bool} (λ t. t && keeps b) (same b) ∙ sym (contains_filter keeps (statement_bits st) b))
+
+-- ---- missing bits
+
+missing_law : (a w s : Bool) → ((a && not w) && not (s && not w)) ≡ ((a && not w) && not s)
+missing_law true true s = refl
+missing_law true false true = refl
+missing_law true false false = refl
+missing_law false w s = refl
+
+lacking : (all writes signals reads waits : List ℕ) → ((b : ℕ) → contains reads b ≡ contains (without all writes) b) → ((b : ℕ) → contains waits b ≡ contains (without signals writes) b) → (b : ℕ) → contains (without reads waits) b ≡ contains (without (without all writes) signals) b
+lacking all writes signals reads waits f g b =
+    contains_without reads waits b
+    ∙ ap {B = Bool} (λ t. t && not (contains waits b)) (f b ∙ contains_without all writes b)
+    ∙ ap {B = Bool} (λ t. (contains all b && not (contains writes b)) && not t) (g b ∙ contains_without signals writes b)
+    ∙ missing_law (contains all b) (contains writes b) (contains signals b)
+    ∙ ap {B = Bool} (λ t. t && not (contains signals b)) (sym (contains_without all writes b))
+    ∙ sym (contains_without (without all writes) signals b)
+
+pub missing_is : (count : ℕ) (x : D.Process) (reads waits : List ℕ) → is_combinational x ≡ true → HasBitsOf count reads (reads_of x) → HasBitsOf count waits (waits_of x) → least (without reads waits) ≡ least (missing_bits x)
+missing_is count x reads waits e r w =
+    let all = all_reads x in
+    let writes = writes_of x in
+    let signals = signals_bits (wait_signals x) in
+    let read : reads_of x ≡ without all writes = ap (λ (t : Bool). if t then without all writes else all) e in
+    let wait : waits_of x ≡ without signals writes = ap (λ (t : Bool). if t then without signals writes else []) e in
+    let whole : missing_bits x ≡ without (without all writes) signals = ap (λ (t : Bool). if t then without (reads_of x) signals else []) e ∙ ap (λ zs. without zs signals) read in
+    least_same (without reads waits) (without (without all writes) signals)
+    (lacking all writes signals reads waits (λ b. r.same b ∙ ap (λ zs. contains zs b) read) (λ b. w.same b ∙ ap (λ zs. contains zs b) wait))
+    ∙ ap least (sym whole)
+
+-- ---- the refusal of one block
+
+pub edges_are : (s : ℕ → Signal) (es : List Event) → list_any D.has_edge (map (event_of s) es) ≡ list_any (λ (e : Event). D.is_edge (edge_of e.edge)) es
+edges_are s [] = refl
+edges_are s (e ∷ es) = ap (λ b. D.is_edge (edge_of e.edge) || b) (edges_are s es)
+
+module _ (d : Design) (p place : ℕ) (star : Bool) (events : List D.Event) (st : T.Statement) where
+  pub mixed_refused : (at : ℕ) → least (mixed_assigns (Always place star events st)) ≡ Some at → block_refusal_of d p (Always place star events st) ≡ Some (R.MixedAssign at)
+  mixed_refused at h =
+      let x = Always place star events st in
+      ap (λ o. otherwise (option_map R.MixedAssign o) (otherwise (option_map (λ b. R.Sensitivity p (signal_of d.signals b) place) (least (missing_bits x))) (option_map (λ b. R.Latch p b place) (least (latches x))))) h
+
+  pub none_mixed : least (mixed_assigns (Always place star events st)) ≡ None → (m l : Option ℕ) → least (missing_bits (Always place star events st)) ≡ m → least (latches (Always place star events st)) ≡ l
+      → block_refusal_of d p (Always place star events st) ≡ otherwise (option_map (λ b. R.Sensitivity p (signal_of d.signals b) place) m) (option_map (λ b. R.Latch p b place) l)
+  none_mixed h m l f g =
+      let x = Always place star events st in
+      ap (λ o. otherwise (option_map R.MixedAssign o) (otherwise (option_map (λ b. R.Sensitivity p (signal_of d.signals b) place) (least (missing_bits x))) (option_map (λ b. R.Latch p b place) (least (latches x))))) h
+      ∙ ap (λ o. otherwise (option_map (λ b. R.Sensitivity p (signal_of d.signals b) place) o) (option_map (λ b. R.Latch p b place) (least (latches x)))) f
+      ∙ ap (λ o. otherwise (option_map (λ b. R.Sensitivity p (signal_of d.signals b) place) m) (option_map (λ b. R.Latch p b place) o)) g
+
+  pub clocked_kept : least (mixed_assigns (Always place star events st)) ≡ None → is_clocked (Always place star events st) ≡ true → block_refusal_of d p (Always place star events st) ≡ None
+  clocked_kept h e = none_mixed h None None (ap (λ (t : Bool). least (if not t then without (reads_of x) (signals_bits (wait_signals x)) else [])) e) (ap (λ (t : Bool). least (if not t then latch_bits st else [])) e)
+    where
+      x : D.Process
+      x = Always place star events st
+
+  pub latches_are : is_clocked (Always place star events st) ≡ false → latches (Always place star events st) ≡ latch_bits st
+  latches_are e = ap (λ (t : Bool). if not t then latch_bits st else []) e
+
+  pub combinational_is : is_clocked (Always place star events st) ≡ false → is_combinational (Always place star events st) ≡ true
+  combinational_is e = ap not e
+
+-- ---- what is found of a block
+
+abbrev pub block_in : Arena → ℕ → Bool → List Event → ℕ → D.Process
+block_in a place star events statement = Always place star (map (event_of (signal_at (arena_signals a))) events) (body_of a statement)
+
+pub one_process : (ps : List D.Process) (p : ℕ) (x y : D.Process) → slice_get ps p ≡ Some x → slice_get ps p ≡ Some y → x ≡ y
+one_process ps p x y h k = inner x y (sym h ∙ k)
+  where
+    inner : (x y : D.Process) → Some x ≡ Some y → x ≡ y
+    inner x y h = cc
+
+pub is_clocked_as : (a : Arena) (place : ℕ) (star : Bool) (events : List Event) (statement : ℕ) (clocked b : Bool) → clocked ≡ list_any (λ (e : Event). D.is_edge (edge_of e.edge)) events → clocked ≡ b → is_clocked (block_in a place star events statement) ≡ b
+is_clocked_as a place star events statement clocked b is h = edges_are (signal_at (arena_signals a)) events ∙ sym is ∙ h
+
+pub mixed_as : (a kept : Arena) (place : ℕ) (star : Bool) (events : List Event) (statement : ℕ) (clocked : Bool) (found o : Option ℕ) → kept ≡ a → clocked ≡ list_any (λ (e : Event). D.is_edge (edge_of e.edge)) events
+    → found ≡ least (mixed_in clocked (body_of kept statement)) → found ≡ o → least (mixed_assigns (block_in a place star events statement)) ≡ o
+mixed_as a kept place star events statement clocked found o same is least_is h =
+    ap (λ t. least (mixed_in t (body_of a statement))) (is_clocked_as a place star events statement clocked clocked is refl)
+    ∙ ap (λ (x : Arena). least (mixed_in clocked (body_of x statement))) (sym same) ∙ sym least_is ∙ h
+
+-- a list that is told as that of a footprint
+pub told : (count : ℕ) (bits read all : List ℕ) → read ≡ bits → HasBitsOf count bits all → HasBitsOf count read all
+told count bits read all e h = subst (λ (zs : List ℕ). HasBitsOf count zs all) (sym e) h
+
+all_at : (f : D.Process → Bool) (ps : List D.Process) (p : ℕ) (x : D.Process) → list_all f ps ≡ true → slice_get ps p ≡ Some x → f x ≡ true
+all_at f [] p x h e = cc
+all_at f (y ∷ ps) zero x h e = let same : y ≡ x = cc in subst (λ z. f z ≡ true) same (and_both (f y) (list_all f ps) h).0
+all_at f (y ∷ ps) (suc p) x h e = all_at f ps p x (and_both (f y) (list_all f ps) h).1 e
+
+kind_at : EachProcess → (a : Arena) (p : ℕ) (r : Process) (k : Kind) → slice_get a.processes p ≡ Some r → r.kind ≡ k → slice_get (design_of a).processes p ≡ Some (kind_of (signal_at (arena_signals a)) (tree_of a) (body_of a) r.at k)
+kind_at each a p r k at is = each a p r at ∙ ap (λ k. Some (kind_of (signal_at (arena_signals a)) (tree_of a) (body_of a) r.at k)) is
+
+-- an assign keeps the rules
+pub assign_kept : EachProcess → (a : Arena) (p : ℕ) (r : Process) (target e : ℕ) (port : Port) → slice_get a.processes p ≡ Some r → r.kind ≡ K.Assign target e port → (x : D.Process) → slice_get (design_of a).processes p ≡ Some x → block_refusal_of (design_of a) p x ≡ None
+assign_kept each a p r target e port at is x h = subst (λ y. block_refusal_of (design_of a) p y ≡ None) (one_process (design_of a).processes p _ x (kind_at each a p r (K.Assign target e port) at is) h) refl
+
+pub block_at : EachProcess → ProcessNames → EachProcessFits → (a : Arena) → IsLawful a → width_refusal (design_of a) ≡ None → (p : ℕ) (r : Process) (star : Bool) (events slice : List Event) (statement : ℕ) → slice_get a.processes p ≡ Some r → r.kind ≡ K.Block star events statement → slice ≡ events
+    → IsBlock a p r.at slice statement
+block_at each names fits a lawful narrow p r star events slice statement at is same =
+    let x = kind_at each a p r (K.Block star events statement) at is in
+    let below : kind_names_below (length a.signals) (length a.nodes) (length a.statements) (K.Block star events statement) ≡ true = sym (ap (kind_names_below (length a.signals) (length a.nodes) (length a.statements)) is) ∙ names a lawful.names p r at in
+    subst (λ (es : List Event). IsBlock a p r.at es statement) (sym same) (record {
+      star = star;
+      is = x;
+      there = ltb-true statement (length a.statements) (and_both (nat_lt statement (length a.statements)) true (and_both (all_below (length a.signals) (map (λ (e : Event). e.signal) events) && true) (nat_lt statement (length a.statements) && true) below).1).0;
+      fits = all_at fits_process (design_of a).processes p _ (fits (design_of a) lawful.design narrow) x;
+    })
+
+-- ---- the first process
+
+pub found_first : {A : Type 0} (find : ℕ → D.Process → Option A) (n : ℕ) (ps : List D.Process) (p : ℕ) (x : D.Process) (a : A) → slice_get ps p ≡ Some x → find (n + p) x ≡ Some a → ((q : ℕ) (y : D.Process) → q < p → slice_get ps q ≡ Some y → find (n + q) y ≡ None)
+    → first_found find n ps ≡ Some a
+found_first find n [] p x a at h none = cc
+found_first {A} find n (y ∷ ps) zero x a at h none =
+    let same : y ≡ x = cc in
+    let here : n + 0 ≡ n = omega arith in
+    ap (λ o. otherwise o (first_found find (suc n) ps)) (ap (find n) same ∙ ap (λ m. find m x) (sym here) ∙ h)
+found_first {A} find n (y ∷ ps) (suc p) x a at h none =
+    let here : n + 0 ≡ n = omega arith in
+    let next = λ (q : ℕ). let e : suc n + q ≡ n + suc q = omega arith in e in
+    ap (λ o. otherwise o (first_found find (suc n) ps)) (ap (λ m. find m y) (sym here) ∙ none 0 y (omega arith) refl)
+    ∙ found_first find (suc n) ps p x a at (ap (λ m. find m x) (next p) ∙ h) (λ q z l k. ap (λ m. find m z) (next q) ∙ none (suc q) z (omega (arith, l)) k)
+
+pub found_none : {A : Type 0} (find : ℕ → D.Process → Option A) (n : ℕ) (ps : List D.Process) → ((q : ℕ) (y : D.Process) → q < length ps → slice_get ps q ≡ Some y → find (n + q) y ≡ None) → first_found find n ps ≡ None
+found_none find n [] none = refl
+found_none find n (y ∷ ps) none =
+    let here : n + 0 ≡ n = omega arith in
+    let next = λ (q : ℕ). let e : suc n + q ≡ n + suc q = omega arith in e in
+    ap (λ o. otherwise o (first_found find (suc n) ps)) (ap (λ m. find m y) (sym here) ∙ none 0 y (omega arith) refl)
+    ∙ found_none find (suc n) ps (λ q z l k. ap (λ m. find m z) (next q) ∙ none (suc q) z (omega (arith, l)) k)
+
+-- ---- the refusal of the design
+
+-- a process of each number below the length
+pub process_there : (ps : List D.Process) (p : ℕ) → p < length ps → (x : D.Process) × (slice_get ps p ≡ Some x)
+process_there [] p h = absurd (omega (arith, h))
+process_there (x ∷ ps) zero h = (x, refl)
+process_there (x ∷ ps) (suc p) h = process_there ps p (omega (arith, h))
+
+-- what is found at a process, and at none before it, is found in the design
+first_of_all : (d : Design) (p : ℕ) (x : D.Process) (r : R.BlockRefusal) → slice_get d.processes p ≡ Some x → ((q : ℕ) (y : D.Process) → q < p → slice_get d.processes q ≡ Some y → block_refusal_of d q y ≡ None) → block_refusal_of d p x ≡ Some r → block_refusal d ≡ Some r
+first_of_all d p x r at none h =
+    let from = λ (q : ℕ). let e : 0 + q ≡ q = omega arith in e in
+    found_first (block_refusal_of d) 0 d.processes p x r at (ap (λ m. block_refusal_of d m x) (from p) ∙ h) (λ q y l k. ap (λ m. block_refusal_of d m y) (from q) ∙ none q y l k)
+
+pub first_refused : (d : Design) (p : ℕ) (x : D.Process) (e : BlockError) → slice_get d.processes p ≡ Some x → ((q : ℕ) (y : D.Process) → q < p → slice_get d.processes q ≡ Some y → block_refusal_of d q y ≡ None) → IsErrorOf d p x e → IsBlockError d e
+first_refused d p x (MixedAssign at) there none h = first_of_all d p x (R.MixedAssign at) there none h
+first_refused d p x (Sensitivity process signal at) there none h = first_of_all d p x (R.Sensitivity process signal at) there none h
+first_refused d p x (Latch process bit at) there none h = first_of_all d p x (R.Latch process bit at) there none h
+first_refused d p x Memory there none h = tt
+
+pub none_refused : (d : Design) (n : ℕ) → length d.processes ≤ n → ((q : ℕ) (y : D.Process) → q < n → slice_get d.processes q ≡ Some y → block_refusal_of d q y ≡ None) → block_refusal d ≡ None
+none_refused d n many none =
+    let from = λ (q : ℕ). let e : 0 + q ≡ q = omega arith in e in
+    found_none (block_refusal_of d) 0 d.processes (λ q y l k. ap (λ m. block_refusal_of d m y) (from q) ∙ none q y (omega (arith, l, many)) k)
+
+-- what `?` hands on
+pub refused_exit : {A : Type 0} (d : Design) (r : Result A BlockError) (e : BlockError) → IsErrAnd r (λ y. y ≡ e) → IsBlockError d e → IfErr r (IsBlockError d)
+refused_exit d r e h q = let p = err_from_is_err_and r h in rw p.1 (subst (IsBlockError d) (sym p.2) q)

@@ -1,0 +1,9 @@
+pub mod Truth
+pub mod FlagSteps
+pub mod Names
+pub mod Mixing
+pub mod TargetParts
+pub mod Branching
+pub mod Least
+pub mod Signals
+pub mod Blocks

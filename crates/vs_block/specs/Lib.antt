@@ -1,0 +1,6 @@
+pub mod Flags
+pub mod Parts
+pub mod Walked
+pub mod Refused
+pub mod Mixed
+pub mod Blocks

@@ -1,0 +1,130 @@
+//! The rules on blocks.
+
+ghost use Rattle.std.specs.Prelude.{◌≡◌, ◌<◌, length, slice_get, IfErr, OnOk};
+ghost use Rattle.std.specs.List.{list_any};
+ghost use Rattle.vs_design.specs.Designs as D;
+ghost use Rattle.vs_design.specs.Refusals.{block_refusal_of, block_refusal};
+ghost use Rattle.vs_flat.specs.DesignOf.{design_of};
+ghost use Rattle.vs_flat.specs.Operators.{edge_of};
+ghost use Rattle.vs_flat.specs.declared.processes.Event.{Event as FlatEvent};
+ghost use Rattle.vs_reads.specs.Footprint.{footprints_of};
+ghost use Rattle.vs_block.specs.Blocks.{IsBlock};
+ghost use Rattle.vs_block.specs.Refused.{IsBlockError, IsErrorOf};
+
+use crate::BlockError;
+use crate::latches::first_latch;
+use crate::missing::{first_missing, signal_with};
+use crate::mixed::least_mixed;
+use std::alloc::Global;
+use vs_flat::{Edge, Event, Kind, names_law, trees_law};
+use vs_reads::{Footprints, footprint_law};
+use vs_width::{Typed, fits_law};
+
+/// Whether an event is `posedge` or `negedge`.
+fn is_edge(edge: Edge) -> bool
+    ensures { result ≡ D.is_edge (edge_of edge) }
+{
+    match edge {
+        Edge::Any => false,
+        Edge::Pos | Edge::Neg => true,
+    }
+}
+
+/// Whether one of these events is an edge, so that the block is clocked.
+fn has_edge(events: &[Event]) -> bool
+    ensures { result ≡ list_any (λ (e : FlatEvent). D.is_edge (edge_of e.edge)) events.now }
+{
+    events.iter().any(|e| is_edge(e.edge))
+}
+
+/// Whether block p, which begins at token `at`, keeps the rules.
+fn check_block(
+    alloc: Global,
+    typed: &Typed,
+    footprints: &Footprints,
+    p: u32,
+    at: u32,
+    events: &[Event],
+    statement: u32,
+) -> Result<(), BlockError>
+    requires footprints { footprints.now ≡ footprints_of (design_of typed.now) }
+    requires process { p < length typed.now.processes }
+    requires block { IsBlock typed.now p at events.now statement }
+    ensures kept { (process : D.Process) → slice_get (design_of typed.now).processes p ≡ Some process → OnOk result (block_refusal_of (design_of typed.now) p process ≡ None) }
+    ensures refused { (process : D.Process) → slice_get (design_of typed.now).processes p ≡ Some process → IfErr result (IsErrorOf (design_of typed.now) p process) }
+{
+    footprint_law();
+    trees_law();
+    let flat = typed.flat();
+    let clocked = has_edge(events);
+    if let Some(at) = least_mixed(typed.shapes(), statement, clocked, None) {
+        return Err(BlockError::MixedAssign { at });
+    }
+    if clocked {
+        return Ok(());
+    }
+    if let Some(bit) = first_missing(footprints.reads(p), footprints.waits(p)) {
+        let signal = signal_with(flat, bit);
+        return Err(BlockError::Sensitivity {
+            process: p,
+            signal,
+            at,
+        });
+    }
+    let latch = first_latch(alloc, typed.shapes(), statement, footprints.writes(p))?;
+    if let Some(bit) = latch {
+        return Err(BlockError::Latch {
+            process: p,
+            bit,
+            at,
+        });
+    }
+    Ok(())
+}
+
+/// Whether process p keeps the rules on blocks.
+fn check_process(
+    alloc: Global,
+    typed: &Typed,
+    footprints: &Footprints,
+    p: u32,
+) -> Result<(), BlockError>
+    requires footprints { footprints.now ≡ footprints_of (design_of typed.now) }
+    requires process { p < length typed.now.processes }
+    ensures kept { (process : D.Process) → slice_get (design_of typed.now).processes p ≡ Some process → OnOk result (block_refusal_of (design_of typed.now) p process ≡ None) }
+    ensures refused { (process : D.Process) → slice_get (design_of typed.now).processes p ≡ Some process → IfErr result (IsErrorOf (design_of typed.now) p process) }
+{
+    names_law();
+    trees_law();
+    fits_law();
+    let process = typed.flat().process(p);
+    match &process.kind {
+        Kind::Assign { .. } => Ok(()),
+        Kind::Block {
+            events,
+            statement,
+            ..
+        } => check_block(
+            alloc,
+            typed,
+            footprints,
+            p,
+            process.at,
+            events.as_slice(),
+            *statement,
+        ),
+    }
+}
+
+/// Whether every block of a design keeps the rules: no blocking assignment in a clocked one and no nonblocking one in any other, and a combinational one waits on all that it reads and keeps no bit. The first process that breaks a rule decides; within it a mixed assignment comes before a missing signal, and that before a latch.
+pub fn block_forms(alloc: Global, typed: &Typed, footprints: &Footprints) -> Result<(), BlockError>
+    requires { footprints.now ≡ footprints_of (design_of typed.now) }
+    ensures unrefused { OnOk result (block_refusal (design_of typed.now) ≡ None) }
+    ensures refused { IfErr result (IsBlockError (design_of typed.now)) }
+{
+    trees_law();
+    for p in 0..typed.flat().process_count() {
+        check_process(alloc, typed, footprints, p)?;
+    }
+    Ok(())
+}

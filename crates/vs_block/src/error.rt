@@ -1,0 +1,32 @@
+//! Why a block is refused.
+
+use std::alloc::AllocError;
+use thiserror::Error;
+
+/// Why a block of a design breaks a rule on blocks. The first process that breaks one decides; within it a mixed assignment comes first, then a missing signal, then a latch.
+#[derive(Clone, Copy, PartialEq, Eq, Debug, Error)]
+pub enum BlockError {
+    /// A clocked block has a blocking assignment, or a combinational one a nonblocking one (IEEE 1364-2005, 9.2). The first of these in the text begins at token `at`.
+    #[error("a blocking and a nonblocking assignment are mixed at {at}")]
+    MixedAssign { at: u32 },
+    /// A combinational block reads a bit of the signal, which it neither writes nor waits on (IEEE 1364-2005, 9.7). Of several signals it is the least one. The block begins at token `at`.
+    #[error("process {process} reads signal {signal} and does not wait on it")]
+    Sensitivity { process: u32, signal: u32, at: u32 },
+    /// A combinational block writes the bit, and on some path reads it before it assigns it, or doesn't assign it. Of several bits it is the least one. The block begins at token `at`.
+    #[error("process {process} may keep bit {bit}")]
+    Latch { process: u32, bit: u32, at: u32 },
+    /// There was not enough memory.
+    #[error("out of memory")]
+    Memory,
+}
+
+impl From<AllocError> for BlockError {
+    ghost use Rattle.std.specs.Prelude.{◌≡◌};
+    ghost use Rattle.vs_block.specs.declared.error.BlockError.TheVariants.{Memory};
+
+    ghost from_gives = { λ _ e. e ≡ Memory };
+
+    fn from(_error: AllocError) -> BlockError {
+        BlockError::Memory
+    }
+}

@@ -1,0 +1,15 @@
+//! The rules on blocks: a block doesn't mix blocking and nonblocking assignments, a combinational one waits on all that it reads, and it keeps no bit.
+#![tactic(auto)]
+
+mod block;
+mod error;
+mod flags;
+mod latches;
+mod missing;
+mod mixed;
+mod nodes;
+mod paths;
+mod targets;
+
+pub use block::block_forms;
+pub use error::BlockError;

@@ -1,0 +1,43 @@
+//! The bits that an assignment surely assigns.
+
+ghost use Rattle.std.specs.Prelude.{◌≡◌, ◌<◌, ◌++◌, length, OnOk};
+ghost use Rattle.vs_design.specs.Latches.{assigns};
+ghost use Rattle.vs_flat.specs.Trees.{target_tree};
+ghost use Rattle.vs_length.specs.Nodes.{tree_of};
+ghost use Rattle.vs_length.specs.Walked.{IsTarget};
+
+use crate::nodes::node_of;
+use std::alloc::AllocError;
+use vs_flat::Node;
+use vs_length::Shapes;
+
+/// Adds the bits of target e that are surely assigned: those of a name or of a select by a constant index. A select by any other index assigns none for sure.
+pub(crate) fn push_assigned(shapes: &Shapes, e: u32, out: &mut Vec<u32>) -> Result<(), AllocError>
+    requires there { e < length shapes.now.nodes }
+    requires target { IsTarget (tree_of shapes.now e) }
+    ensures { OnOk result (out.new.items ≡ out.old.items ++ assigns (target_tree (tree_of shapes.now e))) }
+{
+    match node_of(shapes, e) {
+        Node::Bit { index, .. } => {
+            if shapes.shape(*index).constant {
+                shapes.push_target(e, out)
+            } else {
+                Ok(())
+            }
+        }
+        Node::Part { base, .. } => {
+            if shapes.shape(*base).constant {
+                shapes.push_target(e, out)
+            } else {
+                Ok(())
+            }
+        }
+        Node::Join { parts } => {
+            for part in parts.as_slice() {
+                push_assigned(shapes, *part, out)?;
+            }
+            Ok(())
+        }
+        _ => shapes.push_target(e, out),
+    }
+}
