@@ -1,17 +1,18 @@
 //! The typed design.
 
-ghost use Rattle.std.specs.Prelude.{◌≡◌, ◌<◌, ◌≤◌, length, min, None};
+ghost use Rattle.std.specs.Prelude.{◌≡◌, ◌<◌, ◌≤◌, length, min, None, Some, slice_get};
 
 use crate::fits_law;
 use std::marker::Model;
-use vs_flat::Flat;
+use vs_flat::{Flat, trees_law};
 use vs_length::Shapes;
 
-/// A lawful flat design of which no length is refused, with the length and the sign of each expression and the size of the whole.
+/// A lawful flat design of which no length is refused, with the length and the sign of each expression, the size of the whole, and for each process whether it sleeps.
 #[derive(Drop)]
 pub struct Typed {
     shapes: Shapes,
     size: u64,
+    sleeping: Vec<bool>,
 }
 
 impl Model for Typed {
@@ -22,13 +23,15 @@ impl Model for Typed {
 
     ghost view = { λ t. t.shapes };
 
-    ghost invariant = { λ t. IsTyped t.shapes t.size };
+    ghost invariant = { λ t. IsTyped t.shapes t.size t.sleeping.items };
 }
 
 impl Typed {
+    ghost use Rattle.vs_design.specs.Designs as D;
     ghost use Rattle.vs_design.specs.Expressions.{width, sign};
     ghost use Rattle.vs_design.specs.Refusals.{width_refusal};
     ghost use Rattle.vs_design.specs.Sizes.{size};
+    ghost use Rattle.vs_design.specs.Sleepers.{is_sleeping};
     ghost use Rattle.vs_flat.specs.DesignOf.{arena_trees, design_of};
     ghost use Rattle.vs_flat.specs.Lawful.{IsLawful};
     ghost use Rattle.vs_flat.specs.Trees.{tree_at};
@@ -72,5 +75,14 @@ impl Typed {
     {
         fits_law();
         self.size
+    }
+
+    /// Whether process p sleeps: a combinational block that stays unexecuted through time zero, until a bit that it waits on first differs from x.
+    pub fn sleeps(&self, p: u32) -> bool
+        requires { p < length self.now.processes }
+        ensures { (x : D.Process) → slice_get (design_of self.now).processes p ≡ Some x → result ≡ is_sleeping (design_of self.now) x }
+    {
+        trees_law();
+        self.sleeping[p as usize]
     }
 }
