@@ -11,3 +11,4 @@ pub mod Ruled
 pub mod Fixed
 pub mod Branches
 pub mod Refusing
+pub mod Resetting

@@ -1,10 +1,12 @@
 pub mod Clocked
+pub mod Found
 pub mod Forms
 pub mod Inputs
 pub mod Kept
 pub mod Nets
 pub mod Ports
 pub mod Refused
+pub mod Resets
 pub mod Roots
 pub mod Spread
 pub mod Tests

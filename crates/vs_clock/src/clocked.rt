@@ -4,14 +4,16 @@ ghost use Rattle.std.specs.Prelude.{◌≡◌, ◌<◌, None, IfOk, IfErr, OnOk}
 ghost use Rattle.vs_design.specs.Refusals.{clock_refusal};
 ghost use Rattle.vs_flat.specs.DesignOf.{design_of};
 ghost use Rattle.vs_reads.specs.Footprint.{footprints_of};
-ghost use Rattle.vs_clock.specs.Clocked.{IsClockOf};
+ghost use Rattle.vs_clock.specs.Clocked.{AreResets, IsClockOf};
 ghost use Rattle.vs_clock.specs.Refused.{IsClockError};
 
 use crate::clocks::Clocks;
 use crate::error::ClockError;
-use crate::first::{first_formless, first_other, first_reading};
+use crate::first::{first_other, first_reading};
 use crate::inputs::find_clock;
+use crate::marks::inputs_of;
 use crate::nets::Nets;
+use crate::resets::{Forms, resets_of};
 use std::alloc::Global;
 use vs_flat::trees_law;
 use vs_reads::Footprints;
@@ -26,6 +28,7 @@ pub fn check(
 ) -> Result<Clocks, ClockError>
     requires { footprints.now ≡ footprints_of (design_of typed.now) }
     ensures clock { IfOk result (IsClockOf (design_of typed.now) clock.now) }
+    ensures resets { IfOk result (AreResets typed.now) }
     ensures lawful { OnOk result (clock_refusal (design_of typed.now) clock.now ≡ None) }
     ensures refused { IfErr result (IsClockError (design_of typed.now) clock.now) }
 {
@@ -51,12 +54,13 @@ pub fn check(
         }
         None => {}
     }
-    match first_formless(alloc, typed, &nets)? {
-        Some(process) => {
+    let resets = match resets_of(alloc, typed, &nets)? {
+        Forms::All(resets) => resets,
+        Forms::Formless(process) => {
             let at = flat.process(process).at;
             return Err(ClockError::ResetForm { process, at });
         }
-        None => {}
-    }
-    Ok(Clocks::of(input, bit, nets))
+    };
+    let inputs = inputs_of(alloc, flat, &nets, resets.as_slice())?;
+    Ok(Clocks::of(input, bit, nets, resets, inputs))
 }

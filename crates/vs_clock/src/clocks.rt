@@ -3,14 +3,17 @@
 ghost use Rattle.std.specs.Prelude.{◌≡◌};
 
 use crate::nets::Nets;
+use crate::resets::Reset;
 use std::marker::Model;
 
-/// The clock of a design: its input, and the nets that copy it and that copy other inputs.
+/// The clock of a design: its input, the nets that copy it and that copy other inputs, and the resets of its blocks.
 #[derive(Drop)]
 pub struct Clocks {
     input: u32,
     bit: u32,
     nets: Nets,
+    resets: Vec<Option<Reset>>,
+    reset_inputs: Vec<u32>,
 }
 
 impl Model for Clocks {
@@ -22,13 +25,26 @@ impl Model for Clocks {
 }
 
 impl Clocks {
-    ghost use Rattle.vs_clock.specs.Nets.{Labelled, is_clock_bit, root_at};
+    ghost use Rattle.vs_clock.specs.Nets.{is_clock_bit, root_at};
+    ghost use Rattle.vs_clock.specs.Resets.{reset_at};
 
-    /// The clock with this input, its bit and these nets.
-    pub(crate) fn of(input: u32, bit: u32, nets: Nets) -> Clocks
-        ensures { result ≡ record { input = input; bit = bit; nets = nets } }
+    /// The clock with this input, its bit, these nets and resets.
+    pub(crate) fn of(
+        input: u32,
+        bit: u32,
+        nets: Nets,
+        resets: Vec<Option<Reset>>,
+        reset_inputs: Vec<u32>,
+    ) -> Clocks
+        ensures { result ≡ record { input = input; bit = bit; nets = nets; resets = resets.items; reset_inputs = reset_inputs.items } }
     {
-        Clocks { input, bit, nets }
+        Clocks {
+            input,
+            bit,
+            nets,
+            resets,
+            reset_inputs,
+        }
     }
 
     /// The number of the clock input.
@@ -57,5 +73,22 @@ impl Clocks {
         ensures { result ≡ root_at self.now.nets bit }
     {
         self.nets.root(bit)
+    }
+
+    /// The reset of the block of this number. None: the process is none, or has no reset.
+    pub fn reset(&self, p: u32) -> Option<Reset>
+        ensures { result ≡ reset_at self.now.resets p }
+    {
+        match self.resets.get(p as usize) {
+            Some(reset) => *reset,
+            None => None,
+        }
+    }
+
+    /// The bits of the data inputs at the root of the resets, in order of declaration.
+    pub fn reset_inputs(&self) -> &[u32]
+        ensures { result.now ≡ self.now.reset_inputs }
+    {
+        self.reset_inputs.as_slice()
     }
 }

@@ -1,8 +1,7 @@
 //! The first process that breaks a rule.
 
-ghost use Rattle.std.specs.Prelude.{◌≡◌, ℕ, IfOk};
+ghost use Rattle.std.specs.Prelude.{◌≡◌, ℕ};
 ghost use Rattle.vs_design.specs.Clocks.{reads_clock, has_other_clock, clock_nets, root_of};
-ghost use Rattle.vs_design.specs.Resets.{has_other_form};
 ghost use Rattle.vs_flat.specs.DesignOf.{design_of};
 ghost use Rattle.vs_flat.specs.Lawful.{IsLawful};
 ghost use Rattle.vs_reads.specs.Footprint.{footprints_of};
@@ -10,11 +9,9 @@ ghost use Rattle.vs_clock.specs.Nets.{AreNets};
 ghost use Rattle.vs_clock.specs.Tests.{IsFirst};
 
 use crate::nets::Nets;
-use crate::rules::{is_formless, is_other, is_reading};
-use std::alloc::{AllocError, Global};
+use crate::rules::{is_other, is_reading};
 use vs_flat::{Flat, trees_law};
 use vs_reads::Footprints;
-use vs_width::Typed;
 
 /// The first process that reads or waits on a clock net and isn't an input port's assign that hands it on.
 pub(crate) fn first_reading(flat: &Flat, footprints: &Footprints, nets: &Nets) -> Option<u32>
@@ -43,21 +40,4 @@ pub(crate) fn first_other(flat: &Flat, nets: &Nets) -> Option<u32>
         }
     }
     None
-}
-
-/// The first block with a reset that hasn't the form of one.
-pub(crate) fn first_formless(
-    alloc: Global,
-    typed: &Typed,
-    nets: &Nets,
-) -> Result<Option<u32>, AllocError>
-    ensures { IfOk result (λ r. (c : ℕ) → AreNets (design_of typed.now) c nets.now → IsFirst (design_of typed.now) (has_other_form (clock_nets (design_of typed.now) c) (root_of (design_of typed.now) c)) r) }
-{
-    trees_law();
-    for p in 0..typed.flat().process_count() {
-        if is_formless(alloc, typed, nets, p)? {
-            return Ok(Some(p));
-        }
-    }
-    Ok(None)
 }

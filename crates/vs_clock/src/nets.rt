@@ -13,11 +13,12 @@ use std::alloc::{AllocError, Global};
 use std::marker::Model;
 use vs_flat::Flat;
 
-/// For each bit whether it copies the clock, and the input that it copies.
+/// For each bit whether it copies the clock, and the input that it copies; and these inputs.
 #[derive(Drop)]
 pub(crate) struct Nets {
     clock: Vec<Option<u32>>,
     roots: Vec<Option<u32>>,
+    inputs: Vec<u32>,
 }
 
 impl Model for Nets {
@@ -42,6 +43,7 @@ impl Nets {
         Ok(Nets {
             clock: roots_of(alloc, flat, &targets, &[clock])?,
             roots: roots_of(alloc, flat, &targets, inputs.as_slice())?,
+            inputs,
         })
     }
 
@@ -63,6 +65,13 @@ impl Nets {
             Some(label) => *label,
             None => None,
         }
+    }
+
+    /// The inputs that may be resets, in order of declaration.
+    pub(crate) fn inputs(&self) -> &[u32]
+        ensures { result.now ≡ self.now.inputs }
+    {
+        self.inputs.as_slice()
     }
 
     /// Whether a clock net is among these bits.

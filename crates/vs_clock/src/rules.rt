@@ -1,10 +1,9 @@
 //! The tests of single processes.
 
-ghost use Rattle.std.specs.Prelude.{◌≡◌, ℕ, ◌<◌, length, slice_get, Some, IfOk};
+ghost use Rattle.std.specs.Prelude.{◌≡◌, ℕ, ◌<◌, length, slice_get, Some};
 ghost use Rattle.std.specs.List.{list_any};
 ghost use Rattle.vs_design.specs.Designs as D;
 ghost use Rattle.vs_design.specs.Clocks.{is_clock_port, reads_clock, has_other_clock, clock_nets, root_of};
-ghost use Rattle.vs_design.specs.Resets.{has_other_form};
 ghost use Rattle.vs_flat.specs.DesignOf.{design_of};
 ghost use Rattle.vs_flat.specs.Lawful.{IsLawful};
 ghost use Rattle.vs_reads.specs.Footprint.{footprints_of};
@@ -12,13 +11,10 @@ ghost use Rattle.vs_clock.specs.Nets.{AreNets};
 ghost use Rattle.vs_clock.specs.Tests.{is_edge_event};
 
 use crate::events::{BlockEvents, events_of};
-use crate::form::reset_branch;
 use crate::nets::Nets;
 use crate::ports::copied_bits;
-use std::alloc::{AllocError, Global};
 use vs_flat::{Edge, Event, Flat, Kind, names_law, trees_law};
 use vs_reads::{Footprints, footprint_law};
-use vs_width::{Typed, fits_law};
 
 /// Whether a process is an input port's assign that hands a clock net on.
 fn is_port(flat: &Flat, nets: &Nets, p: u32) -> bool
@@ -77,36 +73,5 @@ pub(crate) fn is_other(flat: &Flat, nets: &Nets, p: u32) -> bool
                 BlockEvents::Reset(_) => false,
             }
         }
-    }
-}
-
-/// Whether a process is a block with a reset that hasn't the form of one.
-pub(crate) fn is_formless(
-    alloc: Global,
-    typed: &Typed,
-    nets: &Nets,
-    p: u32,
-) -> Result<bool, AllocError>
-    requires { p < length typed.now.processes }
-    ensures { IfOk result (λ r. (c : ℕ) → AreNets (design_of typed.now) c nets.now → (x : D.Process) → slice_get (design_of typed.now).processes p ≡ Some x → r ≡ has_other_form (clock_nets (design_of typed.now) c) (root_of (design_of typed.now) c) x) }
-{
-    trees_law();
-    names_law();
-    fits_law();
-    let flat = typed.flat();
-    match &flat.process(p).kind {
-        Kind::Assign { .. } => Ok(false),
-        Kind::Block {
-            events,
-            statement,
-            ..
-        } => match events_of(flat, nets, events.as_slice()) {
-            BlockEvents::Reset(reset) => {
-                let bit = flat.signal(reset.signal).first_bit;
-                Ok(reset_branch(alloc, typed, reset.edge, bit, *statement)?.is_none())
-            }
-            BlockEvents::Clock => Ok(false),
-            BlockEvents::Other => Ok(false),
-        },
     }
 }

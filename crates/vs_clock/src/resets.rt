@@ -1,0 +1,117 @@
+//! The asynchronous resets of clocked blocks (IEEE 1364-2005, 9.7.2).
+
+ghost use Rattle.std.specs.Prelude.{◌≡◌, ℕ, ◌<◌, length, slice_get, true, IfOk};
+ghost use Rattle.vs_design.specs.Designs as D;
+ghost use Rattle.vs_design.specs.Fits.{fits_statement};
+ghost use Rattle.vs_flat.specs.DesignOf.{arena_signals, arena_statements, design_of, event_of};
+ghost use Rattle.vs_flat.specs.Trees.{signal_at, statement_at};
+ghost use Rattle.vs_clock.specs.Nets.{AreNets};
+ghost use Rattle.vs_clock.specs.Found.{AreForms, IsBlockReset, IsEventReset};
+
+use crate::events::{BlockEvents, events_of};
+use crate::form::reset_branch;
+use crate::nets::Nets;
+use std::alloc::{AllocError, Global};
+use vs_flat::{Edge, Event, Kind, names_law, trees_law};
+use vs_width::{Typed, fits_law};
+
+/// The asynchronous reset of a clocked block: the edge of a net, at which a branch runs that reads no signal.
+#[derive(Clone, Copy, PartialEq, Eq, Debug)]
+pub struct Reset {
+    /// The bit of the net.
+    pub net: u32,
+    /// Its edge, posedge or negedge.
+    pub edge: Edge,
+    /// The bit of the data input of the top that the net copies.
+    pub input: u32,
+    /// The number of the statement that runs in the flat design.
+    pub branch: u32,
+}
+
+/// What a process has of a reset.
+#[derive(Clone, Copy, PartialEq, Eq, Debug)]
+pub(crate) enum BlockReset {
+    /// None.
+    Absent,
+    /// A reset among its events, and not the form of a block with a reset.
+    Formless,
+    /// This one.
+    Present(Reset),
+}
+
+/// What the processes of a design have of resets.
+#[derive(Drop)]
+pub(crate) enum Forms {
+    /// This is the first process with a reset that hasn't the form of one.
+    Formless(u32),
+    /// There is no such process; these are the resets of all by number.
+    All(Vec<Option<Reset>>),
+}
+
+/// The reset of a block with this statement by this edge of a reset net among its events.
+fn event_reset(
+    alloc: Global,
+    typed: &Typed,
+    nets: &Nets,
+    event: Event,
+    statement: u32,
+) -> Result<BlockReset, AllocError>
+    requires event { event.signal < length typed.now.signals }
+    requires there { statement < length typed.now.statements }
+    requires fits { fits_statement (statement_at (arena_statements typed.now) statement) ≡ true }
+    ensures { IfOk result (λ r. (c : ℕ) → AreNets (design_of typed.now) c nets.now → IsEventReset typed.now c (event_of (signal_at (arena_signals typed.now)) event) (statement_at (arena_statements typed.now) statement) r) }
+{
+    trees_law();
+    let net = typed.flat().signal(event.signal).first_bit;
+    match reset_branch(alloc, typed, event.edge, net, statement)? {
+        None => Ok(BlockReset::Formless),
+        Some(branch) => match nets.root(net) {
+            None => Ok(BlockReset::Absent),
+            Some(input) => Ok(BlockReset::Present(Reset {
+                net,
+                edge: event.edge,
+                input,
+                branch,
+            })),
+        },
+    }
+}
+
+/// What process p has of a reset.
+fn block_reset(alloc: Global, typed: &Typed, nets: &Nets, p: u32) -> Result<BlockReset, AllocError>
+    requires { p < length typed.now.processes }
+    ensures { IfOk result (λ r. (c : ℕ) → AreNets (design_of typed.now) c nets.now → (x : D.Process) → slice_get (design_of typed.now).processes p ≡ Some x → IsBlockReset typed.now c x r) }
+{
+    trees_law();
+    names_law();
+    fits_law();
+    let flat = typed.flat();
+    match &flat.process(p).kind {
+        Kind::Assign { .. } => Ok(BlockReset::Absent),
+        Kind::Block {
+            events,
+            statement,
+            ..
+        } => match events_of(flat, nets, events.as_slice()) {
+            BlockEvents::Reset(reset) => event_reset(alloc, typed, nets, reset, *statement),
+            BlockEvents::Clock => Ok(BlockReset::Absent),
+            BlockEvents::Other => Ok(BlockReset::Absent),
+        },
+    }
+}
+
+/// The resets of all processes, or the first block with a reset that hasn't the form of one.
+pub(crate) fn resets_of(alloc: Global, typed: &Typed, nets: &Nets) -> Result<Forms, AllocError>
+    ensures { IfOk result (λ f. (c : ℕ) → AreNets (design_of typed.now) c nets.now → AreForms typed.now c f) }
+{
+    trees_law();
+    let mut resets = Vec::new(alloc);
+    for p in 0..typed.flat().process_count() {
+        match block_reset(alloc, typed, nets, p)? {
+            BlockReset::Formless => return Ok(Forms::Formless(p)),
+            BlockReset::Absent => resets.push(None)?,
+            BlockReset::Present(reset) => resets.push(Some(reset))?,
+        }
+    }
+    Ok(Forms::All(resets))
+}
