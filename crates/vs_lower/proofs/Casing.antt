@@ -19,16 +19,10 @@ use Rattle.vs_lower.proofs.Bodies.{default_done, arm_done_now, arm_done_later, a
 use Rattle.vs_lower.proofs.Branching.{CanJoin}
 use Rattle.vs_lower.proofs.Conditional.{IsFork, fork_same, is_join_call, three_added}
 use Rattle.vs_lower.proofs.Joining.{picked, join_call, neither}
-use Rattle.vs_lower.proofs.Sequencing.{AddsBody}
-
--- what is added for these arms: `subject` are the slots of the case's expression, which have this value
-pub record AddsArms (now ahead subject : List ℕ) (sv : N.State → BitList) (old new : Coding) (kind : CaseKind) (w : ℕ) (s : Bool) (written : ℕ) (arms : Arms) (now_after ahead_after : List ℕ) : Type 0 where
-  pub calls : List Call
-  pub is : new.calls ≡ old.calls ++ calls
-  pub done : IsDone now ahead subject sv old.next (λ state. arms_body arms kind w s (sv state) state) (arms_bits arms) (arms_weight arms w written) calls now_after ahead_after new.next
+use Rattle.vs_lower.specs.Stated.{AddsStatement, AddsArms}
 
 pub adds_default : (now ahead subject : List ℕ) (sv : N.State → BitList) (old new : Coding) (kind : CaseKind) (w : ℕ) (s : Bool) (written : ℕ) (st : Statement) (now1 ahead1 : List ℕ)
-    → AddsBody now ahead old new st now1 ahead1 → AddsArms now ahead subject sv old new kind w s written (Default st) now1 ahead1
+    → AddsStatement now ahead old new st now1 ahead1 → AddsArms now ahead subject sv old new kind w s written (Default st) now1 ahead1
 adds_default now ahead subject sv old new kind w s written st now1 ahead1 d = record {
   calls = d.calls;
   is = d.is;
@@ -37,7 +31,7 @@ adds_default now ahead subject sv old new kind w s written st now1 ahead1 d = re
 
 -- the environments after an arm, and after what stands behind it
 pub fork_arm_now : (now ahead subject : List ℕ) (sv : N.State → BitList) (c0 c1 c2 c3 : Coding) (kind : CaseKind) (w : ℕ) (s : Bool) (written : ℕ) (st : Statement) (rest : Arms) (now1 ahead1 now2 ahead2 : List ℕ) → c1.next ≤ c2.next
-    → AddsArms now ahead subject sv c0 c1 kind w s written rest now2 ahead2 → AddsBody now ahead c2 c3 st now1 ahead1 → IsFork now1 now2 (statement_bits st ++ arms_bits rest) c3.next
+    → AddsArms now ahead subject sv c0 c1 kind w s written rest now2 ahead2 → AddsStatement now ahead c2 c3 st now1 ahead1 → IsFork now1 now2 (statement_bits st ++ arms_bits rest) c3.next
 fork_arm_now now ahead subject sv c0 c1 c2 c3 kind w s written st rest now1 ahead1 now2 ahead2 l o t = record {
   long = t.done.now_length ∙ sym o.done.now_length;
   same = λ b h. let q = neither (statement_bits st) (arms_bits rest) b h in t.done.now_kept b q.0 ∙ sym (o.done.now_kept b q.1);
@@ -46,7 +40,7 @@ fork_arm_now now ahead subject sv c0 c1 c2 c3 kind w s written st rest now1 ahea
 }
 
 pub fork_arm_later : (now ahead subject : List ℕ) (sv : N.State → BitList) (c0 c1 c2 c3 : Coding) (kind : CaseKind) (w : ℕ) (s : Bool) (written : ℕ) (st : Statement) (rest : Arms) (now1 ahead1 now2 ahead2 : List ℕ) → c1.next ≤ c2.next
-    → AddsArms now ahead subject sv c0 c1 kind w s written rest now2 ahead2 → AddsBody now ahead c2 c3 st now1 ahead1 → IsFork ahead1 ahead2 (statement_bits st ++ arms_bits rest) c3.next
+    → AddsArms now ahead subject sv c0 c1 kind w s written rest now2 ahead2 → AddsStatement now ahead c2 c3 st now1 ahead1 → IsFork ahead1 ahead2 (statement_bits st ++ arms_bits rest) c3.next
 fork_arm_later now ahead subject sv c0 c1 c2 c3 kind w s written st rest now1 ahead1 now2 ahead2 l o t = record {
   long = t.done.later_length ∙ sym o.done.later_length;
   same = λ b h. let q = neither (statement_bits st) (arms_bits rest) b h in t.done.later_kept b q.0 ∙ sym (o.done.later_kept b q.1);
@@ -59,7 +53,7 @@ pub adds_arm_now : (now later subject : List ℕ) (sv : N.State → BitList) (c0
     → IsEnv now c0.next → IsEnv later c0.next → All (λ slot. slot < c0.next) subject
     → AddsArms now later subject sv c0 c1 kind w s (distinct written) rest now2 later
     → AddsTests now subject c1 c2 kind w s items ms
-    → AddsBody now later c2 c3 st now1 later
+    → AddsStatement now later c2 c3 st now1 later
     → ((b : ℕ) → contains (statement_bits st ++ arms_bits rest) b ≡ true → contains all b ≡ true)
     → ((differing_bits all (picked now1 all) now2 ≡ [] → ⊥) → CanJoin now1 now2 (statement_bits st) (arms_bits rest) written (differing_bits all (picked now1 all) now2) ms c3)
     → IsJoined ms all (picked now1 all) now2 now3 c3 c4
@@ -94,7 +88,7 @@ pub adds_arm_later : (now later subject : List ℕ) (sv : N.State → BitList) (
     → IsEnv now c0.next → IsEnv later c0.next → All (λ slot. slot < c0.next) subject
     → AddsArms now later subject sv c0 c1 kind w s (distinct written) rest now later2
     → AddsTests now subject c1 c2 kind w s items ms
-    → AddsBody now later c2 c3 st now later1
+    → AddsStatement now later c2 c3 st now later1
     → ((b : ℕ) → contains (statement_bits st ++ arms_bits rest) b ≡ true → contains all b ≡ true)
     → ((differing_bits all (picked later1 all) later2 ≡ [] → ⊥) → CanJoin later1 later2 (statement_bits st) (arms_bits rest) written (differing_bits all (picked later1 all) later2) ms c3)
     → IsJoined ms all (picked later1 all) later2 later3 c3 c4

@@ -25,7 +25,7 @@ use Rattle.vs_lower.proofs.Differing.{bits_alike, slots_are}
 use Rattle.vs_lower.proofs.Joining.{picked, join_call, neither}
 use Rattle.vs_lower.proofs.Placing.{by_test}
 use Rattle.vs_lower.proofs.Readying.{fits_length}
-use Rattle.vs_lower.proofs.Sequencing.{AddsBody}
+use Rattle.vs_lower.specs.Stated.{AddsStatement}
 use Rattle.vs_lower.proofs.Unary.{not_true}
 use Rattle.vs_lower.proofs.Values.{both_true}
 
@@ -64,7 +64,7 @@ ready_yes bits now ahead c0 c1 clocked c taken other tc r v =
     }
 
 pub ready_no : (bits : ℕ) (now ahead : List ℕ) (c0 c1 c2 : Coding) (clocked : Bool) (c : Expression) (taken other : Statement) (tc now1 ahead1 : List ℕ)
-    → IsStatementReady bits now ahead c0 clocked (If c taken other) → AddsValue now c0.calls c0.next c1.calls c1.next c (width c) (sign c) tc → AddsBody now ahead c1 c2 taken now1 ahead1
+    → IsStatementReady bits now ahead c0 clocked (If c taken other) → AddsValue now c0.calls c0.next c1.calls c1.next c (width c) (sign c) tc → AddsStatement now ahead c1 c2 taken now1 ahead1
     → IsStatementReady bits now ahead c2 clocked other
 ready_no bits now ahead c0 c1 c2 clocked c taken other tc now1 ahead1 r v t =
     let a = v.value.values.added in
@@ -91,7 +91,7 @@ pub record IsFork (env1 env2 all : List ℕ) (next : ℕ) : Type 0 where
   pub below2 : All (λ slot. slot < next) env2
 
 pub fork_now : (now ahead : List ℕ) (c1 c2 c3 : Coding) (taken other : Statement) (now1 ahead1 now2 ahead2 : List ℕ)
-    → AddsBody now ahead c1 c2 taken now1 ahead1 → AddsBody now ahead c2 c3 other now2 ahead2 → IsFork now1 now2 (statement_bits taken ++ statement_bits other) c3.next
+    → AddsStatement now ahead c1 c2 taken now1 ahead1 → AddsStatement now ahead c2 c3 other now2 ahead2 → IsFork now1 now2 (statement_bits taken ++ statement_bits other) c3.next
 fork_now now ahead c1 c2 c3 taken other now1 ahead1 now2 ahead2 t o = record {
   long = t.done.now_length ∙ sym o.done.now_length;
   same = λ b h. let q = neither (statement_bits taken) (statement_bits other) b h in t.done.now_kept b q.0 ∙ sym (o.done.now_kept b q.1);
@@ -100,7 +100,7 @@ fork_now now ahead c1 c2 c3 taken other now1 ahead1 now2 ahead2 t o = record {
 }
 
 pub fork_later : (now ahead : List ℕ) (c1 c2 c3 : Coding) (taken other : Statement) (now1 ahead1 now2 ahead2 : List ℕ)
-    → AddsBody now ahead c1 c2 taken now1 ahead1 → AddsBody now ahead c2 c3 other now2 ahead2 → IsFork ahead1 ahead2 (statement_bits taken ++ statement_bits other) c3.next
+    → AddsStatement now ahead c1 c2 taken now1 ahead1 → AddsStatement now ahead c2 c3 other now2 ahead2 → IsFork ahead1 ahead2 (statement_bits taken ++ statement_bits other) c3.next
 fork_later now ahead c1 c2 c3 taken other now1 ahead1 now2 ahead2 t o = record {
   long = t.done.later_length ∙ sym o.done.later_length;
   same = λ b h. let q = neither (statement_bits taken) (statement_bits other) b h in t.done.later_kept b q.0 ∙ sym (o.done.later_kept b q.1);
@@ -132,11 +132,11 @@ is_join_call tc env1 env2 bits n =
 pub adds_if_now : (bits : ℕ) (now later : List ℕ) (c0 c1 c2 c3 c4 : Coding) (clocked : Bool) (c : Expression) (taken other : Statement) (tc all now1 now2 now3 : List ℕ)
     → IsStatementReady bits now later c0 clocked (If c taken other)
     → AddsValue now c0.calls c0.next c1.calls c1.next c (width c) (sign c) tc
-    → AddsBody now later c1 c2 taken now1 later → AddsBody now later c2 c3 other now2 later
+    → AddsStatement now later c1 c2 taken now1 later → AddsStatement now later c2 c3 other now2 later
     → ((b : ℕ) → contains (statement_bits taken ++ statement_bits other) b ≡ true → contains all b ≡ true)
     → ((differing_bits all (picked now1 all) now2 ≡ [] → ⊥) → CanJoin now1 now2 (statement_bits taken) (statement_bits other) (statement_bits taken ++ statement_bits other) (differing_bits all (picked now1 all) now2) tc c3)
     → IsJoined tc all (picked now1 all) now2 now3 c3 c4
-    → AddsBody now later c0 c4 (If c taken other) now3 later
+    → AddsStatement now later c0 c4 (If c taken other) now3 later
 adds_if_now bits now later c0 c1 c2 c3 c4 clocked c taken other tc all now1 now2 now3 r v t o sup can (inl q) =
     let same = fork_same now1 now2 all (statement_bits taken ++ statement_bits other) c3.next (fork_now now later c1 c2 c3 taken other now1 later now2 later t o) sup q.none in
     let first = subst (λ (env : List ℕ). IsStatementDone now later c1.next taken t.calls env later c2.next) (same ∙ sym q.slots) t.done in
@@ -165,11 +165,11 @@ adds_if_now bits now later c0 c1 c2 c3 c4 clocked c taken other tc all now1 now2
 pub adds_if_later : (bits : ℕ) (now later : List ℕ) (c0 c1 c2 c3 c4 : Coding) (clocked : Bool) (c : Expression) (taken other : Statement) (tc all later1 later2 later3 : List ℕ)
     → IsStatementReady bits now later c0 clocked (If c taken other)
     → AddsValue now c0.calls c0.next c1.calls c1.next c (width c) (sign c) tc
-    → AddsBody now later c1 c2 taken now later1 → AddsBody now later c2 c3 other now later2
+    → AddsStatement now later c1 c2 taken now later1 → AddsStatement now later c2 c3 other now later2
     → ((b : ℕ) → contains (statement_bits taken ++ statement_bits other) b ≡ true → contains all b ≡ true)
     → ((differing_bits all (picked later1 all) later2 ≡ [] → ⊥) → CanJoin later1 later2 (statement_bits taken) (statement_bits other) (statement_bits taken ++ statement_bits other) (differing_bits all (picked later1 all) later2) tc c3)
     → IsJoined tc all (picked later1 all) later2 later3 c3 c4
-    → AddsBody now later c0 c4 (If c taken other) now later3
+    → AddsStatement now later c0 c4 (If c taken other) now later3
 adds_if_later bits now later c0 c1 c2 c3 c4 clocked c taken other tc all later1 later2 later3 r v t o sup can (inl q) =
     let same = fork_same later1 later2 all (statement_bits taken ++ statement_bits other) c3.next (fork_later now later c1 c2 c3 taken other now later1 now later2 t o) sup q.none in
     let first = subst (λ (env : List ℕ). IsStatementDone now later c1.next taken t.calls now env c2.next) (same ∙ sym q.slots) t.done in

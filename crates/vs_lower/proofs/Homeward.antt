@@ -39,7 +39,7 @@ use Rattle.vs_lower.proofs.Values.{both_true}
 
 -- ---- a target with constant selects has at most as many bits as its length
 
-distinct_length : (bs : List ℕ) → distinct bs ≤ length bs
+pub distinct_length : (bs : List ℕ) → distinct bs ≤ length bs
 distinct_length [] = omega arith
 distinct_length (b ∷ bs) = by (contains bs b) (distinct_length bs)
   where
@@ -126,6 +126,17 @@ all_in n [] f = All-nil (λ b. b < n)
 all_in n (x ∷ xs) f =
     All-cons (λ b. b < n) x xs (f x (ap (λ q. q || contains xs x) (eq-eqb x x refl)))
     (all_in n xs (λ b h. f b (by_test (b == x) (λ e. ap (λ q. q || contains xs b) e) (λ e. ap (λ q. q || contains xs b) e ∙ h))))
+
+-- ---- before a process
+
+-- both environments at home
+pub at_homes : (n count : ℕ) (values ahead : List ℕ) (P : List ℕ → List ℕ → Type 0) → count ≡ n → values ≡ homes count → ahead ≡ homes count → P (homes n) (homes n) → P values ahead
+at_homes n count values ahead P k a b p =
+    subst (λ (x : List ℕ). P x ahead) (sym (a ∙ ap homes k)) (subst (P (homes n)) (sym (b ∙ ap homes k)) p)
+
+pub from_homes : (n count : ℕ) (values ahead : List ℕ) (P : List ℕ → List ℕ → Type 0) → count ≡ n → values ≡ homes count → ahead ≡ homes count → P values ahead → P (homes n) (homes n)
+from_homes n count values ahead P k a b p =
+    subst (P (homes n)) (b ∙ ap homes k) (subst (λ (x : List ℕ). P x ahead) (a ∙ ap homes k) p)
 
 -- ---- what the parts of its lowering need
 

@@ -28,7 +28,7 @@ picked_at env [] k l = absurd (omega arith)
 picked_at env (x ∷ xs) zero l = refl
 picked_at env (x ∷ xs) (suc k) l = picked_at env xs k (omega arith)
 
-member_at : (js : List ℕ) (k : ℕ) → k < length js → contains js (slice_index js k) ≡ true
+pub member_at : (js : List ℕ) (k : ℕ) → k < length js → contains js (slice_index js k) ≡ true
 member_at [] k l = absurd (omega arith)
 member_at (x ∷ xs) zero l = ap (λ q. q || contains xs x) (eq-eqb x x refl)
 member_at (x ∷ xs) (suc k) l =
@@ -36,7 +36,7 @@ member_at (x ∷ xs) (suc k) l =
     (λ e. ap (λ q. q || contains xs (slice_index xs k)) e)
     (λ e. ap (λ q. q || contains xs (slice_index xs k)) e ∙ member_at xs k (omega arith))
 
-once_places : (js : List ℕ) (j k : ℕ) → Once js → j < length js → k < length js → slice_index js j ≡ slice_index js k → j ≡ k
+pub once_places : (js : List ℕ) (j k : ℕ) → Once js → j < length js → k < length js → slice_index js j ≡ slice_index js k → j ≡ k
 once_places [] j k o l m e = absurd (omega arith)
 once_places (x ∷ xs) zero zero o l m e = refl
 once_places (x ∷ xs) zero (suc k) o l m e = absurd (true≢false (sym (ap (contains xs) e ∙ member_at xs k (omega arith)) ∙ o.0))

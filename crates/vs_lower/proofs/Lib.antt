@@ -48,3 +48,10 @@ pub mod Conditional
 pub mod Casing
 pub mod Homing
 pub mod Homeward
+pub mod Restoring
+pub mod Branched
+pub mod Armed
+pub mod Ordered
+pub mod Naming
+pub mod Stating
+pub mod Blocking

@@ -80,7 +80,7 @@ not_target js target slot f c = f_at js (λ b h. h) c
     f_at (j ∷ ks) up (suc k, l, e) = f_at ks (λ b h. up b (there j b ks h)) (k, omega arith, e)
 
 -- a bit among these is below a bound that all of these are below
-member_below : (js : List ℕ) (n b : ℕ) → All (λ j. j < n) js → contains js b ≡ true → b < n
+pub member_below : (js : List ℕ) (n b : ℕ) → All (λ j. j < n) js → contains js b ≡ true → b < n
 member_below [] n b h c = absurd (true≢false (sym c))
 member_below (j ∷ js) n b h c =
     by_test (b == j)

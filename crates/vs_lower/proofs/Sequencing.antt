@@ -11,17 +11,13 @@ use Rattle.vs_design.specs.Rules.{mixed_in}
 use Rattle.vs_design.specs.Sizes.{statement_weight}
 use Rattle.vs_flat.specs.Trees.{sequence}
 use Rattle.vs_code.specs.Calls.{Call, call_cost, length_of}
-use Rattle.vs_lower.specs.Assigned.{AddsRun}
 use Rattle.vs_lower.specs.Coded.{Coding}
 use Rattle.vs_lower.specs.Done.{IsDone}
 use Rattle.vs_lower.specs.Ready.{IsStatementReady}
+use Rattle.vs_lower.specs.Stated.{AddsStatement}
 use Rattle.vs_lower.proofs.Bodies.{empty_done, then_done}
 use Rattle.vs_lower.proofs.Matching.{done_as}
 use Rattle.vs_lower.proofs.Values.{both_true}
-
--- what is added for a statement
-abbrev pub AddsBody : List ℕ → List ℕ → Coding → Coding → Statement → List ℕ → List ℕ → Type 0
-AddsBody now ahead old new st now_after ahead_after = AddsRun now ahead old new (body st) (statement_bits st) (statement_weight st) now_after ahead_after
 
 -- ---- the flag of an assignment
 
@@ -54,7 +50,7 @@ ready_head bits now ahead code clocked a b r = record {
 }
 
 pub ready_rest : (bits : ℕ) (now ahead : List ℕ) (old new : Coding) (clocked : Bool) (a b : Statement) (now1 ahead1 : List ℕ)
-    → IsStatementReady bits now ahead old clocked (Then a b) → AddsBody now ahead old new a now1 ahead1 → IsStatementReady bits now1 ahead1 new clocked b
+    → IsStatementReady bits now ahead old clocked (Then a b) → AddsStatement now ahead old new a now1 ahead1 → IsStatementReady bits now1 ahead1 new clocked b
 ready_rest bits now ahead old new clocked a b now1 ahead1 r d =
     let total : length_of new.calls ≡ length_of old.calls + length_of d.calls = ap (λ (cs : List Call). length_of cs) d.is ∙ sum_by-append call_cost old.calls d.calls in
     record {
@@ -68,11 +64,11 @@ ready_rest bits now ahead old new clocked a b now1 ahead1 r d =
       few = omega (arith, r.few, total, d.done.added.stores);
     }
 
-pub adds_empty : (bits : ℕ) (now ahead : List ℕ) (code : Coding) (clocked : Bool) → IsStatementReady bits now ahead code clocked Empty → AddsBody now ahead code code Empty now ahead
+pub adds_empty : (bits : ℕ) (now ahead : List ℕ) (code : Coding) (clocked : Bool) → IsStatementReady bits now ahead code clocked Empty → AddsStatement now ahead code code Empty now ahead
 adds_empty bits now ahead code clocked r = record { calls = []; is = sym (append-nil code.calls); done = empty_done now ahead code.next r.now_env r.later_env }
 
 pub adds_then : (now ahead : List ℕ) (c0 c1 c2 : Coding) (a b : Statement) (now1 ahead1 now2 ahead2 : List ℕ)
-    → AddsBody now ahead c0 c1 a now1 ahead1 → AddsBody now1 ahead1 c1 c2 b now2 ahead2 → AddsBody now ahead c0 c2 (Then a b) now2 ahead2
+    → AddsStatement now ahead c0 c1 a now1 ahead1 → AddsStatement now1 ahead1 c1 c2 b now2 ahead2 → AddsStatement now ahead c0 c2 (Then a b) now2 ahead2
 adds_then now ahead c0 c1 c2 a b now1 ahead1 now2 ahead2 x y = record {
   calls = x.calls ++ y.calls;
   is = y.is ∙ ap (λ (cs : List Call). cs ++ y.calls) x.is ∙ append_assoc c0.calls x.calls y.calls;
@@ -129,7 +125,7 @@ ready_chain bits now ahead code clocked xs r = record {
   few = omega (arith, r.few, chain_weight xs);
 }
 
-pub adds_chain : (now ahead : List ℕ) (old new : Coding) (xs : List Statement) (now1 ahead1 : List ℕ) → AddsBody now ahead old new (chain xs) now1 ahead1 → AddsBody now ahead old new (sequence xs) now1 ahead1
+pub adds_chain : (now ahead : List ℕ) (old new : Coding) (xs : List Statement) (now1 ahead1 : List ℕ) → AddsStatement now ahead old new (chain xs) now1 ahead1 → AddsStatement now ahead old new (sequence xs) now1 ahead1
 adds_chain now ahead old new xs now1 ahead1 d =
     let w = chain_weight xs in
     let less : statement_weight (chain xs) ≤ statement_weight (sequence xs) = omega (arith, w) in
@@ -143,9 +139,9 @@ adds_chain now ahead old new xs now1 ahead1 d =
 -- what is done so far: whatever does the rest does all
 abbrev pub IsSoFar : (now ahead : List ℕ) (old : Coding) (all rest : List Statement) (now1 ahead1 : List ℕ) (new : Coding) → Type 0
 IsSoFar now ahead old all rest now1 ahead1 new =
-    (last : Coding) (now2 ahead2 : List ℕ) → AddsBody now1 ahead1 new last (chain rest) now2 ahead2 → AddsBody now ahead old last (chain all) now2 ahead2
+    (last : Coding) (now2 ahead2 : List ℕ) → AddsStatement now1 ahead1 new last (chain rest) now2 ahead2 → AddsStatement now ahead old last (chain all) now2 ahead2
 
 pub one_more : (now ahead : List ℕ) (c0 c1 c2 : Coding) (all : List Statement) (x : Statement) (rest : List Statement) (now1 ahead1 now2 ahead2 : List ℕ)
-    → IsSoFar now ahead c0 all (x ∷ rest) now1 ahead1 c1 → AddsBody now1 ahead1 c1 c2 x now2 ahead2 → IsSoFar now ahead c0 all rest now2 ahead2 c2
+    → IsSoFar now ahead c0 all (x ∷ rest) now1 ahead1 c1 → AddsStatement now1 ahead1 c1 c2 x now2 ahead2 → IsSoFar now ahead c0 all rest now2 ahead2 c2
 one_more now ahead c0 c1 c2 all x rest now1 ahead1 now2 ahead2 so d last now3 ahead3 r =
     so last now3 ahead3 (adds_then now1 ahead1 c1 c2 last x (chain rest) now2 ahead2 now3 ahead3 d r)

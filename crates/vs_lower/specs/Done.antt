@@ -55,12 +55,6 @@ pub record IsCondition (now tv : List ℕ) (sv : N.State → BitList) (mark : �
 abbrev pub IsStatementDone : (now later : List ℕ) (mark : ℕ) (st : Statement) (calls : List Call) (now_after later_after : List ℕ) (next : ℕ) → Type 0
 IsStatementDone now later mark st calls now_after later_after next = IsDone now later [] (λ state. []) mark (body st) (statement_bits st) (statement_weight st) calls now_after later_after next
 
--- what is added to a program for a statement
-pub record AddsStatement (now later : List ℕ) (old : List Call) (mark : ℕ) (new : List Call) (next : ℕ) (st : Statement) (now_after later_after : List ℕ) : Type 0 where
-  pub calls : List Call
-  pub is : new ≡ old ++ calls
-  pub done : IsStatementDone now later mark st calls now_after later_after next
-
 -- the values of the indices of a target's parts, in the order of the text; a whole signal has an empty one
 abbrev pub index_values : Target → N.State → List BitList
 index_values (Whole signal) state = [] ∷ []

@@ -15,4 +15,5 @@ pub mod Written
 pub mod Assigned
 pub mod Tested
 pub mod Branched
+pub mod Stated
 pub mod Processed

@@ -1,15 +1,17 @@
 -- What the lowering of a process needs and gives.
-use Rattle.std.specs.Prelude.{◌≡◌, ℕ, ◌+◌, ◌<◌, ◌≤◌, ◌^◌, true, false, List, ◌++◌}
+use Rattle.std.specs.Prelude.{◌≡◌, ℕ, ◌+◌, ◌<◌, ◌≤◌, ◌^◌, Bool, true, false, List, [], ◌++◌, slice_index}
 use Rattle.vs_design.specs.Designs.{Process}
 use Rattle.vs_design.specs.Elaborated.{has_constant_selects}
 use Rattle.vs_design.specs.Expressions.{Expression}
-use Rattle.vs_design.specs.Fits.{fits_target, is_fit}
-use Rattle.vs_design.specs.Footprints.{contains, read_bits, target_bits}
-use Rattle.vs_design.specs.Sizes.{assignment_weight}
-use Rattle.vs_design.specs.Statements.{Target}
-use Rattle.vs_program.specs.Lowered.{Layout, IsLoweredProcess, home}
+use Rattle.vs_design.specs.Fits.{fits_target, fits_statement, is_fit}
+use Rattle.vs_design.specs.Footprints.{contains, read_bits, statement_bits, target_bits}
+use Rattle.vs_design.specs.Rules.{mixed_in}
+use Rattle.vs_design.specs.Sizes.{assignment_weight, distinct, statement_weight}
+use Rattle.vs_design.specs.Statements.{Statement, Target}
+use Rattle.vs_program.specs.Lowered.{IsLayout, IsLoweredProcess, Layout, home}
 use Rattle.vs_code.specs.Calls.{Call, length_of}
 use Rattle.vs_lower.specs.Coded.{Coding}
+use Rattle.vs_lower.specs.Stated.{AreInside}
 
 -- these calls, and no others, are added for the process
 pub record AddsProcess (l : Layout) (p : Process) (old new : List Call) : Type 0 where
@@ -27,3 +29,21 @@ pub record IsContinuousReady (bits : ℕ) (code : Coding) (target : Target) (e :
   pub fit : is_fit e ≡ true
   pub slots : code.next + assignment_weight target e < 2 ^ 32
   pub few : length_of code.calls + assignment_weight target e ≤ 2 ^ 32
+
+-- ---- blocks
+
+-- What the lowering of a block needs, in a design of as many bits: what it writes are bits of the design, its assignments are of its kind (9.2.2), all of it fits, and there is room
+pub record IsBlockReady (count : ℕ) (code : Coding) (clocked : Bool) (st : Statement) : Type 0 where
+  pub temps : home count ≤ code.next
+  pub inside : AreInside count (statement_bits st)
+  pub fit : fits_statement st ≡ true
+  pub unmixed : mixed_in clocked st ≡ []
+  pub slots : code.next + (statement_weight st + distinct (statement_bits st)) < 2 ^ 32
+  pub few : length_of code.calls + (statement_weight st + distinct (statement_bits st)) ≤ 2 ^ 32
+
+-- such a layout, whose temporaries begin at this slot, in which each of these bits has the shadow that the list says
+pub record HasShadows (count first : ℕ) (shadows bits : List ℕ) (l : Layout) : Type 0 where
+  pub bits_are : l.bits ≡ count
+  pub temps_are : l.first_temp ≡ first
+  pub layout : IsLayout l bits
+  pub are : (b : ℕ) → contains bits b ≡ true → l.shadow b ≡ slice_index shadows b

@@ -9,6 +9,7 @@ ghost use Rattle.vs_lower.specs.Coded.{with_call};
 ghost use Rattle.vs_lower.specs.Done.{placed};
 ghost use Rattle.vs_lower.specs.Made.{IsCallable};
 ghost use Rattle.vs_lower.specs.Joined.{IsJoined, differing_bits, differing_slots, join_args};
+ghost use Rattle.vs_lower.specs.Stated.{AddsJoin};
 
 use crate::applied::triple;
 use crate::code::Code;
@@ -128,4 +129,30 @@ pub(crate) fn join_written(
     } else {
         join(alloc, condition, bits, first, &mut env.values, code)
     }
+}
+
+/// The join where the bits have the slots `behind` after the other branch: it answers the slots that they have after it, and leaves the environments as they were.
+pub(crate) fn join_apart(
+    alloc: Global,
+    condition: Vec<u32>,
+    bits: &[u32],
+    first: &[u32],
+    behind: &[u32],
+    clocked: bool,
+    env: &mut Environments,
+    code: &mut Code,
+) -> Result<Vec<u32>, AllocError>
+    requires inside { All (λ b. b < length (written clocked env.old.values env.old.ahead)) bits.now }
+    requires alike { length bits.now ≡ length first.now }
+    requires behind { length bits.now ≡ length behind.now }
+    requires few { length bits.now < 2 ^ 32 }
+    requires call { (differing_bits bits.now first.now (placed (written clocked env.old.values env.old.ahead) (map Some bits.now) behind.now) ≡ [] → ⊥) → IsCallable code.old (K.Select S.Branch) (join_args condition.items bits.now first.now (placed (written clocked env.old.values env.old.ahead) (map Some bits.now) behind.now)) (length (differing_bits bits.now first.now (placed (written clocked env.old.values env.old.ahead) (map Some bits.now) behind.now))) }
+    ensures adds { IfOk result (λ slots. AddsJoin condition.items bits.now first.now (placed (written clocked env.old.values env.old.ahead) (map Some bits.now) behind.now) code.old code.new slots.items) }
+    ensures values { OnOk result (env.new.values ≡ env.old.values) }
+    ensures ahead { OnOk result (env.new.ahead ≡ env.old.ahead) }
+{
+    let before = env.exchange(alloc, clocked, bits, behind)?;
+    join_written(alloc, condition, bits, first, clocked, env, code)?;
+    let slots = env.exchange(alloc, clocked, bits, before.as_slice())?;
+    Ok(slots)
 }

@@ -61,7 +61,8 @@ pub(crate) fn tests(
 ) -> Result<Vec<u32>, AllocError>
     requires items { All (λ e. e < length typed.now.nodes) items.now }
     requires ready { AreTestsReady (bit_count typed.now.signals) env.now subject.now code.old (map (tree_at (arena_trees typed.now)) items.now) context.width }
-    ensures { IfOk result (λ ms. AddsTests env.now subject.now code.old code.new (case_of kind) context.width context.signed (map (tree_at (arena_trees typed.now)) items.now) ms.items) }
+    ensures alike { IfOk result (λ ms. length ms.items ≡ length items.now) }
+    ensures adds { IfOk result (λ ms. AddsTests env.now subject.now code.old code.new (case_of kind) context.width context.signed (map (tree_at (arena_trees typed.now)) items.now) ms.items) }
 {
     let mut matches = Vec::new(alloc);
     for n in 0..items.len() {

@@ -1,8 +1,8 @@
 //! The copies at the end of a process.
 
-ghost use Rattle.std.specs.Prelude.{◌≡◌, ◌+◌, ◌<◌, ◌≤◌, ◌^◌, ◌++◌, length, All, OnOk};
+ghost use Rattle.std.specs.Prelude.{◌≡◌, ◌+◌, ◌<◌, ◌≤◌, ◌^◌, ◌++◌, length, map, slice_index, All, IfOk, OnOk};
 ghost use Rattle.vs_code.specs.Calls.{IsCall, length_of};
-ghost use Rattle.vs_lower.specs.Copies.{home_copies};
+ghost use Rattle.vs_lower.specs.Copies.{copies, home_copies};
 
 use crate::branches::differing;
 use crate::code::Code;
@@ -34,5 +34,41 @@ pub(crate) fn copy_home(
     let from = picked(alloc, env, those.as_slice())?;
     let to = picked(alloc, &start, those.as_slice())?;
     code.copy(alloc, from, to)?;
+    Ok(())
+}
+
+/// The elements of a list at these places.
+fn at_places(alloc: Global, list: &[u32], places: &[u32]) -> Result<Vec<u32>, AllocError>
+    requires { All (λ p. p < length list.now) places.now }
+    ensures { IfOk result (λ v. v.items ≡ map (slice_index list.now) places.now) }
+{
+    let mut found = Vec::with_capacity(alloc, places.len())?;
+    for n in 0..places.len() {
+        found.push(list[places[n] as usize])?;
+    }
+    Ok(found)
+}
+
+/// Copies the values of these bits to their slots in `to`: by one call, and of none by none.
+pub(crate) fn copy_all(
+    alloc: Global,
+    env: &Environment,
+    bits: &[u32],
+    to: &[u32],
+    code: &mut Code,
+) -> Result<(), AllocError>
+    requires inside { All (λ b. b < length env.now) bits.now }
+    requires places { All (λ b. b < length to.now) bits.now }
+    requires calls { All IsCall (copies (map (slice_index env.now) bits.now) (map (slice_index to.now) bits.now)) }
+    requires few { length_of code.old.calls + length_of (copies (map (slice_index env.now) bits.now) (map (slice_index to.now) bits.now)) ≤ 2 ^ 32 }
+    ensures calls { OnOk result (code.new.calls ≡ code.old.calls ++ copies (map (slice_index env.now) bits.now) (map (slice_index to.now) bits.now)) }
+    ensures next { OnOk result (code.new.next ≡ code.old.next) }
+{
+    if bits.is_empty() {
+        return Ok(());
+    }
+    let from = picked(alloc, env, bits)?;
+    let slots = at_places(alloc, to, bits)?;
+    code.copy(alloc, from, slots)?;
     Ok(())
 }

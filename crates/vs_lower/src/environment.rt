@@ -119,4 +119,23 @@ impl Environments {
             place(&mut self.values, bits, to)
         }
     }
+
+    /// Gives these bits these slots in it, and answers those that they had. On an error some may have theirs.
+    pub fn exchange(
+        &mut self,
+        alloc: Global,
+        clocked: bool,
+        bits: &[u32],
+        to: &[u32],
+    ) -> Result<Vec<u32>, AllocError>
+        requires inside { All (λ b. b < length (written clocked self.old.values self.old.ahead)) bits.now }
+        requires alike { length bits.now ≡ length to.now }
+        ensures had { IfOk result (λ v. v.items ≡ map (slice_index (written clocked self.old.values self.old.ahead)) bits.now) }
+        ensures placed { OnOk result (written clocked self.new.values self.new.ahead ≡ placed (written clocked self.old.values self.old.ahead) (map Some bits.now) to.now) }
+        ensures other { OnOk result (unwritten clocked self.new.values self.new.ahead ≡ unwritten clocked self.old.values self.old.ahead) }
+    {
+        let had = self.picked(alloc, clocked, bits)?;
+        self.place(clocked, bits, to)?;
+        Ok(had)
+    }
 }

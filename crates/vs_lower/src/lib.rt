@@ -3,6 +3,7 @@
 
 mod applied;
 mod assigns;
+mod blocks;
 mod branches;
 mod cases;
 mod code;

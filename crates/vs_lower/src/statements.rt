@@ -1,12 +1,32 @@
 //! Statements (IEEE 1364-2005, clause 9).
 
-ghost use Rattle.std.specs.Prelude.{◌≡◌, ◌<◌, length, IfOk, true, ℕ};
+ghost use Rattle.std.specs.Prelude.{◌≡◌, ◌<◌, ◌≤◌, length, map, slice_index, All, IfOk, OnOk, true, Some, ℕ};
 ghost use Rattle.std.specs.List.Sorted.{IsStrictlyIncreasing};
+ghost use Rattle.vs_design.specs.Expressions as E;
+ghost use Rattle.vs_design.specs.Statements as T;
 ghost use Rattle.vs_design.specs.Fits.{fits_statement};
-ghost use Rattle.vs_design.specs.Footprints.{contains, statement_bits};
-ghost use Rattle.vs_length.specs.Bodies.{body_of};
+ghost use Rattle.vs_design.specs.Footprints.{contains, arms_bits, statement_bits};
+ghost use Rattle.vs_design.specs.Sizes.{distinct};
+ghost use Rattle.vs_flat.specs.Arena.{bit_count};
+ghost use Rattle.vs_flat.specs.DesignOf.{arena_trees};
+ghost use Rattle.vs_flat.specs.Operators.{case_of};
+ghost use Rattle.vs_flat.specs.Trees.{arms_tree, branch, sequence, tree_at};
+ghost use Rattle.vs_length.specs.Bodies.{EachArmNames, HasBodyNames, HasTarget, OtherBelow, body_of, body_of_statement, body_place};
+ghost use Rattle.vs_length.specs.Nodes.{EachBelow};
+ghost use Rattle.vs_lower.specs.Branched.{unwritten};
+ghost use Rattle.vs_lower.specs.Ready.{IsStatementReady};
+ghost use Rattle.vs_lower.specs.Stated.{AddsArm, AddsBranch, AddsCases, AddsStatement, AreAmong, AreArmsReady, AreInOrder, AreInside, HasItems, IsArmReady};
 
+use crate::assigns::assign;
+use crate::branches::{join_apart, join_written};
+use crate::cases::tests;
+use crate::code::Code;
+use crate::contexts::case_context;
+use crate::environment::Environments;
+use crate::expressions::{Context, lower};
+use crate::typed::own;
 use std::alloc::{AllocError, Global};
+use vs_flat::{Arm, CaseKind, Statement, lawful_law, names_law, trees_law};
 use vs_length::{Walk, ascend};
 use vs_width::Typed;
 
@@ -21,4 +41,332 @@ pub(crate) fn written_bits(alloc: Global, typed: &Typed, s: u32) -> Result<Vec<u
     typed.shapes().push_statement(s, Walk::Writes, &mut bits)?;
     ascend(&mut bits);
     Ok(bits)
+}
+
+/// Statement s of a lawful design: it names expressions and earlier statements, its tree is made of theirs, and each arm of a case has an item.
+fn statement_of(typed: &Typed, s: u32) -> &Statement
+    requires there { s < length typed.now.statements }
+    ensures names { HasBodyNames (length typed.now.nodes) s result.now }
+    ensures target { HasTarget typed.now result.now }
+    ensures items { HasItems result.now }
+    ensures tree { body_of typed.now s ≡ body_of_statement typed.now (body_place typed.now s) result.now }
+{
+    names_law();
+    trees_law();
+    lawful_law();
+    typed.flat().statement(s)
+}
+
+/// Adds the calls of statement s, in a block of which it is told whether it is clocked.
+#[cycle(statements)]
+pub(crate) fn statement(
+    alloc: Global,
+    typed: &Typed,
+    s: u32,
+    clocked: bool,
+    env: &mut Environments,
+    code: &mut Code,
+) -> Result<(), AllocError>
+    requires there { s < length typed.now.statements }
+    requires ready { IsStatementReady (bit_count typed.now.signals) env.old.values env.old.ahead code.old clocked (body_of typed.now s) }
+    requires inside { AreInside (bit_count typed.now.signals) (statement_bits (body_of typed.now s)) }
+    ensures adds { OnOk result (AddsStatement env.old.values env.old.ahead code.old code.new (body_of typed.now s) env.new.values env.new.ahead) }
+    ensures other { OnOk result (unwritten clocked env.new.values env.new.ahead ≡ unwritten clocked env.old.values env.old.ahead) }
+{
+    match statement_of(typed, s) {
+        Statement::Empty => Ok(()),
+        Statement::Assign {
+            target,
+            expr,
+            blocking,
+        } => {
+            assign(alloc, typed, *target, *expr, !*blocking, env, code)?;
+            Ok(())
+        }
+        Statement::If { c, yes, no } => {
+            let bits = written_bits(alloc, typed, s)?;
+            conditional(
+                alloc,
+                typed,
+                s,
+                *c,
+                *yes,
+                *no,
+                bits.as_slice(),
+                clocked,
+                env,
+                code,
+            )?;
+            Ok(())
+        }
+        Statement::Case {
+            kind,
+            of,
+            arms,
+            other,
+        } => {
+            let bits = written_bits(alloc, typed, s)?;
+            case(
+                alloc,
+                typed,
+                s,
+                *kind,
+                *of,
+                arms.as_slice(),
+                *other,
+                bits.as_slice(),
+                clocked,
+                env,
+                code,
+            )?;
+            Ok(())
+        }
+        Statement::Seq { parts } => {
+            in_order(alloc, typed, s, parts.as_slice(), clocked, env, code)?;
+            Ok(())
+        }
+    }
+}
+
+/// Adds the calls of these statements, one after the other (IEEE 1364-2005, 9.8.1).
+#[cycle(statements)]
+fn in_order(
+    alloc: Global,
+    typed: &Typed,
+    s: u32,
+    parts: &[u32],
+    clocked: bool,
+    env: &mut Environments,
+    code: &mut Code,
+) -> Result<(), AllocError>
+    requires there { s ≤ length typed.now.statements }
+    requires parts { EachBelow s parts.now }
+    requires ready { IsStatementReady (bit_count typed.now.signals) env.old.values env.old.ahead code.old clocked (sequence (map (body_of typed.now) parts.now)) }
+    requires inside { AreInside (bit_count typed.now.signals) (statement_bits (sequence (map (body_of typed.now) parts.now))) }
+    ensures adds { OnOk result (AddsStatement env.old.values env.old.ahead code.old code.new (sequence (map (body_of typed.now) parts.now)) env.new.values env.new.ahead) }
+    ensures other { OnOk result (unwritten clocked env.new.values env.new.ahead ≡ unwritten clocked env.old.values env.old.ahead) }
+{
+    for n in 0..parts.len() {
+        statement(alloc, typed, parts[n], clocked, env, code)?;
+    }
+    Ok(())
+}
+
+/// Adds the calls of a branch; one that isn't there has none.
+#[cycle(statements)]
+fn optional(
+    alloc: Global,
+    typed: &Typed,
+    s: u32,
+    part: Option<u32>,
+    clocked: bool,
+    env: &mut Environments,
+    code: &mut Code,
+) -> Result<(), AllocError>
+    requires there { s ≤ length typed.now.statements }
+    requires part { OtherBelow s part }
+    requires ready { IsStatementReady (bit_count typed.now.signals) env.old.values env.old.ahead code.old clocked (branch (body_of typed.now) part) }
+    requires inside { AreInside (bit_count typed.now.signals) (statement_bits (branch (body_of typed.now) part)) }
+    ensures adds { OnOk result (AddsStatement env.old.values env.old.ahead code.old code.new (branch (body_of typed.now) part) env.new.values env.new.ahead) }
+    ensures other { OnOk result (unwritten clocked env.new.values env.new.ahead ≡ unwritten clocked env.old.values env.old.ahead) }
+{
+    match part {
+        Some(n) => {
+            statement(alloc, typed, n, clocked, env, code)?;
+            Ok(())
+        }
+        None => Ok(()),
+    }
+}
+
+/// Adds the calls of a branch, answers the slots that these bits have after it, and gives them back those that they had before.
+#[cycle(statements)]
+fn apart(
+    alloc: Global,
+    typed: &Typed,
+    s: u32,
+    part: Option<u32>,
+    bits: &[u32],
+    clocked: bool,
+    env: &mut Environments,
+    code: &mut Code,
+) -> Result<Vec<u32>, AllocError>
+    requires there { s ≤ length typed.now.statements }
+    requires part { OtherBelow s part }
+    requires ready { IsStatementReady (bit_count typed.now.signals) env.old.values env.old.ahead code.old clocked (branch (body_of typed.now) part) }
+    requires inside { All (λ b. b < bit_count typed.now.signals) bits.now }
+    requires among { AreAmong (statement_bits (branch (body_of typed.now) part)) bits.now }
+    ensures adds { IfOk result (λ slots. AddsBranch clocked env.old.values env.old.ahead code.old code.new (branch (body_of typed.now) part) bits.now slots.items) }
+    ensures values { OnOk result (env.new.values ≡ env.old.values) }
+    ensures ahead { OnOk result (env.new.ahead ≡ env.old.ahead) }
+{
+    let before = env.picked(alloc, clocked, bits)?;
+    optional(alloc, typed, s, part, clocked, env, code)?;
+    let slots = env.exchange(alloc, clocked, bits, before.as_slice())?;
+    Ok(slots)
+}
+
+/// Adds the calls of an `if` (IEEE 1364-2005, 9.4), whose branches write these bits.
+#[cycle(statements)]
+fn conditional(
+    alloc: Global,
+    typed: &Typed,
+    s: u32,
+    c: u32,
+    yes: u32,
+    no: Option<u32>,
+    bits: &[u32],
+    clocked: bool,
+    env: &mut Environments,
+    code: &mut Code,
+) -> Result<(), AllocError>
+    requires there { s ≤ length typed.now.statements }
+    requires c { c < length typed.now.nodes }
+    requires yes { yes < s }
+    requires no { OtherBelow s no }
+    requires ready { IsStatementReady (bit_count typed.now.signals) env.old.values env.old.ahead code.old clocked (T.If (tree_at (arena_trees typed.now) c) (body_of typed.now yes) (branch (body_of typed.now) no)) }
+    requires bits { AreInOrder (bit_count typed.now.signals) bits.now (statement_bits (T.If (tree_at (arena_trees typed.now) c) (body_of typed.now yes) (branch (body_of typed.now) no))) }
+    ensures adds { OnOk result (AddsStatement env.old.values env.old.ahead code.old code.new (T.If (tree_at (arena_trees typed.now) c) (body_of typed.now yes) (branch (body_of typed.now) no)) env.new.values env.new.ahead) }
+    ensures other { OnOk result (unwritten clocked env.new.values env.new.ahead ≡ unwritten clocked env.old.values env.old.ahead) }
+{
+    let condition = lower(alloc, typed, &env.values, c, own(typed, c), code)?;
+    let first = apart(alloc, typed, s, Some(yes), bits, clocked, env, code)?;
+    optional(alloc, typed, s, no, clocked, env, code)?;
+    join_written(alloc, condition, bits, first.as_slice(), clocked, env, code)?;
+    Ok(())
+}
+
+/// Adds the calls of a case (IEEE 1364-2005, 9.5), which writes these bits.
+#[cycle(statements)]
+fn case(
+    alloc: Global,
+    typed: &Typed,
+    s: u32,
+    kind: CaseKind,
+    of: u32,
+    arms: &[Arm],
+    other: Option<u32>,
+    bits: &[u32],
+    clocked: bool,
+    env: &mut Environments,
+    code: &mut Code,
+) -> Result<(), AllocError>
+    requires there { s ≤ length typed.now.statements }
+    requires of { of < length typed.now.nodes }
+    requires arms { EachArmNames (length typed.now.nodes) s arms.now }
+    requires items { All (λ arm. 1 ≤ length arm.items) arms.now }
+    requires other { OtherBelow s other }
+    requires ready { IsStatementReady (bit_count typed.now.signals) env.old.values env.old.ahead code.old clocked (T.Case (case_of kind) (tree_at (arena_trees typed.now) of) (arms_tree (tree_at (arena_trees typed.now)) (body_of typed.now) other arms.now)) }
+    requires bits { AreInOrder (bit_count typed.now.signals) bits.now (arms_bits (arms_tree (tree_at (arena_trees typed.now)) (body_of typed.now) other arms.now)) }
+    ensures adds { OnOk result (AddsStatement env.old.values env.old.ahead code.old code.new (T.Case (case_of kind) (tree_at (arena_trees typed.now) of) (arms_tree (tree_at (arena_trees typed.now)) (body_of typed.now) other arms.now)) env.new.values env.new.ahead) }
+    ensures unchanged { OnOk result (unwritten clocked env.new.values env.new.ahead ≡ unwritten clocked env.old.values env.old.ahead) }
+{
+    let context = case_context(typed, of, arms);
+    let subject = lower(alloc, typed, &env.values, of, context, code)?;
+    let slots = branches(
+        alloc,
+        typed,
+        s,
+        kind,
+        subject.as_slice(),
+        context,
+        arms,
+        other,
+        bits,
+        clocked,
+        env,
+        code,
+    )?;
+    env.place(clocked, bits, slots.as_slice())?;
+    Ok(())
+}
+
+/// Adds the calls of a case's arms: of its default first, and then of each arm from the last to the first. It answers the slots that these bits have after them, and leaves the environments as they were.
+#[cycle(statements)]
+fn branches(
+    alloc: Global,
+    typed: &Typed,
+    s: u32,
+    kind: CaseKind,
+    subject: &[u32],
+    context: Context,
+    arms: &[Arm],
+    other: Option<u32>,
+    bits: &[u32],
+    clocked: bool,
+    env: &mut Environments,
+    code: &mut Code,
+) -> Result<Vec<u32>, AllocError>
+    requires there { s ≤ length typed.now.statements }
+    requires arms { EachArmNames (length typed.now.nodes) s arms.now }
+    requires items { All (λ arm. 1 ≤ length arm.items) arms.now }
+    requires other { OtherBelow s other }
+    requires ready { AreArmsReady (bit_count typed.now.signals) env.old.values env.old.ahead subject.now code.old clocked context.width (distinct (arms_bits (arms_tree (tree_at (arena_trees typed.now)) (body_of typed.now) other arms.now))) (arms_tree (tree_at (arena_trees typed.now)) (body_of typed.now) other arms.now) }
+    requires bits { AreInOrder (bit_count typed.now.signals) bits.now (arms_bits (arms_tree (tree_at (arena_trees typed.now)) (body_of typed.now) other arms.now)) }
+    ensures adds { IfOk result (λ slots. AddsCases clocked env.old.values env.old.ahead subject.now code.old code.new (case_of kind) context.width context.signed (distinct (arms_bits (arms_tree (tree_at (arena_trees typed.now)) (body_of typed.now) other arms.now))) (arms_tree (tree_at (arena_trees typed.now)) (body_of typed.now) other arms.now) bits.now slots.items) }
+    ensures values { OnOk result (env.new.values ≡ env.old.values) }
+    ensures ahead { OnOk result (env.new.ahead ≡ env.old.ahead) }
+{
+    let mut behind = apart(alloc, typed, s, other, bits, clocked, env, code)?;
+    for k in 0..arms.len() {
+        let n = arms.len() - 1 - k;
+        let items = arms[n].items.as_slice();
+        let part = arms[n].statement;
+        behind = arm(
+            alloc, typed, s, kind, subject, context, items, part, bits, behind, clocked, env, code,
+        )?;
+    }
+    Ok(behind)
+}
+
+/// Adds the calls of one arm of a case, with the join of its statement and of what stands behind it, after which these bits have the slots `behind`. It answers the slots that they have after both, and leaves the environments as they were.
+#[cycle(statements)]
+fn arm(
+    alloc: Global,
+    typed: &Typed,
+    s: u32,
+    kind: CaseKind,
+    subject: &[u32],
+    context: Context,
+    items: &[u32],
+    part: u32,
+    bits: &[u32],
+    behind: Vec<u32>,
+    clocked: bool,
+    env: &mut Environments,
+    code: &mut Code,
+) -> Result<Vec<u32>, AllocError>
+    requires there { s ≤ length typed.now.statements }
+    requires items { All (λ e. e < length typed.now.nodes) items.now }
+    requires part { part < s }
+    requires ready { IsArmReady (bit_count typed.now.signals) env.old.values env.old.ahead subject.now code.old clocked context.width (map (tree_at (arena_trees typed.now)) items.now) (body_of typed.now part) bits.now behind.items }
+    requires rising { IsStrictlyIncreasing bits.now }
+    requires inside { All (λ b. b < bit_count typed.now.signals) bits.now }
+    requires among { AreAmong (statement_bits (body_of typed.now part)) bits.now }
+    ensures adds { IfOk result (λ slots. AddsArm clocked env.old.values env.old.ahead subject.now code.old code.new (case_of kind) context.width context.signed (map (tree_at (arena_trees typed.now)) items.now) (body_of typed.now part) bits.now behind.items slots.items) }
+    ensures values { OnOk result (env.new.values ≡ env.old.values) }
+    ensures ahead { OnOk result (env.new.ahead ≡ env.old.ahead) }
+{
+    let matches = tests(
+        alloc,
+        typed,
+        kind,
+        subject,
+        items,
+        context,
+        &env.values,
+        code,
+    )?;
+    let first = apart(alloc, typed, s, Some(part), bits, clocked, env, code)?;
+    let slots = join_apart(
+        alloc,
+        matches,
+        bits,
+        first.as_slice(),
+        behind.as_slice(),
+        clocked,
+        env,
+        code,
+    )?;
+    Ok(slots)
 }

@@ -14,17 +14,8 @@ use Rattle.vs_lower.specs.Copies.{homes, home_copies}
 use Rattle.vs_lower.specs.Coded.{Coding}
 use Rattle.vs_lower.specs.Processed.{IsContinuousReady}
 use Rattle.vs_lower.specs.Valued.{IsSource}
-use Rattle.vs_lower.proofs.Homeward.{assign_ready, AddsUpdate, CanGoHome, can_go_home, adds_continuous}
+use Rattle.vs_lower.proofs.Homeward.{assign_ready, at_homes, from_homes, AddsUpdate, CanGoHome, can_go_home, adds_continuous}
 use Rattle.vs_lower.proofs.continuous.continuous.Goals as goal
-
--- both environments at home
-at_homes : (n count : ℕ) (values ahead : List ℕ) (P : List ℕ → List ℕ → Type 0) → count ≡ n → values ≡ homes count → ahead ≡ homes count → P (homes n) (homes n) → P values ahead
-at_homes n count values ahead P k a b p =
-    subst (λ (x : List ℕ). P x ahead) (sym (a ∙ ap homes k)) (subst (P (homes n)) (sym (b ∙ ap homes k)) p)
-
-from_homes : (n count : ℕ) (values ahead : List ℕ) (P : List ℕ → List ℕ → Type 0) → count ≡ n → values ≡ homes count → ahead ≡ homes count → P values ahead → P (homes n) (homes n)
-from_homes n count values ahead P k a b p =
-    subst (P (homes n)) (b ∙ ap homes k) (subst (λ (x : List ℕ). P x ahead) (a ∙ ap homes k) p)
 
 pub assign-requires-clause-ready : goal.assign-requires-clause-ready
 assign-requires-clause-ready c =

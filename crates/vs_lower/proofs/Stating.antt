@@ -1,0 +1,179 @@
+-- Assignments as statements, and what the parts of a statement need.
+use Rattle.std.proofs.Common.{◌≡◌, ℕ, ◌+◌, ◌<◌, ◌≤◌, ◌^◌, max, Bool, true, false, not, ◌&&◌, if◌then◌else◌, List, [], ◌∷◌, ◌++◌, map, length, refl, sym, ap, ◌∙◌, subst, arith, Option, Some, None}
+use Rattle.std.specs.List.{All, list_all}
+use Rattle.std.specs.List.Sorted.{IsStrictlyIncreasing}
+use Rattle.std.proofs.lemmas.List.Elements.{All-nil, All-cons, All-head}
+use Rattle.vs_four.specs.Logic.{BitList}
+use Rattle.vs_net.specs.Network as N
+use Rattle.vs_design.specs.Bodies.{assignment_writes, body, effect_of}
+use Rattle.vs_design.specs.Expressions.{Expression, width, sign}
+use Rattle.vs_design.specs.Fits.{fits, divides_constants, fits_target, is_fit, fits_statement, fits_arms}
+use Rattle.vs_design.specs.Footprints.{contains, statement_bits, arms_bits, target_bits}
+use Rattle.vs_design.specs.Rules.{mixed_in}
+use Rattle.vs_design.specs.Sizes.{arms_weight, distinct, statement_weight, weight}
+use Rattle.vs_design.specs.Statements.{CaseKind, Statement, Target, Empty, Assignment, Case, Arms, Arm, Default, arms_width, case_width, case_sign, widest, target_width}
+use Rattle.vs_design.specs.Values.{value}
+use Rattle.vs_code.specs.Calls.{Call, call_cost, length_of}
+use Rattle.vs_lower.specs.Assigned.{AddsRun, IsAssignReady, assign_most}
+use Rattle.vs_lower.specs.Branched.{unwritten, written}
+use Rattle.vs_lower.specs.Coded.{Coding}
+use Rattle.vs_lower.specs.Done.{placed}
+use Rattle.vs_lower.specs.Ready.{IsReady, IsStatementReady}
+use Rattle.vs_lower.specs.Stated.{AddsArms, AddsCases, AddsStatement, AreAmong, AreArmsReady, AreInOrder, AreInside, ItemsWithin}
+use Rattle.vs_lower.specs.Valued.{AddsValue}
+use Rattle.vs_lower.proofs.Adding.{env_more}
+use Rattle.vs_lower.proofs.Armed.{all_true, behind_placed}
+use Rattle.vs_lower.proofs.Bodies.{case_done}
+use Rattle.vs_lower.proofs.Homeward.{all_in}
+use Rattle.vs_lower.proofs.Matching.{done_as}
+use Rattle.vs_lower.proofs.Readying.{fits_length, stores_of, two_added}
+use Rattle.vs_lower.proofs.Restoring.{both_same}
+use Rattle.vs_lower.proofs.Values.{both_true}
+
+-- ---- an assignment
+
+most_within : (blocking : Bool) (target : Target) (e : Expression) (place : ℕ) → assign_most (not blocking) target e ≤ statement_weight (Assignment place target e blocking)
+most_within true target e place = omega arith
+most_within false target e place = omega arith
+
+pub ready_assign : (bits : ℕ) (now ahead : List ℕ) (code : Coding) (clocked : Bool) (place : ℕ) (target : Target) (e : Expression) (blocking : Bool)
+    → IsStatementReady bits now ahead code clocked (Assignment place target e blocking) → IsAssignReady bits now ahead code (not blocking) target e
+ready_assign bits now ahead code clocked place target e blocking r =
+    let f = both_true (fits_target target) (is_fit e) r.fit in
+    let most = most_within blocking target e place in
+    record {
+      now_env = r.now_env;
+      later_env = r.later_env;
+      now_bits = r.now_bits;
+      later_bits = r.later_bits;
+      target_fits = f.0;
+      fit = f.1;
+      slots = omega (arith, r.slots, most);
+      few = omega (arith, r.few, most);
+    }
+
+effect_twice : (blocking : Bool) (ws : List N.Write) → effect_of (not (not blocking)) ws ≡ effect_of blocking ws
+effect_twice true ws = refl
+effect_twice false ws = refl
+
+pub adds_assign : (now ahead : List ℕ) (old new : Coding) (place : ℕ) (target : Target) (e : Expression) (blocking : Bool) (now1 ahead1 : List ℕ)
+    → AddsRun now ahead old new (λ state. effect_of (not (not blocking)) (assignment_writes target e state)) (target_bits target) (assign_most (not blocking) target e) now1 ahead1
+    → AddsStatement now ahead old new (Assignment place target e blocking) now1 ahead1
+adds_assign now ahead old new place target e blocking now1 ahead1 d = record {
+  calls = d.calls;
+  is = d.is;
+  done = done_as now ahead [] (λ state. []) old.next (λ state. effect_of (not (not blocking)) (assignment_writes target e state)) (body (Assignment place target e blocking)) (target_bits target) (assign_most (not blocking) target e) (statement_weight (Assignment place target e blocking)) d.calls now1 ahead1 new.next
+      (λ state. effect_twice blocking (assignment_writes target e state)) (most_within blocking target e place) d.done;
+}
+
+pub assign_other : (clocked blocking : Bool) (v a v1 a1 : List ℕ) → blocking ≡ not clocked → (not blocking ≡ true → v1 ≡ v) → (not blocking ≡ false → a1 ≡ a) → unwritten clocked v1 a1 ≡ unwritten clocked v a
+assign_other true blocking v a v1 a1 e h k = h (ap not e)
+assign_other false blocking v a v1 a1 e h k = k (ap not e)
+
+-- ---- the bits that a statement writes
+
+pub in_order : (count : ℕ) (bits slice these : List ℕ) → IsStrictlyIncreasing bits → ((b : ℕ) → contains bits b ≡ contains these b) → slice ≡ bits → AreInside count these → AreInOrder count slice these
+in_order count bits slice these rising same is inside =
+    subst (λ (xs : List ℕ). AreInOrder count xs these) (sym is) (record {
+      rising = rising;
+      inside = all_in count bits (λ b h. inside b (sym (same b) ∙ h));
+      all = λ b h. same b ∙ h;
+      alone = λ b h. sym (same b) ∙ h;
+    })
+
+-- ---- a case
+
+widest_more : (w : ℕ) (es : List Expression) → w ≤ widest w es
+widest_more w [] = omega arith
+widest_more w (e ∷ es) = omega (arith, widest_more (max w (width e)) es)
+
+arms_wider : (arms : Arms) (w : ℕ) → w ≤ arms_width arms w
+arms_wider (Arm items st rest) w = omega (arith, widest_more w items, arms_wider rest (widest w items))
+arms_wider (Default st) w = omega arith
+
+items_under : (w top : ℕ) (es : List Expression) → widest w es ≤ top → All (λ e. width e ≤ top) es
+items_under w top [] h = All-nil (λ e. width e ≤ top)
+items_under w top (e ∷ es) h =
+    All-cons (λ x. width x ≤ top) e es (omega (arith, h, widest_more (max w (width e)) es)) (items_under (max w (width e)) top es h)
+
+pub within : (arms : Arms) (w top : ℕ) → arms_width arms w ≤ top → ItemsWithin top arms
+within (Arm items st rest) w top h = (items_under w top items (omega (arith, h, arms_wider rest (widest w items))), within rest (widest w items) top h)
+within (Default st) w top h = tt
+
+-- an item that fits has at most 64 bits
+items_64 : (es : List Expression) (w : ℕ) → list_all is_fit es ≡ true → w ≤ 64 → widest w es ≤ 64
+items_64 [] w h l = l
+items_64 (e ∷ es) w h l =
+    let p = both_true (is_fit e) (list_all is_fit es) h in
+    let m = fits_length e (both_true (fits e) (divides_constants e) p.0).0 in
+    items_64 es (max w (width e)) p.1 (omega (arith, l, m.1))
+
+arms_64 : (arms : Arms) (w : ℕ) → fits_arms arms ≡ true → w ≤ 64 → arms_width arms w ≤ 64
+arms_64 (Arm items st rest) w h l =
+    let p = both_true (list_all is_fit items && fits_statement st) (fits_arms rest) h in
+    arms_64 rest (widest w items) p.1 (items_64 items w (both_true (list_all is_fit items) (fits_statement st) p.0).0 l)
+arms_64 (Default st) w h l = l
+
+pub record CaseLengths (subject : Expression) (arms : Arms) : Type 0 where
+  pub fit : is_fit subject ≡ true
+  pub wide : width subject ≤ case_width subject arms
+  pub some : 1 ≤ case_width subject arms
+  pub at_most_64 : case_width subject arms ≤ 64
+
+pub case_lengths : (kind : CaseKind) (subject : Expression) (arms : Arms) → fits_statement (Case kind subject arms) ≡ true → CaseLengths subject arms
+case_lengths kind subject arms h =
+    let p = both_true (is_fit subject) (fits_arms arms) h in
+    let l = fits_length subject (both_true (fits subject) (divides_constants subject) p.0).0 in
+    record { fit = p.0; wide = arms_wider arms (width subject); some = omega (arith, l.0, arms_wider arms (width subject)); at_most_64 = arms_64 arms (width subject) p.1 l.1 }
+
+pub ready_subject : (bits : ℕ) (now ahead : List ℕ) (code : Coding) (clocked : Bool) (kind : CaseKind) (subject : Expression) (arms : Arms)
+    → IsStatementReady bits now ahead code clocked (Case kind subject arms) → IsReady bits now code subject (case_width subject arms)
+ready_subject bits now ahead code clocked kind subject arms r =
+    let l = case_lengths kind subject arms r.fit in
+    record { is_env = r.now_env; has_bits = r.now_bits; fit = l.fit; wide = l.wide; at_most_64 = l.at_most_64; slots = omega (arith, r.slots); few = omega (arith, r.few) }
+
+pub ready_arms : (bits : ℕ) (now ahead : List ℕ) (c0 c1 : Coding) (clocked : Bool) (kind : CaseKind) (subject : Expression) (arms : Arms) (tv : List ℕ)
+    → IsStatementReady bits now ahead c0 clocked (Case kind subject arms) → AddsValue now c0.calls c0.next c1.calls c1.next subject (case_width subject arms) (case_sign subject arms) tv
+    → AreArmsReady bits now ahead tv c1 clocked (case_width subject arms) (distinct (arms_bits arms)) arms
+ready_arms bits now ahead c0 c1 clocked kind subject arms tv r v =
+    let l = case_lengths kind subject arms r.fit in
+    let a = v.value.values.added in
+    let total = stores_of c0.calls v.calls c1.calls v.is in
+    record {
+      now_env = env_more now c0.next c1.next a.grown r.now_env;
+      later_env = env_more ahead c0.next c1.next a.grown r.later_env;
+      now_bits = r.now_bits;
+      later_bits = r.later_bits;
+      long = v.value.length;
+      below = All-head (λ to. All (λ slot. slot < c1.next) to) tv [] v.value.values.below;
+      some = l.some;
+      at_most_64 = l.at_most_64;
+      wide = within arms (width subject) (case_width subject arms) (omega arith);
+      fit = (both_true (is_fit subject) (fits_arms arms) r.fit).1;
+      unmixed = r.unmixed;
+      slots = omega (arith, r.slots, a.paid, a.stores);
+      few = omega (arith, r.few, total, a.stores);
+    }
+
+-- the whole, once the slots behind its arms are placed
+pub adds_case : (clocked : Bool) (count : ℕ) (now later : List ℕ) (c0 c1 c2 : Coding) (kind : CaseKind) (subject : Expression) (arms : Arms) (tv bits slots now1 later1 : List ℕ)
+    → IsStatementReady count now later c0 clocked (Case kind subject arms)
+    → AddsValue now c0.calls c0.next c1.calls c1.next subject (case_width subject arms) (case_sign subject arms) tv
+    → AreInOrder count bits (arms_bits arms)
+    → AddsCases clocked now later tv c1 c2 kind (case_width subject arms) (case_sign subject arms) (distinct (arms_bits arms)) arms bits slots
+    → written clocked now1 later1 ≡ placed (written clocked now later) (map Some bits) slots → unwritten clocked now1 later1 ≡ unwritten clocked now later
+    → AddsStatement now later c0 c2 (Case kind subject arms) now1 later1
+adds_case clocked count now later c0 c1 c2 kind subject arms tv bits slots now1 later1 r v i o put other =
+    let w = case_width subject arms in
+    let s = case_sign subject arms in
+    let sv : N.State → BitList = λ state. value subject w s state in
+    let d = o.adds sv in
+    let placed_is = behind_placed clocked count now later tv c1 c2 kind w s (distinct (arms_bits arms)) arms bits slots r.now_bits r.later_bits i.inside i.all o in
+    let same = both_same clocked now1 later1 o.now_after o.later_after (put ∙ placed_is) (other ∙ sym o.other) in
+    let all : AddsStatement now later c0 c2 (Case kind subject arms) o.now_after o.later_after = record {
+      calls = v.calls ++ d.calls;
+      is = two_added c0.calls v.calls d.calls c1.calls c2.calls v.is d.is;
+      done = case_done now later c0.next kind subject arms v.calls tv c1.next d.calls o.now_after o.later_after c2.next r.now_env r.later_env v.value d.done;
+    } in
+    subst (λ (x : List ℕ). AddsStatement now later c0 c2 (Case kind subject arms) x later1) (sym same.0)
+    (subst (λ (x : List ℕ). AddsStatement now later c0 c2 (Case kind subject arms) o.now_after x) (sym same.1) all)

@@ -1,0 +1,59 @@
+use Rattle.std.proofs.Common.{◌≡◌, ◌∙◌, ◌++◌, ℕ, List, true, refl, sym, ap, subst}
+use Rattle.std.specs.List.{All}
+use Rattle.vs_code.specs.Calls.{IsCall}
+use Rattle.vs_flat.specs.Arena.{bit_count}
+use Rattle.vs_length.specs.Bodies.{body_of}
+use Rattle.vs_lower.specs.Copies.{copies}
+use Rattle.vs_lower.specs.Processed.{IsBlockReady}
+use Rattle.vs_lower.specs.Ready.{IsStatementReady}
+use Rattle.vs_lower.specs.Stated.{AddsStatement}
+use Rattle.vs_lower.proofs.Blocking.{AddsBlock, adds_clocked, block_copies_at, block_ready}
+use Rattle.vs_lower.proofs.Homeward.{at_homes, from_homes}
+use Rattle.vs_lower.proofs.Joining.{picked}
+use Rattle.vs_lower.proofs.blocks.clocked.Goals as goal
+
+pub statement-requires-clause-ready : goal.statement-requires-clause-ready
+statement-requires-clause-ready c =
+    let n = bit_count c.args.typed.now.signals in
+    let st = body_of c.args.typed.now c.args.s in
+    at_homes n c.args.count c.at_home.result c.at_home-2.result (λ (x y : List ℕ). IsStatementReady n x y c.args.code.now true st) c.requires.count c.at_home.ensures c.at_home-2.ensures (block_ready n c.args.code.now true st c.requires.ready)
+
+pub copy_all-requires-clause-inside : goal.copy_all-requires-clause-inside
+copy_all-requires-clause-inside c =
+    (block_copies_at (bit_count c.args.typed.now.signals) c.args.count c.at_home.result c.at_home-2.result c.in_ok-bits.bits.items c.as_slice.result.now c.statement.new.env.values c.statement.new.env.ahead c.args.shadows.now c.args.code.now c.statement.new.code (body_of c.args.typed.now c.args.s)
+    c.requires.count c.at_home.ensures c.at_home-2.ensures c.requires.ready c.requires.long c.requires.layout c.in_ok-statement.ensures.adds c.in_ok-bits.ensures.rising c.in_ok-bits.ensures.same c.as_slice.ensures.value).inside
+
+pub copy_all-requires-clause-places : goal.copy_all-requires-clause-places
+copy_all-requires-clause-places c =
+    (block_copies_at (bit_count c.args.typed.now.signals) c.args.count c.at_home.result c.at_home-2.result c.in_ok-bits.bits.items c.as_slice.result.now c.statement.new.env.values c.statement.new.env.ahead c.args.shadows.now c.args.code.now c.statement.new.code (body_of c.args.typed.now c.args.s)
+    c.requires.count c.at_home.ensures c.at_home-2.ensures c.requires.ready c.requires.long c.requires.layout c.in_ok-statement.ensures.adds c.in_ok-bits.ensures.rising c.in_ok-bits.ensures.same c.as_slice.ensures.value).places
+
+pub copy_all-requires-clause-calls : goal.copy_all-requires-clause-calls
+copy_all-requires-clause-calls c =
+    (block_copies_at (bit_count c.args.typed.now.signals) c.args.count c.at_home.result c.at_home-2.result c.in_ok-bits.bits.items c.as_slice.result.now c.statement.new.env.values c.statement.new.env.ahead c.args.shadows.now c.args.code.now c.statement.new.code (body_of c.args.typed.now c.args.s)
+    c.requires.count c.at_home.ensures c.at_home-2.ensures c.requires.ready c.requires.long c.requires.layout c.in_ok-statement.ensures.adds c.in_ok-bits.ensures.rising c.in_ok-bits.ensures.same c.as_slice.ensures.value).calls
+
+pub copy_all-requires-clause-few : goal.copy_all-requires-clause-few
+copy_all-requires-clause-few c =
+    (block_copies_at (bit_count c.args.typed.now.signals) c.args.count c.at_home.result c.at_home-2.result c.in_ok-bits.bits.items c.as_slice.result.now c.statement.new.env.values c.statement.new.env.ahead c.args.shadows.now c.args.code.now c.statement.new.code (body_of c.args.typed.now c.args.s)
+    c.requires.count c.at_home.ensures c.at_home-2.ensures c.requires.ready c.requires.long c.requires.layout c.in_ok-statement.ensures.adds c.in_ok-bits.ensures.rising c.in_ok-bits.ensures.same c.as_slice.ensures.value).few
+
+pub returns : goal.returns
+returns c l place star events h clocked =
+    let n = bit_count c.args.typed.now.signals in
+    let st = body_of c.args.typed.now c.args.s in
+    let c0 = c.args.code.now in
+    let c1 = c.statement.new.code in
+    let now1 = c.statement.new.env.values in
+    let later1 = c.statement.new.env.ahead in
+    let bits = c.in_ok-bits.bits.items in
+    let shadows = c.args.shadows.now in
+    let hb : l.bits ≡ n = h.bits_are in
+    let copy = block_copies_at n c.args.count c.at_home.result c.at_home-2.result bits c.as_slice.result.now now1 later1 shadows c0 c1 st
+    c.requires.count c.at_home.ensures c.at_home-2.ensures c.requires.ready c.requires.long c.requires.layout c.in_ok-statement.ensures.adds c.in_ok-bits.ensures.rising c.in_ok-bits.ensures.same c.as_slice.ensures.value in
+    let calls = subst (λ (xs : List ℕ). All IsCall (copies (picked later1 xs) (picked shadows xs))) c.as_slice.ensures.value copy.calls in
+    let added = from_homes n c.args.count c.at_home.result c.at_home-2.result (λ (x y : List ℕ). AddsStatement x y c0 c1 st now1 later1) c.requires.count c.at_home.ensures c.at_home-2.ensures c.in_ok-statement.ensures.adds in
+    adds_clocked l place star events c0 c1 c.copy_all.new.code st now1 later1 bits shadows
+    (record { bits_are = refl; temps_are = h.temps_are; layout = h.layout; are = h.are }) clocked (subst (λ (m : ℕ). IsBlockReady m c0 true st) (sym hb) c.requires.ready)
+    (subst (λ (m : ℕ). AddsBlock m c0 c1 st now1 later1) (sym hb) added) c.in_ok-bits.ensures.rising c.in_ok-bits.ensures.same calls
+    (c.in_ok-copy_all.ensures.calls ∙ ap (λ (xs : List ℕ). c1.calls ++ copies (picked later1 xs) (picked shadows xs)) c.as_slice.ensures.value)

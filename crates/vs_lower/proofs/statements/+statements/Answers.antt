@@ -1,0 +1,472 @@
+use Rattle.std.proofs.Common.{◌≡◌, ◌∙◌, ◌+◌, ◌-◌, ◌<◌, ◌≤◌, ℕ, Bool, List, [], ◌∷◌, ◌++◌, drop, length, map, slice_index, Some, Option, refl, sym, ap, subst, arith}
+use Rattle.std.specs.List.{All}
+use Rattle.std.proofs.lemmas.List.{drop_more, length-map}
+use Rattle.std.proofs.lemmas.List.Elements.{All-weaker}
+use Rattle.vs_design.specs.Expressions as E
+use Rattle.vs_design.specs.Statements as T
+use Rattle.vs_design.specs.Statements.{Statement, Case, case_width, case_sign}
+use Rattle.vs_design.specs.Fits.{fits_arms, is_fit}
+use Rattle.vs_design.specs.Footprints.{contains, statement_bits, arms_bits}
+use Rattle.vs_design.specs.Sizes.{distinct}
+use Rattle.vs_flat.specs.Arena.{bit_count}
+use Rattle.vs_flat.specs.DesignOf.{arena_trees}
+use Rattle.vs_flat.specs.Operators.{case_of}
+use Rattle.vs_flat.specs.declared.statements.Arm as F
+use Rattle.vs_flat.specs.Trees.{arms_tree, branch, target_tree, tree_at}
+use Rattle.vs_length.specs.Bodies.{EachArmNames, HasBodyNames, body_of, body_of_statement, body_place}
+use Rattle.vs_lower.specs.Branched.{unwritten, written}
+use Rattle.vs_lower.specs.Coded.{Coding}
+use Rattle.vs_lower.specs.Done.{placed}
+use Rattle.vs_lower.specs.Joined.{IsJoined}
+use Rattle.vs_lower.specs.Ready.{IsStatementReady}
+use Rattle.vs_lower.specs.Stated.{AddsCases, AddsStatement, AreAmong, AreArmsReady, AreInOrder, AreInside, HasItems}
+use Rattle.vs_lower.proofs.Armed.{arm_callable, arm_statement, at_arm, branch_among, items_are_fit, no_arm, ready_branch}
+use Rattle.vs_lower.proofs.Binary.{adds_at, ready_at}
+use Rattle.vs_lower.proofs.Branched.{adds_if, if_joins, statement_kept, written_long}
+use Rattle.vs_lower.proofs.Conditional.{ready_if, ready_no, ready_yes}
+use Rattle.vs_lower.proofs.Distinct.{distinct_most}
+use Rattle.vs_lower.proofs.Homeward.{rising_once}
+use Rattle.vs_lower.proofs.Ordered.{IsUpTo, all_done, next_done, next_ready, none_yet}
+use Rattle.vs_lower.proofs.Processes.{member_below}
+use Rattle.vs_lower.proofs.Restoring.{join_callable, left_among, outside, restored, right_among}
+use Rattle.vs_lower.proofs.Sequencing.{adds_empty}
+use Rattle.vs_lower.proofs.Stating.{adds_assign, adds_case, in_order, ready_arms, ready_subject}
+use Rattle.vs_lower.proofs.Values.{both_true}
+use Rattle.vs_lower.proofs.Widest.{case_sign_is, case_width_is}
+use Rattle.vs_lower.proofs.statements.+statements.Goals as goal
+
+-- ---- a branch
+
+pub apart-optional-requires : goal.apart-optional-requires
+apart-optional-requires t c =
+    (omega (arith, c.decreases), (c.requires.there, (c.requires.part, (c.requires.ready, λ b h. member_below c.args.bits.now (bit_count c.args.typed.now.signals) b c.requires.inside (c.requires.among b h)))))
+
+-- both environments are as they were
+kept : (clocked : Bool) (count : ℕ) (bits v a v1 a1 v2 a2 before : List ℕ) (old new : Coding) (st : T.Statement)
+    → length v ≡ count → length a ≡ count → All (λ b. b < count) bits → AreAmong (statement_bits st) bits
+    → AddsStatement v a old new st v1 a1 → unwritten clocked v1 a1 ≡ unwritten clocked v a → before ≡ map (slice_index (written clocked v a)) bits
+    → written clocked v2 a2 ≡ placed (written clocked v1 a1) (map Some bits) before → unwritten clocked v2 a2 ≡ unwritten clocked v1 a1
+    → (v2 ≡ v) × (a2 ≡ a)
+kept clocked count bits v a v1 a1 v2 a2 before old new st lv la inside among d other is put rest =
+    let k = statement_kept clocked v a old new st v1 a1 d in
+    let env = written clocked v a in
+    let long : length env ≡ count = written_long clocked count v a lv la in
+    restored clocked bits v a v1 a1 v2 a2 before k.long (λ b out. k.same b (outside (statement_bits st) bits b among out))
+    (All-weaker (λ b. b < count) (λ b. b < length env) (λ b l. omega (arith, l, long)) bits inside) other is put rest
+
+pub apart-returns-clause-values : goal.apart-returns-clause-values
+apart-returns-clause-values t c =
+    (kept c.args.clocked (bit_count c.args.typed.now.signals) c.args.bits.now c.args.env.now.values c.args.env.now.ahead c.optional.new.env.values c.optional.new.env.ahead c.exchange.new.self.values c.exchange.new.self.ahead c.as_slice.result.now c.args.code.now c.optional.new.code (branch (body_of c.args.typed.now) c.args.part)
+    c.requires.ready.now_bits c.requires.ready.later_bits c.requires.inside c.requires.among c.in_ok-optional.ensures.adds c.in_ok-optional.ensures.other (c.as_slice.ensures.value ∙ c.in_ok-before.ensures) c.in_ok-slots.ensures.placed c.in_ok-slots.ensures.other).0
+
+pub apart-returns-clause-ahead : goal.apart-returns-clause-ahead
+apart-returns-clause-ahead t c =
+    (kept c.args.clocked (bit_count c.args.typed.now.signals) c.args.bits.now c.args.env.now.values c.args.env.now.ahead c.optional.new.env.values c.optional.new.env.ahead c.exchange.new.self.values c.exchange.new.self.ahead c.as_slice.result.now c.args.code.now c.optional.new.code (branch (body_of c.args.typed.now) c.args.part)
+    c.requires.ready.now_bits c.requires.ready.later_bits c.requires.inside c.requires.among c.in_ok-optional.ensures.adds c.in_ok-optional.ensures.other (c.as_slice.ensures.value ∙ c.in_ok-before.ensures) c.in_ok-slots.ensures.placed c.in_ok-slots.ensures.other).1
+
+pub optional-returns-in-None-clause-adds : goal.optional-returns-in-None-clause-adds
+optional-returns-in-None-clause-adds t c =
+    let a = c.args.typed.now in
+    let bits = bit_count a.signals in
+    subst (λ (x : Option ℕ). AddsStatement c.args.env.now.values c.args.env.now.ahead c.args.code.now c.args.code.now (branch (body_of a) x) c.args.env.now.values c.args.env.now.ahead) (sym c.in-None.is)
+    (adds_empty bits c.args.env.now.values c.args.env.now.ahead c.args.code.now c.args.clocked
+    (subst (λ (x : Option ℕ). IsStatementReady bits c.args.env.now.values c.args.env.now.ahead c.args.code.now c.args.clocked (branch (body_of a) x)) c.in-None.is c.requires.ready))
+
+-- ---- an arm
+
+pub arm-apart-requires : goal.arm-apart-requires
+arm-apart-requires t c =
+    let a = c.args.typed.now in (
+      omega (arith, c.decreases),
+      (
+        c.requires.there,
+        (
+          c.requires.part,
+          (
+            arm_statement (bit_count a.signals) c.args.env.now.values c.args.env.now.ahead c.args.subject.now c.args.code.now c.tests.new.code c.args.clocked (case_of c.args.kind) c.args.context.width c.args.context.signed (map (tree_at (arena_trees a)) c.args.items.now) (body_of a c.args.part) c.args.bits.now c.args.behind.items c.in_ok-matches.matches.items
+                c.requires.ready c.in_ok-matches.ensures.adds,
+            (c.requires.inside, c.requires.among),
+          ),
+        ),
+      ),
+    )
+
+pub arm-join_apart-requires-clause-call : goal.arm-join_apart-requires-clause-call
+arm-join_apart-requires-clause-call t c =
+    let a = c.args.typed.now in
+    let items = map (tree_at (arena_trees a)) c.args.items.now in
+    arm_callable c.args.clocked (bit_count a.signals) c.args.env.now.values c.args.env.now.ahead c.apart.new.env.values c.apart.new.env.ahead c.args.subject.now c.args.code.now c.tests.new.code c.apart.new.code (case_of c.args.kind) c.args.context.width c.args.context.signed items (body_of a c.args.part) c.args.bits.now c.args.behind.items c.as_slice-2.result.now c.in_ok-matches.matches.items c.in_ok-first.first.items c.as_slice.result.now
+    c.requires.ready c.in_ok-matches.ensures.adds (c.in_ok-matches.ensures.alike ∙ sym (length-map c.args.items.now (tree_at (arena_trees a)))) c.in_ok-first.ensures.adds c.requires.rising c.requires.inside c.requires.among
+    c.in_ok-first.ensures.values c.in_ok-first.ensures.ahead c.as_slice.ensures.value c.as_slice-2.ensures.value
+
+-- ---- the arms
+
+pub branches-apart-requires : goal.branches-apart-requires
+branches-apart-requires t c =
+    let a = c.args.typed.now in
+    let T = tree_at (arena_trees a) in
+    let B = body_of a in
+    let arms = c.args.arms.now in
+    let among = branch_among T B c.args.other arms in (
+      omega (arith, c.decreases),
+      (
+        c.requires.there,
+        (
+          c.requires.other,
+          (
+            ready_branch (bit_count a.signals) c.args.env.now.values c.args.env.now.ahead c.args.subject.now c.args.code.now c.args.clocked c.args.context.width (distinct (arms_bits (arms_tree T B c.args.other arms))) T B c.args.other arms c.requires.ready,
+            (c.requires.bits.inside, λ b h. c.requires.bits.all b (among b h)),
+          ),
+        ),
+      ),
+    )
+
+pub branches-loop-k-init : goal.branches-loop-k-init
+branches-loop-k-init t c =
+    let a = c.args.typed.now in
+    let T = tree_at (arena_trees a) in
+    let B = body_of a in
+    let arms = c.args.arms.now in (
+      no_arm c.args.clocked c.args.env.now.values c.args.env.now.ahead c.args.subject.now c.args.code.now c.apart.new.code (case_of c.args.kind) c.args.context.width c.args.context.signed (distinct (arms_bits (arms_tree T B c.args.other arms))) T B c.args.other arms c.args.bits.now c.in_ok-behind.behind.items c.in_ok-behind.ensures.adds,
+      c.in_ok-behind.ensures.values,
+      c.in_ok-behind.ensures.ahead,
+    )
+
+pub branches-arm-requires : goal.branches-arm-requires
+branches-arm-requires t c =
+    let a = c.args.typed.now in
+    let arms = c.args.arms.now in
+    let k = c.loop-k.k in
+    let n = length arms - 1 - k in
+    let here = at_arm (bit_count a.signals) a c.args.s c.args.clocked c.loop-k.env.values c.loop-k.env.ahead c.args.env.now.values c.args.env.now.ahead c.args.subject.now c.args.code.now c.loop-k.code (case_of c.args.kind) c.args.context.width c.args.context.signed c.args.other arms k n c.index-arms-n.result c.index-arms-n-in-loop-k.result c.as_slice-items.result.now _ c.args.bits.now c.loop-k.behind.items
+    c.loop-k-test.true refl c.as_slice-items.ensures refl c.loop-k.invariant.1 c.loop-k.invariant.2 c.requires.arms c.requires.items c.requires.ready c.requires.bits c.loop-k.invariant.0 in
+    (omega (arith, c.decreases), (c.requires.there, (here.items_there, (here.part_below, (here.ready, (c.requires.bits.rising, (c.requires.bits.inside, here.among)))))))
+
+pub branches-loop-k-preserved : goal.branches-loop-k-preserved
+branches-loop-k-preserved t c =
+    let a = c.args.typed.now in
+    let arms = c.args.arms.now in
+    let k = c.loop-k.k in
+    let n = length arms - 1 - k in
+    let here = at_arm (bit_count a.signals) a c.args.s c.args.clocked c.loop-k.env.values c.loop-k.env.ahead c.args.env.now.values c.args.env.now.ahead c.args.subject.now c.args.code.now c.loop-k.code (case_of c.args.kind) c.args.context.width c.args.context.signed c.args.other arms k n c.index-arms-n.result c.index-arms-n-in-loop-k.result c.as_slice-items.result.now _ c.args.bits.now c.loop-k.behind.items
+    c.loop-k-test.true refl c.as_slice-items.ensures refl c.loop-k.invariant.1 c.loop-k.invariant.2 c.requires.arms c.requires.items c.requires.ready c.requires.bits c.loop-k.invariant.0 in
+    (here.next c.arm.new.code c.in_ok-behind-2.behind.items c.in_ok-behind-2.ensures.adds, c.in_ok-behind-2.ensures.values ∙ c.loop-k.invariant.1, c.in_ok-behind-2.ensures.ahead ∙ c.loop-k.invariant.2)
+
+-- ---- a case
+
+pub case-case_context-context-requires-clause-items_fit : goal.case-case_context-context-requires-clause-items_fit
+case-case_context-context-requires-clause-items_fit t c =
+    let a = c.args.typed.now in
+    let T = tree_at (arena_trees a) in
+    let B = body_of a in
+    items_are_fit T B c.args.other c.args.arms.now (both_true (is_fit (T c.args.of)) (fits_arms (arms_tree T B c.args.other c.args.arms.now)) c.requires.ready.fit).1
+
+pub case-lower-requires-clause-ready : goal.case-lower-requires-clause-ready
+case-lower-requires-clause-ready t c =
+    let a = c.args.typed.now in
+    let T = tree_at (arena_trees a) in
+    let B = body_of a in
+    let arms = arms_tree T B c.args.other c.args.arms.now in
+    let subject = T c.args.of in
+    let wide : c.case_context-context.result.width ≡ case_width subject arms = c.case_context-context.ensures.width ∙ sym (case_width_is T B c.args.other c.args.arms.now (E.width subject)) in
+    ready_at (bit_count a.signals) c.args.env.now.values c.args.code.now subject (case_width subject arms) c.case_context-context.result.width wide
+    (ready_subject (bit_count a.signals) c.args.env.now.values c.args.env.now.ahead c.args.code.now c.args.clocked (case_of c.args.kind) subject arms c.requires.ready)
+
+pub case-branches-requires : goal.case-branches-requires
+case-branches-requires t c =
+    let a = c.args.typed.now in
+    let T = tree_at (arena_trees a) in
+    let B = body_of a in
+    let arms = arms_tree T B c.args.other c.args.arms.now in
+    let subject = T c.args.of in
+    let w = c.case_context-context.result.width in
+    let s = c.case_context-context.result.signed in
+    let wide : w ≡ case_width subject arms = c.case_context-context.ensures.width ∙ sym (case_width_is T B c.args.other c.args.arms.now (E.width subject)) in
+    let signed : s ≡ case_sign subject arms = c.case_context-context.ensures.signed ∙ sym (case_sign_is T B c.args.other c.args.arms.now (E.sign subject)) in
+    let v = adds_at c.args.env.now.values c.args.code.now.calls c.args.code.now.next c.lower.new.code.calls c.lower.new.code.next subject w (case_width subject arms) s (case_sign subject arms) c.in_ok-subject.subject.items wide signed c.in_ok-subject.ensures in
+    let r = ready_arms (bit_count a.signals) c.args.env.now.values c.args.env.now.ahead c.args.code.now c.lower.new.code c.args.clocked (case_of c.args.kind) subject arms c.in_ok-subject.subject.items c.requires.ready v in (
+      omega (arith, c.decreases),
+      (
+        c.requires.there,
+        (
+          c.requires.arms,
+          (
+            c.requires.items,
+            (
+              c.requires.other,
+              (
+                subst (λ (x : List ℕ). AreArmsReady (bit_count a.signals) c.args.env.now.values c.args.env.now.ahead x c.lower.new.code c.args.clocked w (distinct (arms_bits arms)) arms) (sym c.as_slice.ensures.value)
+                    (subst (λ (x : ℕ). AreArmsReady (bit_count a.signals) c.args.env.now.values c.args.env.now.ahead c.in_ok-subject.subject.items c.lower.new.code c.args.clocked x (distinct (arms_bits arms)) arms) (sym wide) r),
+                c.requires.bits,
+              ),
+            ),
+          ),
+        ),
+      ),
+    )
+
+as_before : (clocked : Bool) (bits v a now later to slots : List ℕ) → v ≡ now → a ≡ later → to ≡ slots → placed (written clocked v a) (map Some bits) to ≡ placed (written clocked now later) (map Some bits) slots
+as_before clocked bits v a now later to slots e f g =
+    ap (λ (x : List ℕ). placed (written clocked x a) (map Some bits) to) e ∙ ap (λ (x : List ℕ). placed (written clocked now x) (map Some bits) to) f ∙ ap (λ (x : List ℕ). placed (written clocked now later) (map Some bits) x) g
+
+stays_unwritten : (clocked : Bool) (v a now later : List ℕ) → v ≡ now → a ≡ later → unwritten clocked v a ≡ unwritten clocked now later
+stays_unwritten clocked v a now later e f = ap (λ (x : List ℕ). unwritten clocked x a) e ∙ ap (λ (x : List ℕ). unwritten clocked now x) f
+
+pub case-returns-clause-adds : goal.case-returns-clause-adds
+case-returns-clause-adds t c =
+    let a = c.args.typed.now in
+    let tree = tree_at (arena_trees a) in
+    let B = body_of a in
+    let arms = arms_tree tree B c.args.other c.args.arms.now in
+    let subject = tree c.args.of in
+    let kind = case_of c.args.kind in
+    let w = c.case_context-context.result.width in
+    let s = c.case_context-context.result.signed in
+    let wide : w ≡ case_width subject arms = c.case_context-context.ensures.width ∙ sym (case_width_is tree B c.args.other c.args.arms.now (E.width subject)) in
+    let signed : s ≡ case_sign subject arms = c.case_context-context.ensures.signed ∙ sym (case_sign_is tree B c.args.other c.args.arms.now (E.sign subject)) in
+    let tv = c.in_ok-subject.subject.items in
+    let slots = c.in_ok-slots.slots.items in
+    let v = adds_at c.args.env.now.values c.args.code.now.calls c.args.code.now.next c.lower.new.code.calls c.lower.new.code.next subject w (case_width subject arms) s (case_sign subject arms) tv wide signed c.in_ok-subject.ensures in
+    let o = subst (λ (x : List ℕ). AddsCases c.args.clocked c.args.env.now.values c.args.env.now.ahead x c.lower.new.code c.branches.new.code kind (case_width subject arms) (case_sign subject arms) (distinct (arms_bits arms)) arms c.args.bits.now slots) c.as_slice.ensures.value
+    (subst (λ (x : ℕ). AddsCases c.args.clocked c.args.env.now.values c.args.env.now.ahead c.as_slice.result.now c.lower.new.code c.branches.new.code kind x (case_sign subject arms) (distinct (arms_bits arms)) arms c.args.bits.now slots) wide
+    (subst (λ (x : Bool). AddsCases c.args.clocked c.args.env.now.values c.args.env.now.ahead c.as_slice.result.now c.lower.new.code c.branches.new.code kind w x (distinct (arms_bits arms)) arms c.args.bits.now slots) signed c.in_ok-slots.ensures.adds)) in
+    adds_case c.args.clocked (bit_count a.signals) c.args.env.now.values c.args.env.now.ahead c.args.code.now c.lower.new.code c.branches.new.code kind subject arms tv c.args.bits.now slots c.place.new.self.values c.place.new.self.ahead
+    c.requires.ready v c.requires.bits o
+    (c.in_ok-place.ensures.placed ∙ as_before c.args.clocked c.args.bits.now c.branches.new.env.values c.branches.new.env.ahead c.args.env.now.values c.args.env.now.ahead c.as_slice-2.result.now slots c.in_ok-slots.ensures.values c.in_ok-slots.ensures.ahead c.as_slice-2.ensures.value)
+    (c.in_ok-place.ensures.other ∙ stays_unwritten c.args.clocked c.branches.new.env.values c.branches.new.env.ahead c.args.env.now.values c.args.env.now.ahead c.in_ok-slots.ensures.values c.in_ok-slots.ensures.ahead)
+
+-- ---- an `if`
+
+pub conditional-lower-requires-clause-ready : goal.conditional-lower-requires-clause-ready
+conditional-lower-requires-clause-ready t c =
+    let a = c.args.typed.now in
+    let T = tree_at (arena_trees a) in
+    ready_at (bit_count a.signals) c.args.env.now.values c.args.code.now (T c.args.c) (E.width (T c.args.c)) c.own.result.width c.own.ensures.width
+    (ready_if (bit_count a.signals) c.args.env.now.values c.args.env.now.ahead c.args.code.now c.args.clocked (T c.args.c) (body_of a c.args.yes) (branch (body_of a) c.args.no) c.requires.ready)
+
+pub conditional-apart-requires : goal.conditional-apart-requires
+conditional-apart-requires t c =
+    let a = c.args.typed.now in
+    let e = tree_at (arena_trees a) c.args.c in
+    let taken = body_of a c.args.yes in
+    let other = branch (body_of a) c.args.no in
+    let v = adds_at c.args.env.now.values c.args.code.now.calls c.args.code.now.next c.lower.new.code.calls c.lower.new.code.next e c.own.result.width (E.width e) c.own.result.signed (E.sign e) c.in_ok-condition.condition.items c.own.ensures.width c.own.ensures.signed c.in_ok-condition.ensures in (
+      omega (arith, c.decreases),
+      (
+        c.requires.there,
+        (
+          c.requires.yes,
+          (
+            ready_yes (bit_count a.signals) c.args.env.now.values c.args.env.now.ahead c.args.code.now c.lower.new.code c.args.clocked e taken other c.in_ok-condition.condition.items c.requires.ready v,
+            (c.requires.bits.inside, λ b h. c.requires.bits.all b (left_among (statement_bits taken) (statement_bits other) (statement_bits (T.If e taken other)) (λ d k. k) b h)),
+          ),
+        ),
+      ),
+    )
+
+pub conditional-optional-requires : goal.conditional-optional-requires
+conditional-optional-requires t c =
+    let a = c.args.typed.now in
+    let bits = bit_count a.signals in
+    let e = tree_at (arena_trees a) c.args.c in
+    let taken = body_of a c.args.yes in
+    let other = branch (body_of a) c.args.no in
+    let v = adds_at c.args.env.now.values c.args.code.now.calls c.args.code.now.next c.lower.new.code.calls c.lower.new.code.next e c.own.result.width (E.width e) c.own.result.signed (E.sign e) c.in_ok-condition.condition.items c.own.ensures.width c.own.ensures.signed c.in_ok-condition.ensures in
+    let first = c.in_ok-first.ensures.adds in
+    let r = ready_no bits c.args.env.now.values c.args.env.now.ahead c.args.code.now c.lower.new.code c.apart.new.code c.args.clocked e taken other c.in_ok-condition.condition.items first.now_after first.later_after c.requires.ready v first.adds in (
+      omega (arith, c.decreases),
+      (
+        c.requires.there,
+        (
+          c.requires.no,
+          (
+            subst (λ (x : List ℕ). IsStatementReady bits x c.apart.new.env.ahead c.apart.new.code c.args.clocked other) (sym c.in_ok-first.ensures.values)
+                (subst (λ (x : List ℕ). IsStatementReady bits c.args.env.now.values x c.apart.new.code c.args.clocked other) (sym c.in_ok-first.ensures.ahead) r),
+            λ b h. member_below c.args.bits.now bits b c.requires.bits.inside (c.requires.bits.all b (right_among (statement_bits taken) (statement_bits other) (statement_bits (T.If e taken other)) (λ d k. k) b h)),
+          ),
+        ),
+      ),
+    )
+
+pub conditional-join_written-requires-clause-few : goal.conditional-join_written-requires-clause-few
+conditional-join_written-requires-clause-few t c =
+    let a = c.args.typed.now in
+    let e = tree_at (arena_trees a) c.args.c in
+    let taken = body_of a c.args.yes in
+    let other = branch (body_of a) c.args.no in
+    omega (arith, distinct_most (statement_bits (T.If e taken other)) c.args.bits.now (rising_once c.args.bits.now c.requires.bits.rising) c.requires.bits.alone, c.requires.ready.slots)
+
+from_before : (v a now later : List ℕ) (old new : Coding) (st : T.Statement) (now1 later1 : List ℕ) → v ≡ now → a ≡ later → AddsStatement v a old new st now1 later1 → AddsStatement now later old new st now1 later1
+from_before v a now later old new st now1 later1 e f d =
+    subst (λ (x : List ℕ). AddsStatement x later old new st now1 later1) e (subst (λ (x : List ℕ). AddsStatement v x old new st now1 later1) f d)
+
+pub conditional-join_written-requires-clause-call : goal.conditional-join_written-requires-clause-call
+conditional-join_written-requires-clause-call t c =
+    let a = c.args.typed.now in
+    let bits = bit_count a.signals in
+    let e = tree_at (arena_trees a) c.args.c in
+    let taken = body_of a c.args.yes in
+    let other = branch (body_of a) c.args.no in
+    let tc = c.in_ok-condition.condition.items in
+    let v = adds_at c.args.env.now.values c.args.code.now.calls c.args.code.now.next c.lower.new.code.calls c.lower.new.code.next e c.own.result.width (E.width e) c.own.result.signed (E.sign e) tc c.own.ensures.width c.own.ensures.signed c.in_ok-condition.ensures in
+    let first = c.in_ok-first.ensures.adds in
+    let clocked = c.args.clocked in
+    let now2 = c.optional.new.env.values in
+    let later2 = c.optional.new.env.ahead in
+    let o = from_before c.apart.new.env.values c.apart.new.env.ahead c.args.env.now.values c.args.env.now.ahead c.apart.new.code c.optional.new.code other now2 later2 c.in_ok-first.ensures.values c.in_ok-first.ensures.ahead c.in_ok-optional.ensures.adds in
+    join_callable (written clocked first.now_after first.later_after) (written clocked now2 later2) c.args.bits.now (statement_bits taken) (statement_bits other) (statement_bits taken ++ statement_bits other) tc c.as_slice.result.now c.optional.new.code
+    (c.as_slice.ensures.value ∙ first.are)
+    (if_joins clocked bits c.args.env.now.values c.args.env.now.ahead c.args.code.now c.lower.new.code c.apart.new.code c.optional.new.code e taken other tc c.args.bits.now first.now_after first.later_after now2 later2
+    c.requires.ready v first.adds o c.requires.bits)
+
+pub conditional-returns-clause-adds : goal.conditional-returns-clause-adds
+conditional-returns-clause-adds t c =
+    let a = c.args.typed.now in
+    let bits = bit_count a.signals in
+    let e = tree_at (arena_trees a) c.args.c in
+    let taken = body_of a c.args.yes in
+    let other = branch (body_of a) c.args.no in
+    let tc = c.in_ok-condition.condition.items in
+    let v = adds_at c.args.env.now.values c.args.code.now.calls c.args.code.now.next c.lower.new.code.calls c.lower.new.code.next e c.own.result.width (E.width e) c.own.result.signed (E.sign e) tc c.own.ensures.width c.own.ensures.signed c.in_ok-condition.ensures in
+    let first = c.in_ok-first.ensures.adds in
+    let clocked = c.args.clocked in
+    let now2 = c.optional.new.env.values in
+    let later2 = c.optional.new.env.ahead in
+    let o = from_before c.apart.new.env.values c.apart.new.env.ahead c.args.env.now.values c.args.env.now.ahead c.apart.new.code c.optional.new.code other now2 later2 c.in_ok-first.ensures.values c.in_ok-first.ensures.ahead c.in_ok-optional.ensures.adds in
+    let joined = subst (λ (x : List ℕ). IsJoined tc c.args.bits.now x (written clocked now2 later2) (written clocked c.join_written.new.env.values c.join_written.new.env.ahead) c.optional.new.code c.join_written.new.code) (c.as_slice.ensures.value ∙ first.are) c.in_ok-join_written.ensures.joined in
+    adds_if clocked bits c.args.env.now.values c.args.env.now.ahead c.args.code.now c.lower.new.code c.apart.new.code c.optional.new.code c.join_written.new.code e taken other tc c.args.bits.now first.now_after first.later_after now2 later2 c.join_written.new.env.values c.join_written.new.env.ahead
+    c.requires.ready v first.adds first.other o
+    (c.in_ok-optional.ensures.other ∙ stays_unwritten clocked c.apart.new.env.values c.apart.new.env.ahead c.args.env.now.values c.args.env.now.ahead c.in_ok-first.ensures.values c.in_ok-first.ensures.ahead)
+    c.requires.bits.all
+    (if_joins clocked bits c.args.env.now.values c.args.env.now.ahead c.args.code.now c.lower.new.code c.apart.new.code c.optional.new.code e taken other tc c.args.bits.now first.now_after first.later_after now2 later2
+    c.requires.ready v first.adds o c.requires.bits)
+    joined c.in_ok-join_written.ensures.other
+
+-- ---- statements one after the other
+
+pub in_order-loop-n-init : goal.in_order-loop-n-init
+in_order-loop-n-init t c =
+    let a = c.args.typed.now in
+    none_yet (bit_count a.signals) c.args.clocked c.args.env.now.values c.args.env.now.ahead c.args.code.now (map (body_of a) c.args.parts.now) c.requires.ready c.requires.inside
+
+next_is : (f : ℕ → T.Statement) (parts : List ℕ) (n : ℕ) → n < length parts → map f (drop n parts) ≡ f (slice_index parts n) ∷ map f (drop (n + 1) parts)
+next_is f parts n l = ap (map f) (drop_more parts n 0 l)
+
+pub in_order-statement-requires : goal.in_order-statement-requires
+in_order-statement-requires t c =
+    let a = c.args.typed.now in
+    let parts = c.args.parts.now in
+    let n = c.loop-n.n in
+    let all = map (body_of a) parts in
+    let u = subst (λ (xs : List T.Statement). IsUpTo (bit_count a.signals) c.args.clocked c.args.env.now.values c.args.env.now.ahead c.args.code.now all xs c.loop-n.env.values c.loop-n.env.ahead c.loop-n.code) (next_is (body_of a) parts n c.loop-n-test.true) c.loop-n.invariant in
+    let r = next_ready (bit_count a.signals) c.args.clocked c.args.env.now.values c.args.env.now.ahead c.args.code.now all (body_of a (slice_index parts n)) (map (body_of a) (drop (n + 1) parts)) c.loop-n.env.values c.loop-n.env.ahead c.loop-n.code u in
+    let below = c.requires.parts n c.loop-n-test.true in
+    (omega (arith, c.decreases, below), (omega (arith, below, c.requires.there), (r.0, r.1)))
+
+pub in_order-loop-n-preserved : goal.in_order-loop-n-preserved
+in_order-loop-n-preserved t c =
+    let a = c.args.typed.now in
+    let parts = c.args.parts.now in
+    let n = c.loop-n.n in
+    let all = map (body_of a) parts in
+    let u = subst (λ (xs : List T.Statement). IsUpTo (bit_count a.signals) c.args.clocked c.args.env.now.values c.args.env.now.ahead c.args.code.now all xs c.loop-n.env.values c.loop-n.env.ahead c.loop-n.code) (next_is (body_of a) parts n c.loop-n-test.true) c.loop-n.invariant in
+    next_done (bit_count a.signals) c.args.clocked c.args.env.now.values c.args.env.now.ahead c.args.code.now all (body_of a (slice_index parts n)) (map (body_of a) (drop (n + 1) parts)) c.loop-n.env.values c.loop-n.env.ahead c.statement.new.env.values c.statement.new.env.ahead c.loop-n.code c.statement.new.code
+    u c.in_ok-statement.ensures.adds c.in_ok-statement.ensures.other
+
+drop_end : (f : ℕ → T.Statement) (parts : List ℕ) (n : ℕ) → n ≡ length parts → map f (drop n parts) ≡ []
+drop_end f parts n e = ap (λ k. map f (drop k parts)) e ∙ whole parts
+  where
+    whole : (xs : List ℕ) → map f (drop (length xs) xs) ≡ []
+    whole [] = refl
+    whole (x ∷ xs) = whole xs
+
+pub in_order-returns-clause-adds : goal.in_order-returns-clause-adds
+in_order-returns-clause-adds t c =
+    let a = c.args.typed.now in
+    let parts = c.args.parts.now in
+    let n = c.loop-n.n in
+    let end : n ≡ length parts = omega (arith, c.loop-n.auto.n-end, c.loop-n-test.false) in
+    all_done (bit_count a.signals) c.args.clocked c.args.env.now.values c.args.env.now.ahead c.args.code.now (map (body_of a) parts) (map (body_of a) (drop n parts)) c.loop-n.env.values c.loop-n.env.ahead c.loop-n.code (drop_end (body_of a) parts n end) c.loop-n.invariant
+
+-- ---- any statement
+
+pub statement-returns-in-Empty-clause-adds : goal.statement-returns-in-Empty-clause-adds
+statement-returns-in-Empty-clause-adds t c =
+    let a = c.args.typed.now in
+    let bits = bit_count a.signals in
+    let tree = c.statement_of.ensures.tree ∙ ap (body_of_statement a (body_place a c.args.s)) c.in-Empty.is in
+    subst (λ (x : T.Statement). AddsStatement c.args.env.now.values c.args.env.now.ahead c.args.code.now c.args.code.now x c.args.env.now.values c.args.env.now.ahead) (sym tree)
+    (adds_empty bits c.args.env.now.values c.args.env.now.ahead c.args.code.now c.args.clocked
+    (subst (λ (x : T.Statement). IsStatementReady bits c.args.env.now.values c.args.env.now.ahead c.args.code.now c.args.clocked x) tree c.requires.ready))
+
+pub statement-returns-in_ok-assign-in-Assign-clause-adds : goal.statement-returns-in_ok-assign-in-Assign-clause-adds
+statement-returns-in_ok-assign-in-Assign-clause-adds t c =
+    let a = c.args.typed.now in
+    let tree = c.statement_of.ensures.tree ∙ ap (body_of_statement a (body_place a c.args.s)) c.in-Assign.is in
+    subst (λ (x : T.Statement). AddsStatement c.args.env.now.values c.args.env.now.ahead c.args.code.now c.assign.new.code x c.assign.new.env.values c.assign.new.env.ahead) (sym tree)
+    (adds_assign c.args.env.now.values c.args.env.now.ahead c.args.code.now c.assign.new.code (body_place a c.args.s) (target_tree (tree_at (arena_trees a) c.in-Assign.target)) (tree_at (arena_trees a) c.in-Assign.expr) c.in-Assign.blocking c.assign.new.env.values c.assign.new.env.ahead
+    c.in_ok-assign-in-Assign.ensures.adds)
+
+pub statement-conditional-requires : goal.statement-conditional-requires
+statement-conditional-requires t c =
+    let a = c.args.typed.now in
+    let bits = bit_count a.signals in
+    let tree = c.statement_of.ensures.tree ∙ ap (body_of_statement a (body_place a c.args.s)) c.in-If.is in
+    let names = subst (HasBodyNames (length a.nodes) c.args.s) c.in-If.is c.statement_of.ensures.names in
+    let e = tree_at (arena_trees a) c.in-If.c in
+    let st = T.If e (body_of a c.in-If.yes) (branch (body_of a) c.in-If.no) in (
+      omega (arith, c.decreases),
+      (
+        omega (arith, c.requires.there),
+        (
+          names.0,
+          (
+            names.1,
+            (
+              names.2,
+              (
+                subst (λ (x : T.Statement). IsStatementReady bits c.args.env.now.values c.args.env.now.ahead c.args.code.now c.args.clocked x) tree c.requires.ready,
+                in_order bits c.in_ok-bits-in-If.bits.items c.as_slice.result.now (statement_bits st) c.in_ok-bits-in-If.ensures.rising (λ b. c.in_ok-bits-in-If.ensures.same b ∙ ap (λ (x : T.Statement). contains (statement_bits x) b) tree) c.as_slice.ensures.value
+                    (subst (λ (x : T.Statement). AreInside bits (statement_bits x)) tree c.requires.inside),
+              ),
+            ),
+          ),
+        ),
+      ),
+    )
+
+pub statement-case-requires : goal.statement-case-requires
+statement-case-requires t c =
+    let a = c.args.typed.now in
+    let bits = bit_count a.signals in
+    let tree = c.statement_of.ensures.tree ∙ ap (body_of_statement a (body_place a c.args.s)) c.in-Case.is in
+    let names = subst (HasBodyNames (length a.nodes) c.args.s) c.in-Case.is c.statement_of.ensures.names in
+    let items = subst HasItems c.in-Case.is c.statement_of.ensures.items in
+    let T = tree_at (arena_trees a) in
+    let B = body_of a in
+    let same = c.as_slice-in-Case.ensures in
+    let arms = arms_tree T B c.in-Case.other c.in-Case.arms in (
+      omega (arith, c.decreases),
+      (
+        omega (arith, c.requires.there),
+        (
+          names.0,
+          (
+            subst (EachArmNames (length a.nodes) c.args.s) (sym same) names.1,
+            (
+              subst (All (λ (arm : F.Arm). 1 ≤ length arm.items)) (sym same) items,
+              (
+                names.2,
+                (
+                  subst (λ (xs : List F.Arm). IsStatementReady bits c.args.env.now.values c.args.env.now.ahead c.args.code.now c.args.clocked (Case (case_of c.in-Case.kind) (T c.in-Case.of) (arms_tree T B c.in-Case.other xs))) (sym same)
+                      (subst (λ (x : Statement). IsStatementReady bits c.args.env.now.values c.args.env.now.ahead c.args.code.now c.args.clocked x) tree c.requires.ready),
+                  subst (λ (xs : List F.Arm). AreInOrder bits c.as_slice-in-Case-2.result.now (arms_bits (arms_tree T B c.in-Case.other xs))) (sym same)
+                      (in_order bits c.in_ok-bits-in-Case.bits.items c.as_slice-in-Case-2.result.now (arms_bits arms) c.in_ok-bits-in-Case.ensures.rising (λ b. c.in_ok-bits-in-Case.ensures.same b ∙ ap (λ (x : Statement). contains (statement_bits x) b) tree) c.as_slice-in-Case-2.ensures.value
+                      (subst (λ (x : Statement). AreInside bits (statement_bits x)) tree c.requires.inside)),
+                ),
+              ),
+            ),
+          ),
+        ),
+      ),
+    )

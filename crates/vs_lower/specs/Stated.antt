@@ -1,0 +1,133 @@
+-- What the lowering of statements needs and gives.
+use Rattle.std.specs.Prelude.{◌≡◌, ℕ, ◌+◌, ◌<◌, ◌≤◌, ◌^◌, Bool, true, List, [], map, ◌++◌, length, slice_index, All, Some}
+use Rattle.std.specs.List.Sorted.{IsStrictlyIncreasing}
+use Rattle.vs_four.specs.Logic.{BitList}
+use Rattle.vs_net.specs.Network as N
+use Rattle.vs_design.specs.Expressions.{Expression, width}
+use Rattle.vs_design.specs.Statements.{CaseKind, Statement, Arms, Arm, Default}
+use Rattle.vs_design.specs.Bodies.{body, arms_body}
+use Rattle.vs_design.specs.Fits.{is_fit, fits_statement, fits_arms}
+use Rattle.vs_design.specs.Footprints.{contains, statement_bits, arms_bits}
+use Rattle.vs_design.specs.Rules.{mixed_in, mixed_in_arms}
+use Rattle.vs_design.specs.Sizes.{statement_weight, arms_weight, items_weight}
+use Rattle.vs_flat.specs.declared.statements.Arm as F
+use Rattle.vs_flat.specs.declared.statements.Statement as S
+use Rattle.vs_flat.specs.declared.statements.Statement.TheVariants as V
+use Rattle.vs_code.specs.Calls.{Call, length_of}
+use Rattle.vs_lower.specs.Added.{IsEnv}
+use Rattle.vs_lower.specs.Assigned.{AddsRun}
+use Rattle.vs_lower.specs.Branched.{unwritten, written}
+use Rattle.vs_lower.specs.Coded.{Coding}
+use Rattle.vs_lower.specs.Done.{IsDone, placed}
+use Rattle.vs_lower.specs.Joined.{IsJoined}
+use Rattle.vs_lower.specs.Tested.{AddsTests}
+
+-- what is added for a statement
+abbrev pub AddsStatement : (now later : List ℕ) (old new : Coding) (st : Statement) (now_after later_after : List ℕ) → Type 0
+AddsStatement now later old new st now_after later_after = AddsRun now later old new (body st) (statement_bits st) (statement_weight st) now_after later_after
+
+-- each arm has an item (9.5)
+abbrev pub HasItems : S.Statement → Type 0
+HasItems (V.Case kind of arms other) = All (λ (arm : F.Arm). 1 ≤ length arm.items) arms
+HasItems s = Unit {0}
+
+-- ---- bits
+
+-- bits of the design, which has as many
+abbrev pub AreInside : ℕ → List ℕ → Type 0
+AreInside count bits = (b : ℕ) → contains bits b ≡ true → b < count
+
+-- each of these is among those
+abbrev pub AreAmong : List ℕ → List ℕ → Type 0
+AreAmong these those = (b : ℕ) → contains these b ≡ true → contains those b ≡ true
+
+-- these bits in ascending order and each once, all of the design
+pub record AreInOrder (count : ℕ) (bits these : List ℕ) : Type 0 where
+  pub rising : IsStrictlyIncreasing bits
+  pub inside : All (λ b. b < count) bits
+  pub all : AreAmong these bits
+  pub alone : AreAmong bits these
+
+-- ---- a branch, after which the environments are put back
+
+-- what is added for a statement, after which these bits have these slots
+pub record AddsBranch (clocked : Bool) (now later : List ℕ) (old new : Coding) (st : Statement) (bits slots : List ℕ) : Type 0 where
+  pub now_after : List ℕ
+  pub later_after : List ℕ
+  pub adds : AddsStatement now later old new st now_after later_after
+  pub other : unwritten clocked now_after later_after ≡ unwritten clocked now later
+  pub are : slots ≡ map (slice_index (written clocked now_after later_after)) bits
+
+-- after the join these bits have these slots
+pub record AddsJoin (condition bits first env : List ℕ) (old new : Coding) (slots : List ℕ) : Type 0 where
+  pub after : List ℕ
+  pub joined : IsJoined condition bits first env after old new
+  pub are : slots ≡ map (slice_index after) bits
+
+-- ---- the arms of a case
+
+-- what is added for these arms: `subject` are the slots of the case's expression, which have this value, and `written` is the number of bits that the case writes
+pub record AddsArms (now ahead subject : List ℕ) (sv : N.State → BitList) (old new : Coding) (kind : CaseKind) (w : ℕ) (s : Bool) (written : ℕ) (arms : Arms) (now_after ahead_after : List ℕ) : Type 0 where
+  pub calls : List Call
+  pub is : new.calls ≡ old.calls ++ calls
+  pub done : IsDone now ahead subject sv old.next (λ state. arms_body arms kind w s (sv state) state) (arms_bits arms) (arms_weight arms w written) calls now_after ahead_after new.next
+
+-- whatever value the expression has, after which these bits have these slots
+pub record AddsCases (clocked : Bool) (now later subject : List ℕ) (old new : Coding) (kind : CaseKind) (w : ℕ) (s : Bool) (many : ℕ) (arms : Arms) (bits slots : List ℕ) : Type 0 where
+  pub now_after : List ℕ
+  pub later_after : List ℕ
+  pub adds : (sv : N.State → BitList) → AddsArms now later subject sv old new kind w s many arms now_after later_after
+  pub other : unwritten clocked now_after later_after ≡ unwritten clocked now later
+  pub are : slots ≡ map (slice_index (written clocked now_after later_after)) bits
+
+-- no item is longer
+abbrev pub ItemsWithin : ℕ → Arms → Type 0
+ItemsWithin w (Arm items st rest) = All (λ e. width e ≤ w) items × ItemsWithin w rest
+ItemsWithin w (Default st) = Unit {0}
+
+-- The arms fit into the context that they share with the case's expression, whose slots these are, and there is room.
+pub record AreArmsReady (count : ℕ) (now later subject : List ℕ) (code : Coding) (clocked : Bool) (w many : ℕ) (arms : Arms) : Type 0 where
+  pub now_env : IsEnv now code.next
+  pub later_env : IsEnv later code.next
+  pub now_bits : length now ≡ count
+  pub later_bits : length later ≡ count
+  pub long : length subject ≡ w
+  pub below : All (λ slot. slot < code.next) subject
+  pub some : 1 ≤ w
+  pub at_most_64 : w ≤ 64
+  pub wide : ItemsWithin w arms
+  pub fit : fits_arms arms ≡ true
+  pub unmixed : mixed_in_arms clocked arms ≡ []
+  pub slots : code.next + arms_weight arms w many < 2 ^ 32
+  pub few : length_of code.calls + arms_weight arms w many ≤ 2 ^ 32
+
+-- one arm: `bits` have the slots `behind` after what stands behind it
+pub record IsArmReady (count : ℕ) (now later subject : List ℕ) (code : Coding) (clocked : Bool) (w : ℕ) (items : List Expression) (st : Statement) (bits behind : List ℕ) : Type 0 where
+  pub now_env : IsEnv now code.next
+  pub later_env : IsEnv later code.next
+  pub now_bits : length now ≡ count
+  pub later_bits : length later ≡ count
+  pub long : length subject ≡ w
+  pub below : All (λ slot. slot < code.next) subject
+  pub some : 1 ≤ w
+  pub at_most_64 : w ≤ 64
+  pub items_some : 1 ≤ length items
+  pub items_fit : All (λ e. is_fit e ≡ true) items
+  pub items_wide : All (λ e. width e ≤ w) items
+  pub fit : fits_statement st ≡ true
+  pub unmixed : mixed_in clocked st ≡ []
+  pub behind_long : length bits ≡ length behind
+  pub behind_below : All (λ slot. slot < code.next) behind
+  pub slots : code.next + (items_weight items w + statement_weight st + length bits) < 2 ^ 32
+  pub few : length_of code.calls + (items_weight items w + statement_weight st + length bits) ≤ 2 ^ 32
+
+-- what is added for its tests, its statement, and the join with what stands behind it
+pub record AddsArm (clocked : Bool) (now later subject : List ℕ) (old new : Coding) (kind : CaseKind) (w : ℕ) (s : Bool) (items : List Expression) (st : Statement) (bits behind slots : List ℕ) : Type 0 where
+  pub tested : Coding
+  pub branched : Coding
+  pub matches : List ℕ
+  pub first : List ℕ
+  pub tests : AddsTests now subject old tested kind w s items matches
+  pub alike : length matches ≡ length items
+  pub branch : AddsBranch clocked now later tested branched st bits first
+  pub join : AddsJoin matches bits first (placed (written clocked now later) (map Some bits) behind) branched new slots

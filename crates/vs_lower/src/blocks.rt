@@ -1,0 +1,65 @@
+//! Blocks (IEEE 1364-2005, 9.9.2).
+
+ghost use Rattle.std.specs.Prelude.{◌≡◌, ◌<◌, length, slice_index, OnOk, true, false, Bool, List, ℕ};
+ghost use Rattle.vs_design.specs.Designs.{Always, Event, is_clocked};
+ghost use Rattle.vs_design.specs.Footprints.{statement_bits};
+ghost use Rattle.vs_flat.specs.Arena.{bit_count};
+ghost use Rattle.vs_length.specs.Bodies.{body_of};
+ghost use Rattle.vs_program.specs.Lowered.{IsLayout, Layout};
+ghost use Rattle.vs_lower.specs.Processed.{AddsProcess, HasShadows, IsBlockReady};
+
+use crate::code::Code;
+use crate::copies::{copy_all, copy_home};
+use crate::environment::{Environment, Environments};
+use crate::statements::{statement, written_bits};
+use std::alloc::{AllocError, Global};
+use vs_width::Typed;
+
+/// Adds the calls of a combinational block with this statement, in a design of `count` bits: its bits have their values at home once it is done.
+pub(crate) fn combinational(
+    alloc: Global,
+    typed: &Typed,
+    s: u32,
+    count: u32,
+    code: &mut Code,
+) -> Result<(), AllocError>
+    requires count { count ≡ bit_count typed.now.signals }
+    requires there { s < length typed.now.statements }
+    requires ready { IsBlockReady (bit_count typed.now.signals) code.old false (body_of typed.now s) }
+    ensures { OnOk result ((l : Layout) (place : ℕ) (star : Bool) (events : List Event) → l.bits ≡ bit_count typed.now.signals → l.first_temp ≡ code.old.next → is_clocked (Always place star events (body_of typed.now s)) ≡ false → AddsProcess l (Always place star events (body_of typed.now s)) code.old.calls code.new.calls) }
+{
+    let mut env = Environments {
+        values: Environment::at_home(alloc, count),
+        ahead: Environment::at_home(alloc, count),
+    };
+    statement(alloc, typed, s, false, &mut env, code)?;
+    let bits = written_bits(alloc, typed, s)?;
+    copy_home(alloc, &env.values, count, bits.as_slice(), code)?;
+    Ok(())
+}
+
+/// Adds the calls of a clocked block with this statement, in a design of `count` bits: the slots `shadows` of the bits that it writes have their next values once it is done.
+pub(crate) fn clocked(
+    alloc: Global,
+    typed: &Typed,
+    s: u32,
+    count: u32,
+    shadows: &[u32],
+    code: &mut Code,
+) -> Result<(), AllocError>
+    requires count { count ≡ bit_count typed.now.signals }
+    requires there { s < length typed.now.statements }
+    requires ready { IsBlockReady (bit_count typed.now.signals) code.old true (body_of typed.now s) }
+    requires long { length shadows.now ≡ count }
+    requires layout { IsLayout (record { bits = bit_count typed.now.signals; shadow = slice_index shadows.now; first_temp = code.old.next }) (statement_bits (body_of typed.now s)) }
+    ensures { OnOk result ((l : Layout) (place : ℕ) (star : Bool) (events : List Event) → HasShadows (bit_count typed.now.signals) code.old.next shadows.now (statement_bits (body_of typed.now s)) l → is_clocked (Always place star events (body_of typed.now s)) ≡ true → AddsProcess l (Always place star events (body_of typed.now s)) code.old.calls code.new.calls) }
+{
+    let mut env = Environments {
+        values: Environment::at_home(alloc, count),
+        ahead: Environment::at_home(alloc, count),
+    };
+    statement(alloc, typed, s, true, &mut env, code)?;
+    let bits = written_bits(alloc, typed, s)?;
+    copy_all(alloc, &env.ahead, bits.as_slice(), shadows, code)?;
+    Ok(())
+}
