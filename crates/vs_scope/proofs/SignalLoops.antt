@@ -1,8 +1,9 @@
 -- The signals of a scope, one after the other.
-use Rattle.std.proofs.Common.{◌≡◌, ◌≤◌, ℕ, zero, suc, List, [], ◌∷◌, ◌++◌, map, flat_map, length, slice_get, drop, Option, Some, None, refl, sym, ap, ◌∙◌, subst, append_assoc}
+use Rattle.std.proofs.Common.{◌≡◌, ◌≤◌, ◌+◌, ℕ, zero, suc, Bool, List, [], ◌∷◌, ◌++◌, map, flat_map, length, slice_get, drop, Option, Some, None, refl, sym, ap, ◌∙◌, subst, append_assoc, arith, sum_by, fold}
 use Rattle.std.proofs.lemmas.List.{map-append}
 use Rattle.vs_grammar.specs.Shapes.{Given}
 use Rattle.vs_ast.specs.Views as view
+use Rattle.vs_design.specs.Expressions.{signal_length}
 use Rattle.vs_const.specs.declared.faults.Fault.{Fault}
 use Rattle.vs_const.specs.Faults.{least, better}
 use Rattle.vs_const.specs.Meanings.{SignalMeaning}
@@ -18,7 +19,7 @@ use Rattle.vs_scope.specs.Maps.{Pair, values_of}
 use Rattle.vs_scope.specs.Views.{declaration}
 use Rattle.vs_scope.specs.Declares.{entry_named, named_of}
 use Rattle.vs_scope.specs.Shaped.{IsShaped, AreShapedNames}
-use Rattle.vs_scope.specs.Signalled.{Placed, placed, placed_of, faults_of, IsSaidSignal}
+use Rattle.vs_scope.specs.Signalled.{Placed, placed, placed_of, faults_of, IsSaidSignal, start_after}
 use Rattle.vs_scope.proofs.Steps.{append_none, none_left}
 
 pub named_from : (ps : List (Pair Entry)) (i : ℕ) (e : Entry) → slice_get (values_of ps) i ≡ Some e → drop i (map named_of ps) ≡ entry_named e ∷ drop (suc i) (map named_of ps)
@@ -55,9 +56,29 @@ take_sort env st name InstanceSort second ns x h = cc
 pub record IsSignalled (env : Env) (start next : Start) (rest all : List Named) (list : List Signal) (found : Option Fault) : Type 0 where
   pub list_is : map placed list ++ map placed_of (said_signals env next rest) ≡ map placed_of (said_signals env start all)
   pub some : (fs : List Fault) × (found ≡ least fs) × (least (fs ++ flat_map faults_of (said_signals env next rest)) ≡ least (flat_map faults_of (said_signals env start all)))
+  pub ends : start_after next (said_signals env next rest) ≡ start_after start (said_signals env start all)
+
+same_start : (scope : ℕ) (top : Bool) (a b c d : ℕ) → a ≡ c → b ≡ d → (let s : Start = record { scope = scope; top = top; signal = a; bit = b } in s) ≡ record { scope = scope; top = top; signal = c; bit = d }
+same_start scope top a b c d h k = cc
+
+sum_from : (n : ℕ) (ss : List SaidSignal) → fold (λ a (y : SaidSignal). a + signal_length y.meaning.signal) n ss ≡ n + sum_by (λ (y : SaidSignal). signal_length y.meaning.signal) ss
+sum_from n [] = omega arith
+sum_from n (x ∷ ss) =
+    let a = sum_from (n + signal_length x.meaning.signal) ss in
+    let b = sum_from (0 + signal_length x.meaning.signal) ss in
+    omega (arith, a, b)
+
+after_more : (s : Start) (x : SaidSignal) (ss : List SaidSignal) → start_after (after s x.meaning) ss ≡ start_after s (x ∷ ss)
+after_more s x ss =
+    let b = sum_from (0 + signal_length x.meaning.signal) ss in
+    same_start s.scope s.top (s.signal + 1 + length ss) (s.bit + signal_length x.meaning.signal + sum_by (λ (y : SaidSignal). signal_length y.meaning.signal) ss) (s.signal + suc (length ss))
+    (s.bit + fold (λ a (y : SaidSignal). a + signal_length y.meaning.signal) (0 + signal_length x.meaning.signal) ss) (omega arith) (omega (arith, b))
+
+after_none : (s : Start) → start_after s [] ≡ s
+after_none s = same_start s.scope s.top _ _ s.signal s.bit (let e : s.signal + 0 ≡ s.signal = omega arith in e) (let e : s.bit + 0 ≡ s.bit = omega arith in e)
 
 pub signalled_start : (env : Env) (start : Start) (all : List Named) → IsSignalled env start start all all [] None
-signalled_start env start all = record { list_is = refl; some = ([], refl, refl) }
+signalled_start env start all = record { list_is = refl; some = ([], refl, refl); ends = refl }
 
 pub signalled_skip : (env : Env) (start next : Start) (n : Named) (rest here all : List Named) (list : List Signal) (found : Option Fault) → here ≡ n ∷ rest → IsSignalled env start next here all list found
     → said_signals env next (n ∷ []) ≡ [] → IsSignalled env start next rest all list found
@@ -66,6 +87,7 @@ signalled_skip env start next n rest here all list found is before h =
     record {
       list_is = ap (λ (x : List SaidSignal). map placed list ++ map placed_of x) (sym same) ∙ before.list_is;
       some = (before.some.0, before.some.1, ap (λ (x : List SaidSignal). least (before.some.0 ++ flat_map faults_of x)) (sym same) ∙ before.some.2);
+      ends = ap (start_after next) (sym same) ∙ before.ends;
     }
 
 placed_is : (c : SignalFound) (x : SaidSignal) → IsSaidSignal c x → placed c.signal ≡ placed_of x
@@ -93,6 +115,7 @@ signalled_more env start next later n rest here all list found sum c x is before
         s ∙ ap (λ (y : Option Fault). better y c.fault) before.some.1 ∙ ap (better (least fs)) says.fault ∙ sym (least_append fs x.faults),
         ap least (append_assoc fs x.faults (flat_map faults_of (said_signals env later rest))) ∙ ap (λ (r : List SaidSignal). least (fs ++ flat_map faults_of r)) (sym same) ∙ before.some.2,
       );
+      ends = ap (λ (y : Start). start_after y (said_signals env later rest)) t ∙ after_more next x (said_signals env later rest) ∙ ap (start_after next) (sym same) ∙ before.ends;
     }
 
 pub signalled_end : (env : Env) (start next : Start) (ns : List Named) (i : ℕ) (list : List Signal) (found : Option Fault) → length ns ≤ i → IsSignalled env start next (drop i ns) ns list found
@@ -100,6 +123,13 @@ pub signalled_end : (env : Env) (start next : Start) (ns : List Named) (i : ℕ)
 signalled_end env start next ns i list found h e =
     let k : IsSignalled env start next [] ns list found = subst (λ (x : List Named). IsSignalled env start next x ns list found) (none_left ns i h) e in
     (sym (append_none (map placed list)) ∙ k.list_is, k.some.1 ∙ ap least (sym (append_none k.some.0)) ∙ k.some.2)
+
+-- where the next signal begins
+pub signalled_next : (env : Env) (start next : Start) (ns : List Named) (i : ℕ) (list : List Signal) (found : Option Fault) → length ns ≤ i → IsSignalled env start next (drop i ns) ns list found
+    → next ≡ start_after start (said_signals env start ns)
+signalled_next env start next ns i list found h e =
+    let k : IsSignalled env start next [] ns list found = subst (λ (x : List Named). IsSignalled env start next x ns list found) (none_left ns i h) e in
+    sym (after_none next) ∙ k.ends
 
 pub signalled_as : (env : Env) (start a b : Start) (rest all : List Named) (l m : List Signal) (f g : Option Fault) → b ≡ a → m ≡ l → g ≡ f → IsSignalled env start a rest all l f → IsSignalled env start b rest all m g
 signalled_as env start a b rest all l m f g x y z h =

@@ -13,7 +13,7 @@ use Rattle.vs_hierarchy.specs.Signals.{Start, SaidSignal, said_signals, range_fa
 use Rattle.vs_scope.specs.declared.names.Signal.{Signal}
 use Rattle.vs_scope.specs.Views.{signal_meaning}
 use Rattle.vs_scope.specs.Shaped.{IsShaped, AreShaped, AreShapedNames}
-use Rattle.vs_scope.specs.Signalled.{placed, placed_of, faults_of, put_all}
+use Rattle.vs_scope.specs.Signalled.{placed, placed_of, faults_of, put_all, start_after}
 use Rattle.vs_scope.specs.Scopes.{evaluated_entries, said_signals_of, said_entries, said_faults}
 use Rattle.vs_scope.proofs.FirstFaults.{put_said}
 
@@ -62,6 +62,9 @@ module _ {env : Env} {os : List Override} {start : Start} {ds : List Declaration
 
   pub found_entries : whole ≡ said_entries env os start ds
   found_entries = f.whole_is ∙ ap (put_all (map signal_meaning cs)) values ∙ put_said cs (said_signals_of env os start ds) (evaluated_entries env os ds).entries found_signals
+
+  pub found_next : (next : Start) → next ≡ start_after start (said_signals (within env evaluated) start ns) → next ≡ start_after start (said_signals_of env os start ds)
+  found_next next h = h ∙ ap (start_after start) said
 
   pub found_faults : better a (better b (better c d)) ≡ least (said_faults env os start ds)
   found_faults =

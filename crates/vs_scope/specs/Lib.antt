@@ -10,3 +10,14 @@ pub mod Overrides
 pub mod Shaped
 pub mod Signalled
 pub mod Scopes
+pub mod Made
+pub mod Surveys
+pub mod Sets
+pub mod Headers
+pub mod Turns
+pub mod Blocks
+pub mod Chosen
+pub mod Cases
+pub mod Clashes
+pub mod Bits
+pub mod Wholes

@@ -1,5 +1,6 @@
 -- What the code finds of signals.
-use Rattle.std.specs.Prelude.{◌≡◌, ℕ, Bool, List, [], ◌∷◌, Option, Some, None}
+use Rattle.std.specs.Prelude.{◌≡◌, ℕ, ◌+◌, Bool, List, [], ◌∷◌, length, sum_by, Option, Some, None}
+use Rattle.vs_design.specs.Expressions.{signal_length}
 use Rattle.vs_ast.specs.Views as view
 use Rattle.vs_ast.specs.declared.items.Signals.{Signals}
 use Rattle.vs_const.specs.declared.faults.Fault.{Fault}
@@ -18,6 +19,10 @@ use Rattle.vs_scope.specs.Views.{signal_meaning}
 -- where signals begin
 abbrev pub start_of : Start → spec.Start
 start_of s = record { scope = s.scope; top = s.top; signal = s.signal; bit = s.bit }
+
+-- behind all of these
+abbrev pub start_after : spec.Start → List spec.SaidSignal → spec.Start
+start_after s ss = record s { signal = s.signal + length ss; bit = s.bit + sum_by (λ (x : spec.SaidSignal). signal_length x.meaning.signal) ss }
 
 -- a declaration of signals
 abbrev pub signal_sort : Signals → Bool → SignalSort

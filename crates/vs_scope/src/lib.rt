@@ -2,25 +2,38 @@
 //! that it makes, and the first rule that any of it breaks.
 #![tactic(auto)]
 
+mod bits;
+mod cases;
+mod clashes;
 mod collect;
+mod constructs;
 mod contents;
+mod counts;
 mod declare;
 mod faults;
 mod frames;
+mod header;
 mod laws;
+mod loops;
+mod made;
 mod maps;
 mod names;
 mod numbers;
 mod parameters;
 mod scope;
+mod sets;
 mod signals;
+mod texts;
+mod turns;
 mod values;
+mod whole;
 
 pub use contents::{BlockItems, Contents};
 pub use frames::{Around, Frame, Turn, View};
-pub use laws::{fair_law, shaped_law};
+pub use laws::{fair_law, shaped_law, survey_law};
+pub use made::{BlockName, Made, Nested};
 pub use maps::NameMap;
 pub use names::{Declaration, Declared, Entry, Evaluated, Names, Parameter, Signal, Sort};
 pub use parameters::Override;
-pub use scope::{SaidScope, declare_scope};
 pub use signals::Start;
+pub use whole::{Surveyed, survey};

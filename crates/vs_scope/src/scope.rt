@@ -12,7 +12,7 @@ ghost use Rattle.vs_scope.specs.Frames.{around_env, view_env};
 ghost use Rattle.vs_scope.specs.Overrides.{AreOverrides, overrides_of};
 ghost use Rattle.vs_scope.specs.Scopes.{said_entries, said_signals_of, said_faults};
 ghost use Rattle.vs_scope.specs.Shaped.{AreShaped, IsShaped};
-ghost use Rattle.vs_scope.specs.Signalled.{placed, placed_of, put_all, start_of};
+ghost use Rattle.vs_scope.specs.Signalled.{placed, placed_of, put_all, start_after, start_of};
 ghost use Rattle.vs_scope.specs.Views.{declaration, entries, signal_meaning};
 
 use crate::collect::collect;
@@ -29,13 +29,13 @@ use std::alloc::{AllocError, Global};
 use vs_const::Fault;
 
 /// The names of a scope with the values of its parameters and its signals, the signals in order of declaration, the first fault of the
-/// declarations, and where the next scope's signals begin.
+/// declarations, and where the next signal begins.
 #[derive(Drop)]
-pub struct SaidScope<'a> {
-    pub names: Names<'a>,
-    pub signals: Vec<Signal<'a>>,
-    pub fault: Option<Fault>,
-    pub next: Start,
+pub(crate) struct SaidScope<'a> {
+    pub(crate) names: Names<'a>,
+    pub(crate) signals: Vec<Signal<'a>>,
+    pub(crate) fault: Option<Fault>,
+    pub(crate) next: Start,
 }
 
 /// All signals are known now.
@@ -93,7 +93,7 @@ fn range_faults(
 /// - and what a constant of a parameter or a range breaks: 30, 31, 35, 37 and 43.
 ///
 /// An error is want of memory; more signals or bits than 32 bits count are too many, too.
-pub fn declare_scope<'a>(
+pub(crate) fn declare_scope<'a>(
     alloc: Global,
     contents: Contents<'a>,
     overrides: &NameMap<'a, Override<'a>>,
@@ -105,6 +105,7 @@ pub fn declare_scope<'a>(
     ensures entries { IfOk result (λ r. entries r.names ≡ said_entries (around_env around.entry) (overrides_of around.entry.frames.now overrides.now) (start_of start) (contents_declared contents.entry)) }
     ensures signals { IfOk result (λ r. map placed r.signals.items ≡ map placed_of (said_signals_of (around_env around.entry) (overrides_of around.entry.frames.now overrides.now) (start_of start) (contents_declared contents.entry))) }
     ensures fault { IfOk result (λ r. r.fault ≡ least (said_faults (around_env around.entry) (overrides_of around.entry.frames.now overrides.now) (start_of start) (contents_declared contents.entry))) }
+    ensures next { IfOk result (λ r. start_of r.next ≡ start_after (start_of start) (said_signals_of (around_env around.entry) (overrides_of around.entry.frames.now overrides.now) (start_of start) (contents_declared contents.entry))) }
 {
     let list = collect(alloc, contents)?;
     let all = list.as_slice();

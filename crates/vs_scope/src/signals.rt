@@ -13,7 +13,7 @@ ghost use Rattle.vs_scope.specs.Declares.{named_list};
 ghost use Rattle.vs_scope.specs.Frames.{view_env};
 ghost use Rattle.vs_scope.specs.Numbers.{IsSaidRange};
 ghost use Rattle.vs_scope.specs.Shaped.{IsShaped, AreShapedNames};
-ghost use Rattle.vs_scope.specs.Signalled.{start_of, signal_sort, second_faults, placed, placed_of, faults_of, IsSortOf, IsSaidSignal, IsSignalAt};
+ghost use Rattle.vs_scope.specs.Signalled.{start_of, signal_sort, second_faults, placed, placed_of, faults_of, start_after, IsSortOf, IsSaidSignal, IsSignalAt};
 ghost use Rattle.vs_scope.specs.Views as scope;
 
 use crate::faults::{fault_if, first_of};
@@ -140,7 +140,7 @@ fn second_fault(
 }
 
 /// How many bits a signal of this range has.
-fn length_or_one(range: Option<Range>) -> u64
+pub(crate) fn length_or_one(range: Option<Range>) -> u64
     ensures { result ≡ range_or_one range }
 {
     match range {
@@ -240,6 +240,7 @@ pub(crate) fn said_signals<'a>(
     requires { AreShapedNames (named_list names.now) }
     ensures signals { IfOk result (λ r. map placed r.signals.items ≡ map placed_of (spec.said_signals (view_env here.now) (start_of start) (named_list names.now))) }
     ensures fault { IfOk result (λ r. r.fault ≡ least (flat_map faults_of (spec.said_signals (view_env here.now) (start_of start) (named_list names.now)))) }
+    ensures next { IfOk result (λ r. start_of r.next ≡ start_after (start_of start) (spec.said_signals (view_env here.now) (start_of start) (named_list names.now))) }
 {
     let mut signals = Vec::new(alloc);
     let mut fault = None;

@@ -1,11 +1,11 @@
-use Rattle.std.proofs.Common.{ℕ, suc, [], ◌∷◌, ◌++◌, Option, drop, sym, ap, ◌∙◌, subst, add-one}
+use Rattle.std.proofs.Common.{◌≡◌, ◌≤◌, ℕ, suc, List, [], ◌∷◌, ◌++◌, Option, drop, length, map, refl, sym, ap, ◌∙◌, subst, add-one}
 use Rattle.vs_hierarchy.specs.Signals as spec
 use Rattle.vs_scope.specs.declared.signals.SaidSignal.{SaidSignal as SignalFound}
 use Rattle.vs_scope.specs.MapViews.{pairs}
-use Rattle.vs_scope.specs.Declares.{entry_named, named_list}
+use Rattle.vs_scope.specs.Declares.{entry_named, named_list, named_of}
 use Rattle.vs_scope.specs.Frames.{view_env}
 use Rattle.vs_scope.specs.Signalled.{start_of, IsSignalAt}
-use Rattle.vs_scope.proofs.SignalLoops.{IsSignalled, named_from, shaped_name, signalled_skip, signalled_more, signalled_as, range_is}
+use Rattle.vs_scope.proofs.SignalLoops.{IsSignalled, named_from, shaped_name, signalled_skip, signalled_more, signalled_as, signalled_next, range_is}
 use Rattle.vs_scope.proofs.signals.said_signals.Goals as goal
 use Rattle.vs_scope.proofs.signals.said_signals.Goals.{in-Some+in_ok-next-in-Some+in_ok-push-in-Some, in-None}
 
@@ -36,3 +36,13 @@ loop-i-preserved c =
           (signalled_more env (start_of c.args.start) (start_of c.loop-i.next) (start_of w.in_ok-next-in-Some.next) n (drop (suc i) ns) (drop i ns) ns c.loop-i.signals.items c.loop-i.fault w.first_of-fault.result w.in-Some.one s.0
           here c.loop-i.invariant s.1 s.2 (w.in_ok-next-in-Some.ensures s.0.meaning (range_is w.in-Some.one s.0 s.2)) w.first_of-fault.ensures)
     ])
+
+len_map : {A B : Type 0} (f : A → B) (xs : List A) → length (map f xs) ≡ length xs
+len_map f [] = refl
+len_map f (x ∷ xs) = ap suc (len_map f xs)
+
+pub returns-clause-next : goal.returns-clause-next
+returns-clause-next c =
+    let ns = named_list c.args.names.now in
+    let all : length ns ≤ c.loop-i.i = subst (λ (n : ℕ). n ≤ c.loop-i.i) (c.len-i-end.ensures ∙ sym (len_map named_of (pairs c.args.names.now.map))) c.loop-i-test.false in
+    signalled_next (view_env c.args.here.now) (start_of c.args.start) (start_of c.loop-i.next) ns c.loop-i.i c.loop-i.signals.items c.loop-i.fault all c.loop-i.invariant

@@ -1,0 +1,8 @@
+use Rattle.std.proofs.Common.{sym, ap, ◌∙◌}
+use Rattle.vs_design.specs.Clocks.{same_name}
+use Rattle.vs_scope.proofs.NameMaps.{same_of}
+use Rattle.vs_scope.proofs.loops.is_same_name.Goals as goal
+
+pub returns : goal.returns
+returns c =
+    c.eq.ensures ∙ same_of c.as_bytes.result.now c.as_bytes-2.result.now ∙ ap (λ x. same_name x c.as_bytes.result.now) c.as_bytes-2.ensures ∙ ap (same_name c.args.a.now.text) c.as_bytes.ensures

@@ -1,0 +1,16 @@
+use Rattle.std.proofs.Common.{◌+◌, ◌-◌, ℕ, length, Option, Some, None}
+use Rattle.vs_ast.specs.Views as view
+use Rattle.vs_scope.specs.Frames.{view_env}
+use Rattle.vs_scope.proofs.TurnSteps.{IsTurning, whole}
+use Rattle.vs_scope.proofs.turns.turns_from.Given as goal
+
+abbrev pub turns_left : ℕ → Option ℕ → ℕ
+turns_left n None = 0
+turns_left n (Some v) = 1 + (4096 - n)
+
+abbrev pub invariant-loop-next : goal.invariant-loop-next
+invariant-loop-next l =
+    IsTurning (view.generate_head l.head) l.is_same l.genvar (view_env l.here) (whole (view.generate_head l.head) l.is_same l.genvar (view_env l.here) l.fn.total l.fn.first) l.values.items l.seen.keys l.fault l.count l.next
+
+abbrev pub decreases-loop-next : goal.decreases-loop-next
+decreases-loop-next l = turns_left (length l.values.items) l.next

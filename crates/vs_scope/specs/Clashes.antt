@@ -1,0 +1,48 @@
+-- The names of blocks, as the code has them.
+use Rattle.std.specs.Prelude.{◌≡◌, ℕ, Bool, List, [], ◌∷◌, ◌++◌, map, flat_map, Option, Some, None}
+use Rattle.std.specs.List.{list_any}
+use Rattle.vs_design.specs.Clocks.{same_name}
+use Rattle.vs_grammar.specs.Trees.{Name}
+use Rattle.vs_const.specs.declared.faults.Fault.{Fault}
+use Rattle.vs_const.specs.Faults.{fault_if}
+use Rattle.vs_hierarchy.specs.Environments.{Entry, OfScope, find_entry}
+use Rattle.vs_hierarchy.specs.Generate.{BlockName}
+use Rattle.vs_hierarchy.specs.Surveys.{clash_with}
+use Rattle.vs_scope.specs.declared.clashes.NamedBlock.{NamedBlock}
+use Rattle.vs_scope.specs.declared.made.Made.{Made}
+use Rattle.vs_scope.specs.Made.{block_names}
+
+-- a name and where it stands
+pub record NameAt : Type 0 where
+  pub name : List ℕ
+  pub place : ℕ
+
+-- of a block of the code
+abbrev pub block_of : NamedBlock → NameAt
+block_of b = record { name = b.text.items; place = b.place }
+
+-- of a block's name
+abbrev pub block_text : BlockName → NameAt
+block_text b = record { name = b.name; place = b.place }
+
+-- the names of all blocks that items make
+abbrev pub blocks_of : List Made → List BlockName
+blocks_of ms = flat_map (λ (m : Made). block_names m.name) ms
+
+-- whether one has this name
+abbrev pub has_name_at : List ℕ → List NameAt → Bool
+has_name_at name bs = list_any (λ (b : NameAt). same_name b.name name) bs
+
+-- of two things of one name the later has the fault; `seen` are the blocks before
+abbrev pub clash_faults : List Entry → List NameAt → List NameAt → List Fault
+clash_faults es seen [] = []
+clash_faults es seen (b ∷ bs) = (clash_with b.place (find_entry es b.name) ++ fault_if (has_name_at b.name seen) 36 b.place) ++ clash_faults es (b ∷ seen) bs
+
+-- the entry of a name that is written
+abbrev pub label_entry : Name → Entry
+label_entry n = record { name = n.bytes; place = n.place; declared = OfScope }
+
+-- each of these names is a new one
+abbrev pub AreNew : List Entry → List Entry → Type 0
+AreNew es [] = Unit {0}
+AreNew es (b ∷ bs) = (find_entry es b.name ≡ None) × AreNew (es ++ b ∷ []) bs

@@ -1,0 +1,123 @@
+-- All that one scope says but for its items, part by part; the survey of a scope is of these parts (IEEE 1364-2005, clause 12).
+use Rattle.std.specs.Prelude.{◌≡◌, ℕ, ◌+◌, false, List, [], ◌++◌, map, flat_map, length, sum_by, is_none, Option, Some, None}
+use Rattle.vs_ast.specs.Views as view
+use Rattle.vs_grammar.specs.Trees as tree
+use Rattle.vs_grammar.specs.Shapes.{Each, IsGenerateItem, IsModule}
+use Rattle.vs_design.specs.Expressions.{Signal, signal_length}
+use Rattle.vs_const.specs.declared.faults.Fault.{Fault}
+use Rattle.vs_const.specs.Faults.{least, better}
+use Rattle.vs_hierarchy.specs.Limits.{the_limits}
+use Rattle.vs_hierarchy.specs.Environments.{Entry, Env, within, find_entry}
+use Rattle.vs_hierarchy.specs.Signals.{Start, SaidSignal}
+use Rattle.vs_hierarchy.specs.Generate.{BlockName, Made}
+use Rattle.vs_hierarchy.specs.Constructs.{constructs}
+use Rattle.vs_hierarchy.specs.Pieces.{Contents as ContentsOf, OfModule, OfBlock, Task, Said}
+use Rattle.vs_hierarchy.specs.Instances.{Around}
+use Rattle.vs_hierarchy.specs.Surveys.{items_said, block_faults, block_entries, Totals, bits_over, piece_processes, processes_over, turns_after, items_of, declarations_of, overrides_of, header_of, Survey, survey}
+use Rattle.vs_scope.specs.declared.contents.Contents.{Contents}
+use Rattle.vs_scope.specs.declared.contents.Contents.TheVariants.{Module, Block}
+use Rattle.vs_scope.specs.declared.frames.Frame.{Frame}
+use Rattle.vs_scope.specs.declared.maps.NameMap.{NameMap}
+use Rattle.vs_scope.specs.declared.parameters.Override.{Override}
+use Rattle.vs_scope.specs.Contents.{block_items}
+use Rattle.vs_scope.specs.Overrides as code
+use Rattle.vs_scope.specs.Scopes.{said_entries, said_signals_of, said_faults}
+
+-- ---- a scope of the code
+
+-- what a scope is made of; a block has no overrides
+abbrev pub contents_of : List Frame → NameMap Override → Contents → ContentsOf
+contents_of frames overrides (Module m) = OfModule (view.module_tree m.now) (code.overrides_of frames overrides)
+contents_of frames overrides (Block b) = OfBlock (block_items b)
+
+-- it is as the grammar has it
+abbrev pub IsShapedScope : Contents → Type 0
+IsShapedScope (Module m) = IsModule (view.module_tree m.now)
+IsShapedScope (Block b) = Each IsGenerateItem (block_items b)
+
+-- each name means the same
+abbrev pub MeanTheSame : List Entry → List Entry → Type 0
+MeanTheSame es fs = (name : List ℕ) → find_entry es name ≡ find_entry fs name
+
+-- ---- the parts
+
+-- the names that declarations make
+abbrev pub declared_in : Env → ContentsOf → Start → List Entry
+declared_in env c start = said_entries env (overrides_of c) start (declarations_of c)
+
+-- the signals
+abbrev pub signals_in : Env → ContentsOf → Start → List SaidSignal
+signals_in env c start = said_signals_of env (overrides_of c) start (declarations_of c)
+
+-- what each item makes; `turns` counts those of all loops before this scope
+abbrev pub made_in : Env → ContentsOf → Start → (turns : ℕ) → List Made
+made_in env c start turns = constructs the_limits (items_of c) (within env (declared_in env c start)) 1 turns
+
+-- the names of blocks
+abbrev pub blocks_in : Env → ContentsOf → Start → (turns : ℕ) → List BlockName
+blocks_in env c start turns = flat_map (λ (m : Made). m.names) (made_in env c start turns)
+
+-- all names
+abbrev pub entries_in : Env → ContentsOf → Start → (turns : ℕ) → List Entry
+entries_in env c start turns = declared_in env c start ++ block_entries (blocks_in env c start turns)
+
+-- of constructs
+abbrev pub made_faults : List Made → List Fault
+made_faults ms = flat_map (λ (m : Made). m.faults) ms
+
+-- all faults but those of the items themselves
+abbrev pub faults_in : Env → ContentsOf → Start → (turns : ℕ) → List Fault
+faults_in env c start turns =
+    header_of c
+    ++ (said_faults env (overrides_of c) start (declarations_of c)
+    ++ (made_faults (made_in env c start turns) ++ (block_faults (declared_in env c start) [] (blocks_in env c start turns) ++ bits_over the_limits.bits start.bit (signals_in env c start))))
+
+-- how many turns there are behind the scope
+abbrev pub turns_behind : Env → ContentsOf → Start → (turns : ℕ) → ℕ
+turns_behind env c start turns = turns_after turns (made_in env c start turns)
+
+-- where the signals of the next scope begin, which isn't the top
+abbrev pub start_behind : Env → ContentsOf → Start → Start
+start_behind env c start =
+    let ss = signals_in env c start in
+    record { scope = start.scope + 1; top = false; signal = start.signal + length ss; bit = start.bit + sum_by (λ (s : SaidSignal). signal_length s.meaning.signal) ss }
+
+-- ---- the survey
+
+-- where a scope's signals begin
+abbrev pub start_at : Task → Totals → Start
+start_at t totals = record { scope = totals.scopes; top = is_none t.parent; signal = totals.signals; bit = totals.bits }
+
+-- what its items say
+abbrev pub said_in : tree.Source → Task → Totals → Said
+said_in source t totals =
+    let start = start_at t totals in
+    items_said source (record { scope = totals.scopes; depth = t.depth; env = within t.env (entries_in t.env t.contents start totals.turns) }) (items_of t.contents) (made_in t.env t.contents start totals.turns)
+
+-- the faults of the items themselves
+abbrev pub items_faults : tree.Source → Task → Totals → List Fault
+items_faults source t totals = (said_in source t totals).faults ++ processes_over the_limits.processes totals.processes (said_in source t totals).pieces
+
+-- the counts behind it
+abbrev pub totals_behind : tree.Source → Task → Totals → Totals
+totals_behind source t totals =
+    let next = start_behind t.env t.contents (start_at t totals) in
+    record totals {
+      scopes = next.scope;
+      signals = next.signal;
+      bits = next.bit;
+      turns = turns_behind t.env t.contents (start_at t totals) totals.turns;
+      processes = totals.processes + sum_by piece_processes (said_in source t totals).pieces;
+    }
+
+-- a survey is of these parts
+pub record IsOfParts (source : tree.Source) (t : Task) (totals : Totals) (s : Survey) : Type 0 where
+  pub entries : s.entries ≡ entries_in t.env t.contents (start_at t totals) totals.turns
+  pub signals : s.signals ≡ map (λ (x : SaidSignal). x.meaning.signal) (signals_in t.env t.contents (start_at t totals))
+  pub pieces : s.pieces ≡ (said_in source t totals).pieces
+  pub fault : least s.faults ≡ better (least (faults_in t.env t.contents (start_at t totals) totals.turns)) (least (items_faults source t totals))
+  pub totals_is : s.totals ≡ totals_behind source t totals
+
+-- every survey is
+abbrev pub SurveysAreOfParts : Type 0
+SurveysAreOfParts = (source : tree.Source) (t : Task) (totals : Totals) → IsOfParts source t totals (survey the_limits source t totals)

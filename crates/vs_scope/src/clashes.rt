@@ -1,0 +1,162 @@
+//! The names of blocks among the names of their scope (IEEE 1364-2005, 12.4.3 and 12.7).
+
+ghost use Rattle.std.specs.Prelude.{◌≡◌, ◌++◌, ◌∷◌, [], None, IfOk, OnOk, List, ℕ, false, map, flat_map};
+ghost use Rattle.vs_ast.specs.Views as view;
+ghost use Rattle.vs_const.specs.Faults.{least, fault_if};
+ghost use Rattle.vs_hierarchy.specs.Environments.{find_entry};
+ghost use Rattle.vs_hierarchy.specs.Surveys as spec;
+ghost use Rattle.vs_scope.specs.Clashes.{AreNew, block_of, block_text, blocks_of, clash_faults, label_entry};
+ghost use Rattle.vs_scope.specs.Made as code;
+ghost use Rattle.vs_scope.specs.Sets.{has};
+ghost use Rattle.vs_scope.specs.Surveys.{MeanTheSame};
+ghost use Rattle.vs_scope.specs.Views.{entries};
+
+use crate::faults::{fault_at, fault_if, first_of};
+use crate::made::{BlockName, Made};
+use crate::names::{Declaration, Declared, Entry, Names, Sort};
+use crate::sets::NameSet;
+use crate::texts::name_text;
+use std::alloc::{AllocError, Global};
+use vs_ast::Name;
+use vs_const::Fault;
+
+/// A block's name as text, and where it stands.
+#[derive(Drop)]
+pub(crate) struct NamedBlock {
+    pub(crate) text: Vec<u8>,
+    pub(crate) place: u32,
+}
+
+/// Where a block's name stands.
+fn block_place(name: BlockName<'_>) -> u32
+    ensures { result ≡ (code.block_name name.entry).place }
+{
+    match name {
+        BlockName::Written(n) => n.place,
+        BlockName::Numbered { place, .. } => place,
+    }
+}
+
+/// One name more, if there is one.
+fn push_name(
+    blocks: &mut Vec<NamedBlock>,
+    alloc: Global,
+    name: Option<BlockName<'_>>,
+) -> Result<(), AllocError>
+    ensures { OnOk result (map block_of blocks.new.items ≡ map block_of blocks.old.items ++ map block_text (code.block_names name.entry)) }
+{
+    match name {
+        None => Ok(()),
+        Some(name) => {
+            let text = name_text(alloc, name)?;
+            let place = block_place(name);
+            blocks.push(NamedBlock { text, place })?;
+            Ok(())
+        }
+    }
+}
+
+/// The names of all blocks as text.
+fn named_blocks(alloc: Global, made: &[Made<'_>]) -> Result<Vec<NamedBlock>, AllocError>
+    ensures { IfOk result (λ bs. map block_of bs.items ≡ map block_text (blocks_of made.now)) }
+{
+    let mut blocks = Vec::new(alloc);
+    for m in made {
+        push_name(&mut blocks, alloc, m.name)?;
+    }
+    Ok(blocks)
+}
+
+/// The fault of a block's name that is declared, too: the later one has it.
+fn declared_fault(names: &Names<'_>, b: &NamedBlock) -> Option<Fault>
+    ensures { result ≡ least (spec.clash_with b.now.place (find_entry (entries names.now) b.now.text.items)) }
+{
+    match names.find(b.text.as_slice()) {
+        None => None,
+        Some(e) => fault_at(36, b.place.max(e.first.name.place)),
+    }
+}
+
+/// The first block whose name is that of a declaration, or of a block before it.
+fn clash_fault(
+    alloc: Global,
+    names: &Names<'_>,
+    blocks: &[NamedBlock],
+) -> Result<Option<Fault>, AllocError>
+    ensures { IfOk result (λ f. f ≡ least (clash_faults (entries names.now) [] (map block_of blocks.now))) }
+{
+    let mut seen = NameSet::new(alloc);
+    let mut fault = None;
+    for b in blocks {
+        let text = b.text.as_slice();
+        let declared = declared_fault(names, b);
+        let again = fault_if(seen.contains(text), 36, b.place);
+        let both = first_of(declared, again);
+        fault = first_of(fault, both);
+        seen.add(text)?;
+    }
+    Ok(fault)
+}
+
+impl<'a> Names<'a> {
+    /// The name of a block, unless it is declared already.
+    fn declare_block(&mut self, label: &'a Name) -> Result<(), AllocError>
+        ensures same { OnOk result (MeanTheSame (entries self.new) (entries self.old ++ label_entry (view.name label.now) ∷ [])) }
+        ensures new { OnOk result (find_entry (entries self.old) (view.name label.now).bytes ≡ None → entries self.new ≡ entries self.old ++ label_entry (view.name label.now) ∷ []) }
+    {
+        let name = label.text.as_bytes();
+        if self.map.get(name).is_some() {
+            return Ok(());
+        }
+        let first = Declaration {
+            name: label,
+            sort: Sort::Scope,
+        };
+        let entry = Entry {
+            first,
+            second: None,
+            declared: Declared::Scope,
+        };
+        self.map.put(name, entry)?;
+        Ok(())
+    }
+
+    /// The name of a construct's blocks, if there is one that is written.
+    fn declare_name(&mut self, name: Option<BlockName<'a>>) -> Result<(), AllocError>
+        ensures same { OnOk result (MeanTheSame (entries self.new) (entries self.old ++ spec.block_entries (code.block_names name.entry))) }
+        ensures new { OnOk result (AreNew (entries self.old) (spec.block_entries (code.block_names name.entry)) → entries self.new ≡ entries self.old ++ spec.block_entries (code.block_names name.entry)) }
+    {
+        match name {
+            None => Ok(()),
+            Some(BlockName::Numbered { .. }) => Ok(()),
+            Some(BlockName::Written(label)) => self.declare_block(label),
+        }
+    }
+
+    /// The names of blocks that are written, where they aren't declared already.
+    fn declare_blocks(&mut self, made: &[Made<'a>]) -> Result<(), AllocError>
+        ensures same { OnOk result (MeanTheSame (entries self.new) (entries self.old ++ spec.block_entries (blocks_of made.now))) }
+        ensures new { OnOk result (AreNew (entries self.old) (spec.block_entries (blocks_of made.now)) → entries self.new ≡ entries self.old ++ spec.block_entries (blocks_of made.now)) }
+    {
+        for m in made {
+            self.declare_name(m.name)?;
+        }
+        Ok(())
+    }
+
+    /// The names of blocks are known now; of two things of one name the later one has the fault.
+    pub(crate) fn add_blocks(
+        &mut self,
+        alloc: Global,
+        made: &[Made<'a>],
+    ) -> Result<Option<Fault>, AllocError>
+        ensures fault { IfOk result (λ f. f ≡ least (spec.block_faults (entries self.old) [] (blocks_of made.now))) }
+        ensures same { OnOk result (MeanTheSame (entries self.new) (entries self.old ++ spec.block_entries (blocks_of made.now))) }
+        ensures new { IfOk result (λ f. f ≡ None → entries self.new ≡ entries self.old ++ spec.block_entries (blocks_of made.now)) }
+    {
+        let blocks = named_blocks(alloc, made)?;
+        let fault = clash_fault(alloc, self, blocks.as_slice())?;
+        self.declare_blocks(made)?;
+        Ok(fault)
+    }
+}

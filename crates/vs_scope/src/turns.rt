@@ -1,0 +1,252 @@
+//! The turns of a generate loop (IEEE 1364-2005, 12.4.1).
+
+ghost use Rattle.std.specs.Prelude.{◌≡◌, ◌++◌, ◌∷◌, ◌||◌, [], ◌==◌, true, false, None, nat_lt, suc, length, Bool, ℕ, List, IfOk, OnOk, if◌then◌else◌};
+ghost use Rattle.vs_grammar.specs.Shapes.{IsExpr, IsHead};
+ghost use Rattle.vs_ast.specs.Views as view;
+ghost use Rattle.vs_const.specs.Faults.{least};
+ghost use Rattle.vs_const.specs.Found.{Says, AreValued};
+ghost use Rattle.vs_const.specs.Typed as typed;
+ghost use Rattle.vs_hierarchy.specs.Environments.{with_turn};
+ghost use Rattle.vs_hierarchy.specs.Limits.{the_limits};
+ghost use Rattle.vs_hierarchy.specs.Loops as spec;
+ghost use Rattle.vs_scope.specs.Frames.{turn, view_env};
+ghost use Rattle.vs_scope.specs.Numbers.{IsNatural};
+ghost use Rattle.vs_scope.specs.Turns.{IsTurned, AreTurns, assigned_natural, taken_turn, turned};
+
+use crate::counts::one_more;
+use crate::faults::{fault_at, first_of};
+use crate::frames::{Turn, View};
+use crate::numbers::{Natural, Numbered, constant, number, within};
+use crate::parameters::assigned;
+use indexmap::IndexSet;
+use std::alloc::{AllocError, Global};
+use vs_ast::{Expr, GenerateHead};
+use vs_const::{Fault, Found, own, place_of};
+use vs_four::{Bits, integer, is_known};
+
+/// How many turns one loop takes at most, and all loops of a design.
+const MOST_TURNS: usize = 4096;
+const MOST_OF_ALL: u32 = 1_048_576;
+
+/// The number of a value that is assigned to a genvar, by its own bits and those of the genvar.
+fn assigned_number(place: u32, own: Bits, bits: Bits) -> Natural
+    ensures { IsNatural result (assigned_natural place own bits) }
+{
+    if is_known(own) && is_known(bits) {
+        within(0, 2147483647, place, Some(integer(bits, true)))
+    } else {
+        Natural {
+            number: None,
+            fault: fault_at(31, place),
+        }
+    }
+}
+
+/// A value assigned to a genvar: converted to 32 bits, signed, and not negative.
+fn genvar_number(place: u32, c: &Found) -> Natural
+    requires { AreValued c.now.form }
+    ensures { (t : typed.Typed) → Says true c.now t → IsNatural result (spec.genvar_number place t) }
+{
+    match &c.form {
+        None => Natural {
+            number: None,
+            fault: c.said.flaws.first,
+        },
+        Some(f) => {
+            let n = assigned_number(place, own(f), assigned(f, 32));
+            Natural {
+                number: n.number,
+                fault: first_of(c.said.flaws.first, n.fault),
+            }
+        }
+    }
+}
+
+/// The value of an expression that is assigned to a genvar.
+pub(crate) fn genvar_value(
+    alloc: Global,
+    e: &Expr,
+    here: &View<'_, '_>,
+) -> Result<Natural, AllocError>
+    requires { IsExpr (view.expr e.now) }
+    ensures { IfOk result (λ n. IsNatural n (spec.genvar_value (view.expr e.now) (view_env here.now))) }
+{
+    let c = constant(alloc, e, here)?;
+    Ok(genvar_number(place_of(e), &c))
+}
+
+/// Whether a condition holds: it is a number other than 0.
+pub(crate) fn holds(number: Option<i128>) -> bool
+    ensures { result ≡ spec.holds number }
+{
+    match number {
+        None => false,
+        Some(z) => z != 0,
+    }
+}
+
+/// What is seen in a loop's head at one value of its variable.
+fn inside_of<'f, 'a>(here: &View<'f, 'a>, one: Turn) -> View<'f, 'a>
+    requires { here.now.inside ≡ None }
+    ensures { view_env result ≡ with_turn (view_env here.now) (turn one) }
+{
+    View {
+        around: here.around,
+        names: here.names,
+        inside: Some(one),
+        before: here.before,
+    }
+}
+
+/// What a loop does at one value of its variable: whether it takes a turn, with which value it goes on, its first fault, and the count of all
+/// turns then.
+#[derive(Clone, Copy)]
+pub(crate) struct Turned {
+    pub(crate) taken: bool,
+    pub(crate) next: Option<u32>,
+    pub(crate) fault: Option<Fault>,
+    pub(crate) count: u32,
+}
+
+/// The loop ends.
+fn ended(fault: Option<Fault>, count: u32) -> Turned
+    ensures { result ≡ record { taken = false; next = None; fault = fault; count = count } }
+{
+    Turned {
+        taken: false,
+        next: None,
+        fault,
+        count,
+    }
+}
+
+/// The value of the next turn; where the second assignment is to another variable, it has none.
+fn step(
+    alloc: Global,
+    head: &GenerateHead,
+    is_same: bool,
+    inside: &View<'_, '_>,
+) -> Result<Natural, AllocError>
+    requires { IsHead (view.generate_head head.now) }
+    ensures { IfOk result (λ n. IsNatural n (spec.step is_same (view.generate_head head.now) (view_env inside.now))) }
+{
+    if is_same {
+        genvar_value(alloc, &head.next, inside)
+    } else {
+        Ok(Natural {
+            number: None,
+            fault: None,
+        })
+    }
+}
+
+/// Whether there are too many turns, of this loop or of all.
+fn is_over(is_last: bool, count: u32) -> bool
+    ensures { result ≡ (is_last || nat_lt the_limits.all_turns count) }
+{
+    is_last || count > MOST_OF_ALL
+}
+
+/// A turn whose test holds; `is_last` says that this loop may take no more.
+fn taken(
+    alloc: Global,
+    head: &GenerateHead,
+    is_same: bool,
+    inside: &View<'_, '_>,
+    is_last: bool,
+    test: Option<Fault>,
+    total: u32,
+) -> Result<Turned, AllocError>
+    requires { IsHead (view.generate_head head.now) }
+    ensures { (fs : List Fault) → test ≡ least fs → IfOk result (λ t. IsTurned t (taken_turn is_last (view.generate_head head.now) is_same (view_env inside.now) fs total)) }
+{
+    let count = one_more(total)?;
+    if is_over(is_last, count) {
+        return Ok(ended(first_of(test, fault_at(42, head.place)), count));
+    }
+    let next = step(alloc, head, is_same, inside)?;
+    Ok(Turned {
+        taken: true,
+        next: next.number,
+        fault: first_of(test, next.fault),
+        count,
+    })
+}
+
+/// What a loop does at one value of its variable. `again` says that it had the value before, and `total` counts the turns of all loops so far.
+fn turn_at(
+    alloc: Global,
+    head: &GenerateHead,
+    is_same: bool,
+    inside: &View<'_, '_>,
+    again: bool,
+    is_last: bool,
+    total: u32,
+) -> Result<Turned, AllocError>
+    requires { IsHead (view.generate_head head.now) }
+    ensures { IfOk result (λ t. IsTurned t (turned again is_last (view.generate_head head.now) is_same (view_env inside.now) total)) }
+{
+    if again {
+        return Ok(ended(fault_at(36, head.place), total));
+    }
+    let test = number(alloc, &head.test, inside)?;
+    if holds(test.number) {
+        taken(alloc, head, is_same, inside, is_last, test.fault, total)
+    } else {
+        Ok(ended(test.fault, total))
+    }
+}
+
+/// The values that a loop's variable takes, the first fault, and the count of all turns behind them.
+#[derive(Drop)]
+pub(crate) struct Turns {
+    pub(crate) values: Vec<u32>,
+    pub(crate) fault: Option<Fault>,
+    pub(crate) count: u32,
+}
+
+/// One value more, if its turn is taken.
+fn push_if(values: &mut Vec<u32>, taken: bool, v: u32) -> Result<(), AllocError>
+    ensures { OnOk result (values.new.items ≡ (if taken then values.old.items ++ v ∷ [] else values.old.items)) }
+{
+    if taken {
+        values.push(v)?;
+    }
+    Ok(())
+}
+
+/// The turns of a loop from a first value on.
+pub(crate) fn turns_from(
+    alloc: Global,
+    head: &GenerateHead,
+    is_same: bool,
+    genvar: u32,
+    here: &View<'_, '_>,
+    total: u32,
+    first: u32,
+) -> Result<Turns, AllocError>
+    requires shaped { IsHead (view.generate_head head.now) }
+    requires inside { here.now.inside ≡ None }
+    ensures { IfOk result (λ t. AreTurns t (spec.turns_from (suc the_limits.turns) the_limits (view.generate_head head.now) is_same genvar (view_env here.now) [] total first)) }
+{
+    let mut values = Vec::new(alloc);
+    let mut seen = IndexSet::new(alloc);
+    let mut fault = None;
+    let mut count = total;
+    let mut next = Some(first);
+    while let Some(v) = next {
+        let is_new = seen.insert(v)?;
+        let inside = inside_of(here, Turn { genvar, value: v });
+        let is_last = values.as_slice().len() >= MOST_TURNS;
+        let t = turn_at(alloc, head, is_same, &inside, !is_new, is_last, count)?;
+        push_if(&mut values, t.taken, v)?;
+        fault = first_of(fault, t.fault);
+        count = t.count;
+        next = t.next;
+    }
+    Ok(Turns {
+        values,
+        fault,
+        count,
+    })
+}

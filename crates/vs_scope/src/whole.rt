@@ -1,0 +1,166 @@
+//! All that one scope says but for its items (IEEE 1364-2005, clause 12).
+
+ghost use Rattle.std.specs.Prelude.{◌≡◌, None, IfOk, List, map};
+ghost use Rattle.vs_grammar.specs.Shapes.{Each};
+ghost use Rattle.vs_const.specs.Faults.{least};
+ghost use Rattle.vs_hierarchy.specs.Signals.{SaidSignal};
+ghost use Rattle.vs_hierarchy.specs.Surveys.{header_of};
+ghost use Rattle.vs_scope.specs.Frames.{around_env};
+ghost use Rattle.vs_scope.specs.Wholes.{IsDeclared, scope_after};
+ghost use Rattle.vs_scope.specs.declared.frames.Frame.{Frame};
+ghost use Rattle.vs_scope.specs.declared.maps.NameMap.{NameMap};
+ghost use Rattle.vs_scope.specs.declared.parameters.Override.{Override};
+ghost use Rattle.vs_scope.specs.Made as code;
+ghost use Rattle.vs_scope.specs.Overrides.{AreOverrides};
+ghost use Rattle.vs_scope.specs.Signalled.{placed, placed_of, start_of};
+ghost use Rattle.vs_scope.specs.Surveys.{IsShapedScope, MeanTheSame, contents_of, entries_in, faults_in, made_in, signals_in, start_behind, turns_behind};
+ghost use Rattle.vs_scope.specs.Views.{entries, signal_meaning};
+
+use crate::bits::bits_fault;
+use crate::constructs::{Making, constructs};
+use crate::contents::Contents;
+use crate::counts::one_more;
+use crate::faults::first_of;
+use crate::frames::{Around, View};
+use crate::header::header_fault;
+use crate::made::Made;
+use crate::maps::NameMap;
+use crate::names::{Names, Signal};
+use crate::parameters::Override;
+use crate::scope::{SaidScope, declare_scope};
+use crate::signals::Start;
+use std::alloc::{AllocError, Global};
+use vs_const::Fault;
+
+/// What one scope says but for its items: its names with the values of its parameters, its signals and the names of its blocks; the signals in order
+/// of declaration; what each of its items makes, in order; the first fault of all of it; the count of all loops' turns behind it; and where the next
+/// scope's signals begin.
+#[derive(Drop)]
+pub struct Surveyed<'a> {
+    pub names: Names<'a>,
+    pub signals: Vec<Signal<'a>>,
+    pub made: Vec<Made<'a>>,
+    pub fault: Option<Fault>,
+    pub turns: u32,
+    pub next: Start,
+}
+
+/// The first fault of a module's header; a block has none.
+fn scope_header_fault(alloc: Global, contents: Contents<'_>) -> Result<Option<Fault>, AllocError>
+    ensures { (frames : List Frame) (overrides : NameMap Override) → IfOk result (λ f. f ≡ least (header_of (contents_of frames overrides contents.entry))) }
+{
+    match contents {
+        Contents::Module(whole) => header_fault(alloc, whole),
+        Contents::Block(_) => Ok(None),
+    }
+}
+
+/// What the declarations of a scope say; a block has no overrides.
+fn declare_contents<'a>(
+    alloc: Global,
+    contents: Contents<'a>,
+    overrides: &NameMap<'a, Override<'a>>,
+    around: Around<'_, 'a>,
+    start: Start,
+) -> Result<SaidScope<'a>, AllocError>
+    requires overrides { AreOverrides around.frames.now overrides.now }
+    requires shaped { IsShapedScope contents }
+    ensures { IfOk result (λ r. IsDeclared r (around_env around.entry) (contents_of around.entry.frames.now overrides.now contents.entry) (start_of start)) }
+{
+    match contents {
+        Contents::Module(_) => {
+            let said = declare_scope(alloc, contents, overrides, around, start)?;
+            Ok(said)
+        }
+        Contents::Block(_) => {
+            let none = NameMap::new(alloc);
+            let said = declare_scope(alloc, contents, &none, around, start)?;
+            Ok(said)
+        }
+    }
+}
+
+/// Where the signals of the next scope begin, which isn't the top. More scopes than 32 bits count are too many for memory.
+fn next_scope(start: Start) -> Result<Start, AllocError>
+    ensures { IfOk result (λ r. start_of r ≡ scope_after (start_of start)) }
+{
+    let scope = one_more(start.scope)?;
+    Ok(Start {
+        scope,
+        top: false,
+        signal: start.signal,
+        bit: start.bit,
+    })
+}
+
+/// What a scope says but for its items: what it declares, and what its generate constructs make. `around` is what is around the scope, `overrides`
+/// are those of an instance (a block has none), `start` says where its signals begin, and `turns` counts the turns of all loops before it.
+///
+/// `fault` is the first rule that any of it breaks, at a token of the text. Where several are, it is the one at the least token, and there the one
+/// with the least number:
+/// - 31: a label of a generate `case` has unknown bits, or the value of a loop's variable has.
+/// - 35, 36, 39: a name of the header's plain list without a direction, one that stands there again, and a direction of another name (12.3.3).
+/// - 36: a second declaration of a name (12.7), a block of a declared name, or a loop's variable that has a value again.
+/// - 37: a range that has no meaning, unequal ranges of one signal, or a negative value of a loop's variable.
+/// - 35, 43: a loop's variable that is no genvar, and a second assignment to another name (12.4.1).
+/// - 42: over 4,096 turns of one loop, or 1,048,576 of all.
+/// - 44: over 1,048,576 bits of all signals.
+/// - and what a constant breaks: 30, 31, 35, 37 and 43.
+///
+/// An error is want of memory; more scopes, signals, bits, constructs or turns than 32 bits count are too many, too.
+pub fn survey<'a>(
+    alloc: Global,
+    contents: Contents<'a>,
+    overrides: &NameMap<'a, Override<'a>>,
+    around: Around<'_, 'a>,
+    start: Start,
+    turns: u32,
+) -> Result<Surveyed<'a>, AllocError>
+    requires overrides { AreOverrides around.frames.now overrides.now }
+    requires shaped { IsShapedScope contents }
+    ensures names { IfOk result (λ r. MeanTheSame (entries r.names) (entries_in (around_env around.entry) (contents_of around.entry.frames.now overrides.now contents.entry) (start_of start) turns)) }
+    ensures entries { IfOk result (λ r. r.fault ≡ None → entries r.names ≡ entries_in (around_env around.entry) (contents_of around.entry.frames.now overrides.now contents.entry) (start_of start) turns) }
+    ensures placed { IfOk result (λ r. map placed r.signals.items ≡ map placed_of (signals_in (around_env around.entry) (contents_of around.entry.frames.now overrides.now contents.entry) (start_of start))) }
+    ensures signals { IfOk result (λ r. map (λ (x : _). (signal_meaning x).signal) r.signals.items ≡ map (λ (x : SaidSignal). x.meaning.signal) (signals_in (around_env around.entry) (contents_of around.entry.frames.now overrides.now contents.entry) (start_of start))) }
+    ensures made { IfOk result (λ r. map code.made r.made.items ≡ map code.kept (made_in (around_env around.entry) (contents_of around.entry.frames.now overrides.now contents.entry) (start_of start) turns)) }
+    ensures blocks { IfOk result (λ r. Each code.AreShapedBlocks r.made.items) }
+    ensures fault { IfOk result (λ r. r.fault ≡ least (faults_in (around_env around.entry) (contents_of around.entry.frames.now overrides.now contents.entry) (start_of start) turns)) }
+    ensures turns { IfOk result (λ r. r.turns ≡ turns_behind (around_env around.entry) (contents_of around.entry.frames.now overrides.now contents.entry) (start_of start) turns) }
+    ensures next { IfOk result (λ r. start_of r.next ≡ start_behind (around_env around.entry) (contents_of around.entry.frames.now overrides.now contents.entry) (start_of start)) }
+{
+    let header = scope_header_fault(alloc, contents)?;
+    let SaidScope {
+        names,
+        signals,
+        fault: declared,
+        next,
+    } = declare_contents(alloc, contents, overrides, around, start)?;
+    let mut names = names;
+    let here = View {
+        around,
+        names: &names,
+        inside: None,
+        before: None,
+    };
+    let Making {
+        made,
+        fault: constructed,
+        turns,
+        ..
+    } = constructs(alloc, contents, &here, turns)?;
+    let clashes = names.add_blocks(alloc, made.as_slice())?;
+    let bits = bits_fault(start.bit, signals.as_slice());
+    let next = next_scope(next)?;
+    let fault = first_of(
+        header,
+        first_of(declared, first_of(constructed, first_of(clashes, bits))),
+    );
+    Ok(Surveyed {
+        names,
+        signals,
+        made,
+        fault,
+        turns,
+        next,
+    })
+}
