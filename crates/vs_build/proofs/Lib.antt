@@ -15,3 +15,7 @@ pub mod TargetFacts
 pub mod AssignFacts
 pub mod OutputFacts
 pub mod EventFaults
+pub mod BodySteps
+pub mod Cutting
+pub mod BodyKinds
+pub mod Executed

@@ -8,9 +8,11 @@ mod expressions;
 mod names;
 mod operators;
 mod outputs;
+mod statements;
 mod targets;
 
 pub use assigns::{assign, input_port, wire};
 pub use builder::Builder;
 pub use checks::{check_control, first_fault};
 pub use outputs::output_port;
+pub use statements::statement;
