@@ -19,3 +19,4 @@ pub mod BodySteps
 pub mod Cutting
 pub mod BodyKinds
 pub mod Executed
+pub mod Awaiting

@@ -2,7 +2,9 @@
 use Rattle.std.specs.Prelude.{◌≡◌, ◌≤◌, ◌++◌, ℕ, false, List, [], ◌∷◌, map}
 use Rattle.vs_design.specs.Expressions.{Expression}
 use Rattle.vs_design.specs.Statements.{Statement}
-use Rattle.vs_design.specs.Designs.{Process, Always, Design}
+use Rattle.vs_design.specs.Designs.{Edge, Process, Always, Design}
+use Rattle.vs_flat.specs.declared.processes.Event.{Event as FlatEvent}
+use Rattle.vs_flat.specs.Operators.{edge_of}
 use Rattle.vs_ast.specs.declared.statements.Statement.{Statement as TextStatement}
 use Rattle.vs_ast.specs.Views as view
 use Rattle.vs_grammar.specs.Trees as tree
@@ -10,6 +12,8 @@ use Rattle.vs_grammar.specs.Shapes.{IsExpr, IsStatement, AreStatements, AreArms,
 use Rattle.vs_grammar.specs.Depths.{deepest, expr_depth, statement_depth, statements_depth, arms_depth}
 use Rattle.vs_const.specs.Meanings.{Find}
 use Rattle.vs_const.specs.Sound.{AreSound}
+use Rattle.vs_hierarchy.specs.Targets.{meant_signal}
+use Rattle.vs_hierarchy.specs.Statements as spec
 use Rattle.vs_hierarchy.specs.Statements.{typed_list, typed_fallback, typed_statement, typed_sequence, typed_arms, typed_control}
 use Rattle.vs_build.specs.Drafts.{Labelled}
 
@@ -60,3 +64,15 @@ pub record IsRunnable (d : Design) (find : Find) (b : tree.AlwaysBlock) : Type 0
 -- the process of a design that it is
 abbrev pub block_process : tree.AlwaysBlock → Find → Process
 block_process b find = Always b.place (typed_control b.control find).star (typed_control b.control find).events (typed_statement b.statement find).statement
+
+-- what an event waits for: a signal, by its number, and an edge
+pub record Awaited : Type 0 where
+  pub number : ℕ
+  pub edge : Edge
+
+-- of a flat design's event, and of one of the text
+abbrev pub awaited_of : FlatEvent → Awaited
+awaited_of e = record { number = e.signal; edge = edge_of e.edge }
+
+abbrev pub awaited : Find → tree.Event → Awaited
+awaited find e = record { number = (meant_signal (find e.name.bytes)).number; edge = spec.edge_of e.edge }

@@ -2,6 +2,7 @@
 #![tactic(auto)]
 
 mod assigns;
+mod blocks;
 mod builder;
 mod checks;
 mod expressions;
@@ -12,6 +13,7 @@ mod statements;
 mod targets;
 
 pub use assigns::{assign, input_port, wire};
+pub use blocks::always;
 pub use builder::Builder;
 pub use checks::{check_control, first_fault};
 pub use outputs::output_port;
