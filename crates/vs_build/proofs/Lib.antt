@@ -20,3 +20,4 @@ pub mod Cutting
 pub mod BodyKinds
 pub mod Executed
 pub mod Awaiting
+pub mod ItemFacts

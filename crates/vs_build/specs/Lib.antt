@@ -5,3 +5,4 @@ pub mod Buildable
 pub mod Writable
 pub mod Outputs
 pub mod Executable
+pub mod Items
