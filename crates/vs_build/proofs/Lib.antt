@@ -15,3 +15,9 @@ pub mod TargetFacts
 pub mod AssignFacts
 pub mod OutputFacts
 pub mod EventFaults
+pub mod BodySteps
+pub mod Cutting
+pub mod BodyKinds
+pub mod Executed
+pub mod Awaiting
+pub mod ItemFacts

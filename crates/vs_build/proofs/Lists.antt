@@ -78,7 +78,7 @@ taken_all find needed es i e = ap (λ n. part_expressions find needed (take n es
 pub parts_none : (s : Draft) (m : ℕ) → AddsParts s s [] m
 parts_none s m = record { roots = []; are = refl; few = omega arith; is = ap (λ xs. record s { expressions = xs }) (nil_end s.expressions) }
 
-levels-append : (xs ys : List Root) → most_levels (xs ++ ys) ≡ max (most_levels xs) (most_levels ys)
+pub levels-append : (xs ys : List Root) → most_levels (xs ++ ys) ≡ max (most_levels xs) (most_levels ys)
 levels-append [] ys = omega arith
 levels-append (x ∷ xs) ys = ap (λ m. max x.levels m) (levels-append xs ys) ∙ omega arith
 

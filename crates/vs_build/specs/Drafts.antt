@@ -1,12 +1,15 @@
 -- A design that is being built: what it is so far, and the expressions and statements that nothing in it names yet, in the order in which they were built.
-use Rattle.std.specs.Prelude.{◌≡◌, ◌≤◌, ℕ, true, List, [], ◌∷◌, ◌++◌, map, length, max}
+use Rattle.std.specs.Prelude.{◌≡◌, ◌≤◌, ◌+◌, ℕ, Bool, true, ◌&&◌, List, [], ◌∷◌, ◌++◌, map, length, max, nat_lt, is_some}
+use Rattle.std.specs.List.{list_all}
 use Rattle.vs_design.specs.Expressions.{Signal, Expression}
-use Rattle.vs_design.specs.Statements.{Statement}
+use Rattle.vs_design.specs.Statements.{Target, Whole, PartOf, Both, Statement, Arms, Arm, Default}
 use Rattle.vs_design.specs.Designs.{Scope, Process, Design}
 use Rattle.vs_design.specs.Elaborated.{is_formed_select}
+use Rattle.vs_design.specs.Footprints.{is_variable}
 use Rattle.vs_four.specs.Selects.{Part}
 use Rattle.vs_flat.specs.declared.processes.Port.{Port}
-use Rattle.vs_flat.specs.Targets.{source_of}
+use Rattle.vs_flat.specs.Targets.{source_of, target_of}
+use Rattle.vs_flat.specs.Trees.{target_tree}
 use Rattle.vs_flat.specs.Lawful.{is_target}
 
 -- an expression, and on how many levels it stands: the longest chain of expressions, each within the one before it
@@ -109,3 +112,66 @@ pub record AddsStatement (old new : Draft) (statement : Statement) (most : ℕ) 
   pub levels : ℕ
   pub few : levels ≤ most
   pub is : new ≡ and_body old (record { statement = statement; levels = levels })
+
+-- these expressions and statements more, in this order, each on at most so many levels
+pub record Adds (old new : Draft) (trees : List Expression) (statements : List Statement) (most : ℕ) : Type 0 where
+  pub roots : List Root
+  pub bodies : List Body
+  pub trees_are : map (λ (r : Root). r.tree) roots ≡ trees
+  pub statements_are : map (λ (b : Body). b.statement) bodies ≡ statements
+  pub few : most_levels roots ≤ most
+  pub low : most_body_levels bodies ≤ most
+  pub is : new ≡ and_bodies (and_roots old roots) bodies
+
+-- ---- what a statement is built of
+
+-- the last ones are so many expressions and statements, on so few levels that each may be part of a statement
+pub record EndsInParts (expressions statements : ℕ) (s : Draft) : Type 0 where
+  pub before : Draft
+  pub trees : List Expression
+  pub parts : List Statement
+  pub adds : Adds before s trees parts 255
+  pub many : length trees ≡ expressions
+  pub several : length parts ≡ statements
+
+-- all that a target writes are variables (table 6-1)
+abbrev pub writes_variables : Target → Bool
+writes_variables (Whole signal) = is_variable signal
+writes_variables (PartOf signal part index) = is_variable signal
+writes_variables (Both high low) = writes_variables high && writes_variables low
+
+-- the last ones are what an assignment writes, and its expression (9.2)
+pub record EndsInAssignment (s : Draft) : Type 0 where
+  pub before : Draft
+  pub target : Expression
+  pub value : Expression
+  pub adds : Adds before s (target ∷ value ∷ []) [] 255
+  pub written : is_some (target_of target) ≡ true
+  pub variables : writes_variables (target_tree target) ≡ true
+
+-- an arm of a case: its labels, and its statement
+pub record Labelled : Type 0 where
+  pub labels : List Expression
+  pub statement : Statement
+
+-- arms in order, and at the end the default (9.5)
+abbrev pub arms_with : List Labelled → Statement → Arms
+arms_with [] other = Default other
+arms_with (a ∷ rest) other = Arm a.labels a.statement (arms_with rest other)
+
+abbrev pub total : List ℕ → ℕ
+total [] = 0
+total (n ∷ ns) = n + total ns
+
+-- the last ones are a case's subject, of which this is the number among the expressions, so many labels for each arm, and a statement for each arm
+-- and so many others
+pub record EndsInCase (first : ℕ) (counts : List ℕ) (others : ℕ) (s : Draft) : Type 0 where
+  pub before : Draft
+  pub subject : Expression
+  pub labels : List Expression
+  pub parts : List Statement
+  pub adds : Adds before s (subject ∷ labels) parts 255
+  pub at : length before.expressions ≡ first
+  pub some : list_all (λ n. nat_lt 0 n) counts ≡ true
+  pub many : length labels ≡ total counts
+  pub several : length parts ≡ length counts + others

@@ -1,13 +1,19 @@
 //! A flat design that grows.
 
-ghost use Rattle.std.specs.Prelude.{◌≡◌, ◌<◌, ◌≤◌, ◌^◌, ◌-◌, ◌+◌, [], ◌∷◌, ◌++◌, true, length, max, suc, take, IsTrue, IfOk, OnOk, OnErr, vec_len, vec_capacity, ℕ, List, nat_lt, option_to_list};
+ghost use Rattle.std.specs.Prelude.{◌≡◌, ◌<◌, ◌≤◌, ◌^◌, ◌-◌, ◌+◌, [], ◌∷◌, ◌++◌, true, length, map, max, suc, take, cond, IsTrue, IfOk, OnOk, OnErr, vec_len, vec_capacity, ℕ, List as Items, Option, nat_lt, option_to_list, unwrap_or, is_some, slice_get, flat_map};
 ghost use Rattle.vs_four.specs.Lengths.{repeat};
 ghost use Rattle.vs_flat.specs.Arena.{with_node, with_statement};
-ghost use Rattle.vs_flat.specs.Named.{all_below, covers_node};
+ghost use Rattle.vs_flat.specs.Named.{all_below, covers_node, covers_statement};
+ghost use Rattle.vs_build.specs.Drafts.{total};
+ghost use Rattle.vs_build.specs.Cut.{label_counts, cut};
 
 use std::alloc::{AllocError, Global};
 use std::marker::Model;
-use vs_flat::{BinaryOp, Flat, Kind, List, Node, Port, Process, Scope, Signal, UnaryOp};
+use vs_ast::CaseArm;
+use vs_flat::{
+    Arm, BinaryOp, CaseKind, Event, Flat, Kind, List, Node, Port, Process, Scope, Signal,
+    Statement, UnaryOp,
+};
 use vs_four::{Bits, Range};
 
 /// A flat design that grows, with the expressions and statements that nothing in it names yet, in the order in which they were built.
@@ -29,17 +35,18 @@ impl Model for Builder {
 }
 
 impl Builder {
-    ghost use Rattle.vs_build.specs.Drafts.{no_draft, Draft, Root, AddsExpression, AddsParts, EndsWith, EndsInSelect, EndsInAssign, and_scope, and_signal, and_process};
+    ghost use Rattle.vs_build.specs.Drafts.{no_draft, Draft, Root, AddsExpression, AddsParts, AddsStatement, Adds, Labelled, EndsWith, EndsInSelect, EndsInAssign, EndsInParts, EndsInAssignment, EndsInCase, and_scope, and_signal, and_process, arms_with};
     ghost use Rattle.vs_build.specs.Growth.{draft};
     ghost use Rattle.vs_design.specs.Expressions as E;
-    ghost use Rattle.vs_design.specs.Designs.{Continuous, bit_count as design_bits};
+    ghost use Rattle.vs_design.specs.Statements as T;
+    ghost use Rattle.vs_design.specs.Designs.{Continuous, Always, bit_count as design_bits};
     ghost use Rattle.vs_design.specs.Elaborated.{is_formed, IsLawfulDesign};
-    ghost use Rattle.vs_flat.specs.Operators.{unary_of, binary_of, port_of};
-    ghost use Rattle.vs_flat.specs.DesignOf.{scope_of, design_of};
+    ghost use Rattle.vs_flat.specs.Operators.{unary_of, binary_of, case_of, port_of};
+    ghost use Rattle.vs_flat.specs.DesignOf.{scope_of, event_of, design_of};
     ghost use Rattle.vs_flat.specs.Lawful.{IsLawful};
     ghost use Rattle.vs_flat.specs.Targets.{source_of, place_of};
     ghost use Rattle.vs_four.specs.Selects.{one_bit};
-    ghost use Rattle.vs_flat.specs.Trees.{signal_at, signal_of, joined, target_tree};
+    ghost use Rattle.vs_flat.specs.Trees.{signal_at, signal_of, joined, target_tree, sequence};
 
     /// Nothing. It takes no memory.
     pub fn new(alloc: Global) -> Builder
@@ -193,7 +200,7 @@ impl Builder {
         requires some { 1 ≤ count }
         requires copied { 1 ≤ copies }
         requires most { copies ≤ 64 }
-        ensures { (s : Draft) (ts : List E.Expression) (m : ℕ) → AddsParts s (draft self.old) ts m → length ts ≡ count
+        ensures { (s : Draft) (ts : Items E.Expression) (m : ℕ) → AddsParts s (draft self.old) ts m → length ts ≡ count
             → OnOk result (AddsExpression s (draft self.new) (E.At at (E.Repeat copies (joined ts))) (1 + m)) }
     {
         let kept = self.roots.len() - count;
@@ -203,6 +210,145 @@ impl Builder {
             &mut self.roots,
             count,
             Node::Join {
+                parts: List::of(parts),
+            },
+            at,
+        )
+    }
+
+    /// How many expressions nothing names yet.
+    pub(crate) fn expression_count(&self) -> usize
+        ensures { result ≡ length (draft self.now).expressions }
+    {
+        self.roots.len()
+    }
+
+    /// Builds a lone `;`, and what does nothing.
+    pub(crate) fn empty(&mut self, at: u32) -> Result<(), AllocError>
+        ensures { OnOk result (AddsStatement (draft self.old) (draft self.new) T.Empty 1) }
+    {
+        let expressions = self.roots.len();
+        let statements = self.bodies.len();
+        add_body(
+            &mut self.flat,
+            &mut self.roots,
+            &mut self.bodies,
+            expressions,
+            statements,
+            Statement::Empty,
+            at,
+        )
+    }
+
+    /// Builds an assignment, blocking or not (IEEE 1364-2005, 9.2), of the last expression to the one before it.
+    pub(crate) fn assignment(&mut self, blocking: bool, at: u32) -> Result<(), AllocError>
+        requires { EndsInAssignment (draft self.old) }
+        ensures { (s : Draft) (t u : E.Expression) (m : ℕ) → Adds s (draft self.old) (t ∷ u ∷ []) [] m
+            → OnOk result (AddsStatement s (draft self.new) (T.Assignment at (target_tree t) u blocking) (1 + m)) }
+    {
+        let n = self.roots.len();
+        let statements = self.bodies.len();
+        let target = self.roots[n - 2];
+        let expr = self.roots[n - 1];
+        add_body(
+            &mut self.flat,
+            &mut self.roots,
+            &mut self.bodies,
+            n - 2,
+            statements,
+            Statement::Assign {
+                target,
+                expr,
+                blocking,
+            },
+            at,
+        )
+    }
+
+    /// Builds an `if` (IEEE 1364-2005, 9.4) on the last expression. The last of so many `branches` is that of its `else`, if there are two.
+    pub(crate) fn conditional(&mut self, branches: usize, at: u32) -> Result<(), AllocError>
+        requires some { 1 ≤ branches }
+        requires most { branches ≤ 2 }
+        requires ends { EndsInParts 1 branches (draft self.old) }
+        ensures { (s : Draft) (t : E.Expression) (taken : T.Statement) (other : Option T.Statement) (m : ℕ) → Adds s (draft self.old) (t ∷ []) (taken ∷ option_to_list other) m
+            → length (taken ∷ option_to_list other) ≡ branches
+            → OnOk result (AddsStatement s (draft self.new) (T.If t taken (unwrap_or other T.Empty)) (1 + m)) }
+    {
+        let kept = self.bodies.len() - branches;
+        let yes = self.bodies[kept];
+        let no = entry(&self.bodies, kept + 1);
+        let expressions = self.roots.len() - 1;
+        let c = self.roots[expressions];
+        add_body(
+            &mut self.flat,
+            &mut self.roots,
+            &mut self.bodies,
+            expressions,
+            kept,
+            Statement::If { c, yes, no },
+            at,
+        )
+    }
+
+    /// Builds a case (IEEE 1364-2005, 9.5). Expression `first` of those that nothing names yet is its subject; the labels follow, as many as the
+    /// arms have. The last statements are those of the arms, and after them that of the default, if there are so many `others`.
+    pub(crate) fn case(
+        &mut self,
+        alloc: Global,
+        kind: CaseKind,
+        first: usize,
+        arms: &[CaseArm],
+        others: usize,
+        at: u32,
+    ) -> Result<(), AllocError>
+        requires most { others ≤ 1 }
+        requires ends { EndsInCase first (label_counts arms.now) others (draft self.old) }
+        ensures { (s : Draft) (t : E.Expression) (made : Items Labelled) (other : Option T.Statement) (m : ℕ)
+            → Adds s (draft self.old) (t ∷ flat_map (λ (a : Labelled). a.labels) made) (map (λ (a : Labelled). a.statement) made ++ option_to_list other) m
+            → map (λ (a : Labelled). length a.labels) made ≡ label_counts arms.now → length (option_to_list other) ≡ others
+            → OnOk result (AddsStatement s (draft self.new) (T.Case (case_of kind) t (arms_with made (unwrap_or other T.Empty))) (1 + m)) }
+    {
+        let kept = self.bodies.len() - others - arms.len();
+        let made = cut(alloc, arms, &self.roots[first + 1..], &self.bodies[kept..])?;
+        let of = self.roots[first];
+        let other = entry(&self.bodies, kept + arms.len());
+        add_body(
+            &mut self.flat,
+            &mut self.roots,
+            &mut self.bodies,
+            first,
+            kept,
+            Statement::Case {
+                kind,
+                of,
+                arms: List::of(made),
+                other,
+            },
+            at,
+        )
+    }
+
+    /// Builds a sequence (IEEE 1364-2005, 9.8.1) of the last statements, `count` of them.
+    pub(crate) fn sequence(
+        &mut self,
+        alloc: Global,
+        count: usize,
+        at: u32,
+    ) -> Result<(), AllocError>
+        requires { EndsInParts 0 count (draft self.old) }
+        ensures { (s : Draft) (ss : Items T.Statement) (m : ℕ) → Adds s (draft self.old) [] ss m → length ss ≡ count
+            → OnOk result (AddsStatement s (draft self.new) (sequence ss) (1 + m)) }
+    {
+        let expressions = self.roots.len();
+        let kept = self.bodies.len() - count;
+        let parts = list_of(alloc, &self.bodies[kept..])?;
+        add_body(
+            &mut self.flat,
+            &mut self.roots,
+            &mut self.bodies,
+            expressions,
+            kept,
+            Statement::Seq {
                 parts: List::of(parts),
             },
             at,
@@ -257,6 +403,33 @@ impl Builder {
             kind: Kind::Assign { target, expr, port },
         })?;
         self.roots.truncate(n - 2);
+        Ok(())
+    }
+
+    /// Builds an always block (IEEE 1364-2005, 9.9.2) of the last statement.
+    pub(crate) fn always(
+        &mut self,
+        star: bool,
+        events: Vec<Event>,
+        at: u32,
+    ) -> Result<(), AllocError>
+        requires room { length (draft self.old).design.processes < 2 ^ 16 }
+        requires there { IsTrue (all_below (length (draft self.old).design.signals) (map (λ (e : Event). e.signal) events.items)) }
+        requires ends { EndsInParts 0 1 (draft self.old) }
+        ensures { (s : Draft) (t : T.Statement) (m : ℕ) → AddsStatement s (draft self.old) t m
+            → OnOk result (draft self.new ≡ and_process s (Always at star (map (event_of (signal_at (draft self.old).design.signals)) events.items) t)) }
+    {
+        let n = self.bodies.len();
+        let statement = self.bodies[n - 1];
+        self.flat.add_process(Process {
+            at,
+            kind: Kind::Block {
+                star,
+                events: List::of(events),
+                statement,
+            },
+        })?;
+        self.bodies.truncate(n - 1);
         Ok(())
     }
 }
@@ -319,4 +492,76 @@ fn push_reserved(list: &mut Vec<u32>, number: u32)
     ensures { list.new.items ≡ list.old.items ++ number ∷ [] }
 {
     let _ = list.push(number);
+}
+
+/// Adds a statement that names the expressions and statements from these on, in the place of the statements.
+fn add_body(
+    flat: &mut Flat,
+    roots: &mut Vec<u32>,
+    bodies: &mut Vec<u32>,
+    expressions: usize,
+    statements: usize,
+    statement: Statement,
+    at: u32,
+) -> Result<(), AllocError>
+    requires covered { IsTrue (covers_statement flat.old statement) }
+    requires enough { statements ≤ length bodies.old.items }
+    ensures flat { OnOk result (flat.new ≡ with_statement flat.old statement at) }
+    ensures roots { OnOk result (roots.new.items ≡ take expressions roots.old.items) }
+    ensures bodies { OnOk result (bodies.new.items ≡ take statements bodies.old.items ++ length flat.old.statements ∷ []) }
+    ensures room { OnOk result (length flat.old.statements < 2 ^ 32 - 1) }
+    ensures same_flat { OnErr result (flat.new ≡ flat.old) }
+    ensures same_roots { OnErr result (roots.new.items ≡ roots.old.items) }
+    ensures same_bodies { OnErr result (bodies.new.items ≡ bodies.old.items) }
+{
+    bodies.reserve(1)?;
+    let number = flat.add_statement(statement, at)?;
+    push_reserved(bodies, number);
+    bodies[statements] = number;
+    bodies.truncate(statements + 1);
+    roots.truncate(expressions);
+    Ok(())
+}
+
+/// The number at this place, if there is one.
+fn entry(list: &[u32], n: usize) -> Option<u32>
+    ensures { result ≡ slice_get list.now n }
+{
+    list.get(n).copied()
+}
+
+/// A list of these numbers.
+fn list_of(alloc: Global, numbers: &[u32]) -> Result<Vec<u32>, AllocError>
+    ensures { IfOk result (λ v. v.items ≡ numbers.now) }
+{
+    let mut list = Vec::new(alloc);
+    list.extend_from_slice(numbers)?;
+    Ok(list)
+}
+
+/// The arms that have as many of these labels each as an arm of the text has, in order, and one of these statements each.
+fn cut(
+    alloc: Global,
+    arms: &[CaseArm],
+    labels: &[u32],
+    statements: &[u32],
+) -> Result<Vec<Arm>, AllocError>
+    requires labels { length labels.now ≡ total (label_counts arms.now) }
+    requires statements { length arms.now ≤ length statements.now }
+    ensures { IfOk result (λ v. v.items ≡ cut (label_counts arms.now) labels.now statements.now) }
+{
+    let mut made = Vec::new(alloc);
+    let mut next = 0;
+    let mut number = 0;
+    for arm in arms {
+        let end = next + arm.labels.len();
+        let items = list_of(alloc, &labels[next..end])?;
+        made.push(Arm {
+            items: List::of(items),
+            statement: statements[number],
+        })?;
+        next = end;
+        number += 1;
+    }
+    Ok(made)
 }

@@ -2,15 +2,23 @@
 #![tactic(auto)]
 
 mod assigns;
+mod blocks;
 mod builder;
 mod checks;
 mod expressions;
+mod items;
+mod laws;
 mod names;
 mod operators;
 mod outputs;
+mod statements;
 mod targets;
 
 pub use assigns::{assign, input_port, wire};
+pub use blocks::always;
 pub use builder::Builder;
 pub use checks::{check_control, first_fault};
+pub use items::{assign_each, wire_each};
+pub use laws::fine_law;
 pub use outputs::output_port;
+pub use statements::statement;

@@ -14,3 +14,4 @@ mod OutputFaults
 mod InstanceFaults
 mod ItemFaults
 mod ConnectedApart
+mod StatementFacts

@@ -12,3 +12,4 @@ pub mod Selects
 pub mod Outputs
 pub mod Instances
 pub mod Items
+pub mod StatementFaults

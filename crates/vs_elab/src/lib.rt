@@ -14,6 +14,7 @@ mod outputs;
 mod overrides;
 mod ports;
 mod selects;
+mod statements;
 mod targets;
 mod values;
 mod written;

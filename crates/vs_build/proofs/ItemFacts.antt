@@ -1,0 +1,118 @@
+-- Items without a fault, one after the other.
+use Rattle.std.proofs.Common.{◌≡◌, ℕ, zero, suc, ◌+◌, ◌<◌, ◌≤◌, ◌^◌, false, List, [], ◌∷◌, ◌++◌, length, get_or, map, flat_map, max, take, Option, Some, None, refl, sym, ap, ◌∙◌, subst, arith, append_assoc, length-append}
+use Rattle.std.proofs.Math.Seq.{take-suc, take-length}
+use Rattle.std.proofs.lemmas.Grind.{flat_map-append}
+use Rattle.std.proofs.lemmas.List.{map-append, length-map, append-nil}
+use Rattle.vs_design.specs.Designs.{Process, Design}
+use Rattle.vs_grammar.specs.Trees as tree
+use Rattle.vs_grammar.specs.Shapes.{IsAssign, IsDeclarator, Given, IsExpr, Each}
+use Rattle.vs_grammar.specs.Depths.{deepest, option_depth, expr_depth, assign_depth, declarator_depth}
+use Rattle.vs_const.specs.Expressions.{typed}
+use Rattle.vs_const.specs.Meanings.{Find}
+use Rattle.vs_const.specs.Sound.{AreSound}
+use Rattle.vs_const.proofs.Formed.{both_nil}
+use Rattle.vs_hierarchy.specs.Environments.{Env, named}
+use Rattle.vs_hierarchy.specs.Pieces.{Piece, Own, Said, all_said}
+use Rattle.vs_hierarchy.specs.Statements.{typed_statement, typed_control}
+use Rattle.vs_hierarchy.specs.Surveys.{assign_said, wire_said, block_said}
+use Rattle.vs_build.specs.Drafts.{Draft, and_process}
+use Rattle.vs_build.specs.Writable.{IsAssignable, wire_assign, assign_process}
+use Rattle.vs_build.specs.Items.{and_processes, assign_processes, value_processes, wire_processes, IsAssigned, IsDeclared, AssignsAreFine, WiresAreFine, BlocksAreFine}
+
+none_more : {A : Type 0} (xs : List A) → xs ≡ xs ++ []
+none_more [] = refl
+none_more (x ∷ xs) = ap (λ ys. x ∷ ys) (none_more xs)
+
+-- ---- one process more
+
+pub no_process : (s : Draft) → s ≡ and_processes s []
+no_process s = ap (λ xs. record s { design = record s.design { processes = xs } }) (none_more s.design.processes)
+
+pub more_processes : (s q v : Draft) (ps qs : List Process) → q ≡ and_processes s ps → v ≡ and_processes q qs → v ≡ and_processes s (ps ++ qs)
+more_processes s q v ps qs e f = f ∙ ap (λ z. and_processes z qs) e ∙ ap (λ xs. record s { design = record s.design { processes = xs } }) (append_assoc s.design.processes ps qs)
+
+pub these_processes : (s v : Draft) (ps qs : List Process) → ps ≡ qs → v ≡ and_processes s ps → v ≡ and_processes s qs
+these_processes s v ps qs e h = h ∙ ap (and_processes s) e
+
+pub assign_after : (s v : Draft) (ps : List Process) (find : Find) (a : tree.Assign) → v ≡ and_processes s ps → IsAssignable s.design find a → IsAssignable v.design find a
+assign_after s v ps find a e w = subst (λ (z : Draft). IsAssignable z.design find a) (sym e) (record { shaped = w.shaped; sound = w.sound; clean = w.clean; shallow = w.shallow })
+
+value_after : (s v : Draft) (ps : List Process) (find : Find) (name : tree.Name) (o : Option tree.Expr) → v ≡ and_processes s ps → IsAssigned s.design find name o → IsAssigned v.design find name o
+value_after s v ps find name None e w = tt
+value_after s v ps find name (Some x) e w = assign_after s v ps find (wire_assign name x) e w
+
+pub declared_after : (s v : Draft) (ps : List Process) (find : Find) (d : tree.Declarator) → v ≡ and_processes s ps → IsDeclared s.design find d → IsDeclared v.design find d
+declared_after s v ps find d e w = value_after s v ps find d.name d.value e w
+
+each_get : {A B : Type 0} (P : B → Type 0) (f : A → B) (xs : List A) (i : ℕ) (d : A) → i < length xs → Each P (map f xs) → P (f (get_or xs i d))
+each_get P f [] i d h all = absurd (let no : ⊥ = omega (arith, h) in no)
+each_get P f (x ∷ xs) zero d h all = all.0
+each_get P f (x ∷ xs) (suc i) d h all = each_get P f xs i d (omega (arith, h)) all.1
+
+pub each_at : {A B : Type 0} (P : B → Type 0) (f : A → B) (xs : List A) (i : ℕ) (x : A) → i < length xs → x ≡ get_or xs i x → Each P (map f xs) → P (f x)
+each_at P f xs i x h e all = subst (λ y. P (f y)) (sym e) (each_get P f xs i x h all)
+
+-- one element more, as a list of lists
+pub flat_more : {A B C : Type 0} (f : A → B) (g : B → List C) (xs : List A) (i : ℕ) (x : A) → i < length xs → x ≡ get_or xs i x → flat_map g (map f (take (i + 1) xs)) ≡ flat_map g (map f (take i xs)) ++ g (f x)
+flat_more f g xs i x h e =
+    let next : i + 1 ≡ suc i = omega arith in
+    ap (λ n. flat_map g (map f (take n xs))) next ∙ ap (λ ys. flat_map g (map f ys)) (take-suc xs i x h) ∙ ap (flat_map g) (map-append f (take i xs) (get_or xs i x ∷ []))
+    ∙ flat_map-append g (map f (take i xs)) (f (get_or xs i x) ∷ []) ∙ ap (λ ys. flat_map g (map f (take i xs)) ++ ys) (append-nil (g (f (get_or xs i x)))) ∙ ap (λ y. flat_map g (map f (take i xs)) ++ g (f y)) (sym e)
+
+pub map_more : {A B C : Type 0} (f : A → B) (g : B → C) (xs : List A) (i : ℕ) (x : A) → i < length xs → x ≡ get_or xs i x → map g (map f (take (i + 1) xs)) ≡ map g (map f (take i xs)) ++ g (f x) ∷ []
+map_more f g xs i x h e =
+    let next : i + 1 ≡ suc i = omega arith in
+    ap (λ n. map g (map f (take n xs))) next ∙ ap (λ ys. map g (map f ys)) (take-suc xs i x h) ∙ ap (map g) (map-append f (take i xs) (get_or xs i x ∷ []))
+    ∙ map-append g (map f (take i xs)) (f (get_or xs i x) ∷ []) ∙ ap (λ y. map g (map f (take i xs)) ++ g (f y) ∷ []) (sym e)
+
+pub all_of : {A : Type 0} (xs : List A) (i : ℕ) → i ≡ length xs → take i xs ≡ xs
+all_of xs i e = ap (λ n. take n xs) e ∙ take-length xs
+
+pub value_count : (place : ℕ) (name : tree.Name) (o : Option tree.Expr) (find : Find) → length (value_processes place name o find) ≤ 1
+value_count place name None find = omega arith
+value_count place name (Some e) find = omega arith
+
+pub wires_count : (place : ℕ) (names : List tree.Declarator) (find : Find) → length (wire_processes place names find) ≤ length names
+wires_count place [] find = omega arith
+wires_count place (d ∷ ds) find = omega (arith, length-append (value_processes place d.name d.value find) (wire_processes place ds find), value_count place d.name d.value find, wires_count place ds find)
+
+pub process_count : (s v : Draft) (ps : List Process) → v ≡ and_processes s ps → length v.design.processes ≡ length s.design.processes + length ps
+process_count s v ps e = ap (λ (z : Draft). length z.design.processes) e ∙ length-append s.design.processes ps
+
+-- ---- the laws
+
+pub assigns_fine : AssignsAreFine
+assigns_fine d env place [] x sound le h = (tt, refl)
+assigns_fine d env place (a ∷ rest) x sound le h =
+    let n = both_nil (assign_said env place a).faults (all_said (assign_said env place) rest).faults h in
+    let r = assigns_fine d env place rest x.1 sound (omega (arith, le)) n.1 in
+    let first : IsAssignable d (named env) a = record { shaped = x.0; sound = sound; clean = n.0; shallow = omega (arith, le) } in
+    ((first, r.0), ap (λ ps. Own (assign_process place a (named env)) ∷ ps) r.1)
+
+value_fine : (d : Design) (env : Env) (place : ℕ) (name : tree.Name) (o : Option tree.Expr) (shaped : IsDeclarator (record { name = name; value = o })) → AreSound d false (named env) → option_depth expr_depth o ≤ 253
+    → (let n : tree.Declarator = record { name = name; value = o } in (wire_said env place n).faults ≡ [])
+    → IsAssigned d (named env) name o × (let n : tree.Declarator = record { name = name; value = o } in (wire_said env place n).pieces ≡ map Own (value_processes place name o (named env)))
+value_fine d env place name None shaped sound le h = (tt, refl)
+value_fine d env place name (Some e) shaped sound le h =
+    let fine : IsAssignable d (named env) (wire_assign name e) = record { shaped = ((shaped.0, tt), shaped.1); sound = sound; clean = h; shallow = omega (arith, le) } in
+    (fine, refl)
+
+pub wires_fine : WiresAreFine
+wires_fine d env place [] x sound le h = (tt, refl)
+wires_fine d env place (n ∷ rest) x sound le h =
+    let m = both_nil (wire_said env place n).faults (all_said (wire_said env place) rest).faults h in
+    let f = value_fine d env place n.name n.value x.0 sound (omega (arith, le)) m.0 in
+    let r = wires_fine d env place rest x.1 sound (omega (arith, le)) m.1 in (
+      (f.0, r.0),
+      ap (λ ps. ps ++ (all_said (wire_said env place) rest).pieces) f.1 ∙ ap (λ ps. map Own (value_processes place n.name n.value (named env)) ++ ps) r.1
+          ∙ sym (map-append Own (value_processes place n.name n.value (named env)) (wire_processes place rest (named env))),
+    )
+
+pub blocks_fine : BlocksAreFine
+blocks_fine d env b x sound le h = (record { shaped = x; sound = sound; clean = h; shallow = le }, refl)
+
+pub length_taken : {A : Type 0} (i : ℕ) (xs : List A) → length (take i xs) ≤ i
+length_taken zero [] = omega arith
+length_taken zero (x ∷ xs) = omega arith
+length_taken (suc i) [] = omega arith
+length_taken (suc i) (x ∷ xs) = omega (arith, length_taken i xs)

@@ -1,0 +1,56 @@
+-- What the items of a scope add to a design (IEEE 1364-2005, 6.1 and 9.9.2), each as a list of processes.
+use Rattle.std.specs.Prelude.{◌≡◌, ◌≤◌, ℕ, false, List, [], ◌∷◌, ◌++◌, map, flat_map, Option, Some, None}
+use Rattle.vs_design.specs.Designs.{Process, Design}
+use Rattle.vs_grammar.specs.Trees as tree
+use Rattle.vs_grammar.specs.Shapes.{IsAssign, IsDeclarator, Each}
+use Rattle.vs_grammar.specs.Depths.{deepest, assign_depth, declarator_depth, statement_depth}
+use Rattle.vs_const.specs.Meanings.{Find}
+use Rattle.vs_const.specs.Sound.{AreSound}
+use Rattle.vs_hierarchy.specs.Environments.{Env, named}
+use Rattle.vs_hierarchy.specs.Pieces.{Own, all_said}
+use Rattle.vs_hierarchy.specs.Surveys.{assign_said, wire_said, block_said}
+use Rattle.vs_grammar.specs.Shapes.{IsStatement}
+use Rattle.vs_build.specs.Drafts.{Draft}
+use Rattle.vs_build.specs.Writable.{IsAssignable, wire_assign, assign_process}
+use Rattle.vs_build.specs.Executable.{IsRunnable, block_process}
+
+abbrev pub and_processes : Draft → List Process → Draft
+and_processes s ps = record s { design = record s.design { processes = s.design.processes ++ ps } }
+
+-- the assigns of an item
+abbrev pub assign_processes : ℕ → List tree.Assign → Find → List Process
+assign_processes place assigns find = map (λ (a : tree.Assign). assign_process place a find) assigns
+
+-- a declared name with this value, if it has one (6.1.1)
+abbrev pub value_processes : ℕ → tree.Name → Option tree.Expr → Find → List Process
+value_processes place name None find = []
+value_processes place name (Some e) find = assign_process place (wire_assign name e) find ∷ []
+
+-- the names of a declaration
+abbrev pub wire_processes : ℕ → List tree.Declarator → Find → List Process
+wire_processes place names find = flat_map (λ (d : tree.Declarator). value_processes place d.name d.value find) names
+
+-- a value without a fault
+abbrev pub IsAssigned : Design → Find → tree.Name → Option tree.Expr → Type 0
+IsAssigned d find name None = Unit {0}
+IsAssigned d find name (Some e) = IsAssignable d find (wire_assign name e)
+
+abbrev pub IsDeclared : Design → Find → tree.Declarator → Type 0
+IsDeclared d find n = IsAssigned d find n.name n.value
+
+-- ---- what a scope's survey says of its items, where it has no fault
+
+-- of assigns: they can be built, and the processes built are its pieces
+abbrev pub AssignsAreFine : Type 0
+AssignsAreFine = (d : Design) (env : Env) (place : ℕ) (assigns : List tree.Assign) → Each IsAssign assigns → AreSound d false (named env) → deepest assign_depth assigns ≤ 253 → (all_said (assign_said env place) assigns).faults ≡ []
+    → Each (IsAssignable d (named env)) assigns × ((all_said (assign_said env place) assigns).pieces ≡ map Own (assign_processes place assigns (named env)))
+
+-- of a declaration with values
+abbrev pub WiresAreFine : Type 0
+WiresAreFine = (d : Design) (env : Env) (place : ℕ) (names : List tree.Declarator) → Each IsDeclarator names → AreSound d false (named env) → deepest declarator_depth names ≤ 253 → (all_said (wire_said env place) names).faults ≡ []
+    → Each (IsDeclared d (named env)) names × ((all_said (wire_said env place) names).pieces ≡ map Own (wire_processes place names (named env)))
+
+-- of an always block
+abbrev pub BlocksAreFine : Type 0
+BlocksAreFine = (d : Design) (env : Env) (b : tree.AlwaysBlock) → IsStatement b.statement → AreSound d false (named env) → statement_depth b.statement ≤ 253 → (block_said env b).faults ≡ []
+    → IsRunnable d (named env) b × ((block_said env b).pieces ≡ Own (block_process b (named env)) ∷ [])

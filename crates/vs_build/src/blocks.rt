@@ -1,0 +1,76 @@
+//! Always blocks of the text (IEEE 1364-2005, 9.9.2).
+
+ghost use Rattle.std.specs.Prelude.{◌≡◌, ◌<◌, ◌^◌, [], length, map, IfOk, OnOk};
+ghost use Rattle.vs_ast.specs.Views as view;
+ghost use Rattle.vs_hierarchy.specs.Statements.{edge_of, event_faults, typed_events};
+ghost use Rattle.vs_flat.specs.Operators as flat;
+ghost use Rattle.vs_build.specs.Drafts.{and_process};
+ghost use Rattle.vs_build.specs.Growth.{draft};
+ghost use Rattle.vs_build.specs.Executable.{IsRunnable, awaited_of, awaited, block_process};
+
+use crate::builder::Builder;
+use crate::statements::statement;
+use std::alloc::{AllocError, Global};
+use vs_ast as ast;
+use vs_ast::{AlwaysBlock, EventControl};
+use vs_const::{Env, Named};
+use vs_flat::{Edge, Event};
+
+/// What is waited for of a signal.
+fn flat_edge(edge: ast::Edge) -> Edge
+    ensures { flat.edge_of result ≡ edge_of (view.edge edge) }
+{
+    match edge {
+        ast::Edge::Any => Edge::Any,
+        ast::Edge::Posedge => Edge::Pos,
+        ast::Edge::Negedge => Edge::Neg,
+    }
+}
+
+/// An event that breaks no rule (IEEE 1364-2005, 9.7.2).
+fn event<E: Env>(e: &ast::Event, env: &E) -> Event
+    requires { event_faults e.now.name.place (edge_of (view.edge e.now.edge)) (E.names env.now e.now.name.text) ≡ [] }
+    ensures { awaited_of result ≡ awaited (E.names env.now) (view.event e.now) }
+{
+    match env.find(e.name.text.as_bytes()) {
+        Named::Signal(s) => Event {
+            signal: s.number,
+            edge: flat_edge(e.edge),
+        },
+        _ => unreachable!(),
+    }
+}
+
+/// The events of a list that breaks no rule, in order (IEEE 1364-2005, 9.7.4).
+fn events<E: Env>(alloc: Global, list: &[ast::Event], env: &E) -> Result<Vec<Event>, AllocError>
+    requires { (typed_events (map view.event list.now) (E.names env.now)).faults ≡ [] }
+    ensures { IfOk result (λ v. map awaited_of v.items ≡ map (awaited (E.names env.now)) (map view.event list.now)) }
+{
+    let mut made = Vec::new(alloc);
+    for e in list {
+        let next = event(e, env);
+        made.push(next)?;
+    }
+    Ok(made)
+}
+
+/// Builds an always block that breaks no rule. An error is want of memory; the builder is of no use then.
+pub fn always<E: Env>(
+    builder: &mut Builder,
+    alloc: Global,
+    block: &AlwaysBlock,
+    env: &E,
+) -> Result<(), AllocError>
+    requires room { length (draft builder.old).design.processes < 2 ^ 16 }
+    requires fine { IsRunnable (draft builder.old).design (E.names env.now) (view.always_block block.now) }
+    ensures { OnOk result (draft builder.new ≡ and_process (draft builder.old) (block_process (view.always_block block.now) (E.names env.now))) }
+{
+    statement(builder, alloc, &block.statement, env)?;
+    match &block.control {
+        EventControl::Star => builder.always(true, Vec::new(alloc), block.place),
+        EventControl::Listed(list) => {
+            let waited = events(alloc, list, env)?;
+            builder.always(false, waited, block.place)
+        }
+    }
+}
