@@ -1,0 +1,279 @@
+-- Statements that read no signal, and what they do.
+use Rattle.std.proofs.Common.{◌≡◌, ℕ, zero, suc, ◌+◌, ◌<◌, Bool, true, false, List, [], ◌∷◌, ◌++◌, length, map, drop, get_or, Option, Some, refl, sym, ap, ◌∙◌, arith}
+use Rattle.std.specs.Prelude.{◌&&◌, slice_index, if◌then◌else◌}
+use Rattle.std.specs.List.{list_all}
+use Rattle.std.proofs.lemmas.List.{drop_more}
+use Rattle.vs_four.specs.Logic.{BitList, truth}
+use Rattle.vs_four.specs.Tables.{is_one}
+use Rattle.vs_net.specs.Network.{State, Write, Update, write_all, flatten}
+use Rattle.vs_design.specs.Expressions.{Signal, OfSignal, OfConstant, Expression, Literal, Name, Select, Unary, Binary, Choice, Join, Repeat, At, is_constant}
+use Rattle.vs_design.specs.Values.{own_value}
+use Rattle.vs_design.specs.Statements.{Target, CaseKind, Statement, Empty, Assignment, Then, If, Case, Arms, Arm, Default}
+use Rattle.vs_design.specs.Bodies.{assignment_writes, body, arms_body, is_taken}
+use Rattle.vs_design.specs.Elaborated.{has_constant_selects}
+use Rattle.vs_design.specs.Fits.{is_fit, fits_target, fits_statement, fits_arms}
+use Rattle.vs_design.specs.Footprints.{read_signals, target_signals, items_signals, statement_signals, arms_signals}
+use Rattle.vs_design.specs.Resets.{has_none, are_constant, arms_constant}
+use Rattle.vs_design.specs.Rules.{mixed_in, mixed_in_arms}
+use Rattle.vs_design.specs.TreeLaws.{NoWrites}
+use Rattle.vs_flat.specs.declared.statements.Arm as F
+use Rattle.vs_flat.specs.Arena.{Arena}
+use Rattle.vs_flat.specs.Trees as R
+use Rattle.vs_sets.specs.Nodes.{tree_of}
+use Rattle.vs_sets.specs.StatementParts.{BranchBelow, ArmsBelow, arms_of, statement_of}
+use Rattle.vs_zero.specs.Constants.{are_constants, arms_are_constants, taken_arm, IsFixed, updated, IsFixedBranch, EachIsFixed}
+use Rattle.vs_zero.specs.States.{unknown}
+use Rattle.vs_zero.proofs.Fit.{and_left, and_right, and_both}
+use Rattle.vs_zero.proofs.Writing.{write_all-append}
+
+-- ---- no signals
+
+none_left : (xs ys : List Signal) → has_none (xs ++ ys) ≡ true → has_none xs ≡ true
+none_left [] ys h = refl
+none_left (x ∷ xs) ys h = absurd (let z : ⊥ = cc in z)
+
+none_right : (xs ys : List Signal) → has_none (xs ++ ys) ≡ true → has_none ys ≡ true
+none_right [] ys h = h
+none_right (x ∷ xs) ys h = absurd (let z : ⊥ = cc in z)
+
+pub constant_by : (e : Expression) → has_none (read_signals e) ≡ true → is_constant e ≡ true
+constant_by (Literal bits signed sized) h = refl
+constant_by (Name signal) h = absurd (let z : ⊥ = cc in z)
+constant_by (Select (OfSignal signal) part index) h = absurd (let z : ⊥ = cc in z)
+constant_by (Select (OfConstant bits) part index) h = constant_by index h
+constant_by (Unary op a) h = constant_by a h
+constant_by (Binary op a b) h = and_both (is_constant a) (is_constant b) (constant_by a (none_left (read_signals a) (read_signals b) h)) (constant_by b (none_right (read_signals a) (read_signals b) h))
+constant_by (Choice c p q) h =
+    let rest = none_right (read_signals c) (read_signals p ++ read_signals q) h in
+    and_both (is_constant c && is_constant p) (is_constant q)
+    (and_both (is_constant c) (is_constant p) (constant_by c (none_left (read_signals c) (read_signals p ++ read_signals q) h)) (constant_by p (none_left (read_signals p) (read_signals q) rest)))
+    (constant_by q (none_right (read_signals p) (read_signals q) rest))
+constant_by (Join high low) h = and_both (is_constant high) (is_constant low) (constant_by high (none_left (read_signals high) (read_signals low) h)) (constant_by low (none_right (read_signals high) (read_signals low) h))
+constant_by (Repeat count a) h = constant_by a h
+constant_by (At place e) h = constant_by e h
+
+items_by : (es : List Expression) → has_none (items_signals es) ≡ true → are_constants es ≡ true
+items_by [] h = refl
+items_by (e ∷ es) h = and_both (is_constant e) (are_constants es) (constant_by e (none_left (read_signals e) (items_signals es) h)) (items_by es (none_right (read_signals e) (items_signals es) h))
+
+arms_by : (arms : Arms) → has_none (arms_signals arms) ≡ true → arms_are_constants arms ≡ true
+arms_by (Arm items statement rest) h =
+    and_both (are_constants items) (arms_are_constants rest) (items_by items (none_left (items_signals items) (statement_signals statement ++ arms_signals rest) h))
+    (arms_by rest (none_right (statement_signals statement) (arms_signals rest) (none_right (items_signals items) (statement_signals statement ++ arms_signals rest) h)))
+arms_by (Default statement) h = refl
+
+-- ---- no list
+
+left_empty : (xs ys : List ℕ) → xs ++ ys ≡ [] → xs ≡ []
+left_empty [] ys h = refl
+left_empty (x ∷ xs) ys h = absurd (let z : ⊥ = cc in z)
+
+right_empty : (xs ys : List ℕ) → xs ++ ys ≡ [] → ys ≡ []
+right_empty [] ys h = h
+right_empty (x ∷ xs) ys h = absurd (let z : ⊥ = cc in z)
+
+-- ---- parts of a fixed statement
+
+pub record FixedAssign (target : Target) (e : Expression) (blocking : Bool) : Type 0 where
+  pub selects : has_constant_selects target ≡ true
+  pub constant : is_constant e ≡ true
+  pub fits : fits_target target ≡ true
+  pub fit : is_fit e ≡ true
+  pub later : blocking ≡ false
+
+pub fixed_assign : (place : ℕ) (target : Target) (e : Expression) (blocking : Bool) → IsFixed (Assignment place target e blocking) → FixedAssign target e blocking
+fixed_assign place target e blocking h =
+    let signals : has_none (target_signals target ++ read_signals e) ≡ true = and_left _ _ h.fixed in
+    record {
+      selects = and_right (has_none (target_signals target ++ read_signals e)) _ h.fixed;
+      constant = constant_by e (none_right (target_signals target) (read_signals e) signals);
+      fits = and_left _ _ h.fits;
+      fit = and_right (fits_target target) _ h.fits;
+      later = by_mix blocking h.unmixed;
+    }
+  where
+    by_mix : (blocking : Bool) → mixed_in true (Assignment place target e blocking) ≡ [] → blocking ≡ false
+    by_mix true k = absurd (let z : ⊥ = cc in z)
+    by_mix false k = refl
+
+pub record FixedIf (c : Expression) (taken other : Statement) : Type 0 where
+  pub constant : is_constant c ≡ true
+  pub fit : is_fit c ≡ true
+  pub taken_fixed : IsFixed taken
+  pub other_fixed : IsFixed other
+
+pub fixed_if : (c : Expression) (taken other : Statement) → IsFixed (If c taken other) → FixedIf c taken other
+fixed_if c taken other h =
+    let signals : has_none (read_signals c ++ (statement_signals taken ++ statement_signals other)) ≡ true = and_left _ _ h.fixed in
+    let rest = none_right (read_signals c) (statement_signals taken ++ statement_signals other) signals in
+    let constants : (are_constant taken && are_constant other) ≡ true = and_right (has_none (read_signals c ++ (statement_signals taken ++ statement_signals other))) _ h.fixed in
+    let first : (is_fit c && fits_statement taken) ≡ true = and_left _ _ h.fits in
+    record {
+      constant = constant_by c (none_left (read_signals c) (statement_signals taken ++ statement_signals other) signals);
+      fit = and_left _ _ first;
+      taken_fixed = record {
+        fixed = and_both (has_none (statement_signals taken)) (are_constant taken) (none_left (statement_signals taken) (statement_signals other) rest) (and_left _ _ constants);
+        fits = and_right (is_fit c) _ first;
+        unmixed = left_empty (mixed_in true taken) (mixed_in true other) h.unmixed;
+      };
+      other_fixed = record {
+        fixed = and_both (has_none (statement_signals other)) (are_constant other) (none_right (statement_signals taken) (statement_signals other) rest) (and_right (are_constant taken) _ constants);
+        fits = and_right (is_fit c && fits_statement taken) _ h.fits;
+        unmixed = right_empty (mixed_in true taken) (mixed_in true other) h.unmixed;
+      };
+    }
+
+pub record FixedThen (first rest : Statement) : Type 0 where
+  pub first_fixed : IsFixed first
+  pub rest_fixed : IsFixed rest
+
+pub fixed_then : (first rest : Statement) → IsFixed (Then first rest) → FixedThen first rest
+fixed_then first rest h =
+    let signals : has_none (statement_signals first ++ statement_signals rest) ≡ true = and_left _ _ h.fixed in
+    let constants : (are_constant first && are_constant rest) ≡ true = and_right (has_none (statement_signals first ++ statement_signals rest)) _ h.fixed in
+    record {
+      first_fixed = record {
+        fixed = and_both (has_none (statement_signals first)) (are_constant first) (none_left (statement_signals first) (statement_signals rest) signals) (and_left _ _ constants);
+        fits = and_left _ _ h.fits;
+        unmixed = left_empty (mixed_in true first) (mixed_in true rest) h.unmixed;
+      };
+      rest_fixed = record {
+        fixed = and_both (has_none (statement_signals rest)) (are_constant rest) (none_right (statement_signals first) (statement_signals rest) signals) (and_right (are_constant first) _ constants);
+        fits = and_right (fits_statement first) _ h.fits;
+        unmixed = right_empty (mixed_in true first) (mixed_in true rest) h.unmixed;
+      };
+    }
+
+pub record FixedCase (subject : Expression) (arms : Arms) : Type 0 where
+  pub constant : is_constant subject ≡ true
+  pub fit : is_fit subject ≡ true
+  pub constants : arms_are_constants arms ≡ true
+  pub fits : fits_arms arms ≡ true
+  pub signals : has_none (arms_signals arms) ≡ true
+  pub selects : arms_constant arms ≡ true
+  pub unmixed : mixed_in_arms true arms ≡ []
+
+pub fixed_case : (kind : CaseKind) (subject : Expression) (arms : Arms) → IsFixed (Case kind subject arms) → FixedCase subject arms
+fixed_case kind subject arms h =
+    let signals : has_none (read_signals subject ++ arms_signals arms) ≡ true = and_left _ _ h.fixed in
+    let rest = none_right (read_signals subject) (arms_signals arms) signals in
+    record {
+      constant = constant_by subject (none_left (read_signals subject) (arms_signals arms) signals);
+      fit = and_left _ _ h.fits;
+      constants = arms_by arms rest;
+      fits = and_right (is_fit subject) _ h.fits;
+      signals = rest;
+      selects = and_right (has_none (read_signals subject ++ arms_signals arms)) _ h.fixed;
+      unmixed = h.unmixed;
+    }
+
+-- the arm that is taken
+abbrev FixedArms : Arms → Type 0
+FixedArms arms = (has_none (arms_signals arms) ≡ true) × (arms_constant arms ≡ true) × (fits_arms arms ≡ true) × (mixed_in_arms true arms ≡ [])
+
+pub taken_fixed : (a : Arena) (nodes n : ℕ) (kind : CaseKind) (w : ℕ) (s : Bool) (v : BitList) (other : Option ℕ) (arms : List F.Arm) → FixedArms (arms_of a other arms) → ArmsBelow nodes n arms → BranchBelow n other
+    → IsFixedBranch a n (taken_arm (tree_of a) kind w s v other arms)
+taken_fixed a nodes n kind w s v other [] h below otherwise =
+    record { earlier = otherwise; fixed = record { fixed = and_both (has_none (statement_signals (R.branch (statement_of a) other))) (are_constant (R.branch (statement_of a) other)) h.0 h.1; fits = h.2; unmixed = h.3 } }
+taken_fixed a nodes n kind w s v other (arm ∷ arms) h below otherwise =
+    go (is_taken kind w s v (map (tree_of a) arm.items) unknown)
+    (taken_fixed a nodes n kind w s v other arms
+    (none_right (statement_signals st) (arms_signals rest) signals, and_right (are_constant st) _ h.1, and_right (list_all is_fit items && fits_statement st) _ h.2, right_empty (mixed_in true st) (mixed_in_arms true rest) h.3)
+    (λ k arm e. below (suc k) arm e) otherwise)
+  where
+    st : Statement
+    st = statement_of a arm.statement
+
+    items : List Expression
+    items = map (tree_of a) arm.items
+
+    rest : Arms
+    rest = arms_of a other arms
+
+    signals : has_none (statement_signals st ++ arms_signals rest) ≡ true
+    signals = none_right (items_signals items) (statement_signals st ++ arms_signals rest) h.0
+
+    go : (t : Bool) → IsFixedBranch a n (taken_arm (tree_of a) kind w s v other arms) → IsFixedBranch a n (if t then Some arm.statement else taken_arm (tree_of a) kind w s v other arms)
+    go false k = k
+    go true k = record {
+      earlier = (below zero arm refl).1;
+      fixed = record {
+        fixed = and_both (has_none (statement_signals st)) (are_constant st) (none_left (statement_signals st) (arms_signals rest) signals) (and_left _ _ h.1);
+        fits = and_right (list_all is_fit items) _ (and_left _ _ h.2);
+        unmixed = left_empty (mixed_in true st) (mixed_in_arms true rest) h.3;
+      };
+    }
+
+-- ---- what they do
+
+pub updated_nothing : (s : State) → updated Empty s ≡ s
+unfolding write_all flatten
+updated_nothing s = refl
+
+append_nothing : (ws : List Write) → ws ++ [] ≡ ws
+append_nothing [] = refl
+append_nothing (w ∷ ws) = ap (λ xs. w ∷ xs) (append_nothing ws)
+
+pub updated_assign : (place : ℕ) (target : Target) (e : Expression) (blocking : Bool) (s : State) → blocking ≡ false → updated (Assignment place target e blocking) s ≡ write_all s (assignment_writes target e unknown)
+unfolding flatten
+updated_assign place target e true s h = absurd (let z : ⊥ = cc in z)
+updated_assign place target e false s h = ap (write_all s) (append_nothing (assignment_writes target e unknown))
+
+flat_both : (us vs : List Update) → flatten (us ++ vs) ≡ flatten us ++ flatten vs
+unfolding flatten
+flat_both [] vs = refl
+flat_both (u ∷ us) vs = ap (λ ws. u ++ ws) (flat_both us vs) ∙ sym (assoc u (flatten us) (flatten vs))
+  where
+    assoc : (xs ys zs : List Write) → (xs ++ ys) ++ zs ≡ xs ++ (ys ++ zs)
+    assoc [] ys zs = refl
+    assoc (x ∷ xs) ys zs = ap (λ ws. x ∷ ws) (assoc xs ys zs)
+
+no_write : (s : State) → write_all s [] ≡ s
+unfolding write_all
+no_write s = refl
+
+pub updated_then : NoWrites → (first rest : Statement) → mixed_in true first ≡ [] → (s : State) → updated (Then first rest) s ≡ updated rest (updated first s)
+updated_then law first rest m s =
+    let done = body first unknown in
+    let same : write_all unknown done.writes ≡ unknown = ap (write_all unknown) (law first unknown m) ∙ no_write unknown in
+    ap (λ t. write_all s (flatten (done.updates ++ (body rest t).updates))) same
+    ∙ ap (write_all s) (flat_both done.updates (body rest unknown).updates)
+    ∙ write_all-append (flatten done.updates) (flatten (body rest unknown).updates) s
+
+pub updated_if : (c : Expression) (taken other : Statement) (s : State) (b : Bool) → is_one (truth (own_value c unknown)) ≡ b → updated (If c taken other) s ≡ updated (if b then taken else other) s
+updated_if c taken other s b h = ap (λ t. write_all s (flatten (if t then body taken unknown else body other unknown).updates)) h ∙ go b
+  where
+    go : (b : Bool) → write_all s (flatten (if b then body taken unknown else body other unknown).updates) ≡ updated (if b then taken else other) s
+    go true = refl
+    go false = refl
+
+pub updated_arms : (a : Arena) (kind : CaseKind) (w : ℕ) (g : Bool) (v : BitList) (other : Option ℕ) (arms : List F.Arm) (s : State)
+    → write_all s (flatten (arms_body (arms_of a other arms) kind w g v unknown).updates) ≡ updated (R.branch (statement_of a) (taken_arm (tree_of a) kind w g v other arms)) s
+updated_arms a kind w g v other [] s = refl
+updated_arms a kind w g v other (arm ∷ arms) s = go (is_taken kind w g v (map (tree_of a) arm.items) unknown) (updated_arms a kind w g v other arms s)
+  where
+    go : (t : Bool) → write_all s (flatten (arms_body (arms_of a other arms) kind w g v unknown).updates) ≡ updated (R.branch (statement_of a) (taken_arm (tree_of a) kind w g v other arms)) s
+        → write_all s (flatten (if t then body (statement_of a arm.statement) unknown else arms_body (arms_of a other arms) kind w g v unknown).updates)
+        ≡ updated (R.branch (statement_of a) (if t then Some arm.statement else taken_arm (tree_of a) kind w g v other arms)) s
+    go true k = refl
+    go false k = k
+
+-- ---- sequences
+
+sequence_fixed : (st : ℕ → Statement) (parts : List ℕ) (k : ℕ) → IsFixed (R.sequence (map st parts)) → k < length parts → IsFixed (st (get_or parts k 0))
+sequence_fixed st [] k h inside = absurd (omega (arith, inside))
+sequence_fixed st (p ∷ []) zero h inside = h
+sequence_fixed st (p ∷ []) (suc k) h inside = absurd (omega (arith, inside))
+sequence_fixed st (p ∷ q ∷ parts) zero h inside = (fixed_then (st p) (R.sequence (map st (q ∷ parts))) h).first_fixed
+sequence_fixed st (p ∷ q ∷ parts) (suc k) h inside = sequence_fixed st (q ∷ parts) k (fixed_then (st p) (R.sequence (map st (q ∷ parts))) h).rest_fixed (omega (arith, inside))
+
+pub parts_fixed : (a : Arena) (n : ℕ) (parts : List ℕ) → ((k : ℕ) → k < length parts → slice_index parts k < n) → IsFixed (R.sequence (map (statement_of a) parts)) → EachIsFixed a n parts
+parts_fixed a n parts below h k inside = record { earlier = below k inside; fixed = sequence_fixed (statement_of a) parts k h inside }
+
+sequence_step : NoWrites → (s : Statement) (ss : List Statement) (state : State) → mixed_in true s ≡ [] → updated (R.sequence (s ∷ ss)) state ≡ updated (R.sequence ss) (updated s state)
+sequence_step law s [] state m = sym (updated_nothing (updated s state))
+sequence_step law s (t ∷ ss) state m = updated_then law s (R.sequence (t ∷ ss)) m state
+
+pub parts_step : NoWrites → (st : ℕ → Statement) (parts : List ℕ) (k : ℕ) (state : State) → k < length parts → mixed_in true (st (get_or parts k 0)) ≡ []
+    → updated (R.sequence (map st (drop k parts))) state ≡ updated (R.sequence (map st (drop (k + 1) parts))) (updated (st (get_or parts k 0)) state)
+parts_step law st parts k state h m = ap (λ ps. updated (R.sequence (map st ps)) state) (drop_more parts k 0 h) ∙ sequence_step law (st (get_or parts k 0)) (map st (drop (k + 1) parts)) state m

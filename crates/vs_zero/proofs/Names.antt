@@ -1,0 +1,105 @@
+-- Nodes of a lawful flat design: what they name is there, and where the bits of signals are.
+use Rattle.std.proofs.Common.{◌≡◌, ℕ, zero, suc, ◌+◌, ◌<◌, ◌≤◌, true, List, [], ◌∷◌, length, map, take, drop, get_or, Option, Some, None, refl, sym, ap, ◌∙◌, subst, arith}
+use Rattle.std.specs.Prelude.{◌&&◌, ◌==◌, nat_lt, nat_le, slice_get, option_map, sum_by}
+use Rattle.std.specs.List.{list_all}
+use Rattle.std.proofs.lemmas.Bool.Decides.{nat_tests}
+use Rattle.std.proofs.lemmas.List.Sums.{sum_by-cons}
+use Rattle.std.proofs.lemmas.List.{drop_more}
+use Rattle.vs_four.specs.Selects.{range_length}
+use Rattle.vs_four.specs.declared.Bit4.{Bit4}
+use Rattle.vs_four.specs.declared.Bit4.TheVariants.{X}
+use Rattle.vs_design.specs.Expressions as E
+use Rattle.vs_design.specs.Designs as D
+use Rattle.vs_design.specs.Elaborated.{have_bits_from, is_declared, is_lawful_range}
+use Rattle.vs_design.specs.Values.{count_from}
+use Rattle.vs_flat.specs.declared.placed.Placed.{Placed}
+use Rattle.vs_flat.specs.declared.expressions.Node.{Node}
+use Rattle.vs_flat.specs.declared.expressions.Node.TheVariants.{Literal, Name, Bit, Part, Unary, Binary, Choice, Join}
+use Rattle.vs_flat.specs.Arena.{Arena, node_at}
+use Rattle.vs_flat.specs.Named.{node_names_below, all_below}
+use Rattle.vs_flat.specs.Lawful.{IsLawful}
+use Rattle.vs_flat.specs.Laws.{NodeNames, CountsStay}
+use Rattle.vs_flat.specs.Trees.{signal_at}
+use Rattle.vs_flat.specs.DesignOf.{arena_signals, design_of}
+use Rattle.vs_sets.specs.FitParts.{Is64}
+use Rattle.vs_sets.specs.Nodes.{HasNames, EachBelow, signal_of}
+use Rattle.vs_net.specs.Network.{State}
+use Rattle.vs_zero.specs.States.{state_of}
+use Rattle.vs_zero.proofs.Fit.{and_left, and_right}
+
+below : (m n : ℕ) → nat_lt m n ≡ true → m < n
+below m n h = grind (arith, nat_tests, h)
+
+pub all_below-each : (n : ℕ) (ms : List ℕ) → all_below n ms ≡ true → EachBelow n ms
+all_below-each n [] h k inside = absurd (omega arith)
+all_below-each n (m ∷ ms) h zero inside = below m n (and_left _ _ h)
+all_below-each n (m ∷ ms) h (suc k) inside = all_below-each n ms (and_right (nat_lt m n) _ h) k (omega arith)
+
+names : (signals e : ℕ) (n : Node) → node_names_below signals e n ≡ true → HasNames signals e n
+names signals e (Literal bits signed sized) h = tt
+names signals e (Name signal) h = below signal signals (and_left _ _ (and_left (nat_lt signal signals && true) true h))
+names signals e (Bit of range index) h = let k = all_below-each e (of ∷ index ∷ []) (and_right true _ h) in (k 0 (omega arith), k 1 (omega arith))
+names signals e (Part of range base up width) h = let k = all_below-each e (of ∷ base ∷ []) (and_right true _ h) in (k 0 (omega arith), k 1 (omega arith))
+names signals e (Unary op a) h = all_below-each e (a ∷ []) (and_right true _ h) 0 (omega arith)
+names signals e (Binary op a b) h = let k = all_below-each e (a ∷ b ∷ []) (and_right true _ h) in (k 0 (omega arith), k 1 (omega arith))
+names signals e (Choice c p q) h = let k = all_below-each e (c ∷ p ∷ q ∷ []) (and_right true _ h) in (k 0 (omega arith), k 1 (omega arith), k 2 (omega arith))
+names signals e (Join parts) h = all_below-each e parts (and_right true _ h)
+
+pub node_names : NodeNames → (a : Arena) (e : ℕ) (n : Node) → IsLawful a → node_at a e ≡ Some n → HasNames (length a.signals) e n
+node_names law a e n lawful h = at (slice_get a.nodes e) refl h where
+  at : (o : Option (Placed Node)) → slice_get a.nodes e ≡ o → option_map (λ (p : Placed Node). p.item) o ≡ Some n → HasNames (length a.signals) e n
+  at None f h = absurd (let z : ⊥ = cc in z)
+  at (Some p) f h =
+      let same : p.item ≡ n = cc in
+      subst (λ (m : Node). HasNames (length a.signals) e m) same (names (length a.signals) e p.item (law a lawful.names e p f))
+
+-- ---- the bits of signals
+
+within_from : (first : ℕ) (ss : List E.Signal) (n : ℕ) → have_bits_from first ss ≡ true → n < length ss → (signal_at ss n).first + E.signal_length (signal_at ss n) ≤ first + sum_by E.signal_length ss
+within_from first [] n h inside = absurd (omega arith)
+within_from first (s ∷ ss) zero h inside =
+    let e : s.first ≡ first = grind (arith, nat_tests, and_left (s.first == first) _ h) in
+    let all = sum_by-cons E.signal_length s ss in
+    omega (arith, e, all)
+within_from first (s ∷ ss) (suc n) h inside =
+    let k = within_from (first + E.signal_length s) ss n (and_right (s.first == first) _ h) (omega arith) in
+    let all = sum_by-cons E.signal_length s ss in
+    omega (arith, k, all)
+
+-- a signal's bits are bits of the design
+pub signal_within : CountsStay → (a : Arena) (n : ℕ) → IsLawful a → n < length a.signals → (signal_of a n).first + E.signal_length (signal_of a n) ≤ D.bit_count (design_of a)
+signal_within counts a n lawful h =
+    let k = within_from 0 (arena_signals a) n lawful.design.bits_numbered (omega (arith, (counts a).signals)) in
+    omega (arith, k)
+
+declared_at : (d : D.Design) (ss : List E.Signal) (n : ℕ) → list_all (is_declared d) ss ≡ true → n < length ss → is_lawful_range (signal_at ss n).range ≡ true
+declared_at d [] n h inside = absurd (omega arith)
+declared_at d (s ∷ ss) zero h inside = and_right (nat_lt s.scope (length d.scopes)) _ (and_left (nat_lt s.scope (length d.scopes) && is_lawful_range s.range) _ (and_left _ _ h))
+declared_at d (s ∷ ss) (suc n) h inside = declared_at d ss n (and_right (is_declared d s) _ h) (omega arith)
+
+some_bits : (r : Rattle.vs_four.specs.declared.Range.Range) → 1 ≤ range_length r
+some_bits r = grind arith
+
+few_bits : (r : Option Rattle.vs_four.specs.declared.Range.Range) → is_lawful_range r ≡ true → Is64 (E.range_or_one r)
+few_bits None h = (omega arith, omega arith)
+few_bits (Some r) h =
+    let k : range_length r ≤ 64 = grind (arith, nat_tests, and_right (nat_le r.left 65535 && nat_le r.right 65535) (nat_le (range_length r) 64) h) in
+    (some_bits r, k)
+
+-- and there are 1 to 64 of them
+pub signal_few : CountsStay → (a : Arena) (n : ℕ) → IsLawful a → n < length a.signals → Is64 (E.signal_length (signal_of a n))
+signal_few counts a n lawful h = few_bits (signal_of a n).range (declared_at (design_of a) (arena_signals a) n lawful.design.declared (omega (arith, (counts a).signals)))
+
+-- ---- their values
+
+pub values_at : (t : List Bit4) (first n : ℕ) → first + n ≤ length t → map (state_of t) (count_from first n) ≡ take n (drop first t)
+values_at t first zero h = refl
+values_at t first (suc n) h =
+    let e = drop_more t first X (omega arith) in
+    let next : suc first ≡ first + 1 = omega arith in
+    let k = values_at t (suc first) n (omega arith) ∙ ap (λ m. take n (drop m t)) next in
+    ap (λ xs. get_or t first X ∷ xs) k ∙ ap (take (suc n)) (sym e)
+
+pub counted : (s : State) (first n : ℕ) → length (map s (count_from first n)) ≡ n
+counted s first zero = refl
+counted s first (suc n) = ap suc (counted s (suc first) n)

@@ -1,0 +1,165 @@
+-- The branch of a reset: it is fixed, and writes bits of its block alone.
+use Rattle.std.proofs.Common.{◌≡◌, ℕ, ◌+◌, ◌<◌, Bool, true, false, List, [], ◌∷◌, ◌++◌, ◌&&◌, ◌||◌, ◌==◌, refl, sym, ap, ◌∙◌, subst, Some, None, Option, drop, length, if◌then◌else◌}
+use Rattle.std.specs.Prelude.{slice_get, All}
+use Rattle.std.specs.List.{list_any}
+use mathlib.Core.Path.{fun_ext}
+use Rattle.std.proofs.lemmas.List.{drop_more}
+use Rattle.std.proofs.lemmas.List.Folds.{list_any-append}
+use Rattle.std.proofs.lemmas.Option.{get_or_from_slice_get}
+use Rattle.vs_net.specs.Network.{flatten}
+use Rattle.vs_design.specs.Designs.{Event, Process, Continuous, Always, has_edge, Design, bit_count}
+use Rattle.vs_design.specs.Clocks.{Events, ByClock, ByBoth, is_clock_event, is_reset_event, events_of, clock_nets, root_of}
+use Rattle.vs_design.specs.Fits.{is_fit, fits_statement, fits_process}
+use Rattle.vs_design.specs.Footprints.{contains, statement_bits, writes_of}
+use Rattle.vs_design.specs.Lifted.{Family}
+use Rattle.vs_design.specs.Resets.{is_condition, is_fixed, reset_branch, branch_updates, reset_of, with_reset, with_resets}
+use Rattle.vs_design.specs.Refusals.{block_refusal, width_refusal}
+use Rattle.vs_design.specs.Rules.{mixed_in, mixed_assigns}
+use Rattle.vs_design.specs.Statements.{Statement, Empty, Assignment, Then, If, Case}
+use Rattle.vs_flat.specs.Arena.{Arena}
+use Rattle.vs_flat.specs.DesignOf.{design_of}
+use Rattle.vs_flat.specs.Lawful.{IsLawful}
+use Rattle.vs_reads.specs.Footprint.{footprints_of, writes_at}
+use Rattle.vs_reads.specs.Laws.{HasBitsOf, EachHasItsBits}
+use Rattle.vs_sets.specs.StatementParts.{Covers, statement_of}
+use Rattle.vs_width.specs.Laws.{EachProcessFits}
+use Rattle.vs_clock.specs.declared.resets.Reset.{Reset}
+use Rattle.vs_clock.specs.Resets.{branch_by, branch_of, plain_branch, IsResetOf, IsReset, AreAllResets, reset_at}
+use Rattle.vs_zero.specs.Constants.{IsFixed}
+use Rattle.vs_zero.specs.Values.{with_updates}
+use Rattle.vs_zero.proofs.ByKind.{plain_all}
+use Rattle.vs_zero.proofs.Numbered.{process_there}
+use Rattle.vs_zero.proofs.Settling.{all_below}
+use Rattle.vs_zero.proofs.Unrefused.{and_both, clean}
+
+-- ---- the events of a block with a reset
+
+edge_of_reset : (roots : ℕ → Option ℕ) (e : Event) → is_reset_event roots e ≡ true → has_edge e ≡ true
+edge_of_reset roots e h = (and_both (has_edge e) _ (and_both _ _ h).0).0
+
+first_edge : (a b : Bool) → a ≡ true → (a || (b || false)) ≡ true
+first_edge true b h = refl
+first_edge false b h = cc
+
+second_edge : (a b : Bool) → b ≡ true → (a || (b || false)) ≡ true
+second_edge true b h = refl
+second_edge false true h = refl
+second_edge false false h = cc
+
+clocked_by : (nets : List ℕ) (roots : ℕ → Option ℕ) (events : List Event) (c r : Event) → events_of nets roots events ≡ Some (ByBoth c r) → list_any has_edge events ≡ true
+clocked_by nets roots [] c r h = cc
+clocked_by nets roots (e ∷ []) c r h = at (is_clock_event nets e) h where
+  at : (k : Bool) → (if k then Some (ByClock e) else None) ≡ Some (ByBoth c r) → (has_edge e || false) ≡ true
+  at true h = cc
+  at false h = cc
+clocked_by nets roots (e ∷ f ∷ []) c r h = at (is_clock_event nets e && is_reset_event roots f) refl (is_clock_event nets f && is_reset_event roots e) refl h where
+  at : (k : Bool) → (is_clock_event nets e && is_reset_event roots f) ≡ k → (l : Bool) → (is_clock_event nets f && is_reset_event roots e) ≡ l
+      → (if k then Some (ByBoth e f) else (if l then Some (ByBoth f e) else None)) ≡ Some (ByBoth c r) → (has_edge e || (has_edge f || false)) ≡ true
+  at true p l q h = second_edge (has_edge e) (has_edge f) (edge_of_reset roots f (and_both (is_clock_event nets e) _ p).1)
+  at false p true q h = first_edge (has_edge e) (has_edge f) (edge_of_reset roots e (and_both (is_clock_event nets f) _ q).1)
+  at false p false q h = cc
+clocked_by nets roots (e ∷ f ∷ g ∷ es) c r h = cc
+
+-- ---- the branch
+
+pub record BranchFacts (x : Process) (t : Statement) : Type 0 where
+  pub fixed : IsFixed t
+  pub within : (b : ℕ) → contains (statement_bits t) b ≡ true → contains (writes_of x) b ≡ true
+
+left_empty : (xs ys : List ℕ) → xs ++ ys ≡ [] → xs ≡ []
+left_empty [] ys h = refl
+left_empty (x ∷ xs) ys h = absurd (let z : ⊥ = cc in z)
+
+left_has : (xs ys : List ℕ) (b : ℕ) → contains xs b ≡ true → contains (xs ++ ys) b ≡ true
+left_has xs ys b h = list_any-append (λ c. b == c) xs ys ∙ ap (λ q. q || contains ys b) h
+
+pub branch_facts : (d : Design) (clock : ℕ) (x : Process) (t : Statement) → branch_of d clock x ≡ Some t → fits_process x ≡ true → mixed_assigns x ≡ [] → BranchFacts x t
+branch_facts d clock (Continuous place port target_place target e) t h fit m = cc
+branch_facts d clock (Always place star events s) t h fit m = by_events (events_of (clock_nets d clock) (root_of d clock) events) refl h
+  where
+    by_statement : (r : Event) (s : Statement) → reset_branch r.edge r.signal.first s ≡ Some t → fits_statement s ≡ true → mixed_in true s ≡ [] → IsFixed t × ((b : ℕ) → contains (statement_bits t) b ≡ true → contains (statement_bits s) b ≡ true)
+    by_statement r Empty h f m = cc
+    by_statement r (Assignment place target e blocking) h f m = cc
+    by_statement r (Then first rest) h f m = cc
+    by_statement r (Case kind subject arms) h f m = cc
+    by_statement r (If c taken other) h f m = at (is_condition r.edge r.signal.first c && is_fixed taken) refl h where
+      same : Some taken ≡ Some t → taken ≡ t
+      same e = cc
+
+      at : (k : Bool) → (is_condition r.edge r.signal.first c && is_fixed taken) ≡ k → (if k then Some taken else None) ≡ Some t → IsFixed t × ((b : ℕ) → contains (statement_bits t) b ≡ true → contains (statement_bits taken ++ statement_bits other) b ≡ true)
+      at false e h = cc
+      at true e h =
+          subst (λ (u : Statement). IsFixed u × ((b : ℕ) → contains (statement_bits u) b ≡ true → contains (statement_bits taken ++ statement_bits other) b ≡ true)) (same h) (
+            record {
+              fixed = (and_both (is_condition r.edge r.signal.first c) (is_fixed taken) e).1;
+              fits = (and_both (is_fit c) (fits_statement taken) (and_both (is_fit c && fits_statement taken) (fits_statement other) f).0).1;
+              unmixed = left_empty (mixed_in true taken) (mixed_in true other) m;
+            },
+            λ b. left_has (statement_bits taken) (statement_bits other) b,
+          )
+
+    by_events : (o : Option Events) → events_of (clock_nets d clock) (root_of d clock) events ≡ o → branch_by o s ≡ Some t → BranchFacts (Always place star events s) t
+    by_events None e h = cc
+    by_events (Some (ByClock c)) e h = cc
+    by_events (Some (ByBoth c r)) e h =
+        let f = by_statement r s h fit (ap (λ k. mixed_in k s) (sym (clocked_by (clock_nets d clock) (root_of d clock) events c r e)) ∙ m) in
+        record { fixed = f.0; within = f.1 }
+
+-- ---- one process after the other, the last one first
+
+pub reset_step : (a : Arena) (clock p : ℕ) (x : Process) (r : Reset) (f g h : Family) → slice_get (design_of a).processes p ≡ Some x → p < length (design_of a).processes → IsResetOf a clock x r
+    → g ≡ (λ b. with_resets (design_of a) clock (drop (p + 1) (design_of a).processes) b (f b)) → h ≡ (λ b. with_updates (flatten (branch_updates (plain_branch a r))) b (g b))
+    → h ≡ (λ b. with_resets (design_of a) clock (drop p (design_of a).processes) b (f b))
+reset_step a clock p x r f g h e l i before after =
+    let d = design_of a in
+    let rest = drop (p + 1) d.processes in
+    after ∙ ap (λ (g : Family). let k : Family = λ b. with_updates (flatten (branch_updates (plain_branch a r))) b (g b) in k) before
+    ∙ fun_ext (λ b. ap (λ o. with_reset o b (with_resets d clock rest b (f b))) (sym i.is) ∙ ap (λ ps. with_resets d clock ps b (f b)) (sym (dropped d.processes p x l e)))
+  where
+    dropped : (ps : List Process) (p : ℕ) (x : Process) → p < length ps → slice_get ps p ≡ Some x → drop p ps ≡ x ∷ drop (p + 1) ps
+    dropped ps p x l e = drop_more ps p x l ∙ ap (λ y. y ∷ drop (p + 1) ps) (get_or_from_slice_get ps p x x e)
+
+pub no_reset_step : (a : Arena) (clock p : ℕ) (x : Process) (f g : Family) → slice_get (design_of a).processes p ≡ Some x → p < length (design_of a).processes → reset_of (design_of a) clock x ≡ None
+    → g ≡ (λ b. with_resets (design_of a) clock (drop (p + 1) (design_of a).processes) b (f b)) → g ≡ (λ b. with_resets (design_of a) clock (drop p (design_of a).processes) b (f b))
+no_reset_step a clock p x f g e l i before =
+    let d = design_of a in
+    let rest = drop (p + 1) d.processes in
+    before ∙ fun_ext (λ b. ap (λ o. with_reset o b (with_resets d clock rest b (f b))) (sym i) ∙ ap (λ ps. with_resets d clock ps b (f b)) (sym (dropped d.processes p x l e)))
+  where
+    dropped : (ps : List Process) (p : ℕ) (x : Process) → p < length ps → slice_get ps p ≡ Some x → drop p ps ≡ x ∷ drop (p + 1) ps
+    dropped ps p x l e = drop_more ps p x l ∙ ap (λ y. y ∷ drop (p + 1) ps) (get_or_from_slice_get ps p x x e)
+
+-- ---- the reset of a process, with all that its run needs
+
+pub record ResetAt (a : Arena) (clock p : ℕ) (r : Reset) (bits : List ℕ) : Type 0 where
+  pub process : Process
+  pub is : slice_get (design_of a).processes p ≡ Some process
+  pub reset : IsResetOf a clock process r
+  pub there : r.branch < length a.statements
+  pub fixed : IsFixed (statement_of a r.branch)
+  pub covers : Covers bits (statement_of a r.branch)
+  pub within : All (λ b. b < bit_count (design_of a)) bits
+
+pub reset_there : EachProcessFits → EachHasItsBits → (a : Arena) → IsLawful a → width_refusal (design_of a) ≡ None → block_refusal (design_of a) ≡ None → (clock : ℕ) (resets : List (Option Reset)) → AreAllResets a clock resets
+    → (p : ℕ) → p < length (design_of a).processes → (r : Reset) → Some r ≡ reset_at resets p → (bits : List ℕ) → bits ≡ writes_at (footprints_of (design_of a)) p → ResetAt a clock p r bits
+reset_there fits has a l w b clock resets all p here r e bits k =
+    let d = design_of a in
+    let x = process_there d.processes p here in
+    let i : IsResetOf a clock x.0 r = subst (λ o. IsReset a clock x.0 o) (sym e) (all.each p x.0 x.1) in
+    let f = branch_facts d clock x.0 (plain_branch a r) i.branch (plain_all fits_process d.processes p x.0 (fits d l.design w) x.1) (clean d b p x.0 x.1).unmixed in
+    let own : HasBitsOf (bit_count d) bits (writes_of x.0) = subst (λ (bs : List ℕ). HasBitsOf (bit_count d) bs (writes_of x.0)) (sym k) (has d l.design p x.0 x.1).writes in
+    record {
+      process = x.0;
+      is = x.1;
+      reset = i;
+      there = i.there;
+      fixed = f.fixed;
+      covers = λ c m. own.same c ∙ f.within c m;
+      within = all_below (bit_count d) bits (writes_of x.0) own;
+    }
+
+pub no_reset : (a : Arena) (clock : ℕ) (resets : List (Option Reset)) → AreAllResets a clock resets → (p : ℕ) → p < length (design_of a).processes → None ≡ reset_at resets p
+    → (x : Process) × (slice_get (design_of a).processes p ≡ Some x) × (reset_of (design_of a) clock x ≡ None)
+no_reset a clock resets all p here e =
+    let x = process_there (design_of a).processes p here in
+    (x.0, x.1, subst (λ o. IsReset a clock x.0 o) (sym e) (all.each p x.0 x.1))

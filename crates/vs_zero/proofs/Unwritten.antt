@@ -1,0 +1,98 @@
+-- A bit that a statement doesn't write keeps its set.
+use Rattle.std.proofs.Common.{◌≡◌, ℕ, Bool, true, false, List, [], ◌∷◌, ◌++◌, map, take, drop, Option, Some, None, refl, sym, ap, ap₂, ◌∙◌}
+use Rattle.std.specs.Prelude.{◌||◌, ◌==◌, if◌then◌else◌}
+use Rattle.std.specs.List.{list_any}
+use Rattle.std.proofs.lemmas.List.Folds.{list_any-append}
+use Rattle.std.proofs.lemmas.Bool.{cond-false}
+use Rattle.vs_net.specs.Network.{put}
+use Rattle.vs_four.specs.Selects.{places}
+use Rattle.vs_design.specs.Expressions.{sign, is_constant}
+use Rattle.vs_design.specs.Values.{bits_of_signal, constant_value}
+use Rattle.vs_design.specs.Statements.{Target, Whole, PartOf, Both, target_width, CaseKind, Statement, Empty, Assignment, Then, If, Case, Arms, Arm, Default, case_width, case_sign}
+use Rattle.vs_design.specs.Bodies.{bits_at}
+use Rattle.vs_design.specs.Footprints.{contains, somes, target_bits, statement_bits, arms_bits}
+use Rattle.vs_design.specs.Sets.{Set4, union, is_only_one, all_of, set_or}
+use Rattle.vs_design.specs.Lifted.{Family, lifted, own_sets, assigned_sets}
+use Rattle.vs_design.specs.LiftedBodies.{put_each, widen, write_sets, either, join_branches, join_arms, item_sets, lifted_body, lifted_arms}
+use Rattle.vs_design.specs.Sleepers.{at_once, arms_at_once}
+use Rattle.vs_zero.proofs.BranchSteps.{union_same}
+
+-- ---- tests that fail
+
+or_left : (a b : Bool) → (a || b) ≡ false → a ≡ false
+or_left true b h = h
+or_left false b h = refl
+
+or_right : (a b : Bool) → (a || b) ≡ false → b ≡ false
+or_right true b h = absurd (let z : ⊥ = cc in z)
+or_right false b h = h
+
+left_lacks : (xs ys : List ℕ) (b : ℕ) → contains (xs ++ ys) b ≡ false → contains xs b ≡ false
+left_lacks xs ys b h = or_left (contains xs b) (contains ys b) (sym (list_any-append (λ c. b == c) xs ys) ∙ h)
+
+right_lacks : (xs ys : List ℕ) (b : ℕ) → contains (xs ++ ys) b ≡ false → contains ys b ≡ false
+right_lacks xs ys b h = or_right (contains xs b) (contains ys b) (sym (list_any-append (λ c. b == c) xs ys) ∙ h)
+
+-- ---- targets
+
+put_other : (f : Family) (p b : ℕ) (s : Set4) → (b == p) ≡ false → put f p s b ≡ f b
+put_other f p b s h = cond-false (b == p) _ _ h
+
+each_other : (ps : List (Option ℕ)) (ss : List Set4) (f : Family) (b : ℕ) → contains (somes ps) b ≡ false → put_each ps ss f b ≡ f b
+each_other [] ss f b h = refl
+each_other (None ∷ ps) [] f b h = refl
+each_other (Some p ∷ ps) [] f b h = refl
+each_other (None ∷ ps) (s ∷ ss) f b h = each_other ps ss f b h
+each_other (Some p ∷ ps) (s ∷ ss) f b h = each_other ps ss (put f p s) b (or_right (b == p) (contains (somes ps) b) h) ∙ put_other f p b s (or_left (b == p) (contains (somes ps) b) h)
+
+somes_all : (bs : List ℕ) → somes (map Some bs) ≡ bs
+somes_all [] = refl
+somes_all (b ∷ bs) = ap (λ cs. b ∷ cs) (somes_all bs)
+
+write_other : (t : Target) (ss : List Set4) (f : Family) (b : ℕ) → contains (target_bits t) b ≡ false → write_sets t ss f b ≡ f b
+write_other (Whole signal) ss f b h = each_other (map Some (bits_of_signal signal)) ss f b (ap (λ bs. contains bs b) (somes_all (bits_of_signal signal)) ∙ h)
+write_other (PartOf signal p index) ss f b h = at (is_constant index) h where
+  at : (k : Bool) → contains (if k then somes (bits_at signal (places p (sign index) (constant_value index))) else bits_of_signal signal) b ≡ false
+      → (if k then put_each (bits_at signal (places p (sign index) (constant_value index))) ss f else widen (bits_of_signal signal) (all_of ss) f) b ≡ f b
+  at true h = each_other (bits_at signal (places p (sign index) (constant_value index))) ss f b h
+  at false h = cond-false (contains (bits_of_signal signal) b) _ _ h
+write_other (Both high low) ss f b h =
+    write_other low (take (target_width low) ss) (write_sets high (drop (target_width low) ss) f) b (right_lacks (target_bits high) (target_bits low) b h)
+    ∙ write_other high (drop (target_width low) ss) f b (left_lacks (target_bits high) (target_bits low) b h)
+
+-- ---- statements
+
+either_other : (f g h : Family) (b : ℕ) → g b ≡ f b → h b ≡ f b → either g h b ≡ f b
+either_other f g h b p q = ap₂ union p q ∙ union_same (f b)
+
+branches_other : (c : Set4) (f g h : Family) (b : ℕ) → g b ≡ f b → h b ≡ f b → join_branches c g h b ≡ f b
+branches_other c f g h b p q = at c.one? (c.zero? || c.x? || c.z?) where
+  at : (one others : Bool) → (if one then (if others then either g h else g) else h) b ≡ f b
+  at true true = either_other f g h b p q
+  at true false = p
+  at false others = q
+
+arms_other : (ms : List Set4) (f g h : Family) (b : ℕ) → g b ≡ f b → h b ≡ f b → join_arms ms g h b ≡ f b
+arms_other ms f g h b p q = at (list_any is_only_one ms) (list_any (λ (m : Set4). m.one?) ms) where
+  at : (sure may : Bool) → (if sure then g else (if may then either g h else h)) b ≡ f b
+  at true may = p
+  at false true = either_other f g h b p q
+  at false false = q
+
+mutual
+  pub body_other : (s : Statement) (f : Family) (b : ℕ) → contains (statement_bits s) b ≡ false → lifted_body (at_once s) f b ≡ f b
+  body_other Empty f b h = refl
+  body_other (Assignment place t e blocking) f b h = write_other t (assigned_sets e (target_width t) f) f b h
+  body_other (Then first rest) f b h =
+      body_other rest (lifted_body (at_once first) f) b (right_lacks (statement_bits first) (statement_bits rest) b h) ∙ body_other first f b (left_lacks (statement_bits first) (statement_bits rest) b h)
+  body_other (If c taken other) f b h =
+      branches_other (set_or (own_sets c f)) f (lifted_body (at_once taken) f) (lifted_body (at_once other) f) b
+      (body_other taken f b (left_lacks (statement_bits taken) (statement_bits other) b h)) (body_other other f b (right_lacks (statement_bits taken) (statement_bits other) b h))
+  body_other (Case kind subject arms) f b h =
+      case_other arms kind (case_width subject (arms_at_once arms)) (case_sign subject (arms_at_once arms)) (lifted subject (case_width subject (arms_at_once arms)) (case_sign subject (arms_at_once arms)) f) f b h
+
+  case_other : (arms : Arms) (kind : CaseKind) (w : ℕ) (s : Bool) (subject : List Set4) (f : Family) (b : ℕ) → contains (arms_bits arms) b ≡ false → lifted_arms (arms_at_once arms) kind w s subject f b ≡ f b
+  case_other (Arm items statement rest) kind w s subject f b h =
+      arms_other (item_sets kind w s subject items f) f (lifted_body (at_once statement) f) (lifted_arms (arms_at_once rest) kind w s subject f) b
+      (body_other statement f b (left_lacks (statement_bits statement) (arms_bits rest) b h)) (case_other rest kind w s subject f b (right_lacks (statement_bits statement) (arms_bits rest) b h))
+  case_other (Default statement) kind w s subject f b h = body_other statement f b h

@@ -1,0 +1,159 @@
+use Rattle.std.proofs.Common.{◌≡◌, ℕ, ◌+◌, length, List, map, drop, sym, ap, ap₂, ◌∙◌, subst, arith}
+use Rattle.std.proofs.lemmas.List.{drop_all}
+use Rattle.vs_net.specs.Network.{flatten, write_all}
+use Rattle.vs_design.specs.Bodies.{arms_body}
+use Rattle.vs_design.specs.Values.{value}
+use Rattle.vs_design.specs.Statements.{arms_width, arms_sign, case_width, case_sign}
+use Rattle.vs_flat.specs.declared.statements.Arm.{Arm}
+use Rattle.vs_flat.specs.Operators.{case_of}
+use Rattle.vs_flat.specs.Trees.{branch, sequence, target_tree}
+use Rattle.vs_sets.specs.Nodes.{tree_of}
+use Rattle.vs_sets.specs.StatementParts.{HasStatementNames, arms_of, statement_of, statement_of_node, place_of_statement}
+use Rattle.vs_zero.specs.Constants.{IsFixed, updated, IsFixedBranch, EachIsFixed, taken_arm, arms_are_constants}
+use Rattle.vs_zero.specs.States.{state_of, unknown}
+use Rattle.vs_zero.proofs.CaseSteps.{arms_grow, arm_within}
+use Rattle.vs_zero.proofs.Fit.{fits-from_fit}
+use Rattle.vs_zero.proofs.Fixing.{fixed_assign, fixed_if, fixed_case, taken_fixed, parts_fixed, parts_step, updated_nothing, updated_assign, updated_arms}
+use Rattle.vs_zero.proofs.fixed.+running.Goals as goal
+
+pub run-assign-requires-clause-constant : goal.run-assign-requires-clause-constant
+run-assign-requires-clause-constant t c =
+    let a = c.args.shapes.now in
+    let made = statement_of_node a (place_of_statement a c.args.s) in
+    let tree = c.statement_node.ensures.tree ∙ ap made c.in-Assign.is in
+    (fixed_assign (place_of_statement a c.args.s) (target_tree (tree_of a c.in-Assign.target)) (tree_of a c.in-Assign.expr) c.in-Assign.blocking (subst IsFixed tree c.requires.fixed)).constant
+
+pub run-constant_value-requires-clause-valued : goal.run-constant_value-requires-clause-valued
+run-constant_value-requires-clause-valued t c =
+    let a = c.args.shapes.now in
+    let made = statement_of_node a (place_of_statement a c.args.s) in
+    let tree = c.statement_node.ensures.tree ∙ ap made c.in-If.is in
+    let f = fixed_if (tree_of a c.in-If.c) (statement_of a c.in-If.yes) (branch (statement_of a) c.in-If.no) (subst IsFixed tree c.requires.fixed) in
+    record { constant = f.constant; fits = fits-from_fit (tree_of a c.in-If.c) f.fit }
+
+pub run-run-requires : goal.run-run-requires
+run-run-requires t c =
+    let a = c.args.shapes.now in
+    let made = statement_of_node a (place_of_statement a c.args.s) in
+    let tree = c.statement_node.ensures.tree ∙ ap made c.in-If.is in
+    let names = subst (HasStatementNames (length a.nodes) c.args.s) c.in-If.is c.statement_node.ensures.names in
+    let f = fixed_if (tree_of a c.in-If.c) (statement_of a c.in-If.yes) (branch (statement_of a) c.in-If.no) (subst IsFixed tree c.requires.fixed) in
+    (omega (arith, names.1), (c.requires.covers, (omega (arith, names.1, c.requires.there), f.taken_fixed)))
+
+pub run-run_branch-requires : goal.run-run_branch-requires
+run-run_branch-requires t c =
+    let a = c.args.shapes.now in
+    let made = statement_of_node a (place_of_statement a c.args.s) in
+    let tree = c.statement_node.ensures.tree ∙ ap made c.in-If.is in
+    let names = subst (HasStatementNames (length a.nodes) c.args.s) c.in-If.is c.statement_node.ensures.names in
+    let f = fixed_if (tree_of a c.in-If.c) (statement_of a c.in-If.yes) (branch (statement_of a) c.in-If.no) (subst IsFixed tree c.requires.fixed) in
+    (omega arith, (c.requires.covers, (omega (arith, c.requires.there), record { earlier = names.2; fixed = f.other_fixed })))
+
+pub run-value-subject-requires-clause-valued : goal.run-value-subject-requires-clause-valued
+run-value-subject-requires-clause-valued t c =
+    let a = c.args.shapes.now in
+    let made = statement_of_node a (place_of_statement a c.args.s) in
+    let tree = c.statement_node.ensures.tree ∙ ap made c.in-Case.is in
+    let f = fixed_case (case_of c.in-Case.kind) (tree_of a c.in-Case.of) (arms_of a c.in-Case.other c.in-Case.arms) (subst IsFixed tree c.requires.fixed) in
+    record { constant = f.constant; fits = fits-from_fit (tree_of a c.in-Case.of) f.fit }
+
+pub run-value-subject-requires-clause-fits : goal.run-value-subject-requires-clause-fits
+run-value-subject-requires-clause-fits t c =
+    let a = c.args.shapes.now in
+    omega (arith, c.own_context.ensures.len, c.case_context-context.ensures.len, arms_grow (arms_of a c.in-Case.other c.as_slice.result.now) c.own_context.result.len)
+
+pub run-taken_branch-taken-requires-clause-constant : goal.run-taken_branch-taken-requires-clause-constant
+run-taken_branch-taken-requires-clause-constant t c =
+    let a = c.args.shapes.now in
+    let made = statement_of_node a (place_of_statement a c.args.s) in
+    let tree = c.statement_node.ensures.tree ∙ ap made c.in-Case.is in
+    let f = fixed_case (case_of c.in-Case.kind) (tree_of a c.in-Case.of) (arms_of a c.in-Case.other c.in-Case.arms) (subst IsFixed tree c.requires.fixed) in
+    ap (λ (arms : List Arm). arms_are_constants (arms_of a c.in-Case.other arms)) c.as_slice-in-Case.ensures ∙ f.constants
+
+pub run-taken_branch-taken-requires-clause-within : goal.run-taken_branch-taken-requires-clause-within
+run-taken_branch-taken-requires-clause-within t c k inside =
+    let a = c.args.shapes.now in
+    let same : c.as_slice-in-Case.result.now ≡ c.as_slice.result.now = c.as_slice-in-Case.ensures ∙ sym c.as_slice.ensures in
+    arm_within (tree_of a) (statement_of a) c.in-Case.other c.as_slice-in-Case.result.now c.own_context.result.len c.case_context-context.result.len k (omega (arith, c.case_context-context.ensures.len, ap (λ (arms : List Arm). arms_width (arms_of a c.in-Case.other arms) c.own_context.result.len) same)) inside
+
+pub run-run_branch-requires-in-Case : goal.run-run_branch-requires-in-Case
+run-run_branch-requires-in-Case t c =
+    let a = c.args.shapes.now in
+    let made = statement_of_node a (place_of_statement a c.args.s) in
+    let tree = c.statement_node.ensures.tree ∙ ap made c.in-Case.is in
+    let names = subst (HasStatementNames (length a.nodes) c.args.s) c.in-Case.is c.statement_node.ensures.names in
+    let f = fixed_case (case_of c.in-Case.kind) (tree_of a c.in-Case.of) (arms_of a c.in-Case.other c.in-Case.arms) (subst IsFixed tree c.requires.fixed) in
+    let taken = taken_fixed a (length a.nodes) c.args.s (case_of c.in-Case.kind) c.case_context-context.result.len c.case_context-context.result.signed c.value-subject.result c.in-Case.other c.in-Case.arms (f.signals, f.selects, f.fits, f.unmixed) names.1 names.2 in (
+      omega arith,
+      (
+        c.requires.covers,
+        (
+          omega (arith, c.requires.there),
+          subst (IsFixedBranch a c.args.s) (sym (c.taken_branch-taken.ensures ∙ ap (λ (arms : List Arm). taken_arm (tree_of a) (case_of c.in-Case.kind) c.case_context-context.result.len c.case_context-context.result.signed c.value-subject.result c.in-Case.other arms) c.as_slice-in-Case.ensures)) taken,
+        ),
+      ),
+    )
+
+pub run-run_all-requires : goal.run-run_all-requires
+run-run_all-requires t c =
+    let a = c.args.shapes.now in
+    let made = statement_of_node a (place_of_statement a c.args.s) in
+    let tree = c.statement_node.ensures.tree ∙ ap made c.in-Seq.is in
+    let names = subst (HasStatementNames (length a.nodes) c.args.s) c.in-Seq.is c.statement_node.ensures.names in
+    (omega arith, (c.requires.covers, (omega (arith, c.requires.there), subst (λ (ps : List ℕ). EachIsFixed a c.args.s ps) (sym c.as_slice-in-Seq.ensures) (parts_fixed a c.args.s c.in-Seq.parts names (subst IsFixed tree c.requires.fixed)))))
+
+pub run-returns-in-Empty : goal.run-returns-in-Empty
+run-returns-in-Empty t c =
+    let a = c.args.shapes.now in
+    let made = statement_of_node a (place_of_statement a c.args.s) in
+    let tree = c.statement_node.ensures.tree ∙ ap made c.in-Empty.is in
+    sym (ap (λ st. updated st (state_of c.args.state.now)) tree ∙ updated_nothing (state_of c.args.state.now))
+
+pub run-returns-in-Assign : goal.run-returns-in-Assign
+run-returns-in-Assign t c =
+    let a = c.args.shapes.now in
+    let made = statement_of_node a (place_of_statement a c.args.s) in
+    let tree = c.statement_node.ensures.tree ∙ ap made c.in-Assign.is in
+    let f = fixed_assign (place_of_statement a c.args.s) (target_tree (tree_of a c.in-Assign.target)) (tree_of a c.in-Assign.expr) c.in-Assign.blocking (subst IsFixed tree c.requires.fixed) in
+    c.assign.ensures
+    ∙ sym (ap (λ st. updated st (state_of c.args.state.now)) tree ∙ updated_assign (place_of_statement a c.args.s) (target_tree (tree_of a c.in-Assign.target)) (tree_of a c.in-Assign.expr) c.in-Assign.blocking (state_of c.args.state.now) f.later)
+
+pub run-returns-in-Case : goal.run-returns-in-Case
+run-returns-in-Case t c =
+    let a = c.args.shapes.now in
+    let made = statement_of_node a (place_of_statement a c.args.s) in
+    let tree = c.statement_node.ensures.tree ∙ ap made c.in-Case.is in
+    let s = state_of c.args.state.now in
+    let other = c.in-Case.other in
+    let subject = tree_of a c.in-Case.of in
+    let plain = arms_of a other c.in-Case.arms in
+    let kind = case_of c.in-Case.kind in
+    let w = c.case_context-context.result.len in
+    let g = c.case_context-context.result.signed in
+    let len : w ≡ case_width subject plain = c.case_context-context.ensures.len ∙ ap (λ (arms : List Arm). arms_width (arms_of a other arms) c.own_context.result.len) c.as_slice.ensures ∙ ap (arms_width plain) c.own_context.ensures.len in
+    let sign : g ≡ case_sign subject plain = c.case_context-context.ensures.sign ∙ ap (λ (arms : List Arm). arms_sign (arms_of a other arms) c.own_context.result.signed) c.as_slice.ensures ∙ ap (arms_sign plain) c.own_context.ensures.sign in
+    let taken = c.taken_branch-taken.ensures ∙ ap (λ (arms : List Arm). taken_arm (tree_of a) kind w g c.value-subject.result other arms) c.as_slice-in-Case.ensures in
+    c.run_branch-in-Case.ensures
+    ∙ ap (λ b. updated (branch (statement_of a) b) s) taken
+    ∙ sym (updated_arms a kind w g c.value-subject.result other c.in-Case.arms s)
+    ∙ ap (λ v. write_all s (flatten (arms_body plain kind w g v unknown).updates)) c.value-subject.ensures.value
+    ∙ ap₂ (λ n h. write_all s (flatten (arms_body plain kind n h (value subject n h unknown) unknown).updates)) len sign
+    ∙ sym (ap (λ st. updated st s) tree)
+
+pub run_all-loop-part-preserved : goal.run_all-loop-part-preserved
+run_all-loop-part-preserved t c =
+    let st = statement_of c.args.shapes.now in
+    let k = c.loop-part.part-index in
+    let parts = c.args.parts.now in
+    ap (updated (sequence (map st (drop (k + 1) parts)))) c.run.ensures
+    ∙ sym (parts_step c.write_law.ensures.no_writes st parts k (state_of c.loop-part.state) c.loop-part-test.true (c.requires.each k c.loop-part-test.true).fixed.unmixed)
+    ∙ c.loop-part.invariant
+
+pub run_all-returns : goal.run_all-returns
+run_all-returns t c =
+    let st = statement_of c.args.shapes.now in
+    let s = state_of c.loop-part.state in
+    sym (ap (λ (ps : List ℕ). updated (sequence (map st ps)) s) (drop_all c.loop-part.part-index c.args.parts.now c.loop-part-test.false) ∙ updated_nothing s) ∙ c.loop-part.invariant
+
+pub run_branch-returns-in-None : goal.run_branch-returns-in-None
+run_branch-returns-in-None t c = sym (ap (λ b. updated (branch (statement_of c.args.shapes.now) b) (state_of c.args.state.now)) c.in-None.is ∙ updated_nothing (state_of c.args.state.now))

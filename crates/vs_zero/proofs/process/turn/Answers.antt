@@ -1,0 +1,124 @@
+use Rattle.std.proofs.Common.{◌≡◌, ◌<◌, Result, Ok, Err, Some, true, length, sym, ap, ◌∙◌, subst}
+use Rattle.std.specs.Prelude.{slice_get, OnOk}
+use Rattle.vs_design.specs.Designs.{bit_count}
+use Rattle.vs_design.specs.Fits.{fits_target}
+use Rattle.vs_design.specs.Footprints.{contains, statement_bits}
+use Rattle.vs_design.specs.LiftedBodies.{assign_sets}
+use Rattle.vs_design.specs.Sleepers.{is_sleeping}
+use Rattle.vs_design.specs.TimeZero.{block_sets, early_end, is_quiet, late_end}
+use Rattle.vs_flat.specs.Arena.{Arena}
+use Rattle.vs_flat.specs.DesignOf.{design_of}
+use Rattle.vs_flat.specs.Trees.{target_tree}
+use Rattle.vs_flat.specs.declared.processes.Kind.TheVariants as K
+use Rattle.vs_reads.specs.Footprint.{writes_at}
+use Rattle.vs_sets.specs.TargetsOf.{IsTarget}
+use Rattle.vs_sets.specs.Nodes.{tree_of}
+use Rattle.vs_sets.specs.StatementParts.{statement_of}
+use Rattle.vs_sets.specs.Tables.{family_of}
+use Rattle.vs_zero.specs.Blocks.{IsBlockOf}
+use Rattle.vs_zero.proofs.ByKind.{target_there, expr_there, assign_target, process_fits}
+use Rattle.vs_zero.proofs.Fit.{and_left, and_right}
+use Rattle.vs_zero.proofs.Settling.{assigned_early, assigned_late, block_is, unclocked, ran_early, ran_late}
+use Rattle.vs_zero.proofs.process.turn.Goals as goal
+
+on_ok : {V W : Type 0} {P Q : Type 0} (r : Result V W) → OnOk r P → (P → Q) → OnOk r Q
+on_ok (Ok v) h k = k h
+on_ok (Err e) h k = h
+
+always : {V W : Type 0} {P : Type 0} (r : Result V W) → P → OnOk r P
+always (Ok v) h = h
+always (Err e) h = tt
+
+pub assign-requires-clause-covers : goal.assign-requires-clause-covers
+assign-requires-clause-covers c = c.requires.early ∙ ap (λ b. bit_count (design_of b)) (sym c.shapes-shapes.ensures)
+
+pub assign-requires-clause-target_there : goal.assign-requires-clause-target_there
+assign-requires-clause-target_there c =
+    let is = subst (λ (b : Arena). slice_get b.processes c.args.p ≡ Some c.process.result.now) c.flat.ensures.same c.process.ensures in
+    subst (λ (b : Arena). c.in-Assign.target < length b.nodes) (sym c.shapes-shapes.ensures) (target_there c.names_law.ensures.processes c.args.typed.now c.flat.ensures.lawful.names c.args.p c.process.result.now c.in-Assign.target c.in-Assign.expr c.in-Assign.port is c.in-Assign.is)
+
+pub assign-requires-clause-there : goal.assign-requires-clause-there
+assign-requires-clause-there c =
+    let is = subst (λ (b : Arena). slice_get b.processes c.args.p ≡ Some c.process.result.now) c.flat.ensures.same c.process.ensures in
+    subst (λ (b : Arena). c.in-Assign.expr < length b.nodes) (sym c.shapes-shapes.ensures) (expr_there c.names_law.ensures.processes c.args.typed.now c.flat.ensures.lawful.names c.args.p c.process.result.now c.in-Assign.target c.in-Assign.expr c.in-Assign.port is c.in-Assign.is)
+
+pub assign-requires-clause-target : goal.assign-requires-clause-target
+assign-requires-clause-target c =
+    let is = subst (λ (b : Arena). slice_get b.processes c.args.p ≡ Some c.process.result.now) c.flat.ensures.same c.process.ensures in
+    let fits = process_fits c.fits_law.ensures.fits c.trees_law.ensures.processes c.args.typed.now c.flat.ensures.lawful c.flat.ensures.fits c.args.p c.process.result.now (K.Assign c.in-Assign.target c.in-Assign.expr c.in-Assign.port) is c.in-Assign.is in
+    subst (λ (b : Arena). IsTarget (tree_of b c.in-Assign.target)) (sym c.shapes-shapes.ensures)
+    (record { is = assign_target c.lawful_law.ensures.assign_targets c.args.typed.now c.flat.ensures.lawful c.args.p c.process.result.now c.in-Assign.target c.in-Assign.expr c.in-Assign.port is c.in-Assign.is; fits = and_left (fits_target (target_tree (tree_of c.args.typed.now c.in-Assign.target))) _ fits })
+
+pub assign-requires-clause-fit : goal.assign-requires-clause-fit
+assign-requires-clause-fit c =
+    let is = subst (λ (b : Arena). slice_get b.processes c.args.p ≡ Some c.process.result.now) c.flat.ensures.same c.process.ensures in
+    let fits = process_fits c.fits_law.ensures.fits c.trees_law.ensures.processes c.args.typed.now c.flat.ensures.lawful c.flat.ensures.fits c.args.p c.process.result.now (K.Assign c.in-Assign.target c.in-Assign.expr c.in-Assign.port) is c.in-Assign.is in
+    subst (λ (b : Arena). Rattle.vs_design.specs.Fits.is_fit (tree_of b c.in-Assign.expr) ≡ true) (sym c.shapes-shapes.ensures) (and_right (fits_target (target_tree (tree_of c.args.typed.now c.in-Assign.target))) _ fits)
+
+pub assign-requires-in-Assign-clause-target_there : goal.assign-requires-in-Assign-clause-target_there
+assign-requires-in-Assign-clause-target_there c =
+    let is = subst (λ (b : Arena). slice_get b.processes c.args.p ≡ Some c.process.result.now) c.flat.ensures.same c.process.ensures in
+    subst (λ (b : Arena). c.in-Assign.target < length b.nodes) (sym c.shapes-shapes.ensures) (target_there c.names_law.ensures.processes c.args.typed.now c.flat.ensures.lawful.names c.args.p c.process.result.now c.in-Assign.target c.in-Assign.expr c.in-Assign.port is c.in-Assign.is)
+
+pub assign-requires-in-Assign-clause-there : goal.assign-requires-in-Assign-clause-there
+assign-requires-in-Assign-clause-there c =
+    let is = subst (λ (b : Arena). slice_get b.processes c.args.p ≡ Some c.process.result.now) c.flat.ensures.same c.process.ensures in
+    subst (λ (b : Arena). c.in-Assign.expr < length b.nodes) (sym c.shapes-shapes.ensures) (expr_there c.names_law.ensures.processes c.args.typed.now c.flat.ensures.lawful.names c.args.p c.process.result.now c.in-Assign.target c.in-Assign.expr c.in-Assign.port is c.in-Assign.is)
+
+pub assign-requires-in-Assign-clause-target : goal.assign-requires-in-Assign-clause-target
+assign-requires-in-Assign-clause-target c =
+    let is = subst (λ (b : Arena). slice_get b.processes c.args.p ≡ Some c.process.result.now) c.flat.ensures.same c.process.ensures in
+    let fits = process_fits c.fits_law.ensures.fits c.trees_law.ensures.processes c.args.typed.now c.flat.ensures.lawful c.flat.ensures.fits c.args.p c.process.result.now (K.Assign c.in-Assign.target c.in-Assign.expr c.in-Assign.port) is c.in-Assign.is in
+    subst (λ (b : Arena). IsTarget (tree_of b c.in-Assign.target)) (sym c.shapes-shapes.ensures)
+    (record { is = assign_target c.lawful_law.ensures.assign_targets c.args.typed.now c.flat.ensures.lawful c.args.p c.process.result.now c.in-Assign.target c.in-Assign.expr c.in-Assign.port is c.in-Assign.is; fits = and_left (fits_target (target_tree (tree_of c.args.typed.now c.in-Assign.target))) _ fits })
+
+pub assign-requires-in-Assign-clause-fit : goal.assign-requires-in-Assign-clause-fit
+assign-requires-in-Assign-clause-fit c =
+    let is = subst (λ (b : Arena). slice_get b.processes c.args.p ≡ Some c.process.result.now) c.flat.ensures.same c.process.ensures in
+    let fits = process_fits c.fits_law.ensures.fits c.trees_law.ensures.processes c.args.typed.now c.flat.ensures.lawful c.flat.ensures.fits c.args.p c.process.result.now (K.Assign c.in-Assign.target c.in-Assign.expr c.in-Assign.port) is c.in-Assign.is in
+    subst (λ (b : Arena). Rattle.vs_design.specs.Fits.is_fit (tree_of b c.in-Assign.expr) ≡ true) (sym c.shapes-shapes.ensures) (and_right (fits_target (target_tree (tree_of c.args.typed.now c.in-Assign.target))) _ fits)
+
+pub turn_early-requires-clause-block : goal.turn_early-requires-clause-block
+turn_early-requires-clause-block c =
+    let is = subst (λ (b : Arena). slice_get b.processes c.args.p ≡ Some c.process.result.now) c.flat.ensures.same c.process.ensures in
+    (subst (λ (b : Arena). IsBlockOf b c.in-Block.statement c.writes-bits.result.now) (sym c.shapes-shapes.ensures)
+    (block_is c.trees_law.ensures.processes c.names_law.ensures.processes c.fits_law.ensures.fits c.footprint_law.ensures.bits c.args.typed.now c.flat.ensures.lawful c.flat.ensures.fits c.requires.blocks c.args.p c.process.result.now c.in-Block.star c.in-Block.events c.in-Block.statement is c.in-Block.is
+    (unclocked c.trees_law.ensures.processes c.args.typed.now c.args.p c.process.result.now c.in-Block.star c.in-Block.events c.in-Block.statement is c.in-Block.is c.requires.settles) c.writes-bits.result.now (c.writes-bits.ensures ∙ ap (λ fs. writes_at fs c.args.p) c.requires.footprints)))
+
+pub turn_late-requires-clause-block : goal.turn_late-requires-clause-block
+turn_late-requires-clause-block c =
+    let is = subst (λ (b : Arena). slice_get b.processes c.args.p ≡ Some c.process.result.now) c.flat.ensures.same c.process.ensures in
+    (subst (λ (b : Arena). IsBlockOf b c.in-Block.statement c.writes-bits.result.now) (sym c.shapes-shapes.ensures)
+    (block_is c.trees_law.ensures.processes c.names_law.ensures.processes c.fits_law.ensures.fits c.footprint_law.ensures.bits c.args.typed.now c.flat.ensures.lawful c.flat.ensures.fits c.requires.blocks c.args.p c.process.result.now c.in-Block.star c.in-Block.events c.in-Block.statement is c.in-Block.is
+    (unclocked c.trees_law.ensures.processes c.args.typed.now c.args.p c.process.result.now c.in-Block.star c.in-Block.events c.in-Block.statement is c.in-Block.is c.requires.settles) c.writes-bits.result.now (c.writes-bits.ensures ∙ ap (λ fs. writes_at fs c.args.p) c.requires.footprints)))
+
+pub returns-in-Assign-clause-early : goal.returns-in-Assign-clause-early
+returns-in-Assign-clause-early c = λ x e.
+    let is = subst (λ (b : Arena). slice_get b.processes c.args.p ≡ Some c.process.result.now) c.flat.ensures.same c.process.ensures in
+    let f = family_of c.args.early.now in
+    assigned_early c.trees_law.ensures.processes c.args.typed.now c.args.p c.process.result.now c.in-Assign.target c.in-Assign.expr c.in-Assign.port is c.in-Assign.is (is_sleeping (design_of c.args.typed.now) x) f (family_of c.assign.new.table) x e
+    (c.assign.ensures ∙ ap (λ (b : Arena). assign_sets (target_tree (tree_of b c.in-Assign.target)) (tree_of b c.in-Assign.expr) f) c.shapes-shapes.ensures)
+
+pub returns-in-Assign-clause-late : goal.returns-in-Assign-clause-late
+returns-in-Assign-clause-late c = λ x e.
+    let is = subst (λ (b : Arena). slice_get b.processes c.args.p ≡ Some c.process.result.now) c.flat.ensures.same c.process.ensures in
+    let f = family_of c.args.late.now in
+    assigned_late c.trees_law.ensures.processes c.args.typed.now c.args.p c.process.result.now c.in-Assign.target c.in-Assign.expr c.in-Assign.port is c.in-Assign.is (is_sleeping (design_of c.args.typed.now) x) f (family_of c.assign-in-Assign.new.table) x e
+    (c.assign-in-Assign.ensures ∙ ap (λ (b : Arena). assign_sets (target_tree (tree_of b c.in-Assign.target)) (tree_of b c.in-Assign.expr) f) c.shapes-shapes.ensures)
+
+pub returns-in_ok-turn_early-in-Block-clause-early : goal.returns-in_ok-turn_early-in-Block-clause-early
+returns-in_ok-turn_early-in-Block-clause-early c = λ x e.
+    let is = subst (λ (b : Arena). slice_get b.processes c.args.p ≡ Some c.process.result.now) c.flat.ensures.same c.process.ensures in
+    let f = family_of c.args.early.now in
+    let g = family_of c.turn_early.new.table in
+    let ran = subst (λ (b : Arena). g ≡ (λ n. early_end (contains (statement_bits (statement_of b c.in-Block.statement)) n) c.sleeps-asleep.result (is_quiet (statement_of b c.in-Block.statement) f) (block_sets (statement_of b c.in-Block.statement) f n) (f n))) c.shapes-shapes.ensures c.in_ok-turn_early-in-Block.ensures in
+    always c.turn_late.result (ran_early c.trees_law.ensures.processes c.args.typed.now c.args.p c.process.result.now c.in-Block.star c.in-Block.events c.in-Block.statement is c.in-Block.is c.sleeps-asleep.result f g ran x e (c.sleeps-asleep.ensures x e))
+
+pub returns-in_ok-turn_early-in-Block-clause-late : goal.returns-in_ok-turn_early-in-Block-clause-late
+returns-in_ok-turn_early-in-Block-clause-late c = λ x e.
+    let is = subst (λ (b : Arena). slice_get b.processes c.args.p ≡ Some c.process.result.now) c.flat.ensures.same c.process.ensures in
+    let f = family_of c.args.late.now in
+    let g = family_of c.turn_late.new.table in
+    on_ok c.turn_late.result c.turn_late.ensures (λ h.
+    let ran = subst (λ (b : Arena). g ≡ (λ n. late_end (contains (statement_bits (statement_of b c.in-Block.statement)) n) c.sleeps-asleep.result (block_sets (statement_of b c.in-Block.statement) f n) (f n))) c.shapes-shapes.ensures h in
+    ran_late c.trees_law.ensures.processes c.args.typed.now c.args.p c.process.result.now c.in-Block.star c.in-Block.events c.in-Block.statement is c.in-Block.is c.sleeps-asleep.result f g ran x e (c.sleeps-asleep.ensures x e))

@@ -1,0 +1,38 @@
+use Rattle.std.proofs.Common.{◌≡◌, ℕ, Option, Some, ap, ap₂, ◌∙◌, subst}
+use Rattle.std.specs.Prelude.{slice_get}
+use Rattle.vs_design.specs.Levels.{level_order}
+use Rattle.vs_design.specs.Lifted.{Family}
+use Rattle.vs_design.specs.TimeZero.{Families, families, is_uncertain}
+use Rattle.vs_flat.specs.Arena.{Arena}
+use Rattle.vs_flat.specs.DesignOf.{design_of}
+use Rattle.vs_sets.specs.Tables.{family_of}
+use Rattle.vs_zero.specs.First.{IsFirst}
+use Rattle.vs_zero.proofs.ByKind.{place_at_is}
+use Rattle.vs_zero.proofs.Deciding.{clock_below, one_families, refused, none_refused}
+use Rattle.vs_zero.proofs.Settling.{both}
+use Rattle.vs_zero.proofs.Unrefused.{orderly}
+use Rattle.vs_zero.proofs.zero.check.Goals as goal
+
+pub of-requires-clause-clock : goal.of-requires-clause-clock
+of-requires-clause-clock c = clock_below (design_of c.args.typed.now) c.flat-flat.ensures.lawful.design c.requires.clock.0 c.args.clocks.now c.requires.clock.1
+
+pub returns-in-Some-clause-refused : goal.returns-in-Some-clause-refused
+returns-in-Some-clause-refused c = λ name i.
+    let a = c.args.typed.now in
+    let d = design_of a in
+    let bit = c.args.clocks.now.bit in
+    let same = ap₂ (λ (f g : Family). both f g) (ap family_of c.as_mut_slice.ensures.value) (ap family_of c.as_slice.ensures.value) ∙ c.in_ok-families.ensures.sets
+    ∙ one_families c.time_zero_law.ensures c.cycle_law.ensures.cycle d (orderly d c.flat-flat.ensures.lawful.design c.requires.blocks c.requires.drivers) bit c.args.order.now c.requires.order in
+    let first = subst (λ (o : Option ℕ). IsFirst d (is_uncertain d (families d bit (level_order d))) o) c.in-Some.is (subst (λ (f : Families). IsFirst d (is_uncertain d f) c.in_ok-first.first) same c.in_ok-first.ensures) in
+    refused d name c.args.clocks.now i c.in-Some.process c.process.result.now.at first
+    (place_at_is c.trees_law.ensures.processes a c.in-Some.process c.process.result.now (subst (λ (b : Arena). slice_get b.processes c.in-Some.process ≡ Some c.process.result.now) c.flat-flat.ensures.same c.process.ensures))
+
+pub returns-clause-lawful : goal.returns-clause-lawful
+returns-clause-lawful c = λ name i.
+    let a = c.args.typed.now in
+    let d = design_of a in
+    let bit = c.args.clocks.now.bit in
+    let same = ap₂ (λ (f g : Family). both f g) (ap family_of c.as_mut_slice.ensures.value) (ap family_of c.as_slice.ensures.value) ∙ c.in_ok-families.ensures.sets
+    ∙ one_families c.time_zero_law.ensures c.cycle_law.ensures.cycle d (orderly d c.flat-flat.ensures.lawful.design c.requires.blocks c.requires.drivers) bit c.args.order.now c.requires.order in
+    let first = subst (λ (o : Option ℕ). IsFirst d (is_uncertain d (families d bit (level_order d))) o) c.in-None.is (subst (λ (f : Families). IsFirst d (is_uncertain d f) c.in_ok-first.first) same c.in_ok-first.ensures) in
+    none_refused d name c.args.clocks.now i first

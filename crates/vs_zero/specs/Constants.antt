@@ -1,0 +1,49 @@
+-- Statements that read no signal.
+use Rattle.std.specs.Prelude.{◌≡◌, ◌<◌, ℕ, Bool, true, ◌&&◌, List, [], ◌∷◌, length, map, if◌then◌else◌, Option, Some, slice_index}
+use Rattle.std.specs.List.{list_all}
+use Rattle.vs_four.specs.Logic.{BitList}
+use Rattle.vs_design.specs.Expressions.{Expression, is_constant}
+use Rattle.vs_net.specs.Network.{State, flatten, write_all}
+use Rattle.vs_design.specs.Statements.{CaseKind, Statement, Arms, Arm, Default}
+use Rattle.vs_design.specs.Bodies.{body, is_taken}
+use Rattle.vs_design.specs.Fits.{fits_statement}
+use Rattle.vs_design.specs.Resets.{is_fixed}
+use Rattle.vs_design.specs.Rules.{mixed_in}
+use Rattle.vs_flat.specs.Arena.{Arena}
+use Rattle.vs_flat.specs.Trees.{branch}
+use Rattle.vs_sets.specs.StatementParts.{BranchBelow, statement_of}
+use Rattle.vs_flat.specs.declared.statements.Arm as F
+use Rattle.vs_zero.specs.States.{unknown}
+
+abbrev pub are_constants : List Expression → Bool
+are_constants es = list_all is_constant es
+
+-- all items of a case
+abbrev pub arms_are_constants : Arms → Bool
+arms_are_constants (Arm items statement rest) = are_constants items && arms_are_constants rest
+arms_are_constants (Default statement) = true
+
+-- the statement of the first arm that matches, or else the default
+abbrev pub taken_arm : (ℕ → Expression) → CaseKind → ℕ → Bool → BitList → Option ℕ → List F.Arm → Option ℕ
+taken_arm tree kind w s v other [] = other
+taken_arm tree kind w s v other (arm ∷ arms) = if is_taken kind w s v (map tree arm.items) unknown then Some arm.statement else taken_arm tree kind w s v other arms
+
+-- ---- statements
+
+-- it names no signal but as a target, by constant selects; nothing in it is over 64 bits, and it has no `=`
+pub record IsFixed (s : Statement) : Type 0 where
+  pub fixed : is_fixed s ≡ true
+  pub fits : fits_statement s ≡ true
+  pub unmixed : mixed_in true s ≡ []
+
+-- the state after the updates that it gives
+abbrev pub updated : Statement → State → State
+updated s state = write_all state (flatten (body s unknown).updates)
+
+-- such a statement before number n, or none
+pub record IsFixedBranch (a : Arena) (n : ℕ) (b : Option ℕ) : Type 0 where
+  pub earlier : BranchBelow n b
+  pub fixed : IsFixed (branch (statement_of a) b)
+
+abbrev pub EachIsFixed : Arena → ℕ → List ℕ → Type 0
+EachIsFixed a n parts = (k : ℕ) → k < length parts → IsFixedBranch a n (Some (slice_index parts k))

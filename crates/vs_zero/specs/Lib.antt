@@ -1,0 +1,7 @@
+pub mod Blocks
+pub mod Constants
+pub mod First
+pub mod Refused
+pub mod Sources
+pub mod States
+pub mod Values

@@ -1,0 +1,80 @@
+//! What a statement does that reads no signal (IEEE 1364-2005, clause 9).
+
+ghost use Rattle.std.specs.Prelude.{◌≡◌, ◌≤◌, ◌<◌, length, map};
+ghost use Rattle.vs_net.specs.Network.{flatten, write_all};
+ghost use Rattle.vs_design.specs.Bodies.{body};
+ghost use Rattle.vs_design.specs.Designs.{bit_count};
+ghost use Rattle.vs_flat.specs.DesignOf.{design_of};
+ghost use Rattle.vs_flat.specs.Trees.{branch, sequence};
+ghost use Rattle.vs_sets.specs.StatementParts.{statement_of};
+ghost use Rattle.vs_zero.specs.Constants.{EachIsFixed, IsFixed, IsFixedBranch, updated};
+ghost use Rattle.vs_zero.specs.States.{state_of};
+
+use crate::cases::{case_context, own_context, taken_branch};
+use crate::constants::assign;
+use crate::nodes::statement_node;
+use vs_design::write_law;
+use vs_flat::Statement;
+use vs_four::{Bit4, truth};
+use vs_length::Shapes;
+
+/// Lets a statement run that reads no signal, on the values that its updates give.
+#[cycle(running)]
+pub(crate) fn run(shapes: &Shapes, s: u32, state: &mut [Bit4])
+    requires covers { length state.old ≡ bit_count (design_of shapes.now) }
+    requires there { s < length shapes.now.statements }
+    requires fixed { IsFixed (statement_of shapes.now s) }
+    ensures { state_of state.new ≡ updated (statement_of shapes.now s) (state_of state.old) }
+{
+    match statement_node(shapes, s) {
+        Statement::Empty => {}
+        Statement::Assign { target, expr, .. } => assign(shapes, *target, *expr, state),
+        Statement::If { c, yes, no } => {
+            if truth(shapes.constant_value(*c)) == Bit4::One {
+                run(shapes, *yes, state);
+            } else {
+                run_branch(shapes, s, *no, state);
+            }
+        }
+        Statement::Case {
+            kind,
+            of,
+            arms,
+            other,
+        } => {
+            let context = case_context(shapes, own_context(shapes, *of), arms.as_slice(), *other);
+            let subject = shapes.value(*of, context.len, context.signed);
+            let taken = taken_branch(shapes, *kind, context, subject, arms.as_slice(), *other);
+            run_branch(shapes, s, taken, state);
+        }
+        Statement::Seq { parts } => run_all(shapes, s, parts.as_slice(), state),
+    }
+}
+
+/// Lets statements run one after the other.
+#[cycle(running)]
+fn run_all(shapes: &Shapes, s: u32, parts: &[u32], state: &mut [Bit4])
+    requires covers { length state.old ≡ bit_count (design_of shapes.now) }
+    requires there { s ≤ length shapes.now.statements }
+    requires each { EachIsFixed shapes.now s parts.now }
+    ensures { state_of state.new ≡ updated (sequence (map (statement_of shapes.now) parts.now)) (state_of state.old) }
+{
+    write_law();
+    for part in parts {
+        run(shapes, *part, state);
+    }
+}
+
+/// Lets a branch run. One that isn't there does nothing.
+#[cycle(running)]
+fn run_branch(shapes: &Shapes, s: u32, part: Option<u32>, state: &mut [Bit4])
+    requires covers { length state.old ≡ bit_count (design_of shapes.now) }
+    requires there { s ≤ length shapes.now.statements }
+    requires fixed { IsFixedBranch shapes.now s part }
+    ensures { state_of state.new ≡ updated (branch (statement_of shapes.now) part) (state_of state.old) }
+{
+    match part {
+        Some(n) => run(shapes, n, state),
+        None => {}
+    }
+}

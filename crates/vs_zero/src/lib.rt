@@ -1,0 +1,19 @@
+//! The sets of values at time zero, and the rule on blocks that might not be started then (IEEE 1364-2005, 11.3 and 11.4).
+#![tactic(auto)]
+
+mod bits;
+mod cases;
+mod constants;
+mod error;
+mod families;
+mod fixed;
+mod nodes;
+mod process;
+mod sources;
+mod targets;
+mod turns;
+mod values;
+mod zero;
+
+pub use error::ZeroError;
+pub use zero::check;
