@@ -1,5 +1,5 @@
 -- The arms of a case, in whichever environment its block writes.
-use Rattle.std.proofs.Common.{◌≡◌, ℕ, zero, suc, ◌+◌, ◌<◌, ◌≤◌, ◌^◌, Bool, true, false, ◌&&◌, ◌-◌, List, [], ◌∷◌, ◌++◌, map, drop, get_or, length, slice_index, Some, Option, refl, sym, ap, ◌∙◌, subst, arith, append-nil}
+use Rattle.std.proofs.Common.{◌≡◌, ℕ, zero, suc, ◌+◌, ◌<◌, ◌≤◌, Bool, true, false, ◌&&◌, ◌-◌, List, [], ◌∷◌, ◌++◌, map, drop, get_or, length, slice_index, Some, Option, refl, sym, ap, ◌∙◌, subst, arith, append-nil}
 use Rattle.std.specs.List.{All, list_all}
 use Rattle.std.specs.Prelude.{slice_get}
 use Rattle.std.specs.List.Sorted.{IsStrictlyIncreasing}
@@ -8,7 +8,7 @@ use Rattle.std.proofs.lemmas.List.Elements.{All-nil, All-cons, All-weaker}
 use Rattle.std.proofs.lemmas.List.Sums.{sum_by-append}
 use Rattle.vs_four.specs.Logic.{BitList}
 use Rattle.vs_net.specs.Network as N
-use Rattle.vs_design.specs.Expressions.{Expression, width}
+use Rattle.vs_design.specs.Expressions.{Expression}
 use Rattle.vs_design.specs.Fits.{is_fit, fits_statement, fits_arms}
 use Rattle.vs_design.specs.Footprints.{contains, statement_bits, arms_bits}
 use Rattle.vs_design.specs.Rules.{mixed_in, mixed_in_arms}
@@ -22,20 +22,18 @@ use Rattle.vs_code.specs.declared.kernels.AnyKernel.TheVariants.{Select}
 use Rattle.vs_length.specs.Bodies.{EachArmNames, body_of}
 use Rattle.vs_length.specs.Nodes.{EachBelow, tree_of}
 use Rattle.vs_code.specs.Calls.{Call, call_cost, length_of}
-use Rattle.vs_lower.specs.Added.{IsEnv}
-use Rattle.vs_lower.specs.Branched.{unwritten, written}
+use Rattle.vs_lower.specs.Branched.{written}
 use Rattle.vs_lower.specs.Coded.{Coding}
 use Rattle.vs_lower.specs.Done.{placed}
 use Rattle.vs_lower.specs.Joined.{IsJoined, differing_bits, join_args}
 use Rattle.vs_lower.specs.Made.{IsCallable}
 use Rattle.vs_lower.specs.Ready.{IsStatementReady}
-use Rattle.vs_lower.specs.Stated.{AddsArm, AddsArms, AddsBranch, AddsCases, AddsStatement, AreAmong, AreArmsReady, AreInOrder, IsArmReady, ItemsWithin}
+use Rattle.vs_lower.specs.Stated.{AddsArm, AddsArms, AddsBranch, AddsCases, AddsStatement, AreAmong, AreArmsReady, AreInOrder, IsArmReady}
 use Rattle.vs_lower.specs.Tested.{AddsTests, AreTestsReady}
 use Rattle.vs_lower.proofs.Adding.{env_more}
 use Rattle.vs_lower.proofs.Branched.{statement_kept, written_long}
 use Rattle.vs_lower.proofs.Branching.{CanJoin, put_back}
 use Rattle.vs_lower.proofs.Casing.{adds_default, adds_arm_now, adds_arm_later}
-use Rattle.vs_lower.proofs.Conditional.{IsFork}
 use Rattle.vs_lower.proofs.Distinct.{distinct_most}
 use Rattle.vs_lower.proofs.Homeward.{distinct_length, rising_once}
 use Rattle.vs_lower.proofs.Joining.{neither, picked, picked_below}

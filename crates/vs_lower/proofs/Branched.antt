@@ -1,5 +1,5 @@
 -- An `if`, in whichever environment its block writes.
-use Rattle.std.proofs.Common.{◌≡◌, ℕ, ◌+◌, ◌<◌, ◌≤◌, ◌^◌, Bool, true, false, ◌&&◌, List, [], ◌∷◌, ◌++◌, length, sym, ap, ◌∙◌, subst, arith}
+use Rattle.std.proofs.Common.{◌≡◌, ℕ, ◌+◌, ◌<◌, Bool, true, false, ◌&&◌, List, [], ◌++◌, length, sym, ap, ◌∙◌, subst, arith}
 use Rattle.std.specs.List.{All}
 use Rattle.std.proofs.lemmas.List.Elements.{All-head, All-weaker}
 use Rattle.std.proofs.lemmas.List.Sums.{sum_by-append}
@@ -15,7 +15,7 @@ use Rattle.vs_lower.specs.Ready.{IsStatementReady}
 use Rattle.vs_lower.specs.Stated.{AddsStatement, AreAmong, AreInOrder}
 use Rattle.vs_lower.specs.Valued.{AddsValue}
 use Rattle.vs_lower.proofs.Branching.{CanJoin}
-use Rattle.vs_lower.proofs.Conditional.{IsFork, adds_if_now, adds_if_later}
+use Rattle.vs_lower.proofs.Conditional.{adds_if_now, adds_if_later}
 use Rattle.vs_lower.proofs.Joining.{picked}
 use Rattle.vs_lower.proofs.Readying.{fits_length}
 use Rattle.vs_lower.proofs.Restoring.{IsKept, fork, joins}

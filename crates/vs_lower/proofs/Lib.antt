@@ -55,3 +55,4 @@ pub mod Ordered
 pub mod Naming
 pub mod Stating
 pub mod Blocking
+pub mod Accepting

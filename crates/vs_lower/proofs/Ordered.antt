@@ -1,5 +1,5 @@
 -- A sequence of statements, as far as the lowering has come.
-use Rattle.std.proofs.Common.{◌≡◌, ℕ, Bool, List, [], ◌∷◌, sym, ap, ◌∙◌, subst}
+use Rattle.std.proofs.Common.{◌≡◌, ℕ, Bool, List, [], ◌∷◌, sym, ◌∙◌, subst}
 use Rattle.vs_design.specs.Footprints.{statement_bits}
 use Rattle.vs_design.specs.Statements.{Statement}
 use Rattle.vs_flat.specs.Trees.{sequence}

@@ -15,7 +15,7 @@ use Rattle.vs_lower.specs.Done.{placed}
 use Rattle.vs_lower.specs.Joined.{IsJoined, differing_bits, join_args}
 use Rattle.vs_lower.specs.Made.{IsCallable}
 use Rattle.vs_lower.specs.Stated.{AreAmong}
-use Rattle.vs_lower.proofs.Branching.{CanJoin, can_join, differing_in, put_back}
+use Rattle.vs_lower.proofs.Branching.{CanJoin, can_join, put_back}
 use Rattle.vs_lower.proofs.Conditional.{IsFork}
 use Rattle.vs_lower.proofs.Differing.{slots_are}
 use Rattle.vs_lower.proofs.Homeward.{rising_once}

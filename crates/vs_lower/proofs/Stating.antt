@@ -1,28 +1,26 @@
 -- Assignments as statements, and what the parts of a statement need.
-use Rattle.std.proofs.Common.{◌≡◌, ℕ, ◌+◌, ◌<◌, ◌≤◌, ◌^◌, max, Bool, true, false, not, ◌&&◌, if◌then◌else◌, List, [], ◌∷◌, ◌++◌, map, length, refl, sym, ap, ◌∙◌, subst, arith, Option, Some, None}
+use Rattle.std.proofs.Common.{◌≡◌, ℕ, ◌<◌, ◌≤◌, max, Bool, true, false, not, ◌&&◌, List, [], ◌∷◌, ◌++◌, map, refl, sym, ap, ◌∙◌, subst, arith, Some}
 use Rattle.std.specs.List.{All, list_all}
 use Rattle.std.specs.List.Sorted.{IsStrictlyIncreasing}
 use Rattle.std.proofs.lemmas.List.Elements.{All-nil, All-cons, All-head}
 use Rattle.vs_four.specs.Logic.{BitList}
 use Rattle.vs_net.specs.Network as N
 use Rattle.vs_design.specs.Bodies.{assignment_writes, body, effect_of}
-use Rattle.vs_design.specs.Expressions.{Expression, width, sign}
+use Rattle.vs_design.specs.Expressions.{Expression, width}
 use Rattle.vs_design.specs.Fits.{fits, divides_constants, fits_target, is_fit, fits_statement, fits_arms}
-use Rattle.vs_design.specs.Footprints.{contains, statement_bits, arms_bits, target_bits}
-use Rattle.vs_design.specs.Rules.{mixed_in}
-use Rattle.vs_design.specs.Sizes.{arms_weight, distinct, statement_weight, weight}
-use Rattle.vs_design.specs.Statements.{CaseKind, Statement, Target, Empty, Assignment, Case, Arms, Arm, Default, arms_width, case_width, case_sign, widest, target_width}
+use Rattle.vs_design.specs.Footprints.{contains, arms_bits, target_bits}
+use Rattle.vs_design.specs.Sizes.{distinct, statement_weight}
+use Rattle.vs_design.specs.Statements.{CaseKind, Target, Assignment, Case, Arms, Arm, Default, arms_width, case_width, case_sign, widest}
 use Rattle.vs_design.specs.Values.{value}
-use Rattle.vs_code.specs.Calls.{Call, call_cost, length_of}
 use Rattle.vs_lower.specs.Assigned.{AddsRun, IsAssignReady, assign_most}
 use Rattle.vs_lower.specs.Branched.{unwritten, written}
 use Rattle.vs_lower.specs.Coded.{Coding}
 use Rattle.vs_lower.specs.Done.{placed}
 use Rattle.vs_lower.specs.Ready.{IsReady, IsStatementReady}
-use Rattle.vs_lower.specs.Stated.{AddsArms, AddsCases, AddsStatement, AreAmong, AreArmsReady, AreInOrder, AreInside, ItemsWithin}
+use Rattle.vs_lower.specs.Stated.{AddsCases, AddsStatement, AreArmsReady, AreInOrder, AreInside, ItemsWithin}
 use Rattle.vs_lower.specs.Valued.{AddsValue}
 use Rattle.vs_lower.proofs.Adding.{env_more}
-use Rattle.vs_lower.proofs.Armed.{all_true, behind_placed}
+use Rattle.vs_lower.proofs.Armed.{behind_placed}
 use Rattle.vs_lower.proofs.Bodies.{case_done}
 use Rattle.vs_lower.proofs.Homeward.{all_in}
 use Rattle.vs_lower.proofs.Matching.{done_as}

@@ -1,5 +1,5 @@
 -- What the lowering of a process needs and gives.
-use Rattle.std.specs.Prelude.{◌≡◌, ℕ, ◌+◌, ◌<◌, ◌≤◌, ◌^◌, Bool, true, false, List, [], ◌++◌, slice_index}
+use Rattle.std.specs.Prelude.{◌≡◌, ℕ, ◌+◌, ◌<◌, ◌≤◌, ◌^◌, Bool, true, false, List, [], ◌++◌, length, slice_index, is_some}
 use Rattle.vs_design.specs.Designs.{Process}
 use Rattle.vs_design.specs.Elaborated.{has_constant_selects}
 use Rattle.vs_design.specs.Expressions.{Expression}
@@ -8,6 +8,12 @@ use Rattle.vs_design.specs.Footprints.{contains, read_bits, statement_bits, targ
 use Rattle.vs_design.specs.Rules.{mixed_in}
 use Rattle.vs_design.specs.Sizes.{assignment_weight, distinct, statement_weight}
 use Rattle.vs_design.specs.Statements.{Statement, Target}
+use Rattle.vs_flat.specs.declared.processes.Kind.{Kind}
+use Rattle.vs_flat.specs.declared.processes.Kind.TheVariants as K
+use Rattle.vs_flat.specs.Arena.{Arena}
+use Rattle.vs_flat.specs.DesignOf.{arena_trees}
+use Rattle.vs_flat.specs.Targets.{target_of}
+use Rattle.vs_flat.specs.Trees.{tree_at}
 use Rattle.vs_program.specs.Lowered.{IsLayout, IsLoweredProcess, Layout, home}
 use Rattle.vs_code.specs.Calls.{Call, length_of}
 use Rattle.vs_lower.specs.Coded.{Coding}
@@ -47,3 +53,8 @@ pub record HasShadows (count first : ℕ) (shadows bits : List ℕ) (l : Layout)
   pub temps_are : l.first_temp ≡ first
   pub layout : IsLayout l bits
   pub are : (b : ℕ) → contains bits b ≡ true → l.shadow b ≡ slice_index shadows b
+
+-- what a process of a flat design names is there, and what an assign writes is a target (table 6-1)
+abbrev pub HasKindNames : Arena → Kind → Type 0
+HasKindNames a (K.Assign target e port) = (target < length a.nodes) × (e < length a.nodes) × (is_some (target_of (tree_at (arena_trees a) target)) ≡ true)
+HasKindNames a (K.Block star events statement) = statement < length a.statements

@@ -15,6 +15,7 @@ mod expressions;
 mod indices;
 mod joins;
 mod leaves;
+mod lowered;
 mod names;
 mod selects;
 mod shifts;
@@ -25,3 +26,4 @@ mod typed;
 mod writes;
 
 pub use code::Code;
+pub use lowered::process;

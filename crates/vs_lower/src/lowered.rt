@@ -1,0 +1,96 @@
+//! The processes of a design (IEEE 1364-2005, clause 11).
+
+ghost use Rattle.std.specs.Prelude.{◌≡◌, ◌+◌, ◌<◌, ◌≤◌, ◌^◌, length, slice_get, slice_index, IsTrue, OnOk, Some, true, ℕ};
+ghost use Rattle.std.specs.List.{list_all, list_any};
+ghost use Rattle.vs_design.specs.Accepted.{is_empty};
+ghost use Rattle.vs_design.specs.Designs as D;
+ghost use Rattle.vs_design.specs.Levels.{has_no_cycle};
+ghost use Rattle.vs_design.specs.Rules.{mixed_assigns};
+ghost use Rattle.vs_design.specs.Sizes.{register_bits};
+ghost use Rattle.vs_flat.specs.Arena.{bit_count};
+ghost use Rattle.vs_flat.specs.DesignOf.{design_of, kind_of, arena_signals, arena_trees};
+ghost use Rattle.vs_flat.specs.Operators.{edge_of};
+ghost use Rattle.vs_flat.specs.Trees.{signal_at, tree_at};
+ghost use Rattle.vs_flat.specs.declared.processes.Event as F;
+ghost use Rattle.vs_length.specs.Bodies.{body_of};
+ghost use Rattle.vs_program.specs.Lowered.{IsLayout, Layout, home, process_stores};
+ghost use Rattle.vs_code.specs.Calls.{length_of};
+ghost use Rattle.vs_lower.specs.Processed.{AddsProcess, HasKindNames, HasShadows};
+
+use crate::blocks::{clocked, combinational};
+use crate::code::Code;
+use crate::continuous::continuous;
+use std::alloc::{AllocError, Global};
+use vs_design::footprint_law;
+use vs_flat::{Edge, Event, Kind, lawful_law, names_law, trees_law};
+use vs_width::{Typed, fits_law};
+
+/// Whether an event is `posedge` or `negedge`.
+fn is_edge(edge: Edge) -> bool
+    ensures { result ≡ D.is_edge (edge_of edge) }
+{
+    match edge {
+        Edge::Any => false,
+        Edge::Pos | Edge::Neg => true,
+    }
+}
+
+/// Whether one of these events is an edge, so that the block is clocked.
+fn has_edge(events: &[Event]) -> bool
+    ensures { result ≡ list_any (λ (e : F.Event). D.is_edge (edge_of e.edge)) events.now }
+{
+    events.iter().any(|e| is_edge(e.edge))
+}
+
+/// What process p is: it names expressions and statements of the design.
+fn kind_at(typed: &Typed, p: u32) -> &Kind
+    requires there { p < length typed.now.processes }
+    ensures names { HasKindNames typed.now result.now }
+    ensures is { (place : ℕ) × (slice_get (design_of typed.now).processes p ≡ Some (kind_of (signal_at (arena_signals typed.now)) (tree_at (arena_trees typed.now)) (body_of typed.now) place result.now)) }
+{
+    names_law();
+    trees_law();
+    lawful_law();
+    &typed.flat().process(p).kind
+}
+
+/// Adds the calls of process p, in a design of `count` bits that mixes no assignments in a block and has no combinational cycle. `shadows` has a slot for each bit, which is asked for where the bit is one of a register; the temporaries begin at the least slot that is new. The only error is that there is no memory; the program then has some of the calls.
+pub fn process(
+    alloc: Global,
+    typed: &Typed,
+    p: u32,
+    count: u32,
+    shadows: &[u32],
+    code: &mut Code,
+) -> Result<(), AllocError>
+    requires there { p < length typed.now.processes }
+    requires count { count ≡ bit_count typed.now.signals }
+    requires unmixed { list_all (λ x. is_empty (mixed_assigns x)) (design_of typed.now).processes ≡ true }
+    requires no_cycle { has_no_cycle (design_of typed.now) ≡ true }
+    requires temps { home (bit_count typed.now.signals) ≤ code.old.next }
+    requires slots { (x : D.Process) → slice_get (design_of typed.now).processes p ≡ Some x → code.old.next + process_stores x < 2 ^ 32 }
+    requires few { (x : D.Process) → slice_get (design_of typed.now).processes p ≡ Some x → length_of code.old.calls + process_stores x ≤ 2 ^ 32 }
+    requires long { length shadows.now ≡ count }
+    requires layout { IsLayout (record { bits = bit_count typed.now.signals; shadow = slice_index shadows.now; first_temp = code.old.next }) (register_bits (design_of typed.now).processes) }
+    ensures { OnOk result ((l : Layout) (x : D.Process) → slice_get (design_of typed.now).processes p ≡ Some x → HasShadows (bit_count typed.now.signals) code.old.next shadows.now (register_bits (design_of typed.now).processes) l → AddsProcess l x code.old.calls code.new.calls) }
+{
+    footprint_law();
+    fits_law();
+    trees_law();
+    lawful_law();
+    let _flat = typed.flat();
+    match kind_at(typed, p) {
+        Kind::Assign { target, expr, .. } => continuous(alloc, typed, *target, *expr, count, code),
+        Kind::Block {
+            events,
+            statement,
+            ..
+        } => {
+            if has_edge(events.as_slice()) {
+                clocked(alloc, typed, *statement, count, shadows, code)
+            } else {
+                combinational(alloc, typed, *statement, count, code)
+            }
+        }
+    }
+}
