@@ -80,12 +80,7 @@ fn is_variable(signal: &Signal) -> bool
 }
 
 /// Notes the bits of signal n if it is a variable.
-fn note_signal(
-    alloc: Global,
-    shapes: &Shapes,
-    n: u32,
-    flags: &mut [bool],
-) -> Result<(), AllocError>
+fn note_signal(alloc: Global, shapes: &Shapes, n: u32, flags: &mut [bool]) -> Result<(), AllocError>
     requires there { n < length shapes.now.signals }
     requires many { length flags.old ≡ D.bit_count (design_of shapes.now) }
     requires so_far { AreFlags (contains (variables_before (design_of shapes.now).signals n)) flags.old }

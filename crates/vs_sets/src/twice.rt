@@ -35,12 +35,7 @@ fn push_common(some: &[u32], others: &[u32], out: &mut Vec<u32>) -> Result<(), A
 }
 
 /// Adds the bits that these statements write.
-fn push_writes(
-    shapes: &Shapes,
-    s: u32,
-    parts: &[u32],
-    out: &mut Vec<u32>,
-) -> Result<(), AllocError>
+fn push_writes(shapes: &Shapes, s: u32, parts: &[u32], out: &mut Vec<u32>) -> Result<(), AllocError>
     requires there { s ≤ length shapes.now.statements }
     requires each { PartsFit shapes.now s parts.now }
     ensures { OnOk result (out.new.items ≡ out.old.items ++ statement_bits (in_order shapes.now parts.now)) }

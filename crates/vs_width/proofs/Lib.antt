@@ -1,2 +1,7 @@
 pub mod Unrefused
 pub mod Flags
+pub mod LeastSteps
+pub mod Distinct
+pub mod WeightSteps
+pub mod FoundSteps
+pub mod SizeSteps

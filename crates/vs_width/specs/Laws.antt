@@ -6,6 +6,7 @@ use Rattle.vs_design.specs.Elaborated.{IsLawfulDesign}
 use Rattle.vs_design.specs.Fits.{fits_process}
 use Rattle.vs_design.specs.Refusals.{width_refusal}
 use Rattle.vs_design.specs.Sizes.{size}
+use Rattle.vs_width.specs.Refused.{first_refused}
 
 -- every expression and target of a process has 1 to 64 bits, and nothing divides at run time
 abbrev pub EachProcessFits : Type 0
@@ -13,3 +14,7 @@ EachProcessFits = (d : Design) → IsLawfulDesign d → width_refusal d ≡ None
 
 abbrev pub SizeIsSmall : Type 0
 SizeIsSmall = (d : Design) → width_refusal d ≡ None → size d ≤ 16777216
+
+-- and so it does where no process is refused
+abbrev pub UnrefusedFits : Type 0
+UnrefusedFits = (d : Design) → IsLawfulDesign d → first_refused d ≡ None → list_all fits_process d.processes ≡ true

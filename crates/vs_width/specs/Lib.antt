@@ -1,2 +1,5 @@
 pub mod Typed
 pub mod Laws
+pub mod Places
+pub mod Weights
+pub mod Refused

@@ -1,8 +1,24 @@
 //! A design of which no length is refused, and its size (IEEE 1364-2005, 5.4 and 5.5).
 #![tactic(auto)]
 
+mod design;
+mod error;
 mod laws;
+mod least;
+mod nodes;
+mod operators;
+mod places;
+mod refused;
+mod sizes;
+mod statements;
+mod sums;
+mod targets;
 mod typed;
+mod weights;
+mod written;
 
+pub use design::type_design;
+pub use error::WidthError;
 pub use laws::fits_law;
+use laws::unrefused_law;
 pub use typed::Typed;

@@ -1,8 +1,8 @@
 //! The typed design.
 
-ghost use Rattle.std.specs.Prelude.{◌≡◌, ◌<◌, ◌≤◌, length, min, None, Some, slice_get};
+ghost use Rattle.std.specs.Prelude.{◌≡◌, ◌<◌, ◌≤◌, length, map, min, None, Some, slice_get, IfOk, IfErr};
 
-use crate::fits_law;
+use crate::{WidthError, fits_law};
 use std::marker::Model;
 use vs_flat::{Flat, trees_law};
 use vs_length::Shapes;
@@ -35,6 +35,25 @@ impl Typed {
     ghost use Rattle.vs_flat.specs.DesignOf.{arena_trees, design_of};
     ghost use Rattle.vs_flat.specs.Lawful.{IsLawful};
     ghost use Rattle.vs_flat.specs.Trees.{tree_at};
+    ghost use Rattle.vs_width.specs.Refused.{IsWidthError, first_refused};
+
+    /// A design of which no process is refused, with its size and for each process whether it sleeps. TooLarge: the size is over 16,777,216.
+    pub(crate) fn of(shapes: Shapes, size: u64, sleeping: Vec<bool>) -> Result<Typed, WidthError>
+        requires unrefused { first_refused (design_of shapes) ≡ None }
+        requires size { size ≡ Rattle.vs_design.specs.Sizes.size (design_of shapes) }
+        requires sleeping { sleeping.items ≡ map (is_sleeping (design_of shapes)) (design_of shapes).processes }
+        ensures same { IfOk result (λ t. t ≡ shapes) }
+        ensures refused { IfErr result (IsWidthError (design_of shapes)) }
+    {
+        if size > 16_777_216 {
+            return Err(WidthError::TooLarge { size });
+        }
+        Ok(Typed {
+            shapes,
+            size,
+            sleeping,
+        })
+    }
 
     /// The flat design. It is lawful, and no length or division in it is refused.
     pub fn flat(&self) -> &Flat
