@@ -1,5 +1,5 @@
 -- Always blocks without a fault, and the events that they wait for.
-use Rattle.std.proofs.Common.{◌≡◌, ℕ, zero, suc, ◌+◌, ◌<◌, ◌≤◌, Bool, true, false, ◌&&◌, nat_lt, List, [], ◌∷◌, ◌++◌, length, get_or, map, take, refl, sym, ap, ◌∙◌, subst, arith, Result, OnOk, Vec, Global}
+use Rattle.std.proofs.Common.{◌≡◌, ℕ, zero, suc, ◌+◌, ◌<◌, ◌≤◌, Bool, true, false, ◌&&◌, nat_lt, List, [], ◌∷◌, ◌++◌, length, get_or, map, take, refl, sym, ap, ◌∙◌, subst, arith}
 use Rattle.std.proofs.Math.Seq.{take-suc, take-length}
 use Rattle.std.proofs.lemmas.Bool.{lt-ltb}
 use Rattle.std.proofs.lemmas.List.{map-append}
@@ -8,14 +8,9 @@ use Rattle.vs_design.specs.Designs.{Design}
 use Rattle.vs_design.specs.Statements as T
 use Rattle.vs_design.specs.Elaborated.{is_signal}
 use Rattle.vs_grammar.specs.Trees as tree
-use Rattle.vs_grammar.specs.Depths.{statement_depth}
 use Rattle.vs_ast.specs.declared.items.Event.{Event as TextEvent}
-use Rattle.vs_ast.specs.declared.items.AlwaysBlock.{AlwaysBlock}
-use Rattle.vs_ast.specs.declared.items.EventControl.{EventControl}
-use Rattle.vs_ast.specs.declared.items.EventControl.TheVariants.{Star, Listed}
 use Rattle.vs_ast.specs.Views as view
 use Rattle.vs_const.specs.declared.names.Named.{Named}
-use Rattle.vs_const.specs.declared.names.Named.TheVariants as named
 use Rattle.vs_const.specs.Meanings.{SignalMeaning, Meaning, AValue, Undefined, ASignal, Another, Unknown, Find, Means}
 use Rattle.vs_const.specs.Sound.{IsSound, AreSound}
 use Rattle.vs_const.proofs.Formed.{both_nil}

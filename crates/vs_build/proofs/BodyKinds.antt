@@ -1,5 +1,5 @@
 -- The step for each kind of statement.
-use Rattle.std.proofs.Common.{◌≡◌, ℕ, zero, suc, ◌+◌, ◌-◌, ◌<◌, ◌≤◌, Bool, ◌&&◌, nat_lt, List, [], ◌∷◌, ◌++◌, length, get_or, map, max, take, drop, Option, Some, None, slice_get, Result, OnOk, refl, sym, ap, ◌∙◌, subst, arith, true, false, length-append, append_assoc, drop-cons}
+use Rattle.std.proofs.Common.{◌≡◌, ℕ, suc, ◌+◌, ◌-◌, ◌<◌, ◌≤◌, Bool, ◌&&◌, nat_lt, List, [], ◌∷◌, ◌++◌, length, get_or, map, take, drop, Option, Some, None, slice_get, Result, OnOk, refl, sym, ap, ◌∙◌, subst, arith, true, false, length-append, drop-cons}
 use Rattle.std.specs.Prelude.{if◌then◌else◌, ◌==◌, option_to_list, unwrap_or, is_some}
 use Rattle.std.specs.List.{list_all, flat_map}
 use Rattle.std.proofs.lemmas.List.{map-append, length-map, take-append-drop, length-drop}
@@ -10,10 +10,9 @@ use Rattle.vs_design.specs.Designs as D
 use Rattle.vs_design.specs.Designs.{Design}
 use Rattle.vs_design.specs.Footprints.{is_variable}
 use Rattle.vs_design.specs.Fits.{fits_64}
-use Rattle.vs_design.specs.Elaborated.{is_nil, is_signal, is_formed, is_formed_select, is_formed_target, is_formed_statement, are_formed_arms}
+use Rattle.vs_design.specs.Elaborated.{is_signal, is_formed, is_formed_select, is_formed_target, is_formed_statement, are_formed_arms}
 use Rattle.vs_flat.specs.declared.statements.Arm.{Arm}
 use Rattle.vs_flat.specs.declared.statements.CaseKind.{CaseKind}
-use Rattle.vs_flat.specs.declared.statements.Statement.{Statement}
 use Rattle.vs_flat.specs.declared.statements.Statement.TheVariants as S
 use Rattle.vs_flat.specs.declared.processes.Event.{Event}
 use Rattle.vs_flat.specs.declared.processes.Process.{Process}
@@ -33,7 +32,7 @@ use Rattle.vs_build.proofs.Additions.{process_kept, process_draft}
 use Rattle.vs_build.proofs.Steps.{last_one, last_two, formed_at, used_below}
 use Rattle.vs_build.proofs.NodeKinds.{nil_right}
 use Rattle.vs_build.proofs.Cutting.{drop_drop, last_entry, each_of, cut_labels, cut_statements, cut_formed, cut_tree}
-use Rattle.vs_build.proofs.BodySteps.{body_formed_at, used_bodies_below, AreLast, are_last, IsBodyStep, IsBodyAdded, body_kept, body_adds, adds_in, HasLengths, lengths}
+use Rattle.vs_build.proofs.BodySteps.{body_formed_at, used_bodies_below, are_last, IsBodyStep, IsBodyAdded, body_adds, adds_in, lengths}
 
 -- ---- a lone `;`
 

@@ -1,5 +1,5 @@
 -- One more statement over the last expressions and statements.
-use Rattle.std.proofs.Common.{◌≡◌, ℕ, suc, ◌+◌, ◌-◌, ◌<◌, ◌≤◌, ◌^◌, true, ◌&&◌, List, [], ◌∷◌, ◌++◌, length, get_or, map, max, Result, Ok, Err, OnOk, OnErr, refl, sym, ap, ◌∙◌, subst, arith, append_assoc, length-append}
+use Rattle.std.proofs.Common.{◌≡◌, ℕ, ◌+◌, ◌-◌, ◌<◌, ◌≤◌, ◌^◌, true, List, [], ◌∷◌, ◌++◌, length, get_or, map, max, Result, Ok, Err, OnOk, OnErr, refl, sym, ap, ◌∙◌, subst, arith, length-append}
 use Rattle.std.proofs.lemmas.List.{map-append, length-map}
 use Rattle.std.proofs.lemmas.Option.{slice_get-get_or}
 use Rattle.vs_design.specs.Expressions as E
@@ -14,7 +14,7 @@ use Rattle.vs_flat.specs.Lawful.{assigns_target, deepest, node_depths, statement
 use Rattle.vs_flat.proofs.Agreeing.{and_true, below_append}
 use Rattle.vs_flat.proofs.Earlier.{all_at}
 use Rattle.vs_flat.proofs.Growing.{length-arena_statements}
-use Rattle.vs_build.specs.Drafts.{Root, Body, Draft, and_root, and_roots, and_body, and_bodies, most_levels, most_body_levels, AddsExpression, AddsParts, AddsStatement, Adds, EndsInParts}
+use Rattle.vs_build.specs.Drafts.{Root, Body, Draft, and_roots, and_body, and_bodies, most_levels, most_body_levels, AddsStatement, Adds}
 use Rattle.vs_build.specs.Growth.{Growing, IsGrowing, root_at, body_at, draft_of, draft}
 use Rattle.vs_build.proofs.Bodies.{levels_of, statement_kept, bodies_below, statement_draft}
 use Rattle.vs_build.proofs.Steps.{append_same, levels_are, used_below}

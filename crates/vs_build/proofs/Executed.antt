@@ -23,16 +23,15 @@ use Rattle.vs_ast.proofs.statements.Statement.TheLaws as statement_laws
 use Rattle.vs_ast.proofs.statements.CaseArm.TheLaws as arm_laws
 use Rattle.vs_ast.proofs.Rows.{statement_rows, arm_rows}
 use Rattle.vs_ast.specs.Views as view
-use Rattle.vs_const.specs.Meanings.{SignalMeaning, Meaning, AValue, Undefined, ASignal, Another, Unknown, Find}
+use Rattle.vs_const.specs.Meanings.{Meaning, AValue, Undefined, ASignal, Another, Unknown, Find}
 use Rattle.vs_const.specs.Sound.{IsSound, AreSound}
 use Rattle.vs_const.specs.Selects.{is_scalar, taken, slice_taken, first_needed}
 use Rattle.vs_const.specs.Expressions.{typed}
 use Rattle.vs_const.proofs.Formed.{both_nil, no_fault}
-use Rattle.vs_flat.specs.Targets.{target_of}
 use Rattle.vs_flat.specs.Trees.{no_signal, target_tree, sequence}
-use Rattle.vs_hierarchy.specs.Targets.{meant_signal, TypedTarget, is_wrong_target, target_base, selected_target, typed_target, typed_targets}
+use Rattle.vs_hierarchy.specs.Targets.{meant_signal, is_wrong_target, target_base, selected_target, typed_target, typed_targets}
 use Rattle.vs_hierarchy.specs.Statements.{case_kind, TypedStatement, typed_list, typed_fallback, typed_statement, typed_sequence, typed_arms}
-use Rattle.vs_build.specs.Drafts.{Root, Body, Draft, and_roots, and_bodies, most_levels, most_body_levels, AddsExpression, AddsParts, AddsStatement, Adds, EndsInParts, EndsInAssignment, writes_variables, Labelled, total, arms_with, EndsInCase}
+use Rattle.vs_build.specs.Drafts.{Root, Body, Draft, and_roots, and_bodies, most_body_levels, AddsExpression, AddsParts, AddsStatement, Adds, EndsInParts, EndsInAssignment, writes_variables, Labelled, total, arms_with, EndsInCase}
 use Rattle.vs_build.specs.Cut.{label_counts}
 use Rattle.vs_build.specs.Buildable.{IsBuildable, part_expressions}
 use Rattle.vs_build.specs.Writable.{target_expression, IsWritable}

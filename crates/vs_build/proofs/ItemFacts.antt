@@ -1,23 +1,21 @@
 -- Items without a fault, one after the other.
-use Rattle.std.proofs.Common.{◌≡◌, ℕ, zero, suc, ◌+◌, ◌<◌, ◌≤◌, ◌^◌, false, List, [], ◌∷◌, ◌++◌, length, get_or, map, flat_map, max, take, Option, Some, None, refl, sym, ap, ◌∙◌, subst, arith, append_assoc, length-append}
+use Rattle.std.proofs.Common.{◌≡◌, ℕ, zero, suc, ◌+◌, ◌<◌, ◌≤◌, false, List, [], ◌∷◌, ◌++◌, length, get_or, map, flat_map, take, Option, Some, None, refl, sym, ap, ◌∙◌, subst, arith, append_assoc, length-append}
 use Rattle.std.proofs.Math.Seq.{take-suc, take-length}
 use Rattle.std.proofs.lemmas.Grind.{flat_map-append}
-use Rattle.std.proofs.lemmas.List.{map-append, length-map, append-nil}
+use Rattle.std.proofs.lemmas.List.{map-append, append-nil}
 use Rattle.vs_design.specs.Designs.{Process, Design}
 use Rattle.vs_grammar.specs.Trees as tree
-use Rattle.vs_grammar.specs.Shapes.{IsAssign, IsDeclarator, Given, IsExpr, Each}
-use Rattle.vs_grammar.specs.Depths.{deepest, option_depth, expr_depth, assign_depth, declarator_depth}
-use Rattle.vs_const.specs.Expressions.{typed}
+use Rattle.vs_grammar.specs.Shapes.{IsDeclarator, Each}
+use Rattle.vs_grammar.specs.Depths.{option_depth, expr_depth}
 use Rattle.vs_const.specs.Meanings.{Find}
 use Rattle.vs_const.specs.Sound.{AreSound}
 use Rattle.vs_const.proofs.Formed.{both_nil}
 use Rattle.vs_hierarchy.specs.Environments.{Env, named}
-use Rattle.vs_hierarchy.specs.Pieces.{Piece, Own, Said, all_said}
-use Rattle.vs_hierarchy.specs.Statements.{typed_statement, typed_control}
-use Rattle.vs_hierarchy.specs.Surveys.{assign_said, wire_said, block_said}
-use Rattle.vs_build.specs.Drafts.{Draft, and_process}
+use Rattle.vs_hierarchy.specs.Pieces.{Own, all_said}
+use Rattle.vs_hierarchy.specs.Surveys.{assign_said, wire_said}
+use Rattle.vs_build.specs.Drafts.{Draft}
 use Rattle.vs_build.specs.Writable.{IsAssignable, wire_assign, assign_process}
-use Rattle.vs_build.specs.Items.{and_processes, assign_processes, value_processes, wire_processes, IsAssigned, IsDeclared, AssignsAreFine, WiresAreFine, BlocksAreFine}
+use Rattle.vs_build.specs.Items.{and_processes, value_processes, wire_processes, IsAssigned, IsDeclared, AssignsAreFine, WiresAreFine, BlocksAreFine}
 
 none_more : {A : Type 0} (xs : List A) → xs ≡ xs ++ []
 none_more [] = refl

@@ -1,6 +1,5 @@
 -- Statements that can be built (IEEE 1364-2005, clause 9): without a fault, and with names that mean something in the design.
 use Rattle.std.specs.Prelude.{◌≡◌, ◌≤◌, ◌++◌, ℕ, false, List, [], ◌∷◌, map}
-use Rattle.vs_design.specs.Expressions.{Expression}
 use Rattle.vs_design.specs.Statements.{Statement}
 use Rattle.vs_design.specs.Designs.{Edge, Process, Always, Design}
 use Rattle.vs_flat.specs.declared.processes.Event.{Event as FlatEvent}

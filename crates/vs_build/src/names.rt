@@ -16,7 +16,7 @@ ghost use Rattle.vs_build.specs.Buildable.{IsNameable, HasBits, AddsSource, IsNu
 use crate::builder::Builder;
 use std::alloc::{AllocError, Global};
 use vs_ast::{Expr, Literal, Name};
-use vs_const::{Env, Named, constant, number};
+use vs_const::{ConstError, Env, Named, constant, number};
 use vs_four::{Bits, Range};
 
 /// Builds a name alone: a signal, or the value of a parameter.
@@ -33,7 +33,7 @@ pub(crate) fn name_alone<E: Env>(
     match env.find(name.text.as_bytes()) {
         Named::Value { value, .. } => builder.literal(value.bits, value.signed, true, at),
         Named::Signal(s) => builder.name(s.number, at),
-        _ => Err(AllocError),
+        _ => unreachable!(),
     }
 }
 
@@ -57,9 +57,9 @@ pub(crate) fn source<E: Env>(
                 builder.name(s.number, name.place)?;
                 Ok(range)
             }
-            None => Err(AllocError),
+            None => unreachable!(),
         },
-        _ => Err(AllocError),
+        _ => unreachable!(),
     }
 }
 
@@ -77,9 +77,10 @@ pub(crate) fn number_within<E: Env>(
     match number(alloc, e, env) {
         Ok(Some(n)) => match u32::try_from(n) {
             Ok(n) => Ok(n),
-            Err(_) => Err(AllocError),
+            Err(_) => unreachable!(),
         },
-        _ => Err(AllocError),
+        Err(ConstError::Memory) => Err(AllocError),
+        _ => unreachable!(),
     }
 }
 
@@ -98,7 +99,8 @@ pub(crate) fn constant_bits<E: Env>(alloc: Global, e: &Expr, env: &E) -> Result<
 {
     match constant(alloc, e, env, None) {
         Ok(Some(c)) => Ok(c.bits),
-        _ => Err(AllocError),
+        Err(ConstError::Memory) => Err(AllocError),
+        _ => unreachable!(),
     }
 }
 

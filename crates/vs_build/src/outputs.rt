@@ -31,7 +31,7 @@ fn output<E: Env>(builder: &mut Builder, alloc: Global, e: &Expr, env: &E) -> Re
             builder.join(alloc, parts.len(), 1, *place)
         }
         Expr::Brackets { inner, .. } => output(builder, alloc, inner, env),
-        _ => Err(AllocError),
+        _ => unreachable!(),
     }
 }
 

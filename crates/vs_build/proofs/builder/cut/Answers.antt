@@ -1,4 +1,4 @@
-use Rattle.std.proofs.Common.{rules, ℕ, ◌≡◌, ◌+◌, ◌<◌, ◌≤◌, length, get_or, take, drop, sym, subst, ◌-◌, refl, arith, ◌∙◌}
+use Rattle.std.proofs.Common.{rules, ◌≡◌, ◌+◌, ◌≤◌, length, get_or, take, drop, sym, subst, ◌-◌, refl, arith, ◌∙◌}
 use Rattle.vs_build.proofs.Cutting.{IsCutSoFar, cut_begins, cut_fits, cut_goes_on, cut_ends}
 use Rattle.vs_build.proofs.builder.cut.Goals as goal
 

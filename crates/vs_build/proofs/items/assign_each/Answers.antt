@@ -1,11 +1,11 @@
-use Rattle.std.proofs.Common.{List, ℕ, ◌≡◌, ◌+◌, ◌≤◌, ◌<◌, ◌∷◌, [], length, map, take, ap, sym, ◌∙◌, arith}
+use Rattle.std.proofs.Common.{◌∷◌, [], map, take, ap, sym, arith}
 use Rattle.std.proofs.lemmas.List.{length-map}
 use Rattle.vs_grammar.specs.Trees as tree
 use Rattle.vs_ast.specs.Views as view
 use Rattle.vs_build.specs.Growth.{draft}
 use Rattle.vs_build.specs.Writable.{IsAssignable, assign_process}
-use Rattle.vs_build.specs.Items.{assign_processes, value_processes, IsDeclared}
-use Rattle.vs_build.proofs.ItemFacts.{no_process, more_processes, these_processes, assign_after, each_at, flat_more, map_more, all_of, wires_count, process_count, length_taken}
+use Rattle.vs_build.specs.Items.{assign_processes}
+use Rattle.vs_build.proofs.ItemFacts.{no_process, more_processes, these_processes, assign_after, each_at, map_more, all_of, process_count, length_taken}
 use Rattle.vs_build.proofs.items.assign_each.Goals as goal
 
 pub assign-requires-clause-room : goal.assign-requires-clause-room

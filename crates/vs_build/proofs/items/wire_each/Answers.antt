@@ -1,11 +1,10 @@
-use Rattle.std.proofs.Common.{List, ℕ, ◌≡◌, ◌+◌, ◌≤◌, ◌<◌, ◌∷◌, [], length, map, take, ap, sym, ◌∙◌, arith}
+use Rattle.std.proofs.Common.{map, take, ap, sym, arith}
 use Rattle.std.proofs.lemmas.List.{length-map}
 use Rattle.vs_grammar.specs.Trees as tree
 use Rattle.vs_ast.specs.Views as view
 use Rattle.vs_build.specs.Growth.{draft}
-use Rattle.vs_build.specs.Writable.{IsAssignable, assign_process}
 use Rattle.vs_build.specs.Items.{wire_processes, value_processes, IsDeclared}
-use Rattle.vs_build.proofs.ItemFacts.{no_process, more_processes, these_processes, declared_after, each_at, flat_more, map_more, all_of, wires_count, process_count, length_taken}
+use Rattle.vs_build.proofs.ItemFacts.{no_process, more_processes, these_processes, declared_after, each_at, flat_more, all_of, wires_count, process_count, length_taken}
 use Rattle.vs_build.proofs.items.wire_each.Goals as goal
 
 pub declared-requires-clause-room : goal.declared-requires-clause-room

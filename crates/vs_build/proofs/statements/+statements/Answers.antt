@@ -1,12 +1,11 @@
-use Rattle.std.proofs.Common.{rules, List, ℕ, ◌≡◌, ◌+◌, ◌++◌, ◌∷◌, [], Some, None, false, length, map, max, take, refl, ap, subst, sym, ◌∙◌, arith}
-use Rattle.vs_grammar.specs.Depths.{deepest, expr_depth, statement_depth, fallback_depth, statements_depth, arms_depth}
+use Rattle.std.proofs.Common.{rules, ◌≡◌, ◌+◌, ◌++◌, ◌∷◌, [], Some, None, false, length, map, max, take, refl, ap, subst, sym, ◌∙◌, arith}
+use Rattle.vs_grammar.specs.Depths.{expr_depth, statement_depth, fallback_depth, statements_depth, arms_depth}
 use Rattle.vs_ast.specs.Views as view
 use Rattle.vs_ast.proofs.Rows.{statement_rows, arm_rows}
 use Rattle.vs_ast.specs.declared.statements.Statement.{the_lemmas}
 use Rattle.vs_const.specs.Expressions.{typed}
-use Rattle.vs_hierarchy.specs.Statements.{typed_list, typed_statement}
+use Rattle.vs_hierarchy.specs.Statements.{typed_statement}
 use Rattle.vs_build.specs.Growth.{draft}
-use Rattle.vs_build.specs.Drafts.{Adds}
 use Rattle.vs_build.specs.Executable.{AreLabels, part_statements, labelled}
 use Rattle.vs_build.proofs.Executed.{adds_none, adds_these, adds_both, only_trees, one_tree, one_statement, labels_of, statements_of, other_view, conditional_of, executable_after, executable_is, one_branch, one_more, ends_in_parts, sequence_parts, sequence_arm, parts_count, each_part, part_levels, part_falls, parts_taken, parts_all, case_of_parts, choosable_after, arm_at, arms_more, arms_all, case_ends, subject_arms, subject_alone, subject_default, conditional_alone, conditional_else, case_arm, no_default, some_default, deep_default, arm_statement_falls}
 use Rattle.vs_build.proofs.statements.+statements.Goals as goal

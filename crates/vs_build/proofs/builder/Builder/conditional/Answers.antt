@@ -1,4 +1,4 @@
-use Rattle.std.proofs.Common.{rules, List, ℕ, ◌≡◌, ◌-◌, ◌+◌, ◌∷◌, [], slice_get, take, drop, length, ap, sym, ◌∙◌, arith}
+use Rattle.std.proofs.Common.{rules, List, ℕ, ◌-◌, ◌+◌, ◌∷◌, [], slice_get, take, ap, ◌∙◌}
 use Rattle.std.specs.Prelude.{option_to_list}
 use Rattle.vs_flat.specs.declared.statements.Statement.TheVariants as S
 use Rattle.vs_build.proofs.BodySteps.{body_covers, body_kept}

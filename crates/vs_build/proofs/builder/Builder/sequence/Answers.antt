@@ -1,5 +1,4 @@
-use Rattle.std.proofs.Common.{rules, List, ℕ, ◌≡◌, ◌-◌, ◌+◌, ◌∷◌, [], take, drop, length, ap, sym, ◌∙◌, arith}
-use Rattle.std.specs.Prelude.{option_to_list}
+use Rattle.std.proofs.Common.{rules, ◌-◌, [], take, sym, ◌∙◌}
 use Rattle.vs_flat.specs.declared.statements.Statement.TheVariants as S
 use Rattle.vs_build.proofs.BodySteps.{body_covers, body_kept}
 use Rattle.vs_build.proofs.BodyKinds.{slice_from, sequence_enough, sequence_step, sequence_adds, part_count}
