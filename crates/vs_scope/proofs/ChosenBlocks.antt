@@ -1,8 +1,8 @@
 -- Which block a construct takes.
-use Rattle.std.proofs.Common.{◌≡◌, ◌≤◌, ◌<◌, ◌+◌, ◌*◌, ℕ, zero, suc, Bool, true, false, List, [], ◌∷◌, ◌++◌, length, get_or, max, map, ℤ, Option, Some, None, refl, sym, ap, ◌∙◌, subst, arith, rules}
+use Rattle.std.proofs.Common.{◌≡◌, ◌≤◌, ◌<◌, ℕ, zero, suc, Bool, true, false, List, [], ◌∷◌, length, get_or, ℤ, Option, Some, None, refl, sym, ap, ◌∙◌, subst, arith, rules}
 use Rattle.vs_grammar.specs.Trees as tree
 use Rattle.vs_grammar.specs.Trees.{items_list}
-use Rattle.vs_grammar.specs.Shapes.{Each, OneOrMore, Given, IsExpr, IsGenerateItem, IsBlock, IsBlockFallback, AreGenerateArms, IsItem, AreItems, IsModule}
+use Rattle.vs_grammar.specs.Shapes.{Each, Given, IsGenerateItem, IsBlock, IsBlockFallback, AreGenerateArms, IsItem, AreItems}
 use Rattle.vs_grammar.specs.Depths.{item_depth, block_depth, block_fallback_depth, generate_arms_depth}
 use Rattle.vs_ast.specs.Views as view
 use Rattle.std.specs.Global.{Box, Vec}
@@ -17,9 +17,9 @@ use Rattle.vs_hierarchy.specs.Limits.{the_limits}
 use Rattle.vs_hierarchy.specs.Environments.{Env, named}
 use Rattle.vs_hierarchy.specs.Generate.{Made, nothing_made, after_faults}
 use Rattle.vs_hierarchy.specs.Loops.{holds}
-use Rattle.vs_hierarchy.specs.Constructs.{SaidCase, said_case, construct, branch, fallback, arm_branch}
+use Rattle.vs_hierarchy.specs.Constructs.{said_case, construct, branch, fallback, arm_branch}
 use Rattle.vs_scope.proofs.Steps.{append_none}
-use Rattle.vs_scope.specs.Chosen.{IsConstruct, ChosenBlock, option_block, fallback_block, if_block, of_if, arm_block, case_block, of_case, block_made, branch_made}
+use Rattle.vs_scope.specs.Chosen.{IsConstruct, option_block, fallback_block, if_block, of_if, arm_block, case_block, of_case, block_made, branch_made}
 
 -- ---- the same as the definitions say
 

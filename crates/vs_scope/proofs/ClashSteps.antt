@@ -1,11 +1,10 @@
 -- The names of blocks, one after the other.
-use Rattle.std.proofs.Common.{◌≡◌, ◌<◌, ◌≤◌, ℕ, suc, Bool, true, false, ◌||◌, List, [], ◌∷◌, ◌++◌, map, flat_map, length, get_or, drop, max, MatchOption, is_some, option_map, Option, Some, None, if◌then◌else◌, refl, sym, ap, ◌∙◌, subst, append_assoc}
-use Rattle.std.specs.List.{list_any}
+use Rattle.std.proofs.Common.{◌≡◌, ◌<◌, ℕ, suc, Bool, true, false, ◌||◌, List, [], ◌∷◌, ◌++◌, map, length, get_or, drop, MatchOption, is_some, option_map, Option, Some, None, if◌then◌else◌, refl, sym, ap, ◌∙◌, subst, append_assoc}
 use Rattle.std.proofs.lemmas.Grind.{flat_map-append}
 use Rattle.std.proofs.lemmas.List.{map-append}
 use Rattle.vs_design.specs.Clocks.{same_name}
 use Rattle.vs_const.specs.declared.faults.Fault.{Fault}
-use Rattle.vs_const.specs.Faults.{fault, fault_if, least, better}
+use Rattle.vs_const.specs.Faults.{fault_if, least, better}
 use Rattle.vs_hierarchy.specs.Environments.{OfScope, find_entry}
 use Rattle.vs_hierarchy.specs.Environments as environment
 use Rattle.vs_hierarchy.specs.Generate.{BlockName}
@@ -19,7 +18,7 @@ use Rattle.vs_scope.specs.Sets.{IsFirstSoFar}
 use Rattle.vs_scope.specs.Surveys.{MeanTheSame}
 use Rattle.vs_scope.specs.Views.{entry_of, pair_entry}
 use Rattle.vs_scope.proofs.Entries.{same_is, find_value}
-use Rattle.vs_scope.proofs.Steps.{append_none, from_place, none_left}
+use Rattle.vs_scope.proofs.Steps.{append_none, from_place}
 use Rattle.vs_scope.proofs.SoFar.{so_far_start, so_far_more, so_far_end}
 
 -- ---- clashes
@@ -183,7 +182,7 @@ apart es done seen (b ∷ bs) known h =
     find_append es done b.name ∙ ap (λ (o : Option environment.Entry). or_else o (find_entry done b.name)) (clash_none b.place (find_entry es b.name) q.0) ∙ known b.name (fault_none (has_name b.name seen) 36 b.place q.1) in
     let later : (n : List ℕ) → has_name n (b ∷ seen) ≡ false → find_entry (done ++ written_entry b) n ≡ None =
     (λ n k. let r = or_parts (same_name b.name n) (has_name n seen) k in
-        find_append done (written_entry b) n ∙ ap (λ (o : Option environment.Entry). or_else o (find_entry (written_entry b) n)) (known n r.1) ∙ one_found b b.written n r.0) in
+    find_append done (written_entry b) n ∙ ap (λ (o : Option environment.Entry). or_else o (find_entry (written_entry b) n)) (known n r.1) ∙ one_found b b.written n r.0) in
     join_new (es ++ done) (written_entry b) (block_entries bs) (one_new (es ++ done) b b.written out)
     (subst (λ (x : List environment.Entry). AreNew x (block_entries bs)) (sym (append_assoc es done (written_entry b))) (apart es (done ++ written_entry b) (b ∷ seen) bs later p.1))
 

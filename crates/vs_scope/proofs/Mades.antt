@@ -1,17 +1,13 @@
 -- What constructs make.
-use Rattle.std.proofs.Common.{◌≡◌, ◌<◌, ℕ, suc, List, [], ◌∷◌, ◌++◌, map, length, get_or, drop, Option, Some, None, refl, sym, ap, ◌∙◌, append_assoc, drop-cons}
+use Rattle.std.proofs.Common.{◌≡◌, ◌<◌, ℕ, suc, List, [], ◌∷◌, ◌++◌, map, length, get_or, drop, Option, Some, sym, ap, ◌∙◌, append_assoc, drop-cons}
 use Rattle.std.proofs.lemmas.List.{map-append}
-use Rattle.vs_ast.specs.Views.{option}
-use Rattle.vs_grammar.specs.Trees.{Item}
 use Rattle.vs_const.specs.declared.faults.Fault.{Fault}
-use Rattle.vs_hierarchy.specs.Environments as environment
 use Rattle.vs_hierarchy.specs.Generate as generate
 use Rattle.vs_hierarchy.specs.Loops.{indexed, turn_blocks}
 use Rattle.vs_scope.specs.declared.made.Nested.{Nested}
 use Rattle.vs_scope.specs.declared.made.Block.{Block}
 use Rattle.vs_scope.specs.Blocks.{block}
 use Rattle.vs_scope.specs.Made.{Kept, nested}
-use Rattle.vs_scope.proofs.Steps.{append_none}
 
 pub same_kept : (a b : List generate.Nested) (m n : List generate.BlockName) (f g : Option Fault) (t u : ℕ) → a ≡ b → m ≡ n → f ≡ g → t ≡ u
     → (let k : Kept = record { blocks = a; names = m; fault = f; turns = t } in k) ≡ record { blocks = b; names = n; fault = g; turns = u }

@@ -1,5 +1,5 @@
 -- One more name of a map.
-use Rattle.std.proofs.Common.{◌≡◌, ℕ, Bool, true, false, ◌||◌, List, [], ◌∷◌, is_some, Option, Some, None, if◌then◌else◌, refl, sym, ap, ◌∙◌}
+use Rattle.std.proofs.Common.{◌≡◌, ℕ, Bool, true, false, ◌||◌, List, [], ◌∷◌, is_some, Option, Some, None, if◌then◌else◌, refl, ap, ◌∙◌}
 use Rattle.vs_design.specs.Clocks.{same_name}
 use Rattle.vs_scope.specs.Maps.{Pair, value_at, with_value}
 use Rattle.vs_scope.proofs.Entries.{same_is}

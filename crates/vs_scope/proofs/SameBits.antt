@@ -1,7 +1,7 @@
 -- Values that are the same bit by bit.
-use Rattle.std.proofs.Common.{◌≡◌, ℕ, suc, Bool, true, false, ◌&&◌, List, [], ◌∷◌, length, refl, sym, ap, ◌∙◌, arith}
+use Rattle.std.proofs.Common.{◌≡◌, Bool, true, false, ◌&&◌, [], ◌∷◌, length, refl, sym, ap, ◌∙◌, arith}
 use Rattle.vs_four.specs.declared.Bit4.{Bit4}
-use Rattle.vs_four.specs.declared.Bit4.TheVariants.{One, Zero}
+use Rattle.vs_four.specs.declared.Bit4.TheVariants.{One}
 use Rattle.vs_four.specs.Logic.{BitList, map2, fold_with, identical}
 use Rattle.vs_four.specs.Tables.{same, and_bit, of_bool, same_bit}
 use Rattle.vs_hierarchy.specs.Constructs.{same_bits}

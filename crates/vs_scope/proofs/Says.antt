@@ -18,4 +18,3 @@ says_bad c t h e = by t.good refl
     by : (b : Bool) → t.good ≡ b → t.good ≡ false
     by true g = absurd (some_none c.form (h.finds.keeps.full refl g) e)
     by false g = g
-

@@ -1,14 +1,14 @@
 -- The turns of a loop, one after the other.
-use Rattle.std.proofs.Common.{◌≡◌, ◌≤◌, ◌<◌, ℕ, zero, suc, ◌+◌, ◌==◌, Bool, true, false, not, ◌||◌, List, [], ◌∷◌, ◌++◌, length, nat_lt, nat_le, Option, Some, None, if◌then◌else◌, refl, sym, ap, ◌∙◌, subst, append_assoc, arith, length-append}
+use Rattle.std.proofs.Common.{◌≡◌, ℕ, zero, suc, ◌+◌, ◌==◌, Bool, true, false, ◌||◌, List, [], ◌∷◌, ◌++◌, length, nat_lt, nat_le, Option, Some, None, if◌then◌else◌, refl, sym, ap, ◌∙◌, subst, append_assoc, arith, length-append}
 use Rattle.std.specs.List.{list_any}
-use Rattle.std.proofs.lemmas.Bool.{eqb-true, eqb-false}
+use Rattle.std.proofs.lemmas.Bool.{eqb-true}
 use Rattle.vs_grammar.specs.Trees.{GenerateHead}
 use Rattle.vs_const.specs.declared.faults.Fault.{Fault}
 use Rattle.vs_const.specs.Faults.{fault, least, better}
 use Rattle.vs_const.specs.Typed.{Numbered, Natural}
 use Rattle.vs_const.specs.Expressions.{number}
 use Rattle.vs_hierarchy.specs.Limits.{the_limits}
-use Rattle.vs_hierarchy.specs.Environments.{Turn, Env, with_turn, named}
+use Rattle.vs_hierarchy.specs.Environments.{Env, with_turn, named}
 use Rattle.vs_hierarchy.specs.Loops.{holds, step, Turns, no_turn, and_turn, turns_from}
 use Rattle.vs_scope.specs.declared.turns.Turned.{Turned as TurnedOf}
 use Rattle.vs_scope.specs.Sets.{IsFirstSoFar}

@@ -1,6 +1,5 @@
 -- Blocks and loops' variables, as the code has them.
-use Rattle.std.specs.Prelude.{◌≡◌, Option}
-use Rattle.vs_const.specs.declared.faults.Fault.{Fault}
+use Rattle.std.specs.Prelude.{◌≡◌}
 use Rattle.vs_const.specs.Faults.{least}
 use Rattle.vs_hierarchy.specs.Generate as generate
 use Rattle.vs_hierarchy.specs.Loops as loops

@@ -1,5 +1,5 @@
 -- Which block an `if` or a `case` takes, and what the items of a scope make one after the other (IEEE 1364-2005, 12.4).
-use Rattle.std.specs.Prelude.{◌≡◌, ℕ, zero, suc, Bool, true, false, List, [], ◌++◌, map, ℤ, Option, Some, None, if◌then◌else◌}
+use Rattle.std.specs.Prelude.{◌≡◌, ℕ, zero, suc, Bool, true, false, List, [], ◌++◌, map, ℤ, Option, Some, None}
 use Rattle.std.specs.Borrow.{Bor}
 use Rattle.std.specs.Global.{Box}
 use Rattle.vs_grammar.specs.Trees as tree

@@ -1,5 +1,5 @@
 -- The names of blocks, as the code has them.
-use Rattle.std.specs.Prelude.{◌≡◌, ℕ, Bool, List, [], ◌∷◌, ◌++◌, map, flat_map, Option, Some, None}
+use Rattle.std.specs.Prelude.{◌≡◌, ℕ, Bool, List, [], ◌∷◌, ◌++◌, flat_map, None}
 use Rattle.std.specs.List.{list_any}
 use Rattle.vs_design.specs.Clocks.{same_name}
 use Rattle.vs_grammar.specs.Trees.{Name}

@@ -1,9 +1,9 @@
 -- All that one scope says but for its items, part by part; the survey of a scope is of these parts (IEEE 1364-2005, clause 12).
-use Rattle.std.specs.Prelude.{◌≡◌, ℕ, ◌+◌, false, List, [], ◌++◌, map, flat_map, length, sum_by, is_none, Option, Some, None}
+use Rattle.std.specs.Prelude.{◌≡◌, ℕ, ◌+◌, false, List, [], ◌++◌, map, flat_map, length, sum_by, is_none}
 use Rattle.vs_ast.specs.Views as view
 use Rattle.vs_grammar.specs.Trees as tree
 use Rattle.vs_grammar.specs.Shapes.{Each, IsGenerateItem, IsModule}
-use Rattle.vs_design.specs.Expressions.{Signal, signal_length}
+use Rattle.vs_design.specs.Expressions.{signal_length}
 use Rattle.vs_const.specs.declared.faults.Fault.{Fault}
 use Rattle.vs_const.specs.Faults.{least, better}
 use Rattle.vs_hierarchy.specs.Limits.{the_limits}
@@ -12,7 +12,6 @@ use Rattle.vs_hierarchy.specs.Signals.{Start, SaidSignal}
 use Rattle.vs_hierarchy.specs.Generate.{BlockName, Made}
 use Rattle.vs_hierarchy.specs.Constructs.{constructs}
 use Rattle.vs_hierarchy.specs.Pieces.{Contents as ContentsOf, OfModule, OfBlock, Task, Said}
-use Rattle.vs_hierarchy.specs.Instances.{Around}
 use Rattle.vs_hierarchy.specs.Surveys.{items_said, block_faults, block_entries, Totals, bits_over, piece_processes, processes_over, turns_after, items_of, declarations_of, overrides_of, header_of, Survey, survey}
 use Rattle.vs_scope.specs.declared.contents.Contents.{Contents}
 use Rattle.vs_scope.specs.declared.contents.Contents.TheVariants.{Module, Block}

@@ -1,5 +1,5 @@
 -- What a generate loop does at one value of its variable (IEEE 1364-2005, 12.4.1).
-use Rattle.std.specs.Prelude.{◌≡◌, ℕ, ◌+◌, Bool, true, false, ◌&&◌, ◌||◌, List, [], ◌++◌, nat_lt, Option, Some, None, if◌then◌else◌}
+use Rattle.std.specs.Prelude.{◌≡◌, ℕ, ◌+◌, Bool, true, false, ◌&&◌, ◌||◌, List, ◌++◌, nat_lt, Option, Some, None, if◌then◌else◌}
 use Rattle.vs_four.specs.Logic.{BitList, all_known}
 use Rattle.vs_four.specs.Numbers.{integer}
 use Rattle.vs_grammar.specs.Trees.{GenerateHead}

@@ -104,13 +104,7 @@ fn branch_body<'a>(
 {
     match number {
         None => None,
-        Some(_) => {
-            if holds(number) {
-                Some(taken)
-            } else {
-                other
-            }
-        }
+        Some(_) => { if holds(number) { Some(taken) } else { other } }
     }
 }
 
@@ -280,12 +274,7 @@ pub(crate) struct Making<'a> {
 
 impl<'a> Making<'a> {
     /// Makes what one item more makes. More constructs than 32 bits count are too many for memory.
-    fn make(
-        &mut self,
-        alloc: Global,
-        item: &'a Item,
-        here: &View<'_, 'a>,
-    ) -> Result<(), AllocError>
+    fn make(&mut self, alloc: Global, item: &'a Item, here: &View<'_, 'a>) -> Result<(), AllocError>
         requires shaped { IsConstruct (view.item item.now) }
         requires inside { here.now.inside ≡ None }
         ensures { OnOk result ((before : ℕ) (rest : List tree.Item) (all : List generate.Made) → IsMaking self.old (view_env here.now) before (view.item item.now ∷ rest) all → IsMaking self.new (view_env here.now) before rest all) }

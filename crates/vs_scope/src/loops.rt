@@ -110,11 +110,7 @@ fn turn_blocks<'a>(
 fn turn_name<'a>(name: BlockName<'a>, values: &[u32]) -> Option<BlockName<'a>>
     ensures { code.block_names result ≡ spec.turn_names (code.block_name name.entry) values.now }
 {
-    if values.is_empty() {
-        None
-    } else {
-        Some(name)
-    }
+    if values.is_empty() { None } else { Some(name) }
 }
 
 /// The blocks of a loop's turns, behind this fault; a loop over `;` makes none.

@@ -30,10 +30,7 @@ pub enum BlockName<'a> {
     Written(&'a Name),
     /// `genblk<n>`, by the construct's number in its scope, for a block at this place. It clashes like any other name, but no expression means the
     /// block by it.
-    Numbered {
-        number: u32,
-        place: u32,
-    },
+    Numbered { number: u32, place: u32 },
 }
 
 /// What an item of a scope makes: nothing where it is no generate construct. `name` is there where a block is, `fault` is the first rule that the

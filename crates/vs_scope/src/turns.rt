@@ -26,6 +26,7 @@ use vs_four::{Bits, integer, is_known};
 
 /// How many turns one loop takes at most, and all loops of a design.
 const MOST_TURNS: usize = 4096;
+
 const MOST_OF_ALL: u32 = 1_048_576;
 
 /// The number of a value that is assigned to a genvar, by its own bits and those of the genvar.

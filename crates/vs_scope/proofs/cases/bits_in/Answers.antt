@@ -1,15 +1,13 @@
-use Rattle.std.proofs.Common.{◌≡◌, ◌≤◌, Some, ap, ◌∙◌, subst, sym}
+use Rattle.std.proofs.Common.{◌≤◌, ap, ◌∙◌, subst, sym}
 use Rattle.vs_ast.specs.Views as view
-use Rattle.vs_four.specs.declared.Bit4.TheVariants.{X}
-use Rattle.vs_design.specs.Expressions.{Expression, width}
-use Rattle.vs_design.specs.Values.{value}
+use Rattle.vs_design.specs.Expressions.{width}
 use Rattle.vs_const.specs.Expressions.{constant}
 use Rattle.vs_const.proofs.Good.{typed_long}
 use Rattle.vs_hierarchy.specs.Environments.{named}
 use Rattle.vs_hierarchy.specs.Constructs.{length_or_none}
 use Rattle.vs_scope.specs.Frames.{view_env}
 use Rattle.vs_scope.proofs.Fair.{view_fair}
-use Rattle.vs_scope.proofs.Says.{says_good, says_bad}
+use Rattle.vs_scope.proofs.Says.{says_good}
 use Rattle.vs_scope.proofs.cases.bits_in.Goals as goal
 
 pub value-requires-clause-form : goal.value-requires-clause-form

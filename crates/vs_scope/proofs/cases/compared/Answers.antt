@@ -1,15 +1,12 @@
-use Rattle.std.proofs.Common.{◌≡◌, ◌++◌, ℕ, Bool, List, Option, refl, sym, ap, ◌∙◌, subst}
-use Rattle.vs_four.specs.Logic.{BitList}
+use Rattle.std.proofs.Common.{◌≡◌, ◌++◌, List, Option, sym, ap, ◌∙◌}
 use Rattle.vs_ast.specs.Views as view
 use Rattle.vs_const.specs.declared.faults.Fault.{Fault}
 use Rattle.vs_const.specs.Faults.{least, better}
-use Rattle.vs_const.specs.Expressions.{constant}
 use Rattle.vs_const.proofs.Least.{least_append}
-use Rattle.vs_hierarchy.specs.Environments.{named}
-use Rattle.vs_hierarchy.specs.Constructs.{Label, widest, all_signed, unknown_in, in_context, same_bits, arm_of, label_of, labels_of, no_case}
-use Rattle.vs_scope.specs.Cases.{AreLabels, label_faults, own_faults}
+use Rattle.vs_hierarchy.specs.Constructs.{label_of}
+use Rattle.vs_scope.specs.Cases.{label_faults, own_faults}
 use Rattle.vs_scope.specs.Frames.{view_env}
-use Rattle.vs_scope.proofs.CaseLabels.{unknown_is, case_clean, case_unclean}
+use Rattle.vs_scope.proofs.CaseLabels.{unknown_is, case_unclean}
 use Rattle.vs_scope.proofs.cases.compared.Goals as goal
 
 two : (a b : List Fault) (x y o : Option Fault) → x ≡ least a → y ≡ least b → o ≡ better x y → o ≡ least (a ++ b)

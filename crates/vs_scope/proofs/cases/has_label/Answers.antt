@@ -1,4 +1,4 @@
-use Rattle.std.proofs.Common.{◌≡◌, ◌||◌, ℕ, Bool, true, false, suc, List, [], map, drop, sym, ap, ◌∙◌, subst, add-one}
+use Rattle.std.proofs.Common.{◌≡◌, ◌||◌, ℕ, Bool, suc, List, map, drop, sym, ap, ◌∙◌, subst, add-one}
 use Rattle.vs_ast.specs.Views as view
 use Rattle.vs_ast.specs.declared.expressions.Expr.{Expr}
 use Rattle.vs_hierarchy.specs.Constructs.{same_bits}

@@ -1,5 +1,5 @@
-use Rattle.std.proofs.Common.{◌≡◌, not, Bool, sym, ap, ◌∙◌}
-use Rattle.vs_four.specs.Logic.{BitList, all_known}
+use Rattle.std.proofs.Common.{not, Bool, ap, ◌∙◌}
+use Rattle.vs_four.specs.Logic.{all_known}
 use Rattle.vs_design.specs.Values.{constant_value}
 use Rattle.vs_const.specs.Faults.{least, fault_if}
 use Rattle.vs_scope.proofs.CaseLabels.{own_bad, own_good}

@@ -1,11 +1,9 @@
-use Rattle.std.proofs.Common.{◌≡◌, ◌++◌, ◌∷◌, List, Option, Result, IfOk, refl, sym, ap, ◌∙◌, subst, map}
+use Rattle.std.proofs.Common.{◌≡◌, ◌++◌, List, Option, IfOk, refl, sym, ap, ◌∙◌, subst}
 use Rattle.vs_ast.specs.Views as view
 use Rattle.vs_const.specs.declared.faults.Fault.{Fault}
 use Rattle.vs_const.specs.Faults.{least, better}
 use Rattle.vs_const.proofs.Least.{least_append}
-use Rattle.vs_hierarchy.specs.Constructs as spec
-use Rattle.vs_hierarchy.specs.Constructs.{Label, label_of, labels_of}
-use Rattle.vs_scope.specs.Cases.{AreLabels, IsSaidCase, label_faults, own_faults, good_case}
+use Rattle.vs_scope.specs.Cases.{AreLabels, IsSaidCase, label_faults, own_faults}
 use Rattle.vs_scope.specs.Frames.{view_env}
 use Rattle.vs_scope.proofs.CaseLabels.{HaveValues, have_values, case_labels, case_good, case_bad}
 use Rattle.vs_scope.proofs.cases.said_case.Goals as goal

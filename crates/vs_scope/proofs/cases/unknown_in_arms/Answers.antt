@@ -1,4 +1,4 @@
-use Rattle.std.proofs.Common.{◌≡◌, ℕ, suc, List, [], ◌++◌, map, flat_map, drop, sym, ap, ◌∙◌, subst, add-one}
+use Rattle.std.proofs.Common.{◌≡◌, ℕ, suc, List, ◌++◌, map, flat_map, drop, sym, ap, ◌∙◌, subst, add-one}
 use Rattle.std.proofs.lemmas.Grind.{flat_map-append}
 use Rattle.vs_ast.specs.Views as view
 use Rattle.vs_ast.specs.declared.expressions.Expr.{Expr}

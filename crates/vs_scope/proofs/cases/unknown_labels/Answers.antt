@@ -1,4 +1,4 @@
-use Rattle.std.proofs.Common.{ℕ, suc, List, [], map, flat_map, drop, sym, subst, add-one}
+use Rattle.std.proofs.Common.{ℕ, suc, List, map, flat_map, drop, sym, subst, add-one}
 use Rattle.vs_ast.specs.Views as view
 use Rattle.vs_ast.specs.declared.expressions.Expr.{Expr}
 use Rattle.vs_hierarchy.specs.Constructs.{label_of, unknown_in}

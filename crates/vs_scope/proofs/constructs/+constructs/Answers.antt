@@ -1,4 +1,4 @@
-use Rattle.std.proofs.Common.{◌≡◌, ◌≤◌, ◌<◌, ◌+◌, ◌*◌, ℕ, List, Option, IfOk, sym, ap, ◌∙◌, subst, arith}
+use Rattle.std.proofs.Common.{◌≡◌, ◌≤◌, ◌<◌, ◌+◌, ◌*◌, ℕ, List, IfOk, sym, ap, ◌∙◌, subst, arith}
 use Rattle.vs_ast.specs.Views as view
 use Rattle.vs_ast.specs.declared.items.GenerateArm.{GenerateArm}
 use Rattle.vs_grammar.specs.Trees as tree
@@ -9,7 +9,7 @@ use Rattle.vs_hierarchy.specs.Environments.{named}
 use Rattle.vs_hierarchy.specs.Generate as generate
 use Rattle.vs_hierarchy.specs.Limits.{the_limits}
 use Rattle.vs_hierarchy.specs.Constructs as spec
-use Rattle.vs_scope.specs.Chosen.{ChosenBlock, IsChosen, IsConstruct, block_now, fallback_block, of_if, of_case, branch_made}
+use Rattle.vs_scope.specs.Chosen.{IsChosen, IsConstruct, block_now, fallback_block, of_if, of_case}
 use Rattle.vs_scope.specs.Frames.{view_env}
 use Rattle.vs_scope.specs.Made.{made, kept}
 use Rattle.vs_scope.proofs.ChosenBlocks.{depth_of, fallback_of, option_is, if_view, case_view, if_is, case_is, if_shaped, case_shaped, if_deep, case_deep}

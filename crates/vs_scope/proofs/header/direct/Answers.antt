@@ -1,4 +1,4 @@
-use Rattle.std.proofs.Common.{◌≡◌, ◌||◌, not, ℕ, Bool, suc, List, [], map, drop, sym, ap, ◌∙◌, subst, add-one}
+use Rattle.std.proofs.Common.{◌≡◌, ◌||◌, not, ℕ, Bool, suc, List, map, drop, sym, ap, ◌∙◌, subst, add-one}
 use Rattle.vs_ast.specs.Views as view
 use Rattle.vs_ast.specs.declared.items.Declarator.{Declarator}
 use Rattle.vs_design.specs.Clocks.{same_name}

@@ -1,11 +1,11 @@
-use Rattle.std.proofs.Common.{◌≡◌, ℕ, Bool, List, [], ◌++◌, map, flat_map, Option, sym, ap, ◌∙◌}
+use Rattle.std.proofs.Common.{◌≡◌, ℕ, List, [], ◌++◌, map, flat_map, Option, sym, ap, ◌∙◌}
 use Rattle.vs_ast.specs.Views as view
 use Rattle.vs_ast.specs.declared.items.Item.{Item}
 use Rattle.vs_grammar.specs.Trees as tree
 use Rattle.vs_const.specs.declared.faults.Fault.{Fault}
 use Rattle.vs_const.specs.Faults.{least, better}
 use Rattle.vs_const.proofs.Least.{least_append}
-use Rattle.vs_hierarchy.specs.Ports.{is_named, has_direction, item_directions, plain_names, repeated, body_directions, header_faults}
+use Rattle.vs_hierarchy.specs.Ports.{is_named, has_direction, item_directions, plain_names, repeated, body_directions}
 use Rattle.vs_scope.specs.Headers.{opposed_faults, undirected_faults}
 use Rattle.vs_scope.specs.Sets.{has}
 use Rattle.vs_scope.proofs.Steps.{items_are}

@@ -1,4 +1,4 @@
-use Rattle.std.proofs.Common.{◌≡◌, not, ℕ, Bool, List, map, drop, sym, ap, ◌∙◌, subst, add-one}
+use Rattle.std.proofs.Common.{not, ℕ, Bool, map, drop, sym, ap, ◌∙◌, subst, add-one}
 use Rattle.vs_ast.specs.Views as view
 use Rattle.vs_grammar.specs.Trees as tree
 use Rattle.vs_const.specs.Faults.{least, fault_if}

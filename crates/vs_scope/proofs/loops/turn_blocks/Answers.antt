@@ -1,4 +1,4 @@
-use Rattle.std.proofs.Common.{◌≡◌, ◌++◌, ◌∷◌, ◌+◌, [], ℕ, List, Some, get_or, drop, map, sym, ap, ◌∙◌, subst, add-one}
+use Rattle.std.proofs.Common.{◌≡◌, ◌++◌, ◌∷◌, ◌+◌, [], ℕ, List, Some, get_or, drop, map, ap, ◌∙◌, add-one}
 use Rattle.vs_hierarchy.specs.Generate as generate
 use Rattle.vs_hierarchy.specs.Loops as spec
 use Rattle.vs_scope.specs.declared.made.Nested.{Nested}

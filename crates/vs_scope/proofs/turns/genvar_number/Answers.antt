@@ -1,4 +1,4 @@
-use Rattle.std.proofs.Common.{◌≡◌, Option, sym, ap, ◌∙◌, subst}
+use Rattle.std.proofs.Common.{Option, ap, ◌∙◌, subst}
 use Rattle.vs_four.specs.declared.Bit4.TheVariants.{X}
 use Rattle.vs_design.specs.Expressions.{Expression}
 use Rattle.vs_design.specs.Values.{constant_value, assigned_value}

@@ -1,7 +1,6 @@
-use Rattle.std.proofs.Common.{sym, subst}
 use Rattle.vs_scope.specs.Frames.{around_env}
 use Rattle.vs_scope.specs.Signalled.{start_of}
-use Rattle.vs_scope.proofs.WholeSurveys.{scope_shaped, no_overrides, as_module, as_block}
+use Rattle.vs_scope.proofs.WholeSurveys.{scope_shaped, as_module, as_block}
 use Rattle.vs_scope.proofs.whole.declare_contents.Goals as goal
 
 pub declare_scope-requires-clause-shaped : goal.declare_scope-requires-clause-shaped

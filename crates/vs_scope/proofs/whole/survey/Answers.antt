@@ -1,22 +1,18 @@
-use Rattle.std.proofs.Common.{◌≡◌, ◌++◌, ℕ, List, [], map, flat_map, Option, Some, None, sym, ap, ◌∙◌, subst}
+use Rattle.std.proofs.Common.{List, [], map, sym, ap, ◌∙◌, subst}
 use Rattle.vs_grammar.specs.Shapes.{Each}
-use Rattle.vs_const.specs.declared.faults.Fault.{Fault}
-use Rattle.vs_const.specs.Faults.{least, better}
-use Rattle.vs_hierarchy.specs.Environments.{Entry, find_entry, within}
+use Rattle.vs_const.specs.Faults.{least}
+use Rattle.vs_hierarchy.specs.Environments.{Entry, find_entry}
 use Rattle.vs_hierarchy.specs.Limits.{the_limits}
 use Rattle.vs_hierarchy.specs.Generate as generate
-use Rattle.vs_hierarchy.specs.Signals as spec
-use Rattle.vs_hierarchy.specs.Surveys.{block_faults, block_entries, bits_over, header_of, declarations_of, overrides_of, items_of}
-use Rattle.vs_scope.specs.declared.made.Made.{Made}
+use Rattle.vs_hierarchy.specs.Surveys.{block_faults, bits_over, header_of, declarations_of, overrides_of}
 use Rattle.vs_scope.specs.declared.names.Signal.{Signal}
 use Rattle.vs_scope.specs.Bits.{over}
 use Rattle.vs_scope.specs.Chosen.{IsConstruct}
 use Rattle.vs_scope.specs.Clashes.{blocks_of}
 use Rattle.vs_scope.specs.Frames.{around_env}
-use Rattle.vs_scope.specs.Made as code
 use Rattle.vs_scope.specs.Scopes.{said_faults}
-use Rattle.vs_scope.specs.Signalled.{Placed, placed, placed_of, start_of}
-use Rattle.vs_scope.specs.Surveys.{contents_of, declared_in, signals_in, made_in, blocks_in, entries_in, made_faults}
+use Rattle.vs_scope.specs.Signalled.{Placed, placed, start_of}
+use Rattle.vs_scope.specs.Surveys.{contents_of, declared_in, signals_in, made_in, blocks_in, made_faults}
 use Rattle.vs_scope.specs.Views.{entries}
 use Rattle.vs_scope.specs.Wholes.{scope_after}
 use Rattle.vs_scope.proofs.WholeSurveys.{items_same, scope_constructs, signals_same, bits_same, blocks_same, five, no_better, whole_made, whole_entries, whole_shaped}

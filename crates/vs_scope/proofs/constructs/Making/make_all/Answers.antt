@@ -1,4 +1,4 @@
-use Rattle.std.proofs.Common.{ℕ, suc, List, [], ◌∷◌, map, drop, sym, subst, add-one}
+use Rattle.std.proofs.Common.{ℕ, suc, List, map, drop, sym, subst, add-one}
 use Rattle.vs_ast.specs.Views as view
 use Rattle.vs_ast.specs.declared.items.Item.{Item}
 use Rattle.vs_scope.specs.Chosen.{IsConstruct, IsMaking}

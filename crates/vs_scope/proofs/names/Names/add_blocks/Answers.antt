@@ -1,6 +1,5 @@
-use Rattle.std.proofs.Common.{◌≡◌, List, [], map, None, sym, ap, ◌∙◌}
+use Rattle.std.proofs.Common.{List, [], map, sym, ap, ◌∙◌}
 use Rattle.vs_const.specs.Faults.{least}
-use Rattle.vs_hierarchy.specs.Surveys.{block_faults}
 use Rattle.vs_scope.specs.declared.clashes.NamedBlock.{NamedBlock}
 use Rattle.vs_scope.specs.Clashes.{NameAt, block_of, blocks_of, clash_faults}
 use Rattle.vs_scope.specs.Views.{entries}
