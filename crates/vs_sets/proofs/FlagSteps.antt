@@ -1,6 +1,6 @@
 -- Flags of bits, step by step.
-use Rattle.std.proofs.Common.{◌≡◌, ℕ, zero, suc, ◌+◌, ◌<◌, ◌≤◌, ◌≢◌, Bool, true, false, not, if◌then◌else◌, List, [], ◌∷◌, ◌++◌, length, map, take, get_or, set, Option, Some, None, Result, Ok, Err, refl, sym, ap, ap₂, ◌∙◌, subst, arith, get_or-set_other, get_or-set_same, ◌⊎◌, inl, inr}
-use Rattle.std.specs.Prelude.{◌&&◌, ◌||◌, ◌==◌, nat_le, nat_lt, filter, slice_get, All, OnOk}
+use Rattle.std.proofs.Common.{◌≡◌, ℕ, zero, suc, ◌+◌, ◌<◌, ◌≤◌, ◌≢◌, Bool, true, false, not, if◌then◌else◌, List, [], ◌∷◌, ◌++◌, length, map, take, get_or, set, Some, refl, sym, ap, ap₂, ◌∙◌, arith, get_or-set_other, get_or-set_same, ◌⊎◌, inl, inr}
+use Rattle.std.specs.Prelude.{◌&&◌, ◌||◌, ◌==◌, nat_le, nat_lt, filter, slice_get, All}
 use Rattle.std.specs.List.{list_all, list_any}
 use Rattle.std.proofs.lemmas.Bool.Decides.{nat_tests}
 use Rattle.std.proofs.lemmas.List.{take_more, take_all}
@@ -10,7 +10,7 @@ use Rattle.vs_design.specs.Expressions.{Signal}
 use Rattle.vs_design.specs.Statements.{Statement}
 use Rattle.vs_design.specs.Values.{count_from, bits_of_signal}
 use Rattle.vs_design.specs.Designs as D
-use Rattle.vs_design.specs.Footprints.{contains, is_variable, signals_bits, statement_bits, all_reads, writes_of, waits_of, variable_bits}
+use Rattle.vs_design.specs.Footprints.{contains, is_variable, signals_bits, statement_bits, writes_of, waits_of, variable_bits}
 use Rattle.vs_flat.specs.declared.processes.Process.{Process}
 use Rattle.vs_flat.specs.declared.processes.Kind.{Kind}
 use Rattle.vs_flat.specs.Arena.{Arena}
@@ -24,7 +24,6 @@ use Rattle.vs_sets.specs.Flags.{flag_at, AreFlags, variables_before, still_befor
 use Rattle.vs_sets.specs.Twice.{Adds, is_twice}
 use Rattle.vs_sets.proofs.BranchSteps.{contains_more, or_false, or_true}
 use Rattle.vs_sets.proofs.Families.{same_or_other}
-use Rattle.vs_sets.proofs.Fit.{and_left, and_right}
 use Rattle.vs_sets.proofs.Running.{all_of_each, each_of_all, same_truth}
 use Rattle.vs_sets.proofs.TwiceSteps.{writes_most}
 

@@ -7,7 +7,7 @@ use Rattle.vs_design.specs.Sleepers.{most_writes, arms_most}
 use Rattle.vs_flat.specs.declared.statements.Arm.{Arm}
 use Rattle.vs_flat.specs.Arena.{Arena}
 use Rattle.vs_flat.specs.Trees.{branch, sequence}
-use Rattle.vs_sets.specs.StatementParts.{BranchBelow, statement_of, arms_of}
+use Rattle.vs_sets.specs.StatementParts.{BranchBelow, statement_of}
 
 abbrev pub is_twice : Statement → ℕ → Bool
 is_twice s b = nat_le 2 (most_writes s b)

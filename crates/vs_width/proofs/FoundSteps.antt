@@ -1,10 +1,10 @@
 -- Places of targets and statements, step by step.
-use Rattle.std.proofs.Common.{◌≡◌, ℕ, zero, suc, ◌+◌, ◌*◌, ◌<◌, ◌≤◌, Bool, true, false, if◌then◌else◌, List, [], ◌∷◌, ◌++◌, length, map, drop, get_or, Option, Some, None, refl, sym, ap, ap₂, ◌∙◌, subst, arith}
+use Rattle.std.proofs.Common.{◌≡◌, ℕ, zero, suc, ◌+◌, ◌*◌, ◌<◌, ◌≤◌, Bool, true, false, if◌then◌else◌, List, [], ◌∷◌, ◌++◌, length, map, drop, get_or, Option, Some, None, refl, sym, ap, ap₂, ◌∙◌, arith}
 use Rattle.std.specs.Prelude.{◌==◌, ◌&&◌, nat_lt, unwrap_or, slice_get}
 use Rattle.std.proofs.lemmas.Bool.Decides.{nat_tests}
 use Rattle.std.proofs.lemmas.List.{append-nil, drop_more}
 use Rattle.vs_design.specs.Expressions.{Expression, Literal, Name, Select, Unary, Binary, Choice, Join, Repeat, At, OfSignal, OfConstant, width}
-use Rattle.vs_design.specs.Statements.{Target, Whole, PartOf, Both, target_width, Statement, Empty, Then, Arms, Arm, Default}
+use Rattle.vs_design.specs.Statements.{Target, Whole, PartOf, Both, target_width, Statement}
 use Rattle.vs_flat.specs.declared.statements.Arm as F
 use Rattle.vs_flat.specs.Targets.{target_of, both_of}
 use Rattle.vs_flat.specs.Trees.{joined, no_signal, target_tree, sequence, arms_tree}

@@ -1,9 +1,9 @@
 -- Weights of lists, step by step.
-use Rattle.std.proofs.Common.{◌≡◌, ℕ, zero, suc, ◌+◌, ◌<◌, Bool, true, false, if◌then◌else◌, List, [], ◌∷◌, length, map, drop, get_or, Option, Some, None, Result, Ok, Err, refl, sym, ap, ap₂, ◌∙◌, subst, arith}
+use Rattle.std.proofs.Common.{◌≡◌, ℕ, zero, suc, ◌+◌, ◌<◌, Bool, true, false, if◌then◌else◌, List, [], ◌∷◌, length, map, drop, get_or, Option, Some, None, Result, Ok, Err, refl, sym, ap, ◌∙◌, subst, arith}
 use Rattle.std.specs.Prelude.{◌==◌, unwrap_or, IfOk, slice_get}
 use Rattle.std.proofs.lemmas.List.{drop_more}
 use Rattle.vs_design.specs.Expressions.{Expression, Join, Repeat, At}
-use Rattle.vs_design.specs.Statements.{Target, Whole, Statement}
+use Rattle.vs_design.specs.Statements.{Whole, Statement}
 use Rattle.vs_design.specs.Fits.{is_fit, fits_target}
 use Rattle.vs_design.specs.Sizes.{target_weight, items_weight, statement_weight}
 use Rattle.std.specs.Prelude.{◌&&◌}

@@ -1,5 +1,5 @@
 -- The places of what is refused, by rule, and the least of them.
-use Rattle.std.specs.Prelude.{◌≡◌, ◌<◌, ℕ, length, Bool, true, not, ◌&&◌, List, [], ◌∷◌, ◌++◌, if◌then◌else◌, Option, Some, None, slice_get, slice_index, is_some}
+use Rattle.std.specs.Prelude.{◌≡◌, ◌<◌, ℕ, length, not, ◌&&◌, List, [], ◌∷◌, ◌++◌, if◌then◌else◌, Option, Some, None}
 use Rattle.vs_design.specs.Expressions.{Expression, Literal, Name, Select, Unary, Binary, Choice, Join, Repeat, At, BinaryOp, width, is_constant}
 use Rattle.vs_design.specs.Statements.{Target, target_width, Statement, Arms}
 use Rattle.vs_flat.specs.declared.processes.Kind.{Kind}

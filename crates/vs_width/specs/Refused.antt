@@ -1,5 +1,5 @@
 -- What a refusal of a length or of the size says.
-use Rattle.std.specs.Prelude.{◌≡◌, ℕ, List, Option, Some}
+use Rattle.std.specs.Prelude.{◌≡◌, ℕ, Option, Some}
 use Rattle.vs_design.specs.Designs.{Design, Process}
 use Rattle.vs_design.specs.Refusals.{WidthRefusal, least, wide_in, divisions_in, earlier, first_found, width_refusal}
 use Rattle.vs_design.specs.Refusals as R

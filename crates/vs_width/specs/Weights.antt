@@ -1,8 +1,8 @@
 -- Weights of several expressions, and of arms, one after the other.
-use Rattle.std.specs.Prelude.{◌≡◌, ◌<◌, ◌+◌, ◌*◌, ◌&&◌, ℕ, Bool, true, List, [], ◌∷◌, length, map, if◌then◌else◌, Option, Some, slice_get, slice_index}
-use Rattle.vs_four.specs.Selects.{range_length, Part}
+use Rattle.std.specs.Prelude.{◌≡◌, ◌<◌, ◌+◌, ◌*◌, ◌&&◌, ℕ, Bool, true, List, [], ◌∷◌, length, if◌then◌else◌, Option, Some, slice_get, slice_index}
+use Rattle.vs_four.specs.Selects.{range_length}
 use Rattle.vs_four.specs.declared.Range.{Range}
-use Rattle.vs_design.specs.Expressions.{Expression, BinaryOp, Way, way, width, is_constant}
+use Rattle.vs_design.specs.Expressions.{Expression, BinaryOp, way, width, is_constant}
 use Rattle.vs_design.specs.Fits.{is_fit}
 use Rattle.vs_design.specs.Sizes.{weight, binary_weight, is_shift}
 use Rattle.vs_design.specs.Fits.{fits_statement}

@@ -1,11 +1,11 @@
-use Rattle.std.proofs.Common.{◌≡◌, ◌<◌, ◌++◌, List, ℕ, length, Some, ap, sym, ◌∙◌, subst, arith}
-use Rattle.std.specs.Prelude.{slice_get, All}
+use Rattle.std.proofs.Common.{◌≡◌, ◌++◌, List, ℕ, length, Some, ap, sym, ◌∙◌, subst, arith}
+use Rattle.std.specs.Prelude.{slice_get}
 use Rattle.vs_design.specs.Footprints.{is_variable}
 use Rattle.vs_design.specs.Values.{bits_of_signal}
 use Rattle.vs_flat.specs.Arena.{Arena}
 use Rattle.vs_flat.specs.Lawful.{IsLawful}
 use Rattle.vs_flat.specs.Trees.{signal_at}
-use Rattle.vs_flat.specs.DesignOf.{arena_signals, design_of}
+use Rattle.vs_flat.specs.DesignOf.{arena_signals}
 use Rattle.vs_sets.proofs.FlagSteps.{signal_below, variable_noted, other_noted}
 use Rattle.vs_sets.proofs.Names.{signal_within}
 use Rattle.vs_sets.proofs.flags.note_signal.Goals as goal

@@ -1,9 +1,7 @@
-use Rattle.std.proofs.Common.{◌≡◌, ◌++◌, ◌∷◌, [], List, Bool, length, map, take, Result, Ok, Err, ap, ◌∙◌, arith}
-use Rattle.std.specs.Prelude.{OnOk}
+use Rattle.std.proofs.Common.{◌∙◌, arith}
 use Rattle.vs_design.specs.Sleepers.{is_sleeping}
 use Rattle.vs_flat.specs.DesignOf.{design_of}
 use Rattle.vs_sets.proofs.FlagSteps.{flag_more}
-use Rattle.vs_sets.proofs.TwiceSteps.{on_ok}
 use Rattle.vs_sets.proofs.sleepers.note_process.Goals as goal
 
 pub returns-clause-one_more : goal.returns-clause-one_more

@@ -1,8 +1,7 @@
-use Rattle.std.proofs.Common.{◌≡◌, ◌<◌, List, ℕ, Bool, length, map, not, true, false, Some, ap, ap₂, sym, ◌∙◌, subst}
-use Rattle.std.specs.Prelude.{All, ◌&&◌, slice_get}
-use Rattle.vs_design.specs.Designs as D
+use Rattle.std.proofs.Common.{◌<◌, length, map, not, true, false, ap, sym, ◌∙◌, subst}
+use Rattle.std.specs.Prelude.{◌&&◌}
 use Rattle.vs_design.specs.Footprints.{contains}
-use Rattle.vs_design.specs.Sleepers.{is_sleeping, stays_x}
+use Rattle.vs_design.specs.Sleepers.{is_sleeping}
 use Rattle.vs_flat.specs.Lawful.{IsLawful}
 use Rattle.vs_flat.specs.Trees.{signal_at}
 use Rattle.vs_flat.specs.DesignOf.{arena_signals, design_of, event_of}

@@ -1,5 +1,5 @@
 use Rattle.std.specs.Prelude.{◌||◌, ◌&&◌}
-use Rattle.std.proofs.Common.{◌++◌, ℕ, length, map, sym, ap, ap₂, ◌∙◌, refl, subst, arith}
+use Rattle.std.proofs.Common.{◌++◌, ℕ, length, sym, ap, ap₂, ◌∙◌, refl, subst, arith}
 use Rattle.std.proofs.lemmas.Bool.Decides.{nat_tests}
 use Rattle.std.proofs.lemmas.List.{take-append-drop}
 use Rattle.vs_design.specs.Fits.{fits_statement}
@@ -9,7 +9,7 @@ use Rattle.vs_flat.specs.declared.statements.Arm.{Arm}
 use Rattle.std.specs.Prelude.{List}
 use Rattle.vs_sets.specs.Nodes.{tree_of}
 use Rattle.vs_sets.specs.StatementParts.{HasStatementNames, FitStatement, statement_of, statement_of_node, place_of_statement, arms_of}
-use Rattle.vs_sets.specs.Twice.{PartsFit, BranchFits, ArmsFit, is_twice, is_twice_in, in_order}
+use Rattle.vs_sets.specs.Twice.{PartsFit, ArmsFit, is_twice, is_twice_in, in_order}
 use Rattle.vs_sets.proofs.TwiceSteps.{on_ok, adds_same, adds_two, one_part, halves_twice, arms_added, case_fit, parts_fit}
 use Rattle.vs_sets.proofs.twice.+counting.Goals as goal
 

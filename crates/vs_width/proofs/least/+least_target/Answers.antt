@@ -1,6 +1,5 @@
-use Rattle.std.proofs.Common.{◌≡◌, ℕ, List, length, map, drop, sym, ap, ◌∙◌, subst, arith}
+use Rattle.std.proofs.Common.{ℕ, List, length, map, sym, ap, ◌∙◌, subst, arith}
 use Rattle.vs_design.specs.Expressions.{At}
-use Rattle.vs_flat.specs.declared.expressions.Node.{Node}
 use Rattle.vs_flat.specs.Trees.{joined, first_copy, copy_count, target_tree}
 use Rattle.vs_length.specs.Nodes.{EachBelow, HasNames, tree_of, place_of, tree_of_node}
 use Rattle.vs_width.specs.Places.{least_from, target_places, HasTargetTree}

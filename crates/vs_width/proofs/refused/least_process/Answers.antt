@@ -1,4 +1,4 @@
-use Rattle.std.proofs.Common.{◌≡◌, ap, sym, ◌∙◌}
+use Rattle.std.proofs.Common.{ap, sym, ◌∙◌}
 use Rattle.vs_design.specs.Refusals.{least}
 use Rattle.vs_flat.specs.Targets as T
 use Rattle.vs_flat.specs.Trees.{target_tree}

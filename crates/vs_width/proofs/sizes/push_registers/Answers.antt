@@ -1,10 +1,8 @@
-use Rattle.std.proofs.Common.{◌≡◌, ◌++◌, [], List, ℕ, map, true, false, if◌then◌else◌, sym, ap, ◌∙◌}
-use Rattle.std.specs.Prelude.{OnOk}
+use Rattle.std.proofs.Common.{◌++◌, [], true, false, if◌then◌else◌, sym, ap, ◌∙◌}
 use Rattle.std.proofs.lemmas.List.{append-nil}
-use Rattle.vs_design.specs.Designs as D
 use Rattle.vs_design.specs.Footprints.{statement_bits}
 use Rattle.vs_flat.specs.Trees.{signal_at}
-use Rattle.vs_flat.specs.DesignOf.{arena_signals, design_of, event_of}
+use Rattle.vs_flat.specs.DesignOf.{arena_signals, design_of}
 use Rattle.vs_length.specs.Bodies.{body_of}
 use Rattle.vs_reads.proofs.FitKinds.{edges_of}
 use Rattle.vs_sets.proofs.FlagSteps.{found_kind}

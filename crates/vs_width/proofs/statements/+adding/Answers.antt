@@ -1,4 +1,4 @@
-use Rattle.std.proofs.Common.{◌≡◌, ℕ, List, length, sym, ap, ◌∙◌, subst, arith}
+use Rattle.std.proofs.Common.{ℕ, List, length, sym, ap, ◌∙◌, subst, arith}
 use Rattle.vs_design.specs.Fits.{fits_statement}
 use Rattle.vs_flat.specs.declared.statements.Statement.{Statement}
 use Rattle.vs_flat.specs.declared.statements.Arm.{Arm}
