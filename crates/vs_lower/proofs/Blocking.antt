@@ -51,12 +51,12 @@ block_ready count code clocked st r = record {
 abbrev pub AddsBlock : ℕ → Coding → Coding → Statement → List ℕ → List ℕ → Type 0
 AddsBlock count old new st now1 later1 = AddsStatement (homes count) (homes count) old new st now1 later1
 
-total_of : (old new : Coding) (calls : List Call) → new.calls ≡ old.calls ++ calls → length_of new.calls ≡ length_of old.calls + length_of calls
+pub total_of : (old new : Coding) (calls : List Call) → new.calls ≡ old.calls ++ calls → length_of new.calls ≡ length_of old.calls + length_of calls
 total_of old new calls e = ap (λ (cs : List Call). length_of cs) e ∙ sum_by-append call_cost old.calls calls
 
 -- ---- a combinational block
 
-moved_few : (count : ℕ) (written bits env : List ℕ) → Once bits → ((b : ℕ) → contains bits b ≡ contains written b) → length (moved count bits env) ≤ distinct written
+pub moved_few : (count : ℕ) (written bits env : List ℕ) → Once bits → ((b : ℕ) → contains bits b ≡ contains written b) → length (moved count bits env) ≤ distinct written
 moved_few count written bits env once same = distinct_most written (moved count bits env) (still_once (homes count) env bits once) (λ b h. sym (same b) ∙ differing_in (homes count) env bits b h)
 
 from_now : (count mark b slot : ℕ) → (slot ≡ slice_index (homes count) b) ⊎ IsNew mark slot → (slot ≡ slice_index (homes count) b) ⊎ IsSource (homes count) mark [] slot

@@ -56,3 +56,4 @@ pub mod Naming
 pub mod Stating
 pub mod Blocking
 pub mod Accepting
+pub mod Resetting

@@ -49,7 +49,7 @@ copies_cost [] [] l = refl
 copies_cost [] (t ∷ to) l = absurd (omega arith)
 copies_cost (s ∷ from) to l = sum_by-cons call_cost (copy_call (s ∷ from) to) [] ∙ omega arith
 
-copies_slots : (P : ℕ → Type 0) (from to : List ℕ) → All P from → All P to → All P (slots_of (copies from to))
+pub copies_slots : (P : ℕ → Type 0) (from to : List ℕ) → All P from → All P to → All P (slots_of (copies from to))
 copies_slots P [] to h k = All-nil P
 copies_slots P (s ∷ from) to h k = All-append P (call_slots (copy_call (s ∷ from) to)) [] (All-append P ((s ∷ from) ++ []) (to ++ []) (All-append P (s ∷ from) [] h (All-nil P)) (All-append P to [] k (All-nil P))) (All-nil P)
 
@@ -116,7 +116,7 @@ home_is bits first c env js next room fresh long inside rest values before after
 
 -- ---- the calls of a process
 
-all_slots : (c d : List Call) (n top : ℕ) → n ≤ top → All (λ slot. slot < n) (slots_of c) → All (λ slot. slot < top) (slots_of d) → All (λ slot. slot < top) (slots_of (c ++ d))
+pub all_slots : (c d : List Call) (n top : ℕ) → n ≤ top → All (λ slot. slot < n) (slots_of c) → All (λ slot. slot < top) (slots_of d) → All (λ slot. slot < top) (slots_of (c ++ d))
 all_slots c d n top l h k =
     subst (All (λ slot. slot < top)) (sym (flat_map-append call_slots c d))
     (All-append (λ slot. slot < top) (slots_of c) (slots_of d) (All-weaker (λ slot. slot < n) (λ slot. slot < top) (λ slot m. omega arith) (slots_of c) h) k)

@@ -17,3 +17,4 @@ pub mod Tested
 pub mod Branched
 pub mod Stated
 pub mod Processed
+pub mod Resetting

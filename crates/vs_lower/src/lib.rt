@@ -17,6 +17,7 @@ mod joins;
 mod leaves;
 mod lowered;
 mod names;
+mod resets;
 mod selects;
 mod shifts;
 mod slots;
@@ -27,3 +28,4 @@ mod writes;
 
 pub use code::Code;
 pub use lowered::process;
+pub use resets::reset;

@@ -1,0 +1,92 @@
+//! Asynchronous resets (IEEE 1364-2005, 9.9.2).
+
+ghost use Rattle.std.specs.Prelude.{◌≡◌, ◌+◌, ◌<◌, ◌≤◌, ◌^◌, length, IfOk, OnOk, Some, false};
+ghost use Rattle.vs_net.specs.Network as N;
+ghost use Rattle.vs_design.specs.Designs as D;
+ghost use Rattle.vs_flat.specs.Arena.{bit_count};
+ghost use Rattle.vs_length.specs.Bodies.{body_of};
+ghost use Rattle.vs_program.specs.Lowered.{Layout};
+ghost use Rattle.vs_lower.specs.Copies.{homes};
+ghost use Rattle.vs_lower.specs.Ready.{IsReady};
+ghost use Rattle.vs_lower.specs.Resetting.{AddsReset, HasResetRoom, IsResetOf, IsResetReady, reset_condition};
+ghost use Rattle.vs_lower.specs.Valued.{AddsValue};
+
+use crate::applied::applied;
+use crate::branches::join_written;
+use crate::code::Code;
+use crate::copies::copy_home;
+use crate::environment::{Environment, Environments};
+use crate::expressions::Context;
+use crate::statements::{statement, written_bits};
+use std::alloc::{AllocError, Global};
+use vs_design::value_law;
+use vs_flat::UnaryOp;
+use vs_width::Typed;
+
+/// The slot of a reset's condition: that of its input, or of its `!` where the reset is active at 0.
+fn active(
+    alloc: Global,
+    input: u32,
+    falls: bool,
+    count: u32,
+    code: &mut Code,
+) -> Result<Vec<u32>, AllocError>
+    requires there { input < count }
+    requires ready { IsReady count (homes count) code.old (reset_condition falls input) 1 }
+    requires home { 4 + count ≤ code.old.next }
+    requires slots { code.old.next < 2 ^ 32 }
+    ensures { IfOk result (λ tc. AddsValue (homes count) code.old.calls code.old.next code.new.calls code.new.next (reset_condition falls input) 1 false tc.items) }
+{
+    value_law();
+    let mut slot = Vec::new(alloc);
+    slot.push(4 + input)?;
+    if falls {
+        let context = Context {
+            width: 1,
+            signed: false,
+        };
+        let to = applied(alloc, UnaryOp::LogicalNot, slot, context, code)?;
+        return Ok(to);
+    }
+    Ok(slot)
+}
+
+/// Adds the calls of a reset by this input, active at 1 or, where `falls`, at 0, whose branch is statement s, in a design of `count` bits. The branch reads nothing, as that of every accepted design. The only error is that there is no memory; the program then has some of the calls.
+pub fn reset(
+    alloc: Global,
+    typed: &Typed,
+    s: u32,
+    input: u32,
+    falls: bool,
+    count: u32,
+    code: &mut Code,
+) -> Result<(), AllocError>
+    requires count { count ≡ bit_count typed.now.signals }
+    requires there { s < length typed.now.statements }
+    requires ready { IsResetReady (bit_count typed.now.signals) code.old falls input (body_of typed.now s) }
+    ensures { OnOk result ((l : Layout) (r : N.Reset) (p : D.Process) → l.bits ≡ bit_count typed.now.signals → l.first_temp ≡ code.old.next → IsResetOf r falls input (body_of typed.now s) → HasResetRoom p falls input (body_of typed.now s) → AddsReset l (Some r) p code.old.calls code.new.calls) }
+{
+    let condition = active(alloc, input, falls, count, code)?;
+    let mut env = Environments {
+        values: Environment::at_home(alloc, count),
+        ahead: Environment::at_home(alloc, count),
+    };
+    statement(alloc, typed, s, true, &mut env, code)?;
+    let bits = written_bits(alloc, typed, s)?;
+    let first = env.picked(alloc, true, bits.as_slice())?;
+    let mut after = Environments {
+        values: Environment::at_home(alloc, count),
+        ahead: Environment::at_home(alloc, count),
+    };
+    join_written(
+        alloc,
+        condition,
+        bits.as_slice(),
+        first.as_slice(),
+        true,
+        &mut after,
+        code,
+    )?;
+    copy_home(alloc, &after.ahead, count, bits.as_slice(), code)?;
+    Ok(())
+}
