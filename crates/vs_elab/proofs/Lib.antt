@@ -14,3 +14,13 @@ mod OutputFaults
 mod InstanceFaults
 mod ItemFaults
 mod ConnectedApart
+mod Stacks
+mod Work
+mod CountSteps
+mod OverridingSteps
+mod Wider
+mod PortWiring
+mod CountedPorts
+mod SameNames
+mod PendingParts
+mod PendingStacks

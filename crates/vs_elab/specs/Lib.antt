@@ -1,9 +1,14 @@
 pub mod Noted
+pub mod Stacks
 pub mod Modules
+pub mod Counts
+pub mod Pending
+pub mod Overriding
 pub mod Ports
 pub mod Connected
 pub mod PortTables
 pub mod Connections
+pub mod Wiring
 pub mod Values
 pub mod Interfaces
 pub mod Written

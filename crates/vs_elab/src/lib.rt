@@ -3,6 +3,7 @@
 
 mod connected;
 mod connections;
+mod counts;
 mod faults;
 mod instances;
 mod interfaces;
@@ -12,8 +13,12 @@ mod noted;
 mod numbers;
 mod outputs;
 mod overrides;
+mod overriding;
+mod pending;
 mod ports;
 mod selects;
+mod stack;
 mod targets;
 mod values;
+mod wiring;
 mod written;
