@@ -24,3 +24,5 @@ mod CountedPorts
 mod SameNames
 mod PendingParts
 mod PendingStacks
+mod ItemLists
+mod SignalsFollow

@@ -14,6 +14,7 @@ pub mod Interfaces
 pub mod Written
 pub mod Numbers
 pub mod Selects
+pub mod Opening
 pub mod Outputs
 pub mod Instances
 pub mod Items

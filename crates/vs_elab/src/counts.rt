@@ -4,12 +4,14 @@ ghost use Rattle.std.specs.Prelude.{◌≡◌, ◌++◌, [], ◌∷◌, ℕ, Lis
 ghost use Rattle.vs_grammar.specs.Trees as tree;
 ghost use Rattle.vs_ast.specs.Views as view;
 ghost use Rattle.vs_hierarchy.specs.Environments.{Env};
+ghost use Rattle.vs_hierarchy.specs.Generate.{Made};
 ghost use Rattle.vs_hierarchy.specs.Parameters.{Override};
 ghost use Rattle.vs_hierarchy.specs.Pieces.{Piece, all_said};
 ghost use Rattle.vs_hierarchy.specs.Surveys as survey;
 ghost use Rattle.vs_hierarchy.specs.Surveys.{piece_place, piece_processes};
 ghost use Rattle.vs_hierarchy.specs.Instances as spec;
 ghost use Rattle.vs_hierarchy.specs.Ports as spec_ports;
+ghost use Rattle.vs_scope.specs.Contents.{contents_items};
 ghost use Rattle.vs_scope.specs.MapViews.{pairs};
 ghost use Rattle.vs_elab.specs.Counts.{HasNames, IsCounted};
 ghost use Rattle.vs_elab.specs.Interfaces.{IsInterface};
@@ -23,9 +25,9 @@ use crate::noted::note;
 use crate::outputs::is_target;
 use crate::ports::{Port, Ports};
 use std::alloc::{AllocError, Global};
-use vs_ast::{Assign, Connections, Declarator, Expr, Instance, Instances, NamedConnection};
+use vs_ast::{Assign, Connections, Declarator, Expr, Instance, Instances, Item, NamedConnection};
 use vs_const::Fault;
-use vs_scope::NameMap;
+use vs_scope::{BlockItems, Contents, NameMap};
 
 /// A count of processes, which goes up to the most that there may be.
 #[derive(Clone, Copy)]
@@ -225,4 +227,83 @@ pub(crate) fn count_instances<'a>(
         None => Ok(()),
         Some(seen) => count_all(alloc, seen, &t.instances, t.of.place, count),
     }
+}
+
+/// The processes of an item, but for those of its generate blocks. An error is want of memory.
+fn count_item<'a>(
+    alloc: Global,
+    modules: &NameMap<'a, Known<'a>>,
+    item: &'a Item,
+    count: &mut Count,
+) -> Result<(), AllocError>
+    ensures most { OnOk result (count.new.most ≡ count.old.most) }
+    ensures counted { (source : tree.Source) (around : spec.Around) (made : Made) (before : ℕ) (ps : List Piece) → AreOf modules.now source → IsCounted count.old before ps
+        → OnOk result (IsCounted count.new before (ps ++ (survey.item_said source around (view.item item.now) made).pieces)) }
+{
+    match item {
+        Item::Signals(s) => {
+            count_wires(&s.names, s.place, count);
+            Ok(())
+        }
+        Item::Assigns { place, assigns } => {
+            count_assigns(assigns, *place, count);
+            Ok(())
+        }
+        Item::Always(b) => {
+            count.add(1, b.place);
+            Ok(())
+        }
+        Item::Instances(t) => count_instances(alloc, modules, t, count),
+        _ => Ok(()),
+    }
+}
+
+/// The processes of items.
+fn count_items<'a>(
+    alloc: Global,
+    modules: &NameMap<'a, Known<'a>>,
+    items: &'a [Item],
+    count: &mut Count,
+) -> Result<(), AllocError>
+    ensures most { OnOk result (count.new.most ≡ count.old.most) }
+    ensures counted { (source : tree.Source) (around : spec.Around) (made : List Made) (before : ℕ) (ps : List Piece) → AreOf modules.now source → length made ≡ length items.now → IsCounted count.old before ps
+        → OnOk result (IsCounted count.new before (ps ++ (survey.items_said source around (map view.item items.now) made).pieces)) }
+{
+    for item in items {
+        count_item(alloc, modules, item, count)?;
+    }
+    Ok(())
+}
+
+/// The processes of all items of a scope, but for those of its generate blocks: what they make is no matter.
+pub(crate) fn count_contents<'a>(
+    alloc: Global,
+    modules: &NameMap<'a, Known<'a>>,
+    contents: Contents<'a>,
+    count: &mut Count,
+) -> Result<(), AllocError>
+    ensures most { OnOk result (count.new.most ≡ count.old.most) }
+    ensures counted { (source : tree.Source) (around : spec.Around) (made : List Made) (before : ℕ) (ps : List Piece) → AreOf modules.now source → length made ≡ length (contents_items contents.entry) → IsCounted count.old before ps
+        → OnOk result (IsCounted count.new before (ps ++ (survey.items_said source around (contents_items contents.entry) made).pieces)) }
+{
+    match contents {
+        Contents::Module(m) => count_items(alloc, modules, &m.items, count),
+        Contents::Block(BlockItems::One(item)) => count_one(alloc, modules, item, count),
+        Contents::Block(BlockItems::Many(items)) => count_items(alloc, modules, items, count),
+    }
+}
+
+/// The processes of the one item of a block.
+fn count_one<'a>(
+    alloc: Global,
+    modules: &NameMap<'a, Known<'a>>,
+    item: &'a Item,
+    count: &mut Count,
+) -> Result<(), AllocError>
+    ensures most { OnOk result (count.new.most ≡ count.old.most) }
+    ensures counted { (source : tree.Source) (around : spec.Around) (made : List Made) (before : ℕ) (ps : List Piece) → AreOf modules.now source → length made ≡ 1 → IsCounted count.old before ps
+        → OnOk result (IsCounted count.new before (ps ++ (survey.items_said source around (view.item item.now ∷ []) made).pieces)) }
+{
+    count_item(alloc, modules, item, count)?;
+    Ok(())
 }

@@ -11,6 +11,7 @@ mod items;
 mod modules;
 mod noted;
 mod numbers;
+mod opening;
 mod outputs;
 mod overrides;
 mod overriding;
