@@ -32,10 +32,10 @@ pieces_behind source around (j ∷ is) i (n ∷ ms) m h =
 abbrev pub made_at : List Made → ℕ → Made
 made_at ms i = get_or ms i (nothing_made [] 0)
 
-made_more : (ms : List Made) (i : ℕ) → i < length ms → take (i + 1) ms ≡ take i ms ++ made_at ms i ∷ []
+pub made_more : (ms : List Made) (i : ℕ) → i < length ms → take (i + 1) ms ≡ take i ms ++ made_at ms i ∷ []
 made_more ms i h = ap (λ n. take n ms) (add-one i) ∙ take-suc ms i (nothing_made [] 0) h
 
-length_taken : {A : Type 0} (xs : List A) (i : ℕ) → i < length xs → length (take i xs) ≡ i
+pub length_taken : {A : Type 0} (xs : List A) (i : ℕ) → i < length xs → length (take i xs) ≡ i
 length_taken [] i h = absurd (let no : ⊥ = omega (arith, h) in no)
 length_taken (x ∷ xs) zero h = refl
 length_taken (x ∷ xs) (suc i) h = ap suc (length_taken xs i (omega (arith, h)))

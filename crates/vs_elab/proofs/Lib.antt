@@ -26,3 +26,5 @@ mod PendingParts
 mod PendingStacks
 mod ItemLists
 mod SignalsFollow
+mod StatementFacts
+mod BodyFaults

@@ -18,3 +18,5 @@ pub mod Opening
 pub mod Outputs
 pub mod Instances
 pub mod Items
+pub mod Stated
+pub mod StatementFaults

@@ -1,6 +1,7 @@
 //! Elaboration (IEEE 1364-2005, clause 12): from the tree of a text and the name of its top to a flat design, or to the first rule that is broken.
 #![tactic(auto)]
 
+mod bodies;
 mod connected;
 mod connections;
 mod counts;
@@ -19,6 +20,7 @@ mod pending;
 mod ports;
 mod selects;
 mod stack;
+mod statements;
 mod targets;
 mod values;
 mod wiring;
