@@ -1,6 +1,5 @@
 -- The faults of items, one after the other.
-use Rattle.std.proofs.Common.{◌≡◌, ℕ, zero, suc, ◌+◌, ◌<◌, ◌≤◌, false, List, [], ◌∷◌, ◌++◌, length, get_or, take, map, flat_map, Option, Some, None, refl, sym, ap, ◌∙◌, subst, append_assoc, arith, add-zero}
-use Rattle.std.specs.Prelude.{sum_by}
+use Rattle.std.proofs.Common.{◌≡◌, ℕ, ◌+◌, ◌<◌, ◌≤◌, false, List, [], ◌∷◌, ◌++◌, length, get_or, take, map, flat_map, Option, Some, None, refl, sym, ap, ◌∙◌, append_assoc, arith, add-zero}
 use Rattle.std.proofs.lemmas.List.{append-nil}
 use Rattle.vs_grammar.specs.Trees as tree
 use Rattle.vs_ast.specs.declared.items.Item.{Item}
@@ -14,9 +13,9 @@ use Rattle.vs_hierarchy.specs.Environments.{Env, named}
 use Rattle.vs_hierarchy.specs.Targets.{target_base, typed_target}
 use Rattle.vs_hierarchy.specs.Statements.{typed_statement, typed_control}
 use Rattle.vs_hierarchy.specs.Generate.{Made}
-use Rattle.vs_hierarchy.specs.Pieces.{Piece, all_said}
+use Rattle.vs_hierarchy.specs.Pieces.{all_said}
 use Rattle.vs_hierarchy.specs.Instances.{Around}
-use Rattle.vs_hierarchy.specs.Surveys.{assign_said, wire_said, block_said, item_said, items_said, processes_over, piece_processes}
+use Rattle.vs_hierarchy.specs.Surveys.{assign_said, wire_said, block_said, item_said, items_said}
 use Rattle.vs_elab.specs.declared.counts.Count.{Count}
 use Rattle.vs_elab.specs.Counts.{IsCounted}
 use Rattle.vs_elab.specs.Items.{assign_faults, value_faults, wire_faults}

@@ -9,7 +9,6 @@ use Rattle.vs_ast.specs.declared.items.Assign.{Assign}
 use Rattle.vs_ast.specs.declared.items.AlwaysBlock.{AlwaysBlock}
 use Rattle.vs_ast.specs.declared.items.Instances.{Instances}
 use Rattle.vs_ast.specs.Views as view
-use Rattle.vs_const.specs.declared.faults.Fault.{Fault}
 use Rattle.vs_hierarchy.specs.Generate.{Nested, Made, nothing_made}
 use Rattle.vs_hierarchy.specs.Pieces.{Piece}
 use Rattle.vs_hierarchy.specs.Instances.{Around}

@@ -28,3 +28,5 @@ mod ItemLists
 mod SignalsFollow
 mod StatementFacts
 mod BodyFaults
+mod SameOverrides
+mod MoreFrames

@@ -17,8 +17,8 @@ returns-in-Signals c = λ source around made a names.
     let t = view.signals c.in-Signals.s in
     subst (λ (x : Item). IfOk c.wires_fault.result (λ (f : Option Fault). f ≡ least (item_said source around (view.item x) made).faults)) (sym c.in-Signals.is)
     (subst (λ (fs : List Fault). IfOk c.wires_fault.result (λ (f : Option Fault). f ≡ least fs))
-        (ap (λ (xs : List Declarator). (all_said (wire_said env t.place) (map view.declarator xs)).faults) c.deref.ensures.value ∙ wires_alike env around.env (sym names) t.place t.names)
-        (c.wires_fault.ensures t.place))
+    (ap (λ (xs : List Declarator). (all_said (wire_said env t.place) (map view.declarator xs)).faults) c.deref.ensures.value ∙ wires_alike env around.env (sym names) t.place t.names)
+    (c.wires_fault.ensures t.place))
 
 pub returns-in-Assigns : goal.returns-in-Assigns
 returns-in-Assigns c = λ source around made a names.
@@ -26,8 +26,8 @@ returns-in-Assigns c = λ source around made a names.
     let place = c.in-Assigns.place in
     subst (λ (x : Item). IfOk c.assigns_fault.result (λ (f : Option Fault). f ≡ least (item_said source around (view.item x) made).faults)) (sym c.in-Assigns.is)
     (subst (λ (fs : List Fault). IfOk c.assigns_fault.result (λ (f : Option Fault). f ≡ least fs))
-        (ap (λ (xs : List Assign). (all_said (assign_said env place) (map view.assign xs)).faults) c.deref-in-Assigns.ensures.value ∙ assigns_alike env around.env (sym names) place (map view.assign c.in-Assigns.assigns.items))
-        (c.assigns_fault.ensures place))
+    (ap (λ (xs : List Assign). (all_said (assign_said env place) (map view.assign xs)).faults) c.deref-in-Assigns.ensures.value ∙ assigns_alike env around.env (sym names) place (map view.assign c.in-Assigns.assigns.items))
+    (c.assigns_fault.ensures place))
 
 pub returns-in-Instances : goal.returns-in-Instances
 returns-in-Instances c = λ source around made a names.

@@ -1,4 +1,4 @@
-use Rattle.std.proofs.Common.{◌≡◌, ◌≤◌, ◌++◌, [], ℕ, sym, ap, ◌∙◌, subst}
+use Rattle.std.proofs.Common.{◌≤◌, [], ℕ, sym, ap, ◌∙◌, subst}
 use Rattle.vs_const.specs.Faults.{least, better}
 use Rattle.vs_const.proofs.Least.{least_append}
 use Rattle.vs_hierarchy.specs.Surveys.{items_said, processes_over}

@@ -1,4 +1,4 @@
-use Rattle.std.proofs.Common.{◌++◌, ◌∷◌, [], refl, sym, subst, OnOk}
+use Rattle.std.proofs.Common.{◌++◌, refl, sym, subst, OnOk}
 use Rattle.vs_design.specs.Designs.{Always}
 use Rattle.vs_ast.specs.declared.items.Item.{Item}
 use Rattle.vs_ast.specs.Views as view
