@@ -10,9 +10,9 @@ use Rattle.vs_ast.specs.Views as view
 use Rattle.vs_const.specs.declared.faults.Fault.{Fault}
 use Rattle.vs_const.specs.Faults.{least, better, fault_if}
 use Rattle.vs_const.proofs.Least.{least_append}
-use Rattle.vs_hierarchy.specs.Environments.{Env}
+use Rattle.vs_hierarchy.specs.Environments.{Env, named}
 use Rattle.vs_hierarchy.specs.Ports.{Port, find_port, ports_of, find_module}
-use Rattle.vs_hierarchy.specs.Instances.{Around, Connected, known_instance, instance_said, unknown_module, instances_said, said_overrides, said_connections, directed, connected, connected_by_order, connected_by_name, module_ports, is_port}
+use Rattle.vs_hierarchy.specs.Instances.{Around, Overrides, Connected, known_instance, instance_said, unknown_module, instances_said, said_overrides, said_connections, directed, connected, connected_by_order, connected_by_name, module_ports, is_port}
 use Rattle.vs_hierarchy.specs.Parameters.{Override}
 use Rattle.vs_hierarchy.specs.Pieces.{all_said}
 use Rattle.vs_scope.specs.Maps.{value_at}
@@ -22,6 +22,7 @@ use Rattle.vs_elab.specs.Instances.{instance_faults}
 use Rattle.vs_elab.specs.Interfaces.{IsKnown}
 use Rattle.vs_elab.specs.Ports.{named_port, input_of}
 use Rattle.vs_elab.specs.PortTables.{ArePorts}
+use Rattle.vs_elab.proofs.SameNames.{overrides_alike, connections_alike}
 
 -- ---- the first of several faults
 
@@ -133,9 +134,15 @@ missing_is None (Some m) place h = absurd h
 missing_is (Some i) None place h = absurd h
 missing_is (Some i) (Some m) place h = refl
 
+instances_alike : (e1 e2 : Env) → named e1 ≡ named e2 → (m : Option tree.Module) (is : List tree.Instance) → flat_map (instance_faults m e1) is ≡ flat_map (instance_faults m e2) is
+instances_alike e1 e2 h m [] = refl
+instances_alike e1 e2 h m (i ∷ is) =
+    ap (λ (c : Connected). c.faults ++ flat_map (instance_faults m e1) is) (connections_alike e1 e2 h m i.name i.connections)
+    ∙ ap (λ fs. instance_faults m e2 i ++ fs) (instances_alike e1 e2 h m is)
+
 -- what is found of an item, in its parts
 pub item_has : (source : tree.Source) (around : Around) (t : tree.Instances) (env : Env) (k : Option (Bor Interface)) (missing overrides connections one both : Option Fault)
-    → IsKnown k (find_module source t.of.bytes) → around.env ≡ env
+    → IsKnown k (find_module source t.of.bytes) → named around.env ≡ named env
     → missing ≡ least (fault_if (is_none k) 34 t.of.place)
     → overrides ≡ least (said_overrides t.of (find_module source t.of.bytes) t.overrides env).faults
     → connections ≡ least (flat_map (instance_faults (find_module source t.of.bytes) env) t.instances)
@@ -148,7 +155,8 @@ item_has source around t env k missing overrides connections one both known same
     is_both ∙ ap (λ x. better x connections) (is_one ∙ ap (λ x. better x overrides) (is_missing ∙ missing_is k m t.of.place known) ∙ ap (better (least unknown)) are_overrides ∙ sym (least_append unknown (os env)))
     ∙ ap (better (least (unknown ++ os env))) are_connections
     ∙ sym (least_append (unknown ++ os env) (cs env))
-    ∙ ap (λ x. least ((unknown ++ os x) ++ cs x)) (sym same)
+    ∙ ap (λ fs. least ((unknown ++ fs) ++ cs env)) (ap (λ (o : Overrides). o.faults) (overrides_alike env around.env (sym same) t.of m t.overrides))
+    ∙ ap (λ fs. least ((unknown ++ os around.env) ++ fs)) (instances_alike env around.env (sym same) m t.instances)
     ∙ ap (λ fs. least ((unknown ++ os around.env) ++ fs)) (sym (instances_have around t.of.place m (said_overrides t.of m t.overrides around.env).overrides t.instances))
 
 pub none_is : {A : Type 0} (k : Option A) (b : Bool) → is_some k ≡ not b → b ≡ is_none k

@@ -48,7 +48,7 @@ port_step ps cs env list i p d h e =
 -- ---- what the first of a name is, where no name comes twice
 
 -- what a named connection says has its name
-abbrev AreOf : List ℕ → List pieces.Connection → Type 0
+abbrev pub AreOf : List ℕ → List pieces.Connection → Type 0
 AreOf name [] = Unit {0}
 AreOf name (c ∷ cs) = (connection_name c ≡ name) × (cs ≡ [])
 
@@ -69,7 +69,7 @@ found_name (q ∷ ps) name p h = by (same_name q.name name) refl (found_name ps 
     by true e r k = let s : q ≡ p = cc in ap (λ (x : Port). x.name) (sym s) ∙ same_is q.name name e
     by false e r k = r k
 
-connected_of : (ps : List Port) (name : List ℕ) (e : Option tree.Expr) (env : Env) → AreOf name (connected (find_port ps name) e env).connections
+pub connected_of : (ps : List Port) (name : List ℕ) (e : Option tree.Expr) (env : Env) → AreOf name (connected (find_port ps name) e env).connections
 connected_of ps name e env = by (find_port ps name) refl e
   where
     by : (p : Option Port) → find_port ps name ≡ p → (e : Option tree.Expr) → AreOf name (connected p e env).connections

@@ -1,15 +1,13 @@
 -- One more module behind others.
-use Rattle.std.proofs.Common.{◌≡◌, ℕ, ◌+◌, ◌<◌, length, map, take, get_or, add-one, take-suc, Bool, true, false, ◌||◌, List, [], ◌∷◌, ◌++◌, Option, Some, None, if◌then◌else◌, refl, sym, ap, ◌∙◌, append_assoc}
-use Rattle.std.specs.Prelude.{is_some, option_map}
-use Rattle.std.specs.Borrow.{Bor}
-use Rattle.vs_ast.specs.declared.modules.Module.{Module as Module'}
+use Rattle.std.proofs.Common.{◌≡◌, ℕ, ◌+◌, ◌<◌, length, map, take, get_or, add-one, take-suc, Bool, true, false, ◌||◌, List, [], ◌∷◌, ◌++◌, Option, Some, None, if◌then◌else◌, refl, sym, ap, ◌∙◌, subst, append_assoc}
+use Rattle.std.specs.Prelude.{is_some}
 use Rattle.vs_ast.specs.declared.items.Item.{Item}
 use Rattle.vs_ast.specs.Views as view
-use Rattle.vs_ast.specs.Views.{module_tree}
 use Rattle.vs_grammar.specs.Trees.{items_list}
 use Rattle.vs_scope.specs.Maps.{Pair, value_at}
 use Rattle.vs_elab.specs.Noted.{AreFirst, named}
-use Rattle.vs_elab.specs.Modules.{module_at}
+use Rattle.vs_elab.specs.declared.modules.Known.{Known}
+use Rattle.vs_elab.specs.Modules.{IsKnownOf, IsOf}
 use Rattle.std.proofs.lemmas.List.{append-nil, map-append}
 use Rattle.vs_design.specs.Clocks.{same_name}
 use Rattle.vs_grammar.specs.Trees.{Name, Module}
@@ -51,55 +49,61 @@ pub one_more : {A B : Type 0} (f : A → B) (xs : List A) (i : ℕ) (x : A) → 
 one_more f xs i x h e =
     ap (λ n. map f (take n xs)) (add-one i) ∙ ap (map f) (take-suc xs i x h) ∙ map-append f (take i xs) (get_or xs i x ∷ []) ∙ ap (λ y. map f (take i xs) ++ f y ∷ []) (sym e)
 
--- the modules of the text with their names, and those that a map has
-abbrev pub named_module : Module → Pair Module
-named_module m = named m.name.bytes m
-
-abbrev pub named_tree : Pair (Bor Module') → Pair Module
-named_tree p = named p.name (module_tree p.value.now)
+-- what is known of modules, one after the other
+abbrev AreAll : List (Pair Known) → List Module → Type 0
+AreAll [] [] = Unit {0}
+AreAll (p ∷ ps) (m ∷ ms) = (p.name ≡ m.name.bytes) × IsKnownOf p.value m × AreAll ps ms
+AreAll _ _ = ⊥
 
 -- the map has the first of each name of these
-pub record AreModules (ps : List (Pair (Bor Module'))) (ms : List Module) : Type 0 where
-  pub all : List (Pair (Bor Module'))
+pub record AreModules (ps : List (Pair Known)) (ms : List Module) : Type 0 where
+  pub all : List (Pair Known)
   pub first : AreFirst ps all
-  pub are : map named_tree all ≡ map named_module ms
+  pub are : AreAll all ms
+
+pub no_modules : AreModules [] []
+no_modules = record { all = []; first = record { each = λ name. refl }; are = tt }
+
+all_more : (ps : List (Pair Known)) (ms : List Module) (p : Pair Known) (m : Module) → AreAll ps ms → p.name ≡ m.name.bytes → IsKnownOf p.value m → AreAll (ps ++ p ∷ []) (ms ++ m ∷ [])
+all_more [] [] p m a e k = (e, k, tt)
+all_more [] (x ∷ ms) p m a e k = absurd a
+all_more (q ∷ ps) [] p m a e k = absurd a
+all_more (q ∷ ps) (x ∷ ms) p m a e k = (a.0, a.1, all_more ps ms p m a.2 e k)
 
 -- one more
-pub modules_more : (ps new : List (Pair (Bor Module'))) (ms : List Module) (m : Bor Module') (name : List ℕ) → name ≡ (module_tree m.now).name.bytes → AreModules ps ms
-    → ((all : List (Pair (Bor Module'))) → AreFirst ps all → AreFirst new (all ++ named name m ∷ [])) → AreModules new (ms ++ module_tree m.now ∷ [])
-modules_more ps new ms m name is a more = record {
-  all = a.all ++ named name m ∷ [];
+pub modules_more : (ps new : List (Pair Known)) (ms : List Module) (k : Known) (m : Module) (name : List ℕ) → name ≡ m.name.bytes → IsKnownOf k m → AreModules ps ms
+    → ((all : List (Pair Known)) → AreFirst ps all → AreFirst new (all ++ named name k ∷ [])) → AreModules new (ms ++ m ∷ [])
+modules_more ps new ms k m name is known a more = record {
+  all = a.all ++ named name k ∷ [];
   first = more a.all a.first;
-  are =
-      map-append named_tree a.all (named name m ∷ []) ∙ ap (λ xs. xs ++ named name (module_tree m.now) ∷ []) a.are ∙ ap (λ n. map named_module ms ++ named n (module_tree m.now) ∷ []) is
-      ∙ sym (map-append named_module ms (module_tree m.now ∷ []));
+  are = all_more a.all ms (named name k) m a.are is known;
 }
 
-value_of_trees : (ps : List (Pair (Bor Module'))) (name : List ℕ) → value_at name (map named_tree ps) ≡ module_at ps name
-value_of_trees [] name = refl
-value_of_trees (p ∷ ps) name = by (same_name p.name name) (value_of_trees ps name)
+all_found : (ps : List (Pair Known)) (ms : List Module) (name : List ℕ) → AreAll ps ms → IsOf (value_at name ps) (find_in ms name)
+all_found [] [] name a = tt
+all_found [] (m ∷ ms) name a = absurd a
+all_found (p ∷ ps) [] name a = absurd a
+all_found (p ∷ ps) (m ∷ ms) name a = by (same_name p.name name) (same_name m.name.bytes name) (ap (λ n. same_name n name) a.0) (all_found ps ms name a.2)
   where
-    by : (b : Bool) → value_at name (map named_tree ps) ≡ module_at ps name
-        → (if b then Some (module_tree p.value.now) else value_at name (map named_tree ps)) ≡ option_map (λ (m : Bor Module'). module_tree m.now) (if b then Some p.value else value_at name ps)
-    by true h = refl
-    by false h = h
-
-value_of_modules : (ms : List Module) (name : List ℕ) → value_at name (map named_module ms) ≡ find_in ms name
-value_of_modules [] name = refl
-value_of_modules (m ∷ ms) name = ap (λ o. if same_name m.name.bytes name then Some m else o) (value_of_modules ms name)
+    by : (b c : Bool) → b ≡ c → IsOf (value_at name ps) (find_in ms name) → IsOf (if b then Some p.value else value_at name ps) (if c then Some m else find_in ms name)
+    by true true e r = a.1
+    by false false e r = r
+    by true false e r = cc
+    by false true e r = cc
 
 -- so it has what a look-up finds
-pub module_found : (ps : List (Pair (Bor Module'))) (ms : List Module) (name : List ℕ) → AreModules ps ms → module_at ps name ≡ find_in ms name
-module_found ps ms name a =
-    ap (option_map (λ (m : Bor Module'). module_tree m.now)) (a.first.each name) ∙ sym (value_of_trees a.all name) ∙ ap (value_at name) a.are ∙ value_of_modules ms name
+pub module_found : (ps : List (Pair Known)) (ms : List Module) (name : List ℕ) → AreModules ps ms → IsOf (value_at name ps) (find_in ms name)
+module_found ps ms name a = subst (λ o. IsOf o (find_in ms name)) (sym (a.first.each name)) (all_found a.all ms name a.are)
 
 -- and whether it has one
-pub module_had : (ps : List (Pair (Bor Module'))) (ms : List Module) (name : List ℕ) → AreModules ps ms → is_some (value_at name ps) ≡ is_some (find_in ms name)
-module_had ps ms name a = mapped (value_at name ps) ∙ ap is_some (module_found ps ms name a)
+pub module_had : (ps : List (Pair Known)) (ms : List Module) (name : List ℕ) → AreModules ps ms → is_some (value_at name ps) ≡ is_some (find_in ms name)
+module_had ps ms name a = of (value_at name ps) (find_in ms name) (module_found ps ms name a)
   where
-    mapped : (o : Option (Bor Module')) → is_some o ≡ is_some (option_map (λ (m : Bor Module'). module_tree m.now) o)
-    mapped None = refl
-    mapped (Some x) = refl
+    of : (o : Option Known) (m : Option Module) → IsOf o m → is_some o ≡ is_some m
+    of None None h = refl
+    of (Some k) (Some m) h = refl
+    of None (Some m) h = absurd h
+    of (Some k) None h = absurd h
 
 pub items_are : (is : List Item) → items_list (view.items is) ≡ map view.item is
 items_are [] = refl

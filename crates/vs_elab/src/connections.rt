@@ -1,20 +1,22 @@
 //! What the ports of an instance are connected to (IEEE 1364-2005, 12.3.5 and 12.3.6).
 
-ghost use Rattle.std.specs.Prelude.{◌≡◌, ◌++◌, [], List, IfOk, OnOk, map, option_map};
+ghost use Rattle.std.specs.Prelude.{◌≡◌, ◌++◌, [], List, Some, IfOk, OnOk, map, option_map};
 ghost use Rattle.vs_grammar.specs.Trees as tree;
 ghost use Rattle.vs_ast.specs.Views as view;
 ghost use Rattle.vs_hierarchy.specs.Environments.{Env};
-ghost use Rattle.vs_hierarchy.specs.Instances.{connected, connected_by_name, connected_by_order, in_port_order};
+ghost use Rattle.vs_hierarchy.specs.Instances.{connected, connected_by_name, connected_by_order, in_port_order, said_connections};
 ghost use Rattle.vs_hierarchy.specs.Ports as spec;
 ghost use Rattle.vs_elab.specs.Connections.{AreApart, AreNamed, connected_at, said};
 ghost use Rattle.vs_scope.specs.MapViews.{pairs};
+ghost use Rattle.vs_elab.specs.Interfaces.{IsInterface};
 ghost use Rattle.vs_elab.specs.PortTables.{ArePorts};
 ghost use Rattle.vs_elab.specs.Ports.{port_of};
 
+use crate::interfaces::Interface;
 use crate::noted::note;
 use crate::ports::{Port, Ports};
 use std::alloc::{AllocError, Global};
-use vs_ast::{Expr, NamedConnection};
+use vs_ast::{Connections, Expr, NamedConnection};
 use vs_scope::NameMap;
 
 /// A port that is connected: its name, whether it is an input, and the expression.
@@ -108,4 +110,20 @@ pub(crate) fn by_name<'a>(
         push_named(&mut list, ports, port.name, &names)?;
     }
     Ok(list)
+}
+
+/// What the ports of an instance are connected to, without a fault, in the order of its module's header.
+pub(crate) fn connections_of<'a>(
+    alloc: Global,
+    seen: &Interface<'a>,
+    connections: &'a Connections,
+) -> Result<Vec<Connection<'a>>, AllocError>
+    ensures { (m : tree.Module) (name : tree.Name) (env : Env) → IsInterface seen.now m → (said_connections (Some m) name (view.connections connections.now) env).faults ≡ []
+        → IfOk result (λ v. said env v.items ≡ (said_connections (Some m) name (view.connections connections.now) env).connections) }
+{
+    match connections {
+        Connections::Unconnected => Ok(Vec::new(alloc)),
+        Connections::ByOrder(parts) => by_order(alloc, &seen.ports, parts),
+        Connections::ByName(parts) => by_name(alloc, &seen.ports, parts),
+    }
 }

@@ -5,6 +5,7 @@ ghost use Rattle.vs_grammar.specs.Trees as tree;
 ghost use Rattle.vs_grammar.specs.Shapes.{AreConnections, AreInstances, IsExpr, IsInstance, Given, Each, IsConnection};
 ghost use Rattle.vs_ast.specs.Views as view;
 ghost use Rattle.vs_const.specs.Faults.{least};
+ghost use Rattle.vs_hierarchy.specs.Environments.{named};
 ghost use Rattle.vs_hierarchy.specs.Ports.{find_module, find_port};
 ghost use Rattle.vs_hierarchy.specs.Instances as spec;
 ghost use Rattle.vs_scope.specs.Frames.{view_env};
@@ -231,7 +232,7 @@ pub(crate) fn instances_fault<'a>(
     here: &View<'_, '_>,
 ) -> Result<Option<Fault>, AllocError>
     requires { AreInstances (view.instances t.now) }
-    ensures { (source : tree.Source) (around : spec.Around) → IsKnown known.entry (find_module source t.now.of.text) → around.env ≡ view_env here.now
+    ensures { (source : tree.Source) (around : spec.Around) → IsKnown known.entry (find_module source t.now.of.text) → named around.env ≡ named (view_env here.now)
         → IfOk result (λ f. f ≡ least (spec.instances_said source around (view.instances t.now)).faults) }
 {
     let missing = fault_if(known.is_none(), 34, t.of.place);

@@ -37,11 +37,11 @@ fn name_set<'a>(alloc: Global, list: &[&'a [u8]]) -> Result<NameMap<'a, ()>, All
 }
 
 /// What an instance of a module sees of it.
-pub(crate) fn seen_of<'a>(alloc: Global, module: &'a Module) -> Result<Interface<'a>, AllocError>
-    ensures { IfOk result (λ i. IsInterface i (view.module_tree module.now)) }
+pub(crate) fn seen_of<'a>(alloc: Global, of: &'a Module) -> Result<Interface<'a>, AllocError>
+    ensures { IfOk result (λ i. IsInterface i (view.module_tree of.now)) }
 {
-    let ports = port_table(alloc, module)?;
-    let parameters = overridable(alloc, module)?;
+    let ports = port_table(alloc, of)?;
+    let parameters = overridable(alloc, of)?;
     let names = name_set(alloc, &parameters)?;
     Ok(Interface {
         ports,

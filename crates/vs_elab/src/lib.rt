@@ -1,8 +1,10 @@
 //! Elaboration (IEEE 1364-2005, clause 12): from the tree of a text and the name of its top to a flat design, or to the first rule that is broken.
 #![tactic(auto)]
 
+mod bodies;
 mod connected;
 mod connections;
+mod counts;
 mod faults;
 mod instances;
 mod interfaces;
@@ -10,11 +12,16 @@ mod items;
 mod modules;
 mod noted;
 mod numbers;
+mod opening;
 mod outputs;
 mod overrides;
+mod overriding;
+mod pending;
 mod ports;
 mod selects;
+mod stack;
 mod statements;
 mod targets;
 mod values;
+mod wiring;
 mod written;

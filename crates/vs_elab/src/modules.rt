@@ -1,38 +1,61 @@
 //! The modules of a text by their names (IEEE 1364-2005, 12.1).
 
-ghost use Rattle.std.specs.Prelude.{◌≡◌, ℕ, [], List, IfOk};
+ghost use Rattle.std.specs.Prelude.{◌≡◌, [], Option, IfOk};
+ghost use Rattle.vs_grammar.specs.Trees as tree;
 ghost use Rattle.vs_ast.specs.Views as view;
 ghost use Rattle.vs_const.specs.Faults.{least};
 ghost use Rattle.vs_hierarchy.specs.Ports.{find_module};
 ghost use Rattle.vs_hierarchy.specs.Elaborated.{repeated_modules};
-ghost use Rattle.vs_scope.specs.MapViews.{pairs};
-ghost use Rattle.vs_elab.specs.Modules.{module_at};
+ghost use Rattle.vs_elab.specs.Interfaces.{IsKnown};
+ghost use Rattle.vs_elab.specs.Modules.{AreOf};
 
 use crate::faults::{fault_if, first_of};
+use crate::interfaces::{Interface, seen_of};
 use crate::noted::note;
 use std::alloc::{AllocError, Global};
-use vs_ast::{Module, Source};
+use vs_ast::{Module, Name, Source};
 use vs_const::Fault;
 use vs_scope::NameMap;
+
+/// A module, and what instances see of it.
+#[derive(Drop)]
+pub(crate) struct Known<'a> {
+    pub of: &'a Module,
+    pub seen: Interface<'a>,
+}
 
 /// The modules of a text by their names, and the first that is declared a second time.
 #[derive(Drop)]
 pub(crate) struct Modules<'a> {
-    pub by_name: NameMap<'a, &'a Module>,
+    pub by_name: NameMap<'a, Known<'a>>,
     /// 33: the second module of a name.
     pub repeated: Option<Fault>,
 }
 
 /// The modules of a text.
 pub(crate) fn by_names(alloc: Global, source: &Source) -> Result<Modules<'_>, AllocError>
-    ensures by_name { IfOk result (λ m. (name : List ℕ) → module_at (pairs m.by_name) name ≡ find_module (view.source source.now) name) }
+    ensures by_name { IfOk result (λ m. AreOf m.by_name (view.source source.now)) }
     ensures repeated { IfOk result (λ m. m.repeated ≡ least (repeated_modules [] (view.source source.now).modules)) }
 {
     let mut by_name = NameMap::new(alloc);
     let mut repeated = None;
-    for module in &source.modules {
-        let had = note(&mut by_name, module.name.text.as_bytes(), module)?;
-        repeated = first_of(repeated, fault_if(had, 33, module.name.place));
+    for of in &source.modules {
+        let seen = seen_of(alloc, of)?;
+        let had = note(&mut by_name, of.name.text.as_bytes(), Known { of, seen })?;
+        repeated = first_of(repeated, fault_if(had, 33, of.name.place));
     }
     Ok(Modules { by_name, repeated })
+}
+
+/// What is known of the module of this name, if the text has it.
+pub(crate) fn seen_by<'f, 'a>(
+    modules: &'f NameMap<'a, Known<'a>>,
+    name: &Name,
+) -> Option<&'f Interface<'a>>
+    ensures { (source : tree.Source) → AreOf modules.now source → IsKnown result (find_module source (view.name name.now).bytes) }
+{
+    match modules.get(name.text.as_bytes()) {
+        None => None,
+        Some(k) => Some(&k.seen),
+    }
 }

@@ -20,7 +20,7 @@ use vs_scope::View;
 
 /// Whether an expression is a target; brackets round it are no matter.
 #[cycle(shapes)]
-fn is_target(e: &Expr) -> bool
+pub(crate) fn is_target(e: &Expr) -> bool
     ensures { result ≡ is_some (as_target (view.expr e.now)) }
 {
     match e {

@@ -121,13 +121,13 @@ fn declared_ports<'a>(
 }
 
 /// The ports of a module, in the order of its header (IEEE 1364-2005, 12.3.1).
-pub(crate) fn ports_of<'a>(alloc: Global, module: &'a Module) -> Result<Vec<Port<'a>>, AllocError>
-    ensures { IfOk result (λ v. map port_of v.items ≡ spec_ports.ports_of (view.module_tree module.now)) }
+pub(crate) fn ports_of<'a>(alloc: Global, of: &'a Module) -> Result<Vec<Port<'a>>, AllocError>
+    ensures { IfOk result (λ v. map port_of v.items ≡ spec_ports.ports_of (view.module_tree of.now)) }
 {
-    match &module.header {
+    match &of.header {
         Header::NoPorts => Ok(Vec::new(alloc)),
         Header::Plain(names) => {
-            let directions = body_directions(alloc, &module.items)?;
+            let directions = body_directions(alloc, &of.items)?;
             plain_ports(alloc, names, &directions)
         }
         Header::Declared(declarations) => declared_ports(alloc, declarations),
@@ -188,15 +188,12 @@ fn push_body<'a>(names: &mut Vec<&'a [u8]>, items: &'a [Item]) -> Result<(), All
 }
 
 /// The names of the parameters of a module that may be overridden, in the order of the text (IEEE 1364-2005, 12.2.2).
-pub(crate) fn overridable<'a>(
-    alloc: Global,
-    module: &'a Module,
-) -> Result<Vec<&'a [u8]>, AllocError>
-    ensures { IfOk result (λ v. map name_bytes v.items ≡ spec_ports.overridable (view.module_tree module.now)) }
+pub(crate) fn overridable<'a>(alloc: Global, of: &'a Module) -> Result<Vec<&'a [u8]>, AllocError>
+    ensures { IfOk result (λ v. map name_bytes v.items ≡ spec_ports.overridable (view.module_tree of.now)) }
 {
     let mut names = Vec::new(alloc);
-    push_header(&mut names, &module.parameters)?;
-    push_body(&mut names, &module.items)?;
+    push_header(&mut names, &of.parameters)?;
+    push_body(&mut names, &of.items)?;
     Ok(names)
 }
 
@@ -208,10 +205,10 @@ pub(crate) struct Ports<'a> {
 }
 
 /// The ports of a module.
-pub(crate) fn port_table<'a>(alloc: Global, module: &'a Module) -> Result<Ports<'a>, AllocError>
-    ensures { IfOk result (λ p. ArePorts p (spec_ports.ports_of (view.module_tree module.now))) }
+pub(crate) fn port_table<'a>(alloc: Global, of: &'a Module) -> Result<Ports<'a>, AllocError>
+    ensures { IfOk result (λ p. ArePorts p (spec_ports.ports_of (view.module_tree of.now))) }
 {
-    let list = ports_of(alloc, module)?;
+    let list = ports_of(alloc, of)?;
     let inputs = inputs(alloc, &list)?;
     Ok(Ports { list, inputs })
 }

@@ -7,8 +7,8 @@ use Rattle.vs_elab.proofs.Repeats.{AreModules}
 use Rattle.vs_elab.proofs.modules.by_names.Given as goal
 
 -- those before this one
-abbrev pub invariant-loop-module : goal.invariant-loop-module
-invariant-loop-module l = record {
-  by_name : AreModules (pairs l.by_name) (map view.module_tree (take l.module-index l.module-items));
-  repeated : l.repeated ≡ least (repeated_modules [] (map view.module_tree (take l.module-index l.module-items)));
+abbrev pub invariant-loop-of : goal.invariant-loop-of
+invariant-loop-of l = record {
+  by_name : AreModules (pairs l.by_name) (map view.module_tree (take l.of-index l.of-items));
+  repeated : l.repeated ≡ least (repeated_modules [] (map view.module_tree (take l.of-index l.of-items)));
 }

@@ -1,4 +1,4 @@
-use Rattle.std.proofs.Common.{◌++◌, [], ◌∷◌, is_some, sym, ap, ◌∙◌, subst}
+use Rattle.std.proofs.Common.{◌++◌, [], ◌∷◌, is_some, inl, inr, refl, sym, ap, ◌∙◌, subst}
 use Rattle.vs_scope.specs.MapViews.{pairs}
 use Rattle.vs_scope.specs.Maps.{value_at}
 use Rattle.vs_elab.specs.Noted.{AreFirst, named}
@@ -23,3 +23,9 @@ returns-then-is_some-clause-had g c =
 pub returns-clause-had : goal.returns-clause-had
 returns-clause-had g c =
     sym (ap is_some (copied_none (λ x. x.now) c.get.result (value_at c.args.name.now (pairs c.args.map.now)) c.get.ensures.value (sym c.is_some.ensures ∙ c.if-is_some.false)))
+
+pub returns-then-is_some-clause-may : goal.returns-then-is_some-clause-may
+returns-then-is_some-clause-may g c = inl refl
+
+pub returns-clause-may : goal.returns-clause-may
+returns-clause-may g c = inr c.in_ok-put.ensures.put

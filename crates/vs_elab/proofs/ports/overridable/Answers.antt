@@ -9,7 +9,7 @@ use Rattle.vs_elab.proofs.ports.overridable.Goals as goal
 
 pub returns : goal.returns
 returns c =
-    let m = c.args.module.now in
+    let m = c.args.of.now in
     let body = flat_map item_parameters (map view.item m.items.items) in
     c.in_ok-push_body.ensures
     ∙ ap (λ r. r ++ flat_map body_parameters (map view.item c.deref-2.result.now)) (c.in_ok-push_header.ensures ∙ ap (λ x. map name_bytes x ++ flat_map parameter_names (map view.parameters c.deref.result.now)) c.new-names.ensures.items)

@@ -8,7 +8,7 @@ use Rattle.vs_elab.proofs.ports.ports_of.Goals as goal
 
 pub returns-in_ok-directions-in-Plain : goal.returns-in_ok-directions-in-Plain
 returns-in_ok-directions-in-Plain c =
-    let m = c.args.module.now in
+    let m = c.args.of.now in
     let ds = flat_map item_directions (map view.item c.deref.result.now) in
     let body = ap (λ is. flat_map item_directions is) (ap (map view.item) c.deref.ensures.value ∙ sym (items_are m.items.items)) in
     let header = ap (λ ns. tree.PlainPorts (map view.name ns)) c.deref-in-Plain.ensures.value ∙ sym (ap view.header c.in-Plain.is) in

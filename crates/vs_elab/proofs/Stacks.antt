@@ -1,0 +1,167 @@
+-- Reading what is pending, one step after the other, is reading scopes within one another.
+use Rattle.std.proofs.Common.{◌≡◌, ℕ, suc, List, [], ◌∷◌, ◌++◌, map, Option, Some, None, refl, sym, ap, ◌∙◌, append_assoc}
+use Rattle.std.specs.Prelude.{Result, Ok, Err}
+use Rattle.std.proofs.lemmas.List.{append-nil}
+use Rattle.vs_design.specs.Expressions.{Signal}
+use Rattle.vs_design.specs.Designs.{Scope, Process, Design}
+use Rattle.vs_grammar.specs.Trees.{Source}
+use Rattle.vs_const.specs.declared.faults.Fault.{Fault}
+use Rattle.vs_const.specs.Faults.{least}
+use Rattle.vs_hierarchy.specs.Limits.{Limits}
+use Rattle.vs_hierarchy.specs.Pieces.{Task, is_instance, Connection, Piece, Own, Instance, Within}
+use Rattle.vs_hierarchy.specs.Surveys.{Totals, Survey, survey}
+use Rattle.vs_hierarchy.specs.Elaborated.{both_designs, of_processes, then_do, unless_fault, port_assign, Read, ReadPieces, read_piece, read_pieces, counted, limit_faults, scope_design, read_scope}
+use Rattle.vs_elab.specs.Stacks.{Pending, pending, rest_of, built_then}
+
+-- ---- designs one after the other
+
+abbrev of_parts : List Scope → List Signal → List Process → Design
+of_parts a b c = record { scopes = a; signals = b; processes = c }
+
+pub both_grouped : (a b c : Design) → both_designs (both_designs a b) c ≡ both_designs a (both_designs b c)
+both_grouped a b c =
+    ap (λ x. of_parts x ((a.signals ++ b.signals) ++ c.signals) ((a.processes ++ b.processes) ++ c.processes)) (append_assoc a.scopes b.scopes c.scopes)
+    ∙ ap (λ x. of_parts (a.scopes ++ (b.scopes ++ c.scopes)) x ((a.processes ++ b.processes) ++ c.processes)) (append_assoc a.signals b.signals c.signals)
+    ∙ ap (λ x. of_parts (a.scopes ++ (b.scopes ++ c.scopes)) (a.signals ++ (b.signals ++ c.signals)) x) (append_assoc a.processes b.processes c.processes)
+
+pub both_nothing : (a : Design) → both_designs a (of_processes []) ≡ a
+both_nothing a =
+    ap (λ x. of_parts x (a.signals ++ []) (a.processes ++ [])) (append-nil a.scopes)
+    ∙ ap (λ x. of_parts a.scopes x (a.processes ++ [])) (append-nil a.signals)
+    ∙ ap (λ x. of_parts a.scopes a.signals x) (append-nil a.processes)
+
+-- what is built, one part more, and then the rest
+pub built_more : (a b : Design) (r : Result Design Fault) → built_then a (built_then b r) ≡ built_then (both_designs a b) r
+built_more a b (Err e) = refl
+built_more a b (Ok d) = ap Ok (sym (both_grouped a b d))
+
+built_nothing : (r : Result Design Fault) → built_then (of_processes []) r ≡ r
+built_nothing (Err e) = refl
+built_nothing (Ok d) = refl
+
+-- at the end
+pub built_all : (limits : Limits) (source : Source) (built : Design) (t : Totals) → built_then built (rest_of limits source [] t) ≡ Ok built
+built_all limits source built t = ap Ok (both_nothing built)
+
+-- ---- pieces, and then what was pending
+
+abbrev pub and_rest : Limits → Source → List Pending → Result ReadPieces Fault → Result Design Fault
+and_rest limits source ps r = then_do r λ a. built_then a.design (rest_of limits source ps a.totals)
+
+pub rest_append : (limits : Limits) (source : Source) (left : ℕ) (qs : List Piece) (ps : List Pending) (t : Totals)
+    → rest_of limits source (map (pending left) qs ++ ps) t ≡ and_rest limits source ps (read_pieces (read_scope left limits source) qs t)
+rest_append limits source left [] ps t = sym (built_nothing (rest_of limits source ps t))
+rest_append limits source left (q ∷ qs) ps t = of (read_piece (read_scope left limits source) q t) (λ u. rest_append limits source left qs ps u)
+  where
+    of : (r : Result ReadPieces Fault) → ((u : Totals) → rest_of limits source (map (pending left) qs ++ ps) u ≡ and_rest limits source ps (read_pieces (read_scope left limits source) qs u))
+        → (then_do r λ a. built_then a.design (rest_of limits source (map (pending left) qs ++ ps) a.totals))
+        ≡ and_rest limits source ps (then_do r λ a. then_do (read_pieces (read_scope left limits source) qs a.totals) λ b. Ok (record { design = both_designs a.design b.design; totals = b.totals }))
+    of (Err e) h = refl
+    of (Ok a) h = ap (built_then a.design) (h a.totals) ∙ last (read_pieces (read_scope left limits source) qs a.totals)
+      where
+        last : (r : Result ReadPieces Fault) → built_then a.design (and_rest limits source ps r) ≡ and_rest limits source ps (then_do r λ b. Ok (record { design = both_designs a.design b.design; totals = b.totals }))
+        last (Err e) = refl
+        last (Ok b) = built_more a.design b.design (rest_of limits source ps b.totals)
+
+-- ---- a scope
+
+unless_none : {A : Type 0} (fs : List Fault) (f : ℕ → Result A Fault) → least fs ≡ None → unless_fault fs f ≡ f 0
+unless_none {A} fs f h = ap (λ (o : Option Fault). let r : Result A Fault = elim o [ None ↦ f 0 | Some a ↦ Err a ] in r) h
+
+unless_some : {A : Type 0} (fs : List Fault) (f : ℕ → Result A Fault) (e : Fault) → least fs ≡ Some e → unless_fault fs f ≡ Err e
+unless_some {A} fs f e h = ap (λ (o : Option Fault). let r : Result A Fault = elim o [ None ↦ f 0 | Some a ↦ Err a ] in r) h
+
+module _ (left : ℕ) (limits : Limits) (source : Source) (k : Task) (t : Totals) where
+  abbrev own : Survey
+  own = survey limits source k (counted k t)
+
+  abbrev read_of : Result ReadPieces Fault → Result Read Fault
+  read_of q = then_do q λ r. Ok (record { entries = own.entries; design = scope_design k own r.design; totals = r.totals })
+
+  abbrev inside : ℕ → Result Read Fault
+  inside u = unless_fault own.faults λ v. read_of (read_pieces (read_scope left limits source) own.pieces own.totals)
+
+  -- a scope past the limits
+  pub limited : (e : Fault) → least (limit_faults limits k (counted k t)) ≡ Some e → read_scope (suc left) limits source k t ≡ Err e
+  limited e h = unless_some (limit_faults limits k (counted k t)) inside e h
+
+  -- a scope with a fault
+  pub faulty : (e : Fault) → least (limit_faults limits k (counted k t)) ≡ None → least (survey limits source k (counted k t)).faults ≡ Some e → read_scope (suc left) limits source k t ≡ Err e
+  faulty e h f = unless_none (limit_faults limits k (counted k t)) inside h ∙ unless_some own.faults (λ v. read_of (read_pieces (read_scope left limits source) own.pieces own.totals)) e f
+
+  -- a scope without one
+  pub fair : least (limit_faults limits k (counted k t)) ≡ None → least (survey limits source k (counted k t)).faults ≡ None
+      → read_scope (suc left) limits source k t
+      ≡ then_do (read_pieces (read_scope left limits source) (survey limits source k (counted k t)).pieces (survey limits source k (counted k t)).totals)
+      λ r. Ok (record { entries = (survey limits source k (counted k t)).entries; design = scope_design k (survey limits source k (counted k t)) r.design; totals = r.totals })
+  fair h f = unless_none (limit_faults limits k (counted k t)) inside h ∙ unless_none own.faults (λ v. read_of (read_pieces (read_scope left limits source) own.pieces own.totals)) f
+
+-- ---- steps
+
+-- a process
+pub own_step : (limits : Limits) (source : Source) (built : Design) (left : ℕ) (p : Process) (ps : List Pending) (t : Totals)
+    → built_then built (rest_of limits source (pending left (Own p) ∷ ps) t) ≡ built_then (both_designs built (of_processes (p ∷ []))) (rest_of limits source ps t)
+own_step limits source built left p ps t = built_more built (of_processes (p ∷ [])) (rest_of limits source ps t)
+
+-- the piece of a scope
+abbrev pub within_read : Result Read Fault → Result ReadPieces Fault
+within_read q = then_do q λ r. Ok (record { design = r.design; totals = r.totals })
+
+abbrev pub instance_read : Task → List Connection → Result Read Fault → Result ReadPieces Fault
+instance_read k cs q = then_do q λ r. Ok (record { design = both_designs (of_processes (map (port_assign k.place r.entries) cs)) r.design; totals = r.totals })
+
+-- a piece with a fault
+pub within_fails : (limits : Limits) (source : Source) (built : Design) (left : ℕ) (k : Task) (ps : List Pending) (t : Totals) (e : Fault)
+    → read_scope left limits source k t ≡ Err e → built_then built (rest_of limits source (pending left (Within k) ∷ ps) t) ≡ Err e
+within_fails limits source built left k ps t e h = ap (λ (q : Result Read Fault). built_then built (and_rest limits source ps (within_read q))) h
+
+pub instance_fails : (limits : Limits) (source : Source) (built : Design) (left : ℕ) (cs : List Connection) (k : Task) (ps : List Pending) (t : Totals) (e : Fault)
+    → read_scope left limits source k t ≡ Err e → built_then built (rest_of limits source (pending left (Instance cs k) ∷ ps) t) ≡ Err e
+instance_fails limits source built left cs k ps t e h = ap (λ (q : Result Read Fault). built_then built (and_rest limits source ps (instance_read k cs q))) h
+
+-- a scope is its own part, and then its pieces
+abbrev pub scope_part : Task → Survey → Design
+scope_part k s = record { scopes = record { name = k.name; parent = k.parent; instance = is_instance k.contents } ∷ []; signals = s.signals; processes = [] }
+
+abbrev pub ports_part : Task → Survey → List Connection → Design
+ports_part k s cs = of_processes (map (port_assign k.place s.entries) cs)
+
+abbrev scope_then : Task → Survey → Result ReadPieces Fault → Result Read Fault
+scope_then k s q = then_do q λ r. Ok (record { entries = s.entries; design = scope_design k s r.design; totals = r.totals })
+
+scope_opens : (limits : Limits) (source : Source) (built : Design) (k : Task) (s : Survey) (ps : List Pending) (q : Result ReadPieces Fault)
+    → built_then built (and_rest limits source ps (within_read (scope_then k s q))) ≡ built_then (both_designs built (scope_part k s)) (and_rest limits source ps q)
+scope_opens limits source built k s ps (Err e) = refl
+scope_opens limits source built k s ps (Ok a) =
+    ap (built_then built) (sym (built_more (scope_part k s) a.design (rest_of limits source ps a.totals)))
+    ∙ built_more built (scope_part k s) (built_then a.design (rest_of limits source ps a.totals))
+
+instance_opens : (limits : Limits) (source : Source) (built : Design) (k : Task) (s : Survey) (cs : List Connection) (ps : List Pending) (q : Result ReadPieces Fault)
+    → built_then built (and_rest limits source ps (instance_read k cs (scope_then k s q))) ≡ built_then (both_designs (both_designs built (ports_part k s cs)) (scope_part k s)) (and_rest limits source ps q)
+instance_opens limits source built k s cs ps (Err e) = refl
+instance_opens limits source built k s cs ps (Ok a) =
+    ap (built_then built) (sym (built_more (ports_part k s cs) (scope_design k s a.design) (rest_of limits source ps a.totals)))
+    ∙ built_more built (ports_part k s cs) (built_then (scope_design k s a.design) (rest_of limits source ps a.totals))
+    ∙ ap (built_then (both_designs built (ports_part k s cs))) (sym (built_more (scope_part k s) a.design (rest_of limits source ps a.totals)))
+    ∙ built_more (both_designs built (ports_part k s cs)) (scope_part k s) (built_then a.design (rest_of limits source ps a.totals))
+
+-- a generate block
+pub within_step : (limits : Limits) (source : Source) (built : Design) (left : ℕ) (k : Task) (ps : List Pending) (t : Totals)
+    → least (limit_faults limits k (counted k t)) ≡ None → least (survey limits source k (counted k t)).faults ≡ None
+    → built_then built (rest_of limits source (pending (suc left) (Within k) ∷ ps) t)
+    ≡ built_then (both_designs built (scope_part k (survey limits source k (counted k t)))) (rest_of limits source (map (pending left) (survey limits source k (counted k t)).pieces ++ ps) (survey limits source k (counted k t)).totals)
+within_step limits source built left k ps t h f =
+    ap (λ (q : Result Read Fault). built_then built (and_rest limits source ps (within_read q))) (fair left limits source k t h f)
+    ∙ scope_opens limits source built k (own left limits source k t) ps (read_pieces (read_scope left limits source) (own left limits source k t).pieces (own left limits source k t).totals)
+    ∙ ap (built_then (both_designs built (scope_part k (own left limits source k t)))) (sym (rest_append limits source left (own left limits source k t).pieces ps (own left limits source k t).totals))
+
+-- an instance
+pub instance_step : (limits : Limits) (source : Source) (built : Design) (left : ℕ) (cs : List Connection) (k : Task) (ps : List Pending) (t : Totals)
+    → least (limit_faults limits k (counted k t)) ≡ None → least (survey limits source k (counted k t)).faults ≡ None
+    → built_then built (rest_of limits source (pending (suc left) (Instance cs k) ∷ ps) t)
+    ≡ built_then (both_designs (both_designs built (ports_part k (survey limits source k (counted k t)) cs)) (scope_part k (survey limits source k (counted k t))))
+    (rest_of limits source (map (pending left) (survey limits source k (counted k t)).pieces ++ ps) (survey limits source k (counted k t)).totals)
+instance_step limits source built left cs k ps t h f =
+    ap (λ (q : Result Read Fault). built_then built (and_rest limits source ps (instance_read k cs q))) (fair left limits source k t h f)
+    ∙ instance_opens limits source built k (own left limits source k t) cs ps (read_pieces (read_scope left limits source) (own left limits source k t).pieces (own left limits source k t).totals)
+    ∙ ap (built_then (both_designs (both_designs built (ports_part k (own left limits source k t) cs)) (scope_part k (own left limits source k t)))) (sym (rest_append limits source left (own left limits source k t).pieces ps (own left limits source k t).totals))

@@ -1,0 +1,17 @@
+use Rattle.std.proofs.Common.{◌≡◌, ◌++◌, ℕ, List, Some, map, take}
+use Rattle.vs_grammar.specs.Trees as tree
+use Rattle.vs_ast.specs.Views as view
+use Rattle.vs_hierarchy.specs.Parameters.{Override}
+use Rattle.vs_hierarchy.specs.Pieces.{Piece, all_said}
+use Rattle.vs_hierarchy.specs.Instances.{Around, instance_said}
+use Rattle.vs_elab.specs.Counts.{IsCounted}
+use Rattle.vs_elab.specs.Interfaces.{IsInterface}
+use Rattle.vs_elab.proofs.counts.count_all.Given as goal
+
+-- those before this one are counted
+abbrev pub invariant-loop-i : goal.invariant-loop-i
+invariant-loop-i l = record {
+  most : l.count.most ≡ l.fn.count.most;
+  counted : (m : tree.Module) (around : Around) (os : List Override) (before : ℕ) (ps : List Piece) → IsInterface l.seen m → IsCounted l.fn.count before ps
+      → IsCounted l.count before (ps ++ (all_said (instance_said around l.place (Some m) os) (map view.instance (take l.i-index l.instances))).pieces);
+}

@@ -1,0 +1,33 @@
+-- Ports that can be built: what they are connected to is without a fault, and inside there is a signal of their name.
+use Rattle.std.specs.Prelude.{◌≡◌, ℕ, true, false, List, ◌++◌, Some}
+use Rattle.vs_design.specs.Designs.{Process, Design}
+use Rattle.vs_design.specs.Elaborated.{is_signal}
+use Rattle.vs_grammar.specs.Shapes.{Each}
+use Rattle.vs_ast.specs.Views.{expr}
+use Rattle.vs_const.specs.Meanings.{SignalMeaning, Find}
+use Rattle.vs_hierarchy.specs.Environments.{OfSignal, Entry, find_entry}
+use Rattle.vs_build.specs.Drafts.{Draft}
+use Rattle.vs_build.specs.Buildable.{IsBuildable}
+use Rattle.vs_build.specs.Outputs.{IsOutput}
+use Rattle.vs_elab.specs.declared.connections.Connection.{Connection}
+
+-- a name is this signal
+pub record IsSignalOf (es : List Entry) (name : List ℕ) (m : SignalMeaning) : Type 0 where
+  pub entry : Entry
+  pub found : find_entry es name ≡ Some entry
+  pub declared : entry.declared ≡ OfSignal m
+
+-- a connection whose expression is seen by `find`, to a scope of these names
+pub record IsWirable (d : Design) (find : Find) (es : List Entry) (c : Connection) : Type 0 where
+  pub meaning : SignalMeaning
+  pub is : IsSignalOf es c.name.now meaning
+  pub there : is_signal d meaning.signal ≡ true
+  pub input : c.input ≡ true → IsBuildable d find false (expr c.e.now)
+  pub output : c.input ≡ false → IsOutput d find (expr c.e.now)
+
+abbrev pub AreWirable : Design → Find → List Entry → List Connection → Type 0
+AreWirable d find es cs = Each (IsWirable d find es) cs
+
+-- with these processes more
+abbrev pub and_processes : Draft → List Process → Draft
+and_processes s ps = record s { design = record s.design { processes = s.design.processes ++ ps } }

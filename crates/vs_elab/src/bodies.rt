@@ -1,0 +1,135 @@
+//! The faults of all items of a scope, and how many processes they have (IEEE 1364-2005, A.1.4).
+
+ghost use Rattle.std.specs.Prelude.{◌≡◌, ◌≤◌, ◌+◌, ◌++◌, [], ◌∷◌, List, None, IfOk, map, length, sum_by};
+ghost use Rattle.vs_grammar.specs.Trees as tree;
+ghost use Rattle.vs_ast.specs.Views as view;
+ghost use Rattle.vs_const.specs.Faults.{least};
+ghost use Rattle.vs_hierarchy.specs.Environments.{named};
+ghost use Rattle.vs_hierarchy.specs.Generate.{Made};
+ghost use Rattle.vs_hierarchy.specs.Instances.{Around};
+ghost use Rattle.vs_hierarchy.specs.Surveys.{item_said, items_said, piece_processes, processes_over};
+ghost use Rattle.vs_scope.specs.Contents.{contents_items};
+ghost use Rattle.vs_scope.specs.Frames.{view_env};
+ghost use Rattle.vs_elab.specs.Modules.{AreOf};
+ghost use Rattle.vs_elab.specs.Stated.{AreStated, IsStated};
+
+use crate::counts::{Count, count_contents};
+use crate::faults::first_of;
+use crate::instances::instances_fault;
+use crate::items::{assigns_fault, wires_fault};
+use crate::modules::{Known, seen_by};
+use crate::statements::block_fault;
+use std::alloc::{AllocError, Global};
+use vs_ast::Item;
+use vs_const::Fault;
+use vs_scope::{BlockItems, Contents, NameMap, View};
+
+/// The first rule that an item breaks, but for those of its generate blocks and their heads.
+fn item_fault<'a>(
+    alloc: Global,
+    modules: &NameMap<'a, Known<'a>>,
+    item: &'a Item,
+    here: &View<'_, '_>,
+) -> Result<Option<Fault>, AllocError>
+    requires { IsStated (view.item item.now) }
+    ensures { (source : tree.Source) (around : Around) (made : Made) → AreOf modules.now source → named around.env ≡ named (view_env here.now)
+        → IfOk result (λ f. f ≡ least (item_said source around (view.item item.now) made).faults) }
+{
+    match item {
+        Item::Signals(s) => wires_fault(alloc, &s.names, here),
+        Item::Assigns { assigns, .. } => assigns_fault(alloc, assigns, here),
+        Item::Always(b) => block_fault(alloc, b, here),
+        Item::Instances(t) => instances_fault(alloc, seen_by(modules, &t.of), t, here),
+        _ => Ok(None),
+    }
+}
+
+/// The first rule that any of these items breaks.
+fn items_fault<'a>(
+    alloc: Global,
+    modules: &NameMap<'a, Known<'a>>,
+    items: &'a [Item],
+    here: &View<'_, '_>,
+) -> Result<Option<Fault>, AllocError>
+    requires { AreStated (map view.item items.now) }
+    ensures { (source : tree.Source) (around : Around) (made : List Made) → AreOf modules.now source → named around.env ≡ named (view_env here.now) → length made ≡ length items.now
+        → IfOk result (λ f. f ≡ least (items_said source around (map view.item items.now) made).faults) }
+{
+    let mut fault = None;
+    for item in items {
+        let found = item_fault(alloc, modules, item, here)?;
+        fault = first_of(fault, found);
+    }
+    Ok(fault)
+}
+
+/// The first rule that the one item of a block breaks.
+fn one_fault<'a>(
+    alloc: Global,
+    modules: &NameMap<'a, Known<'a>>,
+    item: &'a Item,
+    here: &View<'_, '_>,
+) -> Result<Option<Fault>, AllocError>
+    requires { AreStated (view.item item.now ∷ []) }
+    ensures { (source : tree.Source) (around : Around) (made : List Made) → AreOf modules.now source → named around.env ≡ named (view_env here.now) → length made ≡ 1
+        → IfOk result (λ f. f ≡ least (items_said source around (view.item item.now ∷ []) made).faults) }
+{
+    let fault = item_fault(alloc, modules, item, here)?;
+    Ok(fault)
+}
+
+/// The first rule that an item of a scope breaks: what its generate constructs make is no matter.
+fn contents_fault<'a>(
+    alloc: Global,
+    modules: &NameMap<'a, Known<'a>>,
+    contents: Contents<'a>,
+    here: &View<'_, '_>,
+) -> Result<Option<Fault>, AllocError>
+    requires { AreStated (contents_items contents) }
+    ensures { (source : tree.Source) (around : Around) (made : List Made) → AreOf modules.now source → named around.env ≡ named (view_env here.now) → length made ≡ length (contents_items contents.entry)
+        → IfOk result (λ f. f ≡ least (items_said source around (contents_items contents.entry) made).faults) }
+{
+    match contents {
+        Contents::Module(m) => items_fault(alloc, modules, &m.items, here),
+        Contents::Block(BlockItems::One(item)) => one_fault(alloc, modules, item, here),
+        Contents::Block(BlockItems::Many(items)) => items_fault(alloc, modules, items, here),
+    }
+}
+
+/// What is found of the items of a scope: the first rule that they break, and how many processes there are with theirs, where they break none.
+#[derive(Clone, Copy)]
+pub(crate) struct SaidItems {
+    pub fault: Option<Fault>,
+    pub processes: u32,
+}
+
+/// What is found of the items of a scope, where there are `total` processes before it and may be `most`. Their faults are those of their parts,
+/// and 45: the first piece with which there are too many processes. An error is want of memory.
+pub(crate) fn said_items<'a>(
+    alloc: Global,
+    modules: &NameMap<'a, Known<'a>>,
+    contents: Contents<'a>,
+    here: &View<'_, '_>,
+    most: u32,
+    total: u32,
+) -> Result<SaidItems, AllocError>
+    requires stated { AreStated (contents_items contents) }
+    requires few { total ≤ most }
+    ensures fault { (source : tree.Source) (around : Around) (made : List Made) → AreOf modules.now source → named around.env ≡ named (view_env here.now) → length made ≡ length (contents_items contents.entry)
+        → IfOk result (λ r. r.fault ≡ least ((items_said source around (contents_items contents.entry) made).faults ++ processes_over most total (items_said source around (contents_items contents.entry) made).pieces)) }
+    ensures processes { (source : tree.Source) (around : Around) (made : List Made) → AreOf modules.now source → length made ≡ length (contents_items contents.entry)
+        → IfOk result (λ r. r.fault ≡ None → r.processes ≡ total + sum_by piece_processes (items_said source around (contents_items contents.entry) made).pieces) }
+    ensures few { (source : tree.Source) (around : Around) (made : List Made) → AreOf modules.now source → length made ≡ length (contents_items contents.entry) → IfOk result (λ r. r.processes ≤ most) }
+{
+    let found = contents_fault(alloc, modules, contents, here)?;
+    let mut count = Count {
+        most,
+        total,
+        over: None,
+    };
+    count_contents(alloc, modules, contents, &mut count)?;
+    Ok(SaidItems {
+        fault: first_of(found, count.over),
+        processes: count.total,
+    })
+}

@@ -1,0 +1,69 @@
+//! The assigns that the ports of an instance imply (IEEE 1364-2005, 12.3.9.2).
+
+ghost use Rattle.std.specs.Prelude.{◌≡◌, ◌<◌, ◌≤◌, ◌+◌, ◌^◌, ℕ, OnOk, length, map};
+ghost use Rattle.vs_const.specs.Meanings.{SignalMeaning};
+ghost use Rattle.vs_hierarchy.specs.Elaborated.{port_assign};
+ghost use Rattle.vs_hierarchy.specs.Environments.{named};
+ghost use Rattle.vs_build.specs.Growth.{draft};
+ghost use Rattle.vs_scope.specs.Frames.{view_env};
+ghost use Rattle.vs_scope.specs.Views.{entries};
+ghost use Rattle.vs_elab.specs.Connections.{said, said_one};
+ghost use Rattle.vs_elab.specs.Wiring.{AreWirable, IsSignalOf, IsWirable, and_processes};
+
+use crate::connections::Connection;
+use std::alloc::{AllocError, Global};
+use vs_build::{Builder, input_port, output_port};
+use vs_scope::{Declared, Names, View};
+
+/// The number of the signal that a name of a scope means, where it means one.
+fn signal_number(names: &Names<'_>, name: &[u8]) -> u32
+    ensures { (m : SignalMeaning) → IsSignalOf (entries names.now) name.now m → result ≡ m.signal.number }
+{
+    match names.find(name) {
+        None => 0,
+        Some(e) => match e.declared {
+            Declared::Signal(s) => s.number,
+            _ => 0,
+        },
+    }
+}
+
+/// Builds the assign of one port of an instance whose item begins at `place`; `names` are those inside, and `here` is where the instance stands.
+fn wire_port(
+    builder: &mut Builder,
+    alloc: Global,
+    place: u32,
+    names: &Names<'_>,
+    c: &Connection<'_>,
+    here: &View<'_, '_>,
+) -> Result<(), AllocError>
+    requires room { length (draft builder.old).design.processes < 2 ^ 16 }
+    requires fine { IsWirable (draft builder.old).design (named (view_env here.now)) (entries names.now) c.now }
+    ensures { OnOk result (draft builder.new ≡ and_processes (draft builder.old) (map (port_assign place (entries names.now)) (said_one (view_env here.now) c.now))) }
+{
+    let inner = signal_number(names, c.name);
+    if c.input {
+        input_port(builder, alloc, place, inner, c.e, here)
+    } else {
+        output_port(builder, alloc, place, inner, c.e, here)
+    }
+}
+
+/// Builds the assigns of the ports of an instance whose item begins at `place`, in the order of its module's header. An error is want of memory.
+pub(crate) fn wire_ports(
+    builder: &mut Builder,
+    alloc: Global,
+    place: u32,
+    names: &Names<'_>,
+    connections: &[Connection<'_>],
+    here: &View<'_, '_>,
+) -> Result<(), AllocError>
+    requires room { length (draft builder.old).design.processes + length connections.now ≤ 2 ^ 16 }
+    requires fine { AreWirable (draft builder.old).design (named (view_env here.now)) (entries names.now) connections.now }
+    ensures { OnOk result (draft builder.new ≡ and_processes (draft builder.old) (map (port_assign place (entries names.now)) (said (view_env here.now) connections.now))) }
+{
+    for c in connections {
+        wire_port(builder, alloc, place, names, c, here)?;
+    }
+    Ok(())
+}
