@@ -8,11 +8,13 @@ ghost use Rattle.vs_grammar.specs.Verilog as grammar;
 ghost use Rattle.vs_grammar.specs.Meaning as meaning;
 ghost use Rattle.vs_ast.specs.Views as view;
 ghost use Rattle.vs_parser.specs.Parts as part;
-ghost use Rattle.vs_phrase.specs.Reading.{Parsed, Refused};
+ghost use Rattle.vs_grammar.specs.Trees as tree;
+ghost use Rattle.vs_phrase.specs.Reading.{Answers, Parsed, Refused};
 
 use vs_ast::{Declarator, Expr, Item, Name, Parameters, Range, Setting, SignalKind, Signals};
 use vs_lexer::TokenKind;
 use vs_phrase::ParseError;
+use vs_phrase::commas::{Part, comma_list};
 use vs_phrase::expressions::expression;
 use vs_phrase::input::{Found, Input};
 use vs_phrase::tokens::{optional, stands, take};
@@ -93,6 +95,29 @@ fn optional_value(input: &Input<'_>, at: u32, depth: u32) -> Result<Found<Option
     })
 }
 
+/// A name.
+fn name(input: &Input<'_>, at: u32, depth: u32) -> Result<Found<Name>, ParseError>
+    requires shallow { depth ≤ 200 }
+    ensures { Answers input.now (t kind.Identifier) meaning.name_of view.name depth at result }
+{
+    identifier(input, at)
+}
+
+/// A name, as a part of a list.
+struct NamePart;
+
+impl Part for NamePart {
+    type Value = Name;
+
+    ghost Tree = { tree.Name };
+
+    ghost phrase = { t kind.Identifier };
+
+    ghost meaning = { meaning.name_of };
+
+    ghost view = { view.name };
+}
+
 /// Names, with commas between them.
 pub(crate) fn identifiers(
     input: &Input<'_>,
@@ -103,17 +128,9 @@ pub(crate) fn identifiers(
     ensures found { IfOk result (λ f. Parsed input.now (separated (t kind.Identifier)) (λ b d. meaning.list_of (meaning.name_of b) d) depth at (map view.name f.value.items) f.to) }
     ensures refused { IfErr result (λ e. Refused input.now.tokens.now depth (separated (t kind.Identifier)) at e) }
 {
-    let mut list = Vec::new(input.alloc);
-    let first = identifier(input, at)?;
-    list.push(first.value)?;
-    let mut to = first.to;
-    while stands(input, to, TokenKind::Comma) {
-        let comma = take(input, to, TokenKind::Comma)?;
-        let next = identifier(input, comma)?;
-        list.push(next.value)?;
-        to = next.to;
-    }
-    Ok(Found { value: list, to })
+    comma_list::<NamePart, _>(input, at, depth, |place, inner| {
+        name(input, place, inner)
+    })
 }
 
 /// A declared name.
@@ -136,6 +153,21 @@ pub(crate) fn plain_declarator(
     })
 }
 
+/// A declared name, as a part of a list.
+struct PlainPart;
+
+impl Part for PlainPart {
+    type Value = Declarator;
+
+    ghost Tree = { tree.Declarator };
+
+    ghost phrase = { t kind.Identifier };
+
+    ghost meaning = { meaning.plain_name };
+
+    ghost view = { view.declarator };
+}
+
 /// Declared names, with commas between them.
 fn plain_declarators(
     input: &Input<'_>,
@@ -146,17 +178,9 @@ fn plain_declarators(
     ensures found { IfOk result (λ f. Parsed input.now (separated (t kind.Identifier)) (λ b d. meaning.list_of (meaning.plain_name b) d) depth at (map view.declarator f.value.items) f.to) }
     ensures refused { IfErr result (λ e. Refused input.now.tokens.now depth (separated (t kind.Identifier)) at e) }
 {
-    let mut list = Vec::new(input.alloc);
-    let first = plain_declarator(input, at, depth)?;
-    list.push(first.value)?;
-    let mut to = first.to;
-    while stands(input, to, TokenKind::Comma) {
-        let comma = take(input, to, TokenKind::Comma)?;
-        let next = plain_declarator(input, comma, depth)?;
-        list.push(next.value)?;
-        to = next.to;
-    }
-    Ok(Found { value: list, to })
+    comma_list::<PlainPart, _>(input, at, depth, |place, inner| {
+        plain_declarator(input, place, inner)
+    })
 }
 
 /// A declared net, and what it is assigned.
@@ -176,6 +200,21 @@ fn wire_declarator(input: &Input<'_>, at: u32, depth: u32) -> Result<Found<Decla
     })
 }
 
+/// A declared net, as a part of a list.
+struct WirePart;
+
+impl Part for WirePart {
+    type Value = Declarator;
+
+    ghost Tree = { tree.Declarator };
+
+    ghost phrase = { grammar.wire_name };
+
+    ghost meaning = { meaning.wire_of };
+
+    ghost view = { view.declarator };
+}
+
 /// Declared nets, with commas between them.
 fn wire_declarators(
     input: &Input<'_>,
@@ -186,17 +225,9 @@ fn wire_declarators(
     ensures found { IfOk result (λ f. Parsed input.now (separated grammar.wire_name) (λ b d. meaning.list_of (meaning.wire_of b) d) depth at (map view.declarator f.value.items) f.to) }
     ensures refused { IfErr result (λ e. Refused input.now.tokens.now depth (separated grammar.wire_name) at e) }
 {
-    let mut list = Vec::new(input.alloc);
-    let first = wire_declarator(input, at, depth)?;
-    list.push(first.value)?;
-    let mut to = first.to;
-    while stands(input, to, TokenKind::Comma) {
-        let comma = take(input, to, TokenKind::Comma)?;
-        let next = wire_declarator(input, comma, depth)?;
-        list.push(next.value)?;
-        to = next.to;
-    }
-    Ok(Found { value: list, to })
+    comma_list::<WirePart, _>(input, at, depth, |place, inner| {
+        wire_declarator(input, place, inner)
+    })
 }
 
 /// A declaration of registers.
@@ -362,23 +393,30 @@ pub(crate) fn setting(input: &Input<'_>, at: u32, depth: u32) -> Result<Found<Se
     })
 }
 
+/// A setting, as a part of a list.
+struct SettingPart;
+
+impl Part for SettingPart {
+    type Value = Setting;
+
+    ghost Tree = { tree.Setting };
+
+    ghost phrase = { r rule.ParameterSetting };
+
+    ghost meaning = { meaning.setting_of };
+
+    ghost view = { view.setting };
+}
+
 /// Settings, with commas between them.
 fn settings(input: &Input<'_>, at: u32, depth: u32) -> Result<Found<Vec<Setting>>, ParseError>
     requires shallow { depth ≤ 200 }
     ensures found { IfOk result (λ f. Parsed input.now (separated (r rule.ParameterSetting)) (λ b d. meaning.list_of (meaning.setting_of b) d) depth at (map view.setting f.value.items) f.to) }
     ensures refused { IfErr result (λ e. Refused input.now.tokens.now depth (separated (r rule.ParameterSetting)) at e) }
 {
-    let mut list = Vec::new(input.alloc);
-    let first = setting(input, at, depth)?;
-    list.push(first.value)?;
-    let mut to = first.to;
-    while stands(input, to, TokenKind::Comma) {
-        let comma = take(input, to, TokenKind::Comma)?;
-        let next = setting(input, comma, depth)?;
-        list.push(next.value)?;
-        to = next.to;
-    }
-    Ok(Found { value: list, to })
+    comma_list::<SettingPart, _>(input, at, depth, |place, inner| {
+        setting(input, place, inner)
+    })
 }
 
 /// A declaration of parameters.

@@ -9,11 +9,13 @@ ghost use Rattle.vs_grammar.specs.Meaning as meaning;
 ghost use Rattle.vs_grammar.specs.Predictive.{is_member};
 ghost use Rattle.vs_ast.specs.Views as view;
 ghost use Rattle.vs_parser.specs.Parts as part;
-ghost use Rattle.vs_phrase.specs.Reading.{Chosen, Parsed, Refused, kind_at};
+ghost use Rattle.vs_grammar.specs.Trees as tree;
+ghost use Rattle.vs_phrase.specs.Reading.{Answers, Chosen, Parsed, Refused, kind_at};
 
 use vs_ast::{AlwaysBlock, Assign, Edge, Event, EventControl, Item};
 use vs_lexer::TokenKind;
 use vs_phrase::ParseError;
+use vs_phrase::commas::{Part, comma_list};
 use vs_phrase::expressions::expression;
 use vs_phrase::input::{Found, Input};
 use vs_phrase::statements::{statement, target};
@@ -41,23 +43,30 @@ fn assign(input: &Input<'_>, at: u32, depth: u32) -> Result<Found<Assign>, Parse
     })
 }
 
+/// A target and what it is assigned, as a part of a list.
+struct AssignPart;
+
+impl Part for AssignPart {
+    type Value = Assign;
+
+    ghost Tree = { tree.Assign };
+
+    ghost phrase = { grammar.assignment };
+
+    ghost meaning = { meaning.assign_of };
+
+    ghost view = { view.assign };
+}
+
 /// Assignments, with commas between them.
 fn assign_list(input: &Input<'_>, at: u32, depth: u32) -> Result<Found<Vec<Assign>>, ParseError>
     requires shallow { depth ≤ 200 }
     ensures found { IfOk result (λ f. Parsed input.now (separated grammar.assignment) (λ b d. meaning.list_of (meaning.assign_of b) d) depth at (map view.assign f.value.items) f.to) }
     ensures refused { IfErr result (λ e. Refused input.now.tokens.now depth (separated grammar.assignment) at e) }
 {
-    let mut list = Vec::new(input.alloc);
-    let first = assign(input, at, depth)?;
-    list.push(first.value)?;
-    let mut to = first.to;
-    while stands(input, to, TokenKind::Comma) {
-        let comma = take(input, to, TokenKind::Comma)?;
-        let next = assign(input, comma, depth)?;
-        list.push(next.value)?;
-        to = next.to;
-    }
-    Ok(Found { value: list, to })
+    comma_list::<AssignPart, _>(input, at, depth, |place, inner| {
+        assign(input, place, inner)
+    })
 }
 
 /// Continuous assignments.

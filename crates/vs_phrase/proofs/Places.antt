@@ -21,8 +21,9 @@ use Rattle.vs_grammar.specs.Predictive.Sinks.{k_seq, k_then, k_former, k_latter,
 use Rattle.vs_grammar.specs.Kinds.{number_of, end_of_text, terminals_from}
 use Rattle.vs_grammar.specs.Verilog.{verilog}
 use Rattle.vs_grammar.specs.Meaning.{D}
-use Rattle.vs_phrase.specs.Reading.{first_kind, kind_at, from, terminal_at, Took, Read, Grown, Missing, Refused, Parsed, bytes_in}
+use Rattle.vs_phrase.specs.Reading.{first_kind, kind_at, from, terminal_at, Took, Read, Grown, Missing, Refused, Parsed, Answers, bytes_in}
 use Rattle.vs_phrase.specs.declared.input.Input.{Input}
+use Rattle.vs_phrase.specs.declared.input.Found.{Found}
 use Rattle.vs_phrase.specs.Reading.Missing.{missing, no_memory}
 use Rattle.vs_phrase.specs.Reading.Refused.{stopped, too_deep, out_of_memory}
 use Rattle.vs_phrase.specs.declared.error.ParseError.{ParseError}
@@ -252,6 +253,10 @@ err_more (Err e) h f = f e h
 -- a refusal that is passed on
 pub refused_exit : {A : Type 0} {ts : List Token} {d : ℕ} {x : Phrase} {i : ℕ} (r : Result A ParseError) (e : ParseError) → IsErrAnd r (λ y. y ≡ e) → Refused ts d x i e → IfErr r (λ y. Refused ts d x i y)
 refused_exit {A} {ts} {d} {x} {i} r e h q = let p = err_from_is_err_and r h in rw p.1 (subst (λ y. Refused ts d x i y) (sym p.2) q)
+
+-- the same of a whole answer
+pub answers_exit : {A T : Type 0} (input : Input) (x : Phrase) (of : (ℕ → List ℕ) → D x → A) (view : T → A) (d i : ℕ) (r : Result (Found T) ParseError) (e : ParseError) → IsErrAnd r (λ y. y ≡ e) → Refused input.tokens.now d x i e → Answers input x of view d i r
+answers_exit input x of view d i r e h q = let p = err_from_is_err_and r h in rw p.1 (subst (λ y. Refused input.tokens.now d x i y) (sym p.2) q)
 
 pub refused_memory : {ts : List Token} {d : ℕ} {x : Phrase} {i : ℕ} {e : ParseError} → e ≡ Memory → Refused ts d x i e
 refused_memory {ts} {d} {x} {i} e = subst (λ y. Refused ts d x i y) (sym e) out_of_memory

@@ -1,5 +1,5 @@
 -- Reading by places: the terminals from a token on, and what is read or refused there.
-use Rattle.std.specs.Prelude.{◌≡◌, ℕ, ◌+◌, ◌<◌, ◌≤◌, Bool, true, false, List, [], ◌∷◌, ◌++◌, ◌⊎◌, drop, length, map, max}
+use Rattle.std.specs.Prelude.{◌≡◌, ℕ, ◌+◌, ◌<◌, ◌≤◌, Bool, true, false, List, [], ◌∷◌, ◌++◌, ◌⊎◌, drop, length, map, max, Result, MatchResult}
 use Rattle.vs_lexer.specs.declared.token.Token.{Token}
 use Rattle.vs_lexer.specs.Cuts.{spelling_of}
 use Rattle.vs_lexer.specs.declared.token.TokenKind.{TokenKind}
@@ -15,6 +15,7 @@ use Rattle.vs_grammar.specs.Meaning.{D, first_place, each_onto, behind_sign, nam
 use Rattle.vs_ast.specs.declared.expressions.Expr.{Expr as ExprNode}
 use Rattle.vs_ast.specs.Views as view
 use Rattle.vs_phrase.specs.declared.input.Input.{Input}
+use Rattle.vs_phrase.specs.declared.input.Found.{Found}
 use Rattle.vs_phrase.specs.declared.error.ParseError.{ParseError}
 use Rattle.vs_phrase.specs.declared.error.ParseError.TheVariants.{Syntax, TooDeep, Memory}
 
@@ -77,6 +78,10 @@ pub record Parsed {A : Type 0} (input : Input) (x : Phrase) (of : (ℕ → List 
   pub tree : D x
   pub read : Read input.tokens.now d x tree i j
   pub made : of (bytes_in input) tree ≡ value
+
+-- what a reader answers at place i with d levels around it: x, which stands for the value as it is seen, or what refuses x
+abbrev pub Answers : {A T : Type 0} (input : Input) (x : Phrase) → ((ℕ → List ℕ) → D x → A) → (T → A) → ℕ → ℕ → Result (Found T) ParseError → Type 0
+Answers input x of view d i r = MatchResult r (λ f. Parsed input x of d i (view f.value) f.to) (λ e. Refused input.tokens.now d x i e)
 
 -- ---- lists
 

@@ -6,13 +6,15 @@ ghost use Rattle.vs_grammar.specs.Predictive.{is_member};
 ghost use Rattle.vs_grammar.specs.Verilog.{Rule as rule, r, t, ◌⨾◌, expression_firsts, separated};
 ghost use Rattle.vs_grammar.specs.Verilog as grammar;
 ghost use Rattle.vs_grammar.specs.Kinds.{numbers_of};
+ghost use Rattle.vs_grammar.specs.Trees as tree;
 ghost use Rattle.vs_lexer.specs.declared.token.TokenKind.TheVariants as kind;
 ghost use Rattle.vs_grammar.specs.Meaning as meaning;
 ghost use Rattle.vs_ast.specs.Views as view;
 ghost use Rattle.vs_phrase.specs.Levels.{level_of, level_op, level_operator, level_phrase, table_of};
 ghost use Rattle.vs_phrase.specs.Parts as part;
-ghost use Rattle.vs_phrase.specs.Reading.{Chosen, Measured, MeasuredList, Parsed, Refused, kind_at, kinds_in};
+ghost use Rattle.vs_phrase.specs.Reading.{Answers, Chosen, Measured, MeasuredList, Parsed, Refused, kind_at, kinds_in};
 
+use crate::commas::{Part, comma_list};
 use crate::error::ParseError;
 use crate::input::{Found, Input, Nested};
 use crate::levels::{Level, below, is_unary, operators};
@@ -412,17 +414,40 @@ pub fn is_expression_at(input: &Input<'_>, at: u32) -> bool
     stands_any(input, at, &EXPRESSION_KINDS)
 }
 
+/// An expression, whose levels nobody asks for.
+fn plain_expression(input: &Input<'_>, at: u32, depth: u32) -> Result<Found<Expr>, ParseError>
+    requires shallow { depth ≤ 200 }
+    ensures { Answers input.now (r rule.Expression) meaning.expr_of view.expr depth at result }
+{
+    let found = expression(input, at, depth)?;
+    Ok(Found {
+        value: found.value,
+        to: found.to,
+    })
+}
+
+/// An expression, as a part of a list.
+struct ExpressionPart;
+
+impl Part for ExpressionPart {
+    type Value = Expr;
+
+    ghost Tree = { tree.Expr };
+
+    ghost phrase = { r rule.Expression };
+
+    ghost meaning = { meaning.expr_of };
+
+    ghost view = { view.expr };
+}
+
 /// Expressions, with commas between them.
 pub fn expressions(input: &Input<'_>, at: u32, depth: u32) -> Result<Found<Vec<Expr>>, ParseError>
     requires shallow { depth ≤ 200 }
     ensures found { IfOk result (λ f. Parsed input.now (separated (r rule.Expression)) (λ b d. meaning.list_of (meaning.expr_of b) d) depth at (map view.expr f.value.items) f.to) }
     ensures refused { IfErr result (λ e. Refused input.now.tokens.now depth (separated (r rule.Expression)) at e) }
 {
-    let first = expression(input, at, depth)?;
-    let list = one(input.alloc, first.value)?;
-    let rest = more_expressions(input, first.to, depth, list, first.height)?;
-    Ok(Found {
-        value: rest.value,
-        to: rest.to,
+    comma_list::<ExpressionPart, _>(input, at, depth, |place, inner| {
+        plain_expression(input, place, inner)
     })
 }

@@ -9,8 +9,9 @@ ghost use Rattle.vs_grammar.specs.Trees as tree;
 ghost use Rattle.vs_grammar.specs.Predictive.{is_member};
 ghost use Rattle.vs_ast.specs.Views as view;
 ghost use Rattle.vs_phrase.specs.Parts as part;
-ghost use Rattle.vs_phrase.specs.Reading.{Chosen, Parsed, Refused, kind_at};
+ghost use Rattle.vs_phrase.specs.Reading.{Answers, Chosen, Parsed, Refused, kind_at};
 
+use crate::commas::{Part, comma_list};
 use crate::error::ParseError;
 use crate::expressions::{expression, expressions, is_expression_at, select};
 use crate::input::{Found, Input};
@@ -108,6 +109,21 @@ fn targets(input: &Input<'_>, at: u32, depth: u32) -> Result<Found<Target>, Pars
     Ok(Found { value, to: close })
 }
 
+/// What is assigned to, as a part of a list.
+struct TargetPart;
+
+impl Part for TargetPart {
+    type Value = Target;
+
+    ghost Tree = { tree.Target };
+
+    ghost phrase = { r rule.Target };
+
+    ghost meaning = { meaning.target_of };
+
+    ghost view = { view.target };
+}
+
 /// Targets, with commas between them.
 #[cycle(targets)]
 fn target_list(input: &Input<'_>, at: u32, depth: u32) -> Result<Found<Vec<Target>>, ParseError>
@@ -115,17 +131,11 @@ fn target_list(input: &Input<'_>, at: u32, depth: u32) -> Result<Found<Vec<Targe
     ensures found { IfOk result (λ f. Parsed input.now (separated (r rule.Target)) (λ b d. meaning.list_of (meaning.target_of b) d) depth at (map view.target f.value.items) f.to) }
     ensures refused { IfErr result (λ e. Refused input.now.tokens.now depth (separated (r rule.Target)) at e) }
 {
-    let mut list = Vec::new(input.alloc);
-    let first = target(input, at, depth)?;
-    list.push(first.value)?;
-    let mut to = first.to;
-    while stands(input, to, TokenKind::Comma) {
-        let comma = take(input, to, TokenKind::Comma)?;
-        let next = target(input, comma, depth)?;
-        list.push(next.value)?;
-        to = next.to;
-    }
-    Ok(Found { value: list, to })
+    let read = |place: u32, _inner: u32| -> Result<Found<Target>, ParseError>
+        requires { depth ≤ 200 }
+        ensures { Answers input.entry.now (r rule.Target) meaning.target_of view.target depth place result }
+    { target(input, place, depth) };
+    comma_list::<TargetPart, _>(input, at, depth, read)
 }
 
 /// A statement.

@@ -35,30 +35,3 @@ targets-returns-in_err-close-clause-refused t c = refused_exit c.from_residual-i
 
 pub targets-returns-clause-found : goal.targets-returns-clause-found
 targets-returns-clause-found t c = parsed (read_level c.in_ok-inner.ensures.inside.0 (read_seq (read_tok c.in_ok-inner.ensures.inside.1 c.in_ok-open.ensures.read) (read_seq c.in_ok-list.ensures.found.read (read_tok c.in_ok-inner.ensures.inside.1 c.in_ok-close.ensures.read)))) (targets_made (bytes_in c.args.input.now) _ c.in_ok-list.ensures.found.tree _ c.in_ok-list.list.value.items c.in_ok-list.ensures.found.made ∙ sym c.new_concatenation-value.ensures)
-
-pub target_list-returns-in_err-first-clause-refused : goal.target_list-returns-in_err-first-clause-refused
-target_list-returns-in_err-first-clause-refused t c = refused_exit c.from_residual.result c.in_err-first.field-0.0 c.from_residual.ensures.1 (refused_seq c.in_err-first.ensures.refused)
-
-pub target_list-returns-in_err-push-clause-refused : goal.target_list-returns-in_err-push-clause-refused
-target_list-returns-in_err-push-clause-refused t c = refused_exit c.from_residual-in_err-push.result Memory c.from_residual-in_err-push.ensures.1 out_of_memory
-
-pub target_list-loop-list-init : goal.target_list-loop-list-init
-target_list-loop-list-init t c = listed_start c.in_ok-first.first.value _ c.requires.shallow c.in_ok-first.ensures.found.read c.in_ok-first.ensures.found.made (pushed_first c.new-list.ensures.items c.in_ok-push.ensures.items)
-
-pub target_list-returns-in_err-comma-clause-refused : goal.target_list-returns-in_err-comma-clause-refused
-target_list-returns-in_err-comma-clause-refused t c = refused_exit c.from_residual-in_err-comma.result c.in_err-comma.field-0.0 c.from_residual-in_err-comma.ensures.1 (refused_then c.loop-list.invariant.read (refused_more c.loop-list.invariant.grown (one_true _ c.stands.result c.stands.ensures c.loop-list-test.true) (refused_seq (refused_missing c.in_err-comma.ensures.refused))))
-
-pub target_list-returns-in_err-next-clause-refused : goal.target_list-returns-in_err-next-clause-refused
-target_list-returns-in_err-next-clause-refused t c = refused_exit c.from_residual-in_err-next.result c.in_err-next.field-0.0 c.from_residual-in_err-next.ensures.1 (refused_then c.loop-list.invariant.read (refused_more c.loop-list.invariant.grown (one_true _ c.stands.result c.stands.ensures c.loop-list-test.true) (refused_then (read_tok c.requires.shallow c.in_ok-comma.ensures.read) c.in_err-next.ensures.refused)))
-
-pub target_list-returns-in_err-push-2-clause-refused : goal.target_list-returns-in_err-push-2-clause-refused
-target_list-returns-in_err-push-2-clause-refused t c = refused_exit c.from_residual-in_err-push-2.result Memory c.from_residual-in_err-push-2.ensures.1 out_of_memory
-
-pub target_list-loop-list-smaller : goal.target_list-loop-list-smaller
-target_list-loop-list-smaller t c = shorter (read_seq (read_tok c.requires.shallow c.in_ok-comma.ensures.read) c.in_ok-next.ensures.found.read) refl
-
-pub target_list-loop-list-preserved : goal.target_list-loop-list-preserved
-target_list-loop-list-preserved t c = listed_more c.in_ok-next.next.value _ c.loop-list.invariant (one_true _ c.stands.result c.stands.ensures c.loop-list-test.true) (read_seq (read_tok c.requires.shallow c.in_ok-comma.ensures.read) c.in_ok-next.ensures.found.read) c.in_ok-next.ensures.found.made c.in_ok-push-2.ensures.items
-
-pub target_list-returns-clause-found : goal.target_list-returns-clause-found
-target_list-returns-clause-found t c = listed_done c.loop-list.invariant (one_false _ c.stands.result c.stands.ensures c.loop-list-test.false)
