@@ -1,6 +1,6 @@
 //! Instances of modules, and what their ports and parameters are connected to (IEEE 1364-2005, A.4).
 
-ghost use Rattle.std.specs.Prelude.{◌≡◌, ◌≤◌, IfOk, IfErr, Ok, Option, map};
+ghost use Rattle.std.specs.Prelude.{◌≡◌, ◌≤◌, Ok, Option, map};
 ghost use Rattle.vs_grammar.specs.Grammars.{opt};
 ghost use Rattle.vs_grammar.specs.Verilog.{Rule as rule, r, separated};
 ghost use Rattle.vs_grammar.specs.Verilog as grammar;
@@ -8,12 +8,13 @@ ghost use Rattle.vs_grammar.specs.Meaning as meaning;
 ghost use Rattle.vs_ast.specs.Views as view;
 ghost use Rattle.vs_parser.specs.Parts as part;
 ghost use Rattle.vs_grammar.specs.Trees as tree;
-ghost use Rattle.vs_phrase.specs.Reading.{Answers, Parsed, Refused};
+ghost use Rattle.vs_phrase.specs.Reading.{Answers};
 
 use vs_ast::{Connections, Expr, Instance, Instances, Item, NamedConnection};
 use vs_lexer::TokenKind;
 use vs_phrase::ParseError;
 use vs_phrase::commas::{Part, comma_list};
+use vs_phrase::depth::Depth;
 use vs_phrase::expressions::{expression, is_expression_at};
 use vs_phrase::input::{Found, Input};
 use vs_phrase::tokens::{stands, take};
@@ -23,11 +24,9 @@ use vs_phrase::words::identifier;
 fn optional_expression(
     input: &Input<'_>,
     at: u32,
-    depth: u32,
+    depth: Depth,
 ) -> Result<Found<Option<Expr>>, ParseError>
-    requires shallow { depth ≤ 200 }
-    ensures found { IfOk result (λ f. Parsed input.now (opt (r rule.Expression)) (λ b d. meaning.option_of (meaning.expr_of b) d) depth at (view.option view.expr f.value) f.to) }
-    ensures refused { IfErr result (λ e. Refused input.now.tokens.now depth (opt (r rule.Expression)) at e) }
+    ensures { Answers input.now (opt (r rule.Expression)) (λ b d. meaning.option_of (meaning.expr_of b) d) (view.option view.expr) depth at result }
 {
     if !is_expression_at(input, at) {
         return Ok(Found {
@@ -61,11 +60,9 @@ impl Part for OptionalPart {
 fn expressions_by_order(
     input: &Input<'_>,
     at: u32,
-    depth: u32,
+    depth: Depth,
 ) -> Result<Found<Vec<Option<Expr>>>, ParseError>
-    requires shallow { depth ≤ 200 }
-    ensures found { IfOk result (λ f. Parsed input.now (separated (opt (r rule.Expression))) (λ b d. meaning.list_of (meaning.option_of (meaning.expr_of b)) d) depth at (map (view.option view.expr) f.value.items) f.to) }
-    ensures refused { IfErr result (λ e. Refused input.now.tokens.now depth (separated (opt (r rule.Expression))) at e) }
+    ensures { Answers input.now (separated (opt (r rule.Expression))) (λ b d. meaning.list_of (meaning.option_of (meaning.expr_of b)) d) (λ v. map (view.option view.expr) v.items) depth at result }
 {
     comma_list::<OptionalPart, _>(input, at, depth, |place, inner| {
         optional_expression(input, place, inner)
@@ -76,11 +73,9 @@ fn expressions_by_order(
 fn named_connection(
     input: &Input<'_>,
     at: u32,
-    depth: u32,
+    depth: Depth,
 ) -> Result<Found<NamedConnection>, ParseError>
-    requires shallow { depth ≤ 200 }
-    ensures found { IfOk result (λ f. Parsed input.now grammar.named_connection meaning.connection_of depth at (view.named_connection f.value) f.to) }
-    ensures refused { IfErr result (λ e. Refused input.now.tokens.now depth grammar.named_connection at e) }
+    ensures { Answers input.now grammar.named_connection meaning.connection_of view.named_connection depth at result }
 {
     let dot = take(input, at, TokenKind::Dot)?;
     let name = identifier(input, dot)?;
@@ -115,11 +110,9 @@ impl Part for ConnectionPart {
 fn named_connections(
     input: &Input<'_>,
     at: u32,
-    depth: u32,
+    depth: Depth,
 ) -> Result<Found<Vec<NamedConnection>>, ParseError>
-    requires shallow { depth ≤ 200 }
-    ensures found { IfOk result (λ f. Parsed input.now (separated grammar.named_connection) (λ b d. meaning.list_of (meaning.connection_of b) d) depth at (map view.named_connection f.value.items) f.to) }
-    ensures refused { IfErr result (λ e. Refused input.now.tokens.now depth (separated grammar.named_connection) at e) }
+    ensures { Answers input.now (separated grammar.named_connection) (λ b d. meaning.list_of (meaning.connection_of b) d) (λ v. map view.named_connection v.items) depth at result }
 {
     comma_list::<ConnectionPart, _>(input, at, depth, |place, inner| {
         named_connection(input, place, inner)
@@ -144,10 +137,8 @@ fn by_order(list: Vec<Option<Expr>>) -> Connections
 }
 
 /// What ports or parameters are connected to.
-fn connections(input: &Input<'_>, at: u32, depth: u32) -> Result<Found<Connections>, ParseError>
-    requires shallow { depth ≤ 200 }
-    ensures found { IfOk result (λ f. Parsed input.now (r rule.Connections) meaning.connections_of depth at (view.connections f.value) f.to) }
-    ensures refused { IfErr result (λ e. Refused input.now.tokens.now depth (r rule.Connections) at e) }
+fn connections(input: &Input<'_>, at: u32, depth: Depth) -> Result<Found<Connections>, ParseError>
+    ensures { Answers input.now (r rule.Connections) meaning.connections_of view.connections depth at result }
 {
     if stands(input, at, TokenKind::Dot) {
         let named = named_connections(input, at, depth)?;
@@ -165,10 +156,8 @@ fn connections(input: &Input<'_>, at: u32, depth: u32) -> Result<Found<Connectio
 }
 
 /// The parameters that instances are given.
-fn overrides(input: &Input<'_>, at: u32, depth: u32) -> Result<Found<Connections>, ParseError>
-    requires shallow { depth ≤ 200 }
-    ensures found { IfOk result (λ f. Parsed input.now grammar.overrides meaning.overrides_of depth at (view.connections f.value) f.to) }
-    ensures refused { IfErr result (λ e. Refused input.now.tokens.now depth grammar.overrides at e) }
+fn overrides(input: &Input<'_>, at: u32, depth: Depth) -> Result<Found<Connections>, ParseError>
+    ensures { Answers input.now grammar.overrides meaning.overrides_of view.connections depth at result }
 {
     if !stands(input, at, TokenKind::Hash) {
         return Ok(Found {
@@ -187,10 +176,8 @@ fn overrides(input: &Input<'_>, at: u32, depth: u32) -> Result<Found<Connections
 }
 
 /// An instance.
-fn instance(input: &Input<'_>, at: u32, depth: u32) -> Result<Found<Instance>, ParseError>
-    requires shallow { depth ≤ 200 }
-    ensures found { IfOk result (λ f. Parsed input.now (r rule.Instance) meaning.instance_of depth at (view.instance f.value) f.to) }
-    ensures refused { IfErr result (λ e. Refused input.now.tokens.now depth (r rule.Instance) at e) }
+fn instance(input: &Input<'_>, at: u32, depth: Depth) -> Result<Found<Instance>, ParseError>
+    ensures { Answers input.now (r rule.Instance) meaning.instance_of view.instance depth at result }
 {
     let name = identifier(input, at)?;
     let open = take(input, name.to, TokenKind::OpenParen)?;
@@ -221,10 +208,12 @@ impl Part for InstancePart {
 }
 
 /// Instances, with commas between them.
-fn instance_list(input: &Input<'_>, at: u32, depth: u32) -> Result<Found<Vec<Instance>>, ParseError>
-    requires shallow { depth ≤ 200 }
-    ensures found { IfOk result (λ f. Parsed input.now (separated (r rule.Instance)) (λ b d. meaning.list_of (meaning.instance_of b) d) depth at (map view.instance f.value.items) f.to) }
-    ensures refused { IfErr result (λ e. Refused input.now.tokens.now depth (separated (r rule.Instance)) at e) }
+fn instance_list(
+    input: &Input<'_>,
+    at: u32,
+    depth: Depth,
+) -> Result<Found<Vec<Instance>>, ParseError>
+    ensures { Answers input.now (separated (r rule.Instance)) (λ b d. meaning.list_of (meaning.instance_of b) d) (λ v. map view.instance v.items) depth at result }
 {
     comma_list::<InstancePart, _>(input, at, depth, |place, inner| {
         instance(input, place, inner)
@@ -232,10 +221,8 @@ fn instance_list(input: &Input<'_>, at: u32, depth: u32) -> Result<Found<Vec<Ins
 }
 
 /// Instances of one module.
-pub(crate) fn instances(input: &Input<'_>, at: u32, depth: u32) -> Result<Found<Item>, ParseError>
-    requires shallow { depth ≤ 200 }
-    ensures found { IfOk result (λ f. Parsed input.now grammar.instance_item meaning.instance_item_of depth at (view.item f.value) f.to) }
-    ensures refused { IfErr result (λ e. Refused input.now.tokens.now depth grammar.instance_item at e) }
+pub(crate) fn instances(input: &Input<'_>, at: u32, depth: Depth) -> Result<Found<Item>, ParseError>
+    ensures { Answers input.now grammar.instance_item meaning.instance_item_of view.item depth at result }
 {
     let module = identifier(input, at)?;
     let overrides = overrides(input, module.to, depth)?;

@@ -13,9 +13,12 @@ use Rattle.vs_grammar.specs.Verilog.{Rule as rule, ◌⨾◌, verilog, t, r}
 use Rattle.vs_grammar.specs.Trees.{Name, Expr, BinaryOp}
 use Rattle.vs_grammar.specs.Meaning.{D, first_place, each_onto, behind_sign, name_at, expr_of}
 use Rattle.vs_ast.specs.declared.expressions.Expr.{Expr as ExprNode}
+use Rattle.vs_ast.specs.declared.names.Name.{Name as NameNode}
 use Rattle.vs_ast.specs.Views as view
+use Rattle.vs_phrase.specs.declared.depth.Depth.{Depth}
 use Rattle.vs_phrase.specs.declared.input.Input.{Input}
 use Rattle.vs_phrase.specs.declared.input.Found.{Found}
+use Rattle.vs_phrase.specs.declared.input.Nested.{Nested}
 use Rattle.vs_phrase.specs.declared.error.ParseError.{ParseError}
 use Rattle.vs_phrase.specs.declared.error.ParseError.TheVariants.{Syntax, TooDeep, Memory}
 
@@ -78,10 +81,6 @@ pub record Parsed {A : Type 0} (input : Input) (x : Phrase) (of : (ℕ → List 
   pub tree : D x
   pub read : Read input.tokens.now d x tree i j
   pub made : of (bytes_in input) tree ≡ value
-
--- what a reader answers at place i with d levels around it: x, which stands for the value as it is seen, or what refuses x
-abbrev pub Answers : {A T : Type 0} (input : Input) (x : Phrase) → ((ℕ → List ℕ) → D x → A) → (T → A) → ℕ → ℕ → Result (Found T) ParseError → Type 0
-Answers input x of view d i r = MatchResult r (λ f. Parsed input x of d i (view f.value) f.to) (λ e. Refused input.tokens.now d x i e)
 
 -- ---- lists
 
@@ -164,3 +163,21 @@ pub record Gathering (input : Input) (first : List ExprNode) (first_height d i :
   pub grown : Grown input.tokens.now d false eps (t kind.Comma ⨾ r rule.Expression) tree i j
   pub made : (rest : List Expr) → map view.expr first ++ each_onto (behind_sign (expr_of (bytes_in input))) tree rest ≡ map view.expr list ++ rest
   pub high : height ≡ max first_height (depth tree)
+
+-- ---- what readers answer
+
+-- at place i, at the depth d: x, which stands for the value as it is seen, or what refuses x
+abbrev pub Answers : {A T : Type 0} (input : Input) (x : Phrase) → ((ℕ → List ℕ) → D x → A) → (T → A) → Depth → ℕ → Result (Found T) ParseError → Type 0
+Answers input x of view d i r = MatchResult r (λ f. Parsed input x of d.value i (view f.value) f.to) (λ e. Refused input.tokens.now d.value x i e)
+
+-- the same, with the number of levels of what was read
+abbrev pub AnswersNested : {A T : Type 0} (input : Input) (x : Phrase) → ((ℕ → List ℕ) → D x → A) → (T → A) → Depth → ℕ → Result (Nested T) ParseError → Type 0
+AnswersNested input x of view d i r = MatchResult r (λ f. Measured input x of d.value i (view f.value) f.to f.height) (λ e. Refused input.tokens.now d.value x i e)
+
+-- a token of kind k stands at place i, and the place behind it is answered, or k is missing there
+abbrev pub Takes : List Token → ℕ → ℕ → Result ℕ ParseError → Type 0
+Takes ts k i r = MatchResult r (λ j. Took ts k i j) (λ e. Missing ts (tok k) i e)
+
+-- a name stands at place i, or is missing there
+abbrev pub Names : Input → ℕ → Result (Found NameNode) ParseError → Type 0
+Names input i r = MatchResult r (λ f. Word input i (view.name f.value) f.to) (λ e. Missing input.tokens.now (t kind.Identifier) i e)

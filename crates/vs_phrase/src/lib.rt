@@ -2,6 +2,7 @@
 #![tactic(auto)]
 
 pub mod commas;
+pub mod depth;
 mod error;
 pub mod expressions;
 pub mod input;
