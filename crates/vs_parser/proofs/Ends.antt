@@ -114,9 +114,6 @@ text_read {input} {value} {j} cut kept p h =
       };
     }
 
-pub fault_exit : {A : Type 0} (ts : List Token) (r : Result A ParseError) (e : ParseError) → IsErrAnd r (λ y. y ≡ e) → Fault ts e → IfErr r (λ y. Fault ts y)
-fault_exit {A} ts r e h q = let p = err_from_is_err_and r h in rw p.1 (subst (λ y. Fault ts y) (sym p.2) q)
-
 -- ---- tokens that are left out
 
 no_kind : (ts : List Token) (n : ℕ) → length ts ≤ n → out.kind_at ts n ≡ None

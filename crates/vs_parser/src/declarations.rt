@@ -1,6 +1,6 @@
 //! Declarations (IEEE 1364-2005, A.2).
 
-ghost use Rattle.std.specs.Prelude.{◌≡◌, ◌≤◌, IfOk, IfErr, Ok, false, map};
+ghost use Rattle.std.specs.Prelude.{◌≡◌, ◌≤◌, Ok, false, map};
 ghost use Rattle.vs_lexer.specs.declared.token.TokenKind.TheVariants as kind;
 ghost use Rattle.vs_grammar.specs.Grammars.{opt};
 ghost use Rattle.vs_grammar.specs.Verilog.{Rule as rule, r, t, separated, ◌⨾◌};
@@ -8,21 +8,22 @@ ghost use Rattle.vs_grammar.specs.Verilog as grammar;
 ghost use Rattle.vs_grammar.specs.Meaning as meaning;
 ghost use Rattle.vs_ast.specs.Views as view;
 ghost use Rattle.vs_parser.specs.Parts as part;
-ghost use Rattle.vs_phrase.specs.Reading.{Parsed, Refused};
+ghost use Rattle.vs_grammar.specs.Trees as tree;
+ghost use Rattle.vs_phrase.specs.Reading.{Answers};
 
 use vs_ast::{Declarator, Expr, Item, Name, Parameters, Range, Setting, SignalKind, Signals};
 use vs_lexer::TokenKind;
 use vs_phrase::ParseError;
+use vs_phrase::commas::{Part, comma_list};
+use vs_phrase::depth::Depth;
 use vs_phrase::expressions::expression;
 use vs_phrase::input::{Found, Input};
 use vs_phrase::tokens::{optional, stands, take};
 use vs_phrase::words::identifier;
 
 /// The bounds of a vector.
-fn range(input: &Input<'_>, at: u32, depth: u32) -> Result<Found<Range>, ParseError>
-    requires shallow { depth ≤ 200 }
-    ensures found { IfOk result (λ f. Parsed input.now (r rule.Range) meaning.range_of depth at (view.range f.value) f.to) }
-    ensures refused { IfErr result (λ e. Refused input.now.tokens.now depth (r rule.Range) at e) }
+fn range(input: &Input<'_>, at: u32, depth: Depth) -> Result<Found<Range>, ParseError>
+    ensures { Answers input.now (r rule.Range) meaning.range_of view.range depth at result }
 {
     let open = take(input, at, TokenKind::OpenBracket)?;
     let left = expression(input, open, depth)?;
@@ -41,11 +42,9 @@ fn range(input: &Input<'_>, at: u32, depth: u32) -> Result<Found<Range>, ParseEr
 pub(crate) fn optional_range(
     input: &Input<'_>,
     at: u32,
-    depth: u32,
+    depth: Depth,
 ) -> Result<Found<Option<Range>>, ParseError>
-    requires shallow { depth ≤ 200 }
-    ensures found { IfOk result (λ f. Parsed input.now (opt (r rule.Range)) (λ b d. meaning.option_of (meaning.range_of b) d) depth at (view.option view.range f.value) f.to) }
-    ensures refused { IfErr result (λ e. Refused input.now.tokens.now depth (opt (r rule.Range)) at e) }
+    ensures { Answers input.now (opt (r rule.Range)) (λ b d. meaning.option_of (meaning.range_of b) d) (view.option view.range) depth at result }
 {
     if !stands(input, at, TokenKind::OpenBracket) {
         return Ok(Found {
@@ -61,10 +60,8 @@ pub(crate) fn optional_range(
 }
 
 /// The value behind a `=`.
-fn value_behind(input: &Input<'_>, at: u32, depth: u32) -> Result<Found<Expr>, ParseError>
-    requires shallow { depth ≤ 200 }
-    ensures found { IfOk result (λ f. Parsed input.now (t kind.Assign ⨾ r rule.Expression) (λ b d. meaning.behind_sign (meaning.expr_of b) d) depth at (view.expr f.value) f.to) }
-    ensures refused { IfErr result (λ e. Refused input.now.tokens.now depth (t kind.Assign ⨾ r rule.Expression) at e) }
+fn value_behind(input: &Input<'_>, at: u32, depth: Depth) -> Result<Found<Expr>, ParseError>
+    ensures { Answers input.now (t kind.Assign ⨾ r rule.Expression) (λ b d. meaning.behind_sign (meaning.expr_of b) d) view.expr depth at result }
 {
     let sign = take(input, at, TokenKind::Assign)?;
     let value = expression(input, sign, depth)?;
@@ -75,10 +72,12 @@ fn value_behind(input: &Input<'_>, at: u32, depth: u32) -> Result<Found<Expr>, P
 }
 
 /// The value behind a `=`, if there is one.
-fn optional_value(input: &Input<'_>, at: u32, depth: u32) -> Result<Found<Option<Expr>>, ParseError>
-    requires shallow { depth ≤ 200 }
-    ensures found { IfOk result (λ f. Parsed input.now (opt (t kind.Assign ⨾ r rule.Expression)) (λ b d. meaning.option_of (meaning.behind_sign (meaning.expr_of b)) d) depth at (view.option view.expr f.value) f.to) }
-    ensures refused { IfErr result (λ e. Refused input.now.tokens.now depth (opt (t kind.Assign ⨾ r rule.Expression)) at e) }
+fn optional_value(
+    input: &Input<'_>,
+    at: u32,
+    depth: Depth,
+) -> Result<Found<Option<Expr>>, ParseError>
+    ensures { Answers input.now (opt (t kind.Assign ⨾ r rule.Expression)) (λ b d. meaning.option_of (meaning.behind_sign (meaning.expr_of b)) d) (view.option view.expr) depth at result }
 {
     if !stands(input, at, TokenKind::Assign) {
         return Ok(Found {
@@ -93,38 +92,48 @@ fn optional_value(input: &Input<'_>, at: u32, depth: u32) -> Result<Found<Option
     })
 }
 
+/// A name.
+fn name(input: &Input<'_>, at: u32, depth: Depth) -> Result<Found<Name>, ParseError>
+    ensures { Answers input.now (t kind.Identifier) meaning.name_of view.name depth at result }
+{
+    identifier(input, at)
+}
+
+/// A name, as a part of a list.
+struct NamePart;
+
+impl Part for NamePart {
+    type Value = Name;
+
+    ghost Tree = { tree.Name };
+
+    ghost phrase = { t kind.Identifier };
+
+    ghost meaning = { meaning.name_of };
+
+    ghost view = { view.name };
+}
+
 /// Names, with commas between them.
 pub(crate) fn identifiers(
     input: &Input<'_>,
     at: u32,
-    depth: u32,
+    depth: Depth,
 ) -> Result<Found<Vec<Name>>, ParseError>
-    requires shallow { depth ≤ 200 }
-    ensures found { IfOk result (λ f. Parsed input.now (separated (t kind.Identifier)) (λ b d. meaning.list_of (meaning.name_of b) d) depth at (map view.name f.value.items) f.to) }
-    ensures refused { IfErr result (λ e. Refused input.now.tokens.now depth (separated (t kind.Identifier)) at e) }
+    ensures { Answers input.now (separated (t kind.Identifier)) (λ b d. meaning.list_of (meaning.name_of b) d) (λ v. map view.name v.items) depth at result }
 {
-    let mut list = Vec::new(input.alloc);
-    let first = identifier(input, at)?;
-    list.push(first.value)?;
-    let mut to = first.to;
-    while stands(input, to, TokenKind::Comma) {
-        let comma = take(input, to, TokenKind::Comma)?;
-        let next = identifier(input, comma)?;
-        list.push(next.value)?;
-        to = next.to;
-    }
-    Ok(Found { value: list, to })
+    comma_list::<NamePart, _>(input, at, depth, |place, inner| {
+        name(input, place, inner)
+    })
 }
 
 /// A declared name.
 pub(crate) fn plain_declarator(
     input: &Input<'_>,
     at: u32,
-    depth: u32,
+    depth: Depth,
 ) -> Result<Found<Declarator>, ParseError>
-    requires shallow { depth ≤ 200 }
-    ensures found { IfOk result (λ f. Parsed input.now (t kind.Identifier) meaning.plain_name depth at (view.declarator f.value) f.to) }
-    ensures refused { IfErr result (λ e. Refused input.now.tokens.now depth (t kind.Identifier) at e) }
+    ensures { Answers input.now (t kind.Identifier) meaning.plain_name view.declarator depth at result }
 {
     let name = identifier(input, at)?;
     Ok(Found {
@@ -136,34 +145,41 @@ pub(crate) fn plain_declarator(
     })
 }
 
+/// A declared name, as a part of a list.
+struct PlainPart;
+
+impl Part for PlainPart {
+    type Value = Declarator;
+
+    ghost Tree = { tree.Declarator };
+
+    ghost phrase = { t kind.Identifier };
+
+    ghost meaning = { meaning.plain_name };
+
+    ghost view = { view.declarator };
+}
+
 /// Declared names, with commas between them.
 fn plain_declarators(
     input: &Input<'_>,
     at: u32,
-    depth: u32,
+    depth: Depth,
 ) -> Result<Found<Vec<Declarator>>, ParseError>
-    requires shallow { depth ≤ 200 }
-    ensures found { IfOk result (λ f. Parsed input.now (separated (t kind.Identifier)) (λ b d. meaning.list_of (meaning.plain_name b) d) depth at (map view.declarator f.value.items) f.to) }
-    ensures refused { IfErr result (λ e. Refused input.now.tokens.now depth (separated (t kind.Identifier)) at e) }
+    ensures { Answers input.now (separated (t kind.Identifier)) (λ b d. meaning.list_of (meaning.plain_name b) d) (λ v. map view.declarator v.items) depth at result }
 {
-    let mut list = Vec::new(input.alloc);
-    let first = plain_declarator(input, at, depth)?;
-    list.push(first.value)?;
-    let mut to = first.to;
-    while stands(input, to, TokenKind::Comma) {
-        let comma = take(input, to, TokenKind::Comma)?;
-        let next = plain_declarator(input, comma, depth)?;
-        list.push(next.value)?;
-        to = next.to;
-    }
-    Ok(Found { value: list, to })
+    comma_list::<PlainPart, _>(input, at, depth, |place, inner| {
+        plain_declarator(input, place, inner)
+    })
 }
 
 /// A declared net, and what it is assigned.
-fn wire_declarator(input: &Input<'_>, at: u32, depth: u32) -> Result<Found<Declarator>, ParseError>
-    requires shallow { depth ≤ 200 }
-    ensures found { IfOk result (λ f. Parsed input.now grammar.wire_name meaning.wire_of depth at (view.declarator f.value) f.to) }
-    ensures refused { IfErr result (λ e. Refused input.now.tokens.now depth grammar.wire_name at e) }
+fn wire_declarator(
+    input: &Input<'_>,
+    at: u32,
+    depth: Depth,
+) -> Result<Found<Declarator>, ParseError>
+    ensures { Answers input.now grammar.wire_name meaning.wire_of view.declarator depth at result }
 {
     let name = identifier(input, at)?;
     let value = optional_value(input, name.to, depth)?;
@@ -176,34 +192,37 @@ fn wire_declarator(input: &Input<'_>, at: u32, depth: u32) -> Result<Found<Decla
     })
 }
 
+/// A declared net, as a part of a list.
+struct WirePart;
+
+impl Part for WirePart {
+    type Value = Declarator;
+
+    ghost Tree = { tree.Declarator };
+
+    ghost phrase = { grammar.wire_name };
+
+    ghost meaning = { meaning.wire_of };
+
+    ghost view = { view.declarator };
+}
+
 /// Declared nets, with commas between them.
 fn wire_declarators(
     input: &Input<'_>,
     at: u32,
-    depth: u32,
+    depth: Depth,
 ) -> Result<Found<Vec<Declarator>>, ParseError>
-    requires shallow { depth ≤ 200 }
-    ensures found { IfOk result (λ f. Parsed input.now (separated grammar.wire_name) (λ b d. meaning.list_of (meaning.wire_of b) d) depth at (map view.declarator f.value.items) f.to) }
-    ensures refused { IfErr result (λ e. Refused input.now.tokens.now depth (separated grammar.wire_name) at e) }
+    ensures { Answers input.now (separated grammar.wire_name) (λ b d. meaning.list_of (meaning.wire_of b) d) (λ v. map view.declarator v.items) depth at result }
 {
-    let mut list = Vec::new(input.alloc);
-    let first = wire_declarator(input, at, depth)?;
-    list.push(first.value)?;
-    let mut to = first.to;
-    while stands(input, to, TokenKind::Comma) {
-        let comma = take(input, to, TokenKind::Comma)?;
-        let next = wire_declarator(input, comma, depth)?;
-        list.push(next.value)?;
-        to = next.to;
-    }
-    Ok(Found { value: list, to })
+    comma_list::<WirePart, _>(input, at, depth, |place, inner| {
+        wire_declarator(input, place, inner)
+    })
 }
 
 /// A declaration of registers.
-pub(crate) fn regs(input: &Input<'_>, at: u32, depth: u32) -> Result<Found<Item>, ParseError>
-    requires shallow { depth ≤ 200 }
-    ensures found { IfOk result (λ f. Parsed input.now grammar.reg_item meaning.reg_item_of depth at (view.item f.value) f.to) }
-    ensures refused { IfErr result (λ e. Refused input.now.tokens.now depth grammar.reg_item at e) }
+pub(crate) fn regs(input: &Input<'_>, at: u32, depth: Depth) -> Result<Found<Item>, ParseError>
+    ensures { Answers input.now grammar.reg_item meaning.reg_item_of view.item depth at result }
 {
     let word = take(input, at, TokenKind::KeywordReg)?;
     let signed = optional(input, word, depth, TokenKind::KeywordSigned);
@@ -221,10 +240,8 @@ pub(crate) fn regs(input: &Input<'_>, at: u32, depth: u32) -> Result<Found<Item>
 }
 
 /// A declaration of nets.
-pub(crate) fn wires(input: &Input<'_>, at: u32, depth: u32) -> Result<Found<Item>, ParseError>
-    requires shallow { depth ≤ 200 }
-    ensures found { IfOk result (λ f. Parsed input.now grammar.wire_item meaning.wire_item_of depth at (view.item f.value) f.to) }
-    ensures refused { IfErr result (λ e. Refused input.now.tokens.now depth grammar.wire_item at e) }
+pub(crate) fn wires(input: &Input<'_>, at: u32, depth: Depth) -> Result<Found<Item>, ParseError>
+    ensures { Answers input.now grammar.wire_item meaning.wire_item_of view.item depth at result }
 {
     let word = take(input, at, TokenKind::KeywordWire)?;
     let signed = optional(input, word, depth, TokenKind::KeywordSigned);
@@ -245,11 +262,9 @@ pub(crate) fn wires(input: &Input<'_>, at: u32, depth: u32) -> Result<Found<Item
 pub(crate) fn direction(
     input: &Input<'_>,
     at: u32,
-    depth: u32,
+    depth: Depth,
 ) -> Result<Found<SignalKind>, ParseError>
-    requires shallow { depth ≤ 200 }
-    ensures found { IfOk result (λ f. Parsed input.now (r rule.Direction) (λ b d. meaning.port_kind d) depth at (view.signal_kind f.value) f.to) }
-    ensures refused { IfErr result (λ e. Refused input.now.tokens.now depth (r rule.Direction) at e) }
+    ensures { Answers input.now (r rule.Direction) (λ b d. meaning.port_kind d) view.signal_kind depth at result }
 {
     if stands(input, at, TokenKind::KeywordInput) {
         input_direction(input, at, depth)
@@ -270,10 +285,12 @@ fn input_kind(wire: bool) -> SignalKind
 }
 
 /// An input.
-fn input_direction(input: &Input<'_>, at: u32, depth: u32) -> Result<Found<SignalKind>, ParseError>
-    requires shallow { depth ≤ 200 }
-    ensures found { IfOk result (λ f. Parsed input.now (part.input_direction) (λ b d. meaning.port_kind (part.as_input d)) depth at (view.signal_kind f.value) f.to) }
-    ensures refused { IfErr result (λ e. Refused input.now.tokens.now depth (part.input_direction) at e) }
+fn input_direction(
+    input: &Input<'_>,
+    at: u32,
+    depth: Depth,
+) -> Result<Found<SignalKind>, ParseError>
+    ensures { Answers input.now (part.input_direction) (λ b d. meaning.port_kind (part.as_input d)) view.signal_kind depth at result }
 {
     let word = take(input, at, TokenKind::KeywordInput)?;
     let wire = optional(input, word, depth, TokenKind::KeywordWire);
@@ -284,10 +301,12 @@ fn input_direction(input: &Input<'_>, at: u32, depth: u32) -> Result<Found<Signa
 }
 
 /// An output.
-fn output_direction(input: &Input<'_>, at: u32, depth: u32) -> Result<Found<SignalKind>, ParseError>
-    requires shallow { depth ≤ 200 }
-    ensures found { IfOk result (λ f. Parsed input.now (part.output_direction) (λ b d. meaning.port_kind (part.as_output d)) depth at (view.signal_kind f.value) f.to) }
-    ensures refused { IfErr result (λ e. Refused input.now.tokens.now depth (part.output_direction) at e) }
+fn output_direction(
+    input: &Input<'_>,
+    at: u32,
+    depth: Depth,
+) -> Result<Found<SignalKind>, ParseError>
+    ensures { Answers input.now (part.output_direction) (λ b d. meaning.port_kind (part.as_output d)) view.signal_kind depth at result }
 {
     let word = take(input, at, TokenKind::KeywordOutput)?;
     let kind = output_kind(input, word, depth)?;
@@ -298,10 +317,8 @@ fn output_direction(input: &Input<'_>, at: u32, depth: u32) -> Result<Found<Sign
 }
 
 /// What an output is, by the word behind it.
-fn output_kind(input: &Input<'_>, at: u32, depth: u32) -> Result<Found<SignalKind>, ParseError>
-    requires shallow { depth ≤ 200 }
-    ensures found { IfOk result (λ f. Parsed input.now (part.output_words) part.output_kind depth at (view.signal_kind f.value) f.to) }
-    ensures refused { IfErr result (λ e. Refused input.now.tokens.now depth (part.output_words) at e) }
+fn output_kind(input: &Input<'_>, at: u32, depth: Depth) -> Result<Found<SignalKind>, ParseError>
+    ensures { Answers input.now (part.output_words) part.output_kind view.signal_kind depth at result }
 {
     if stands(input, at, TokenKind::KeywordWire) {
         let wire = take(input, at, TokenKind::KeywordWire)?;
@@ -324,10 +341,12 @@ fn output_kind(input: &Input<'_>, at: u32, depth: u32) -> Result<Found<SignalKin
 }
 
 /// A declaration of ports.
-pub(crate) fn ports_item(input: &Input<'_>, at: u32, depth: u32) -> Result<Found<Item>, ParseError>
-    requires shallow { depth ≤ 200 }
-    ensures found { IfOk result (λ f. Parsed input.now (part.ports_item) part.ports_item_tree depth at (view.item f.value) f.to) }
-    ensures refused { IfErr result (λ e. Refused input.now.tokens.now depth (part.ports_item) at e) }
+pub(crate) fn ports_item(
+    input: &Input<'_>,
+    at: u32,
+    depth: Depth,
+) -> Result<Found<Item>, ParseError>
+    ensures { Answers input.now (part.ports_item) part.ports_item_tree view.item depth at result }
 {
     let kind = direction(input, at, depth)?;
     let signed = optional(input, kind.to, depth, TokenKind::KeywordSigned);
@@ -345,10 +364,12 @@ pub(crate) fn ports_item(input: &Input<'_>, at: u32, depth: u32) -> Result<Found
 }
 
 /// A name and the value that it is given.
-pub(crate) fn setting(input: &Input<'_>, at: u32, depth: u32) -> Result<Found<Setting>, ParseError>
-    requires shallow { depth ≤ 200 }
-    ensures found { IfOk result (λ f. Parsed input.now (r rule.ParameterSetting) meaning.setting_of depth at (view.setting f.value) f.to) }
-    ensures refused { IfErr result (λ e. Refused input.now.tokens.now depth (r rule.ParameterSetting) at e) }
+pub(crate) fn setting(
+    input: &Input<'_>,
+    at: u32,
+    depth: Depth,
+) -> Result<Found<Setting>, ParseError>
+    ensures { Answers input.now (r rule.ParameterSetting) meaning.setting_of view.setting depth at result }
 {
     let name = identifier(input, at)?;
     let sign = take(input, name.to, TokenKind::Assign)?;
@@ -362,30 +383,37 @@ pub(crate) fn setting(input: &Input<'_>, at: u32, depth: u32) -> Result<Found<Se
     })
 }
 
+/// A setting, as a part of a list.
+struct SettingPart;
+
+impl Part for SettingPart {
+    type Value = Setting;
+
+    ghost Tree = { tree.Setting };
+
+    ghost phrase = { r rule.ParameterSetting };
+
+    ghost meaning = { meaning.setting_of };
+
+    ghost view = { view.setting };
+}
+
 /// Settings, with commas between them.
-fn settings(input: &Input<'_>, at: u32, depth: u32) -> Result<Found<Vec<Setting>>, ParseError>
-    requires shallow { depth ≤ 200 }
-    ensures found { IfOk result (λ f. Parsed input.now (separated (r rule.ParameterSetting)) (λ b d. meaning.list_of (meaning.setting_of b) d) depth at (map view.setting f.value.items) f.to) }
-    ensures refused { IfErr result (λ e. Refused input.now.tokens.now depth (separated (r rule.ParameterSetting)) at e) }
+fn settings(input: &Input<'_>, at: u32, depth: Depth) -> Result<Found<Vec<Setting>>, ParseError>
+    ensures { Answers input.now (separated (r rule.ParameterSetting)) (λ b d. meaning.list_of (meaning.setting_of b) d) (λ v. map view.setting v.items) depth at result }
 {
-    let mut list = Vec::new(input.alloc);
-    let first = setting(input, at, depth)?;
-    list.push(first.value)?;
-    let mut to = first.to;
-    while stands(input, to, TokenKind::Comma) {
-        let comma = take(input, to, TokenKind::Comma)?;
-        let next = setting(input, comma, depth)?;
-        list.push(next.value)?;
-        to = next.to;
-    }
-    Ok(Found { value: list, to })
+    comma_list::<SettingPart, _>(input, at, depth, |place, inner| {
+        setting(input, place, inner)
+    })
 }
 
 /// A declaration of parameters.
-pub(crate) fn parameters(input: &Input<'_>, at: u32, depth: u32) -> Result<Found<Item>, ParseError>
-    requires shallow { depth ≤ 200 }
-    ensures found { IfOk result (λ f. Parsed input.now (part.parameters_item) part.parameters_item_tree depth at (view.item f.value) f.to) }
-    ensures refused { IfErr result (λ e. Refused input.now.tokens.now depth (part.parameters_item) at e) }
+pub(crate) fn parameters(
+    input: &Input<'_>,
+    at: u32,
+    depth: Depth,
+) -> Result<Found<Item>, ParseError>
+    ensures { Answers input.now (part.parameters_item) part.parameters_item_tree view.item depth at result }
 {
     let word = take(input, at, TokenKind::KeywordParameter)?;
     let signed = optional(input, word, depth, TokenKind::KeywordSigned);
@@ -406,11 +434,9 @@ pub(crate) fn parameters(input: &Input<'_>, at: u32, depth: u32) -> Result<Found
 pub(crate) fn local_parameters(
     input: &Input<'_>,
     at: u32,
-    depth: u32,
+    depth: Depth,
 ) -> Result<Found<Item>, ParseError>
-    requires shallow { depth ≤ 200 }
-    ensures found { IfOk result (λ f. Parsed input.now grammar.local_item meaning.local_item_of depth at (view.item f.value) f.to) }
-    ensures refused { IfErr result (λ e. Refused input.now.tokens.now depth grammar.local_item at e) }
+    ensures { Answers input.now grammar.local_item meaning.local_item_of view.item depth at result }
 {
     let word = take(input, at, TokenKind::KeywordLocalParam)?;
     let signed = optional(input, word, depth, TokenKind::KeywordSigned);

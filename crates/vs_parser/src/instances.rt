@@ -1,44 +1,32 @@
 //! Instances of modules, and what their ports and parameters are connected to (IEEE 1364-2005, A.4).
 
-ghost use Rattle.std.specs.Prelude.{◌≡◌, ◌≤◌, IfOk, IfErr, Ok, map};
+ghost use Rattle.std.specs.Prelude.{◌≡◌, ◌≤◌, Ok, Option, map};
 ghost use Rattle.vs_grammar.specs.Grammars.{opt};
 ghost use Rattle.vs_grammar.specs.Verilog.{Rule as rule, r, separated};
 ghost use Rattle.vs_grammar.specs.Verilog as grammar;
 ghost use Rattle.vs_grammar.specs.Meaning as meaning;
 ghost use Rattle.vs_ast.specs.Views as view;
 ghost use Rattle.vs_parser.specs.Parts as part;
-ghost use Rattle.vs_phrase.specs.Reading.{Parsed, Refused};
+ghost use Rattle.vs_grammar.specs.Trees as tree;
+ghost use Rattle.vs_phrase.specs.Reading.{Answers};
 
 use vs_ast::{Connections, Expr, Instance, Instances, Item, NamedConnection};
 use vs_lexer::TokenKind;
 use vs_phrase::ParseError;
+use vs_phrase::commas::{Part, comma_list};
+use vs_phrase::depth::Depth;
 use vs_phrase::expressions::{expression, is_expression_at};
 use vs_phrase::input::{Found, Input};
 use vs_phrase::tokens::{stands, take};
 use vs_phrase::words::identifier;
 
-/// An expression.
-fn plain_expression(input: &Input<'_>, at: u32, depth: u32) -> Result<Found<Expr>, ParseError>
-    requires shallow { depth ≤ 200 }
-    ensures found { IfOk result (λ f. Parsed input.now (r rule.Expression) meaning.expr_of depth at (view.expr f.value) f.to) }
-    ensures refused { IfErr result (λ e. Refused input.now.tokens.now depth (r rule.Expression) at e) }
-{
-    let found = expression(input, at, depth)?;
-    Ok(Found {
-        value: found.value,
-        to: found.to,
-    })
-}
-
 /// An expression, if there is one.
 fn optional_expression(
     input: &Input<'_>,
     at: u32,
-    depth: u32,
+    depth: Depth,
 ) -> Result<Found<Option<Expr>>, ParseError>
-    requires shallow { depth ≤ 200 }
-    ensures found { IfOk result (λ f. Parsed input.now (opt (r rule.Expression)) (λ b d. meaning.option_of (meaning.expr_of b) d) depth at (view.option view.expr f.value) f.to) }
-    ensures refused { IfErr result (λ e. Refused input.now.tokens.now depth (opt (r rule.Expression)) at e) }
+    ensures { Answers input.now (opt (r rule.Expression)) (λ b d. meaning.option_of (meaning.expr_of b) d) (view.option view.expr) depth at result }
 {
     if !is_expression_at(input, at) {
         return Ok(Found {
@@ -46,45 +34,48 @@ fn optional_expression(
             to: at,
         });
     }
-    let inner = plain_expression(input, at, depth)?;
+    let inner = expression(input, at, depth)?;
     Ok(Found {
         value: Some(inner.value),
         to: inner.to,
     })
 }
 
+/// An expression or nothing, as a part of a list.
+struct OptionalPart;
+
+impl Part for OptionalPart {
+    type Value = Option<Expr>;
+
+    ghost Tree = { Option tree.Expr };
+
+    ghost phrase = { opt (r rule.Expression) };
+
+    ghost meaning = { λ b d. meaning.option_of (meaning.expr_of b) d };
+
+    ghost view = { view.option view.expr };
+}
+
 /// Expressions or nothing, with commas between them.
 fn expressions_by_order(
     input: &Input<'_>,
     at: u32,
-    depth: u32,
+    depth: Depth,
 ) -> Result<Found<Vec<Option<Expr>>>, ParseError>
-    requires shallow { depth ≤ 200 }
-    ensures found { IfOk result (λ f. Parsed input.now (separated (opt (r rule.Expression))) (λ b d. meaning.list_of (meaning.option_of (meaning.expr_of b)) d) depth at (map (view.option view.expr) f.value.items) f.to) }
-    ensures refused { IfErr result (λ e. Refused input.now.tokens.now depth (separated (opt (r rule.Expression))) at e) }
+    ensures { Answers input.now (separated (opt (r rule.Expression))) (λ b d. meaning.list_of (meaning.option_of (meaning.expr_of b)) d) (λ v. map (view.option view.expr) v.items) depth at result }
 {
-    let mut list = Vec::new(input.alloc);
-    let first = optional_expression(input, at, depth)?;
-    list.push(first.value)?;
-    let mut to = first.to;
-    while stands(input, to, TokenKind::Comma) {
-        let comma = take(input, to, TokenKind::Comma)?;
-        let next = optional_expression(input, comma, depth)?;
-        list.push(next.value)?;
-        to = next.to;
-    }
-    Ok(Found { value: list, to })
+    comma_list::<OptionalPart, _>(input, at, depth, |place, inner| {
+        optional_expression(input, place, inner)
+    })
 }
 
 /// A connection by name.
 fn named_connection(
     input: &Input<'_>,
     at: u32,
-    depth: u32,
+    depth: Depth,
 ) -> Result<Found<NamedConnection>, ParseError>
-    requires shallow { depth ≤ 200 }
-    ensures found { IfOk result (λ f. Parsed input.now grammar.named_connection meaning.connection_of depth at (view.named_connection f.value) f.to) }
-    ensures refused { IfErr result (λ e. Refused input.now.tokens.now depth grammar.named_connection at e) }
+    ensures { Answers input.now grammar.named_connection meaning.connection_of view.named_connection depth at result }
 {
     let dot = take(input, at, TokenKind::Dot)?;
     let name = identifier(input, dot)?;
@@ -100,27 +91,32 @@ fn named_connection(
     })
 }
 
+/// A connection by name, as a part of a list.
+struct ConnectionPart;
+
+impl Part for ConnectionPart {
+    type Value = NamedConnection;
+
+    ghost Tree = { tree.NamedConnection };
+
+    ghost phrase = { grammar.named_connection };
+
+    ghost meaning = { meaning.connection_of };
+
+    ghost view = { view.named_connection };
+}
+
 /// Connections by name, with commas between them.
 fn named_connections(
     input: &Input<'_>,
     at: u32,
-    depth: u32,
+    depth: Depth,
 ) -> Result<Found<Vec<NamedConnection>>, ParseError>
-    requires shallow { depth ≤ 200 }
-    ensures found { IfOk result (λ f. Parsed input.now (separated grammar.named_connection) (λ b d. meaning.list_of (meaning.connection_of b) d) depth at (map view.named_connection f.value.items) f.to) }
-    ensures refused { IfErr result (λ e. Refused input.now.tokens.now depth (separated grammar.named_connection) at e) }
+    ensures { Answers input.now (separated grammar.named_connection) (λ b d. meaning.list_of (meaning.connection_of b) d) (λ v. map view.named_connection v.items) depth at result }
 {
-    let mut list = Vec::new(input.alloc);
-    let first = named_connection(input, at, depth)?;
-    list.push(first.value)?;
-    let mut to = first.to;
-    while stands(input, to, TokenKind::Comma) {
-        let comma = take(input, to, TokenKind::Comma)?;
-        let next = named_connection(input, comma, depth)?;
-        list.push(next.value)?;
-        to = next.to;
-    }
-    Ok(Found { value: list, to })
+    comma_list::<ConnectionPart, _>(input, at, depth, |place, inner| {
+        named_connection(input, place, inner)
+    })
 }
 
 /// Whether a list by order connects nothing: nothing stands in it alone.
@@ -141,10 +137,8 @@ fn by_order(list: Vec<Option<Expr>>) -> Connections
 }
 
 /// What ports or parameters are connected to.
-fn connections(input: &Input<'_>, at: u32, depth: u32) -> Result<Found<Connections>, ParseError>
-    requires shallow { depth ≤ 200 }
-    ensures found { IfOk result (λ f. Parsed input.now (r rule.Connections) meaning.connections_of depth at (view.connections f.value) f.to) }
-    ensures refused { IfErr result (λ e. Refused input.now.tokens.now depth (r rule.Connections) at e) }
+fn connections(input: &Input<'_>, at: u32, depth: Depth) -> Result<Found<Connections>, ParseError>
+    ensures { Answers input.now (r rule.Connections) meaning.connections_of view.connections depth at result }
 {
     if stands(input, at, TokenKind::Dot) {
         let named = named_connections(input, at, depth)?;
@@ -162,10 +156,8 @@ fn connections(input: &Input<'_>, at: u32, depth: u32) -> Result<Found<Connectio
 }
 
 /// The parameters that instances are given.
-fn overrides(input: &Input<'_>, at: u32, depth: u32) -> Result<Found<Connections>, ParseError>
-    requires shallow { depth ≤ 200 }
-    ensures found { IfOk result (λ f. Parsed input.now grammar.overrides meaning.overrides_of depth at (view.connections f.value) f.to) }
-    ensures refused { IfErr result (λ e. Refused input.now.tokens.now depth grammar.overrides at e) }
+fn overrides(input: &Input<'_>, at: u32, depth: Depth) -> Result<Found<Connections>, ParseError>
+    ensures { Answers input.now grammar.overrides meaning.overrides_of view.connections depth at result }
 {
     if !stands(input, at, TokenKind::Hash) {
         return Ok(Found {
@@ -184,10 +176,8 @@ fn overrides(input: &Input<'_>, at: u32, depth: u32) -> Result<Found<Connections
 }
 
 /// An instance.
-fn instance(input: &Input<'_>, at: u32, depth: u32) -> Result<Found<Instance>, ParseError>
-    requires shallow { depth ≤ 200 }
-    ensures found { IfOk result (λ f. Parsed input.now (r rule.Instance) meaning.instance_of depth at (view.instance f.value) f.to) }
-    ensures refused { IfErr result (λ e. Refused input.now.tokens.now depth (r rule.Instance) at e) }
+fn instance(input: &Input<'_>, at: u32, depth: Depth) -> Result<Found<Instance>, ParseError>
+    ensures { Answers input.now (r rule.Instance) meaning.instance_of view.instance depth at result }
 {
     let name = identifier(input, at)?;
     let open = take(input, name.to, TokenKind::OpenParen)?;
@@ -202,30 +192,37 @@ fn instance(input: &Input<'_>, at: u32, depth: u32) -> Result<Found<Instance>, P
     })
 }
 
+/// An instance, as a part of a list.
+struct InstancePart;
+
+impl Part for InstancePart {
+    type Value = Instance;
+
+    ghost Tree = { tree.Instance };
+
+    ghost phrase = { r rule.Instance };
+
+    ghost meaning = { meaning.instance_of };
+
+    ghost view = { view.instance };
+}
+
 /// Instances, with commas between them.
-fn instance_list(input: &Input<'_>, at: u32, depth: u32) -> Result<Found<Vec<Instance>>, ParseError>
-    requires shallow { depth ≤ 200 }
-    ensures found { IfOk result (λ f. Parsed input.now (separated (r rule.Instance)) (λ b d. meaning.list_of (meaning.instance_of b) d) depth at (map view.instance f.value.items) f.to) }
-    ensures refused { IfErr result (λ e. Refused input.now.tokens.now depth (separated (r rule.Instance)) at e) }
+fn instance_list(
+    input: &Input<'_>,
+    at: u32,
+    depth: Depth,
+) -> Result<Found<Vec<Instance>>, ParseError>
+    ensures { Answers input.now (separated (r rule.Instance)) (λ b d. meaning.list_of (meaning.instance_of b) d) (λ v. map view.instance v.items) depth at result }
 {
-    let mut list = Vec::new(input.alloc);
-    let first = instance(input, at, depth)?;
-    list.push(first.value)?;
-    let mut to = first.to;
-    while stands(input, to, TokenKind::Comma) {
-        let comma = take(input, to, TokenKind::Comma)?;
-        let next = instance(input, comma, depth)?;
-        list.push(next.value)?;
-        to = next.to;
-    }
-    Ok(Found { value: list, to })
+    comma_list::<InstancePart, _>(input, at, depth, |place, inner| {
+        instance(input, place, inner)
+    })
 }
 
 /// Instances of one module.
-pub(crate) fn instances(input: &Input<'_>, at: u32, depth: u32) -> Result<Found<Item>, ParseError>
-    requires shallow { depth ≤ 200 }
-    ensures found { IfOk result (λ f. Parsed input.now grammar.instance_item meaning.instance_item_of depth at (view.item f.value) f.to) }
-    ensures refused { IfErr result (λ e. Refused input.now.tokens.now depth grammar.instance_item at e) }
+pub(crate) fn instances(input: &Input<'_>, at: u32, depth: Depth) -> Result<Found<Item>, ParseError>
+    ensures { Answers input.now grammar.instance_item meaning.instance_item_of view.item depth at result }
 {
     let module = identifier(input, at)?;
     let overrides = overrides(input, module.to, depth)?;

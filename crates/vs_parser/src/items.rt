@@ -1,6 +1,6 @@
 //! The items of modules and of generate blocks (IEEE 1364-2005, A.1.4 and A.4.2).
 
-ghost use Rattle.std.specs.Prelude.{◌≡◌, ◌≤◌, IfOk, IfErr, Ok, [], ◌++◌, map};
+ghost use Rattle.std.specs.Prelude.{◌≡◌, ◌≤◌, Ok, [], ◌++◌, map, MatchResult};
 ghost use Rattle.vs_grammar.specs.Grammars.{star};
 ghost use Rattle.vs_grammar.specs.Verilog.{Rule as rule, r};
 ghost use Rattle.vs_grammar.specs.Verilog as grammar;
@@ -10,7 +10,7 @@ ghost use Rattle.vs_grammar.specs.Predictive.{is_member};
 ghost use Rattle.vs_ast.specs.Views as view;
 ghost use Rattle.vs_parser.specs.Parts as part;
 ghost use Rattle.vs_parser.specs.ItemLists.{ItemRead};
-ghost use Rattle.vs_phrase.specs.Reading.{Parsed, Refused, kind_at};
+ghost use Rattle.vs_phrase.specs.Reading.{Refused, kind_at, Answers};
 
 use crate::declarations::{identifiers, local_parameters, parameters, ports_item, regs, wires};
 use crate::instances::instances;
@@ -18,9 +18,10 @@ use crate::processes::{always, assigns};
 use vs_ast::{GenerateArm, GenerateBlock, GenerateHead, Item};
 use vs_lexer::TokenKind;
 use vs_phrase::ParseError;
+use vs_phrase::depth::Depth;
 use vs_phrase::expressions::{expression, expressions, is_expression_at};
 use vs_phrase::input::{Found, Input};
-use vs_phrase::tokens::{deeper, optional, stands, stands_any, take};
+use vs_phrase::tokens::{optional, stands, stands_any, take};
 use vs_phrase::words::{identifier, label};
 
 /// What an item begins with that may stand in a generate block.
@@ -87,10 +88,8 @@ fn is_item_at(input: &Input<'_>, at: u32) -> bool
 
 /// An item that may stand in a generate block.
 #[cycle(items)]
-fn generate_item(input: &Input<'_>, at: u32, depth: u32) -> Result<Found<Item>, ParseError>
-    requires shallow { depth ≤ 200 }
-    ensures found { IfOk result (λ f. Parsed input.now (r rule.GenerateItem) meaning.item_of depth at (view.item f.value) f.to) }
-    ensures refused { IfErr result (λ e. Refused input.now.tokens.now depth (r rule.GenerateItem) at e) }
+fn generate_item(input: &Input<'_>, at: u32, depth: Depth) -> Result<Found<Item>, ParseError>
+    ensures { Answers input.now (r rule.GenerateItem) meaning.item_of view.item depth at result }
 {
     if stands(input, at, TokenKind::KeywordReg) {
         regs(input, at, depth)
@@ -116,10 +115,8 @@ fn generate_item(input: &Input<'_>, at: u32, depth: u32) -> Result<Found<Item>, 
 }
 
 /// A declaration of genvars.
-fn genvars(input: &Input<'_>, at: u32, depth: u32) -> Result<Found<Item>, ParseError>
-    requires shallow { depth ≤ 200 }
-    ensures found { IfOk result (λ f. Parsed input.now grammar.genvar_item meaning.genvar_item_of depth at (view.item f.value) f.to) }
-    ensures refused { IfErr result (λ e. Refused input.now.tokens.now depth grammar.genvar_item at e) }
+fn genvars(input: &Input<'_>, at: u32, depth: Depth) -> Result<Found<Item>, ParseError>
+    ensures { Answers input.now grammar.genvar_item meaning.genvar_item_of view.item depth at result }
 {
     let word = take(input, at, TokenKind::KeywordGenvar)?;
     let names = identifiers(input, word, depth)?;
@@ -133,10 +130,8 @@ fn genvars(input: &Input<'_>, at: u32, depth: u32) -> Result<Found<Item>, ParseE
 
 /// A generate `for`.
 #[cycle(items)]
-fn generate_for(input: &Input<'_>, at: u32, depth: u32) -> Result<Found<Item>, ParseError>
-    requires shallow { depth ≤ 200 }
-    ensures found { IfOk result (λ f. Parsed input.now grammar.for_item meaning.for_item_of depth at (view.item f.value) f.to) }
-    ensures refused { IfErr result (λ e. Refused input.now.tokens.now depth grammar.for_item at e) }
+fn generate_for(input: &Input<'_>, at: u32, depth: Depth) -> Result<Found<Item>, ParseError>
+    ensures { Answers input.now grammar.for_item meaning.for_item_of view.item depth at result }
 {
     let word = take(input, at, TokenKind::KeywordFor)?;
     let open = take(input, word, TokenKind::OpenParen)?;
@@ -168,10 +163,8 @@ fn generate_for(input: &Input<'_>, at: u32, depth: u32) -> Result<Found<Item>, P
 
 /// A generate `if`.
 #[cycle(items)]
-fn generate_if(input: &Input<'_>, at: u32, depth: u32) -> Result<Found<Item>, ParseError>
-    requires shallow { depth ≤ 200 }
-    ensures found { IfOk result (λ f. Parsed input.now grammar.if_item meaning.if_item_of depth at (view.item f.value) f.to) }
-    ensures refused { IfErr result (λ e. Refused input.now.tokens.now depth grammar.if_item at e) }
+fn generate_if(input: &Input<'_>, at: u32, depth: Depth) -> Result<Found<Item>, ParseError>
+    ensures { Answers input.now grammar.if_item meaning.if_item_of view.item depth at result }
 {
     let word = take(input, at, TokenKind::KeywordIf)?;
     let open = take(input, word, TokenKind::OpenParen)?;
@@ -191,11 +184,9 @@ fn generate_if(input: &Input<'_>, at: u32, depth: u32) -> Result<Found<Item>, Pa
 fn other_block(
     input: &Input<'_>,
     at: u32,
-    depth: u32,
+    depth: Depth,
 ) -> Result<Found<Option<GenerateBlock>>, ParseError>
-    requires shallow { depth ≤ 200 }
-    ensures found { IfOk result (λ f. Parsed input.now (part.other_block) meaning.else_block depth at (view.block_fallback f.value) f.to) }
-    ensures refused { IfErr result (λ e. Refused input.now.tokens.now depth (part.other_block) at e) }
+    ensures { Answers input.now (part.other_block) meaning.else_block view.block_fallback depth at result }
 {
     if !stands(input, at, TokenKind::KeywordElse) {
         return Ok(Found {
@@ -213,10 +204,8 @@ fn other_block(
 
 /// A generate `case`.
 #[cycle(items)]
-fn generate_case(input: &Input<'_>, at: u32, depth: u32) -> Result<Found<Item>, ParseError>
-    requires shallow { depth ≤ 200 }
-    ensures found { IfOk result (λ f. Parsed input.now grammar.generate_case meaning.generate_case_of depth at (view.item f.value) f.to) }
-    ensures refused { IfErr result (λ e. Refused input.now.tokens.now depth grammar.generate_case at e) }
+fn generate_case(input: &Input<'_>, at: u32, depth: Depth) -> Result<Found<Item>, ParseError>
+    ensures { Answers input.now grammar.generate_case meaning.generate_case_of view.item depth at result }
 {
     let word = take(input, at, TokenKind::KeywordCase)?;
     let open = take(input, word, TokenKind::OpenParen)?;
@@ -246,11 +235,9 @@ pub(crate) struct GenerateParts {
 fn generate_cases(
     input: &Input<'_>,
     at: u32,
-    depth: u32,
+    depth: Depth,
 ) -> Result<Found<GenerateParts>, ParseError>
-    requires shallow { depth ≤ 200 }
-    ensures found { IfOk result (λ f. Parsed input.now (r rule.GenerateCases) part.generate_cases_of depth at (part.generate_cases_view f.value) f.to) }
-    ensures refused { IfErr result (λ e. Refused input.now.tokens.now depth (r rule.GenerateCases) at e) }
+    ensures { Answers input.now (r rule.GenerateCases) part.generate_cases_of part.generate_cases_view depth at result }
 {
     if stands(input, at, TokenKind::KeywordDefault) {
         let other = generate_default(input, at, depth)?;
@@ -292,12 +279,10 @@ fn generate_cases(
 fn generate_arms(
     input: &Input<'_>,
     at: u32,
-    depth: u32,
+    depth: Depth,
     before: Vec<GenerateArm>,
 ) -> Result<Found<Vec<GenerateArm>>, ParseError>
-    requires shallow { depth ≤ 200 }
-    ensures found { IfOk result (λ f. Parsed input.now (star (r rule.GenerateCaseItem)) (λ b d. map part.generate_arm_view before.items ++ meaning.each_onto (part.generate_arm_of b) d []) depth at (map part.generate_arm_view f.value.items) f.to) }
-    ensures refused { IfErr result (λ e. Refused input.now.tokens.now depth (star (r rule.GenerateCaseItem)) at e) }
+    ensures { Answers input.now (star (r rule.GenerateCaseItem)) (λ b d. map part.generate_arm_view before.items ++ meaning.each_onto (part.generate_arm_of b) d []) (λ v. map part.generate_arm_view v.items) depth at result }
 {
     let mut list = before;
     let mut to = at;
@@ -311,10 +296,8 @@ fn generate_arms(
 
 /// The labels of an arm, and its block.
 #[cycle(items)]
-fn generate_arm(input: &Input<'_>, at: u32, depth: u32) -> Result<Found<GenerateArm>, ParseError>
-    requires shallow { depth ≤ 200 }
-    ensures found { IfOk result (λ f. Parsed input.now (r rule.GenerateCaseItem) part.generate_arm_of depth at (part.generate_arm_view f.value) f.to) }
-    ensures refused { IfErr result (λ e. Refused input.now.tokens.now depth (r rule.GenerateCaseItem) at e) }
+fn generate_arm(input: &Input<'_>, at: u32, depth: Depth) -> Result<Found<GenerateArm>, ParseError>
+    ensures { Answers input.now (r rule.GenerateCaseItem) part.generate_arm_of part.generate_arm_view depth at result }
 {
     let labels = expressions(input, at, depth)?;
     let colon = take(input, labels.to, TokenKind::Colon)?;
@@ -333,11 +316,9 @@ fn generate_arm(input: &Input<'_>, at: u32, depth: u32) -> Result<Found<Generate
 fn generate_default(
     input: &Input<'_>,
     at: u32,
-    depth: u32,
+    depth: Depth,
 ) -> Result<Found<GenerateBlock>, ParseError>
-    requires shallow { depth ≤ 200 }
-    ensures found { IfOk result (λ f. Parsed input.now (r rule.GenerateCaseDefault) meaning.default_block_of depth at (tree.OtherwiseBlock (view.block f.value)) f.to) }
-    ensures refused { IfErr result (λ e. Refused input.now.tokens.now depth (r rule.GenerateCaseDefault) at e) }
+    ensures { Answers input.now (r rule.GenerateCaseDefault) meaning.default_block_of (λ v. tree.OtherwiseBlock (view.block v)) depth at result }
 {
     let word = take(input, at, TokenKind::KeywordDefault)?;
     let colon = optional(input, word, depth, TokenKind::Colon);
@@ -347,15 +328,13 @@ fn generate_default(
 
 /// A generate block.
 #[cycle(items)]
-fn block(input: &Input<'_>, at: u32, depth: u32) -> Result<Found<GenerateBlock>, ParseError>
-    requires shallow { depth ≤ 200 }
-    ensures found { IfOk result (λ f. Parsed input.now (r rule.GenerateBlock) meaning.block_of depth at (view.block f.value) f.to) }
-    ensures refused { IfErr result (λ e. Refused input.now.tokens.now depth (r rule.GenerateBlock) at e) }
+fn block(input: &Input<'_>, at: u32, depth: Depth) -> Result<Found<GenerateBlock>, ParseError>
+    ensures { Answers input.now (r rule.GenerateBlock) meaning.block_of view.block depth at result }
 {
     if !stands_any(input, at, &BLOCK_KINDS) {
         return Err(ParseError::Syntax(at));
     }
-    let inner = deeper(depth, at)?;
+    let inner = depth.deeper(at)?;
     if stands(input, at, TokenKind::KeywordBegin) {
         enclosed(input, at, inner)
     } else if is_generate_item_at(input, at) {
@@ -373,10 +352,8 @@ fn block(input: &Input<'_>, at: u32, depth: u32) -> Result<Found<GenerateBlock>,
 
 /// The items between `begin` and `end`.
 #[cycle(items)]
-fn enclosed(input: &Input<'_>, at: u32, depth: u32) -> Result<Found<GenerateBlock>, ParseError>
-    requires shallow { depth ≤ 200 }
-    ensures found { IfOk result (λ f. Parsed input.now grammar.block part.enclosed_tree depth at (view.block f.value) f.to) }
-    ensures refused { IfErr result (λ e. Refused input.now.tokens.now depth grammar.block at e) }
+fn enclosed(input: &Input<'_>, at: u32, depth: Depth) -> Result<Found<GenerateBlock>, ParseError>
+    ensures { Answers input.now grammar.block part.enclosed_tree view.block depth at result }
 {
     let begin = take(input, at, TokenKind::KeywordBegin)?;
     let label = label(input, begin, depth)?;
@@ -391,12 +368,10 @@ fn enclosed(input: &Input<'_>, at: u32, depth: u32) -> Result<Found<GenerateBloc
 fn generate_items(
     input: &Input<'_>,
     at: u32,
-    depth: u32,
+    depth: Depth,
     before: Vec<Item>,
 ) -> Result<Found<Vec<Item>>, ParseError>
-    requires shallow { depth ≤ 200 }
-    ensures found { IfOk result (λ f. Parsed input.now (star (r rule.GenerateItem)) (λ b d. map view.item before.items ++ meaning.each_onto (meaning.item_of b) d []) depth at (map view.item f.value.items) f.to) }
-    ensures refused { IfErr result (λ e. Refused input.now.tokens.now depth (star (r rule.GenerateItem)) at e) }
+    ensures { Answers input.now (star (r rule.GenerateItem)) (λ b d. map view.item before.items ++ meaning.each_onto (meaning.item_of b) d []) (λ v. map view.item v.items) depth at result }
 {
     let mut list = before;
     let mut to = at;
@@ -412,12 +387,10 @@ fn generate_items(
 fn item(
     input: &Input<'_>,
     at: u32,
-    depth: u32,
+    depth: Depth,
     before: Vec<Item>,
 ) -> Result<Found<Vec<Item>>, ParseError>
-    requires shallow { depth ≤ 200 }
-    ensures found { IfOk result (λ f. ItemRead input.now before.items depth at f.value.items f.to) }
-    ensures refused { IfErr result (λ e. Refused input.now.tokens.now depth (r rule.Item) at e) }
+    ensures { MatchResult result (λ f. ItemRead input.now before.items depth.value at f.value.items f.to) (λ e. Refused input.now.tokens.now depth.value (r rule.Item) at e) }
 {
     let mut list = before;
     if stands_any(
@@ -457,10 +430,12 @@ fn item(
 }
 
 /// The items of a module.
-pub(crate) fn items(input: &Input<'_>, at: u32, depth: u32) -> Result<Found<Vec<Item>>, ParseError>
-    requires shallow { depth ≤ 200 }
-    ensures found { IfOk result (λ f. Parsed input.now (star (r rule.Item)) (λ b d. meaning.items_onto b d tree.NoItem) depth at (view.items f.value.items) f.to) }
-    ensures refused { IfErr result (λ e. Refused input.now.tokens.now depth (star (r rule.Item)) at e) }
+pub(crate) fn items(
+    input: &Input<'_>,
+    at: u32,
+    depth: Depth,
+) -> Result<Found<Vec<Item>>, ParseError>
+    ensures { Answers input.now (star (r rule.Item)) (λ b d. meaning.items_onto b d tree.NoItem) (λ v. view.items v.items) depth at result }
 {
     let mut list = Vec::new(input.alloc);
     let mut to = at;

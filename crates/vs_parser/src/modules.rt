@@ -1,6 +1,6 @@
 //! Modules (IEEE 1364-2005, A.1.2).
 
-ghost use Rattle.std.specs.Prelude.{◌≡◌, ◌≤◌, IfOk, IfErr, Ok, false, [], ◌∷◌, ◌++◌, map};
+ghost use Rattle.std.specs.Prelude.{◌≡◌, ◌≤◌, Ok, false, [], ◌∷◌, ◌++◌, map, MatchResult};
 ghost use Rattle.vs_lexer.specs.declared.token.TokenKind.TheVariants as kind;
 ghost use Rattle.vs_grammar.specs.Grammars.{opt, star};
 ghost use Rattle.vs_grammar.specs.Verilog.{Rule as rule, r};
@@ -8,7 +8,7 @@ ghost use Rattle.vs_grammar.specs.Meaning as meaning;
 ghost use Rattle.vs_ast.specs.Views as view;
 ghost use Rattle.vs_parser.specs.Headings as part;
 ghost use Rattle.vs_parser.specs.Headings.{ParametersRead, ParametersStep, PortRead, PortsRead, PortsStep};
-ghost use Rattle.vs_phrase.specs.Reading.{Parsed, Refused};
+ghost use Rattle.vs_phrase.specs.Reading.{Refused, Answers};
 
 use crate::declarations::{direction, identifiers, optional_range, plain_declarator, setting};
 use crate::items::items;
@@ -16,6 +16,7 @@ use std::alloc::Global;
 use vs_ast::{Declarator, Header, Module, Parameters, Range, Setting, Signals, Source};
 use vs_lexer::TokenKind;
 use vs_phrase::ParseError;
+use vs_phrase::depth::Depth;
 use vs_phrase::input::{Found, Input};
 use vs_phrase::tokens::{optional, stands, stands_any, take};
 use vs_phrase::words::identifier;
@@ -24,11 +25,9 @@ use vs_phrase::words::identifier;
 fn header_parameters(
     input: &Input<'_>,
     at: u32,
-    depth: u32,
+    depth: Depth,
 ) -> Result<Found<Vec<Parameters>>, ParseError>
-    requires shallow { depth ≤ 200 }
-    ensures found { IfOk result (λ f. Parsed input.now (r rule.HeaderParameters) meaning.header_parameters depth at (map view.parameters f.value.items) f.to) }
-    ensures refused { IfErr result (λ e. Refused input.now.tokens.now depth (r rule.HeaderParameters) at e) }
+    ensures { Answers input.now (r rule.HeaderParameters) meaning.header_parameters (λ v. map view.parameters v.items) depth at result }
 {
     let word = take(input, at, TokenKind::KeywordParameter)?;
     let signed = optional(input, word, depth, TokenKind::KeywordSigned);
@@ -50,8 +49,7 @@ fn declaration(
     range: Option<Range>,
     first: Setting,
 ) -> Result<Parameters, ParseError>
-    ensures declared { IfOk result (λ p. view.parameters p ≡ part.declaration place signed (view.option view.range range) (view.setting first)) }
-    ensures memory { IfErr result (λ e. e ≡ ParseError.Memory) }
+    ensures { MatchResult result (λ p. view.parameters p ≡ part.declaration place signed (view.option view.range range) (view.setting first)) (λ e. e ≡ ParseError.Memory) }
 {
     let mut settings = Vec::new(alloc);
     settings.push(first)?;
@@ -66,8 +64,7 @@ fn declaration(
 
 /// The parameter with one setting more.
 fn with_setting(declared: Parameters, setting: Setting) -> Result<Parameters, ParseError>
-    ensures longer { IfOk result (λ p. view.parameters p ≡ part.with_settings (view.parameters declared) (view.setting setting ∷ [])) }
-    ensures memory { IfErr result (λ e. e ≡ ParseError.Memory) }
+    ensures { MatchResult result (λ p. view.parameters p ≡ part.with_settings (view.parameters declared) (view.setting setting ∷ [])) (λ e. e ≡ ParseError.Memory) }
 {
     let Parameters {
         place,
@@ -88,10 +85,12 @@ fn with_setting(declared: Parameters, setting: Setting) -> Result<Parameters, Pa
 }
 
 /// A declaration that begins with its own `parameter`, in a header, with its first parameter.
-fn next_declaration(input: &Input<'_>, at: u32, depth: u32) -> Result<Found<Parameters>, ParseError>
-    requires shallow { depth ≤ 200 }
-    ensures found { IfOk result (λ f. Parsed input.now part.next_declaration part.next_declaration_of depth at (view.parameters f.value) f.to) }
-    ensures refused { IfErr result (λ e. Refused input.now.tokens.now depth part.next_declaration at e) }
+fn next_declaration(
+    input: &Input<'_>,
+    at: u32,
+    depth: Depth,
+) -> Result<Found<Parameters>, ParseError>
+    ensures { Answers input.now part.next_declaration part.next_declaration_of view.parameters depth at result }
 {
     let word = take(input, at, TokenKind::KeywordParameter)?;
     let signed = optional(input, word, depth, TokenKind::KeywordSigned);
@@ -116,12 +115,10 @@ struct ParametersSoFar {
 fn parameter_or_setting(
     input: &Input<'_>,
     at: u32,
-    depth: u32,
+    depth: Depth,
     state: ParametersSoFar,
 ) -> Result<ParametersSoFar, ParseError>
-    requires shallow { depth ≤ 200 }
-    ensures found { IfOk result (λ s. ParametersStep input.now (map view.parameters state.list.items) (view.parameters state.last) depth at (map view.parameters s.list.items) (view.parameters s.last) s.to) }
-    ensures refused { IfErr result (λ e. Refused input.now.tokens.now depth part.parameter_step at e) }
+    ensures { MatchResult result (λ s. ParametersStep input.now (map view.parameters state.list.items) (view.parameters state.last) depth.value at (map view.parameters s.list.items) (view.parameters s.last) s.to) (λ e. Refused input.now.tokens.now depth.value part.parameter_step at e) }
 {
     let ParametersSoFar { list, last, .. } = state;
     if stands(input, at, TokenKind::KeywordParameter) {
@@ -148,12 +145,10 @@ fn parameter_or_setting(
 fn more_parameters(
     input: &Input<'_>,
     at: u32,
-    depth: u32,
+    depth: Depth,
     first: Parameters,
 ) -> Result<Found<Vec<Parameters>>, ParseError>
-    requires shallow { depth ≤ 200 }
-    ensures found { IfOk result (λ f. ParametersRead input.now (view.parameters first) depth at (map view.parameters f.value.items) f.to) }
-    ensures refused { IfErr result (λ e. Refused input.now.tokens.now depth part.more_parameters at e) }
+    ensures { MatchResult result (λ f. ParametersRead input.now (view.parameters first) depth.value at (map view.parameters f.value.items) f.to) (λ e. Refused input.now.tokens.now depth.value part.more_parameters at e) }
 {
     let mut state = ParametersSoFar {
         list: Vec::new(input.alloc),
@@ -174,11 +169,9 @@ fn more_parameters(
 fn module_parameters(
     input: &Input<'_>,
     at: u32,
-    depth: u32,
+    depth: Depth,
 ) -> Result<Found<Vec<Parameters>>, ParseError>
-    requires shallow { depth ≤ 200 }
-    ensures found { IfOk result (λ f. Parsed input.now (part.module_parameters) meaning.module_parameters depth at (map view.parameters f.value.items) f.to) }
-    ensures refused { IfErr result (λ e. Refused input.now.tokens.now depth (part.module_parameters) at e) }
+    ensures { Answers input.now (part.module_parameters) meaning.module_parameters (λ v. map view.parameters v.items) depth at result }
 {
     if !stands(input, at, TokenKind::Hash) {
         return Ok(Found {
@@ -197,10 +190,8 @@ fn module_parameters(
 }
 
 /// A declaration in a list of ports, with its first name.
-fn port(input: &Input<'_>, at: u32, depth: u32) -> Result<Found<Signals>, ParseError>
-    requires shallow { depth ≤ 200 }
-    ensures found { IfOk result (λ f. PortRead input.now depth at (view.signals f.value) f.to) }
-    ensures refused { IfErr result (λ e. Refused input.now.tokens.now depth (r rule.Port) at e) }
+fn port(input: &Input<'_>, at: u32, depth: Depth) -> Result<Found<Signals>, ParseError>
+    ensures { MatchResult result (λ f. PortRead input.now depth.value at (view.signals f.value) f.to) (λ e. Refused input.now.tokens.now depth.value (r rule.Port) at e) }
 {
     let kind = direction(input, at, depth)?;
     let signed = optional(input, kind.to, depth, TokenKind::KeywordSigned);
@@ -220,8 +211,7 @@ fn port(input: &Input<'_>, at: u32, depth: u32) -> Result<Found<Signals>, ParseE
 
 /// The declaration with one name more.
 fn with_name(declared: Signals, name: Declarator) -> Result<Signals, ParseError>
-    ensures longer { IfOk result (λ s. view.signals s ≡ part.with_names (view.signals declared) (view.declarator name ∷ [])) }
-    ensures memory { IfErr result (λ e. e ≡ ParseError.Memory) }
+    ensures { MatchResult result (λ s. view.signals s ≡ part.with_names (view.signals declared) (view.declarator name ∷ [])) (λ e. e ≡ ParseError.Memory) }
 {
     let Signals {
         place,
@@ -253,12 +243,10 @@ struct PortsSoFar {
 fn port_or_name(
     input: &Input<'_>,
     at: u32,
-    depth: u32,
+    depth: Depth,
     state: PortsSoFar,
 ) -> Result<PortsSoFar, ParseError>
-    requires shallow { depth ≤ 200 }
-    ensures found { IfOk result (λ s. PortsStep input.now (map view.signals state.list.items) (view.signals state.last) depth at (map view.signals s.list.items) (view.signals s.last) s.to) }
-    ensures refused { IfErr result (λ e. Refused input.now.tokens.now depth part.port_step at e) }
+    ensures { MatchResult result (λ s. PortsStep input.now (map view.signals state.list.items) (view.signals state.last) depth.value at (map view.signals s.list.items) (view.signals s.last) s.to) (λ e. Refused input.now.tokens.now depth.value part.port_step at e) }
 {
     let PortsSoFar { list, last, .. } = state;
     if stands_any(
@@ -289,12 +277,10 @@ fn port_or_name(
 fn more_ports(
     input: &Input<'_>,
     at: u32,
-    depth: u32,
+    depth: Depth,
     first: Signals,
 ) -> Result<Found<Vec<Signals>>, ParseError>
-    requires shallow { depth ≤ 200 }
-    ensures found { IfOk result (λ f. PortsRead input.now (view.signals first) depth at (map view.signals f.value.items) f.to) }
-    ensures refused { IfErr result (λ e. Refused input.now.tokens.now depth part.more_ports at e) }
+    ensures { MatchResult result (λ f. PortsRead input.now (view.signals first) depth.value at (map view.signals f.value.items) f.to) (λ e. Refused input.now.tokens.now depth.value part.more_ports at e) }
 {
     let mut state = PortsSoFar {
         list: Vec::new(input.alloc),
@@ -312,10 +298,8 @@ fn more_ports(
 }
 
 /// A list of ports.
-fn ports(input: &Input<'_>, at: u32, depth: u32) -> Result<Found<Header>, ParseError>
-    requires shallow { depth ≤ 200 }
-    ensures found { IfOk result (λ f. Parsed input.now (r rule.Ports) meaning.ports_of depth at (view.header f.value) f.to) }
-    ensures refused { IfErr result (λ e. Refused input.now.tokens.now depth (r rule.Ports) at e) }
+fn ports(input: &Input<'_>, at: u32, depth: Depth) -> Result<Found<Header>, ParseError>
+    ensures { Answers input.now (r rule.Ports) meaning.ports_of view.header depth at result }
 {
     if stands(input, at, TokenKind::Identifier) {
         let names = identifiers(input, at, depth)?;
@@ -334,10 +318,8 @@ fn ports(input: &Input<'_>, at: u32, depth: u32) -> Result<Found<Header>, ParseE
 }
 
 /// A list of ports, if there is one.
-fn optional_ports(input: &Input<'_>, at: u32, depth: u32) -> Result<Found<Header>, ParseError>
-    requires shallow { depth ≤ 200 }
-    ensures found { IfOk result (λ f. Parsed input.now (opt (r rule.Ports)) part.optional_ports_of depth at (view.header f.value) f.to) }
-    ensures refused { IfErr result (λ e. Refused input.now.tokens.now depth (opt (r rule.Ports)) at e) }
+fn optional_ports(input: &Input<'_>, at: u32, depth: Depth) -> Result<Found<Header>, ParseError>
+    ensures { Answers input.now (opt (r rule.Ports)) part.optional_ports_of view.header depth at result }
 {
     if !stands_any(
         input,
@@ -361,10 +343,8 @@ fn optional_ports(input: &Input<'_>, at: u32, depth: u32) -> Result<Found<Header
 }
 
 /// The ports of a module, if it has a list of them.
-fn header(input: &Input<'_>, at: u32, depth: u32) -> Result<Found<Header>, ParseError>
-    requires shallow { depth ≤ 200 }
-    ensures found { IfOk result (λ f. Parsed input.now (part.header) meaning.header_of depth at (view.header f.value) f.to) }
-    ensures refused { IfErr result (λ e. Refused input.now.tokens.now depth (part.header) at e) }
+fn header(input: &Input<'_>, at: u32, depth: Depth) -> Result<Found<Header>, ParseError>
+    ensures { Answers input.now (part.header) meaning.header_of view.header depth at result }
 {
     if !stands(input, at, TokenKind::OpenParen) {
         return Ok(Found {
@@ -382,10 +362,8 @@ fn header(input: &Input<'_>, at: u32, depth: u32) -> Result<Found<Header>, Parse
 }
 
 /// A module.
-fn module(input: &Input<'_>, at: u32, depth: u32) -> Result<Found<Module>, ParseError>
-    requires shallow { depth ≤ 200 }
-    ensures found { IfOk result (λ f. Parsed input.now (r rule.Module) meaning.module_of depth at (view.module_tree f.value) f.to) }
-    ensures refused { IfErr result (λ e. Refused input.now.tokens.now depth (r rule.Module) at e) }
+fn module(input: &Input<'_>, at: u32, depth: Depth) -> Result<Found<Module>, ParseError>
+    ensures { Answers input.now (r rule.Module) meaning.module_of view.module_tree depth at result }
 {
     let word = take(input, at, TokenKind::KeywordModule)?;
     let name = identifier(input, word)?;
@@ -408,12 +386,10 @@ fn module(input: &Input<'_>, at: u32, depth: u32) -> Result<Found<Module>, Parse
 fn more_modules(
     input: &Input<'_>,
     at: u32,
-    depth: u32,
+    depth: Depth,
     before: Vec<Module>,
 ) -> Result<Found<Vec<Module>>, ParseError>
-    requires shallow { depth ≤ 200 }
-    ensures found { IfOk result (λ f. Parsed input.now (star (r rule.Module)) (λ b d. map view.module_tree before.items ++ meaning.each_onto (meaning.module_of b) d []) depth at (map view.module_tree f.value.items) f.to) }
-    ensures refused { IfErr result (λ e. Refused input.now.tokens.now depth (star (r rule.Module)) at e) }
+    ensures { Answers input.now (star (r rule.Module)) (λ b d. map view.module_tree before.items ++ meaning.each_onto (meaning.module_of b) d []) (λ v. map view.module_tree v.items) depth at result }
 {
     let mut list = before;
     let mut to = at;
@@ -426,10 +402,8 @@ fn more_modules(
 }
 
 /// The modules of a text.
-pub(crate) fn source(input: &Input<'_>, at: u32, depth: u32) -> Result<Found<Source>, ParseError>
-    requires shallow { depth ≤ 200 }
-    ensures found { IfOk result (λ f. Parsed input.now (r rule.Source) meaning.source_of depth at (view.source f.value) f.to) }
-    ensures refused { IfErr result (λ e. Refused input.now.tokens.now depth (r rule.Source) at e) }
+pub(crate) fn source(input: &Input<'_>, at: u32, depth: Depth) -> Result<Found<Source>, ParseError>
+    ensures { Answers input.now (r rule.Source) meaning.source_of view.source depth at result }
 {
     let first = module(input, at, depth)?;
     let mut begun = Vec::new(input.alloc);

@@ -1,6 +1,6 @@
 //! Continuous assignments and `always` blocks (IEEE 1364-2005, A.6).
 
-ghost use Rattle.std.specs.Prelude.{◌≡◌, ◌≤◌, MatchOption, IfOk, IfErr, Ok, false, [], ◌++◌, map};
+ghost use Rattle.std.specs.Prelude.{◌≡◌, ◌≤◌, MatchOption, Ok, false, [], ◌++◌, map};
 ghost use Rattle.vs_lexer.specs.declared.token.TokenKind.TheVariants as kind;
 ghost use Rattle.vs_grammar.specs.Grammars.{star};
 ghost use Rattle.vs_grammar.specs.Verilog.{Rule as rule, r, t, separated};
@@ -9,11 +9,14 @@ ghost use Rattle.vs_grammar.specs.Meaning as meaning;
 ghost use Rattle.vs_grammar.specs.Predictive.{is_member};
 ghost use Rattle.vs_ast.specs.Views as view;
 ghost use Rattle.vs_parser.specs.Parts as part;
-ghost use Rattle.vs_phrase.specs.Reading.{Chosen, Parsed, Refused, kind_at};
+ghost use Rattle.vs_grammar.specs.Trees as tree;
+ghost use Rattle.vs_phrase.specs.Reading.{Answers, Chosen, kind_at};
 
 use vs_ast::{AlwaysBlock, Assign, Edge, Event, EventControl, Item};
 use vs_lexer::TokenKind;
 use vs_phrase::ParseError;
+use vs_phrase::commas::{Part, comma_list};
+use vs_phrase::depth::Depth;
 use vs_phrase::expressions::expression;
 use vs_phrase::input::{Found, Input};
 use vs_phrase::statements::{statement, target};
@@ -24,10 +27,8 @@ use vs_phrase::words::identifier;
 const EVENT_SIGNS: [(TokenKind, ()); 2] = [(TokenKind::KeywordOr, ()), (TokenKind::Comma, ())];
 
 /// A target and what it is assigned.
-fn assign(input: &Input<'_>, at: u32, depth: u32) -> Result<Found<Assign>, ParseError>
-    requires shallow { depth ≤ 200 }
-    ensures found { IfOk result (λ f. Parsed input.now grammar.assignment meaning.assign_of depth at (view.assign f.value) f.to) }
-    ensures refused { IfErr result (λ e. Refused input.now.tokens.now depth grammar.assignment at e) }
+fn assign(input: &Input<'_>, at: u32, depth: Depth) -> Result<Found<Assign>, ParseError>
+    ensures { Answers input.now grammar.assignment meaning.assign_of view.assign depth at result }
 {
     let target = target(input, at, depth)?;
     let sign = take(input, target.to, TokenKind::Assign)?;
@@ -41,30 +42,33 @@ fn assign(input: &Input<'_>, at: u32, depth: u32) -> Result<Found<Assign>, Parse
     })
 }
 
+/// A target and what it is assigned, as a part of a list.
+struct AssignPart;
+
+impl Part for AssignPart {
+    type Value = Assign;
+
+    ghost Tree = { tree.Assign };
+
+    ghost phrase = { grammar.assignment };
+
+    ghost meaning = { meaning.assign_of };
+
+    ghost view = { view.assign };
+}
+
 /// Assignments, with commas between them.
-fn assign_list(input: &Input<'_>, at: u32, depth: u32) -> Result<Found<Vec<Assign>>, ParseError>
-    requires shallow { depth ≤ 200 }
-    ensures found { IfOk result (λ f. Parsed input.now (separated grammar.assignment) (λ b d. meaning.list_of (meaning.assign_of b) d) depth at (map view.assign f.value.items) f.to) }
-    ensures refused { IfErr result (λ e. Refused input.now.tokens.now depth (separated grammar.assignment) at e) }
+fn assign_list(input: &Input<'_>, at: u32, depth: Depth) -> Result<Found<Vec<Assign>>, ParseError>
+    ensures { Answers input.now (separated grammar.assignment) (λ b d. meaning.list_of (meaning.assign_of b) d) (λ v. map view.assign v.items) depth at result }
 {
-    let mut list = Vec::new(input.alloc);
-    let first = assign(input, at, depth)?;
-    list.push(first.value)?;
-    let mut to = first.to;
-    while stands(input, to, TokenKind::Comma) {
-        let comma = take(input, to, TokenKind::Comma)?;
-        let next = assign(input, comma, depth)?;
-        list.push(next.value)?;
-        to = next.to;
-    }
-    Ok(Found { value: list, to })
+    comma_list::<AssignPart, _>(input, at, depth, |place, inner| {
+        assign(input, place, inner)
+    })
 }
 
 /// Continuous assignments.
-pub(crate) fn assigns(input: &Input<'_>, at: u32, depth: u32) -> Result<Found<Item>, ParseError>
-    requires shallow { depth ≤ 200 }
-    ensures found { IfOk result (λ f. Parsed input.now grammar.assign_item meaning.assign_item_of depth at (view.item f.value) f.to) }
-    ensures refused { IfErr result (λ e. Refused input.now.tokens.now depth grammar.assign_item at e) }
+pub(crate) fn assigns(input: &Input<'_>, at: u32, depth: Depth) -> Result<Found<Item>, ParseError>
+    ensures { Answers input.now grammar.assign_item meaning.assign_item_of view.item depth at result }
 {
     let word = take(input, at, TokenKind::KeywordAssign)?;
     let list = assign_list(input, word, depth)?;
@@ -77,10 +81,8 @@ pub(crate) fn assigns(input: &Input<'_>, at: u32, depth: u32) -> Result<Found<It
 }
 
 /// Which edge is named.
-fn edge(input: &Input<'_>, at: u32, depth: u32) -> Result<Found<Edge>, ParseError>
-    requires shallow { depth ≤ 200 }
-    ensures found { IfOk result (λ f. Parsed input.now (part.edge_words) (λ b d. meaning.edge_of d) depth at (view.edge f.value) f.to) }
-    ensures refused { IfErr result (λ e. Refused input.now.tokens.now depth (part.edge_words) at e) }
+fn edge(input: &Input<'_>, at: u32, depth: Depth) -> Result<Found<Edge>, ParseError>
+    ensures { Answers input.now (part.edge_words) (λ b d. meaning.edge_of d) view.edge depth at result }
 {
     if stands(input, at, TokenKind::KeywordPosedge) {
         let posedge = take(input, at, TokenKind::KeywordPosedge)?;
@@ -103,10 +105,8 @@ fn edge(input: &Input<'_>, at: u32, depth: u32) -> Result<Found<Edge>, ParseErro
 }
 
 /// An event.
-fn event(input: &Input<'_>, at: u32, depth: u32) -> Result<Found<Event>, ParseError>
-    requires shallow { depth ≤ 200 }
-    ensures found { IfOk result (λ f. Parsed input.now (r rule.Event) meaning.event_of depth at (view.event f.value) f.to) }
-    ensures refused { IfErr result (λ e. Refused input.now.tokens.now depth (r rule.Event) at e) }
+fn event(input: &Input<'_>, at: u32, depth: Depth) -> Result<Found<Event>, ParseError>
+    ensures { Answers input.now (r rule.Event) meaning.event_of view.event depth at result }
 {
     let edge = edge(input, at, depth)?;
     let name = identifier(input, edge.to)?;
@@ -130,12 +130,10 @@ fn event_sign(input: &Input<'_>, at: u32) -> Option<Found<()>>
 fn more_events(
     input: &Input<'_>,
     at: u32,
-    depth: u32,
+    depth: Depth,
     before: Vec<Event>,
 ) -> Result<Found<Vec<Event>>, ParseError>
-    requires shallow { depth ≤ 200 }
-    ensures found { IfOk result (λ f. Parsed input.now (part.events_behind) (λ b d. map view.event before.items ++ meaning.each_onto (meaning.behind_sign (meaning.event_of b)) d []) depth at (map view.event f.value.items) f.to) }
-    ensures refused { IfErr result (λ e. Refused input.now.tokens.now depth (part.events_behind) at e) }
+    ensures { Answers input.now (part.events_behind) (λ b d. map view.event before.items ++ meaning.each_onto (meaning.behind_sign (meaning.event_of b)) d []) (λ v. map view.event v.items) depth at result }
 {
     let mut list = before;
     let mut to = at;
@@ -148,10 +146,8 @@ fn more_events(
 }
 
 /// Events, with `or` or commas between them.
-fn events(input: &Input<'_>, at: u32, depth: u32) -> Result<Found<Vec<Event>>, ParseError>
-    requires shallow { depth ≤ 200 }
-    ensures found { IfOk result (λ f. Parsed input.now (part.events) part.events_of depth at (map view.event f.value.items) f.to) }
-    ensures refused { IfErr result (λ e. Refused input.now.tokens.now depth (part.events) at e) }
+fn events(input: &Input<'_>, at: u32, depth: Depth) -> Result<Found<Vec<Event>>, ParseError>
+    ensures { Answers input.now (part.events) part.events_of (λ v. map view.event v.items) depth at result }
 {
     let first = event(input, at, depth)?;
     let mut begun = Vec::new(input.alloc);
@@ -164,10 +160,8 @@ fn events(input: &Input<'_>, at: u32, depth: u32) -> Result<Found<Vec<Event>>, P
 }
 
 /// The event of a name.
-fn single_event(input: &Input<'_>, at: u32, depth: u32) -> Result<Found<EventControl>, ParseError>
-    requires shallow { depth ≤ 200 }
-    ensures found { IfOk result (λ f. Parsed input.now (t kind.Identifier) part.single_event depth at (view.event_control f.value) f.to) }
-    ensures refused { IfErr result (λ e. Refused input.now.tokens.now depth (t kind.Identifier) at e) }
+fn single_event(input: &Input<'_>, at: u32, depth: Depth) -> Result<Found<EventControl>, ParseError>
+    ensures { Answers input.now (t kind.Identifier) part.single_event view.event_control depth at result }
 {
     let name = identifier(input, at)?;
     let mut list = Vec::new(input.alloc);
@@ -182,10 +176,12 @@ fn single_event(input: &Input<'_>, at: u32, depth: u32) -> Result<Found<EventCon
 }
 
 /// What stands in the brackets of an event control.
-fn inner_control(input: &Input<'_>, at: u32, depth: u32) -> Result<Found<EventControl>, ParseError>
-    requires shallow { depth ≤ 200 }
-    ensures found { IfOk result (λ f. Parsed input.now (part.inner_control) part.inner_control_of depth at (view.event_control f.value) f.to) }
-    ensures refused { IfErr result (λ e. Refused input.now.tokens.now depth (part.inner_control) at e) }
+fn inner_control(
+    input: &Input<'_>,
+    at: u32,
+    depth: Depth,
+) -> Result<Found<EventControl>, ParseError>
+    ensures { Answers input.now (part.inner_control) part.inner_control_of view.event_control depth at result }
 {
     if stands(input, at, TokenKind::Star) {
         let star = take(input, at, TokenKind::Star)?;
@@ -206,11 +202,9 @@ fn inner_control(input: &Input<'_>, at: u32, depth: u32) -> Result<Found<EventCo
 fn bracketed_control(
     input: &Input<'_>,
     at: u32,
-    depth: u32,
+    depth: Depth,
 ) -> Result<Found<EventControl>, ParseError>
-    requires shallow { depth ≤ 200 }
-    ensures found { IfOk result (λ f. Parsed input.now grammar.event_list part.bracketed_control_of depth at (view.event_control f.value) f.to) }
-    ensures refused { IfErr result (λ e. Refused input.now.tokens.now depth grammar.event_list at e) }
+    ensures { Answers input.now grammar.event_list part.bracketed_control_of view.event_control depth at result }
 {
     let open = take(input, at, TokenKind::OpenParen)?;
     let control = inner_control(input, open, depth)?;
@@ -222,10 +216,8 @@ fn bracketed_control(
 }
 
 /// What stands behind the `@` of an event control.
-fn control(input: &Input<'_>, at: u32, depth: u32) -> Result<Found<EventControl>, ParseError>
-    requires shallow { depth ≤ 200 }
-    ensures found { IfOk result (λ f. Parsed input.now (part.control) part.control_of depth at (view.event_control f.value) f.to) }
-    ensures refused { IfErr result (λ e. Refused input.now.tokens.now depth (part.control) at e) }
+fn control(input: &Input<'_>, at: u32, depth: Depth) -> Result<Found<EventControl>, ParseError>
+    ensures { Answers input.now (part.control) part.control_of view.event_control depth at result }
 {
     if stands(input, at, TokenKind::Identifier) {
         single_event(input, at, depth)
@@ -241,10 +233,12 @@ fn control(input: &Input<'_>, at: u32, depth: u32) -> Result<Found<EventControl>
 }
 
 /// What a block waits for.
-fn event_control(input: &Input<'_>, at: u32, depth: u32) -> Result<Found<EventControl>, ParseError>
-    requires shallow { depth ≤ 200 }
-    ensures found { IfOk result (λ f. Parsed input.now (r rule.EventControl) meaning.control_of depth at (view.event_control f.value) f.to) }
-    ensures refused { IfErr result (λ e. Refused input.now.tokens.now depth (r rule.EventControl) at e) }
+fn event_control(
+    input: &Input<'_>,
+    at: u32,
+    depth: Depth,
+) -> Result<Found<EventControl>, ParseError>
+    ensures { Answers input.now (r rule.EventControl) meaning.control_of view.event_control depth at result }
 {
     let sign = take(input, at, TokenKind::At)?;
     let control = control(input, sign, depth)?;
@@ -255,10 +249,8 @@ fn event_control(input: &Input<'_>, at: u32, depth: u32) -> Result<Found<EventCo
 }
 
 /// An `always` block.
-pub(crate) fn always(input: &Input<'_>, at: u32, depth: u32) -> Result<Found<Item>, ParseError>
-    requires shallow { depth ≤ 200 }
-    ensures found { IfOk result (λ f. Parsed input.now grammar.always_item meaning.always_item_of depth at (view.item f.value) f.to) }
-    ensures refused { IfErr result (λ e. Refused input.now.tokens.now depth grammar.always_item at e) }
+pub(crate) fn always(input: &Input<'_>, at: u32, depth: Depth) -> Result<Found<Item>, ParseError>
+    ensures { Answers input.now grammar.always_item meaning.always_item_of view.item depth at result }
 {
     let word = take(input, at, TokenKind::KeywordAlways)?;
     let control = event_control(input, word, depth)?;

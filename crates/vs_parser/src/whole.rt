@@ -13,6 +13,7 @@ use vs_ast::Source;
 use vs_grammar::laws::spelled_law;
 use vs_lexer::{Token, is_left_out};
 use vs_phrase::ParseError;
+use vs_phrase::depth::Depth;
 use vs_phrase::input::Input;
 
 /// The first token that is left out, if there is one.
@@ -31,10 +32,9 @@ fn first_left_out(tokens: &[Token]) -> Option<u32>
 /// The syntax tree of a text without tokens that are left out.
 fn read_all(input: &Input<'_>) -> Result<Source, ParseError>
     requires kept { NoneLeftOut input.now.tokens.now }
-    ensures found { IfOk result (λ s. Spells input.now.text.now (view.source s)) }
-    ensures fault { IfErr result (λ e. Fault input.now.tokens.now e) }
+    ensures { MatchResult result (λ s. Spells input.now.text.now (view.source s)) (λ e. Fault input.now.tokens.now e) }
 {
-    let found = source(input, 0, 0)?;
+    let found = source(input, 0, Depth { value: 0 })?;
     if (found.to as usize) < input.tokens.len() {
         return Err(ParseError::Syntax(found.to));
     }

@@ -8,7 +8,7 @@ use Rattle.vs_grammar.specs.Grammars.Tree.{leaf, nothing, both, former, latter, 
 use Rattle.vs_grammar.specs.Predictive.{is_member, firsts_of, can_be_empty, is_decided, is_subset}
 use Rattle.vs_grammar.specs.Kinds.{terminals_from}
 use Rattle.vs_grammar.specs.Verilog.{◌⨾◌, verilog, t}
-use Rattle.vs_grammar.specs.Meaning.{D, each_onto, list_of}
+use Rattle.vs_grammar.specs.Meaning.{D, each_onto, behind_sign, list_of}
 use Rattle.vs_grammar.proofs.Stopped.{says, onto_front}
 use Rattle.vs_grammar.proofs.Decided.{verilog_is_predictive}
 use Rattle.vs_phrase.specs.declared.input.Input.{Input}
@@ -113,14 +113,14 @@ listed_start {input = input} {view = view} {d = d} {a = a} {j = j} v list s p e 
   made = λ rest. ap (λ z. z ∷ rest) e ∙ ap (λ z. map view z ++ rest) (sym g);
 }
 
-pub listed_more : {A T : Type 0} {input : Input} {x : Phrase} {of : (ℕ → List ℕ) → D x → A} {view : T → A} {d i : ℕ} {list : List T} {j : ℕ} {o : D (t kind.Comma)} {c : D x} {k : ℕ} (v : T) (longer : List T) → Listed input x of view d i list j → is_member (kind_at input.tokens.now j) (46 ∷ []) ≡ true → Read input.tokens.now d (t kind.Comma ⨾ x) (both o c) j k → of (bytes_in input) c ≡ view v → longer ≡ list ++ (v ∷ []) → Listed input x of view d i longer k
-listed_more {input = input} {of = of} {view = view} {list = list} {o = o} {c = c} v longer l m p e g = record {
+pub listed_more : {A T : Type 0} {input : Input} {x : Phrase} {of : (ℕ → List ℕ) → D x → A} {view : T → A} {d i : ℕ} {list : List T} {j : ℕ} {c : D (t kind.Comma ⨾ x)} {k : ℕ} (v : T) (longer : List T) → Listed input x of view d i list j → is_member (kind_at input.tokens.now j) (46 ∷ []) ≡ true → Read input.tokens.now d (t kind.Comma ⨾ x) c j k → behind_sign (of (bytes_in input)) c ≡ view v → longer ≡ list ++ (v ∷ []) → Listed input x of view d i longer k
+listed_more {input = input} {of = of} {view = view} {list = list} {c = c} v longer l m p e g = record {
   first = l.first;
   middle = l.middle;
   read = l.read;
-  tree = grown l.tree (both o c);
+  tree = grown l.tree c;
   grown = grown_more l.grown m p;
-  made = λ rest. l.made (of (bytes_in input) c ∷ rest) ∙ ap (λ z. map view list ++ (z ∷ rest)) e ∙ sym (map-snoc view list v rest) ∙ ap (λ z. map view z ++ rest) (sym g);
+  made = λ rest. l.made (behind_sign (of (bytes_in input)) c ∷ rest) ∙ ap (λ z. map view list ++ (z ∷ rest)) e ∙ sym (map-snoc view list v rest) ∙ ap (λ z. map view z ++ rest) (sym g);
 }
 
 pub listed_done : {A T : Type 0} {input : Input} {x : Phrase} {of : (ℕ → List ℕ) → D x → A} {view : T → A} {d i : ℕ} {list : List T} {j : ℕ} → Listed input x of view d i list j → is_member (kind_at input.tokens.now j) (46 ∷ []) ≡ false → Parsed input (x ⨾ star (t kind.Comma ⨾ x)) (λ b a. list_of (of b) a) d i (map view list) j

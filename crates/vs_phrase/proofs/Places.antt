@@ -1,6 +1,6 @@
 -- Reading by places.
 use Rattle.std.proofs.Common.{◌≡◌, ℕ, ◌≢◌, Bool, true, false, ◌&&◌, ◌||◌, List, [], ◌∷◌, nat_eq, refl, sym, ◌∙◌, ap, subst, arith, ◌⊎◌, inl, inr, ◌+◌, ◌<◌, ◌≤◌, max, drop, length, drop-cons, add-one, get_or}
-use Rattle.std.specs.Prelude.{Result, Ok, Err, IfOk, IfErr, IsErrAnd, ltb}
+use Rattle.std.specs.Prelude.{Result, Ok, Err, IfOk, IfErr, IsErrAnd, MatchResult, ltb}
 use Rattle.std.proofs.lemmas.Bool.Decides.{nat_tests}
 use Rattle.std.proofs.lemmas.Bool.{and_parts}
 use Rattle.std.proofs.lemmas.List.{drop_all}
@@ -241,17 +241,22 @@ refused_alone out_of_memory = out_of_memory
 -- ---- results
 
 -- what a result says, from what another result says
-pub ok_more : {A E : Type 0} {P Q : A → Type 0} (r : Result A E) → IfOk r P → ((y : A) → P y → Q y) → IfOk r Q
-ok_more (Ok y) h f = f y h
-ok_more (Err e) h f = h
-
-pub err_more : {A E : Type 0} {P Q : E → Type 0} (r : Result A E) → IfErr r P → ((e : E) → P e → Q e) → IfErr r Q
-err_more (Ok y) h f = h
-err_more (Err e) h f = f e h
+pub answer_more : {A E : Type 0} {P S : A → Type 0} {Q R : E → Type 0} (r : Result A E) → MatchResult r P Q → ((y : A) → P y → S y) → ((e : E) → Q e → R e) → MatchResult r S R
+answer_more (Ok y) h f g = f y h
+answer_more (Err e) h f g = g e h
 
 -- a refusal that is passed on
-pub refused_exit : {A : Type 0} {ts : List Token} {d : ℕ} {x : Phrase} {i : ℕ} (r : Result A ParseError) (e : ParseError) → IsErrAnd r (λ y. y ≡ e) → Refused ts d x i e → IfErr r (λ y. Refused ts d x i y)
-refused_exit {A} {ts} {d} {x} {i} r e h q = let p = err_from_is_err_and r h in rw p.1 (subst (λ y. Refused ts d x i y) (sym p.2) q)
+pub answer_exit : {A E : Type 0} (P : A → Type 0) (Q : E → Type 0) (r : Result A E) (e : E) → IsErrAnd r (λ y. y ≡ e) → Q e → MatchResult r P Q
+answer_exit P Q r e h q = let p = err_from_is_err_and r h in rw p.1 (subst Q (sym p.2) q)
+
+-- what an answer says where it is a value, and where it is an error
+pub ok_part : {A E : Type 0} (P : A → Type 0) (Q : E → Type 0) (r : Result A E) → MatchResult r P Q → IfOk r P
+ok_part P Q (Ok y) h = h
+ok_part P Q (Err e) h = tt
+
+pub err_part : {A E : Type 0} (P : A → Type 0) (Q : E → Type 0) (r : Result A E) → MatchResult r P Q → IfErr r Q
+err_part P Q (Ok y) h = tt
+err_part P Q (Err e) h = h
 
 pub refused_memory : {ts : List Token} {d : ℕ} {x : Phrase} {i : ℕ} {e : ParseError} → e ≡ Memory → Refused ts d x i e
 refused_memory {ts} {d} {x} {i} e = subst (λ y. Refused ts d x i y) (sym e) out_of_memory
@@ -290,9 +295,6 @@ took_kind {ts} {k} {i} {j} t = kind_of (to_head ts i (λ l. Reads verilog (tok k
   where
     kind_of : {u v : Terminal} {us vs : List Terminal} → Reads verilog (tok k) (u ∷ us) (leaf v) vs → u.kind ≡ k
     kind_of (r_tok e) = e
-
-pub missing_exit : {A : Type 0} {ts : List Token} {x : Phrase} {i : ℕ} (r : Result A ParseError) (e : ParseError) → IsErrAnd r (λ y. y ≡ e) → Missing ts x i e → IfErr r (λ y. Missing ts x i y)
-missing_exit {A} {ts} {x} {i} r e h q = let p = err_from_is_err_and r h in rw p.1 (subst (λ y. Missing ts x i y) (sym p.2) q)
 
 pub first_took : {ts : List Token} {k i j : ℕ} → Took ts k i j → is_member (kind_at ts i) (k ∷ []) ≡ true
 first_took {ts} {k} {i} {j} t = kind_of (to_head ts i (λ l. Reads verilog (tok k) l (leaf (terminal_at ts i)) (from ts j)) t.reads)

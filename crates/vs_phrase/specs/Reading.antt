@@ -1,5 +1,5 @@
 -- Reading by places: the terminals from a token on, and what is read or refused there.
-use Rattle.std.specs.Prelude.{◌≡◌, ℕ, ◌+◌, ◌<◌, ◌≤◌, Bool, true, false, List, [], ◌∷◌, ◌++◌, ◌⊎◌, drop, length, map, max}
+use Rattle.std.specs.Prelude.{◌≡◌, ℕ, ◌+◌, ◌<◌, ◌≤◌, Bool, true, false, List, [], ◌∷◌, ◌++◌, ◌⊎◌, drop, length, map, max, Result, MatchResult}
 use Rattle.vs_lexer.specs.declared.token.Token.{Token}
 use Rattle.vs_lexer.specs.Cuts.{spelling_of}
 use Rattle.vs_lexer.specs.declared.token.TokenKind.{TokenKind}
@@ -13,8 +13,12 @@ use Rattle.vs_grammar.specs.Verilog.{Rule as rule, ◌⨾◌, verilog, t, r}
 use Rattle.vs_grammar.specs.Trees.{Name, Expr, BinaryOp}
 use Rattle.vs_grammar.specs.Meaning.{D, first_place, each_onto, behind_sign, name_at, expr_of}
 use Rattle.vs_ast.specs.declared.expressions.Expr.{Expr as ExprNode}
+use Rattle.vs_ast.specs.declared.names.Name.{Name as NameNode}
 use Rattle.vs_ast.specs.Views as view
+use Rattle.vs_phrase.specs.declared.depth.Depth.{Depth}
 use Rattle.vs_phrase.specs.declared.input.Input.{Input}
+use Rattle.vs_phrase.specs.declared.input.Found.{Found}
+use Rattle.vs_phrase.specs.declared.input.Nested.{Nested}
 use Rattle.vs_phrase.specs.declared.error.ParseError.{ParseError}
 use Rattle.vs_phrase.specs.declared.error.ParseError.TheVariants.{Syntax, TooDeep, Memory}
 
@@ -159,3 +163,21 @@ pub record Gathering (input : Input) (first : List ExprNode) (first_height d i :
   pub grown : Grown input.tokens.now d false eps (t kind.Comma ⨾ r rule.Expression) tree i j
   pub made : (rest : List Expr) → map view.expr first ++ each_onto (behind_sign (expr_of (bytes_in input))) tree rest ≡ map view.expr list ++ rest
   pub high : height ≡ max first_height (depth tree)
+
+-- ---- what readers answer
+
+-- at place i, at the depth d: x, which stands for the value as it is seen, or what refuses x
+abbrev pub Answers : {A T : Type 0} (input : Input) (x : Phrase) → ((ℕ → List ℕ) → D x → A) → (T → A) → Depth → ℕ → Result (Found T) ParseError → Type 0
+Answers input x of view d i r = MatchResult r (λ f. Parsed input x of d.value i (view f.value) f.to) (λ e. Refused input.tokens.now d.value x i e)
+
+-- the same, with the number of levels of what was read
+abbrev pub AnswersNested : {A T : Type 0} (input : Input) (x : Phrase) → ((ℕ → List ℕ) → D x → A) → (T → A) → Depth → ℕ → Result (Nested T) ParseError → Type 0
+AnswersNested input x of view d i r = MatchResult r (λ f. Measured input x of d.value i (view f.value) f.to f.height) (λ e. Refused input.tokens.now d.value x i e)
+
+-- a token of kind k stands at place i, and the place behind it is answered, or k is missing there
+abbrev pub Takes : List Token → ℕ → ℕ → Result ℕ ParseError → Type 0
+Takes ts k i r = MatchResult r (λ j. Took ts k i j) (λ e. Missing ts (tok k) i e)
+
+-- a name stands at place i, or is missing there
+abbrev pub Names : Input → ℕ → Result (Found NameNode) ParseError → Type 0
+Names input i r = MatchResult r (λ f. Word input i (view.name f.value) f.to) (λ e. Missing input.tokens.now (t kind.Identifier) i e)

@@ -1,22 +1,25 @@
 //! Expressions (IEEE 1364-2005, A.8).
 
-ghost use Rattle.std.specs.Prelude.{◌≡◌, ◌+◌, ◌≤◌, MatchOption, IfOk, IfErr, Ok, true, false, [], ◌∷◌, map};
+ghost use Rattle.std.specs.Prelude.{◌≡◌, ◌+◌, ◌≤◌, MatchOption, Ok, true, false, [], ◌∷◌, map, MatchResult};
 ghost use Rattle.vs_grammar.specs.Grammars.{opt, star};
 ghost use Rattle.vs_grammar.specs.Predictive.{is_member};
 ghost use Rattle.vs_grammar.specs.Verilog.{Rule as rule, r, t, ◌⨾◌, expression_firsts, separated};
 ghost use Rattle.vs_grammar.specs.Verilog as grammar;
 ghost use Rattle.vs_grammar.specs.Kinds.{numbers_of};
+ghost use Rattle.vs_grammar.specs.Trees as tree;
 ghost use Rattle.vs_lexer.specs.declared.token.TokenKind.TheVariants as kind;
 ghost use Rattle.vs_grammar.specs.Meaning as meaning;
 ghost use Rattle.vs_ast.specs.Views as view;
 ghost use Rattle.vs_phrase.specs.Levels.{level_of, level_op, level_operator, level_phrase, table_of};
 ghost use Rattle.vs_phrase.specs.Parts as part;
-ghost use Rattle.vs_phrase.specs.Reading.{Chosen, Measured, MeasuredList, Parsed, Refused, kind_at, kinds_in};
+ghost use Rattle.vs_phrase.specs.Reading.{Answers, Chosen, MeasuredList, Refused, kind_at, kinds_in, AnswersNested};
 
+use crate::commas::{Part, comma_list};
+use crate::depth::Depth;
 use crate::error::ParseError;
 use crate::input::{Found, Input, Nested};
 use crate::levels::{Level, below, is_unary, operators};
-use crate::tokens::{around, choose, deeper, larger, stands, stands_any, take};
+use crate::tokens::{choose, larger, stands, stands_any, take};
 use crate::words::{identifier, literal};
 use std::alloc::Global;
 use vs_ast::{BinaryOp, Expr, Select, SliceKind, SystemFunction, UnaryOp};
@@ -81,17 +84,15 @@ fn system_function(input: &Input<'_>, at: u32) -> Option<Found<SystemFunction>>
 
 /// An expression: operands and operators, and perhaps a choice.
 #[cycle(expressions)]
-pub fn expression(input: &Input<'_>, at: u32, depth: u32) -> Result<Nested<Expr>, ParseError>
-    requires shallow { depth ≤ 200 }
-    ensures found { IfOk result (λ f. Measured input.now (r rule.Expression) meaning.expr_of depth at (view.expr f.value) f.to f.height) }
-    ensures refused { IfErr result (λ e. Refused input.now.tokens.now depth (r rule.Expression) at e) }
+pub fn expression(input: &Input<'_>, at: u32, depth: Depth) -> Result<Nested<Expr>, ParseError>
+    ensures { AnswersNested input.now (r rule.Expression) meaning.expr_of view.expr depth at result }
 {
     let condition = operations(input, at, depth, Level::LogicalOr)?;
     if !stands(input, condition.to, TokenKind::Question) {
         return Ok(condition);
     }
     let question = take(input, condition.to, TokenKind::Question)?;
-    let inner = around(depth, condition.height, condition.to)?;
+    let inner = depth.around(condition.height, condition.to)?;
     let yes = expression(input, question, inner)?;
     let colon = take(input, yes.to, TokenKind::Colon)?;
     let no = expression(input, colon, inner)?;
@@ -109,19 +110,17 @@ pub fn expression(input: &Input<'_>, at: u32, depth: u32) -> Result<Nested<Expr>
 fn operations(
     input: &Input<'_>,
     at: u32,
-    depth: u32,
+    depth: Depth,
     level: Level,
 ) -> Result<Nested<Expr>, ParseError>
-    requires shallow { depth ≤ 200 }
-    ensures found { IfOk result (λ f. Measured input.now (level_phrase level) (level_of level) depth at (view.expr f.value) f.to f.height) }
-    ensures refused { IfErr result (λ e. Refused input.now.tokens.now depth (level_phrase level) at e) }
+    ensures { AnswersNested input.now (level_phrase level) (level_of level) view.expr depth at result }
 {
     if is_unary(level) {
         return unary(input, at, depth);
     }
     let mut left = operations(input, at, depth, below(level))?;
     while let Some(op) = operator(input, left.to, level) {
-        let inner = around(depth, left.height, left.to)?;
+        let inner = depth.around(left.height, left.to)?;
         let right = operations(input, op.to, inner, below(level))?;
         let height = 1 + larger(left.height, right.height);
         let value = Expr::new_binary(input.alloc, op.value, left.value, right.value)?;
@@ -136,15 +135,13 @@ fn operations(
 
 /// An operand, perhaps with operators before it.
 #[cycle(expressions)]
-fn unary(input: &Input<'_>, at: u32, depth: u32) -> Result<Nested<Expr>, ParseError>
-    requires shallow { depth ≤ 200 }
-    ensures found { IfOk result (λ f. Measured input.now (r rule.Unary) meaning.unary_of depth at (view.expr f.value) f.to f.height) }
-    ensures refused { IfErr result (λ e. Refused input.now.tokens.now depth (r rule.Unary) at e) }
+fn unary(input: &Input<'_>, at: u32, depth: Depth) -> Result<Nested<Expr>, ParseError>
+    ensures { AnswersNested input.now (r rule.Unary) meaning.unary_of view.expr depth at result }
 {
     let Some(op) = unary_operator(input, at) else {
         return primary(input, at, depth);
     };
-    let inner = deeper(depth, at)?;
+    let inner = depth.deeper(at)?;
     let operand = unary(input, op.to, inner)?;
     let height = 1 + operand.height;
     let value = Expr::new_unary(input.alloc, at, op.value, operand.value)?;
@@ -157,10 +154,8 @@ fn unary(input: &Input<'_>, at: u32, depth: u32) -> Result<Nested<Expr>, ParseEr
 
 /// A number, a name, brackets, braces, or a call.
 #[cycle(expressions)]
-fn primary(input: &Input<'_>, at: u32, depth: u32) -> Result<Nested<Expr>, ParseError>
-    requires shallow { depth ≤ 200 }
-    ensures found { IfOk result (λ f. Measured input.now (r rule.Primary) meaning.primary_of depth at (view.expr f.value) f.to f.height) }
-    ensures refused { IfErr result (λ e. Refused input.now.tokens.now depth (r rule.Primary) at e) }
+fn primary(input: &Input<'_>, at: u32, depth: Depth) -> Result<Nested<Expr>, ParseError>
+    ensures { AnswersNested input.now (r rule.Primary) meaning.primary_of view.expr depth at result }
 {
     if is_number_at(input, at) {
         number(input, at, depth)
@@ -183,11 +178,9 @@ fn is_number_at(input: &Input<'_>, at: u32) -> bool
 }
 
 /// A number.
-fn number(input: &Input<'_>, at: u32, depth: u32) -> Result<Nested<Expr>, ParseError>
-    requires shallow { depth ≤ 200 }
+fn number(input: &Input<'_>, at: u32, depth: Depth) -> Result<Nested<Expr>, ParseError>
     requires number { is_member (kind_at input.now.tokens.now at) part.number_kinds ≡ true }
-    ensures found { IfOk result (λ f. Measured input.now grammar.number part.number_tree depth at (view.expr f.value) f.to f.height) }
-    ensures refused { IfErr result (λ e. Refused input.now.tokens.now depth grammar.number at e) }
+    ensures { AnswersNested input.now grammar.number part.number_tree view.expr depth at result }
 {
     let literal = literal(input, at);
     Ok(Nested {
@@ -199,10 +192,8 @@ fn number(input: &Input<'_>, at: u32, depth: u32) -> Result<Nested<Expr>, ParseE
 
 /// A name, with what is selected of it.
 #[cycle(expressions)]
-fn named(input: &Input<'_>, at: u32, depth: u32) -> Result<Nested<Expr>, ParseError>
-    requires shallow { depth ≤ 200 }
-    ensures found { IfOk result (λ f. Measured input.now grammar.selected_name part.name_tree depth at (view.expr f.value) f.to f.height) }
-    ensures refused { IfErr result (λ e. Refused input.now.tokens.now depth grammar.selected_name at e) }
+fn named(input: &Input<'_>, at: u32, depth: Depth) -> Result<Nested<Expr>, ParseError>
+    ensures { AnswersNested input.now grammar.selected_name part.name_tree view.expr depth at result }
 {
     let name = identifier(input, at)?;
     let select = select(input, name.to, depth)?;
@@ -215,10 +206,8 @@ fn named(input: &Input<'_>, at: u32, depth: u32) -> Result<Nested<Expr>, ParseEr
 
 /// What is selected of a name.
 #[cycle(expressions)]
-pub fn select(input: &Input<'_>, at: u32, depth: u32) -> Result<Nested<Select>, ParseError>
-    requires shallow { depth ≤ 200 }
-    ensures found { IfOk result (λ f. Measured input.now (opt (r rule.Select)) meaning.select_or_whole depth at (view.select f.value) f.to f.height) }
-    ensures refused { IfErr result (λ e. Refused input.now.tokens.now depth (opt (r rule.Select)) at e) }
+pub fn select(input: &Input<'_>, at: u32, depth: Depth) -> Result<Nested<Select>, ParseError>
+    ensures { AnswersNested input.now (opt (r rule.Select)) meaning.select_or_whole view.select depth at result }
 {
     if !stands(input, at, TokenKind::OpenBracket) {
         return Ok(Nested {
@@ -228,7 +217,7 @@ pub fn select(input: &Input<'_>, at: u32, depth: u32) -> Result<Nested<Select>, 
         });
     }
     let open = take(input, at, TokenKind::OpenBracket)?;
-    let inner = deeper(depth, at)?;
+    let inner = depth.deeper(at)?;
     let left = expression(input, open, inner)?;
     let Some(sign) = slice_sign(input, left.to) else {
         let close = take(input, left.to, TokenKind::CloseBracket)?;
@@ -253,13 +242,11 @@ pub fn select(input: &Input<'_>, at: u32, depth: u32) -> Result<Nested<Select>, 
 
 /// An expression in round brackets.
 #[cycle(expressions)]
-fn brackets(input: &Input<'_>, at: u32, depth: u32) -> Result<Nested<Expr>, ParseError>
-    requires shallow { depth ≤ 200 }
-    ensures found { IfOk result (λ f. Measured input.now grammar.brackets part.brackets_tree depth at (view.expr f.value) f.to f.height) }
-    ensures refused { IfErr result (λ e. Refused input.now.tokens.now depth grammar.brackets at e) }
+fn brackets(input: &Input<'_>, at: u32, depth: Depth) -> Result<Nested<Expr>, ParseError>
+    ensures { AnswersNested input.now grammar.brackets part.brackets_tree view.expr depth at result }
 {
     let open = take(input, at, TokenKind::OpenParen)?;
-    let inner = deeper(depth, at)?;
+    let inner = depth.deeper(at)?;
     let operand = expression(input, open, inner)?;
     let close = take(input, operand.to, TokenKind::CloseParen)?;
     let height = 1 + operand.height;
@@ -273,13 +260,11 @@ fn brackets(input: &Input<'_>, at: u32, depth: u32) -> Result<Nested<Expr>, Pars
 
 /// A concatenation or a replication.
 #[cycle(expressions)]
-fn braces(input: &Input<'_>, at: u32, depth: u32) -> Result<Nested<Expr>, ParseError>
-    requires shallow { depth ≤ 200 }
-    ensures found { IfOk result (λ f. Measured input.now grammar.braces part.braces_tree depth at (view.expr f.value) f.to f.height) }
-    ensures refused { IfErr result (λ e. Refused input.now.tokens.now depth grammar.braces at e) }
+fn braces(input: &Input<'_>, at: u32, depth: Depth) -> Result<Nested<Expr>, ParseError>
+    ensures { AnswersNested input.now grammar.braces part.braces_tree view.expr depth at result }
 {
     let open = take(input, at, TokenKind::OpenBrace)?;
-    let inner = deeper(depth, at)?;
+    let inner = depth.deeper(at)?;
     let first = expression(input, open, inner)?;
     if stands(input, first.to, TokenKind::OpenBrace) {
         let brace = take(input, first.to, TokenKind::OpenBrace)?;
@@ -320,8 +305,7 @@ fn braces(input: &Input<'_>, at: u32, depth: u32) -> Result<Nested<Expr>, ParseE
 
 /// The list of one expression.
 fn one(alloc: Global, value: Expr) -> Result<Vec<Expr>, ParseError>
-    ensures list { IfOk result (λ v. v.items ≡ value ∷ []) }
-    ensures memory { IfErr result (λ e. e ≡ ParseError.Memory) }
+    ensures { MatchResult result (λ v. v.items ≡ value ∷ []) (λ e. e ≡ ParseError.Memory) }
 {
     let mut list = Vec::new(alloc);
     list.push(value)?;
@@ -333,14 +317,12 @@ fn one(alloc: Global, value: Expr) -> Result<Vec<Expr>, ParseError>
 fn more_expressions(
     input: &Input<'_>,
     at: u32,
-    depth: u32,
+    depth: Depth,
     first: Vec<Expr>,
     first_height: u32,
 ) -> Result<Nested<Vec<Expr>>, ParseError>
-    requires shallow { depth ≤ 200 }
-    requires high { depth + first_height ≤ 200 }
-    ensures found { IfOk result (λ f. MeasuredList input.now first.items first_height depth at f.value.items f.to f.height) }
-    ensures refused { IfErr result (λ e. Refused input.now.tokens.now depth (star (t kind.Comma ⨾ r rule.Expression)) at e) }
+    requires high { depth.value + first_height ≤ 200 }
+    ensures { MatchResult result (λ f. MeasuredList input.now first.items first_height depth.value at f.value.items f.to f.height) (λ e. Refused input.now.tokens.now depth.value (star (t kind.Comma ⨾ r rule.Expression)) at e) }
 {
     let mut list = first;
     let mut to = at;
@@ -361,15 +343,13 @@ fn more_expressions(
 
 /// The call of a system function.
 #[cycle(expressions)]
-fn call(input: &Input<'_>, at: u32, depth: u32) -> Result<Nested<Expr>, ParseError>
-    requires shallow { depth ≤ 200 }
-    ensures found { IfOk result (λ f. Measured input.now grammar.call part.call_tree depth at (view.expr f.value) f.to f.height) }
-    ensures refused { IfErr result (λ e. Refused input.now.tokens.now depth grammar.call at e) }
+fn call(input: &Input<'_>, at: u32, depth: Depth) -> Result<Nested<Expr>, ParseError>
+    ensures { AnswersNested input.now grammar.call part.call_tree view.expr depth at result }
 {
     let Some(function) = system_function(input, at) else {
         return Err(ParseError::Syntax(at));
     };
-    let inner = deeper(depth, at)?;
+    let inner = depth.deeper(at)?;
     let open = take(input, function.to, TokenKind::OpenParen)?;
     let operand = expression(input, open, inner)?;
     let close = take(input, operand.to, TokenKind::CloseParen)?;
@@ -412,17 +392,37 @@ pub fn is_expression_at(input: &Input<'_>, at: u32) -> bool
     stands_any(input, at, &EXPRESSION_KINDS)
 }
 
-/// Expressions, with commas between them.
-pub fn expressions(input: &Input<'_>, at: u32, depth: u32) -> Result<Found<Vec<Expr>>, ParseError>
-    requires shallow { depth ≤ 200 }
-    ensures found { IfOk result (λ f. Parsed input.now (separated (r rule.Expression)) (λ b d. meaning.list_of (meaning.expr_of b) d) depth at (map view.expr f.value.items) f.to) }
-    ensures refused { IfErr result (λ e. Refused input.now.tokens.now depth (separated (r rule.Expression)) at e) }
+/// An expression, whose levels nobody asks for.
+fn plain_expression(input: &Input<'_>, at: u32, depth: Depth) -> Result<Found<Expr>, ParseError>
+    ensures { Answers input.now (r rule.Expression) meaning.expr_of view.expr depth at result }
 {
-    let first = expression(input, at, depth)?;
-    let list = one(input.alloc, first.value)?;
-    let rest = more_expressions(input, first.to, depth, list, first.height)?;
+    let found = expression(input, at, depth)?;
     Ok(Found {
-        value: rest.value,
-        to: rest.to,
+        value: found.value,
+        to: found.to,
+    })
+}
+
+/// An expression, as a part of a list.
+struct ExpressionPart;
+
+impl Part for ExpressionPart {
+    type Value = Expr;
+
+    ghost Tree = { tree.Expr };
+
+    ghost phrase = { r rule.Expression };
+
+    ghost meaning = { meaning.expr_of };
+
+    ghost view = { view.expr };
+}
+
+/// Expressions, with commas between them.
+pub fn expressions(input: &Input<'_>, at: u32, depth: Depth) -> Result<Found<Vec<Expr>>, ParseError>
+    ensures { Answers input.now (separated (r rule.Expression)) (λ b d. meaning.list_of (meaning.expr_of b) d) (λ v. map view.expr v.items) depth at result }
+{
+    comma_list::<ExpressionPart, _>(input, at, depth, |place, inner| {
+        plain_expression(input, place, inner)
     })
 }

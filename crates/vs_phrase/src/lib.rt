@@ -1,6 +1,8 @@
 //! Reads the tokens of a design text as names, numbers, expressions, targets and statements (IEEE 1364-2005, A.6, A.8 and A.9).
 #![tactic(auto)]
 
+pub mod commas;
+pub mod depth;
 mod error;
 pub mod expressions;
 pub mod input;

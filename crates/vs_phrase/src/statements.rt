@@ -1,6 +1,6 @@
 //! Statements (IEEE 1364-2005, A.6), and what is assigned to.
 
-ghost use Rattle.std.specs.Prelude.{◌≡◌, ◌≤◌, MatchOption, IfOk, IfErr, Ok, false, [], ◌++◌, map};
+ghost use Rattle.std.specs.Prelude.{◌≡◌, ◌≤◌, MatchOption, Ok, false, [], ◌++◌, map};
 ghost use Rattle.vs_grammar.specs.Grammars.{star};
 ghost use Rattle.vs_grammar.specs.Verilog.{Rule as rule, r, separated};
 ghost use Rattle.vs_grammar.specs.Verilog as grammar;
@@ -9,12 +9,14 @@ ghost use Rattle.vs_grammar.specs.Trees as tree;
 ghost use Rattle.vs_grammar.specs.Predictive.{is_member};
 ghost use Rattle.vs_ast.specs.Views as view;
 ghost use Rattle.vs_phrase.specs.Parts as part;
-ghost use Rattle.vs_phrase.specs.Reading.{Chosen, Parsed, Refused, kind_at};
+ghost use Rattle.vs_phrase.specs.Reading.{Answers, Chosen, kind_at};
 
+use crate::commas::{Part, comma_list};
+use crate::depth::Depth;
 use crate::error::ParseError;
 use crate::expressions::{expression, expressions, is_expression_at, select};
 use crate::input::{Found, Input};
-use crate::tokens::{choose, deeper, optional, stands, stands_any, take};
+use crate::tokens::{choose, optional, stands, stands_any, take};
 use crate::words::{identifier, label};
 use vs_ast::{CaseArm, CaseKind, Statement, Target};
 use vs_lexer::TokenKind;
@@ -67,10 +69,8 @@ fn is_statement_at(input: &Input<'_>, at: u32) -> bool
 
 /// What is assigned to.
 #[cycle(targets)]
-pub fn target(input: &Input<'_>, at: u32, depth: u32) -> Result<Found<Target>, ParseError>
-    requires shallow { depth ≤ 200 }
-    ensures found { IfOk result (λ f. Parsed input.now (r rule.Target) meaning.target_of depth at (view.target f.value) f.to) }
-    ensures refused { IfErr result (λ e. Refused input.now.tokens.now depth (r rule.Target) at e) }
+pub fn target(input: &Input<'_>, at: u32, depth: Depth) -> Result<Found<Target>, ParseError>
+    ensures { Answers input.now (r rule.Target) meaning.target_of view.target depth at result }
 {
     if stands(input, at, TokenKind::Identifier) {
         named_target(input, at, depth)
@@ -80,10 +80,8 @@ pub fn target(input: &Input<'_>, at: u32, depth: u32) -> Result<Found<Target>, P
 }
 
 /// A name that is assigned to, with what is selected of it.
-fn named_target(input: &Input<'_>, at: u32, depth: u32) -> Result<Found<Target>, ParseError>
-    requires shallow { depth ≤ 200 }
-    ensures found { IfOk result (λ f. Parsed input.now grammar.selected_name part.named_target_tree depth at (view.target f.value) f.to) }
-    ensures refused { IfErr result (λ e. Refused input.now.tokens.now depth grammar.selected_name at e) }
+fn named_target(input: &Input<'_>, at: u32, depth: Depth) -> Result<Found<Target>, ParseError>
+    ensures { Answers input.now grammar.selected_name part.named_target_tree view.target depth at result }
 {
     let name = identifier(input, at)?;
     let select = select(input, name.to, depth)?;
@@ -95,50 +93,52 @@ fn named_target(input: &Input<'_>, at: u32, depth: u32) -> Result<Found<Target>,
 
 /// Targets in braces.
 #[cycle(targets)]
-fn targets(input: &Input<'_>, at: u32, depth: u32) -> Result<Found<Target>, ParseError>
-    requires shallow { depth ≤ 200 }
-    ensures found { IfOk result (λ f. Parsed input.now (part.target_braces) part.target_braces_tree depth at (view.target f.value) f.to) }
-    ensures refused { IfErr result (λ e. Refused input.now.tokens.now depth (part.target_braces) at e) }
+fn targets(input: &Input<'_>, at: u32, depth: Depth) -> Result<Found<Target>, ParseError>
+    ensures { Answers input.now (part.target_braces) part.target_braces_tree view.target depth at result }
 {
     let open = take(input, at, TokenKind::OpenBrace)?;
-    let inner = deeper(depth, at)?;
+    let inner = depth.deeper(at)?;
     let list = target_list(input, open, inner)?;
     let close = take(input, list.to, TokenKind::CloseBrace)?;
     let value = Target::new_concatenation(at, list.value);
     Ok(Found { value, to: close })
 }
 
+/// What is assigned to, as a part of a list.
+struct TargetPart;
+
+impl Part for TargetPart {
+    type Value = Target;
+
+    ghost Tree = { tree.Target };
+
+    ghost phrase = { r rule.Target };
+
+    ghost meaning = { meaning.target_of };
+
+    ghost view = { view.target };
+}
+
 /// Targets, with commas between them.
 #[cycle(targets)]
-fn target_list(input: &Input<'_>, at: u32, depth: u32) -> Result<Found<Vec<Target>>, ParseError>
-    requires shallow { depth ≤ 200 }
-    ensures found { IfOk result (λ f. Parsed input.now (separated (r rule.Target)) (λ b d. meaning.list_of (meaning.target_of b) d) depth at (map view.target f.value.items) f.to) }
-    ensures refused { IfErr result (λ e. Refused input.now.tokens.now depth (separated (r rule.Target)) at e) }
+fn target_list(input: &Input<'_>, at: u32, depth: Depth) -> Result<Found<Vec<Target>>, ParseError>
+    ensures { Answers input.now (separated (r rule.Target)) (λ b d. meaning.list_of (meaning.target_of b) d) (λ v. map view.target v.items) depth at result }
 {
-    let mut list = Vec::new(input.alloc);
-    let first = target(input, at, depth)?;
-    list.push(first.value)?;
-    let mut to = first.to;
-    while stands(input, to, TokenKind::Comma) {
-        let comma = take(input, to, TokenKind::Comma)?;
-        let next = target(input, comma, depth)?;
-        list.push(next.value)?;
-        to = next.to;
-    }
-    Ok(Found { value: list, to })
+    let read = |place: u32, _inner: Depth| -> Result<Found<Target>, ParseError>
+        ensures { Answers input.entry.now (r rule.Target) meaning.target_of view.target depth place result }
+    { target(input, place, depth) };
+    comma_list::<TargetPart, _>(input, at, depth, read)
 }
 
 /// A statement.
 #[cycle(statements)]
-pub fn statement(input: &Input<'_>, at: u32, depth: u32) -> Result<Found<Statement>, ParseError>
-    requires shallow { depth ≤ 200 }
-    ensures found { IfOk result (λ f. Parsed input.now (r rule.Statement) meaning.statement_of depth at (view.statement f.value) f.to) }
-    ensures refused { IfErr result (λ e. Refused input.now.tokens.now depth (r rule.Statement) at e) }
+pub fn statement(input: &Input<'_>, at: u32, depth: Depth) -> Result<Found<Statement>, ParseError>
+    ensures { Answers input.now (r rule.Statement) meaning.statement_of view.statement depth at result }
 {
     if !is_statement_at(input, at) {
         return Err(ParseError::Syntax(at));
     }
-    let inner = deeper(depth, at)?;
+    let inner = depth.deeper(at)?;
     if stands(input, at, TokenKind::Semicolon) {
         let to = take(input, at, TokenKind::Semicolon)?;
         Ok(Found {
@@ -166,10 +166,8 @@ pub fn statement(input: &Input<'_>, at: u32, depth: u32) -> Result<Found<Stateme
 
 /// An `if`.
 #[cycle(statements)]
-fn conditional(input: &Input<'_>, at: u32, depth: u32) -> Result<Found<Statement>, ParseError>
-    requires shallow { depth ≤ 200 }
-    ensures found { IfOk result (λ f. Parsed input.now (grammar.conditional (r rule.Statement)) part.conditional_tree depth at (view.statement f.value) f.to) }
-    ensures refused { IfErr result (λ e. Refused input.now.tokens.now depth (grammar.conditional (r rule.Statement)) at e) }
+fn conditional(input: &Input<'_>, at: u32, depth: Depth) -> Result<Found<Statement>, ParseError>
+    ensures { Answers input.now (grammar.conditional (r rule.Statement)) part.conditional_tree view.statement depth at result }
 {
     let word = take(input, at, TokenKind::KeywordIf)?;
     let open = take(input, word, TokenKind::OpenParen)?;
@@ -189,11 +187,9 @@ fn conditional(input: &Input<'_>, at: u32, depth: u32) -> Result<Found<Statement
 fn alternative(
     input: &Input<'_>,
     at: u32,
-    depth: u32,
+    depth: Depth,
 ) -> Result<Found<Option<Statement>>, ParseError>
-    requires shallow { depth ≤ 200 }
-    ensures found { IfOk result (λ f. Parsed input.now (part.alternative) meaning.else_of depth at (view.fallback f.value) f.to) }
-    ensures refused { IfErr result (λ e. Refused input.now.tokens.now depth (part.alternative) at e) }
+    ensures { Answers input.now (part.alternative) meaning.else_of view.fallback depth at result }
 {
     if !stands(input, at, TokenKind::KeywordElse) {
         return Ok(Found {
@@ -211,10 +207,8 @@ fn alternative(
 
 /// The statements between `begin` and `end`.
 #[cycle(statements)]
-fn sequence(input: &Input<'_>, at: u32, depth: u32) -> Result<Found<Statement>, ParseError>
-    requires shallow { depth ≤ 200 }
-    ensures found { IfOk result (λ f. Parsed input.now grammar.sequence part.sequence_tree depth at (view.statement f.value) f.to) }
-    ensures refused { IfErr result (λ e. Refused input.now.tokens.now depth grammar.sequence at e) }
+fn sequence(input: &Input<'_>, at: u32, depth: Depth) -> Result<Found<Statement>, ParseError>
+    ensures { Answers input.now grammar.sequence part.sequence_tree view.statement depth at result }
 {
     let begin = take(input, at, TokenKind::KeywordBegin)?;
     let label = label(input, begin, depth)?;
@@ -226,10 +220,8 @@ fn sequence(input: &Input<'_>, at: u32, depth: u32) -> Result<Found<Statement>, 
 
 /// Statements.
 #[cycle(statements)]
-fn statements(input: &Input<'_>, at: u32, depth: u32) -> Result<Found<Vec<Statement>>, ParseError>
-    requires shallow { depth ≤ 200 }
-    ensures found { IfOk result (λ f. Parsed input.now (star (r rule.Statement)) (λ b d. meaning.each_onto (meaning.statement_of b) d []) depth at (map view.statement f.value.items) f.to) }
-    ensures refused { IfErr result (λ e. Refused input.now.tokens.now depth (star (r rule.Statement)) at e) }
+fn statements(input: &Input<'_>, at: u32, depth: Depth) -> Result<Found<Vec<Statement>>, ParseError>
+    ensures { Answers input.now (star (r rule.Statement)) (λ b d. meaning.each_onto (meaning.statement_of b) d []) (λ v. map view.statement v.items) depth at result }
 {
     let mut list = Vec::new(input.alloc);
     let mut to = at;
@@ -242,10 +234,8 @@ fn statements(input: &Input<'_>, at: u32, depth: u32) -> Result<Found<Vec<Statem
 }
 
 /// An assignment.
-fn assignment(input: &Input<'_>, at: u32, depth: u32) -> Result<Found<Statement>, ParseError>
-    requires shallow { depth ≤ 200 }
-    ensures found { IfOk result (λ f. Parsed input.now grammar.assigned part.assignment_tree depth at (view.statement f.value) f.to) }
-    ensures refused { IfErr result (λ e. Refused input.now.tokens.now depth grammar.assigned at e) }
+fn assignment(input: &Input<'_>, at: u32, depth: Depth) -> Result<Found<Statement>, ParseError>
+    ensures { Answers input.now grammar.assigned part.assignment_tree view.statement depth at result }
 {
     let target = target(input, at, depth)?;
     let Some(sign) = assignment_sign(input, target.to) else {
@@ -263,10 +253,8 @@ fn assignment(input: &Input<'_>, at: u32, depth: u32) -> Result<Found<Statement>
 
 /// A `case`, `casez` or `casex`.
 #[cycle(statements)]
-fn case(input: &Input<'_>, at: u32, depth: u32) -> Result<Found<Statement>, ParseError>
-    requires shallow { depth ≤ 200 }
-    ensures found { IfOk result (λ f. Parsed input.now grammar.case_statement part.case_tree depth at (view.statement f.value) f.to) }
-    ensures refused { IfErr result (λ e. Refused input.now.tokens.now depth grammar.case_statement at e) }
+fn case(input: &Input<'_>, at: u32, depth: Depth) -> Result<Found<Statement>, ParseError>
+    ensures { Answers input.now grammar.case_statement part.case_tree view.statement depth at result }
 {
     let Some(word) = case_word(input, at) else {
         return Err(ParseError::Syntax(at));
@@ -296,10 +284,8 @@ pub struct CaseParts {
 
 /// The arms of a case, with at most one default among them.
 #[cycle(statements)]
-fn cases(input: &Input<'_>, at: u32, depth: u32) -> Result<Found<CaseParts>, ParseError>
-    requires shallow { depth ≤ 200 }
-    ensures found { IfOk result (λ f. Parsed input.now (r rule.Cases) part.cases_of depth at (part.cases_view f.value) f.to) }
-    ensures refused { IfErr result (λ e. Refused input.now.tokens.now depth (r rule.Cases) at e) }
+fn cases(input: &Input<'_>, at: u32, depth: Depth) -> Result<Found<CaseParts>, ParseError>
+    ensures { Answers input.now (r rule.Cases) part.cases_of part.cases_view depth at result }
 {
     if stands(input, at, TokenKind::KeywordDefault) {
         let other = case_default(input, at, depth)?;
@@ -341,12 +327,10 @@ fn cases(input: &Input<'_>, at: u32, depth: u32) -> Result<Found<CaseParts>, Par
 fn case_arms(
     input: &Input<'_>,
     at: u32,
-    depth: u32,
+    depth: Depth,
     before: Vec<CaseArm>,
 ) -> Result<Found<Vec<CaseArm>>, ParseError>
-    requires shallow { depth ≤ 200 }
-    ensures found { IfOk result (λ f. Parsed input.now (star (r rule.CaseItem)) (λ b d. map part.arm_view before.items ++ meaning.each_onto (part.arm_of b) d []) depth at (map part.arm_view f.value.items) f.to) }
-    ensures refused { IfErr result (λ e. Refused input.now.tokens.now depth (star (r rule.CaseItem)) at e) }
+    ensures { Answers input.now (star (r rule.CaseItem)) (λ b d. map part.arm_view before.items ++ meaning.each_onto (part.arm_of b) d []) (λ v. map part.arm_view v.items) depth at result }
 {
     let mut list = before;
     let mut to = at;
@@ -360,10 +344,8 @@ fn case_arms(
 
 /// The labels of an arm, and its statement.
 #[cycle(statements)]
-fn case_arm(input: &Input<'_>, at: u32, depth: u32) -> Result<Found<CaseArm>, ParseError>
-    requires shallow { depth ≤ 200 }
-    ensures found { IfOk result (λ f. Parsed input.now (r rule.CaseItem) part.arm_of depth at (part.arm_view f.value) f.to) }
-    ensures refused { IfErr result (λ e. Refused input.now.tokens.now depth (r rule.CaseItem) at e) }
+fn case_arm(input: &Input<'_>, at: u32, depth: Depth) -> Result<Found<CaseArm>, ParseError>
+    ensures { Answers input.now (r rule.CaseItem) part.arm_of part.arm_view depth at result }
 {
     let labels = expressions(input, at, depth)?;
     let colon = take(input, labels.to, TokenKind::Colon)?;
@@ -379,10 +361,8 @@ fn case_arm(input: &Input<'_>, at: u32, depth: u32) -> Result<Found<CaseArm>, Pa
 
 /// The default of a case.
 #[cycle(statements)]
-fn case_default(input: &Input<'_>, at: u32, depth: u32) -> Result<Found<Statement>, ParseError>
-    requires shallow { depth ≤ 200 }
-    ensures found { IfOk result (λ f. Parsed input.now (r rule.CaseDefault) meaning.default_statement depth at (tree.Otherwise (view.statement f.value)) f.to) }
-    ensures refused { IfErr result (λ e. Refused input.now.tokens.now depth (r rule.CaseDefault) at e) }
+fn case_default(input: &Input<'_>, at: u32, depth: Depth) -> Result<Found<Statement>, ParseError>
+    ensures { Answers input.now (r rule.CaseDefault) meaning.default_statement (λ v. tree.Otherwise (view.statement v)) depth at result }
 {
     let word = take(input, at, TokenKind::KeywordDefault)?;
     let colon = optional(input, word, depth, TokenKind::Colon);

@@ -1,13 +1,14 @@
 //! Single tokens.
 
-ghost use Rattle.std.specs.Prelude.{◌≡◌, ◌+◌, ◌<◌, ◌≤◌, nat_eq, max, IfOk, IfErr, Ok, MatchOption, false};
+ghost use Rattle.std.specs.Prelude.{◌≡◌, ◌+◌, ◌<◌, ◌≤◌, nat_eq, max, Ok, MatchOption, false, MatchResult};
 ghost use Rattle.vs_grammar.specs.Grammars.{opt};
 ghost use Rattle.vs_grammar.specs.Grammars.Phrase.{tok};
 ghost use Rattle.vs_grammar.specs.Meaning.{is_there};
 ghost use Rattle.vs_grammar.specs.Kinds.{number_of, numbers_of};
 ghost use Rattle.vs_grammar.specs.Predictive.{is_member};
-ghost use Rattle.vs_phrase.specs.Reading.{kind_at, Took, Missing, Parsed, Picked, kinds_in};
+ghost use Rattle.vs_phrase.specs.Reading.{kind_at, Parsed, Picked, kinds_in, Takes};
 
+use crate::depth::Depth;
 use crate::error::ParseError;
 use crate::input::{Found, Input};
 use vs_lexer::TokenKind;
@@ -32,39 +33,12 @@ pub fn stands(input: &Input<'_>, at: u32, kind: TokenKind) -> bool
 
 /// The place behind a token of this kind.
 pub fn take(input: &Input<'_>, at: u32, kind: TokenKind) -> Result<u32, ParseError>
-    ensures read { IfOk result (λ to. Took input.now.tokens.now (number_of kind) at to) }
-    ensures refused { IfErr result (λ e. Missing input.now.tokens.now (tok (number_of kind)) at e) }
+    ensures { Takes input.now.tokens.now (number_of kind) at result }
 {
     if stands(input, at, kind) {
         Ok(at + 1)
     } else {
         Err(ParseError::Syntax(at))
-    }
-}
-
-/// The level inside of one that begins at this place.
-pub fn deeper(depth: u32, at: u32) -> Result<u32, ParseError>
-    requires { depth ≤ 200 }
-    ensures inside { IfOk result (λ inner. (inner ≡ depth + 1) × (inner ≤ 200)) }
-    ensures refused { IfErr result (λ e. (e ≡ ParseError.TooDeep at) × (200 ≤ depth)) }
-{
-    if depth < 200 {
-        Ok(depth + 1)
-    } else {
-        Err(ParseError::TooDeep(at))
-    }
-}
-
-/// The level inside of one that begins at this place and is around what was read, which has so many levels.
-pub fn around(depth: u32, height: u32, at: u32) -> Result<u32, ParseError>
-    requires { depth + height ≤ 200 }
-    ensures inside { IfOk result (λ inner. (inner ≡ depth + 1) × (depth + height < 200)) }
-    ensures refused { IfErr result (λ e. (e ≡ ParseError.TooDeep at) × (200 ≤ depth + height)) }
-{
-    if depth + height < 200 {
-        Ok(depth + 1)
-    } else {
-        Err(ParseError::TooDeep(at))
     }
 }
 
@@ -107,9 +81,8 @@ pub fn choose<T: Copy + Drop>(
 }
 
 /// Whether a token of this kind stands at this place, and the place behind it if it does.
-pub fn optional(input: &Input<'_>, at: u32, depth: u32, kind: TokenKind) -> Found<bool>
-    requires shallow { depth ≤ 200 }
-    ensures { Parsed input.now (opt (tok (number_of kind))) (λ b d. is_there d) depth at result.value result.to }
+pub fn optional(input: &Input<'_>, at: u32, depth: Depth, kind: TokenKind) -> Found<bool>
+    ensures { Parsed input.now (opt (tok (number_of kind))) (λ b d. is_there d) depth.value at result.value result.to }
 {
     if stands(input, at, kind) {
         Found {

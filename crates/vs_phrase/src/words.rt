@@ -1,6 +1,6 @@
 //! Names and numbers.
 
-ghost use Rattle.std.specs.Prelude.{◌≡◌, ◌≤◌, IfOk, IfErr, Ok, true};
+ghost use Rattle.std.specs.Prelude.{◌≡◌, ◌≤◌, Ok, true};
 ghost use Rattle.vs_grammar.specs.Predictive.{is_member};
 ghost use Rattle.vs_grammar.specs.Verilog.{t, block_name};
 ghost use Rattle.vs_grammar.specs.Verilog as grammar;
@@ -8,8 +8,9 @@ ghost use Rattle.vs_grammar.specs.Meaning as meaning;
 ghost use Rattle.vs_lexer.specs.declared.token.TokenKind.TheVariants as kind;
 ghost use Rattle.vs_ast.specs.Views as view;
 ghost use Rattle.vs_phrase.specs.Parts as part;
-ghost use Rattle.vs_phrase.specs.Reading.{Word, Missing, Chosen, Parsed, Refused, bytes_in, kind_at};
+ghost use Rattle.vs_phrase.specs.Reading.{Chosen, bytes_in, kind_at, Answers, Names};
 
+use crate::depth::Depth;
 use crate::error::ParseError;
 use crate::input::{Found, Input};
 use crate::tokens::{stands, take};
@@ -18,8 +19,7 @@ use vs_lexer::{TokenKind, read_literal, spelling};
 
 /// An identifier.
 pub fn identifier(input: &Input<'_>, at: u32) -> Result<Found<Name>, ParseError>
-    ensures found { IfOk result (λ f. Word input.now at (view.name f.value) f.to) }
-    ensures refused { IfErr result (λ e. Missing input.now.tokens.now (t kind.Identifier) at e) }
+    ensures { Names input.now at result }
 {
     let to = take(input, at, TokenKind::Identifier)?;
     let bytes = spelling(input.text, input.tokens, at as usize).to_vec(input.alloc)?;
@@ -50,10 +50,8 @@ pub fn literal(input: &Input<'_>, at: u32) -> Found<Literal>
 }
 
 /// The name behind the colon after a `begin`, if there is one.
-pub fn label(input: &Input<'_>, at: u32, depth: u32) -> Result<Found<Option<Name>>, ParseError>
-    requires shallow { depth ≤ 200 }
-    ensures found { IfOk result (λ f. Parsed input.now block_name meaning.block_name_of depth at (view.option view.name f.value) f.to) }
-    ensures refused { IfErr result (λ e. Refused input.now.tokens.now depth block_name at e) }
+pub fn label(input: &Input<'_>, at: u32, depth: Depth) -> Result<Found<Option<Name>>, ParseError>
+    ensures { Answers input.now block_name meaning.block_name_of (view.option view.name) depth at result }
 {
     if !stands(input, at, TokenKind::Colon) {
         return Ok(Found {

@@ -1,18 +1,18 @@
 use Rattle.vs_grammar.specs.Trees as tree
-use Rattle.vs_phrase.proofs.Places.{refused_exit, refused_var, refused_seq, refused_then, refused_missing, read_tok, read_var, read_seq, parsed, ap3}
+use Rattle.vs_phrase.proofs.Places.{answer_exit, refused_var, refused_seq, refused_then, refused_missing, read_tok, read_var, read_seq, parsed, ap3}
 use Rattle.vs_parser.proofs.declarations.regs.Goals as goal
 
-pub returns-in_err-word-clause-refused : goal.returns-in_err-word-clause-refused
-returns-in_err-word-clause-refused c = refused_exit c.from_residual.result c.in_err-word.field-0.0 c.from_residual.ensures.1 (refused_seq (refused_missing c.in_err-word.ensures.refused))
+pub returns-in_err-word : goal.returns-in_err-word
+returns-in_err-word c = answer_exit _ _ c.from_residual.result c.in_err-word.field-0.0 c.from_residual.ensures.1 (refused_seq (refused_missing c.in_err-word.ensures))
 
-pub returns-in_err-range-clause-refused : goal.returns-in_err-range-clause-refused
-returns-in_err-range-clause-refused c = refused_exit c.from_residual-in_err-range.result c.in_err-range.field-0.0 c.from_residual-in_err-range.ensures.1 (refused_then (read_tok c.requires.shallow c.in_ok-word.ensures.read) (refused_then c.optional-signed.ensures.read (refused_seq c.in_err-range.ensures.refused)))
+pub returns-in_err-range : goal.returns-in_err-range
+returns-in_err-range c = answer_exit _ _ c.from_residual-in_err-range.result c.in_err-range.field-0.0 c.from_residual-in_err-range.ensures.1 (refused_then (read_tok c.args.depth.limit c.in_ok-word.ensures) (refused_then c.optional-signed.ensures.read (refused_seq c.in_err-range.ensures)))
 
-pub returns-in_err-names-clause-refused : goal.returns-in_err-names-clause-refused
-returns-in_err-names-clause-refused c = refused_exit c.from_residual-in_err-names.result c.in_err-names.field-0.0 c.from_residual-in_err-names.ensures.1 (refused_then (read_tok c.requires.shallow c.in_ok-word.ensures.read) (refused_then c.optional-signed.ensures.read (refused_then c.in_ok-range.ensures.found.read (refused_seq (refused_var c.in_err-names.ensures.refused)))))
+pub returns-in_err-names : goal.returns-in_err-names
+returns-in_err-names c = answer_exit _ _ c.from_residual-in_err-names.result c.in_err-names.field-0.0 c.from_residual-in_err-names.ensures.1 (refused_then (read_tok c.args.depth.limit c.in_ok-word.ensures) (refused_then c.optional-signed.ensures.read (refused_then c.in_ok-range.ensures.read (refused_seq (refused_var c.in_err-names.ensures)))))
 
-pub returns-in_err-end-clause-refused : goal.returns-in_err-end-clause-refused
-returns-in_err-end-clause-refused c = refused_exit c.from_residual-in_err-end.result c.in_err-end.field-0.0 c.from_residual-in_err-end.ensures.1 (refused_then (read_tok c.requires.shallow c.in_ok-word.ensures.read) (refused_then c.optional-signed.ensures.read (refused_then c.in_ok-range.ensures.found.read (refused_then (read_var c.in_ok-names.ensures.found.read) (refused_missing c.in_err-end.ensures.refused)))))
+pub returns-in_err-end : goal.returns-in_err-end
+returns-in_err-end c = answer_exit _ _ c.from_residual-in_err-end.result c.in_err-end.field-0.0 c.from_residual-in_err-end.ensures.1 (refused_then (read_tok c.args.depth.limit c.in_ok-word.ensures) (refused_then c.optional-signed.ensures.read (refused_then c.in_ok-range.ensures.read (refused_then (read_var c.in_ok-names.ensures.read) (refused_missing c.in_err-end.ensures)))))
 
-pub returns-clause-found : goal.returns-clause-found
-returns-clause-found c = parsed (read_seq (read_tok c.requires.shallow c.in_ok-word.ensures.read) (read_seq c.optional-signed.ensures.read (read_seq c.in_ok-range.ensures.found.read (read_seq (read_var c.in_ok-names.ensures.found.read) (read_tok c.requires.shallow c.in_ok-end.ensures.read))))) (ap3 (λ s g l. tree.SignalsItem (record { place = c.args.at; kind = tree.Reg; signed = s; range = g; names = l })) c.optional-signed.ensures.made c.in_ok-range.ensures.found.made c.in_ok-names.ensures.found.made)
+pub returns : goal.returns
+returns c = parsed (read_seq (read_tok c.args.depth.limit c.in_ok-word.ensures) (read_seq c.optional-signed.ensures.read (read_seq c.in_ok-range.ensures.read (read_seq (read_var c.in_ok-names.ensures.read) (read_tok c.args.depth.limit c.in_ok-end.ensures))))) (ap3 (λ s g l. tree.SignalsItem (record { place = c.args.at; kind = tree.Reg; signed = s; range = g; names = l })) c.optional-signed.ensures.made c.in_ok-range.ensures.made c.in_ok-names.ensures.made)

@@ -1,11 +1,11 @@
-use Rattle.vs_phrase.proofs.Places.{refused_exit, refused_seq, refused_then, refused_missing, read_tok, read_seq, parsed}
+use Rattle.vs_phrase.proofs.Places.{answer_exit, refused_seq, refused_then, refused_missing, read_tok, read_seq, parsed}
 use Rattle.vs_parser.proofs.declarations.value_behind.Goals as goal
 
-pub returns-in_err-sign-clause-refused : goal.returns-in_err-sign-clause-refused
-returns-in_err-sign-clause-refused c = refused_exit c.from_residual.result c.in_err-sign.field-0.0 c.from_residual.ensures.1 (refused_seq (refused_missing c.in_err-sign.ensures.refused))
+pub returns-in_err-sign : goal.returns-in_err-sign
+returns-in_err-sign c = answer_exit _ _ c.from_residual.result c.in_err-sign.field-0.0 c.from_residual.ensures.1 (refused_seq (refused_missing c.in_err-sign.ensures))
 
-pub returns-in_err-value-clause-refused : goal.returns-in_err-value-clause-refused
-returns-in_err-value-clause-refused c = refused_exit c.from_residual-in_err-value.result c.in_err-value.field-0.0 c.from_residual-in_err-value.ensures.1 (refused_then (read_tok c.requires.shallow c.in_ok-sign.ensures.read) c.in_err-value.ensures.refused)
+pub returns-in_err-value : goal.returns-in_err-value
+returns-in_err-value c = answer_exit _ _ c.from_residual-in_err-value.result c.in_err-value.field-0.0 c.from_residual-in_err-value.ensures.1 (refused_then (read_tok c.args.depth.limit c.in_ok-sign.ensures) c.in_err-value.ensures)
 
-pub returns-clause-found : goal.returns-clause-found
-returns-clause-found c = parsed (read_seq (read_tok c.requires.shallow c.in_ok-sign.ensures.read) c.in_ok-value.ensures.found.read) (c.in_ok-value.ensures.found.made)
+pub returns : goal.returns
+returns c = parsed (read_seq (read_tok c.args.depth.limit c.in_ok-sign.ensures) c.in_ok-value.ensures.read) (c.in_ok-value.ensures.made)

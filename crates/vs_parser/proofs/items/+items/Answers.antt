@@ -7,303 +7,270 @@ use Rattle.vs_phrase.specs.declared.error.ParseError.TheVariants.{Memory}
 use Rattle.vs_parser.specs.Parts as part
 use Rattle.vs_phrase.specs.Reading.{bytes_in}
 use Rattle.vs_phrase.specs.Reading.Refused.{out_of_memory}
-use Rattle.vs_phrase.proofs.Places.{refused_exit, refused_kept, refused_var, refused_seq, refused_then, refused_missing, refused_level, refused_former, refused_latter, refused_more, refused_within, read_tok, read_eps, read_var, read_seq, read_level, read_former, read_latter, read_without, read_within, parsed, one_true, one_false, stood, ok_more, err_more, ap2, ap3, ap6}
+use Rattle.vs_phrase.proofs.Places.{answer_exit, refused_kept, refused_var, refused_seq, refused_then, refused_missing, refused_level, refused_former, refused_latter, refused_more, refused_within, read_tok, read_eps, read_var, read_seq, read_level, read_former, read_latter, read_without, read_within, parsed, one_true, one_false, stood, ap2, ap3, ap6, answer_more}
 use Rattle.vs_phrase.proofs.Firsts.{too_deep_first, stopped_first}
 use Rattle.vs_phrase.proofs.Lists.{shorter, listing_start, listing_more, pushed_first, listing_behind}
 use Rattle.vs_grammar.specs.Grammars.Tree.{nothing}
 use Rattle.vs_parser.proofs.Blocks.{items_made, block_default_first, block_arms_alone, block_arms_around}
 use Rattle.vs_parser.proofs.items.+items.Goals as goal
 
-pub generate_item-returns-then-stands-clause-found : goal.generate_item-returns-then-stands-clause-found
-generate_item-returns-then-stands-clause-found t c = ok_more c.regs.result c.regs.ensures.found (λ f w. parsed (read_var (read_former (one_true _ c.stands.result c.stands.ensures c.if-stands.true) w.read)) w.made)
+pub generate_item-returns-then-stands : goal.generate_item-returns-then-stands
+generate_item-returns-then-stands t c = answer_more c.regs.result c.regs.ensures (λ f w. parsed (read_var (read_former (one_true _ c.stands.result c.stands.ensures c.if-stands.true) w.read)) w.made) (λ e w. (refused_var (refused_former (one_true _ c.stands.result c.stands.ensures c.if-stands.true) w)))
 
-pub generate_item-returns-then-stands-clause-refused : goal.generate_item-returns-then-stands-clause-refused
-generate_item-returns-then-stands-clause-refused t c = err_more c.regs.result c.regs.ensures.refused (λ e w. (refused_var (refused_former (one_true _ c.stands.result c.stands.ensures c.if-stands.true) w)))
+pub generate_item-returns-then-stands-2 : goal.generate_item-returns-then-stands-2
+generate_item-returns-then-stands-2 t c = answer_more c.wires.result c.wires.ensures (λ f w. parsed (read_var (read_latter (one_false _ c.stands.result c.stands.ensures c.if-stands.false) (read_former (one_true _ c.stands-else-stands.result c.stands-else-stands.ensures c.if-stands-2.true) w.read))) w.made) (λ e w. (refused_var (refused_latter (one_false _ c.stands.result c.stands.ensures c.if-stands.false) (refused_former (one_true _ c.stands-else-stands.result c.stands-else-stands.ensures c.if-stands-2.true) w))))
 
-pub generate_item-returns-then-stands-2-clause-found : goal.generate_item-returns-then-stands-2-clause-found
-generate_item-returns-then-stands-2-clause-found t c = ok_more c.wires.result c.wires.ensures.found (λ f w. parsed (read_var (read_latter (one_false _ c.stands.result c.stands.ensures c.if-stands.false) (read_former (one_true _ c.stands-else-stands.result c.stands-else-stands.ensures c.if-stands-2.true) w.read))) w.made)
+pub generate_item-returns-then-stands-3 : goal.generate_item-returns-then-stands-3
+generate_item-returns-then-stands-3 t c = answer_more c.local_parameters.result c.local_parameters.ensures (λ f w. parsed (read_var (read_latter (one_false _ c.stands.result c.stands.ensures c.if-stands.false) (read_latter (one_false _ c.stands-else-stands.result c.stands-else-stands.ensures c.if-stands-2.false) (read_former (one_true _ c.stands-else-stands-2.result c.stands-else-stands-2.ensures c.if-stands-3.true) w.read)))) w.made) (λ e w. (refused_var (refused_latter (one_false _ c.stands.result c.stands.ensures c.if-stands.false) (refused_latter (one_false _ c.stands-else-stands.result c.stands-else-stands.ensures c.if-stands-2.false) (refused_former (one_true _ c.stands-else-stands-2.result c.stands-else-stands-2.ensures c.if-stands-3.true) w)))))
 
-pub generate_item-returns-then-stands-2-clause-refused : goal.generate_item-returns-then-stands-2-clause-refused
-generate_item-returns-then-stands-2-clause-refused t c = err_more c.wires.result c.wires.ensures.refused (λ e w. (refused_var (refused_latter (one_false _ c.stands.result c.stands.ensures c.if-stands.false) (refused_former (one_true _ c.stands-else-stands.result c.stands-else-stands.ensures c.if-stands-2.true) w))))
+pub generate_item-returns-then-stands-4 : goal.generate_item-returns-then-stands-4
+generate_item-returns-then-stands-4 t c = answer_more c.assigns.result c.assigns.ensures (λ f w. parsed (read_var (read_latter (one_false _ c.stands.result c.stands.ensures c.if-stands.false) (read_latter (one_false _ c.stands-else-stands.result c.stands-else-stands.ensures c.if-stands-2.false) (read_latter (one_false _ c.stands-else-stands-2.result c.stands-else-stands-2.ensures c.if-stands-3.false) (read_former (one_true _ c.stands-else-stands-3.result c.stands-else-stands-3.ensures c.if-stands-4.true) w.read))))) w.made) (λ e w. (refused_var (refused_latter (one_false _ c.stands.result c.stands.ensures c.if-stands.false) (refused_latter (one_false _ c.stands-else-stands.result c.stands-else-stands.ensures c.if-stands-2.false) (refused_latter (one_false _ c.stands-else-stands-2.result c.stands-else-stands-2.ensures c.if-stands-3.false) (refused_former (one_true _ c.stands-else-stands-3.result c.stands-else-stands-3.ensures c.if-stands-4.true) w))))))
 
-pub generate_item-returns-then-stands-3-clause-found : goal.generate_item-returns-then-stands-3-clause-found
-generate_item-returns-then-stands-3-clause-found t c = ok_more c.local_parameters.result c.local_parameters.ensures.found (λ f w. parsed (read_var (read_latter (one_false _ c.stands.result c.stands.ensures c.if-stands.false) (read_latter (one_false _ c.stands-else-stands.result c.stands-else-stands.ensures c.if-stands-2.false) (read_former (one_true _ c.stands-else-stands-2.result c.stands-else-stands-2.ensures c.if-stands-3.true) w.read)))) w.made)
+pub generate_item-returns-then-stands-5 : goal.generate_item-returns-then-stands-5
+generate_item-returns-then-stands-5 t c = answer_more c.always.result c.always.ensures (λ f w. parsed (read_var (read_latter (one_false _ c.stands.result c.stands.ensures c.if-stands.false) (read_latter (one_false _ c.stands-else-stands.result c.stands-else-stands.ensures c.if-stands-2.false) (read_latter (one_false _ c.stands-else-stands-2.result c.stands-else-stands-2.ensures c.if-stands-3.false) (read_latter (one_false _ c.stands-else-stands-3.result c.stands-else-stands-3.ensures c.if-stands-4.false) (read_former (one_true _ c.stands-else-stands-4.result c.stands-else-stands-4.ensures c.if-stands-5.true) w.read)))))) w.made) (λ e w. (refused_var (refused_latter (one_false _ c.stands.result c.stands.ensures c.if-stands.false) (refused_latter (one_false _ c.stands-else-stands.result c.stands-else-stands.ensures c.if-stands-2.false) (refused_latter (one_false _ c.stands-else-stands-2.result c.stands-else-stands-2.ensures c.if-stands-3.false) (refused_latter (one_false _ c.stands-else-stands-3.result c.stands-else-stands-3.ensures c.if-stands-4.false) (refused_former (one_true _ c.stands-else-stands-4.result c.stands-else-stands-4.ensures c.if-stands-5.true) w)))))))
 
-pub generate_item-returns-then-stands-3-clause-refused : goal.generate_item-returns-then-stands-3-clause-refused
-generate_item-returns-then-stands-3-clause-refused t c = err_more c.local_parameters.result c.local_parameters.ensures.refused (λ e w. (refused_var (refused_latter (one_false _ c.stands.result c.stands.ensures c.if-stands.false) (refused_latter (one_false _ c.stands-else-stands.result c.stands-else-stands.ensures c.if-stands-2.false) (refused_former (one_true _ c.stands-else-stands-2.result c.stands-else-stands-2.ensures c.if-stands-3.true) w)))))
+pub generate_item-returns-then-stands-6 : goal.generate_item-returns-then-stands-6
+generate_item-returns-then-stands-6 t c = answer_more c.genvars.result c.genvars.ensures (λ f w. parsed (read_var (read_latter (one_false _ c.stands.result c.stands.ensures c.if-stands.false) (read_latter (one_false _ c.stands-else-stands.result c.stands-else-stands.ensures c.if-stands-2.false) (read_latter (one_false _ c.stands-else-stands-2.result c.stands-else-stands-2.ensures c.if-stands-3.false) (read_latter (one_false _ c.stands-else-stands-3.result c.stands-else-stands-3.ensures c.if-stands-4.false) (read_latter (one_false _ c.stands-else-stands-4.result c.stands-else-stands-4.ensures c.if-stands-5.false) (read_former (one_true _ c.stands-else-stands-5.result c.stands-else-stands-5.ensures c.if-stands-6.true) w.read))))))) w.made) (λ e w. (refused_var (refused_latter (one_false _ c.stands.result c.stands.ensures c.if-stands.false) (refused_latter (one_false _ c.stands-else-stands.result c.stands-else-stands.ensures c.if-stands-2.false) (refused_latter (one_false _ c.stands-else-stands-2.result c.stands-else-stands-2.ensures c.if-stands-3.false) (refused_latter (one_false _ c.stands-else-stands-3.result c.stands-else-stands-3.ensures c.if-stands-4.false) (refused_latter (one_false _ c.stands-else-stands-4.result c.stands-else-stands-4.ensures c.if-stands-5.false) (refused_former (one_true _ c.stands-else-stands-5.result c.stands-else-stands-5.ensures c.if-stands-6.true) w))))))))
 
-pub generate_item-returns-then-stands-4-clause-found : goal.generate_item-returns-then-stands-4-clause-found
-generate_item-returns-then-stands-4-clause-found t c = ok_more c.assigns.result c.assigns.ensures.found (λ f w. parsed (read_var (read_latter (one_false _ c.stands.result c.stands.ensures c.if-stands.false) (read_latter (one_false _ c.stands-else-stands.result c.stands-else-stands.ensures c.if-stands-2.false) (read_latter (one_false _ c.stands-else-stands-2.result c.stands-else-stands-2.ensures c.if-stands-3.false) (read_former (one_true _ c.stands-else-stands-3.result c.stands-else-stands-3.ensures c.if-stands-4.true) w.read))))) w.made)
+pub generate_item-returns-then-stands-7 : goal.generate_item-returns-then-stands-7
+generate_item-returns-then-stands-7 t c = answer_more c.instances.result c.instances.ensures (λ f w. parsed (read_var (read_latter (one_false _ c.stands.result c.stands.ensures c.if-stands.false) (read_latter (one_false _ c.stands-else-stands.result c.stands-else-stands.ensures c.if-stands-2.false) (read_latter (one_false _ c.stands-else-stands-2.result c.stands-else-stands-2.ensures c.if-stands-3.false) (read_latter (one_false _ c.stands-else-stands-3.result c.stands-else-stands-3.ensures c.if-stands-4.false) (read_latter (one_false _ c.stands-else-stands-4.result c.stands-else-stands-4.ensures c.if-stands-5.false) (read_latter (one_false _ c.stands-else-stands-5.result c.stands-else-stands-5.ensures c.if-stands-6.false) (read_former (one_true _ c.stands-else-stands-6.result c.stands-else-stands-6.ensures c.if-stands-7.true) w.read)))))))) w.made) (λ e w. (refused_var (refused_latter (one_false _ c.stands.result c.stands.ensures c.if-stands.false) (refused_latter (one_false _ c.stands-else-stands.result c.stands-else-stands.ensures c.if-stands-2.false) (refused_latter (one_false _ c.stands-else-stands-2.result c.stands-else-stands-2.ensures c.if-stands-3.false) (refused_latter (one_false _ c.stands-else-stands-3.result c.stands-else-stands-3.ensures c.if-stands-4.false) (refused_latter (one_false _ c.stands-else-stands-4.result c.stands-else-stands-4.ensures c.if-stands-5.false) (refused_latter (one_false _ c.stands-else-stands-5.result c.stands-else-stands-5.ensures c.if-stands-6.false) (refused_former (one_true _ c.stands-else-stands-6.result c.stands-else-stands-6.ensures c.if-stands-7.true) w)))))))))
 
-pub generate_item-returns-then-stands-4-clause-refused : goal.generate_item-returns-then-stands-4-clause-refused
-generate_item-returns-then-stands-4-clause-refused t c = err_more c.assigns.result c.assigns.ensures.refused (λ e w. (refused_var (refused_latter (one_false _ c.stands.result c.stands.ensures c.if-stands.false) (refused_latter (one_false _ c.stands-else-stands.result c.stands-else-stands.ensures c.if-stands-2.false) (refused_latter (one_false _ c.stands-else-stands-2.result c.stands-else-stands-2.ensures c.if-stands-3.false) (refused_former (one_true _ c.stands-else-stands-3.result c.stands-else-stands-3.ensures c.if-stands-4.true) w))))))
+pub generate_item-returns-then-stands-8 : goal.generate_item-returns-then-stands-8
+generate_item-returns-then-stands-8 t c = answer_more c.generate_for.result c.generate_for.ensures (λ f w. parsed (read_var (read_latter (one_false _ c.stands.result c.stands.ensures c.if-stands.false) (read_latter (one_false _ c.stands-else-stands.result c.stands-else-stands.ensures c.if-stands-2.false) (read_latter (one_false _ c.stands-else-stands-2.result c.stands-else-stands-2.ensures c.if-stands-3.false) (read_latter (one_false _ c.stands-else-stands-3.result c.stands-else-stands-3.ensures c.if-stands-4.false) (read_latter (one_false _ c.stands-else-stands-4.result c.stands-else-stands-4.ensures c.if-stands-5.false) (read_latter (one_false _ c.stands-else-stands-5.result c.stands-else-stands-5.ensures c.if-stands-6.false) (read_latter (one_false _ c.stands-else-stands-6.result c.stands-else-stands-6.ensures c.if-stands-7.false) (read_former (one_true _ c.stands-else-stands-7.result c.stands-else-stands-7.ensures c.if-stands-8.true) w.read))))))))) w.made) (λ e w. (refused_var (refused_latter (one_false _ c.stands.result c.stands.ensures c.if-stands.false) (refused_latter (one_false _ c.stands-else-stands.result c.stands-else-stands.ensures c.if-stands-2.false) (refused_latter (one_false _ c.stands-else-stands-2.result c.stands-else-stands-2.ensures c.if-stands-3.false) (refused_latter (one_false _ c.stands-else-stands-3.result c.stands-else-stands-3.ensures c.if-stands-4.false) (refused_latter (one_false _ c.stands-else-stands-4.result c.stands-else-stands-4.ensures c.if-stands-5.false) (refused_latter (one_false _ c.stands-else-stands-5.result c.stands-else-stands-5.ensures c.if-stands-6.false) (refused_latter (one_false _ c.stands-else-stands-6.result c.stands-else-stands-6.ensures c.if-stands-7.false) (refused_former (one_true _ c.stands-else-stands-7.result c.stands-else-stands-7.ensures c.if-stands-8.true) w))))))))))
 
-pub generate_item-returns-then-stands-5-clause-found : goal.generate_item-returns-then-stands-5-clause-found
-generate_item-returns-then-stands-5-clause-found t c = ok_more c.always.result c.always.ensures.found (λ f w. parsed (read_var (read_latter (one_false _ c.stands.result c.stands.ensures c.if-stands.false) (read_latter (one_false _ c.stands-else-stands.result c.stands-else-stands.ensures c.if-stands-2.false) (read_latter (one_false _ c.stands-else-stands-2.result c.stands-else-stands-2.ensures c.if-stands-3.false) (read_latter (one_false _ c.stands-else-stands-3.result c.stands-else-stands-3.ensures c.if-stands-4.false) (read_former (one_true _ c.stands-else-stands-4.result c.stands-else-stands-4.ensures c.if-stands-5.true) w.read)))))) w.made)
+pub generate_item-returns-then-stands-9 : goal.generate_item-returns-then-stands-9
+generate_item-returns-then-stands-9 t c = answer_more c.generate_if.result c.generate_if.ensures (λ f w. parsed (read_var (read_latter (one_false _ c.stands.result c.stands.ensures c.if-stands.false) (read_latter (one_false _ c.stands-else-stands.result c.stands-else-stands.ensures c.if-stands-2.false) (read_latter (one_false _ c.stands-else-stands-2.result c.stands-else-stands-2.ensures c.if-stands-3.false) (read_latter (one_false _ c.stands-else-stands-3.result c.stands-else-stands-3.ensures c.if-stands-4.false) (read_latter (one_false _ c.stands-else-stands-4.result c.stands-else-stands-4.ensures c.if-stands-5.false) (read_latter (one_false _ c.stands-else-stands-5.result c.stands-else-stands-5.ensures c.if-stands-6.false) (read_latter (one_false _ c.stands-else-stands-6.result c.stands-else-stands-6.ensures c.if-stands-7.false) (read_latter (one_false _ c.stands-else-stands-7.result c.stands-else-stands-7.ensures c.if-stands-8.false) (read_former (one_true _ c.stands-else-stands-8.result c.stands-else-stands-8.ensures c.if-stands-9.true) w.read)))))))))) w.made) (λ e w. (refused_var (refused_latter (one_false _ c.stands.result c.stands.ensures c.if-stands.false) (refused_latter (one_false _ c.stands-else-stands.result c.stands-else-stands.ensures c.if-stands-2.false) (refused_latter (one_false _ c.stands-else-stands-2.result c.stands-else-stands-2.ensures c.if-stands-3.false) (refused_latter (one_false _ c.stands-else-stands-3.result c.stands-else-stands-3.ensures c.if-stands-4.false) (refused_latter (one_false _ c.stands-else-stands-4.result c.stands-else-stands-4.ensures c.if-stands-5.false) (refused_latter (one_false _ c.stands-else-stands-5.result c.stands-else-stands-5.ensures c.if-stands-6.false) (refused_latter (one_false _ c.stands-else-stands-6.result c.stands-else-stands-6.ensures c.if-stands-7.false) (refused_latter (one_false _ c.stands-else-stands-7.result c.stands-else-stands-7.ensures c.if-stands-8.false) (refused_former (one_true _ c.stands-else-stands-8.result c.stands-else-stands-8.ensures c.if-stands-9.true) w)))))))))))
 
-pub generate_item-returns-then-stands-5-clause-refused : goal.generate_item-returns-then-stands-5-clause-refused
-generate_item-returns-then-stands-5-clause-refused t c = err_more c.always.result c.always.ensures.refused (λ e w. (refused_var (refused_latter (one_false _ c.stands.result c.stands.ensures c.if-stands.false) (refused_latter (one_false _ c.stands-else-stands.result c.stands-else-stands.ensures c.if-stands-2.false) (refused_latter (one_false _ c.stands-else-stands-2.result c.stands-else-stands-2.ensures c.if-stands-3.false) (refused_latter (one_false _ c.stands-else-stands-3.result c.stands-else-stands-3.ensures c.if-stands-4.false) (refused_former (one_true _ c.stands-else-stands-4.result c.stands-else-stands-4.ensures c.if-stands-5.true) w)))))))
+pub generate_item-returns-else-stands-9 : goal.generate_item-returns-else-stands-9
+generate_item-returns-else-stands-9 t c = answer_more c.generate_case.result c.generate_case.ensures (λ f w. parsed (read_var (read_latter (one_false _ c.stands.result c.stands.ensures c.if-stands.false) (read_latter (one_false _ c.stands-else-stands.result c.stands-else-stands.ensures c.if-stands-2.false) (read_latter (one_false _ c.stands-else-stands-2.result c.stands-else-stands-2.ensures c.if-stands-3.false) (read_latter (one_false _ c.stands-else-stands-3.result c.stands-else-stands-3.ensures c.if-stands-4.false) (read_latter (one_false _ c.stands-else-stands-4.result c.stands-else-stands-4.ensures c.if-stands-5.false) (read_latter (one_false _ c.stands-else-stands-5.result c.stands-else-stands-5.ensures c.if-stands-6.false) (read_latter (one_false _ c.stands-else-stands-6.result c.stands-else-stands-6.ensures c.if-stands-7.false) (read_latter (one_false _ c.stands-else-stands-7.result c.stands-else-stands-7.ensures c.if-stands-8.false) (read_latter (one_false _ c.stands-else-stands-8.result c.stands-else-stands-8.ensures c.if-stands-9.false) w.read)))))))))) w.made) (λ e w. (refused_var (refused_latter (one_false _ c.stands.result c.stands.ensures c.if-stands.false) (refused_latter (one_false _ c.stands-else-stands.result c.stands-else-stands.ensures c.if-stands-2.false) (refused_latter (one_false _ c.stands-else-stands-2.result c.stands-else-stands-2.ensures c.if-stands-3.false) (refused_latter (one_false _ c.stands-else-stands-3.result c.stands-else-stands-3.ensures c.if-stands-4.false) (refused_latter (one_false _ c.stands-else-stands-4.result c.stands-else-stands-4.ensures c.if-stands-5.false) (refused_latter (one_false _ c.stands-else-stands-5.result c.stands-else-stands-5.ensures c.if-stands-6.false) (refused_latter (one_false _ c.stands-else-stands-6.result c.stands-else-stands-6.ensures c.if-stands-7.false) (refused_latter (one_false _ c.stands-else-stands-7.result c.stands-else-stands-7.ensures c.if-stands-8.false) (refused_latter (one_false _ c.stands-else-stands-8.result c.stands-else-stands-8.ensures c.if-stands-9.false) w)))))))))))
 
-pub generate_item-returns-then-stands-6-clause-found : goal.generate_item-returns-then-stands-6-clause-found
-generate_item-returns-then-stands-6-clause-found t c = ok_more c.genvars.result c.genvars.ensures.found (λ f w. parsed (read_var (read_latter (one_false _ c.stands.result c.stands.ensures c.if-stands.false) (read_latter (one_false _ c.stands-else-stands.result c.stands-else-stands.ensures c.if-stands-2.false) (read_latter (one_false _ c.stands-else-stands-2.result c.stands-else-stands-2.ensures c.if-stands-3.false) (read_latter (one_false _ c.stands-else-stands-3.result c.stands-else-stands-3.ensures c.if-stands-4.false) (read_latter (one_false _ c.stands-else-stands-4.result c.stands-else-stands-4.ensures c.if-stands-5.false) (read_former (one_true _ c.stands-else-stands-5.result c.stands-else-stands-5.ensures c.if-stands-6.true) w.read))))))) w.made)
+pub generate_for-returns-in_err-word : goal.generate_for-returns-in_err-word
+generate_for-returns-in_err-word t c = answer_exit _ _ c.from_residual.result c.in_err-word.field-0.0 c.from_residual.ensures.1 (refused_seq (refused_missing c.in_err-word.ensures))
 
-pub generate_item-returns-then-stands-6-clause-refused : goal.generate_item-returns-then-stands-6-clause-refused
-generate_item-returns-then-stands-6-clause-refused t c = err_more c.genvars.result c.genvars.ensures.refused (λ e w. (refused_var (refused_latter (one_false _ c.stands.result c.stands.ensures c.if-stands.false) (refused_latter (one_false _ c.stands-else-stands.result c.stands-else-stands.ensures c.if-stands-2.false) (refused_latter (one_false _ c.stands-else-stands-2.result c.stands-else-stands-2.ensures c.if-stands-3.false) (refused_latter (one_false _ c.stands-else-stands-3.result c.stands-else-stands-3.ensures c.if-stands-4.false) (refused_latter (one_false _ c.stands-else-stands-4.result c.stands-else-stands-4.ensures c.if-stands-5.false) (refused_former (one_true _ c.stands-else-stands-5.result c.stands-else-stands-5.ensures c.if-stands-6.true) w))))))))
+pub generate_for-returns-in_err-open : goal.generate_for-returns-in_err-open
+generate_for-returns-in_err-open t c = answer_exit _ _ c.from_residual-in_err-open.result c.in_err-open.field-0.0 c.from_residual-in_err-open.ensures.1 (refused_then (read_tok c.args.depth.limit c.in_ok-word.ensures) (refused_seq (refused_missing c.in_err-open.ensures)))
 
-pub generate_item-returns-then-stands-7-clause-found : goal.generate_item-returns-then-stands-7-clause-found
-generate_item-returns-then-stands-7-clause-found t c = ok_more c.instances.result c.instances.ensures.found (λ f w. parsed (read_var (read_latter (one_false _ c.stands.result c.stands.ensures c.if-stands.false) (read_latter (one_false _ c.stands-else-stands.result c.stands-else-stands.ensures c.if-stands-2.false) (read_latter (one_false _ c.stands-else-stands-2.result c.stands-else-stands-2.ensures c.if-stands-3.false) (read_latter (one_false _ c.stands-else-stands-3.result c.stands-else-stands-3.ensures c.if-stands-4.false) (read_latter (one_false _ c.stands-else-stands-4.result c.stands-else-stands-4.ensures c.if-stands-5.false) (read_latter (one_false _ c.stands-else-stands-5.result c.stands-else-stands-5.ensures c.if-stands-6.false) (read_former (one_true _ c.stands-else-stands-6.result c.stands-else-stands-6.ensures c.if-stands-7.true) w.read)))))))) w.made)
+pub generate_for-returns-in_err-variable : goal.generate_for-returns-in_err-variable
+generate_for-returns-in_err-variable t c = answer_exit _ _ c.from_residual-in_err-variable.result c.in_err-variable.field-0.0 c.from_residual-in_err-variable.ensures.1 (refused_then (read_tok c.args.depth.limit c.in_ok-word.ensures) (refused_then (read_tok c.args.depth.limit c.in_ok-open.ensures) (refused_seq (refused_missing c.in_err-variable.ensures))))
 
-pub generate_item-returns-then-stands-7-clause-refused : goal.generate_item-returns-then-stands-7-clause-refused
-generate_item-returns-then-stands-7-clause-refused t c = err_more c.instances.result c.instances.ensures.refused (λ e w. (refused_var (refused_latter (one_false _ c.stands.result c.stands.ensures c.if-stands.false) (refused_latter (one_false _ c.stands-else-stands.result c.stands-else-stands.ensures c.if-stands-2.false) (refused_latter (one_false _ c.stands-else-stands-2.result c.stands-else-stands-2.ensures c.if-stands-3.false) (refused_latter (one_false _ c.stands-else-stands-3.result c.stands-else-stands-3.ensures c.if-stands-4.false) (refused_latter (one_false _ c.stands-else-stands-4.result c.stands-else-stands-4.ensures c.if-stands-5.false) (refused_latter (one_false _ c.stands-else-stands-5.result c.stands-else-stands-5.ensures c.if-stands-6.false) (refused_former (one_true _ c.stands-else-stands-6.result c.stands-else-stands-6.ensures c.if-stands-7.true) w)))))))))
+pub generate_for-returns-in_err-first_sign : goal.generate_for-returns-in_err-first_sign
+generate_for-returns-in_err-first_sign t c = answer_exit _ _ c.from_residual-in_err-first_sign.result c.in_err-first_sign.field-0.0 c.from_residual-in_err-first_sign.ensures.1 (refused_then (read_tok c.args.depth.limit c.in_ok-word.ensures) (refused_then (read_tok c.args.depth.limit c.in_ok-open.ensures) (refused_then (read_tok c.args.depth.limit c.in_ok-variable.ensures.took) (refused_seq (refused_missing c.in_err-first_sign.ensures)))))
 
-pub generate_item-returns-then-stands-8-clause-found : goal.generate_item-returns-then-stands-8-clause-found
-generate_item-returns-then-stands-8-clause-found t c = ok_more c.generate_for.result c.generate_for.ensures.found (λ f w. parsed (read_var (read_latter (one_false _ c.stands.result c.stands.ensures c.if-stands.false) (read_latter (one_false _ c.stands-else-stands.result c.stands-else-stands.ensures c.if-stands-2.false) (read_latter (one_false _ c.stands-else-stands-2.result c.stands-else-stands-2.ensures c.if-stands-3.false) (read_latter (one_false _ c.stands-else-stands-3.result c.stands-else-stands-3.ensures c.if-stands-4.false) (read_latter (one_false _ c.stands-else-stands-4.result c.stands-else-stands-4.ensures c.if-stands-5.false) (read_latter (one_false _ c.stands-else-stands-5.result c.stands-else-stands-5.ensures c.if-stands-6.false) (read_latter (one_false _ c.stands-else-stands-6.result c.stands-else-stands-6.ensures c.if-stands-7.false) (read_former (one_true _ c.stands-else-stands-7.result c.stands-else-stands-7.ensures c.if-stands-8.true) w.read))))))))) w.made)
+pub generate_for-returns-in_err-first : goal.generate_for-returns-in_err-first
+generate_for-returns-in_err-first t c = answer_exit _ _ c.from_residual-in_err-first.result c.in_err-first.field-0.0 c.from_residual-in_err-first.ensures.1 (refused_then (read_tok c.args.depth.limit c.in_ok-word.ensures) (refused_then (read_tok c.args.depth.limit c.in_ok-open.ensures) (refused_then (read_tok c.args.depth.limit c.in_ok-variable.ensures.took) (refused_then (read_tok c.args.depth.limit c.in_ok-first_sign.ensures) (refused_seq c.in_err-first.ensures)))))
 
-pub generate_item-returns-then-stands-8-clause-refused : goal.generate_item-returns-then-stands-8-clause-refused
-generate_item-returns-then-stands-8-clause-refused t c = err_more c.generate_for.result c.generate_for.ensures.refused (λ e w. (refused_var (refused_latter (one_false _ c.stands.result c.stands.ensures c.if-stands.false) (refused_latter (one_false _ c.stands-else-stands.result c.stands-else-stands.ensures c.if-stands-2.false) (refused_latter (one_false _ c.stands-else-stands-2.result c.stands-else-stands-2.ensures c.if-stands-3.false) (refused_latter (one_false _ c.stands-else-stands-3.result c.stands-else-stands-3.ensures c.if-stands-4.false) (refused_latter (one_false _ c.stands-else-stands-4.result c.stands-else-stands-4.ensures c.if-stands-5.false) (refused_latter (one_false _ c.stands-else-stands-5.result c.stands-else-stands-5.ensures c.if-stands-6.false) (refused_latter (one_false _ c.stands-else-stands-6.result c.stands-else-stands-6.ensures c.if-stands-7.false) (refused_former (one_true _ c.stands-else-stands-7.result c.stands-else-stands-7.ensures c.if-stands-8.true) w))))))))))
+pub generate_for-returns-in_err-first_end : goal.generate_for-returns-in_err-first_end
+generate_for-returns-in_err-first_end t c = answer_exit _ _ c.from_residual-in_err-first_end.result c.in_err-first_end.field-0.0 c.from_residual-in_err-first_end.ensures.1 (refused_then (read_tok c.args.depth.limit c.in_ok-word.ensures) (refused_then (read_tok c.args.depth.limit c.in_ok-open.ensures) (refused_then (read_tok c.args.depth.limit c.in_ok-variable.ensures.took) (refused_then (read_tok c.args.depth.limit c.in_ok-first_sign.ensures) (refused_then c.in_ok-first.ensures.read (refused_seq (refused_missing c.in_err-first_end.ensures)))))))
 
-pub generate_item-returns-then-stands-9-clause-found : goal.generate_item-returns-then-stands-9-clause-found
-generate_item-returns-then-stands-9-clause-found t c = ok_more c.generate_if.result c.generate_if.ensures.found (λ f w. parsed (read_var (read_latter (one_false _ c.stands.result c.stands.ensures c.if-stands.false) (read_latter (one_false _ c.stands-else-stands.result c.stands-else-stands.ensures c.if-stands-2.false) (read_latter (one_false _ c.stands-else-stands-2.result c.stands-else-stands-2.ensures c.if-stands-3.false) (read_latter (one_false _ c.stands-else-stands-3.result c.stands-else-stands-3.ensures c.if-stands-4.false) (read_latter (one_false _ c.stands-else-stands-4.result c.stands-else-stands-4.ensures c.if-stands-5.false) (read_latter (one_false _ c.stands-else-stands-5.result c.stands-else-stands-5.ensures c.if-stands-6.false) (read_latter (one_false _ c.stands-else-stands-6.result c.stands-else-stands-6.ensures c.if-stands-7.false) (read_latter (one_false _ c.stands-else-stands-7.result c.stands-else-stands-7.ensures c.if-stands-8.false) (read_former (one_true _ c.stands-else-stands-8.result c.stands-else-stands-8.ensures c.if-stands-9.true) w.read)))))))))) w.made)
+pub generate_for-returns-in_err-test : goal.generate_for-returns-in_err-test
+generate_for-returns-in_err-test t c = answer_exit _ _ c.from_residual-in_err-test.result c.in_err-test.field-0.0 c.from_residual-in_err-test.ensures.1 (refused_then (read_tok c.args.depth.limit c.in_ok-word.ensures) (refused_then (read_tok c.args.depth.limit c.in_ok-open.ensures) (refused_then (read_tok c.args.depth.limit c.in_ok-variable.ensures.took) (refused_then (read_tok c.args.depth.limit c.in_ok-first_sign.ensures) (refused_then c.in_ok-first.ensures.read (refused_then (read_tok c.args.depth.limit c.in_ok-first_end.ensures) (refused_seq c.in_err-test.ensures)))))))
 
-pub generate_item-returns-then-stands-9-clause-refused : goal.generate_item-returns-then-stands-9-clause-refused
-generate_item-returns-then-stands-9-clause-refused t c = err_more c.generate_if.result c.generate_if.ensures.refused (λ e w. (refused_var (refused_latter (one_false _ c.stands.result c.stands.ensures c.if-stands.false) (refused_latter (one_false _ c.stands-else-stands.result c.stands-else-stands.ensures c.if-stands-2.false) (refused_latter (one_false _ c.stands-else-stands-2.result c.stands-else-stands-2.ensures c.if-stands-3.false) (refused_latter (one_false _ c.stands-else-stands-3.result c.stands-else-stands-3.ensures c.if-stands-4.false) (refused_latter (one_false _ c.stands-else-stands-4.result c.stands-else-stands-4.ensures c.if-stands-5.false) (refused_latter (one_false _ c.stands-else-stands-5.result c.stands-else-stands-5.ensures c.if-stands-6.false) (refused_latter (one_false _ c.stands-else-stands-6.result c.stands-else-stands-6.ensures c.if-stands-7.false) (refused_latter (one_false _ c.stands-else-stands-7.result c.stands-else-stands-7.ensures c.if-stands-8.false) (refused_former (one_true _ c.stands-else-stands-8.result c.stands-else-stands-8.ensures c.if-stands-9.true) w)))))))))))
+pub generate_for-returns-in_err-test_end : goal.generate_for-returns-in_err-test_end
+generate_for-returns-in_err-test_end t c = answer_exit _ _ c.from_residual-in_err-test_end.result c.in_err-test_end.field-0.0 c.from_residual-in_err-test_end.ensures.1 (refused_then (read_tok c.args.depth.limit c.in_ok-word.ensures) (refused_then (read_tok c.args.depth.limit c.in_ok-open.ensures) (refused_then (read_tok c.args.depth.limit c.in_ok-variable.ensures.took) (refused_then (read_tok c.args.depth.limit c.in_ok-first_sign.ensures) (refused_then c.in_ok-first.ensures.read (refused_then (read_tok c.args.depth.limit c.in_ok-first_end.ensures) (refused_then c.in_ok-test.ensures.read (refused_seq (refused_missing c.in_err-test_end.ensures)))))))))
 
-pub generate_item-returns-else-stands-9-clause-found : goal.generate_item-returns-else-stands-9-clause-found
-generate_item-returns-else-stands-9-clause-found t c = ok_more c.generate_case.result c.generate_case.ensures.found (λ f w. parsed (read_var (read_latter (one_false _ c.stands.result c.stands.ensures c.if-stands.false) (read_latter (one_false _ c.stands-else-stands.result c.stands-else-stands.ensures c.if-stands-2.false) (read_latter (one_false _ c.stands-else-stands-2.result c.stands-else-stands-2.ensures c.if-stands-3.false) (read_latter (one_false _ c.stands-else-stands-3.result c.stands-else-stands-3.ensures c.if-stands-4.false) (read_latter (one_false _ c.stands-else-stands-4.result c.stands-else-stands-4.ensures c.if-stands-5.false) (read_latter (one_false _ c.stands-else-stands-5.result c.stands-else-stands-5.ensures c.if-stands-6.false) (read_latter (one_false _ c.stands-else-stands-6.result c.stands-else-stands-6.ensures c.if-stands-7.false) (read_latter (one_false _ c.stands-else-stands-7.result c.stands-else-stands-7.ensures c.if-stands-8.false) (read_latter (one_false _ c.stands-else-stands-8.result c.stands-else-stands-8.ensures c.if-stands-9.false) w.read)))))))))) w.made)
+pub generate_for-returns-in_err-again : goal.generate_for-returns-in_err-again
+generate_for-returns-in_err-again t c = answer_exit _ _ c.from_residual-in_err-again.result c.in_err-again.field-0.0 c.from_residual-in_err-again.ensures.1 (refused_then (read_tok c.args.depth.limit c.in_ok-word.ensures) (refused_then (read_tok c.args.depth.limit c.in_ok-open.ensures) (refused_then (read_tok c.args.depth.limit c.in_ok-variable.ensures.took) (refused_then (read_tok c.args.depth.limit c.in_ok-first_sign.ensures) (refused_then c.in_ok-first.ensures.read (refused_then (read_tok c.args.depth.limit c.in_ok-first_end.ensures) (refused_then c.in_ok-test.ensures.read (refused_then (read_tok c.args.depth.limit c.in_ok-test_end.ensures) (refused_seq (refused_missing c.in_err-again.ensures))))))))))
 
-pub generate_item-returns-else-stands-9-clause-refused : goal.generate_item-returns-else-stands-9-clause-refused
-generate_item-returns-else-stands-9-clause-refused t c = err_more c.generate_case.result c.generate_case.ensures.refused (λ e w. (refused_var (refused_latter (one_false _ c.stands.result c.stands.ensures c.if-stands.false) (refused_latter (one_false _ c.stands-else-stands.result c.stands-else-stands.ensures c.if-stands-2.false) (refused_latter (one_false _ c.stands-else-stands-2.result c.stands-else-stands-2.ensures c.if-stands-3.false) (refused_latter (one_false _ c.stands-else-stands-3.result c.stands-else-stands-3.ensures c.if-stands-4.false) (refused_latter (one_false _ c.stands-else-stands-4.result c.stands-else-stands-4.ensures c.if-stands-5.false) (refused_latter (one_false _ c.stands-else-stands-5.result c.stands-else-stands-5.ensures c.if-stands-6.false) (refused_latter (one_false _ c.stands-else-stands-6.result c.stands-else-stands-6.ensures c.if-stands-7.false) (refused_latter (one_false _ c.stands-else-stands-7.result c.stands-else-stands-7.ensures c.if-stands-8.false) (refused_latter (one_false _ c.stands-else-stands-8.result c.stands-else-stands-8.ensures c.if-stands-9.false) w)))))))))))
+pub generate_for-returns-in_err-next_sign : goal.generate_for-returns-in_err-next_sign
+generate_for-returns-in_err-next_sign t c = answer_exit _ _ c.from_residual-in_err-next_sign.result c.in_err-next_sign.field-0.0 c.from_residual-in_err-next_sign.ensures.1 (refused_then (read_tok c.args.depth.limit c.in_ok-word.ensures) (refused_then (read_tok c.args.depth.limit c.in_ok-open.ensures) (refused_then (read_tok c.args.depth.limit c.in_ok-variable.ensures.took) (refused_then (read_tok c.args.depth.limit c.in_ok-first_sign.ensures) (refused_then c.in_ok-first.ensures.read (refused_then (read_tok c.args.depth.limit c.in_ok-first_end.ensures) (refused_then c.in_ok-test.ensures.read (refused_then (read_tok c.args.depth.limit c.in_ok-test_end.ensures) (refused_then (read_tok c.args.depth.limit c.in_ok-again.ensures.took) (refused_seq (refused_missing c.in_err-next_sign.ensures)))))))))))
 
-pub generate_for-returns-in_err-word-clause-refused : goal.generate_for-returns-in_err-word-clause-refused
-generate_for-returns-in_err-word-clause-refused t c = refused_exit c.from_residual.result c.in_err-word.field-0.0 c.from_residual.ensures.1 (refused_seq (refused_missing c.in_err-word.ensures.refused))
+pub generate_for-returns-in_err-next : goal.generate_for-returns-in_err-next
+generate_for-returns-in_err-next t c = answer_exit _ _ c.from_residual-in_err-next.result c.in_err-next.field-0.0 c.from_residual-in_err-next.ensures.1 (refused_then (read_tok c.args.depth.limit c.in_ok-word.ensures) (refused_then (read_tok c.args.depth.limit c.in_ok-open.ensures) (refused_then (read_tok c.args.depth.limit c.in_ok-variable.ensures.took) (refused_then (read_tok c.args.depth.limit c.in_ok-first_sign.ensures) (refused_then c.in_ok-first.ensures.read (refused_then (read_tok c.args.depth.limit c.in_ok-first_end.ensures) (refused_then c.in_ok-test.ensures.read (refused_then (read_tok c.args.depth.limit c.in_ok-test_end.ensures) (refused_then (read_tok c.args.depth.limit c.in_ok-again.ensures.took) (refused_then (read_tok c.args.depth.limit c.in_ok-next_sign.ensures) (refused_seq c.in_err-next.ensures)))))))))))
 
-pub generate_for-returns-in_err-open-clause-refused : goal.generate_for-returns-in_err-open-clause-refused
-generate_for-returns-in_err-open-clause-refused t c = refused_exit c.from_residual-in_err-open.result c.in_err-open.field-0.0 c.from_residual-in_err-open.ensures.1 (refused_then (read_tok c.requires.shallow c.in_ok-word.ensures.read) (refused_seq (refused_missing c.in_err-open.ensures.refused)))
+pub generate_for-returns-in_err-close : goal.generate_for-returns-in_err-close
+generate_for-returns-in_err-close t c = answer_exit _ _ c.from_residual-in_err-close.result c.in_err-close.field-0.0 c.from_residual-in_err-close.ensures.1 (refused_then (read_tok c.args.depth.limit c.in_ok-word.ensures) (refused_then (read_tok c.args.depth.limit c.in_ok-open.ensures) (refused_then (read_tok c.args.depth.limit c.in_ok-variable.ensures.took) (refused_then (read_tok c.args.depth.limit c.in_ok-first_sign.ensures) (refused_then c.in_ok-first.ensures.read (refused_then (read_tok c.args.depth.limit c.in_ok-first_end.ensures) (refused_then c.in_ok-test.ensures.read (refused_then (read_tok c.args.depth.limit c.in_ok-test_end.ensures) (refused_then (read_tok c.args.depth.limit c.in_ok-again.ensures.took) (refused_then (read_tok c.args.depth.limit c.in_ok-next_sign.ensures) (refused_then c.in_ok-next.ensures.read (refused_seq (refused_missing c.in_err-close.ensures)))))))))))))
 
-pub generate_for-returns-in_err-variable-clause-refused : goal.generate_for-returns-in_err-variable-clause-refused
-generate_for-returns-in_err-variable-clause-refused t c = refused_exit c.from_residual-in_err-variable.result c.in_err-variable.field-0.0 c.from_residual-in_err-variable.ensures.1 (refused_then (read_tok c.requires.shallow c.in_ok-word.ensures.read) (refused_then (read_tok c.requires.shallow c.in_ok-open.ensures.read) (refused_seq (refused_missing c.in_err-variable.ensures.refused))))
+pub generate_for-returns-in_err-block : goal.generate_for-returns-in_err-block
+generate_for-returns-in_err-block t c = answer_exit _ _ c.from_residual-in_err-block.result c.in_err-block.field-0.0 c.from_residual-in_err-block.ensures.1 (refused_then (read_tok c.args.depth.limit c.in_ok-word.ensures) (refused_then (read_tok c.args.depth.limit c.in_ok-open.ensures) (refused_then (read_tok c.args.depth.limit c.in_ok-variable.ensures.took) (refused_then (read_tok c.args.depth.limit c.in_ok-first_sign.ensures) (refused_then c.in_ok-first.ensures.read (refused_then (read_tok c.args.depth.limit c.in_ok-first_end.ensures) (refused_then c.in_ok-test.ensures.read (refused_then (read_tok c.args.depth.limit c.in_ok-test_end.ensures) (refused_then (read_tok c.args.depth.limit c.in_ok-again.ensures.took) (refused_then (read_tok c.args.depth.limit c.in_ok-next_sign.ensures) (refused_then c.in_ok-next.ensures.read (refused_then (read_tok c.args.depth.limit c.in_ok-close.ensures) c.in_err-block.ensures))))))))))))
 
-pub generate_for-returns-in_err-first_sign-clause-refused : goal.generate_for-returns-in_err-first_sign-clause-refused
-generate_for-returns-in_err-first_sign-clause-refused t c = refused_exit c.from_residual-in_err-first_sign.result c.in_err-first_sign.field-0.0 c.from_residual-in_err-first_sign.ensures.1 (refused_then (read_tok c.requires.shallow c.in_ok-word.ensures.read) (refused_then (read_tok c.requires.shallow c.in_ok-open.ensures.read) (refused_then (read_tok c.requires.shallow c.in_ok-variable.ensures.found.took) (refused_seq (refused_missing c.in_err-first_sign.ensures.refused)))))
+pub generate_for-returns-in_err-value : goal.generate_for-returns-in_err-value
+generate_for-returns-in_err-value t c = answer_exit _ _ c.from_residual-in_err-value.result Memory c.from_residual-in_err-value.ensures.1 out_of_memory
 
-pub generate_for-returns-in_err-first-clause-refused : goal.generate_for-returns-in_err-first-clause-refused
-generate_for-returns-in_err-first-clause-refused t c = refused_exit c.from_residual-in_err-first.result c.in_err-first.field-0.0 c.from_residual-in_err-first.ensures.1 (refused_then (read_tok c.requires.shallow c.in_ok-word.ensures.read) (refused_then (read_tok c.requires.shallow c.in_ok-open.ensures.read) (refused_then (read_tok c.requires.shallow c.in_ok-variable.ensures.found.took) (refused_then (read_tok c.requires.shallow c.in_ok-first_sign.ensures.read) (refused_seq c.in_err-first.ensures.refused)))))
+pub generate_for-returns : goal.generate_for-returns
+generate_for-returns t c = parsed (read_seq (read_tok c.args.depth.limit c.in_ok-word.ensures) (read_seq (read_tok c.args.depth.limit c.in_ok-open.ensures) (read_seq (read_tok c.args.depth.limit c.in_ok-variable.ensures.took) (read_seq (read_tok c.args.depth.limit c.in_ok-first_sign.ensures) (read_seq c.in_ok-first.ensures.read (read_seq (read_tok c.args.depth.limit c.in_ok-first_end.ensures) (read_seq c.in_ok-test.ensures.read (read_seq (read_tok c.args.depth.limit c.in_ok-test_end.ensures) (read_seq (read_tok c.args.depth.limit c.in_ok-again.ensures.took) (read_seq (read_tok c.args.depth.limit c.in_ok-next_sign.ensures) (read_seq c.in_ok-next.ensures.read (read_seq (read_tok c.args.depth.limit c.in_ok-close.ensures) c.in_ok-block.ensures.read)))))))))))) (ap6 (λ v e f w h x. tree.GenerateFor (record { place = c.args.at; variable = v; first = e; test = f; again = w; next = h }) x) c.in_ok-variable.ensures.made c.in_ok-first.ensures.made c.in_ok-test.ensures.made c.in_ok-again.ensures.made c.in_ok-next.ensures.made c.in_ok-block.ensures.made ∙ sym c.in_ok-value.ensures)
 
-pub generate_for-returns-in_err-first_end-clause-refused : goal.generate_for-returns-in_err-first_end-clause-refused
-generate_for-returns-in_err-first_end-clause-refused t c = refused_exit c.from_residual-in_err-first_end.result c.in_err-first_end.field-0.0 c.from_residual-in_err-first_end.ensures.1 (refused_then (read_tok c.requires.shallow c.in_ok-word.ensures.read) (refused_then (read_tok c.requires.shallow c.in_ok-open.ensures.read) (refused_then (read_tok c.requires.shallow c.in_ok-variable.ensures.found.took) (refused_then (read_tok c.requires.shallow c.in_ok-first_sign.ensures.read) (refused_then c.in_ok-first.ensures.found.read (refused_seq (refused_missing c.in_err-first_end.ensures.refused)))))))
+pub generate_if-returns-in_err-word : goal.generate_if-returns-in_err-word
+generate_if-returns-in_err-word t c = answer_exit _ _ c.from_residual.result c.in_err-word.field-0.0 c.from_residual.ensures.1 (refused_seq (refused_missing c.in_err-word.ensures))
 
-pub generate_for-returns-in_err-test-clause-refused : goal.generate_for-returns-in_err-test-clause-refused
-generate_for-returns-in_err-test-clause-refused t c = refused_exit c.from_residual-in_err-test.result c.in_err-test.field-0.0 c.from_residual-in_err-test.ensures.1 (refused_then (read_tok c.requires.shallow c.in_ok-word.ensures.read) (refused_then (read_tok c.requires.shallow c.in_ok-open.ensures.read) (refused_then (read_tok c.requires.shallow c.in_ok-variable.ensures.found.took) (refused_then (read_tok c.requires.shallow c.in_ok-first_sign.ensures.read) (refused_then c.in_ok-first.ensures.found.read (refused_then (read_tok c.requires.shallow c.in_ok-first_end.ensures.read) (refused_seq c.in_err-test.ensures.refused)))))))
+pub generate_if-returns-in_err-open : goal.generate_if-returns-in_err-open
+generate_if-returns-in_err-open t c = answer_exit _ _ c.from_residual-in_err-open.result c.in_err-open.field-0.0 c.from_residual-in_err-open.ensures.1 (refused_then (read_tok c.args.depth.limit c.in_ok-word.ensures) (refused_seq (refused_missing c.in_err-open.ensures)))
 
-pub generate_for-returns-in_err-test_end-clause-refused : goal.generate_for-returns-in_err-test_end-clause-refused
-generate_for-returns-in_err-test_end-clause-refused t c = refused_exit c.from_residual-in_err-test_end.result c.in_err-test_end.field-0.0 c.from_residual-in_err-test_end.ensures.1 (refused_then (read_tok c.requires.shallow c.in_ok-word.ensures.read) (refused_then (read_tok c.requires.shallow c.in_ok-open.ensures.read) (refused_then (read_tok c.requires.shallow c.in_ok-variable.ensures.found.took) (refused_then (read_tok c.requires.shallow c.in_ok-first_sign.ensures.read) (refused_then c.in_ok-first.ensures.found.read (refused_then (read_tok c.requires.shallow c.in_ok-first_end.ensures.read) (refused_then c.in_ok-test.ensures.found.read (refused_seq (refused_missing c.in_err-test_end.ensures.refused)))))))))
+pub generate_if-returns-in_err-condition : goal.generate_if-returns-in_err-condition
+generate_if-returns-in_err-condition t c = answer_exit _ _ c.from_residual-in_err-condition.result c.in_err-condition.field-0.0 c.from_residual-in_err-condition.ensures.1 (refused_then (read_tok c.args.depth.limit c.in_ok-word.ensures) (refused_then (read_tok c.args.depth.limit c.in_ok-open.ensures) (refused_seq c.in_err-condition.ensures)))
 
-pub generate_for-returns-in_err-again-clause-refused : goal.generate_for-returns-in_err-again-clause-refused
-generate_for-returns-in_err-again-clause-refused t c = refused_exit c.from_residual-in_err-again.result c.in_err-again.field-0.0 c.from_residual-in_err-again.ensures.1 (refused_then (read_tok c.requires.shallow c.in_ok-word.ensures.read) (refused_then (read_tok c.requires.shallow c.in_ok-open.ensures.read) (refused_then (read_tok c.requires.shallow c.in_ok-variable.ensures.found.took) (refused_then (read_tok c.requires.shallow c.in_ok-first_sign.ensures.read) (refused_then c.in_ok-first.ensures.found.read (refused_then (read_tok c.requires.shallow c.in_ok-first_end.ensures.read) (refused_then c.in_ok-test.ensures.found.read (refused_then (read_tok c.requires.shallow c.in_ok-test_end.ensures.read) (refused_seq (refused_missing c.in_err-again.ensures.refused))))))))))
+pub generate_if-returns-in_err-close : goal.generate_if-returns-in_err-close
+generate_if-returns-in_err-close t c = answer_exit _ _ c.from_residual-in_err-close.result c.in_err-close.field-0.0 c.from_residual-in_err-close.ensures.1 (refused_then (read_tok c.args.depth.limit c.in_ok-word.ensures) (refused_then (read_tok c.args.depth.limit c.in_ok-open.ensures) (refused_then c.in_ok-condition.ensures.read (refused_seq (refused_missing c.in_err-close.ensures)))))
 
-pub generate_for-returns-in_err-next_sign-clause-refused : goal.generate_for-returns-in_err-next_sign-clause-refused
-generate_for-returns-in_err-next_sign-clause-refused t c = refused_exit c.from_residual-in_err-next_sign.result c.in_err-next_sign.field-0.0 c.from_residual-in_err-next_sign.ensures.1 (refused_then (read_tok c.requires.shallow c.in_ok-word.ensures.read) (refused_then (read_tok c.requires.shallow c.in_ok-open.ensures.read) (refused_then (read_tok c.requires.shallow c.in_ok-variable.ensures.found.took) (refused_then (read_tok c.requires.shallow c.in_ok-first_sign.ensures.read) (refused_then c.in_ok-first.ensures.found.read (refused_then (read_tok c.requires.shallow c.in_ok-first_end.ensures.read) (refused_then c.in_ok-test.ensures.found.read (refused_then (read_tok c.requires.shallow c.in_ok-test_end.ensures.read) (refused_then (read_tok c.requires.shallow c.in_ok-again.ensures.found.took) (refused_seq (refused_missing c.in_err-next_sign.ensures.refused)))))))))))
+pub generate_if-returns-in_err-taken : goal.generate_if-returns-in_err-taken
+generate_if-returns-in_err-taken t c = answer_exit _ _ c.from_residual-in_err-taken.result c.in_err-taken.field-0.0 c.from_residual-in_err-taken.ensures.1 (refused_then (read_tok c.args.depth.limit c.in_ok-word.ensures) (refused_then (read_tok c.args.depth.limit c.in_ok-open.ensures) (refused_then c.in_ok-condition.ensures.read (refused_then (read_tok c.args.depth.limit c.in_ok-close.ensures) (refused_seq c.in_err-taken.ensures)))))
 
-pub generate_for-returns-in_err-next-clause-refused : goal.generate_for-returns-in_err-next-clause-refused
-generate_for-returns-in_err-next-clause-refused t c = refused_exit c.from_residual-in_err-next.result c.in_err-next.field-0.0 c.from_residual-in_err-next.ensures.1 (refused_then (read_tok c.requires.shallow c.in_ok-word.ensures.read) (refused_then (read_tok c.requires.shallow c.in_ok-open.ensures.read) (refused_then (read_tok c.requires.shallow c.in_ok-variable.ensures.found.took) (refused_then (read_tok c.requires.shallow c.in_ok-first_sign.ensures.read) (refused_then c.in_ok-first.ensures.found.read (refused_then (read_tok c.requires.shallow c.in_ok-first_end.ensures.read) (refused_then c.in_ok-test.ensures.found.read (refused_then (read_tok c.requires.shallow c.in_ok-test_end.ensures.read) (refused_then (read_tok c.requires.shallow c.in_ok-again.ensures.found.took) (refused_then (read_tok c.requires.shallow c.in_ok-next_sign.ensures.read) (refused_seq c.in_err-next.ensures.refused)))))))))))
+pub generate_if-returns-in_err-other : goal.generate_if-returns-in_err-other
+generate_if-returns-in_err-other t c = answer_exit _ _ c.from_residual-in_err-other.result c.in_err-other.field-0.0 c.from_residual-in_err-other.ensures.1 (refused_then (read_tok c.args.depth.limit c.in_ok-word.ensures) (refused_then (read_tok c.args.depth.limit c.in_ok-open.ensures) (refused_then c.in_ok-condition.ensures.read (refused_then (read_tok c.args.depth.limit c.in_ok-close.ensures) (refused_then c.in_ok-taken.ensures.read c.in_err-other.ensures)))))
 
-pub generate_for-returns-in_err-close-clause-refused : goal.generate_for-returns-in_err-close-clause-refused
-generate_for-returns-in_err-close-clause-refused t c = refused_exit c.from_residual-in_err-close.result c.in_err-close.field-0.0 c.from_residual-in_err-close.ensures.1 (refused_then (read_tok c.requires.shallow c.in_ok-word.ensures.read) (refused_then (read_tok c.requires.shallow c.in_ok-open.ensures.read) (refused_then (read_tok c.requires.shallow c.in_ok-variable.ensures.found.took) (refused_then (read_tok c.requires.shallow c.in_ok-first_sign.ensures.read) (refused_then c.in_ok-first.ensures.found.read (refused_then (read_tok c.requires.shallow c.in_ok-first_end.ensures.read) (refused_then c.in_ok-test.ensures.found.read (refused_then (read_tok c.requires.shallow c.in_ok-test_end.ensures.read) (refused_then (read_tok c.requires.shallow c.in_ok-again.ensures.found.took) (refused_then (read_tok c.requires.shallow c.in_ok-next_sign.ensures.read) (refused_then c.in_ok-next.ensures.found.read (refused_seq (refused_missing c.in_err-close.ensures.refused)))))))))))))
+pub generate_if-returns-in_err-value : goal.generate_if-returns-in_err-value
+generate_if-returns-in_err-value t c = answer_exit _ _ c.from_residual-in_err-value.result Memory c.from_residual-in_err-value.ensures.1 out_of_memory
 
-pub generate_for-returns-in_err-block-clause-refused : goal.generate_for-returns-in_err-block-clause-refused
-generate_for-returns-in_err-block-clause-refused t c = refused_exit c.from_residual-in_err-block.result c.in_err-block.field-0.0 c.from_residual-in_err-block.ensures.1 (refused_then (read_tok c.requires.shallow c.in_ok-word.ensures.read) (refused_then (read_tok c.requires.shallow c.in_ok-open.ensures.read) (refused_then (read_tok c.requires.shallow c.in_ok-variable.ensures.found.took) (refused_then (read_tok c.requires.shallow c.in_ok-first_sign.ensures.read) (refused_then c.in_ok-first.ensures.found.read (refused_then (read_tok c.requires.shallow c.in_ok-first_end.ensures.read) (refused_then c.in_ok-test.ensures.found.read (refused_then (read_tok c.requires.shallow c.in_ok-test_end.ensures.read) (refused_then (read_tok c.requires.shallow c.in_ok-again.ensures.found.took) (refused_then (read_tok c.requires.shallow c.in_ok-next_sign.ensures.read) (refused_then c.in_ok-next.ensures.found.read (refused_then (read_tok c.requires.shallow c.in_ok-close.ensures.read) c.in_err-block.ensures.refused))))))))))))
+pub generate_if-returns : goal.generate_if-returns
+generate_if-returns t c = parsed (read_seq (read_tok c.args.depth.limit c.in_ok-word.ensures) (read_seq (read_tok c.args.depth.limit c.in_ok-open.ensures) (read_seq c.in_ok-condition.ensures.read (read_seq (read_tok c.args.depth.limit c.in_ok-close.ensures) (read_seq c.in_ok-taken.ensures.read c.in_ok-other.ensures.read))))) (ap3 (tree.GenerateIf c.args.at) c.in_ok-condition.ensures.made c.in_ok-taken.ensures.made c.in_ok-other.ensures.made ∙ sym c.in_ok-value.ensures)
 
-pub generate_for-returns-in_err-value-clause-refused : goal.generate_for-returns-in_err-value-clause-refused
-generate_for-returns-in_err-value-clause-refused t c = refused_exit c.from_residual-in_err-value.result Memory c.from_residual-in_err-value.ensures.1 out_of_memory
+pub other_block-returns-then-not-stands : goal.other_block-returns-then-not-stands
+other_block-returns-then-not-stands t c = parsed (read_without 27 c.args.depth.limit (sym c.stands.ensures ∙ c.if-not-stands.true)) refl
 
-pub generate_for-returns-clause-found : goal.generate_for-returns-clause-found
-generate_for-returns-clause-found t c = parsed (read_seq (read_tok c.requires.shallow c.in_ok-word.ensures.read) (read_seq (read_tok c.requires.shallow c.in_ok-open.ensures.read) (read_seq (read_tok c.requires.shallow c.in_ok-variable.ensures.found.took) (read_seq (read_tok c.requires.shallow c.in_ok-first_sign.ensures.read) (read_seq c.in_ok-first.ensures.found.read (read_seq (read_tok c.requires.shallow c.in_ok-first_end.ensures.read) (read_seq c.in_ok-test.ensures.found.read (read_seq (read_tok c.requires.shallow c.in_ok-test_end.ensures.read) (read_seq (read_tok c.requires.shallow c.in_ok-again.ensures.found.took) (read_seq (read_tok c.requires.shallow c.in_ok-next_sign.ensures.read) (read_seq c.in_ok-next.ensures.found.read (read_seq (read_tok c.requires.shallow c.in_ok-close.ensures.read) c.in_ok-block.ensures.found.read)))))))))))) (ap6 (λ v e f w h x. tree.GenerateFor (record { place = c.args.at; variable = v; first = e; test = f; again = w; next = h }) x) c.in_ok-variable.ensures.found.made c.in_ok-first.ensures.found.made c.in_ok-test.ensures.found.made c.in_ok-again.ensures.found.made c.in_ok-next.ensures.found.made c.in_ok-block.ensures.found.made ∙ sym c.in_ok-value.ensures)
+pub other_block-returns-in_err-word : goal.other_block-returns-in_err-word
+other_block-returns-in_err-word t c = answer_exit _ _ c.from_residual.result c.in_err-word.field-0.0 c.from_residual.ensures.1 (refused_kept (stood c.args.input.now.tokens.now c.args.at 27 c.stands.result c.stands.ensures c.if-not-stands.false) c.in_err-word.ensures)
 
-pub generate_if-returns-in_err-word-clause-refused : goal.generate_if-returns-in_err-word-clause-refused
-generate_if-returns-in_err-word-clause-refused t c = refused_exit c.from_residual.result c.in_err-word.field-0.0 c.from_residual.ensures.1 (refused_seq (refused_missing c.in_err-word.ensures.refused))
+pub other_block-returns-in_err-other : goal.other_block-returns-in_err-other
+other_block-returns-in_err-other t c = answer_exit _ _ c.from_residual-in_err-other.result c.in_err-other.field-0.0 c.from_residual-in_err-other.ensures.1 (refused_within c.in_ok-word.ensures c.in_err-other.ensures)
 
-pub generate_if-returns-in_err-open-clause-refused : goal.generate_if-returns-in_err-open-clause-refused
-generate_if-returns-in_err-open-clause-refused t c = refused_exit c.from_residual-in_err-open.result c.in_err-open.field-0.0 c.from_residual-in_err-open.ensures.1 (refused_then (read_tok c.requires.shallow c.in_ok-word.ensures.read) (refused_seq (refused_missing c.in_err-open.ensures.refused)))
+pub other_block-returns : goal.other_block-returns
+other_block-returns t c = parsed (read_within c.in_ok-word.ensures c.in_ok-other.ensures.read) (ap tree.OtherwiseBlock c.in_ok-other.ensures.made)
 
-pub generate_if-returns-in_err-condition-clause-refused : goal.generate_if-returns-in_err-condition-clause-refused
-generate_if-returns-in_err-condition-clause-refused t c = refused_exit c.from_residual-in_err-condition.result c.in_err-condition.field-0.0 c.from_residual-in_err-condition.ensures.1 (refused_then (read_tok c.requires.shallow c.in_ok-word.ensures.read) (refused_then (read_tok c.requires.shallow c.in_ok-open.ensures.read) (refused_seq c.in_err-condition.ensures.refused)))
+pub generate_case-returns-in_err-word : goal.generate_case-returns-in_err-word
+generate_case-returns-in_err-word t c = answer_exit _ _ c.from_residual.result c.in_err-word.field-0.0 c.from_residual.ensures.1 (refused_seq (refused_missing c.in_err-word.ensures))
 
-pub generate_if-returns-in_err-close-clause-refused : goal.generate_if-returns-in_err-close-clause-refused
-generate_if-returns-in_err-close-clause-refused t c = refused_exit c.from_residual-in_err-close.result c.in_err-close.field-0.0 c.from_residual-in_err-close.ensures.1 (refused_then (read_tok c.requires.shallow c.in_ok-word.ensures.read) (refused_then (read_tok c.requires.shallow c.in_ok-open.ensures.read) (refused_then c.in_ok-condition.ensures.found.read (refused_seq (refused_missing c.in_err-close.ensures.refused)))))
+pub generate_case-returns-in_err-open : goal.generate_case-returns-in_err-open
+generate_case-returns-in_err-open t c = answer_exit _ _ c.from_residual-in_err-open.result c.in_err-open.field-0.0 c.from_residual-in_err-open.ensures.1 (refused_then (read_tok c.args.depth.limit c.in_ok-word.ensures) (refused_seq (refused_missing c.in_err-open.ensures)))
 
-pub generate_if-returns-in_err-taken-clause-refused : goal.generate_if-returns-in_err-taken-clause-refused
-generate_if-returns-in_err-taken-clause-refused t c = refused_exit c.from_residual-in_err-taken.result c.in_err-taken.field-0.0 c.from_residual-in_err-taken.ensures.1 (refused_then (read_tok c.requires.shallow c.in_ok-word.ensures.read) (refused_then (read_tok c.requires.shallow c.in_ok-open.ensures.read) (refused_then c.in_ok-condition.ensures.found.read (refused_then (read_tok c.requires.shallow c.in_ok-close.ensures.read) (refused_seq c.in_err-taken.ensures.refused)))))
+pub generate_case-returns-in_err-subject : goal.generate_case-returns-in_err-subject
+generate_case-returns-in_err-subject t c = answer_exit _ _ c.from_residual-in_err-subject.result c.in_err-subject.field-0.0 c.from_residual-in_err-subject.ensures.1 (refused_then (read_tok c.args.depth.limit c.in_ok-word.ensures) (refused_then (read_tok c.args.depth.limit c.in_ok-open.ensures) (refused_seq c.in_err-subject.ensures)))
 
-pub generate_if-returns-in_err-other-clause-refused : goal.generate_if-returns-in_err-other-clause-refused
-generate_if-returns-in_err-other-clause-refused t c = refused_exit c.from_residual-in_err-other.result c.in_err-other.field-0.0 c.from_residual-in_err-other.ensures.1 (refused_then (read_tok c.requires.shallow c.in_ok-word.ensures.read) (refused_then (read_tok c.requires.shallow c.in_ok-open.ensures.read) (refused_then c.in_ok-condition.ensures.found.read (refused_then (read_tok c.requires.shallow c.in_ok-close.ensures.read) (refused_then c.in_ok-taken.ensures.found.read c.in_err-other.ensures.refused)))))
+pub generate_case-returns-in_err-close : goal.generate_case-returns-in_err-close
+generate_case-returns-in_err-close t c = answer_exit _ _ c.from_residual-in_err-close.result c.in_err-close.field-0.0 c.from_residual-in_err-close.ensures.1 (refused_then (read_tok c.args.depth.limit c.in_ok-word.ensures) (refused_then (read_tok c.args.depth.limit c.in_ok-open.ensures) (refused_then c.in_ok-subject.ensures.read (refused_seq (refused_missing c.in_err-close.ensures)))))
 
-pub generate_if-returns-in_err-value-clause-refused : goal.generate_if-returns-in_err-value-clause-refused
-generate_if-returns-in_err-value-clause-refused t c = refused_exit c.from_residual-in_err-value.result Memory c.from_residual-in_err-value.ensures.1 out_of_memory
+pub generate_case-returns-in_err-cases : goal.generate_case-returns-in_err-cases
+generate_case-returns-in_err-cases t c = answer_exit _ _ c.from_residual-in_err-cases.result c.in_err-cases.field-0.0 c.from_residual-in_err-cases.ensures.1 (refused_then (read_tok c.args.depth.limit c.in_ok-word.ensures) (refused_then (read_tok c.args.depth.limit c.in_ok-open.ensures) (refused_then c.in_ok-subject.ensures.read (refused_then (read_tok c.args.depth.limit c.in_ok-close.ensures) (refused_seq c.in_err-cases.ensures)))))
 
-pub generate_if-returns-clause-found : goal.generate_if-returns-clause-found
-generate_if-returns-clause-found t c = parsed (read_seq (read_tok c.requires.shallow c.in_ok-word.ensures.read) (read_seq (read_tok c.requires.shallow c.in_ok-open.ensures.read) (read_seq c.in_ok-condition.ensures.found.read (read_seq (read_tok c.requires.shallow c.in_ok-close.ensures.read) (read_seq c.in_ok-taken.ensures.found.read c.in_ok-other.ensures.found.read))))) (ap3 (tree.GenerateIf c.args.at) c.in_ok-condition.ensures.found.made c.in_ok-taken.ensures.found.made c.in_ok-other.ensures.found.made ∙ sym c.in_ok-value.ensures)
+pub generate_case-returns-in_err-end : goal.generate_case-returns-in_err-end
+generate_case-returns-in_err-end t c = answer_exit _ _ c.from_residual-in_err-end.result c.in_err-end.field-0.0 c.from_residual-in_err-end.ensures.1 (refused_then (read_tok c.args.depth.limit c.in_ok-word.ensures) (refused_then (read_tok c.args.depth.limit c.in_ok-open.ensures) (refused_then c.in_ok-subject.ensures.read (refused_then (read_tok c.args.depth.limit c.in_ok-close.ensures) (refused_then c.in_ok-cases.ensures.read (refused_missing c.in_err-end.ensures))))))
 
-pub other_block-returns-then-not-stands-clause-found : goal.other_block-returns-then-not-stands-clause-found
-other_block-returns-then-not-stands-clause-found t c = parsed (read_without 27 c.requires.shallow (sym c.stands.ensures ∙ c.if-not-stands.true)) refl
+pub generate_case-returns-in_err-value : goal.generate_case-returns-in_err-value
+generate_case-returns-in_err-value t c = answer_exit _ _ c.from_residual-in_err-value.result Memory c.from_residual-in_err-value.ensures.1 out_of_memory
 
-pub other_block-returns-in_err-word-clause-refused : goal.other_block-returns-in_err-word-clause-refused
-other_block-returns-in_err-word-clause-refused t c = refused_exit c.from_residual.result c.in_err-word.field-0.0 c.from_residual.ensures.1 (refused_kept (stood c.args.input.now.tokens.now c.args.at 27 c.stands.result c.stands.ensures c.if-not-stands.false) c.in_err-word.ensures.refused)
+pub generate_case-returns : goal.generate_case-returns
+generate_case-returns t c = parsed (read_seq (read_tok c.args.depth.limit c.in_ok-word.ensures) (read_seq (read_tok c.args.depth.limit c.in_ok-open.ensures) (read_seq c.in_ok-subject.ensures.read (read_seq (read_tok c.args.depth.limit c.in_ok-close.ensures) (read_seq c.in_ok-cases.ensures.read (read_tok c.args.depth.limit c.in_ok-end.ensures)))))) (ap3 (tree.GenerateCase c.args.at) c.in_ok-subject.ensures.made (ap (λ z. z.0) c.in_ok-cases.ensures.made) (ap (λ z. z.1) c.in_ok-cases.ensures.made) ∙ sym c.in_ok-value.ensures)
 
-pub other_block-returns-in_err-other-clause-refused : goal.other_block-returns-in_err-other-clause-refused
-other_block-returns-in_err-other-clause-refused t c = refused_exit c.from_residual-in_err-other.result c.in_err-other.field-0.0 c.from_residual-in_err-other.ensures.1 (refused_within c.in_ok-word.ensures.read c.in_err-other.ensures.refused)
+pub generate_arms-loop-depth-init : goal.generate_arms-loop-depth-init
+generate_arms-loop-depth-init t c = listing_start c.args.input.now (r rule.GenerateCaseItem) part.generate_arm_of part.generate_arm_view c.args.depth.value c.args.before.items c.args.at c.args.depth.limit
 
-pub other_block-returns-clause-found : goal.other_block-returns-clause-found
-other_block-returns-clause-found t c = parsed (read_within c.in_ok-word.ensures.read c.in_ok-other.ensures.found.read) (ap tree.OtherwiseBlock c.in_ok-other.ensures.found.made)
+pub generate_arms-returns-in_err-next : goal.generate_arms-returns-in_err-next
+generate_arms-returns-in_err-next t c = answer_exit _ _ c.from_residual.result c.in_err-next.field-0.0 c.from_residual.ensures.1 (refused_more c.loop-depth.invariant.grown (sym c.is_expression_at.ensures ∙ c.loop-depth-test.true) c.in_err-next.ensures)
 
-pub generate_case-returns-in_err-word-clause-refused : goal.generate_case-returns-in_err-word-clause-refused
-generate_case-returns-in_err-word-clause-refused t c = refused_exit c.from_residual.result c.in_err-word.field-0.0 c.from_residual.ensures.1 (refused_seq (refused_missing c.in_err-word.ensures.refused))
+pub generate_arms-returns-in_err-push : goal.generate_arms-returns-in_err-push
+generate_arms-returns-in_err-push t c = answer_exit _ _ c.from_residual-in_err-push.result Memory c.from_residual-in_err-push.ensures.1 out_of_memory
 
-pub generate_case-returns-in_err-open-clause-refused : goal.generate_case-returns-in_err-open-clause-refused
-generate_case-returns-in_err-open-clause-refused t c = refused_exit c.from_residual-in_err-open.result c.in_err-open.field-0.0 c.from_residual-in_err-open.ensures.1 (refused_then (read_tok c.requires.shallow c.in_ok-word.ensures.read) (refused_seq (refused_missing c.in_err-open.ensures.refused)))
+pub generate_arms-loop-depth-smaller : goal.generate_arms-loop-depth-smaller
+generate_arms-loop-depth-smaller t c = shorter c.in_ok-next.ensures.read refl
 
-pub generate_case-returns-in_err-subject-clause-refused : goal.generate_case-returns-in_err-subject-clause-refused
-generate_case-returns-in_err-subject-clause-refused t c = refused_exit c.from_residual-in_err-subject.result c.in_err-subject.field-0.0 c.from_residual-in_err-subject.ensures.1 (refused_then (read_tok c.requires.shallow c.in_ok-word.ensures.read) (refused_then (read_tok c.requires.shallow c.in_ok-open.ensures.read) (refused_seq c.in_err-subject.ensures.refused)))
+pub generate_arms-loop-depth-preserved : goal.generate_arms-loop-depth-preserved
+generate_arms-loop-depth-preserved t c = listing_more c.in_ok-next.next.value _ c.loop-depth.invariant (sym c.is_expression_at.ensures ∙ c.loop-depth-test.true) c.in_ok-next.ensures.read c.in_ok-next.ensures.made c.in_ok-push.ensures.items
 
-pub generate_case-returns-in_err-close-clause-refused : goal.generate_case-returns-in_err-close-clause-refused
-generate_case-returns-in_err-close-clause-refused t c = refused_exit c.from_residual-in_err-close.result c.in_err-close.field-0.0 c.from_residual-in_err-close.ensures.1 (refused_then (read_tok c.requires.shallow c.in_ok-word.ensures.read) (refused_then (read_tok c.requires.shallow c.in_ok-open.ensures.read) (refused_then c.in_ok-subject.ensures.found.read (refused_seq (refused_missing c.in_err-close.ensures.refused)))))
+pub generate_arms-returns : goal.generate_arms-returns
+generate_arms-returns t c = listing_behind c.loop-depth.invariant (sym c.is_expression_at.ensures ∙ c.loop-depth-test.false)
 
-pub generate_case-returns-in_err-cases-clause-refused : goal.generate_case-returns-in_err-cases-clause-refused
-generate_case-returns-in_err-cases-clause-refused t c = refused_exit c.from_residual-in_err-cases.result c.in_err-cases.field-0.0 c.from_residual-in_err-cases.ensures.1 (refused_then (read_tok c.requires.shallow c.in_ok-word.ensures.read) (refused_then (read_tok c.requires.shallow c.in_ok-open.ensures.read) (refused_then c.in_ok-subject.ensures.found.read (refused_then (read_tok c.requires.shallow c.in_ok-close.ensures.read) (refused_seq c.in_err-cases.ensures.refused)))))
+pub generate_arm-returns-in_err-labels : goal.generate_arm-returns-in_err-labels
+generate_arm-returns-in_err-labels t c = answer_exit _ _ c.from_residual.result c.in_err-labels.field-0.0 c.from_residual.ensures.1 (refused_var (refused_seq c.in_err-labels.ensures))
 
-pub generate_case-returns-in_err-end-clause-refused : goal.generate_case-returns-in_err-end-clause-refused
-generate_case-returns-in_err-end-clause-refused t c = refused_exit c.from_residual-in_err-end.result c.in_err-end.field-0.0 c.from_residual-in_err-end.ensures.1 (refused_then (read_tok c.requires.shallow c.in_ok-word.ensures.read) (refused_then (read_tok c.requires.shallow c.in_ok-open.ensures.read) (refused_then c.in_ok-subject.ensures.found.read (refused_then (read_tok c.requires.shallow c.in_ok-close.ensures.read) (refused_then c.in_ok-cases.ensures.found.read (refused_missing c.in_err-end.ensures.refused))))))
+pub generate_arm-returns-in_err-colon : goal.generate_arm-returns-in_err-colon
+generate_arm-returns-in_err-colon t c = answer_exit _ _ c.from_residual-in_err-colon.result c.in_err-colon.field-0.0 c.from_residual-in_err-colon.ensures.1 (refused_var (refused_then c.in_ok-labels.ensures.read (refused_seq (refused_missing c.in_err-colon.ensures))))
 
-pub generate_case-returns-in_err-value-clause-refused : goal.generate_case-returns-in_err-value-clause-refused
-generate_case-returns-in_err-value-clause-refused t c = refused_exit c.from_residual-in_err-value.result Memory c.from_residual-in_err-value.ensures.1 out_of_memory
+pub generate_arm-returns-in_err-block : goal.generate_arm-returns-in_err-block
+generate_arm-returns-in_err-block t c = answer_exit _ _ c.from_residual-in_err-block.result c.in_err-block.field-0.0 c.from_residual-in_err-block.ensures.1 (refused_var (refused_then c.in_ok-labels.ensures.read (refused_then (read_tok c.args.depth.limit c.in_ok-colon.ensures) c.in_err-block.ensures)))
 
-pub generate_case-returns-clause-found : goal.generate_case-returns-clause-found
-generate_case-returns-clause-found t c = parsed (read_seq (read_tok c.requires.shallow c.in_ok-word.ensures.read) (read_seq (read_tok c.requires.shallow c.in_ok-open.ensures.read) (read_seq c.in_ok-subject.ensures.found.read (read_seq (read_tok c.requires.shallow c.in_ok-close.ensures.read) (read_seq c.in_ok-cases.ensures.found.read (read_tok c.requires.shallow c.in_ok-end.ensures.read)))))) (ap3 (tree.GenerateCase c.args.at) c.in_ok-subject.ensures.found.made (ap (λ z. z.0) c.in_ok-cases.ensures.found.made) (ap (λ z. z.1) c.in_ok-cases.ensures.found.made) ∙ sym c.in_ok-value.ensures)
+pub generate_arm-returns : goal.generate_arm-returns
+generate_arm-returns t c = parsed (read_var (read_seq c.in_ok-labels.ensures.read (read_seq (read_tok c.args.depth.limit c.in_ok-colon.ensures) c.in_ok-block.ensures.read))) (ap2 (λ x y. (x, y)) c.in_ok-labels.ensures.made c.in_ok-block.ensures.made)
 
-pub generate_arms-loop-list-init : goal.generate_arms-loop-list-init
-generate_arms-loop-list-init t c = listing_start c.args.input.now (r rule.GenerateCaseItem) part.generate_arm_of part.generate_arm_view c.args.depth c.args.before.items c.args.at c.requires.shallow
+pub generate_default-returns-in_err-word : goal.generate_default-returns-in_err-word
+generate_default-returns-in_err-word t c = answer_exit _ _ c.from_residual.result c.in_err-word.field-0.0 c.from_residual.ensures.1 (refused_var (refused_seq (refused_missing c.in_err-word.ensures)))
 
-pub generate_arms-returns-in_err-next-clause-refused : goal.generate_arms-returns-in_err-next-clause-refused
-generate_arms-returns-in_err-next-clause-refused t c = refused_exit c.from_residual.result c.in_err-next.field-0.0 c.from_residual.ensures.1 (refused_more c.loop-list.invariant.grown (sym c.is_expression_at.ensures ∙ c.loop-list-test.true) c.in_err-next.ensures.refused)
+pub generate_default-returns-in_err-block : goal.generate_default-returns-in_err-block
+generate_default-returns-in_err-block t c = answer_exit _ _ c.from_residual-in_err-block.result c.in_err-block.field-0.0 c.from_residual-in_err-block.ensures.1 (refused_var (refused_then (read_tok c.args.depth.limit c.in_ok-word.ensures) (refused_then c.optional-colon.ensures.read c.in_err-block.ensures)))
 
-pub generate_arms-returns-in_err-push-clause-refused : goal.generate_arms-returns-in_err-push-clause-refused
-generate_arms-returns-in_err-push-clause-refused t c = refused_exit c.from_residual-in_err-push.result Memory c.from_residual-in_err-push.ensures.1 out_of_memory
+pub generate_default-returns : goal.generate_default-returns
+generate_default-returns t c = parsed (read_var (read_seq (read_tok c.args.depth.limit c.in_ok-word.ensures) (read_seq c.optional-colon.ensures.read c.in_ok-block.ensures.read))) (ap tree.OtherwiseBlock c.in_ok-block.ensures.made)
 
-pub generate_arms-loop-list-smaller : goal.generate_arms-loop-list-smaller
-generate_arms-loop-list-smaller t c = shorter c.in_ok-next.ensures.found.read refl
+pub generate_cases-returns-in_err-other : goal.generate_cases-returns-in_err-other
+generate_cases-returns-in_err-other t c = answer_exit _ _ c.from_residual.result c.in_err-other.field-0.0 c.from_residual.ensures.1 (refused_var (refused_former (one_true _ c.stands.result c.stands.ensures c.if-stands.true) (refused_seq c.in_err-other.ensures)))
 
-pub generate_arms-loop-list-preserved : goal.generate_arms-loop-list-preserved
-generate_arms-loop-list-preserved t c = listing_more c.in_ok-next.next.value _ c.loop-list.invariant (sym c.is_expression_at.ensures ∙ c.loop-list-test.true) c.in_ok-next.ensures.found.read c.in_ok-next.ensures.found.made c.in_ok-push.ensures.items
+pub generate_cases-returns-in_err-list : goal.generate_cases-returns-in_err-list
+generate_cases-returns-in_err-list t c = answer_exit _ _ c.from_residual-in_err-list.result c.in_err-list.field-0.0 c.from_residual-in_err-list.ensures.1 (refused_var (refused_former (one_true _ c.stands.result c.stands.ensures c.if-stands.true) (refused_then c.in_ok-other.ensures.read c.in_err-list.ensures)))
 
-pub generate_arms-returns-clause-found : goal.generate_arms-returns-clause-found
-generate_arms-returns-clause-found t c = listing_behind c.loop-list.invariant (sym c.is_expression_at.ensures ∙ c.loop-list-test.false)
+pub generate_cases-returns-then-stands : goal.generate_cases-returns-then-stands
+generate_cases-returns-then-stands t c = parsed (read_var (read_former (one_true _ c.stands.result c.stands.ensures c.if-stands.true) (read_seq c.in_ok-other.ensures.read c.in_ok-list.ensures.read))) (block_default_first (bytes_in c.args.input.now) c.in_ok-other.ensures.tree c.in_ok-list.ensures.tree _ c.in_ok-list.list.value.items c.in_ok-other.other.value c.in_ok-other.ensures.made c.new.ensures.items c.in_ok-list.ensures.made)
 
-pub generate_arm-returns-in_err-labels-clause-refused : goal.generate_arm-returns-in_err-labels-clause-refused
-generate_arm-returns-in_err-labels-clause-refused t c = refused_exit c.from_residual.result c.in_err-labels.field-0.0 c.from_residual.ensures.1 (refused_var (refused_seq c.in_err-labels.ensures.refused))
+pub generate_cases-returns-in_err-first : goal.generate_cases-returns-in_err-first
+generate_cases-returns-in_err-first t c = answer_exit _ _ c.from_residual-in_err-first.result c.in_err-first.field-0.0 c.from_residual-in_err-first.ensures.1 (refused_var (refused_latter (one_false _ c.stands.result c.stands.ensures c.if-stands.false) (refused_seq c.in_err-first.ensures)))
 
-pub generate_arm-returns-in_err-colon-clause-refused : goal.generate_arm-returns-in_err-colon-clause-refused
-generate_arm-returns-in_err-colon-clause-refused t c = refused_exit c.from_residual-in_err-colon.result c.in_err-colon.field-0.0 c.from_residual-in_err-colon.ensures.1 (refused_var (refused_then c.in_ok-labels.ensures.found.read (refused_seq (refused_missing c.in_err-colon.ensures.refused))))
+pub generate_cases-returns-in_err-push : goal.generate_cases-returns-in_err-push
+generate_cases-returns-in_err-push t c = answer_exit _ _ c.from_residual-in_err-push.result Memory c.from_residual-in_err-push.ensures.1 out_of_memory
 
-pub generate_arm-returns-in_err-block-clause-refused : goal.generate_arm-returns-in_err-block-clause-refused
-generate_arm-returns-in_err-block-clause-refused t c = refused_exit c.from_residual-in_err-block.result c.in_err-block.field-0.0 c.from_residual-in_err-block.ensures.1 (refused_var (refused_then c.in_ok-labels.ensures.found.read (refused_then (read_tok c.requires.shallow c.in_ok-colon.ensures.read) c.in_err-block.ensures.refused)))
+pub generate_cases-returns-in_err-before : goal.generate_cases-returns-in_err-before
+generate_cases-returns-in_err-before t c = answer_exit _ _ c.from_residual-in_err-before.result c.in_err-before.field-0.0 c.from_residual-in_err-before.ensures.1 (refused_var (refused_latter (one_false _ c.stands.result c.stands.ensures c.if-stands.false) (refused_then c.in_ok-first.ensures.read (refused_seq c.in_err-before.ensures))))
 
-pub generate_arm-returns-clause-found : goal.generate_arm-returns-clause-found
-generate_arm-returns-clause-found t c = parsed (read_var (read_seq c.in_ok-labels.ensures.found.read (read_seq (read_tok c.requires.shallow c.in_ok-colon.ensures.read) c.in_ok-block.ensures.found.read))) (ap2 (λ x y. (x, y)) c.in_ok-labels.ensures.found.made c.in_ok-block.ensures.found.made)
+pub generate_cases-returns-then-not-stands : goal.generate_cases-returns-then-not-stands
+generate_cases-returns-then-not-stands t c = parsed (read_var (read_latter (one_false _ c.stands.result c.stands.ensures c.if-stands.false) (read_seq c.in_ok-first.ensures.read (read_seq c.in_ok-before.ensures.read (read_latter (one_false _ c.stands-2.result c.stands-2.ensures c.if-not-stands.true) (read_eps c.args.input.now.tokens.now _ c.in_ok-before.before.to c.args.depth.limit)))))) (block_arms_alone (bytes_in c.args.input.now) c.in_ok-first.ensures.tree c.in_ok-before.ensures.tree nothing c.in_ok-first.first.value _ c.in_ok-before.before.value.items c.in_ok-first.ensures.made (pushed_first c.new-start.ensures.items c.in_ok-push.ensures.items) c.in_ok-before.ensures.made)
 
-pub generate_default-returns-in_err-word-clause-refused : goal.generate_default-returns-in_err-word-clause-refused
-generate_default-returns-in_err-word-clause-refused t c = refused_exit c.from_residual.result c.in_err-word.field-0.0 c.from_residual.ensures.1 (refused_var (refused_seq (refused_missing c.in_err-word.ensures.refused)))
+pub generate_cases-returns-in_err-default : goal.generate_cases-returns-in_err-default
+generate_cases-returns-in_err-default t c = answer_exit _ _ c.from_residual-in_err-default.result c.in_err-default.field-0.0 c.from_residual-in_err-default.ensures.1 (refused_var (refused_latter (one_false _ c.stands.result c.stands.ensures c.if-stands.false) (refused_then c.in_ok-first.ensures.read (refused_then c.in_ok-before.ensures.read (refused_former (one_true _ c.stands-2.result c.stands-2.ensures c.if-not-stands.false) (refused_seq c.in_err-default.ensures))))))
 
-pub generate_default-returns-in_err-block-clause-refused : goal.generate_default-returns-in_err-block-clause-refused
-generate_default-returns-in_err-block-clause-refused t c = refused_exit c.from_residual-in_err-block.result c.in_err-block.field-0.0 c.from_residual-in_err-block.ensures.1 (refused_var (refused_then (read_tok c.requires.shallow c.in_ok-word.ensures.read) (refused_then c.optional-colon.ensures.read c.in_err-block.ensures.refused)))
+pub generate_cases-returns-in_err-arms : goal.generate_cases-returns-in_err-arms
+generate_cases-returns-in_err-arms t c = answer_exit _ _ c.from_residual-in_err-arms.result c.in_err-arms.field-0.0 c.from_residual-in_err-arms.ensures.1 (refused_var (refused_latter (one_false _ c.stands.result c.stands.ensures c.if-stands.false) (refused_then c.in_ok-first.ensures.read (refused_then c.in_ok-before.ensures.read (refused_former (one_true _ c.stands-2.result c.stands-2.ensures c.if-not-stands.false) (refused_then c.in_ok-default.ensures.read c.in_err-arms.ensures))))))
 
-pub generate_default-returns-clause-found : goal.generate_default-returns-clause-found
-generate_default-returns-clause-found t c = parsed (read_var (read_seq (read_tok c.requires.shallow c.in_ok-word.ensures.read) (read_seq c.optional-colon.ensures.read c.in_ok-block.ensures.found.read))) (ap tree.OtherwiseBlock c.in_ok-block.ensures.found.made)
+pub generate_cases-returns : goal.generate_cases-returns
+generate_cases-returns t c = parsed (read_var (read_latter (one_false _ c.stands.result c.stands.ensures c.if-stands.false) (read_seq c.in_ok-first.ensures.read (read_seq c.in_ok-before.ensures.read (read_former (one_true _ c.stands-2.result c.stands-2.ensures c.if-not-stands.false) (read_seq c.in_ok-default.ensures.read c.in_ok-arms.ensures.read)))))) (block_arms_around (bytes_in c.args.input.now) c.in_ok-first.ensures.tree c.in_ok-before.ensures.tree c.in_ok-default.ensures.tree c.in_ok-arms.ensures.tree c.in_ok-first.first.value _ c.in_ok-before.before.value.items c.in_ok-arms.arms.value.items c.in_ok-default.default.value c.in_ok-first.ensures.made (pushed_first c.new-start.ensures.items c.in_ok-push.ensures.items) c.in_ok-before.ensures.made c.in_ok-default.ensures.made c.in_ok-arms.ensures.made)
 
-pub generate_cases-returns-in_err-other-clause-refused : goal.generate_cases-returns-in_err-other-clause-refused
-generate_cases-returns-in_err-other-clause-refused t c = refused_exit c.from_residual.result c.in_err-other.field-0.0 c.from_residual.ensures.1 (refused_var (refused_former (one_true _ c.stands.result c.stands.ensures c.if-stands.true) (refused_seq c.in_err-other.ensures.refused)))
+pub block-returns-then-not-stands_any : goal.block-returns-then-not-stands_any
+block-returns-then-not-stands_any t c = stopped_first 3 part.block_kinds (sym c.stands_any.ensures ∙ c.if-not-stands_any.true) refl
 
-pub generate_cases-returns-in_err-list-clause-refused : goal.generate_cases-returns-in_err-list-clause-refused
-generate_cases-returns-in_err-list-clause-refused t c = refused_exit c.from_residual-in_err-list.result c.in_err-list.field-0.0 c.from_residual-in_err-list.ensures.1 (refused_var (refused_former (one_true _ c.stands.result c.stands.ensures c.if-stands.true) (refused_then c.in_ok-other.ensures.found.read c.in_err-list.ensures.refused)))
+pub block-returns-in_err-inner : goal.block-returns-in_err-inner
+block-returns-in_err-inner t c = answer_exit _ _ c.from_residual.result c.in_err-inner.field-0.0 c.from_residual.ensures.1 (refused_var (too_deep_first 3 part.block_kinds (sym c.stands_any.ensures ∙ c.if-not-stands_any.false) refl c.in_err-inner.ensures.0 c.in_err-inner.ensures.1))
 
-pub generate_cases-returns-then-stands-clause-found : goal.generate_cases-returns-then-stands-clause-found
-generate_cases-returns-then-stands-clause-found t c = parsed (read_var (read_former (one_true _ c.stands.result c.stands.ensures c.if-stands.true) (read_seq c.in_ok-other.ensures.found.read c.in_ok-list.ensures.found.read))) (block_default_first (bytes_in c.args.input.now) c.in_ok-other.ensures.found.tree c.in_ok-list.ensures.found.tree _ c.in_ok-list.list.value.items c.in_ok-other.other.value c.in_ok-other.ensures.found.made c.new.ensures.items c.in_ok-list.ensures.found.made)
+pub block-returns-then-stands : goal.block-returns-then-stands
+block-returns-then-stands t c = answer_more c.enclosed.result c.enclosed.ensures (λ f w. parsed (read_var (read_level c.in_ok-inner.ensures (read_former (one_true _ c.stands.result c.stands.ensures c.if-stands.true) w.read))) w.made) (λ e w. (refused_var (refused_level c.in_ok-inner.ensures (refused_former (one_true _ c.stands.result c.stands.ensures c.if-stands.true) w))))
 
-pub generate_cases-returns-in_err-first-clause-refused : goal.generate_cases-returns-in_err-first-clause-refused
-generate_cases-returns-in_err-first-clause-refused t c = refused_exit c.from_residual-in_err-first.result c.in_err-first.field-0.0 c.from_residual-in_err-first.ensures.1 (refused_var (refused_latter (one_false _ c.stands.result c.stands.ensures c.if-stands.false) (refused_seq c.in_err-first.ensures.refused)))
+pub block-returns-in_err-item : goal.block-returns-in_err-item
+block-returns-in_err-item t c = answer_exit _ _ c.from_residual-in_err-item.result c.in_err-item.field-0.0 c.from_residual-in_err-item.ensures.1 (refused_var (refused_level c.in_ok-inner.ensures (refused_latter (one_false _ c.stands.result c.stands.ensures c.if-stands.false) (refused_former (sym c.is_generate_item_at.ensures ∙ c.if-is_generate_item_at.true) c.in_err-item.ensures))))
 
-pub generate_cases-returns-in_err-push-clause-refused : goal.generate_cases-returns-in_err-push-clause-refused
-generate_cases-returns-in_err-push-clause-refused t c = refused_exit c.from_residual-in_err-push.result Memory c.from_residual-in_err-push.ensures.1 out_of_memory
+pub block-returns-in_err-value : goal.block-returns-in_err-value
+block-returns-in_err-value t c = answer_exit _ _ c.from_residual-in_err-value.result Memory c.from_residual-in_err-value.ensures.1 out_of_memory
 
-pub generate_cases-returns-in_err-before-clause-refused : goal.generate_cases-returns-in_err-before-clause-refused
-generate_cases-returns-in_err-before-clause-refused t c = refused_exit c.from_residual-in_err-before.result c.in_err-before.field-0.0 c.from_residual-in_err-before.ensures.1 (refused_var (refused_latter (one_false _ c.stands.result c.stands.ensures c.if-stands.false) (refused_then c.in_ok-first.ensures.found.read (refused_seq c.in_err-before.ensures.refused))))
+pub block-returns-in_ok-value : goal.block-returns-in_ok-value
+block-returns-in_ok-value t c = parsed (read_var (read_level c.in_ok-inner.ensures (read_latter (one_false _ c.stands.result c.stands.ensures c.if-stands.false) (read_former (sym c.is_generate_item_at.ensures ∙ c.if-is_generate_item_at.true) c.in_ok-item.ensures.read)))) (ap tree.Alone c.in_ok-item.ensures.made ∙ sym c.in_ok-value.ensures)
 
-pub generate_cases-returns-then-not-stands-clause-found : goal.generate_cases-returns-then-not-stands-clause-found
-generate_cases-returns-then-not-stands-clause-found t c = parsed (read_var (read_latter (one_false _ c.stands.result c.stands.ensures c.if-stands.false) (read_seq c.in_ok-first.ensures.found.read (read_seq c.in_ok-before.ensures.found.read (read_latter (one_false _ c.stands-2.result c.stands-2.ensures c.if-not-stands.true) (read_eps c.args.input.now.tokens.now _ c.in_ok-before.before.to c.requires.shallow)))))) (block_arms_alone (bytes_in c.args.input.now) c.in_ok-first.ensures.found.tree c.in_ok-before.ensures.found.tree nothing c.in_ok-first.first.value _ c.in_ok-before.before.value.items c.in_ok-first.ensures.found.made (pushed_first c.new-start.ensures.items c.in_ok-push.ensures.items) c.in_ok-before.ensures.found.made)
+pub block-returns-in_err-to : goal.block-returns-in_err-to
+block-returns-in_err-to t c = answer_exit _ _ c.from_residual-in_err-to.result c.in_err-to.field-0.0 c.from_residual-in_err-to.ensures.1 (refused_var (refused_level c.in_ok-inner.ensures (refused_latter (one_false _ c.stands.result c.stands.ensures c.if-stands.false) (refused_latter (sym c.is_generate_item_at.ensures ∙ c.if-is_generate_item_at.false) (refused_missing c.in_err-to.ensures)))))
 
-pub generate_cases-returns-in_err-default-clause-refused : goal.generate_cases-returns-in_err-default-clause-refused
-generate_cases-returns-in_err-default-clause-refused t c = refused_exit c.from_residual-in_err-default.result c.in_err-default.field-0.0 c.from_residual-in_err-default.ensures.1 (refused_var (refused_latter (one_false _ c.stands.result c.stands.ensures c.if-stands.false) (refused_then c.in_ok-first.ensures.found.read (refused_then c.in_ok-before.ensures.found.read (refused_former (one_true _ c.stands-2.result c.stands-2.ensures c.if-not-stands.false) (refused_seq c.in_err-default.ensures.refused))))))
+pub block-returns-in_ok-to : goal.block-returns-in_ok-to
+block-returns-in_ok-to t c = parsed (read_var (read_level c.in_ok-inner.ensures (read_latter (one_false _ c.stands.result c.stands.ensures c.if-stands.false) (read_latter (sym c.is_generate_item_at.ensures ∙ c.if-is_generate_item_at.false) (read_tok c.in_ok-inner.inner.limit c.in_ok-to.ensures))))) refl
 
-pub generate_cases-returns-in_err-arms-clause-refused : goal.generate_cases-returns-in_err-arms-clause-refused
-generate_cases-returns-in_err-arms-clause-refused t c = refused_exit c.from_residual-in_err-arms.result c.in_err-arms.field-0.0 c.from_residual-in_err-arms.ensures.1 (refused_var (refused_latter (one_false _ c.stands.result c.stands.ensures c.if-stands.false) (refused_then c.in_ok-first.ensures.found.read (refused_then c.in_ok-before.ensures.found.read (refused_former (one_true _ c.stands-2.result c.stands-2.ensures c.if-not-stands.false) (refused_then c.in_ok-default.ensures.found.read c.in_err-arms.ensures.refused))))))
+pub enclosed-returns-in_err-begin : goal.enclosed-returns-in_err-begin
+enclosed-returns-in_err-begin t c = answer_exit _ _ c.from_residual.result c.in_err-begin.field-0.0 c.from_residual.ensures.1 (refused_seq (refused_missing c.in_err-begin.ensures))
 
-pub generate_cases-returns-clause-found : goal.generate_cases-returns-clause-found
-generate_cases-returns-clause-found t c = parsed (read_var (read_latter (one_false _ c.stands.result c.stands.ensures c.if-stands.false) (read_seq c.in_ok-first.ensures.found.read (read_seq c.in_ok-before.ensures.found.read (read_former (one_true _ c.stands-2.result c.stands-2.ensures c.if-not-stands.false) (read_seq c.in_ok-default.ensures.found.read c.in_ok-arms.ensures.found.read)))))) (block_arms_around (bytes_in c.args.input.now) c.in_ok-first.ensures.found.tree c.in_ok-before.ensures.found.tree c.in_ok-default.ensures.found.tree c.in_ok-arms.ensures.found.tree c.in_ok-first.first.value _ c.in_ok-before.before.value.items c.in_ok-arms.arms.value.items c.in_ok-default.default.value c.in_ok-first.ensures.found.made (pushed_first c.new-start.ensures.items c.in_ok-push.ensures.items) c.in_ok-before.ensures.found.made c.in_ok-default.ensures.found.made c.in_ok-arms.ensures.found.made)
+pub enclosed-returns-in_err-label : goal.enclosed-returns-in_err-label
+enclosed-returns-in_err-label t c = answer_exit _ _ c.from_residual-in_err-label.result c.in_err-label.field-0.0 c.from_residual-in_err-label.ensures.1 (refused_then (read_tok c.args.depth.limit c.in_ok-begin.ensures) (refused_seq c.in_err-label.ensures))
 
-pub block-returns-then-not-stands_any-clause-refused : goal.block-returns-then-not-stands_any-clause-refused
-block-returns-then-not-stands_any-clause-refused t c = stopped_first 3 part.block_kinds (sym c.stands_any.ensures ∙ c.if-not-stands_any.true) refl
+pub enclosed-returns-in_err-list : goal.enclosed-returns-in_err-list
+enclosed-returns-in_err-list t c = answer_exit _ _ c.from_residual-in_err-list.result c.in_err-list.field-0.0 c.from_residual-in_err-list.ensures.1 (refused_then (read_tok c.args.depth.limit c.in_ok-begin.ensures) (refused_then c.in_ok-label.ensures.read (refused_seq c.in_err-list.ensures)))
 
-pub block-returns-in_err-inner-clause-refused : goal.block-returns-in_err-inner-clause-refused
-block-returns-in_err-inner-clause-refused t c = refused_exit c.from_residual.result c.in_err-inner.field-0.0 c.from_residual.ensures.1 (refused_var (too_deep_first 3 part.block_kinds (sym c.stands_any.ensures ∙ c.if-not-stands_any.false) refl c.in_err-inner.ensures.refused.0 c.in_err-inner.ensures.refused.1))
+pub enclosed-returns-in_err-end : goal.enclosed-returns-in_err-end
+enclosed-returns-in_err-end t c = answer_exit _ _ c.from_residual-in_err-end.result c.in_err-end.field-0.0 c.from_residual-in_err-end.ensures.1 (refused_then (read_tok c.args.depth.limit c.in_ok-begin.ensures) (refused_then c.in_ok-label.ensures.read (refused_then c.in_ok-list.ensures.read (refused_missing c.in_err-end.ensures))))
 
-pub block-returns-then-stands-clause-found : goal.block-returns-then-stands-clause-found
-block-returns-then-stands-clause-found t c = ok_more c.enclosed.result c.enclosed.ensures.found (λ f w. parsed (read_var (read_level c.in_ok-inner.ensures.inside.0 (read_former (one_true _ c.stands.result c.stands.ensures c.if-stands.true) w.read))) w.made)
+pub enclosed-returns : goal.enclosed-returns
+enclosed-returns t c = parsed (read_seq (read_tok c.args.depth.limit c.in_ok-begin.ensures) (read_seq c.in_ok-label.ensures.read (read_seq c.in_ok-list.ensures.read (read_tok c.args.depth.limit c.in_ok-end.ensures)))) (ap2 (tree.Enclosed c.args.at) c.in_ok-label.ensures.made (items_made (bytes_in c.args.input.now) c.in_ok-list.ensures.tree _ c.in_ok-list.list.value.items c.new.ensures.items c.in_ok-list.ensures.made) ∙ sym c.new_enclosed-value.ensures)
 
-pub block-returns-then-stands-clause-refused : goal.block-returns-then-stands-clause-refused
-block-returns-then-stands-clause-refused t c = err_more c.enclosed.result c.enclosed.ensures.refused (λ e w. (refused_var (refused_level c.in_ok-inner.ensures.inside.0 (refused_former (one_true _ c.stands.result c.stands.ensures c.if-stands.true) w))))
+pub generate_items-loop-depth-init : goal.generate_items-loop-depth-init
+generate_items-loop-depth-init t c = listing_start c.args.input.now (r rule.GenerateItem) meaning.item_of view.item c.args.depth.value c.args.before.items c.args.at c.args.depth.limit
 
-pub block-returns-in_err-item-clause-refused : goal.block-returns-in_err-item-clause-refused
-block-returns-in_err-item-clause-refused t c = refused_exit c.from_residual-in_err-item.result c.in_err-item.field-0.0 c.from_residual-in_err-item.ensures.1 (refused_var (refused_level c.in_ok-inner.ensures.inside.0 (refused_latter (one_false _ c.stands.result c.stands.ensures c.if-stands.false) (refused_former (sym c.is_generate_item_at.ensures ∙ c.if-is_generate_item_at.true) c.in_err-item.ensures.refused))))
+pub generate_items-returns-in_err-next : goal.generate_items-returns-in_err-next
+generate_items-returns-in_err-next t c = answer_exit _ _ c.from_residual.result c.in_err-next.field-0.0 c.from_residual.ensures.1 (refused_more c.loop-depth.invariant.grown (sym c.is_generate_item_at.ensures ∙ c.loop-depth-test.true) c.in_err-next.ensures)
 
-pub block-returns-in_err-value-clause-refused : goal.block-returns-in_err-value-clause-refused
-block-returns-in_err-value-clause-refused t c = refused_exit c.from_residual-in_err-value.result Memory c.from_residual-in_err-value.ensures.1 out_of_memory
+pub generate_items-returns-in_err-push : goal.generate_items-returns-in_err-push
+generate_items-returns-in_err-push t c = answer_exit _ _ c.from_residual-in_err-push.result Memory c.from_residual-in_err-push.ensures.1 out_of_memory
 
-pub block-returns-in_ok-value-clause-found : goal.block-returns-in_ok-value-clause-found
-block-returns-in_ok-value-clause-found t c = parsed (read_var (read_level c.in_ok-inner.ensures.inside.0 (read_latter (one_false _ c.stands.result c.stands.ensures c.if-stands.false) (read_former (sym c.is_generate_item_at.ensures ∙ c.if-is_generate_item_at.true) c.in_ok-item.ensures.found.read)))) (ap tree.Alone c.in_ok-item.ensures.found.made ∙ sym c.in_ok-value.ensures)
+pub generate_items-loop-depth-smaller : goal.generate_items-loop-depth-smaller
+generate_items-loop-depth-smaller t c = shorter c.in_ok-next.ensures.read refl
 
-pub block-returns-in_err-to-clause-refused : goal.block-returns-in_err-to-clause-refused
-block-returns-in_err-to-clause-refused t c = refused_exit c.from_residual-in_err-to.result c.in_err-to.field-0.0 c.from_residual-in_err-to.ensures.1 (refused_var (refused_level c.in_ok-inner.ensures.inside.0 (refused_latter (one_false _ c.stands.result c.stands.ensures c.if-stands.false) (refused_latter (sym c.is_generate_item_at.ensures ∙ c.if-is_generate_item_at.false) (refused_missing c.in_err-to.ensures.refused)))))
+pub generate_items-loop-depth-preserved : goal.generate_items-loop-depth-preserved
+generate_items-loop-depth-preserved t c = listing_more c.in_ok-next.next.value _ c.loop-depth.invariant (sym c.is_generate_item_at.ensures ∙ c.loop-depth-test.true) c.in_ok-next.ensures.read c.in_ok-next.ensures.made c.in_ok-push.ensures.items
 
-pub block-returns-in_ok-to-clause-found : goal.block-returns-in_ok-to-clause-found
-block-returns-in_ok-to-clause-found t c = parsed (read_var (read_level c.in_ok-inner.ensures.inside.0 (read_latter (one_false _ c.stands.result c.stands.ensures c.if-stands.false) (read_latter (sym c.is_generate_item_at.ensures ∙ c.if-is_generate_item_at.false) (read_tok c.in_ok-inner.ensures.inside.1 c.in_ok-to.ensures.read))))) refl
-
-pub enclosed-returns-in_err-begin-clause-refused : goal.enclosed-returns-in_err-begin-clause-refused
-enclosed-returns-in_err-begin-clause-refused t c = refused_exit c.from_residual.result c.in_err-begin.field-0.0 c.from_residual.ensures.1 (refused_seq (refused_missing c.in_err-begin.ensures.refused))
-
-pub enclosed-returns-in_err-label-clause-refused : goal.enclosed-returns-in_err-label-clause-refused
-enclosed-returns-in_err-label-clause-refused t c = refused_exit c.from_residual-in_err-label.result c.in_err-label.field-0.0 c.from_residual-in_err-label.ensures.1 (refused_then (read_tok c.requires.shallow c.in_ok-begin.ensures.read) (refused_seq c.in_err-label.ensures.refused))
-
-pub enclosed-returns-in_err-list-clause-refused : goal.enclosed-returns-in_err-list-clause-refused
-enclosed-returns-in_err-list-clause-refused t c = refused_exit c.from_residual-in_err-list.result c.in_err-list.field-0.0 c.from_residual-in_err-list.ensures.1 (refused_then (read_tok c.requires.shallow c.in_ok-begin.ensures.read) (refused_then c.in_ok-label.ensures.found.read (refused_seq c.in_err-list.ensures.refused)))
-
-pub enclosed-returns-in_err-end-clause-refused : goal.enclosed-returns-in_err-end-clause-refused
-enclosed-returns-in_err-end-clause-refused t c = refused_exit c.from_residual-in_err-end.result c.in_err-end.field-0.0 c.from_residual-in_err-end.ensures.1 (refused_then (read_tok c.requires.shallow c.in_ok-begin.ensures.read) (refused_then c.in_ok-label.ensures.found.read (refused_then c.in_ok-list.ensures.found.read (refused_missing c.in_err-end.ensures.refused))))
-
-pub enclosed-returns-clause-found : goal.enclosed-returns-clause-found
-enclosed-returns-clause-found t c = parsed (read_seq (read_tok c.requires.shallow c.in_ok-begin.ensures.read) (read_seq c.in_ok-label.ensures.found.read (read_seq c.in_ok-list.ensures.found.read (read_tok c.requires.shallow c.in_ok-end.ensures.read)))) (ap2 (tree.Enclosed c.args.at) c.in_ok-label.ensures.found.made (items_made (bytes_in c.args.input.now) c.in_ok-list.ensures.found.tree _ c.in_ok-list.list.value.items c.new.ensures.items c.in_ok-list.ensures.found.made) ∙ sym c.new_enclosed-value.ensures)
-
-pub generate_items-loop-list-init : goal.generate_items-loop-list-init
-generate_items-loop-list-init t c = listing_start c.args.input.now (r rule.GenerateItem) meaning.item_of view.item c.args.depth c.args.before.items c.args.at c.requires.shallow
-
-pub generate_items-returns-in_err-next-clause-refused : goal.generate_items-returns-in_err-next-clause-refused
-generate_items-returns-in_err-next-clause-refused t c = refused_exit c.from_residual.result c.in_err-next.field-0.0 c.from_residual.ensures.1 (refused_more c.loop-list.invariant.grown (sym c.is_generate_item_at.ensures ∙ c.loop-list-test.true) c.in_err-next.ensures.refused)
-
-pub generate_items-returns-in_err-push-clause-refused : goal.generate_items-returns-in_err-push-clause-refused
-generate_items-returns-in_err-push-clause-refused t c = refused_exit c.from_residual-in_err-push.result Memory c.from_residual-in_err-push.ensures.1 out_of_memory
-
-pub generate_items-loop-list-smaller : goal.generate_items-loop-list-smaller
-generate_items-loop-list-smaller t c = shorter c.in_ok-next.ensures.found.read refl
-
-pub generate_items-loop-list-preserved : goal.generate_items-loop-list-preserved
-generate_items-loop-list-preserved t c = listing_more c.in_ok-next.next.value _ c.loop-list.invariant (sym c.is_generate_item_at.ensures ∙ c.loop-list-test.true) c.in_ok-next.ensures.found.read c.in_ok-next.ensures.found.made c.in_ok-push.ensures.items
-
-pub generate_items-returns-clause-found : goal.generate_items-returns-clause-found
-generate_items-returns-clause-found t c = listing_behind c.loop-list.invariant (sym c.is_generate_item_at.ensures ∙ c.loop-list-test.false)
+pub generate_items-returns : goal.generate_items-returns
+generate_items-returns t c = listing_behind c.loop-depth.invariant (sym c.is_generate_item_at.ensures ∙ c.loop-depth-test.false)

@@ -5,8 +5,8 @@ use Rattle.vs_ast.specs.Views as view
 use Rattle.vs_phrase.specs.Reading.{Listing}
 use Rattle.vs_parser.proofs.modules.more_modules.Given as goal
 
-abbrev pub invariant-loop-list : goal.invariant-loop-list
-invariant-loop-list l = Listing l.input (r rule.Module) meaning.module_of view.module_tree l.depth l.fn.before.items l.fn.at l.list.items l.to
+abbrev pub invariant-loop-depth : goal.invariant-loop-depth
+invariant-loop-depth l = Listing l.input (r rule.Module) meaning.module_of view.module_tree l.fn.depth.value l.fn.before.items l.fn.at l.list.items l.to
 
-abbrev pub decreases-loop-list : goal.decreases-loop-list
-decreases-loop-list l = length l.input.tokens.now - l.to
+abbrev pub decreases-loop-depth : goal.decreases-loop-depth
+decreases-loop-depth l = length l.input.tokens.now - l.to

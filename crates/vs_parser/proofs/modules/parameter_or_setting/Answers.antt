@@ -2,24 +2,24 @@ use Rattle.std.proofs.Common.{map}
 use Rattle.vs_ast.specs.Views as view
 use Rattle.vs_phrase.specs.declared.error.ParseError.TheVariants.{Memory}
 use Rattle.vs_phrase.specs.Reading.Refused.{out_of_memory}
-use Rattle.vs_phrase.proofs.Places.{refused_exit, refused_memory, refused_former, refused_latter, read_former, read_latter, one_true, one_false}
+use Rattle.vs_phrase.proofs.Places.{answer_exit, refused_memory, refused_former, refused_latter, read_former, read_latter, one_true, one_false}
 use Rattle.vs_parser.proofs.Headers.{declaration_behind, setting_behind, map_pushed}
 use Rattle.vs_parser.proofs.modules.parameter_or_setting.Goals as goal
 
-pub returns-in_err-next-clause-refused : goal.returns-in_err-next-clause-refused
-returns-in_err-next-clause-refused c = refused_exit c.from_residual.result c.in_err-next.field-0.0 c.from_residual.ensures.1 (refused_former (one_true _ c.stands.result c.stands.ensures c.if-stands.true) c.in_err-next.ensures.refused)
+pub returns-in_err-next : goal.returns-in_err-next
+returns-in_err-next c = answer_exit _ _ c.from_residual.result c.in_err-next.field-0.0 c.from_residual.ensures.1 (refused_former (one_true _ c.stands.result c.stands.ensures c.if-stands.true) c.in_err-next.ensures)
 
-pub returns-in_err-push-clause-refused : goal.returns-in_err-push-clause-refused
-returns-in_err-push-clause-refused c = refused_exit c.from_residual-in_err-push.result Memory c.from_residual-in_err-push.ensures.1 out_of_memory
+pub returns-in_err-push : goal.returns-in_err-push
+returns-in_err-push c = answer_exit _ _ c.from_residual-in_err-push.result Memory c.from_residual-in_err-push.ensures.1 out_of_memory
 
-pub returns-in_ok-push-clause-found : goal.returns-in_ok-push-clause-found
-returns-in_ok-push-clause-found c = rw (map_pushed view.parameters _ _ c.args.state.last c.in_ok-push.ensures.items) (declaration_behind (map view.parameters c.args.state.list.items) (view.parameters c.args.state.last) c.in_ok-next.ensures.found.tree (read_former (one_true _ c.stands.result c.stands.ensures c.if-stands.true) c.in_ok-next.ensures.found.read) c.in_ok-next.ensures.found.made)
+pub returns-in_ok-push : goal.returns-in_ok-push
+returns-in_ok-push c = rw (map_pushed view.parameters _ _ c.args.state.last c.in_ok-push.ensures.items) (declaration_behind (map view.parameters c.args.state.list.items) (view.parameters c.args.state.last) c.in_ok-next.ensures.tree (read_former (one_true _ c.stands.result c.stands.ensures c.if-stands.true) c.in_ok-next.ensures.read) c.in_ok-next.ensures.made)
 
-pub returns-in_err-more-clause-refused : goal.returns-in_err-more-clause-refused
-returns-in_err-more-clause-refused c = refused_exit c.from_residual-in_err-more.result c.in_err-more.field-0.0 c.from_residual-in_err-more.ensures.1 (refused_latter (one_false _ c.stands.result c.stands.ensures c.if-stands.false) c.in_err-more.ensures.refused)
+pub returns-in_err-more : goal.returns-in_err-more
+returns-in_err-more c = answer_exit _ _ c.from_residual-in_err-more.result c.in_err-more.field-0.0 c.from_residual-in_err-more.ensures.1 (refused_latter (one_false _ c.stands.result c.stands.ensures c.if-stands.false) c.in_err-more.ensures)
 
-pub returns-in_err-last-clause-refused : goal.returns-in_err-last-clause-refused
-returns-in_err-last-clause-refused c = refused_exit c.from_residual-in_err-last.result c.in_err-last.field-0.0 c.from_residual-in_err-last.ensures.1 (refused_memory c.in_err-last.ensures.memory)
+pub returns-in_err-last : goal.returns-in_err-last
+returns-in_err-last c = answer_exit _ _ c.from_residual-in_err-last.result c.in_err-last.field-0.0 c.from_residual-in_err-last.ensures.1 (refused_memory c.in_err-last.ensures)
 
-pub returns-in_ok-last-clause-found : goal.returns-in_ok-last-clause-found
-returns-in_ok-last-clause-found c = setting_behind (map view.parameters c.args.state.list.items) (view.parameters c.args.state.last) (read_latter (one_false _ c.stands.result c.stands.ensures c.if-stands.false) c.in_ok-more.ensures.found.read) c.in_ok-more.ensures.found.made c.in_ok-last.ensures.longer
+pub returns-in_ok-last : goal.returns-in_ok-last
+returns-in_ok-last c = setting_behind (map view.parameters c.args.state.list.items) (view.parameters c.args.state.last) (read_latter (one_false _ c.stands.result c.stands.ensures c.if-stands.false) c.in_ok-more.ensures.read) c.in_ok-more.ensures.made c.in_ok-last.ensures

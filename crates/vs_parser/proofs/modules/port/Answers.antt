@@ -2,24 +2,24 @@ use Rattle.std.proofs.Common.{refl, sym, ◌∙◌, ap, ◌∷◌, ◌++◌, map
 use Rattle.vs_ast.specs.Views as view
 use Rattle.vs_phrase.specs.declared.error.ParseError.TheVariants.{Memory}
 use Rattle.vs_phrase.specs.Reading.Refused.{out_of_memory}
-use Rattle.vs_phrase.proofs.Places.{refused_exit, refused_var, refused_seq, refused_then, read_var, read_seq, ap5}
+use Rattle.vs_phrase.proofs.Places.{answer_exit, refused_var, refused_seq, refused_then, read_var, read_seq, ap5}
 use Rattle.vs_phrase.proofs.Lists.{pushed_first}
 use Rattle.vs_parser.proofs.Pieces.{first_is}
 use Rattle.vs_parser.specs.Headings as part
 use Rattle.vs_parser.proofs.Headers.{port_read}
 use Rattle.vs_parser.proofs.modules.port.Goals as goal
 
-pub returns-in_err-kind-clause-refused : goal.returns-in_err-kind-clause-refused
-returns-in_err-kind-clause-refused c = refused_exit c.from_residual.result c.in_err-kind.field-0.0 c.from_residual.ensures.1 (refused_var (refused_seq c.in_err-kind.ensures.refused))
+pub returns-in_err-kind : goal.returns-in_err-kind
+returns-in_err-kind c = answer_exit _ _ c.from_residual.result c.in_err-kind.field-0.0 c.from_residual.ensures.1 (refused_var (refused_seq c.in_err-kind.ensures))
 
-pub returns-in_err-range-clause-refused : goal.returns-in_err-range-clause-refused
-returns-in_err-range-clause-refused c = refused_exit c.from_residual-in_err-range.result c.in_err-range.field-0.0 c.from_residual-in_err-range.ensures.1 (refused_var (refused_then c.in_ok-kind.ensures.found.read (refused_then c.optional-signed.ensures.read (refused_seq c.in_err-range.ensures.refused))))
+pub returns-in_err-range : goal.returns-in_err-range
+returns-in_err-range c = answer_exit _ _ c.from_residual-in_err-range.result c.in_err-range.field-0.0 c.from_residual-in_err-range.ensures.1 (refused_var (refused_then c.in_ok-kind.ensures.read (refused_then c.optional-signed.ensures.read (refused_seq c.in_err-range.ensures))))
 
-pub returns-in_err-name-clause-refused : goal.returns-in_err-name-clause-refused
-returns-in_err-name-clause-refused c = refused_exit c.from_residual-in_err-name.result c.in_err-name.field-0.0 c.from_residual-in_err-name.ensures.1 (refused_var (refused_then c.in_ok-kind.ensures.found.read (refused_then c.optional-signed.ensures.read (refused_then c.in_ok-range.ensures.found.read c.in_err-name.ensures.refused))))
+pub returns-in_err-name : goal.returns-in_err-name
+returns-in_err-name c = answer_exit _ _ c.from_residual-in_err-name.result c.in_err-name.field-0.0 c.from_residual-in_err-name.ensures.1 (refused_var (refused_then c.in_ok-kind.ensures.read (refused_then c.optional-signed.ensures.read (refused_then c.in_ok-range.ensures.read c.in_err-name.ensures))))
 
-pub returns-in_err-push-clause-refused : goal.returns-in_err-push-clause-refused
-returns-in_err-push-clause-refused c = refused_exit c.from_residual-in_err-push.result Memory c.from_residual-in_err-push.ensures.1 out_of_memory
+pub returns-in_err-push : goal.returns-in_err-push
+returns-in_err-push c = answer_exit _ _ c.from_residual-in_err-push.result Memory c.from_residual-in_err-push.ensures.1 out_of_memory
 
-pub returns-clause-found : goal.returns-clause-found
-returns-clause-found c = port_read (read_var (read_seq c.in_ok-kind.ensures.found.read (read_seq c.optional-signed.ensures.read (read_seq c.in_ok-range.ensures.found.read c.in_ok-name.ensures.found.read)))) (λ names. ap5 (λ p k s g n. record { place = p; kind = k; signed = s; range = g; names = n ∷ names }) (first_is c.in_ok-kind.ensures.found.read refl) c.in_ok-kind.ensures.found.made c.optional-signed.ensures.made c.in_ok-range.ensures.found.made c.in_ok-name.ensures.found.made ∙ ap (λ z. part.signals_with c.args.at (view.signal_kind c.in_ok-kind.kind.value) c.optional-signed.result.value (view.option view.range c.in_ok-range.range.value) (map view.declarator z ++ names)) (sym (pushed_first c.new-names.ensures.items c.in_ok-push.ensures.items)))
+pub returns : goal.returns
+returns c = port_read (read_var (read_seq c.in_ok-kind.ensures.read (read_seq c.optional-signed.ensures.read (read_seq c.in_ok-range.ensures.read c.in_ok-name.ensures.read)))) (λ names. ap5 (λ p k s g n. record { place = p; kind = k; signed = s; range = g; names = n ∷ names }) (first_is c.in_ok-kind.ensures.read refl) c.in_ok-kind.ensures.made c.optional-signed.ensures.made c.in_ok-range.ensures.made c.in_ok-name.ensures.made ∙ ap (λ z. part.signals_with c.args.at (view.signal_kind c.in_ok-kind.kind.value) c.optional-signed.result.value (view.option view.range c.in_ok-range.range.value) (map view.declarator z ++ names)) (sym (pushed_first c.new-names.ensures.items c.in_ok-push.ensures.items)))

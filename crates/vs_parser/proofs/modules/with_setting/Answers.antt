@@ -1,11 +1,12 @@
 use Rattle.std.proofs.Common.{refl, ap}
 use Rattle.vs_ast.specs.Views as view
 use Rattle.vs_phrase.specs.declared.error.ParseError.TheVariants.{Memory}
-use Rattle.vs_parser.proofs.Headers.{map_pushed, memory_exit}
+use Rattle.vs_parser.proofs.Headers.{map_pushed}
+use Rattle.vs_phrase.proofs.Places.{answer_exit}
 use Rattle.vs_parser.proofs.modules.with_setting.Goals as goal
 
-pub returns-in_err-push-clause-memory : goal.returns-in_err-push-clause-memory
-returns-in_err-push-clause-memory c = memory_exit c.from_residual.result Memory c.from_residual.ensures.1 refl
+pub returns-in_err-push : goal.returns-in_err-push
+returns-in_err-push c = answer_exit _ _ c.from_residual.result Memory c.from_residual.ensures.1 refl
 
-pub returns-clause-longer : goal.returns-clause-longer
-returns-clause-longer c = ap (λ z. record (view.parameters c.args.declared) { settings = z }) (map_pushed view.setting _ _ c.args.setting c.in_ok-push.ensures.items)
+pub returns : goal.returns
+returns c = ap (λ z. record (view.parameters c.args.declared) { settings = z }) (map_pushed view.setting _ _ c.args.setting c.in_ok-push.ensures.items)

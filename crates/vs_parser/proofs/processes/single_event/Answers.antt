@@ -3,15 +3,15 @@ use Rattle.vs_grammar.specs.Trees as tree
 use Rattle.vs_ast.specs.Views as view
 use Rattle.vs_phrase.specs.declared.error.ParseError.TheVariants.{Memory}
 use Rattle.vs_phrase.specs.Reading.Refused.{out_of_memory}
-use Rattle.vs_phrase.proofs.Places.{refused_exit, refused_missing, read_tok, parsed}
+use Rattle.vs_phrase.proofs.Places.{answer_exit, refused_missing, read_tok, parsed}
 use Rattle.vs_phrase.proofs.Lists.{pushed_first}
 use Rattle.vs_parser.proofs.processes.single_event.Goals as goal
 
-pub returns-in_err-name-clause-refused : goal.returns-in_err-name-clause-refused
-returns-in_err-name-clause-refused c = refused_exit c.from_residual.result c.in_err-name.field-0.0 c.from_residual.ensures.1 (refused_missing c.in_err-name.ensures.refused)
+pub returns-in_err-name : goal.returns-in_err-name
+returns-in_err-name c = answer_exit _ _ c.from_residual.result c.in_err-name.field-0.0 c.from_residual.ensures.1 (refused_missing c.in_err-name.ensures)
 
-pub returns-in_err-push-clause-refused : goal.returns-in_err-push-clause-refused
-returns-in_err-push-clause-refused c = refused_exit c.from_residual-in_err-push.result Memory c.from_residual-in_err-push.ensures.1 out_of_memory
+pub returns-in_err-push : goal.returns-in_err-push
+returns-in_err-push c = answer_exit _ _ c.from_residual-in_err-push.result Memory c.from_residual-in_err-push.ensures.1 out_of_memory
 
-pub returns-clause-found : goal.returns-clause-found
-returns-clause-found c = parsed (read_tok c.requires.shallow c.in_ok-name.ensures.found.took) (ap (λ z. tree.Listed (record { edge = tree.Any; name = z } ∷ [])) c.in_ok-name.ensures.found.made ∙ ap (λ z. tree.Listed (map view.event z)) (sym (pushed_first c.new-list.ensures.items c.in_ok-push.ensures.items)))
+pub returns : goal.returns
+returns c = parsed (read_tok c.args.depth.limit c.in_ok-name.ensures.took) (ap (λ z. tree.Listed (record { edge = tree.Any; name = z } ∷ [])) c.in_ok-name.ensures.made ∙ ap (λ z. tree.Listed (map view.event z)) (sym (pushed_first c.new-list.ensures.items c.in_ok-push.ensures.items)))

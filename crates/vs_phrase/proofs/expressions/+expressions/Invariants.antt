@@ -5,43 +5,43 @@ use Rattle.vs_phrase.specs.Reading.{Gathering}
 use Rattle.vs_phrase.proofs.expressions.+expressions.Given as goal
 
 abbrev pub decreases-expression : goal.decreases-expression
-decreases-expression l = 32 * (201 - l.depth) + 20
+decreases-expression l = 32 * (201 - l.depth.value) + 20
 
 abbrev pub decreases-operations : goal.decreases-operations
-decreases-operations l = 32 * (201 - l.depth) + (4 + rank_of l.level)
+decreases-operations l = 32 * (201 - l.depth.value) + (4 + rank_of l.level)
 
 abbrev pub decreases-unary : goal.decreases-unary
-decreases-unary l = 32 * (201 - l.depth) + 3
+decreases-unary l = 32 * (201 - l.depth.value) + 3
 
 abbrev pub decreases-primary : goal.decreases-primary
-decreases-primary l = 32 * (201 - l.depth) + 2
+decreases-primary l = 32 * (201 - l.depth.value) + 2
 
 abbrev pub decreases-named : goal.decreases-named
-decreases-named l = 32 * (201 - l.depth) + 1
+decreases-named l = 32 * (201 - l.depth.value) + 1
 
 abbrev pub decreases-select : goal.decreases-select
-decreases-select l = 32 * (201 - l.depth) + 0
+decreases-select l = 32 * (201 - l.depth.value) + 0
 
 abbrev pub decreases-brackets : goal.decreases-brackets
-decreases-brackets l = 32 * (201 - l.depth) + 1
+decreases-brackets l = 32 * (201 - l.depth.value) + 1
 
 abbrev pub decreases-braces : goal.decreases-braces
-decreases-braces l = 32 * (201 - l.depth) + 1
+decreases-braces l = 32 * (201 - l.depth.value) + 1
 
 abbrev pub decreases-call : goal.decreases-call
-decreases-call l = 32 * (201 - l.depth) + 1
+decreases-call l = 32 * (201 - l.depth.value) + 1
 
 abbrev pub decreases-more_expressions : goal.decreases-more_expressions
-decreases-more_expressions l = 32 * (201 - l.depth) + 21
+decreases-more_expressions l = 32 * (201 - l.depth.value) + 21
 
 abbrev pub invariant-operations-loop-op : goal.invariant-operations-loop-op
-invariant-operations-loop-op l = Chain l.input l.level l.depth l.fn.at (view.expr l.left.value) l.left.to l.left.height
+invariant-operations-loop-op l = Chain l.input l.level l.fn.depth.value l.fn.at (view.expr l.left.value) l.left.to l.left.height
 
 abbrev pub decreases-operations-loop-op : goal.decreases-operations-loop-op
 decreases-operations-loop-op l = length l.input.tokens.now - l.left.to
 
-abbrev pub invariant-more_expressions-loop-list : goal.invariant-more_expressions-loop-list
-invariant-more_expressions-loop-list l = Gathering l.input l.fn.first.items l.fn.first_height l.depth l.fn.at l.list.items l.to l.height
+abbrev pub invariant-more_expressions-loop-depth : goal.invariant-more_expressions-loop-depth
+invariant-more_expressions-loop-depth l = Gathering l.input l.fn.first.items l.fn.first_height l.fn.depth.value l.fn.at l.list.items l.to l.height
 
-abbrev pub decreases-more_expressions-loop-list : goal.decreases-more_expressions-loop-list
-decreases-more_expressions-loop-list l = length l.input.tokens.now - l.to
+abbrev pub decreases-more_expressions-loop-depth : goal.decreases-more_expressions-loop-depth
+decreases-more_expressions-loop-depth l = length l.input.tokens.now - l.to

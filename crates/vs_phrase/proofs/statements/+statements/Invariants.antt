@@ -6,44 +6,44 @@ use Rattle.vs_phrase.specs.Parts as part
 use Rattle.vs_phrase.specs.Reading.{Listing}
 use Rattle.vs_phrase.proofs.statements.+statements.Given as goal
 
-abbrev pub invariant-statements-loop-list : goal.invariant-statements-loop-list
-invariant-statements-loop-list l = Listing l.input (r rule.Statement) meaning.statement_of view.statement l.depth [] l.fn.at l.list.items l.to
+abbrev pub invariant-statements-loop-depth : goal.invariant-statements-loop-depth
+invariant-statements-loop-depth l = Listing l.input (r rule.Statement) meaning.statement_of view.statement l.fn.depth.value [] l.fn.at l.list.items l.to
 
-abbrev pub decreases-statements-loop-list : goal.decreases-statements-loop-list
-decreases-statements-loop-list l = length l.input.tokens.now - l.to
+abbrev pub decreases-statements-loop-depth : goal.decreases-statements-loop-depth
+decreases-statements-loop-depth l = length l.input.tokens.now - l.to
 
-abbrev pub invariant-case_arms-loop-list : goal.invariant-case_arms-loop-list
-invariant-case_arms-loop-list l = Listing l.input (r rule.CaseItem) part.arm_of part.arm_view l.depth l.fn.before.items l.fn.at l.list.items l.to
+abbrev pub invariant-case_arms-loop-depth : goal.invariant-case_arms-loop-depth
+invariant-case_arms-loop-depth l = Listing l.input (r rule.CaseItem) part.arm_of part.arm_view l.fn.depth.value l.fn.before.items l.fn.at l.list.items l.to
 
-abbrev pub decreases-case_arms-loop-list : goal.decreases-case_arms-loop-list
-decreases-case_arms-loop-list l = length l.input.tokens.now - l.to
+abbrev pub decreases-case_arms-loop-depth : goal.decreases-case_arms-loop-depth
+decreases-case_arms-loop-depth l = length l.input.tokens.now - l.to
 
 abbrev pub decreases-statement : goal.decreases-statement
-decreases-statement l = 16 * (201 - l.depth) + 1
+decreases-statement l = 16 * (201 - l.depth.value) + 1
 
 abbrev pub decreases-conditional : goal.decreases-conditional
-decreases-conditional l = 16 * (201 - l.depth) + 8
+decreases-conditional l = 16 * (201 - l.depth.value) + 8
 
 abbrev pub decreases-alternative : goal.decreases-alternative
-decreases-alternative l = 16 * (201 - l.depth) + 2
+decreases-alternative l = 16 * (201 - l.depth.value) + 2
 
 abbrev pub decreases-sequence : goal.decreases-sequence
-decreases-sequence l = 16 * (201 - l.depth) + 8
+decreases-sequence l = 16 * (201 - l.depth.value) + 8
 
 abbrev pub decreases-statements : goal.decreases-statements
-decreases-statements l = 16 * (201 - l.depth) + 2
+decreases-statements l = 16 * (201 - l.depth.value) + 2
 
 abbrev pub decreases-case : goal.decreases-case
-decreases-case l = 16 * (201 - l.depth) + 8
+decreases-case l = 16 * (201 - l.depth.value) + 8
 
 abbrev pub decreases-cases : goal.decreases-cases
-decreases-cases l = 16 * (201 - l.depth) + 7
+decreases-cases l = 16 * (201 - l.depth.value) + 7
 
 abbrev pub decreases-case_arms : goal.decreases-case_arms
-decreases-case_arms l = 16 * (201 - l.depth) + 6
+decreases-case_arms l = 16 * (201 - l.depth.value) + 6
 
 abbrev pub decreases-case_arm : goal.decreases-case_arm
-decreases-case_arm l = 16 * (201 - l.depth) + 5
+decreases-case_arm l = 16 * (201 - l.depth.value) + 5
 
 abbrev pub decreases-case_default : goal.decreases-case_default
-decreases-case_default l = 16 * (201 - l.depth) + 5
+decreases-case_default l = 16 * (201 - l.depth.value) + 5

@@ -14,7 +14,7 @@ overflow_add-result c =
 pub returns-then-stands : goal.returns-then-stands
 returns-then-stands c =
     let e : kind_at c.args.input.now.tokens.now c.args.at ≡ number_of c.args.kind = same_number _ _ (sym c.stands.ensures ∙ c.if-stands.true) in
-    parsed (read_former (one_true _ c.stands.result c.stands.ensures c.if-stands.true) (read_tok c.requires.shallow (took c.args.input.now.tokens.now (number_of c.args.kind) c.args.at e (kind_inside c.args.input.now.tokens.now c.args.at c.args.kind e)))) refl
+    parsed (read_former (one_true _ c.stands.result c.stands.ensures c.if-stands.true) (read_tok c.args.depth.limit (took c.args.input.now.tokens.now (number_of c.args.kind) c.args.at e (kind_inside c.args.input.now.tokens.now c.args.at c.args.kind e)))) refl
 
 pub returns-else-stands : goal.returns-else-stands
-returns-else-stands c = parsed (read_latter (one_false _ c.stands.result c.stands.ensures c.if-stands.false) (read_eps c.args.input.now.tokens.now c.args.depth c.args.at c.requires.shallow)) refl
+returns-else-stands c = parsed (read_latter (one_false _ c.stands.result c.stands.ensures c.if-stands.false) (read_eps c.args.input.now.tokens.now c.args.depth.value c.args.at c.args.depth.limit)) refl

@@ -11,10 +11,10 @@ overflow_add-result c =
     let k : length c.args.input.now.tokens.now ≤ 1048576 = few c.args.input.now.text.now c.args.input.now.tokens.now c.args.input.now.lexed in
     omega arith
 
-pub returns-then-stands-clause-read : goal.returns-then-stands-clause-read
-returns-then-stands-clause-read c =
+pub returns-then-stands : goal.returns-then-stands
+returns-then-stands c =
     let e : kind_at c.args.input.now.tokens.now c.args.at ≡ number_of c.args.kind = same_number _ _ (sym c.stands.ensures ∙ c.if-stands.true) in
     took c.args.input.now.tokens.now (number_of c.args.kind) c.args.at e (kind_inside c.args.input.now.tokens.now c.args.at c.args.kind e)
 
-pub returns-else-stands-clause-refused : goal.returns-else-stands-clause-refused
-returns-else-stands-clause-refused c = untook c.args.input.now.tokens.now (number_of c.args.kind) c.args.at (other_number _ _ (sym c.stands.ensures ∙ c.if-stands.false))
+pub returns-else-stands : goal.returns-else-stands
+returns-else-stands c = untook c.args.input.now.tokens.now (number_of c.args.kind) c.args.at (other_number _ _ (sym c.stands.ensures ∙ c.if-stands.false))
