@@ -1,7 +1,6 @@
 -- What a design with a layout gives the lowering of a process.
-use Rattle.std.proofs.Common.{◌≡◌, ℕ, ◌+◌, ◌<◌, ◌≤◌, ◌^◌, Bool, true, List, [], ◌++◌, Some, None, Option, length, slice_get, sym, ap, ◌∙◌, subst, arith}
+use Rattle.std.proofs.Common.{◌≡◌, ℕ, ◌+◌, ◌<◌, ◌^◌, Bool, true, List, [], ◌++◌, Some, None, Option, length, slice_get, sym, ap, ◌∙◌, subst, arith}
 use Rattle.std.specs.Prelude.{slice_index}
-use Rattle.std.specs.List.{All}
 use Rattle.vs_net.specs.Network.{Sleeper}
 use Rattle.vs_net.specs.Network as N
 use Rattle.vs_design.specs.Designs.{Process, Design, bit_count}
@@ -20,7 +19,7 @@ use Rattle.vs_program.specs.Lowered.{Layout, IsLoweredProcess, IsLoweredReset, p
 use Rattle.vs_program.specs.Made.{IsLoweredAs, IsLoweredAt, IsResetAt, RegistersInOrder}
 use Rattle.vs_reset.specs.Calls.{NoneAreNeeded}
 use Rattle.vs_compile.specs.Known.{Known}
-use Rattle.vs_compile.specs.Laid.{IsTable, Laid, laid_layout, table_layout}
+use Rattle.vs_compile.specs.Laid.{AreFewRegisters, IsTable, Laid, laid_layout, table_layout}
 use Rattle.vs_compile.specs.Plain.{IsPlain}
 use Rattle.vs_compile.proofs.Accepted.{there}
 use Rattle.vs_compile.proofs.Layouts.{few_registers, first_low}
@@ -79,13 +78,6 @@ reset_by none k count shadows first l is plain p low at this =
 
 -- ---- what a layout is made of
 
--- these are the registers, all of them bits of the design, and there are few
-pub record AreFewRegisters (d : Design) (count : ℕ) (regs : List ℕ) : Type 0 where
-  pub are : AreRegisters d regs
-  pub below : All (λ b. b < count) regs
-  pub few : length regs ≤ 16777216
-  pub few_bits : count ≤ 1048576
-
 pub ascending_registers : FewAreApart → AscendingIsOnce → SourcesOfDesign → (d : Design) (clock : ℕ) → IsAcceptedAt d clock → (count : ℕ) → count ≡ bit_count d
     → (regs : List ℕ) → regs ≡ ascending count (register_bits d.processes) → AreFewRegisters d count regs
 ascending_registers few once sources d clock at count counted regs is =
@@ -94,5 +86,4 @@ ascending_registers few once sources d clock at count counted regs is =
       are = are;
       below = all_from (λ b. b < count) regs (λ b h. let low = registers_below sources d clock at b (sym (are.has b) ∙ h) in omega (arith, low, counted));
       few = few_registers few d clock at regs are;
-      few_bits = omega (arith, counted, at.accepted.lawful.few_bits);
     }

@@ -65,14 +65,8 @@ sleepers_small d k (x ∷ xs) =
     (λ e. let here : length (sleepers_from d k (x ∷ xs)) ≡ length (sleepers_from d (suc k) xs) = ap (λ (c : Bool). length (if c then (k ∷ sleepers_from d (suc k) xs) else sleepers_from d (suc k) xs)) e in
     omega (arith, rest, sum, here))
 
-pub few_sleepers : (d : Design) (clock : ℕ) → IsAcceptedAt d clock → length (sleepers d) ≤ 16777216
-few_sleepers d clock at = let rest = sleepers_small d 0 d.processes in omega (arith, rest, at.accepted.small)
-
 pub few_registers : FewAreApart → (d : Design) (clock : ℕ) → IsAcceptedAt d clock → (regs : List ℕ) → AreRegisters d regs → length regs ≤ 16777216
 few_registers few d clock at regs are = let own = register_count few d regs are in omega (arith, own, at.accepted.small)
-
-pub few_bits : (d : Design) (clock : ℕ) → IsAcceptedAt d clock → bit_count d ≤ 1048576
-few_bits d clock at = omega (arith, at.accepted.lawful.few_bits)
 
 pub first_low : (d : Design) (l : Layout) (clock : ℕ) → IsAcceptedAt d clock → IsTightLayout d l → l.first_temp ≤ 67108868
 first_low d l clock at tight =

@@ -1,9 +1,9 @@
 -- A design with a layout of its slots.
-use Rattle.std.specs.Prelude.{◌≡◌, ℕ, ◌+◌, true, List, length, slice_index}
+use Rattle.std.specs.Prelude.{◌≡◌, ℕ, ◌+◌, ◌<◌, ◌≤◌, true, All, List, length, slice_index}
 use Rattle.vs_design.specs.Designs.{Design, bit_count}
 use Rattle.vs_design.specs.Footprints.{contains}
 use Rattle.vs_program.specs.Lowered.{Layout, home}
-use Rattle.vs_program.specs.Layouts.{place_of}
+use Rattle.vs_program.specs.Layouts.{AreRegisters, place_of}
 use Rattle.vs_assemble.specs.Plans.{IsTightLayout}
 use Rattle.vs_compile.specs.Known.{Known}
 
@@ -26,6 +26,12 @@ pub record IsTable (d : Design) (count : ℕ) (shadows : List ℕ) (first : ℕ)
   pub count_is : count ≡ bit_count d
   pub long : length shadows ≡ count
   pub layout : IsTightLayout d (table_layout count shadows first)
+
+-- these are the bits of the registers, each once, all of them among so many, and no more than the size of a design allows
+pub record AreFewRegisters (d : Design) (count : ℕ) (registers : List ℕ) : Type 0 where
+  pub are : AreRegisters d registers
+  pub below : All (λ b. b < count) registers
+  pub few : length registers ≤ 16777216
 
 -- the shadow of each of these bits stands at its place among them, behind the bits
 abbrev pub HasPlaces : ℕ → List ℕ → List ℕ → Type 0

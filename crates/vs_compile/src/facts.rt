@@ -1,14 +1,15 @@
 //! What is known of the processes of a design.
 
-ghost use Rattle.std.specs.Prelude.{◌≡◌};
+ghost use Rattle.std.specs.Prelude.{◌≡◌, ◌≤◌, ◌^◌, IfOk};
 ghost use Rattle.vs_flat.specs.DesignOf.{design_of};
 
 use crate::processes::{has_clock, is_clocked, needs};
-use std::alloc::AllocError;
+use std::alloc::{AllocError, Global};
 use std::marker::Model;
-use vs_assemble::Processes;
+use vs_assemble::{Processes, registers};
 use vs_clock::Clocks;
-use vs_flat::trees_law;
+use vs_cone::{list_law, sources_law};
+use vs_flat::{count_bits, trees_law};
 use vs_reads::{Footprints, footprint_law};
 use vs_width::Typed;
 
@@ -32,8 +33,10 @@ impl<'a> Model for Facts<'a> {
 }
 
 impl<'a> Facts<'a> {
+    ghost use Rattle.vs_design.specs.Designs.{bit_count};
     ghost use Rattle.vs_program.specs.Compiled.{IsAcceptedAt};
     ghost use Rattle.vs_compile.specs.Known.{AreFacts};
+    ghost use Rattle.vs_compile.specs.Laid.{AreFewRegisters};
     ghost use Rattle.vs_compile.specs.Plain.{IsPlain};
 
     /// A design, its footprints and its clock.
@@ -56,6 +59,28 @@ impl<'a> Facts<'a> {
     {
         let _clocks = self.clocks;
         self.typed
+    }
+
+    /// How many bits the design has.
+    pub(crate) fn bit_count(&self) -> u32
+        ensures is { result ≡ bit_count (design_of self.now.arena) }
+        ensures few { result ≤ 2 ^ 20 }
+    {
+        trees_law();
+        let flat = self.typed().flat();
+        let _few = flat.signal_count();
+        count_bits(flat)
+    }
+
+    /// The bits of the registers, ascending, in a design with so many bits. The only error is that there is no memory.
+    pub(crate) fn registers(&self, alloc: Global, count: u32) -> Result<Vec<u32>, AllocError>
+        requires { count ≡ bit_count (design_of self.now.arena) }
+        ensures { IfOk result (λ v. AreFewRegisters (design_of self.now.arena) count v.items) }
+    {
+        list_law();
+        sources_law();
+        let _typed = self.typed();
+        registers(alloc, self, count)
     }
 }
 

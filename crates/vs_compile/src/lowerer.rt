@@ -7,10 +7,10 @@ use crate::facts::Facts;
 use crate::tables::{shadows_of, sleeper_count};
 use std::alloc::{AllocError, Global};
 use std::marker::Model;
-use vs_assemble::{Lowering, Processes, registers};
+use vs_assemble::{Lowering, Processes};
 use vs_code::Program;
 use vs_cone::{list_law, sources_law};
-use vs_flat::{count_bits, trees_law};
+use vs_flat::trees_law;
 use vs_program::program_law;
 use vs_reset::reset_law;
 
@@ -48,15 +48,12 @@ impl<'a> Lowerer<'a> {
         ensures same { IfOk result (λ l. l.known ≡ facts.entry) }
         ensures layout { IfOk result (λ l. IsTightLayout (design_of l.known.arena) (laid_layout l)) }
     {
-        trees_law();
         list_law();
-        sources_law();
         program_law();
-        let typed = facts.typed();
-        let count = count_bits(typed.flat());
-        let registers = registers(alloc, &facts, count)?;
+        let count = facts.bit_count();
+        let registers = facts.registers(alloc, count)?;
         let shadows = shadows_of(alloc, count, registers.as_slice())?;
-        let first_temp = 4 + count + registers.len() as u32 + sleeper_count(typed);
+        let first_temp = 4 + count + registers.len() as u32 + sleeper_count(facts.typed());
         Ok(Lowerer {
             facts,
             count,

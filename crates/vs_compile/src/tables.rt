@@ -1,6 +1,6 @@
 //! How the slots of a design are laid out.
 
-ghost use Rattle.std.specs.Prelude.{◌≡◌, ◌+◌, ◌<◌, ◌^◌, All, IfOk, length};
+ghost use Rattle.std.specs.Prelude.{◌≡◌, ◌+◌, ◌<◌, ◌≤◌, ◌^◌, All, IfOk, length};
 ghost use Rattle.vs_design.specs.Cycles.{AreApart};
 ghost use Rattle.vs_flat.specs.DesignOf.{design_of};
 ghost use Rattle.vs_program.specs.Layouts.{sleepers};
@@ -31,7 +31,8 @@ pub(crate) fn shadows_of(
 
 /// How many blocks of a design sleep.
 pub(crate) fn sleeper_count(typed: &Typed) -> u32
-    ensures { result ≡ length (sleepers (design_of typed.now)) }
+    ensures is { result ≡ length (sleepers (design_of typed.now)) }
+    ensures few { result ≤ 2 ^ 16 }
 {
     trees_law();
     let mut count = 0;
