@@ -59,7 +59,7 @@ pub(crate) struct Lowered {
 
 /// A design compiled: each process lowered once, and the calls put together for each kind of time slot. The only error is that there is no memory.
 ///
-/// The clock is a bit of the design, the order a level order of it.
+/// The clock is the lowering's, the order a level order of the design.
 pub fn assemble<T: Lowering>(
     alloc: Global,
     lowering: &T,
@@ -67,6 +67,7 @@ pub fn assemble<T: Lowering>(
     order: &[u32],
     frame: Frame,
 ) -> Result<Compiled, AllocError>
+    requires clock { clock ≡ T.clock_bit lowering.now }
     requires accepted { IsAcceptedAt (T.design lowering.now) clock }
     requires order { is_level_order (T.design lowering.now) order.now ≡ true }
     requires layout { IsTightLayout (T.design lowering.now) (T.layout lowering.now) }
@@ -194,6 +195,7 @@ fn lower_design<T: Lowering>(
     order: &[u32],
     plan: &Plan,
 ) -> Result<Lowered, AllocError>
+    requires clock { clock ≡ T.clock_bit lowering.now }
     requires accepted { IsAcceptedAt (T.design lowering.now) clock }
     requires order { is_level_order (T.design lowering.now) order.now ≡ true }
     requires layout { IsTightLayout (T.design lowering.now) (T.layout lowering.now) }
@@ -258,6 +260,7 @@ fn lower_resets<T: Lowering>(
     blocks: &[u32],
     program: &mut Program,
 ) -> Result<(), AllocError>
+    requires clock { clock ≡ T.clock_bit lowering.now }
     requires none { program.old ≡ [] }
     requires blocks { All (λ p. p < length (T.design lowering.now).processes) blocks.now }
     requires few { sum_by (may_store (T.design lowering.now)) blocks.now ≤ 2 ^ 32 }

@@ -31,6 +31,7 @@ pub trait Lowering: Processes {
         process: u32,
         program: &mut Program,
     ) -> Result<(), AllocError>
+        requires clock { clock ≡ Self.clock_bit self.now }
         requires process { process < length (Self.design self.now).processes }
         requires few { length_of program.old + may_store (Self.design self.now) process ≤ 2 ^ 32 }
         ensures { OnOk result ((calls : List Call) × (program.new ≡ program.old ++ calls) × IsResetAt (Self.design self.now) clock (layout self.now) process calls) };

@@ -40,6 +40,7 @@ pub(crate) fn make_plan<T: Processes>(
     bits: u32,
     inputs: &[u32],
 ) -> Result<Plan, AllocError>
+    requires clock { clock ≡ T.clock_bit lowering.now }
     requires accepted { IsAcceptedAt (T.design lowering.now) clock }
     requires order { is_level_order (T.design lowering.now) order.now ≡ true }
     requires bits { bits ≡ bit_count (T.design lowering.now) }
@@ -68,7 +69,8 @@ fn but_ports<T: Processes>(
     clock: u32,
     order: &[u32],
 ) -> Result<Vec<u32>, AllocError>
-    requires { All (λ p. p < length (T.design lowering.now).processes) order.now }
+    requires clock { clock ≡ T.clock_bit lowering.now }
+    requires order { All (λ p. p < length (T.design lowering.now).processes) order.now }
     ensures { IfOk result (λ v. v.items ≡ but_ports (T.design lowering.now) clock order.now) }
 {
     let mut settling = Vec::new(alloc);
@@ -142,6 +144,7 @@ fn falling<T: Processes>(
     bits: u32,
     inputs: &[u32],
 ) -> Result<Vec<u32>, AllocError>
+    requires clock { clock ≡ T.clock_bit lowering.now }
     requires bits { bits ≡ bit_count (T.design lowering.now) }
     requires inputs { inputs.now ≡ data_bits (T.design lowering.now) clock }
     requires below { All (λ b. b < bits) inputs.now }

@@ -10,8 +10,8 @@ use Rattle.vs_assemble.specs.Flags.{HasBitsOf}
 use Rattle.vs_assemble.proofs.Lists.{all_from}
 use Rattle.vs_assemble.proofs.planning.make_plan.Goals as goal
 
-pub but_ports-requires : goal.but_ports-requires
-but_ports-requires g c =
+pub but_ports-requires-clause-order : goal.but_ports-requires-clause-order
+but_ports-requires-clause-order g c =
     let d = g.T.Processes.design c.args.lowering.now in
     all_from (λ p. p < length d.processes) c.args.order.now
     (λ q h. let r = ((c.cycle_law.ensures.order d c.args.order.now c.requires.order).members q).0 h in slice_get_within d.processes q r.0 r.1)

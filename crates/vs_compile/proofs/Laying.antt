@@ -1,0 +1,89 @@
+-- What a design with a layout gives the lowering of a process.
+use Rattle.std.proofs.Common.{◌≡◌, ℕ, ◌+◌, ◌<◌, ◌^◌, Bool, true, List, [], ◌++◌, Some, None, Option, length, slice_get, sym, ap, ◌∙◌, subst, arith}
+use Rattle.std.specs.Prelude.{slice_index}
+use Rattle.vs_net.specs.Network.{Sleeper}
+use Rattle.vs_net.specs.Network as N
+use Rattle.vs_design.specs.Designs.{Process, Design, bit_count}
+use Rattle.vs_design.specs.Footprints.{ascending, contains}
+use Rattle.vs_design.specs.Resets.{reset_of}
+use Rattle.vs_design.specs.Sizes.{register_bits}
+use Rattle.vs_design.specs.Sleepers.{sleeper_if}
+use Rattle.vs_flat.specs.Arena.{Arena}
+use Rattle.vs_flat.specs.DesignOf.{design_of}
+use Rattle.vs_cone.specs.Lists.{AscendingIsOnce, FewAreApart}
+use Rattle.vs_cone.specs.Sources.{SourcesOfDesign}
+use Rattle.vs_code.specs.Calls.{Call}
+use Rattle.vs_program.specs.Compiled.{IsAcceptedAt}
+use Rattle.vs_program.specs.Layouts.{AreRegisters, mask_of}
+use Rattle.vs_program.specs.Lowered.{Layout, IsLoweredProcess, IsLoweredReset, process_stores}
+use Rattle.vs_program.specs.Made.{IsLoweredAs, IsLoweredAt, IsResetAt, RegistersInOrder}
+use Rattle.vs_reset.specs.Calls.{NoneAreNeeded}
+use Rattle.vs_compile.specs.Known.{Known}
+use Rattle.vs_compile.specs.Laid.{AreFewRegisters, IsTable, Laid, laid_layout, table_layout}
+use Rattle.vs_compile.specs.Plain.{IsPlain}
+use Rattle.vs_compile.proofs.Accepted.{there}
+use Rattle.vs_compile.proofs.Layouts.{few_registers, first_low}
+use Rattle.vs_compile.proofs.Lists.{all_from}
+use Rattle.vs_compile.proofs.Lowering.{few_stores}
+
+-- the registers of an accepted design, ascending
+pub registers_once : AscendingIsOnce → SourcesOfDesign → (d : Design) (clock : ℕ) → IsAcceptedAt d clock → AreRegisters d (ascending (bit_count d) (register_bits d.processes))
+registers_once once sources d clock at = once (bit_count d) (register_bits d.processes) (sources d at.name at.accepted).registers_below
+
+pub registers_below : SourcesOfDesign → (d : Design) (clock : ℕ) → IsAcceptedAt d clock → (b : ℕ) → contains (register_bits d.processes) b ≡ true → b < bit_count d
+registers_below sources d clock at = (sources d at.name at.accepted).registers_below
+
+-- the temporaries of a process have numbers
+pub temps_fit : FewAreApart → RegistersInOrder → (d : Design) (clock : ℕ) → IsAcceptedAt d clock → (count : ℕ) (shadows : List ℕ) (first : ℕ) → IsTable d count shadows first
+    → (p : ℕ) (x : Process) → slice_get d.processes p ≡ Some x → first + process_stores x < 2 ^ 32
+temps_fit few ordered d clock at count shadows first table p x e =
+    let low = first_low d (record { bits = count; shadow = slice_index shadows; first_temp = first }) clock at table.layout in
+    let own = few_stores few d clock at (ascending (bit_count d) (register_bits d.processes)) (ordered d at.name at.accepted) p x e in
+    omega (arith, low, own)
+
+-- ---- where the premise is used
+
+-- the calls of a process that doesn't sleep
+pub lowered_at : (d : Design) (clock : ℕ) (l : Layout) (p : ℕ) (x : Process) → IsPlain d clock → slice_get d.processes p ≡ Some x → (calls : List Call) → IsLoweredProcess l x calls → IsLoweredAt d l p calls
+lowered_at d clock l p x plain e calls lowered =
+    (x, e, subst (λ (c : Bool). IsLoweredAs l (mask_of d p) (sleeper_if c x) x calls) (sym (plain.awake p x e)) lowered)
+
+-- no calls are those of a block without a reset
+pub reset_at : NoneAreNeeded → (d : Design) (clock : ℕ) (l : Layout) (p : ℕ) → IsPlain d clock → p < length d.processes → (at : ℕ) → at ≡ clock → IsResetAt d at l p []
+reset_at none d clock l p plain low at this =
+    let x = there d.processes p low in
+    let is : reset_of d at x.0 ≡ None = ap (λ c. reset_of d c x.0) this ∙ plain.no_reset p x.0 x.1 in
+    (x.0, x.1, subst (λ (o : Option N.Reset). IsLoweredReset l o x.0 []) (sym is) (none l x.0))
+
+-- ---- by the value that clauses see
+
+pub lowered_by : (k : Known) (count : ℕ) (shadows : List ℕ) (first : ℕ) (l : Laid) → record { known = k; count = count; shadows = shadows; first = first } ≡ l → IsPlain (design_of k.arena) k.clock
+    → (p : ℕ) → p < length (design_of l.known.arena).processes → (old new : List Call) (a : Arena) (slots : List ℕ) → a ≡ k.arena → slots ≡ shadows
+    → ((x : Process) → slice_get (design_of a).processes p ≡ Some x → (calls : List Call) × (new ≡ old ++ calls) × IsLoweredProcess (table_layout count slots first) x calls)
+    → (calls : List Call) × (new ≡ old ++ calls) × IsLoweredAt (design_of l.known.arena) (laid_layout l) p calls
+lowered_by k count shadows first l is plain p low old new a slots same table done =
+    subst (λ (z : Laid). p < length (design_of z.known.arena).processes → (calls : List Call) × (new ≡ old ++ calls) × IsLoweredAt (design_of z.known.arena) (laid_layout z) p calls) is here low
+  where
+    here : p < length (design_of k.arena).processes → (calls : List Call) × (new ≡ old ++ calls) × IsLoweredAt (design_of k.arena) (table_layout count shadows first) p calls
+    here least =
+        let x = there (design_of k.arena).processes p least in
+        let r = done x.0 (subst (λ (z : Arena). slice_get (design_of z).processes p ≡ Some x.0) (sym same) x.1) in
+        (r.0, r.1, lowered_at (design_of k.arena) k.clock (table_layout count shadows first) p x.0 plain x.1 r.0 (subst (λ s. IsLoweredProcess (table_layout count s first) x.0 r.0) table r.2))
+
+pub reset_by : NoneAreNeeded → (k : Known) (count : ℕ) (shadows : List ℕ) (first : ℕ) (l : Laid) → record { known = k; count = count; shadows = shadows; first = first } ≡ l → IsPlain (design_of k.arena) k.clock
+    → (p : ℕ) → p < length (design_of l.known.arena).processes → (at : ℕ) → at ≡ l.known.clock → IsResetAt (design_of l.known.arena) at (laid_layout l) p []
+reset_by none k count shadows first l is plain p low at this =
+    let here : IsPlain (design_of l.known.arena) l.known.clock = subst (λ (z : Laid). IsPlain (design_of z.known.arena) z.known.clock) is plain in
+    reset_at none (design_of l.known.arena) l.known.clock (laid_layout l) p here low at this
+
+-- ---- what a layout is made of
+
+pub ascending_registers : FewAreApart → AscendingIsOnce → SourcesOfDesign → (d : Design) (clock : ℕ) → IsAcceptedAt d clock → (count : ℕ) → count ≡ bit_count d
+    → (regs : List ℕ) → regs ≡ ascending count (register_bits d.processes) → AreFewRegisters d count regs
+ascending_registers few once sources d clock at count counted regs is =
+    let are : AreRegisters d regs = subst (AreRegisters d) (sym (is ∙ ap (λ n. ascending n (register_bits d.processes)) counted)) (registers_once once sources d clock at) in
+    record {
+      are = are;
+      below = all_from (λ b. b < count) regs (λ b h. let low = registers_below sources d clock at b (sym (are.has b) ∙ h) in omega (arith, low, counted));
+      few = few_registers few d clock at regs are;
+    }

@@ -1,0 +1,11 @@
+pub mod Lists
+pub mod Numbered
+pub mod Needs
+pub mod Ports
+pub mod Shadows
+pub mod Sleeping
+pub mod Clocked
+pub mod Accepted
+pub mod Layouts
+pub mod Lowering
+pub mod Laying

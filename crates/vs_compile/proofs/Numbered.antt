@@ -1,0 +1,46 @@
+-- The numbers of a range that pass a test.
+use Rattle.std.proofs.Common.{◌≡◌, ℕ, zero, suc, ◌+◌, subst, Bool, List, [], ◌∷◌, ◌++◌, if◌then◌else◌, true, false, sym, ap, ◌∙◌, arith, append-nil}
+use Rattle.std.specs.List.{filter}
+use Rattle.std.proofs.lemmas.List.Elements.{filter-append}
+use Rattle.vs_design.specs.Values.{count_from}
+use Rattle.vs_design.specs.Designs.{Design, bit_count}
+use Rattle.vs_design.specs.Footprints.{ascending, contains}
+use Rattle.vs_design.specs.Clocks.{clock_nets}
+use Rattle.vs_cone.specs.Lists.{AscendingIsOnce, FewAreApart, HasEachOnce}
+use Rattle.vs_cone.specs.Sources.{SourcesAre, SourcesOfDesign}
+use Rattle.vs_clock.specs.Nets.{AreNets, Labelled, is_clock_bit}
+use Rattle.vs_program.specs.Compiled.{IsAcceptedAt}
+use Rattle.vs_program.specs.Made.{AreClockNets}
+use Rattle.vs_compile.proofs.Lists.{distinct_within}
+
+count_more : (first n : ℕ) → count_from first (suc n) ≡ count_from first n ++ (first + n) ∷ []
+count_more first zero = let same : first ≡ first + 0 = omega arith in ap (λ (k : ℕ). k ∷ []) same
+count_more first (suc n) =
+    let same : suc first + n ≡ first + suc n = omega arith in
+    ap (λ (ks : List ℕ). first ∷ ks) (count_more (suc first) n ∙ ap (λ k. count_from (suc first) n ++ k ∷ []) same)
+
+ascending_next : (set : List ℕ) (n : ℕ) → ascending (n + 1) set ≡ ascending n set ++ (if contains set n then (n ∷ []) else [])
+ascending_next set n =
+    let at : n + 1 ≡ suc n = omega arith in
+    let same : 0 + n ≡ n = omega arith in
+    ap (λ k. filter (contains set) (count_from 0 k)) at
+    ∙ ap (filter (contains set)) (count_more 0 n ∙ ap (λ k. count_from 0 n ++ k ∷ []) same)
+    ∙ filter-append (contains set) (count_from 0 n) (n ∷ [])
+
+pub nets_more : (d : Design) (clock : ℕ) (nets : Labelled) (n : ℕ) → AreNets d clock nets → is_clock_bit nets n ≡ true → ascending (n + 1) (clock_nets d clock) ≡ ascending n (clock_nets d clock) ++ n ∷ []
+nets_more d clock nets n are e = ascending_next (clock_nets d clock) n ∙ ap (λ (c : Bool). ascending n (clock_nets d clock) ++ (if c then (n ∷ []) else [])) (sym (are.clock n) ∙ e)
+
+pub nets_same : (d : Design) (clock : ℕ) (nets : Labelled) (n : ℕ) → AreNets d clock nets → is_clock_bit nets n ≡ false → ascending (n + 1) (clock_nets d clock) ≡ ascending n (clock_nets d clock)
+nets_same d clock nets n are e =
+    ascending_next (clock_nets d clock) n ∙ ap (λ (c : Bool). ascending n (clock_nets d clock) ++ (if c then (n ∷ []) else [])) (sym (are.clock n) ∙ e) ∙ append-nil (ascending n (clock_nets d clock))
+
+-- the ascending list of them is the clock nets, and no longer
+pub are_clock_nets : FewAreApart → AscendingIsOnce → SourcesOfDesign → (d : Design) (clock : ℕ) → IsAcceptedAt d clock → (count : ℕ) → count ≡ bit_count d
+    → (bits : List ℕ) → bits ≡ ascending count (clock_nets d clock) → AreClockNets d clock bits
+are_clock_nets few once sources d clock at count counted bits is =
+    let nets = clock_nets d clock in
+    let from : SourcesAre d clock = subst (SourcesAre d) at.clock_is (sources d at.name at.accepted) in
+    let each : HasEachOnce nets bits = subst (HasEachOnce nets) (sym (is ∙ ap (λ n. ascending n nets) counted)) (once (bit_count d) nets from.nets_below) in
+    let most = few nets bits each.once (λ b h. sym (each.has b) ∙ h) in
+    let least = distinct_within nets nets (λ b h. h) in
+    record { has = each.has; few = omega (arith, most, least) }
