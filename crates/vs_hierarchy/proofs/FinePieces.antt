@@ -6,7 +6,7 @@ use Rattle.vs_design.specs.Expressions.{Signal}
 use Rattle.vs_design.specs.Designs.{Design}
 use Rattle.vs_design.specs.Footprints.{is_net}
 use Rattle.vs_design.specs.Clocks.{same_name}
-use Rattle.vs_design.specs.Elaborated.{is_signal, is_formed, is_formed_target, has_constant_selects, is_formed_process, is_formed_statement, are_formed_events}
+use Rattle.vs_design.specs.Elaborated.{is_signal, is_formed, is_formed_target, has_constant_selects, is_formed_statement, are_formed_events}
 use Rattle.vs_grammar.specs.Trees as tree
 use Rattle.vs_grammar.specs.Trees.{Module, Source, items_list, expr_place, target_place}
 use Rattle.vs_grammar.specs.Shapes.{Each, OneOrMore, Given, IsExpr, IsDeclarator, IsPlain, AreNames, IsAssign, IsControl, IsStatement, IsConnection, AreOrdered, AreConnections, IsInstance, AreInstances, IsItem, AreItems, IsGenerateItem, AreSignals, IsModule}
@@ -22,30 +22,14 @@ use Rattle.vs_hierarchy.specs.Statements.{typed_statement, typed_control}
 use Rattle.vs_hierarchy.specs.Parameters.{Override, said_parameters, first_entries}
 use Rattle.vs_hierarchy.specs.Generate.{Nested, Made}
 use Rattle.vs_hierarchy.specs.Ports.{Port, find_port, find_in, find_module}
-use Rattle.vs_hierarchy.specs.Pieces.{Contents, OfModule, OfBlock, Task, Connection, IntoInput, FromOutput, Piece, Own, Instance, Within, Said, all_said}
+use Rattle.vs_hierarchy.specs.Pieces.{Contents, OfModule, OfBlock, Task, Connection, Said, all_said}
 use Rattle.vs_hierarchy.specs.Instances.{Around, Overrides, and_override, overrides_by_order, overrides_by_name, said_overrides, output_target, directed, connected, connected_by_order, connected_by_name, connection_name, connection_of, module_overridable, module_ports, unknown_module, in_port_order, said_connections, instance_said, instances_said}
 use Rattle.vs_hierarchy.specs.Surveys.{items_of, declarations_of, header_of, block_entries, block_faults, Totals, survey, wire_said, assign_said, block_said, turned, nested_piece, item_said, items_said, overrides_of}
+use Rattle.vs_hierarchy.specs.Sound.{AreSoundFrames, AreFineOverrides, IsShapedContents, IsFineConnection, IsSoundTask, IsFinePiece, AreFinePieces, AreModules}
 use Rattle.vs_hierarchy.proofs.FormedBodies.{target_fine, statement_fine, control_fine, as_target_shaped}
-use Rattle.vs_hierarchy.proofs.SoundNames.{AreSoundFrames, frames_needed, named_sound, AreFineOverrides, constant_fine}
-use Rattle.vs_hierarchy.proofs.SurveyNames.{IsShapedContents, each_append, survey_names}
+use Rattle.vs_hierarchy.proofs.SoundNames.{frames_needed, named_sound, constant_fine}
+use Rattle.vs_hierarchy.proofs.SurveyNames.{each_append, survey_names}
 use Rattle.vs_hierarchy.proofs.ShapedBlocks.{AreShapedBlocks, construct_shaped}
-
-abbrev pub IsFineConnection : Design → Connection → Type 0
-IsFineConnection d (IntoInput name e) = is_formed d e ≡ true
-IsFineConnection d (FromOutput name place target) = (is_formed_target d is_net target ≡ true) × (has_constant_selects target ≡ true)
-
-pub record IsSoundTask (d : Design) (k : Task) : Type 0 where
-  pub frames : AreSoundFrames d false k.env.frames
-  pub overrides : AreFineOverrides d (overrides_of k.contents)
-  pub shaped : IsShapedContents k.contents
-
-abbrev pub IsFinePiece : Design → Piece → Type 0
-IsFinePiece d (Own p) = is_formed_process d p ≡ true
-IsFinePiece d (Instance connections task) = Each (IsFineConnection d) connections × IsSoundTask d task
-IsFinePiece d (Within task) = IsSoundTask d task
-
-abbrev pub AreFinePieces : Design → List Piece → Type 0
-AreFinePieces d ps = Each (IsFinePiece d) ps
 
 all_fine : {A : Type 0} (d : Design) (f : A → Said) (P : A → Type 0) → ((a : A) → P a → (f a).faults ≡ [] → AreFinePieces d (f a).pieces) → (xs : List A) → Each P xs → (all_said f xs).faults ≡ [] → AreFinePieces d (all_said f xs).pieces
 all_fine d f P h [] k e = tt
@@ -181,9 +165,6 @@ module _ (d : Design) (env : Env) (s : AreSoundFrames d false env.frames) where
       ordered_fine d (module_ports m) (connected_by_name (module_ports m) parts env).connections (names_fine (module_ports m) parts (one_each parts x) (both_nil _ (connected_by_name (module_ports m) parts env).faults h).1)
 
 -- ---- instances, blocks and items
-
-abbrev pub AreModules : List Module → Type 0
-AreModules ms = Each IsModule ms
 
 pub found_shaped : (ms : List Module) (name : List ℕ) (m : Module) → AreModules ms → find_in ms name ≡ Some m → IsModule m
 found_shaped [] name m x h = cc

@@ -16,11 +16,12 @@ use Rattle.vs_hierarchy.specs.Ports.{find_module, find_in}
 use Rattle.vs_hierarchy.specs.Pieces.{Task, Piece, Own, Instance, Within, Connection, is_instance}
 use Rattle.vs_hierarchy.specs.Surveys.{declarations_of, Totals, no_totals, survey}
 use Rattle.vs_hierarchy.specs.Elaborated.{both_designs, of_processes, then_do, port_assign, Read, ReadPieces, read_piece, read_pieces, counted, limit_faults, scope_design, read_scope, repeated_modules, top_task, scope_depth, elaborated_top, elaborated_within, elaborated}
+use Rattle.vs_hierarchy.specs.Sound.{IsFineConnection, IsSoundTask, IsFinePiece, AreFinePieces, AreModules}
 use Rattle.vs_hierarchy.proofs.NumberedSignals.{bits_of_all, AreBelow, GoodRead, good_scope, good_survey, GoodDesign, elaborated_numbered, unless}
 use Rattle.vs_hierarchy.proofs.NestedScopes.{IsChild, AreChildren, survey_children, counted_scopes, NestedDesign, elaborated_nested}
 use Rattle.vs_hierarchy.proofs.FewProcesses.{least_none, if_none, FewDesign, elaborated_few}
 use Rattle.vs_hierarchy.proofs.SurveyNames.{each_append, survey_names}
-use Rattle.vs_hierarchy.proofs.FinePieces.{AreModules, found_shaped, IsFineConnection, IsSoundTask, IsFinePiece, AreFinePieces, survey_pieces}
+use Rattle.vs_hierarchy.proofs.FinePieces.{found_shaped, survey_pieces}
 use Rattle.vs_hierarchy.proofs.PortNames.{IsDirected, IsDirectedPiece, AreDirectedPieces, survey_directed}
 use Rattle.vs_hierarchy.proofs.PortsFormed.{IsDeclaredSignal, AreFineSignals, survey_signals, port_formed}
 use Rattle.vs_hierarchy.proofs.InDesign.{AreIn, in_design}

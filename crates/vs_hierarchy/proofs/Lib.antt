@@ -13,6 +13,7 @@ mod PortNames
 mod PortsFormed
 mod LawfulDesigns
 mod LowBlocks
+mod SoundScopes
 mod EnoughFuel
 mod WorkedTexts
 mod WorkedRefusals

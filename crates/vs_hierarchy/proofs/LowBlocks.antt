@@ -107,7 +107,7 @@ mutual
   arm_lower (tree.AndGenerateArm labels block rest) l h limits zero env n total = branch_lower block l (omega (arith, h)) limits env n total
   arm_lower (tree.AndGenerateArm labels block rest) l h limits (suc k) env n total = arm_lower rest l (omega (arith, h)) limits k env n total
 
-constructs_lower : (l : ℕ) (limits : Limits) (items : List tree.Item) (env : Env) (n total : ℕ) → levels items ≤ l → Each (λ (m : Made). AreLower l m.blocks) (constructs limits items env n total)
+pub constructs_lower : (l : ℕ) (limits : Limits) (items : List tree.Item) (env : Env) (n total : ℕ) → levels items ≤ l → Each (λ (m : Made). AreLower l m.blocks) (constructs limits items env n total)
 constructs_lower l limits [] env n total h = tt
 constructs_lower l limits (i ∷ is) env n total h =
     (construct_lower i l (omega (arith, h)) limits env n total, constructs_lower l limits is env (if is_construct i then suc n else n) (construct i limits env n total).turns (omega (arith, h)))

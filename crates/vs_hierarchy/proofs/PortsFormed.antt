@@ -25,10 +25,10 @@ use Rattle.vs_hierarchy.specs.Pieces.{Task, Connection, IntoInput, FromOutput}
 use Rattle.vs_hierarchy.specs.Instances.{Around}
 use Rattle.vs_hierarchy.specs.Surveys.{items_of, declarations_of, overrides_of, header_of, block_entries, block_faults, bits_over, items_said, Totals, survey}
 use Rattle.vs_hierarchy.specs.Elaborated.{entry_signal, port_assign}
+use Rattle.vs_hierarchy.specs.Sound.{IsSoundDeclared, AreSoundEntries, AreSoundFrames, IsFineConnection, IsSoundTask}
 use Rattle.vs_hierarchy.proofs.NumberedSignals.{bits_of_all, signals_of}
-use Rattle.vs_hierarchy.proofs.SoundNames.{IsSoundDeclared, AreSoundEntries, AreSoundFrames, frames_needed, IsShapedSort, range_fine, first_entries_sound, parameters_good, there}
+use Rattle.vs_hierarchy.proofs.SoundNames.{frames_needed, IsShapedSort, range_fine, first_entries_sound, parameters_good, there}
 use Rattle.vs_hierarchy.proofs.SurveyNames.{contents_shaped, names_shaped, names_ranges}
-use Rattle.vs_hierarchy.proofs.FinePieces.{IsFineConnection, IsSoundTask}
 use Rattle.vs_hierarchy.proofs.FirstNames.{same_is, IsFirst, names_first, entry_first, Has, IsFirstOf, first_of, IsDeclaredWith, IsSignalWith, signals_put, parameters_put, entry_within, MayBeInput, sort_may, IsNetNamed, net_of, any_signal, first_with, input_net, said_nets}
 use Rattle.vs_hierarchy.proofs.PortNames.{IsPort, IsDirected}
 
@@ -79,15 +79,15 @@ any_said : (w : List ℕ) (ss : List SaidSignal) → Each (λ (s : SaidSignal). 
 any_said w [] = tt
 any_said w (s ∷ ss) = ((λ e. tt), any_said w ss)
 
-pub output_entry : (w : List ℕ) (limits : Limits) (source : Source) (k : Task) (t : Totals) → Has (IsPort w false) (declarations_of k.contents) → (survey limits source k t).faults ≡ [] → IsSignalWith AnyMeaning (find_entry (survey limits source k t).entries w)
-output_entry w limits source k t p h = port_entry AnyMeaning tt false w limits source k t p h λ env start a f g i e. any_said w (said_signals env start (names_of (declarations_of k.contents)))
+pub port_signal : (b : Bool) (w : List ℕ) (limits : Limits) (source : Source) (k : Task) (t : Totals) → Has (IsPort w b) (declarations_of k.contents) → (survey limits source k t).faults ≡ [] → IsSignalWith AnyMeaning (find_entry (survey limits source k t).entries w)
+port_signal b w limits source k t p h = port_entry AnyMeaning tt b w limits source k t p h λ env start a f g i e. any_said w (said_signals env start (names_of (declarations_of k.contents)))
 
 -- ---- it is a signal of the design
 
 abbrev pub WithIn : Design → (SignalMeaning → Type 0) → SignalMeaning → Type 0
 WithIn d Q m = (is_signal d m.signal ≡ true) × Q m
 
-entry_in : (d : Design) (Q : SignalMeaning → Type 0) (es : List Entry) (w : List ℕ) → AreSoundEntries d false es → IsSignalWith Q (find_entry es w) → IsSignalWith (WithIn d Q) (find_entry es w)
+pub entry_in : (d : Design) (Q : SignalMeaning → Type 0) (es : List Entry) (w : List ℕ) → AreSoundEntries d false es → IsSignalWith Q (find_entry es w) → IsSignalWith (WithIn d Q) (find_entry es w)
 entry_in d Q [] w s h = absurd h
 entry_in d Q (e ∷ es) w s h = of (same_name e.name w) h (λ k. entry_in d Q es w s.1 k)
   where
@@ -144,7 +144,7 @@ pub port_formed : (d : Design) (limits : Limits) (source : Source) (k : Task) (t
 port_formed d limits source k t s h top place (IntoInput name e) f g =
     input_formed d place e f (find_entry (survey limits source k t).entries name) (entry_in d IsNetMeaning (survey limits source k t).entries name s (input_entry name limits source k t g h top))
 port_formed d limits source k t s h top place (FromOutput name target_place target) f g =
-    output_formed d place target_place target f.0 f.1 (find_entry (survey limits source k t).entries name) (entry_in d AnyMeaning (survey limits source k t).entries name s (output_entry name limits source k t g h))
+    output_formed d place target_place target f.0 f.1 (find_entry (survey limits source k t).entries name) (entry_in d AnyMeaning (survey limits source k t).entries name s (port_signal false name limits source k t g h))
 
 -- ---- the signals of a scope
 

@@ -21,29 +21,15 @@ use Rattle.vs_const.specs.Typed.{Typed, is_over, noted, fine, unary_typed, binar
 use Rattle.vs_const.specs.Selects.{bounds}
 use Rattle.vs_grammar.specs.Trees.{expr_place}
 use Rattle.vs_const.specs.Expressions.{typed, constant, selected, typed_parts, replication_typed, call_typed, argument_needed}
-use Rattle.vs_const.specs.Sound.{IsSound, IsSoundSignal, AreSound, IsFine}
+use Rattle.vs_const.specs.Sound.{IsSound, IsSoundSignal, AreSound}
 use Rattle.vs_const.proofs.Formed.{IsRange, both_nil, both, split, bounds_fine, typed_fine, length_some}
 use Rattle.vs_hierarchy.specs.Environments.{Declared, Later, OfSignal, OfParameter, OfGenvar, OfScope, Entry, Env, within, up_to, find_entry, find_name, turn_of, is_late, parameter_meaning, turn_meaning, declared_meaning, entry_meaning, named}
 use Rattle.vs_hierarchy.specs.Declarations.{SignalSort, ParameterSort, Sort, SignalOf, ParameterOf, GenvarSort, InstanceSort, Declaration, Named}
 use Rattle.vs_hierarchy.specs.Parameters.{SaidRange, of_bounds, said_range, Override, override_of, chosen, converted, declared_if, said_parameter, valued, put_value, first_declared, first_entries, said_parameters}
 use Rattle.vs_hierarchy.specs.Signals.{Start, said_signal, said_signals, after, SaidSignal, put_signal, put_signals, range_faults}
+use Rattle.vs_hierarchy.specs.Sound.{IsSoundDeclared, AreSoundEntries, AreSoundFrames, IsConstantFine, AreFineOverrides}
 
 -- ---- sound names mean sound things
-
-abbrev pub IsSoundDeclared : Design → Bool → Declared → Type 0
-IsSoundDeclared d needed Later = Unit {0}
-IsSoundDeclared d needed (OfSignal s) = IsSoundSignal d needed s
-IsSoundDeclared d needed (OfParameter (Some v) (Some r)) = IsFairValue v r × (is_lawful_range (Some r) ≡ true)
-IsSoundDeclared d needed (OfParameter (Some v) None) = ⊥
-IsSoundDeclared d needed (OfParameter None r) = ⊥
-IsSoundDeclared d needed OfGenvar = Unit {0}
-IsSoundDeclared d needed OfScope = Unit {0}
-
-abbrev pub AreSoundEntries : Design → Bool → List Entry → Type 0
-AreSoundEntries d needed es = Each (λ (e : Entry). IsSoundDeclared d needed e.declared) es
-
-abbrev pub AreSoundFrames : Design → Bool → List (List Entry) → Type 0
-AreSoundFrames d needed fs = Each (AreSoundEntries d needed) fs
 
 turn_sound : (d : Design) (needed : Bool) (v : Option ℕ) → IsSound d needed (turn_meaning v)
 turn_sound d needed None = tt
@@ -181,11 +167,6 @@ short (tree.Replication place count parts) find h = short_noted place (replicati
 short (tree.Call place function a) find h = short_noted place (call_typed function (expr_place a) (typed a find (argument_needed function true))) h
 short (tree.Brackets place e) find h = short_noted place (typed e find true) h
 
--- a constant without a fault
-pub record IsConstantFine (d : Design) (t : Typed) : Type 0 where
-  pub is_fine : IsFine d true t
-  pub most : width t.expression ≤ 64
-
 pub constant_fine : (d : Design) (e : tree.Expr) (find : Find) → AreSound d true find → IsExpr e → (constant e find).faults ≡ [] → IsConstantFine d (constant e find)
 constant_fine d e find s x h =
     let f = typed_fine d find e true s x h in
@@ -218,9 +199,6 @@ range_fine d (Some t) env s x h =
     bounds_range b.range b.faults
     (bounds_fine d t.bracket (tree.expr_place t.left) (tree.expr_place t.right) (constant t.left (named env)) (constant t.right (named env))
     (typed_fine d (named env) t.left true (named_sound d true env s) x.0) (typed_fine d (named env) t.right true (named_sound d true env s) x.1) (bounds_faults b.range b.faults h))
-
-abbrev pub AreFineOverrides : Design → List Override → Type 0
-AreFineOverrides d os = Each (λ (o : Override). IsConstantFine d o.typed) os
 
 override_fine : (d : Design) (os : List Override) (name : List ℕ) (t : Typed) → AreFineOverrides d os → override_of os name ≡ Some t → IsConstantFine d t
 override_fine d [] name t f h = cc

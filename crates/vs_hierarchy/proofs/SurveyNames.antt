@@ -8,7 +8,7 @@ use Rattle.vs_design.specs.Clocks.{same_name}
 use Rattle.vs_design.specs.Elaborated.{is_signal}
 use Rattle.vs_grammar.specs.Trees as tree
 use Rattle.vs_grammar.specs.Trees.{Module, Source, items_list}
-use Rattle.vs_grammar.specs.Shapes.{Each, OneOrMore, Given, IsRange, IsSetting, AreParameters, IsItem, AreItems, IsGenerateItem, AreHeaderParameters, ArePorts, IsHeader, IsModule}
+use Rattle.vs_grammar.specs.Shapes.{Each, OneOrMore, Given, IsRange, IsSetting, AreParameters, IsItem, AreItems, IsGenerateItem, AreHeaderParameters, ArePorts, IsHeader}
 use Rattle.vs_const.specs.declared.faults.Fault.{Fault}
 use Rattle.vs_const.proofs.Formed.{both_nil}
 use Rattle.vs_hierarchy.specs.Limits.{Limits}
@@ -20,11 +20,8 @@ use Rattle.vs_hierarchy.specs.Generate.{BlockName, Made}
 use Rattle.vs_hierarchy.specs.Constructs.{constructs}
 use Rattle.vs_hierarchy.specs.Pieces.{Contents, OfModule, OfBlock, Task}
 use Rattle.vs_hierarchy.specs.Surveys.{items_of, declarations_of, overrides_of, header_of, block_entries, Totals, survey}
-use Rattle.vs_hierarchy.proofs.SoundNames.{AreSoundEntries, AreSoundFrames, frames_needed, AreFineOverrides, IsShapedSort, AreShapedDeclarations, first_entries_sound, parameters_good, there, all_settled, signals_sound}
-
-abbrev pub IsShapedContents : Contents → Type 0
-IsShapedContents (OfModule m overrides) = IsModule m
-IsShapedContents (OfBlock items) = Each IsGenerateItem items
+use Rattle.vs_hierarchy.specs.Sound.{AreSoundEntries, AreSoundFrames, AreFineOverrides, IsShapedContents}
+use Rattle.vs_hierarchy.proofs.SoundNames.{frames_needed, IsShapedSort, AreShapedDeclarations, first_entries_sound, parameters_good, there, all_settled, signals_sound}
 
 -- ---- what is declared is shaped
 

@@ -12,6 +12,7 @@ pub mod Ports
 pub mod Pieces
 pub mod Instances
 pub mod Surveys
+pub mod Sound
 pub mod Elaborated
 pub mod Laws
 pub mod Worked

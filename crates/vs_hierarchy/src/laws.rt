@@ -3,11 +3,22 @@
 ghost use Rattle.vs_hierarchy.specs.ExampleDesigns.{WholeDesigns, Parameters, Overrides, ConvertedOverrides, Ports, Connections, Numbered, Blocks, Names};
 ghost use Rattle.vs_hierarchy.specs.ExampleRefusals.{NotConstants, UnknownConstants, WrongModules, UnknownNames, RepeatedNames, BadRanges, WrongConnections, WrongKinds, OtherKinds, FirstFaults, Limited};
 ghost use Rattle.vs_hierarchy.specs.Laws.{DepthIsEnough, ElaboratedIsLawful};
+ghost use Rattle.vs_hierarchy.specs.Sound.{BlocksAreLower, FaultlessIsFair, NamesAreSound, PortsAreSignals, SignalsAreCounted};
 
 /// Every design that a text elaborates to is lawful (IEEE 1364-2005, clause 12), and no text has scopes deeper within one another than are read.
 pub fn elaborated_law()
     ensures lawful { ElaboratedIsLawful }
     ensures depth { DepthIsEnough }
+{}
+
+/// What holds of a scope without a fault, in every design that has its signals: its names mean known signals, values or nothing, its pieces are
+/// formed, the ports that its instances connect are signals, and its signals are numbered one after the other; and what generate constructs make nests less deep than they do (IEEE 1364-2005, clause 12).
+pub fn scope_law()
+    ensures names { NamesAreSound }
+    ensures fair { FaultlessIsFair }
+    ensures counted { SignalsAreCounted }
+    ensures ports { PortsAreSignals }
+    ensures blocks { BlocksAreLower }
 {}
 
 /// Worked designs: what each rule of elaboration gives.
