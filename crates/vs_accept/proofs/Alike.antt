@@ -1,0 +1,78 @@
+-- The refusals of one text.
+use Rattle.std.proofs.Common.{◌≡◌, ℕ, Bool, true, false, ◌&&◌, List, refl, sym, ap, ◌∙◌, subst, inl, inr, Option, Some}
+use Rattle.vs_lexer.specs.declared.token.Token.{Token}
+use Rattle.vs_grammar.specs.SpelledLaws.{OneSource, SpelledHasNoFault, OneFaultOfTokens}
+use Rattle.vs_const.specs.declared.faults.Fault.{Fault}
+use Rattle.vs_design.specs.Designs.{Design}
+use Rattle.vs_design.specs.Cycles.{IsDecided}
+use Rattle.vs_design.specs.Answers.{DesignRefusal, IsRefusedBy}
+use Rattle.vs_refusal.specs.declared.names.AtName.{AtName}
+use Rattle.vs_refusal.specs.declared.names.AtName.TheVariants as name
+use Rattle.vs_refusal.specs.declared.refusal.Refusal.{Refusal}
+use Rattle.vs_refusal.specs.declared.refusal.Refusal.TheVariants.{At}
+use Rattle.vs_accept.specs.Accepted.{IsRefusedText, ByTokens, ByTree, ByElaboration, ByRule, tells_tree, is_open, AreAlike, OneRefusal}
+use Rattle.vs_accept.specs.Refused.{byte_of, token_refusal, TreeFault, OutOfLanguage, OutOfGrammar, OutOfDepth, IsTreeFault, tree_refusal, fault_refusal, design_refusal}
+use Rattle.vs_accept.proofs.AlikeDesign.{AreAlikeRefusals, Same, Cycles, alike_of_design}
+use Rattle.vs_accept.proofs.Answered.{same_ok, same_err, ok_or_err, of_design, of_fault, not_of_both, same_result, no_fault_read}
+
+two : {A B C : Type 0} (f : A → B → C) {a b : A} {c d : B} → a ≡ b → c ≡ d → f a c ≡ f b d
+two f p q = cc
+
+-- told with the bytes of their places
+alike_told : (byte : ℕ → ℕ) (x y : DesignRefusal) (r q : Refusal) → AreAlikeRefusals x y → design_refusal byte x ≡ r → design_refusal byte y ≡ q → AreAlike r q
+alike_told byte x y r q (Same h) is also = inl (sym is ∙ ap (design_refusal byte) h ∙ also)
+alike_told byte x y r q (Cycles ps qs at by h k) is also = inr (two is_open (sym is ∙ ap (design_refusal byte) h) (sym also ∙ ap (design_refusal byte) k))
+
+same_told : {e f : Option Refusal} {r q : Refusal} → e ≡ f → e ≡ Some r → f ≡ Some q → r ≡ q
+same_told p h k = cc
+
+true_false : {b : Bool} → b ≡ true → b ≡ false → ⊥
+true_false p q = cc
+
+out_and_kept : {A : Type 0} {b : Bool} → b ≡ true → b ≡ false → A
+out_and_kept p q = absurd (true_false p q)
+
+-- both tell that the tokens spell no tree
+both_open : (a b : AtName) (at by : ℕ) (r q : Refusal) → tells_tree a && tells_tree b ≡ true → At a at ≡ r → At b by ≡ q → AreAlike r q
+both_open a b at by r q of_tree is also = inr (two is_open (sym is) (sym also) ∙ of_tree)
+
+-- of the same tokens
+alike_trees : OneFaultOfTokens → (byte : ℕ → ℕ) (tokens : List Token) (x y : TreeFault) (r q : Refusal) → IsTreeFault tokens x → IsTreeFault tokens y → tree_refusal byte x ≡ r → tree_refusal byte y ≡ q → AreAlike r q
+alike_trees one byte tokens (OutOfLanguage j) (OutOfLanguage k) r q f g is also = inl (sym is ∙ ap (λ (n : ℕ). tree_refusal byte (OutOfLanguage n)) ((one tokens j k).1 f g) ∙ also)
+alike_trees one byte tokens (OutOfLanguage j) (OutOfGrammar k) r q f g is also = out_and_kept f.out (g.kept j)
+alike_trees one byte tokens (OutOfLanguage j) (OutOfDepth k) r q f g is also = out_and_kept f.out (g.kept j)
+alike_trees one byte tokens (OutOfGrammar j) (OutOfLanguage k) r q f g is also = out_and_kept g.out (f.kept k)
+alike_trees one byte tokens (OutOfGrammar j) (OutOfGrammar k) r q f g is also = both_open name.Syntax name.Syntax (byte j) (byte k) r q refl is also
+alike_trees one byte tokens (OutOfGrammar j) (OutOfDepth k) r q f g is also = both_open name.Syntax name.TooDeep (byte j) (byte k) r q refl is also
+alike_trees one byte tokens (OutOfDepth j) (OutOfLanguage k) r q f g is also = out_and_kept g.out (f.kept k)
+alike_trees one byte tokens (OutOfDepth j) (OutOfGrammar k) r q f g is also = both_open name.TooDeep name.Syntax (byte j) (byte k) r q refl is also
+alike_trees one byte tokens (OutOfDepth j) (OutOfDepth k) r q f g is also = both_open name.TooDeep name.TooDeep (byte j) (byte k) r q refl is also
+
+pub one_refusal : OneSource → SpelledHasNoFault → OneFaultOfTokens → ((d : Design) → IsDecided d) → OneRefusal
+one_refusal one no_fault one_fault decided text top clock r q x y = go x y
+  where
+    Answer : Type 0
+    Answer = AreAlike r q
+
+    go : IsRefusedText text top clock r → IsRefusedText text top clock q → Answer
+    go (ByTokens e cut told) (ByTokens f dut also) = inl (same_told (ap token_refusal (same_err cut dut)) told also)
+    go (ByTokens e cut told) (ByTree others x dut fault also) = absurd (ok_or_err dut cut)
+    go (ByTokens e cut told) (ByElaboration others other f read broken also) = absurd (ok_or_err read.cut cut)
+    go (ByTokens e cut told) (ByRule others other d z read elaborates broken also) = absurd (ok_or_err read.cut cut)
+    go (ByTree tokens x cut fault told) (ByTokens f dut also) = absurd (ok_or_err cut dut)
+    go (ByTree tokens x cut fault told) (ByTree others y dut other also) = alike_trees one_fault (byte_of text tokens) tokens x y r q fault (subst (λ (ts : List Token). IsTreeFault ts y) (same_ok dut cut) other)
+        told (subst (λ (ts : List Token). tree_refusal (byte_of text ts) y ≡ q) (same_ok dut cut) also)
+    go (ByTree tokens x cut fault told) (ByElaboration others other f read broken also) = absurd (no_fault_read no_fault text others tokens other read cut x fault)
+    go (ByTree tokens x cut fault told) (ByRule others other d z read elaborates broken also) = absurd (no_fault_read no_fault text others tokens other read cut x fault)
+    go (ByElaboration tokens source f read broken told) (ByTokens e dut also) = absurd (ok_or_err read.cut dut)
+    go (ByElaboration tokens source f read broken told) (ByTree others x dut fault also) = absurd (no_fault_read no_fault text tokens others source read dut x fault)
+    go (ByElaboration tokens source f read broken told) (ByElaboration others other g reading also_broken also) =
+        inl (sym told ∙ two (λ (ts : List Token) (h : Fault). fault_refusal (byte_of text ts) h) (same_ok read.cut reading.cut) (of_fault (same_result one text top tokens others source other read reading) broken also_broken) ∙ also)
+    go (ByElaboration tokens source f read broken told) (ByRule others other d z reading elaborates breaks also) = absurd (not_of_both (same_result one text top others tokens other source reading read) elaborates broken)
+    go (ByRule tokens source d z read elaborates broken told) (ByTokens e dut also) = absurd (ok_or_err read.cut dut)
+    go (ByRule tokens source d z read elaborates broken told) (ByTree others x dut fault also) = absurd (no_fault_read no_fault text tokens others source read dut x fault)
+    go (ByRule tokens source d z read elaborates broken told) (ByElaboration others other g reading breaks also) = absurd (not_of_both (same_result one text top tokens others source other read reading) elaborates breaks)
+    go (ByRule tokens source d z read elaborates broken told) (ByRule others other e w reading elaborated_too breaks also) =
+        alike_told (byte_of text tokens) z w r q
+        (alike_of_design decided d clock z w broken (subst (λ (c : Design). IsRefusedBy c clock w) (of_design (same_result one text top others tokens other source reading read) elaborated_too elaborates) breaks))
+        told (subst (λ (ts : List Token). design_refusal (byte_of text ts) w ≡ q) (same_ok reading.cut read.cut) also)

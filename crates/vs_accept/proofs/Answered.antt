@@ -1,0 +1,85 @@
+-- What the answers to one text have to do with one another.
+use Rattle.std.proofs.Common.{◌≡◌, ℕ, List, refl, subst, Option, Some, None}
+use Rattle.std.specs.Prelude.{Result, Ok, Err}
+use Rattle.vs_lexer.specs.declared.token.Token.{Token}
+use Rattle.vs_lexer.specs.Cuts.{cut_text}
+use Rattle.vs_grammar.specs.Trees.{Source}
+use Rattle.vs_grammar.specs.Spelled.{Spells, SpelledBy}
+use Rattle.vs_grammar.specs.SpelledLaws.{OneSource, SpelledHasNoFault}
+use Rattle.vs_const.specs.declared.faults.Fault.{Fault}
+use Rattle.vs_hierarchy.specs.Elaborated.{elaborated}
+use Rattle.vs_design.specs.Designs.{Design}
+use Rattle.vs_design.specs.Answers as D
+use Rattle.vs_design.specs.Answers.{IsRefusedBy}
+use Rattle.vs_accept.specs.Accepted.{IsRead, IsRefusedText, ByTokens, ByTree, ByElaboration, ByRule, OneDesign, NotBoth}
+use Rattle.vs_accept.specs.Refused.{TreeFault, OutOfLanguage, OutOfGrammar, OutOfDepth, IsTreeFault}
+
+pub same_ok : {A E : Type 0} {a b : A} {x : Result A E} → x ≡ Ok a → x ≡ Ok b → a ≡ b
+same_ok p q = cc
+
+pub same_err : {A E : Type 0} {a b : E} {x : Result A E} → x ≡ Err a → x ≡ Err b → a ≡ b
+same_err p q = cc
+
+pub ok_or_err : {A E : Type 0} {a : A} {b : E} {x : Result A E} → x ≡ Ok a → x ≡ Err b → ⊥
+ok_or_err p q = cc
+
+pub same_some : {A : Type 0} {a b : A} {x : Option A} → x ≡ Some a → x ≡ Some b → a ≡ b
+same_some p q = cc
+
+pub none_some : {A : Type 0} {a : A} {x : Option A} → x ≡ None → x ≡ Some a → ⊥
+none_some p q = cc
+
+spells : (text : List ℕ) (tokens : List Token) (source : Source) → IsRead text tokens source → Spells text source
+spells text tokens source r = record { tokens = tokens; cut = r.cut; spelled = r.spelled }
+
+-- the tokens of a text that is read spell its tree
+spelled_by : (text : List ℕ) (tokens others : List Token) (source : Source) → IsRead text tokens source → cut_text text ≡ Ok others → SpelledBy text others source
+spelled_by text tokens others source r cut = subst (λ (ts : List Token). SpelledBy text ts source) (same_ok r.cut cut) r.spelled
+
+-- two readings are the same
+same_source : OneSource → (text : List ℕ) (tokens others : List Token) (source other : Source) → IsRead text tokens source → IsRead text others other → source ≡ other
+same_source one text tokens others source other r s = one text source other (spells text tokens source r) (spells text others other s)
+
+-- and so is what they elaborate to
+pub same_result : OneSource → (text top : List ℕ) (tokens others : List Token) (source other : Source) → IsRead text tokens source → IsRead text others other
+    → elaborated source top ≡ elaborated other top
+same_result one text top tokens others source other r s = subst (λ (z : Source). elaborated source top ≡ elaborated z top) (same_source one text tokens others source other r s) refl
+
+pub one_design : OneSource → OneDesign
+one_design one text top clock d e a b =
+    let same = same_result one text top a.tokens b.tokens a.source b.source a.read b.read in
+    of same a.elaborates b.elaborates
+  where
+    of : {x y : Result Design Fault} → x ≡ y → x ≡ Ok d → y ≡ Ok e → d ≡ e
+    of p q r = cc
+
+-- what readings of one text elaborate to
+pub of_design : {x y : Result Design Fault} {d e : Design} → x ≡ y → x ≡ Ok d → y ≡ Ok e → d ≡ e
+of_design p q r = cc
+
+pub of_fault : {x y : Result Design Fault} {f g : Fault} → x ≡ y → x ≡ Err f → y ≡ Err g → f ≡ g
+of_fault p q r = cc
+
+pub not_of_both : {x y : Result Design Fault} {d : Design} {f : Fault} → x ≡ y → x ≡ Ok d → y ≡ Err f → ⊥
+not_of_both p q r = cc
+
+-- tokens that spell a tree have no fault
+no_fault_of : SpelledHasNoFault → (text : List ℕ) (tokens : List Token) (source : Source) → SpelledBy text tokens source → (x : TreeFault) → IsTreeFault tokens x → ⊥
+no_fault_of none text tokens source s (OutOfLanguage k) f = (none text tokens source s k).0 f
+no_fault_of none text tokens source s (OutOfGrammar k) f = (none text tokens source s k).1 f
+no_fault_of none text tokens source s (OutOfDepth k) f = (none text tokens source s k).2 f
+
+-- nor in another reading
+pub no_fault_read : SpelledHasNoFault → (text : List ℕ) (tokens others : List Token) (source : Source) → IsRead text tokens source → cut_text text ≡ Ok others
+    → (x : TreeFault) → IsTreeFault others x → ⊥
+no_fault_read none text tokens others source read cut x f = no_fault_of none text others source (spelled_by text tokens others source read cut) x f
+
+pub not_both : OneSource → SpelledHasNoFault → D.NotBoth → NotBoth
+not_both one none judged text top clock d r a refused = go refused
+  where
+    go : IsRefusedText text top clock r → ⊥
+    go (ByTokens e cut told) = ok_or_err a.read.cut cut
+    go (ByTree tokens x cut fault told) = no_fault_read none text a.tokens tokens a.source a.read cut x fault
+    go (ByElaboration tokens source f read broken told) = not_of_both (same_result one text top a.tokens tokens a.source source a.read read) a.elaborates broken
+    go (ByRule tokens source e x read elaborates broken told) =
+        judged d clock a.accepted x (subst (λ (z : Design). IsRefusedBy z clock x) (of_design (same_result one text top tokens a.tokens source a.source read a.read) elaborates a.elaborates) broken)

@@ -1,0 +1,3 @@
+mod Answered
+mod AlikeDesign
+mod Alike

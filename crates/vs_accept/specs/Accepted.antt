@@ -1,0 +1,74 @@
+-- What a text is, by the names of its top and of its clock: an accepted design, or refused by the first rule that it breaks.
+use Rattle.std.specs.Prelude.{◌≡◌, ℕ, Bool, true, false, ◌&&◌, List, ◌⊎◌, Ok, Err, Some}
+use Rattle.vs_lexer.specs.declared.token.Token.{Token}
+use Rattle.vs_lexer.specs.declared.token.LexError.{LexError}
+use Rattle.vs_lexer.specs.Cuts.{cut_text}
+use Rattle.vs_grammar.specs.Trees.{Source}
+use Rattle.vs_grammar.specs.Spelled.{SpelledBy}
+use Rattle.vs_const.specs.declared.faults.Fault.{Fault}
+use Rattle.vs_hierarchy.specs.Elaborated.{elaborated}
+use Rattle.vs_design.specs.Designs.{Design}
+use Rattle.vs_design.specs.Accepted.{IsAcceptedDesign}
+use Rattle.vs_design.specs.Answers.{DesignRefusal, IsRefusedBy}
+use Rattle.vs_refusal.specs.declared.names.AtName.{AtName}
+use Rattle.vs_refusal.specs.declared.names.AtName.TheVariants as name
+use Rattle.vs_refusal.specs.declared.refusal.Refusal.{Refusal}
+use Rattle.vs_refusal.specs.declared.refusal.Refusal.TheVariants.{At, Cycle}
+use Rattle.vs_accept.specs.Refused.{byte_of, token_refusal, TreeFault, IsTreeFault, tree_refusal, fault_refusal, design_refusal}
+
+-- the text is cut into these tokens (clause 3), and they spell this tree (annex A)
+pub record IsRead (text : List ℕ) (tokens : List Token) (source : Source) : Type 0 where
+  pub cut : cut_text text ≡ Ok tokens
+  pub spelled : SpelledBy text tokens source
+
+-- the text is read, its tree elaborates from the top to this design (clause 12), and that breaks no rule
+pub record IsAcceptedText (text top clock : List ℕ) (d : Design) : Type 0 where
+  pub tokens : List Token
+  pub source : Source
+  pub read : IsRead text tokens source
+  pub elaborates : elaborated source top ≡ Ok d
+  pub accepted : IsAcceptedDesign d clock
+
+-- Why a text is refused. Each stage is tried only where none before it refuses. What is left open: which of several cycles is told, and whether
+-- that it is too deep at one token or that no list of tokens goes on with another one.
+pub data IsRefusedText (text top clock : List ℕ) (r : Refusal) : Type 0 where
+  -- it isn't cut into tokens
+  ByTokens : (e : LexError) → cut_text text ≡ Err e → token_refusal e ≡ Some r → IsRefusedText text top clock r
+  -- its tokens spell no tree
+  ByTree : (tokens : List Token) (x : TreeFault) → cut_text text ≡ Ok tokens → IsTreeFault tokens x → tree_refusal (byte_of text tokens) x ≡ r → IsRefusedText text top clock r
+  -- its tree doesn't elaborate
+  ByElaboration : (tokens : List Token) (source : Source) (f : Fault) → IsRead text tokens source → elaborated source top ≡ Err f
+      → fault_refusal (byte_of text tokens) f ≡ r → IsRefusedText text top clock r
+  -- its design breaks a rule
+  ByRule : (tokens : List Token) (source : Source) (d : Design) (x : DesignRefusal) → IsRead text tokens source → elaborated source top ≡ Ok d → IsRefusedBy d clock x
+      → design_refusal (byte_of text tokens) x ≡ r → IsRefusedText text top clock r
+
+-- ---- what holds of every text
+
+-- it is accepted as one design at most
+abbrev pub OneDesign : Type 0
+OneDesign = (text top clock : List ℕ) (d e : Design) → IsAcceptedText text top clock d → IsAcceptedText text top clock e → d ≡ e
+
+-- a text that is accepted is not refused
+abbrev pub NotBoth : Type 0
+NotBoth = (text top clock : List ℕ) (d : Design) (r : Refusal) → IsAcceptedText text top clock d → IsRefusedText text top clock r → ⊥
+
+-- whether it tells that the tokens spell no tree
+abbrev pub tells_tree : AtName → Bool
+tells_tree name.Syntax = true
+tells_tree name.TooDeep = true
+tells_tree _ = false
+
+-- what is left open
+abbrev pub is_open : Refusal → Refusal → Bool
+is_open (Cycle ps at) (Cycle qs by) = true
+is_open (At a at) (At b by) = tells_tree a && tells_tree b
+is_open _ _ = false
+
+-- two refusals of one text differ in that alone
+abbrev pub AreAlike : Refusal → Refusal → Type 0
+AreAlike r q = (r ≡ q) ⊎ (is_open r q ≡ true)
+
+-- all refusals of one text are alike
+abbrev pub OneRefusal : Type 0
+OneRefusal = (text top clock : List ℕ) (r q : Refusal) → IsRefusedText text top clock r → IsRefusedText text top clock q → AreAlike r q

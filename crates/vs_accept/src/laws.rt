@@ -1,0 +1,18 @@
+//! What holds of every text.
+
+ghost use Rattle.vs_accept.specs.Accepted.{NotBoth, OneDesign, OneRefusal};
+
+use vs_design::{accepted_law, cycle_law};
+use vs_grammar::laws::spelled_law;
+
+/// A text is accepted as one design at most, and then it is not refused. All its refusals are the same one, but that another cycle may be told,
+/// and another token at which its tree is broken.
+pub fn answer_law()
+    ensures one { OneDesign }
+    ensures not_both { NotBoth }
+    ensures alike { OneRefusal }
+{
+    spelled_law();
+    accepted_law();
+    cycle_law();
+}
