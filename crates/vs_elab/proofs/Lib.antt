@@ -23,6 +23,10 @@ mod PortWiring
 mod CountedPorts
 mod SameNames
 mod PendingParts
+mod PartItems
+mod ShapedScopes
+mod WirablePorts
+mod FollowingSignals
 mod PendingStacks
 mod ItemLists
 mod SignalsFollow

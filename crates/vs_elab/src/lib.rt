@@ -16,6 +16,7 @@ mod opening;
 mod outputs;
 mod overrides;
 mod overriding;
+mod parts;
 mod pending;
 mod ports;
 mod selects;
