@@ -27,6 +27,8 @@ mod PartItems
 mod ShapedScopes
 mod WirablePorts
 mod FollowingSignals
+mod InstanceLimits
+mod SameMeanings
 mod PendingStacks
 mod ItemLists
 mod SignalsFollow

@@ -9,7 +9,6 @@ use Rattle.vs_hierarchy.specs.Pieces.{Piece}
 use Rattle.vs_hierarchy.specs.Instances.{Around}
 use Rattle.vs_hierarchy.specs.Surveys.{nested_piece, item_said, items_said}
 use Rattle.vs_scope.specs.declared.made.Nested.{Nested}
-
 use Rattle.vs_scope.specs.Made as code
 use Rattle.vs_elab.proofs.ItemLists.{IsOther, pieces_behind, made_at, made_more, length_taken, mapped}
 use Rattle.vs_elab.proofs.Repeats.{one_more}

@@ -9,6 +9,7 @@ mod faults;
 mod instances;
 mod interfaces;
 mod items;
+mod limits;
 mod modules;
 mod noted;
 mod numbers;
