@@ -29,6 +29,7 @@ mod WirablePorts
 mod FollowingSignals
 mod InstanceLimits
 mod SameMeanings
+mod ScopeItems
 mod PendingStacks
 mod ItemLists
 mod SignalsFollow
