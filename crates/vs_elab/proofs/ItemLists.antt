@@ -18,7 +18,7 @@ use Rattle.vs_elab.specs.Counts.{IsCounted}
 use Rattle.vs_elab.proofs.CountSteps.{counted_nothing, counted_within}
 use Rattle.vs_elab.proofs.Repeats.{one_more}
 
-pieces_behind : (source : tree.Source) (around : Around) (is : List tree.Item) (i : tree.Item) (ms : List Made) (m : Made) → length is ≡ length ms
+pub pieces_behind : (source : tree.Source) (around : Around) (is : List tree.Item) (i : tree.Item) (ms : List Made) (m : Made) → length is ≡ length ms
     → (items_said source around (is ++ i ∷ []) (ms ++ m ∷ [])).pieces ≡ (items_said source around is ms).pieces ++ (item_said source around i m).pieces
 pieces_behind source around [] i [] m h = append-nil (item_said source around i m).pieces
 pieces_behind source around [] i (n ∷ ms) m h = absurd (let no : ⊥ = omega (arith, h) in no)

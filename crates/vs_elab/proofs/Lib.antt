@@ -23,6 +23,13 @@ mod PortWiring
 mod CountedPorts
 mod SameNames
 mod PendingParts
+mod PartItems
+mod ShapedScopes
+mod WirablePorts
+mod FollowingSignals
+mod InstanceLimits
+mod SameMeanings
+mod ScopeItems
 mod PendingStacks
 mod ItemLists
 mod SignalsFollow

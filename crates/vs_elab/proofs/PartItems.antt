@@ -1,0 +1,75 @@
+-- The parts of items and of generate blocks, one after the other.
+use Rattle.std.proofs.Common.{◌≡◌, ℕ, zero, suc, ◌+◌, ◌<◌, List, [], ◌∷◌, ◌++◌, length, get_or, take, map, refl, sym, ap, ◌∙◌, append_assoc, arith}
+use Rattle.std.proofs.lemmas.List.{append-nil, map-append}
+use Rattle.vs_grammar.specs.Trees as tree
+use Rattle.vs_ast.specs.declared.items.Item.{Item}
+use Rattle.vs_ast.specs.Views as view
+use Rattle.vs_hierarchy.specs.Generate.{Made}
+use Rattle.vs_hierarchy.specs.Pieces.{Piece}
+use Rattle.vs_hierarchy.specs.Instances.{Around}
+use Rattle.vs_hierarchy.specs.Surveys.{nested_piece, item_said, items_said}
+use Rattle.vs_scope.specs.declared.made.Nested.{Nested}
+use Rattle.vs_scope.specs.Made as code
+use Rattle.vs_elab.proofs.ItemLists.{IsOther, pieces_behind, made_at, made_more, length_taken, mapped}
+use Rattle.vs_elab.proofs.Repeats.{one_more}
+
+-- one block more
+pub block_more : (around : Around) (xs : List Nested) (i : ℕ) (x : Nested) (before done more : List Piece) → i < length xs → x ≡ get_or xs i x
+    → done ≡ before ++ map (nested_piece around) (map code.nested (take i xs)) → more ≡ done ++ nested_piece around (code.nested x) ∷ []
+    → more ≡ before ++ map (nested_piece around) (map code.nested (take (i + 1) xs))
+block_more around xs i x before done more h e is pushed =
+    let f = nested_piece around in
+    pushed ∙ ap (λ r. r ++ f (code.nested x) ∷ []) is ∙ append_assoc before (map f (map code.nested (take i xs))) (f (code.nested x) ∷ [])
+    ∙ ap (λ r. before ++ r) (sym (ap (map f) (one_more code.nested xs i x h e) ∙ map-append f (map code.nested (take i xs)) (code.nested x ∷ [])))
+
+-- what is made of an item that is neither of the other kinds
+pub other_pieces : (source : tree.Source) (around : Around) (item : tree.Item) (made : Made) → IsOther item → (item_said source around item made).pieces ≡ map (nested_piece around) made.blocks
+other_pieces source around (tree.SignalsItem t) made o = absurd o
+other_pieces source around (tree.AssignsItem place assigns) made o = absurd o
+other_pieces source around (tree.AlwaysItem b) made o = absurd o
+other_pieces source around (tree.InstancesItem t) made o = absurd o
+other_pieces source around (tree.ParametersItem t) made o = refl
+other_pieces source around (tree.GenvarsItem place names) made o = refl
+other_pieces source around (tree.GenerateFor head block) made o = refl
+other_pieces source around (tree.GenerateIf place e taken other) made o = refl
+other_pieces source around (tree.GenerateCase place subject arms other) made o = refl
+
+-- ---- lists that are alike
+
+heads : {A : Type 0} (a b : A) (cs bs : List A) → (let x : List A = a ∷ cs in x) ≡ b ∷ bs → a ≡ b
+heads a b cs bs h = cc
+
+tails : {A : Type 0} (a b : A) (cs bs : List A) → (let x : List A = a ∷ cs in x) ≡ b ∷ bs → cs ≡ bs
+tails a b cs bs h = cc
+
+pub alike_at : {A B C : Type 0} (f : A → C) (g : B → C) (d : B) (xs : List A) (ys : List B) (i : ℕ) (x : A) → map f xs ≡ map g ys → i < length xs → x ≡ get_or xs i x → f x ≡ g (get_or ys i d)
+alike_at f g d [] ys i x e h k = absurd (let no : ⊥ = omega (arith, h) in no)
+alike_at f g d (a ∷ xs) [] i x e h k = cc
+alike_at f g d (a ∷ xs) (b ∷ ys) zero x e h k = ap f k ∙ heads (f a) (g b) (map f xs) (map g ys) e
+alike_at f g d (a ∷ xs) (b ∷ ys) (suc i) x e h k = alike_at f g d xs ys i x (tails (f a) (g b) (map f xs) (map g ys) e) (omega (arith, h)) k
+
+pub alike_length : {A B C : Type 0} (f : A → C) (g : B → C) (xs : List A) (ys : List B) → map f xs ≡ map g ys → length ys ≡ length xs
+alike_length f g xs ys e = sym (mapped g ys) ∙ ap (λ zs. length zs) (sym e) ∙ mapped f xs
+
+-- ---- items
+
+-- one item more
+pub item_more : (source : tree.Source) (around : Around) (items : List Item) (made : List Made) (i : ℕ) (x : Item) (before done more : List Piece) → i < length items → x ≡ get_or items i x → length made ≡ length items
+    → done ≡ before ++ (items_said source around (map view.item (take i items)) (take i made)).pieces → more ≡ done ++ (item_said source around (view.item x) (made_at made i)).pieces
+    → more ≡ before ++ (items_said source around (map view.item (take (i + 1) items)) (take (i + 1) made)).pieces
+item_more source around items made i x before done more h e same is pushed =
+    let within : i < length made = omega (arith, h, same) in
+    let a = mapped view.item (take i items) in
+    let b = length_taken items i h in
+    let d = length_taken made i within in
+    pushed ∙ ap (λ r. r ++ (item_said source around (view.item x) (made_at made i)).pieces) is
+    ∙ append_assoc before (items_said source around (map view.item (take i items)) (take i made)).pieces (item_said source around (view.item x) (made_at made i)).pieces
+    ∙ ap (λ qs. before ++ qs) (sym (pieces_behind source around (map view.item (take i items)) (view.item x) (take i made) (made_at made i) (a ∙ b ∙ sym d)))
+    ∙ ap (λ is. before ++ (items_said source around is (take i made ++ made_at made i ∷ [])).pieces) (sym (one_more view.item items i x h e))
+    ∙ ap (λ ms. before ++ (items_said source around (map view.item (take (i + 1) items)) ms).pieces) (sym (made_more made i within))
+
+-- the one item of a block
+pub one_item : (source : tree.Source) (around : Around) (i : tree.Item) (made : List Made) → length made ≡ 1 → (item_said source around i (made_at made 0)).pieces ≡ (items_said source around (i ∷ []) made).pieces
+one_item source around i [] h = absurd (let no : ⊥ = omega (arith, h) in no)
+one_item source around i (m ∷ []) h = sym (append-nil (item_said source around i m).pieces)
+one_item source around i (m ∷ n ∷ ms) h = absurd (let no : ⊥ = omega (arith, h) in no)

@@ -1,0 +1,28 @@
+use Rattle.std.proofs.Common.{◌≡◌, ◌++◌, List, OnOk, length, map, sym, ap, ◌∙◌, subst}
+use Rattle.vs_grammar.specs.Trees as tree
+use Rattle.vs_ast.specs.Views as view
+use Rattle.vs_hierarchy.specs.Surveys.{items_said}
+use Rattle.vs_scope.specs.declared.contents.Contents.{Contents}
+use Rattle.vs_scope.specs.Contents.{contents_items}
+use Rattle.vs_elab.specs.Pending.{parts_pieces}
+use Rattle.vs_elab.proofs.Repeats.{items_are}
+use Rattle.vs_elab.proofs.ItemLists.{mapped}
+use Rattle.vs_elab.proofs.parts.push_contents.Goals as goal
+
+pub push_items-requires : goal.push_items-requires
+push_items-requires c =
+    c.requires
+    ∙ ap (λ (is : List tree.Item). length is) (ap contents_items c.in-Module.is ∙ items_are c.in-Module.m.now.items.items ∙ ap (map view.item) (sym c.deref.ensures.value))
+    ∙ mapped view.item c.deref.result.now
+
+pub returns-in-Module : goal.returns-in-Module
+returns-in-Module c = λ source around ms same.
+    let all : contents_items c.args.contents ≡ map view.item c.deref.result.now =
+    ap contents_items c.in-Module.is ∙ items_are c.in-Module.m.now.items.items ∙ ap (map view.item) (sym c.deref.ensures.value) in
+    subst (λ (is : List tree.Item). OnOk c.push_items.result (parts_pieces source around c.push_items.new.parts.items ≡ parts_pieces source around c.args.parts.now.items ++ (items_said source around is ms).pieces)) (sym all)
+    (c.push_items.ensures source around ms same)
+
+pub returns-in-Block : goal.returns-in-Block
+returns-in-Block c = λ source around ms same.
+    subst (λ (x : Contents). OnOk c.push_block.result (parts_pieces source around c.push_block.new.parts.items ≡ parts_pieces source around c.args.parts.now.items ++ (items_said source around (contents_items x) ms).pieces)) (sym c.in-Block.is)
+    (c.push_block.ensures source around ms same)

@@ -1,0 +1,138 @@
+//! The parts of a scope, from its items and what its generate constructs make (IEEE 1364-2005, A.1.4 and 12.4).
+
+ghost use Rattle.std.specs.Prelude.{◌≡◌, ◌++◌, ◌∷◌, [], List, IfOk, OnOk, length, map};
+ghost use Rattle.vs_grammar.specs.Trees as tree;
+ghost use Rattle.vs_ast.specs.Views as view;
+ghost use Rattle.vs_hierarchy.specs.Generate as generate;
+ghost use Rattle.vs_hierarchy.specs.Instances.{Around};
+ghost use Rattle.vs_hierarchy.specs.Surveys.{item_said, items_said, nested_piece};
+ghost use Rattle.vs_scope.specs.Contents.{block_items, contents_items};
+ghost use Rattle.vs_scope.specs.Made as code;
+ghost use Rattle.vs_elab.specs.Pending.{parts_pieces};
+
+use crate::pending::{Part, push_assigns, push_instances, push_wires};
+use std::alloc::{AllocError, Global};
+use vs_ast::Item;
+use vs_scope::{BlockItems, Contents, Made, Nested};
+
+/// Adds the blocks that a generate construct makes.
+fn push_blocks<'a>(
+    parts: &mut Vec<Part<'a>>,
+    alloc: Global,
+    blocks: &[Nested<'a>],
+) -> Result<(), AllocError>
+    ensures { (source : tree.Source) (around : Around)
+        → OnOk result (parts_pieces source around parts.new.items ≡ parts_pieces source around parts.old.items ++ map (nested_piece around) (map code.nested blocks.now)) }
+{
+    for b in blocks {
+        let name = b.name.to_vec(alloc)?;
+        parts.push(Part::Block {
+            name,
+            items: b.items,
+            turn: b.turn,
+        })?;
+    }
+    Ok(())
+}
+
+/// Adds the parts of an item, which makes this if it is a generate construct.
+fn push_item<'a>(
+    parts: &mut Vec<Part<'a>>,
+    alloc: Global,
+    item: &'a Item,
+    made: &Made<'a>,
+) -> Result<(), AllocError>
+    ensures { (source : tree.Source) (around : Around) (m : generate.Made) → code.made made.now ≡ code.kept m
+        → OnOk result (parts_pieces source around parts.new.items ≡ parts_pieces source around parts.old.items ++ (item_said source around (view.item item.now) m).pieces) }
+{
+    match item {
+        Item::Signals(s) => push_wires(parts, s.place, &s.names),
+        Item::Assigns { place, assigns } => push_assigns(parts, *place, assigns),
+        Item::Always(b) => {
+            parts.push(Part::Always(b))?;
+            Ok(())
+        }
+        Item::Instances(t) => push_instances(parts, t),
+        _ => push_blocks(parts, alloc, &made.blocks),
+    }
+}
+
+/// Adds the parts of items, each of which makes this.
+fn push_items<'a>(
+    parts: &mut Vec<Part<'a>>,
+    alloc: Global,
+    items: &'a [Item],
+    made: &[Made<'a>],
+) -> Result<(), AllocError>
+    requires { length made.now ≡ length items.now }
+    ensures { (source : tree.Source) (around : Around) (ms : List generate.Made) → map code.made made.now ≡ map code.kept ms
+        → OnOk result (parts_pieces source around parts.new.items ≡ parts_pieces source around parts.old.items ++ (items_said source around (map view.item items.now) ms).pieces) }
+{
+    for i in 0..items.len() {
+        push_item(parts, alloc, &items[i], &made[i])?;
+    }
+    Ok(())
+}
+
+/// Adds the parts of the one item of a block.
+fn push_one<'a>(
+    parts: &mut Vec<Part<'a>>,
+    alloc: Global,
+    item: &'a Item,
+    made: &[Made<'a>],
+) -> Result<(), AllocError>
+    requires { length made.now ≡ 1 }
+    ensures { (source : tree.Source) (around : Around) (ms : List generate.Made) → map code.made made.now ≡ map code.kept ms
+        → OnOk result (parts_pieces source around parts.new.items ≡ parts_pieces source around parts.old.items ++ (items_said source around (view.item item.now ∷ []) ms).pieces) }
+{
+    push_item(parts, alloc, item, &made[0])
+}
+
+/// Adds the parts of the items of a block, each of which makes this.
+fn push_block<'a>(
+    parts: &mut Vec<Part<'a>>,
+    alloc: Global,
+    block: BlockItems<'a>,
+    made: &[Made<'a>],
+) -> Result<(), AllocError>
+    requires { length made.now ≡ length (block_items block) }
+    ensures { (source : tree.Source) (around : Around) (ms : List generate.Made) → map code.made made.now ≡ map code.kept ms
+        → OnOk result (parts_pieces source around parts.new.items ≡ parts_pieces source around parts.old.items ++ (items_said source around (block_items block.entry) ms).pieces) }
+{
+    match block {
+        BlockItems::One(item) => push_one(parts, alloc, item, made),
+        BlockItems::Many(items) => push_items(parts, alloc, items, made),
+    }
+}
+
+/// Adds the parts of the items of a scope, each of which makes this.
+fn push_contents<'a>(
+    parts: &mut Vec<Part<'a>>,
+    alloc: Global,
+    contents: Contents<'a>,
+    made: &[Made<'a>],
+) -> Result<(), AllocError>
+    requires { length made.now ≡ length (contents_items contents) }
+    ensures { (source : tree.Source) (around : Around) (ms : List generate.Made) → map code.made made.now ≡ map code.kept ms
+        → OnOk result (parts_pieces source around parts.new.items ≡ parts_pieces source around parts.old.items ++ (items_said source around (contents_items contents.entry) ms).pieces) }
+{
+    match contents {
+        Contents::Module(m) => push_items(parts, alloc, &m.items, made),
+        Contents::Block(block) => push_block(parts, alloc, block, made),
+    }
+}
+
+/// The parts of a scope, each of whose items makes this, in the order of the text. An error is want of memory.
+pub(crate) fn parts_of<'a>(
+    alloc: Global,
+    contents: Contents<'a>,
+    made: &[Made<'a>],
+) -> Result<Vec<Part<'a>>, AllocError>
+    requires { length made.now ≡ length (contents_items contents) }
+    ensures { (source : tree.Source) (around : Around) (ms : List generate.Made) → map code.made made.now ≡ map code.kept ms
+        → IfOk result (λ ps. parts_pieces source around ps.items ≡ (items_said source around (contents_items contents.entry) ms).pieces) }
+{
+    let mut parts = Vec::new(alloc);
+    push_contents(&mut parts, alloc, contents, made)?;
+    Ok(parts)
+}
