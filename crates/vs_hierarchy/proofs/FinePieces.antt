@@ -153,7 +153,7 @@ module _ (d : Design) (env : Env) (s : AreSoundFrames d false env.frames) where
       let others = overrides_by_name cs env in
       override_fine (Some c.name.bytes) c.e others x.0.1 (overrides_names cs x.1 (rest_faults (Some c.name.bytes) c.e others h)) h
 
-  overrides_fine : (of : tree.Name) (m : Option Module) (c : tree.Connections) → AreConnections c → (said_overrides of m c env).faults ≡ [] → AreFineOverrides d (said_overrides of m c env).overrides
+  pub overrides_fine : (of : tree.Name) (m : Option Module) (c : tree.Connections) → AreConnections c → (said_overrides of m c env).faults ≡ [] → AreFineOverrides d (said_overrides of m c env).overrides
   overrides_fine of m tree.Unconnected x h = tt
   overrides_fine of m (tree.ByOrder parts) x h = overrides_order (module_overridable m) 0 parts (ordered_each parts x) (both_nil _ (overrides_by_order (module_overridable m) 0 parts env).faults h).1
   overrides_fine of m (tree.ByName parts) x h = overrides_names parts (one_each parts x) (both_nil _ (overrides_by_name parts env).faults h).1

@@ -213,7 +213,7 @@ all_pieces : {A : Type 0} (f : A → Said) (xs : List A) → ((a : A) → AreDir
 all_pieces f [] h = tt
 all_pieces f (a ∷ xs) h = each_append IsDirectedPiece (f a).pieces (all_said f xs).pieces (h a) (all_pieces f xs h)
 
-known_directed : (around : Around) (place : ℕ) (m : Option Module) (os : List Override) (i : tree.Instance) → AreDirectedPieces (instance_said around place m os i).pieces
+pub known_directed : (around : Around) (place : ℕ) (m : Option Module) (os : List Override) (i : tree.Instance) → AreDirectedPieces (instance_said around place m os i).pieces
 known_directed around place None os i = tt
 known_directed around place (Some m) os i = (connections_directed m i.name i.connections around.env, tt)
 

@@ -12,15 +12,15 @@ use Rattle.vs_hierarchy.specs.Signals.{Start, said_signal, said_signals, after}
 use Rattle.vs_hierarchy.specs.Generate.{Nested, Made}
 use Rattle.vs_hierarchy.specs.Constructs.{constructs}
 use Rattle.vs_hierarchy.specs.Pieces.{Task, Connection, IntoInput, FromOutput, Piece, Own, Instance, Within}
-use Rattle.vs_hierarchy.specs.Instances.{connection_name}
+use Rattle.vs_hierarchy.specs.Instances.{connection_name, instance_said}
 use Rattle.vs_hierarchy.specs.Surveys.{Totals, survey, declarations_of, overrides_of}
-use Rattle.vs_hierarchy.specs.Sound.{AreSoundEntries, AreCounted, MeansSignal, HasPorts, FaultlessIsFair, SignalsAreCounted, PortsAreSignals, BlocksAreLower}
+use Rattle.vs_hierarchy.specs.Sound.{AreSoundEntries, AreCounted, MeansSignal, HasPorts, FaultlessIsFair, SignalsAreCounted, PortsAreSignals, BlocksAreLower, OverridesAreFine, InstancesHavePorts}
 use Rattle.vs_hierarchy.proofs.NumberedSignals.{signals_of, good_survey}
 use Rattle.vs_hierarchy.proofs.SurveyNames.{survey_names}
-use Rattle.vs_hierarchy.proofs.FinePieces.{survey_pieces}
+use Rattle.vs_hierarchy.proofs.FinePieces.{overrides_fine, survey_pieces}
 use Rattle.vs_hierarchy.proofs.LowBlocks.{AreLower, constructs_lower}
 use Rattle.vs_hierarchy.proofs.FirstNames.{IsDeclaredWith, IsSignalWith}
-use Rattle.vs_hierarchy.proofs.PortNames.{IsDirected, IsDirectedPiece, survey_directed}
+use Rattle.vs_hierarchy.proofs.PortNames.{IsDirected, IsDirectedPiece, known_directed, survey_directed}
 use Rattle.vs_hierarchy.proofs.PortsFormed.{AnyMeaning, WithIn, entry_in, port_signal, survey_signals}
 
 pub faultless_fair : FaultlessIsFair
@@ -87,6 +87,14 @@ pieces_ports d limits source (p ∷ ps) g = (piece_ports d limits source p g.0, 
 
 pub ports_signals : PortsAreSignals
 ports_signals d limits source t totals = pieces_ports d limits source (survey limits source t totals).pieces (survey_directed limits source t totals)
+
+-- ---- instances by themselves
+
+pub overrides_are_fine : OverridesAreFine
+overrides_are_fine d env of m c s x h = overrides_fine d env s of m c x h
+
+pub instances_have_ports : InstancesHavePorts
+instances_have_ports d limits source around place m os i = pieces_ports d limits source (instance_said around place m os i).pieces (known_directed around place m os i)
 
 -- ---- blocks
 

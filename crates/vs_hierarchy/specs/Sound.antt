@@ -1,11 +1,12 @@
 -- What holds of a scope without a fault, in every design that has its signals: what its names mean, and what its pieces are.
-use Rattle.std.specs.Prelude.{◌≡◌, ◌≤◌, ◌+◌, ℕ, Bool, true, false, List, [], ◌∷◌, Some, None}
+use Rattle.std.specs.Prelude.{◌≡◌, ◌≤◌, ◌+◌, ℕ, Bool, true, false, List, [], ◌∷◌, Option, Some, None}
 use Rattle.vs_design.specs.Expressions.{Signal, signal_length, width}
 use Rattle.vs_design.specs.Designs.{Design}
 use Rattle.vs_design.specs.Footprints.{is_net}
 use Rattle.vs_design.specs.Elaborated.{is_signal, is_lawful_range, is_formed, is_formed_target, has_constant_selects, is_formed_process}
-use Rattle.vs_grammar.specs.Trees.{Item, Module, Source}
-use Rattle.vs_grammar.specs.Shapes.{Each, IsGenerateItem, IsModule}
+use Rattle.vs_grammar.specs.Trees.{Name, Connections, Item, Module, Source}
+use Rattle.vs_grammar.specs.Trees as tree
+use Rattle.vs_grammar.specs.Shapes.{Each, AreConnections, IsGenerateItem, IsModule}
 use Rattle.vs_grammar.specs.Depths.{deepest, item_depth}
 use Rattle.vs_const.specs.Meanings.{SignalMeaning, IsFairValue}
 use Rattle.vs_const.specs.Typed.{Typed}
@@ -13,10 +14,10 @@ use Rattle.vs_const.specs.Sound.{IsSoundSignal, AreSound, IsFine}
 use Rattle.vs_hierarchy.specs.Limits.{Limits}
 use Rattle.vs_hierarchy.specs.Environments.{Declared, Later, OfSignal, OfParameter, OfGenvar, OfScope, Entry, Env, find_entry, named}
 use Rattle.vs_hierarchy.specs.Parameters.{Override}
+use Rattle.vs_hierarchy.specs.Instances.{Around, connection_name, said_overrides, instance_said}
 use Rattle.vs_hierarchy.specs.Generate.{Nested, Made}
 use Rattle.vs_hierarchy.specs.Constructs.{constructs}
 use Rattle.vs_hierarchy.specs.Pieces.{Contents, OfModule, OfBlock, Task, Connection, IntoInput, FromOutput, Piece, Own, Instance, Within}
-use Rattle.vs_hierarchy.specs.Instances.{connection_name}
 use Rattle.vs_hierarchy.specs.Surveys.{Totals, overrides_of, survey}
 
 -- ---- names
@@ -131,3 +132,15 @@ PortsAreSignals = (d : Design) (limits : Limits) (source : Source) (t : Task) (t
 abbrev pub BlocksAreLower : Type 0
 BlocksAreLower = (most : ℕ) (limits : Limits) (items : List Item) (env : Env) (n total : ℕ) → deepest item_depth items ≤ most
     → Each (λ (m : Made). Each (λ (b : Nested). deepest item_depth b.items + 1 ≤ most) m.blocks) (constructs limits items env n total)
+
+-- ---- of an instance by itself
+
+-- what overrides its parameters is without a fault, where nothing that it says is
+abbrev pub OverridesAreFine : Type 0
+OverridesAreFine = (d : Design) (env : Env) (of : Name) (m : Option Module) (c : Connections) → AreSoundFrames d false env.frames → AreConnections c → (said_overrides of m c env).faults ≡ []
+    → AreFineOverrides d (said_overrides of m c env).overrides
+
+-- its ports are connected to signals
+abbrev pub InstancesHavePorts : Type 0
+InstancesHavePorts = (d : Design) (limits : Limits) (source : Source) (around : Around) (place : ℕ) (m : Option Module) (os : List Override) (i : tree.Instance)
+    → Each (HasPorts d limits source) (instance_said around place m os i).pieces

@@ -3,7 +3,7 @@
 ghost use Rattle.vs_hierarchy.specs.ExampleDesigns.{WholeDesigns, Parameters, Overrides, ConvertedOverrides, Ports, Connections, Numbered, Blocks, Names};
 ghost use Rattle.vs_hierarchy.specs.ExampleRefusals.{NotConstants, UnknownConstants, WrongModules, UnknownNames, RepeatedNames, BadRanges, WrongConnections, WrongKinds, OtherKinds, FirstFaults, Limited};
 ghost use Rattle.vs_hierarchy.specs.Laws.{DepthIsEnough, ElaboratedIsLawful};
-ghost use Rattle.vs_hierarchy.specs.Sound.{BlocksAreLower, FaultlessIsFair, NamesAreSound, PortsAreSignals, SignalsAreCounted};
+ghost use Rattle.vs_hierarchy.specs.Sound.{BlocksAreLower, FaultlessIsFair, InstancesHavePorts, NamesAreSound, OverridesAreFine, PortsAreSignals, SignalsAreCounted};
 
 /// Every design that a text elaborates to is lawful (IEEE 1364-2005, clause 12), and no text has scopes deeper within one another than are read.
 pub fn elaborated_law()
@@ -19,6 +19,13 @@ pub fn scope_law()
     ensures counted { SignalsAreCounted }
     ensures ports { PortsAreSignals }
     ensures blocks { BlocksAreLower }
+{}
+
+/// What holds of one instance by itself, in every design: what overrides its parameters is without a fault where it breaks no rule, and the ports that
+/// it connects are signals of its module (IEEE 1364-2005, 12.2 and 12.3).
+pub fn instance_law()
+    ensures overrides { OverridesAreFine }
+    ensures ports { InstancesHavePorts }
 {}
 
 /// Worked designs: what each rule of elaboration gives.
