@@ -48,7 +48,7 @@ all_kept source fs f [] h = refl
 all_kept source fs f (p ∷ ps) h =
     ap (λ r. r ++ flat_map (pending_pieces source (fs ++ f ∷ [])) ps) (one_kept source fs f p h.0) ∙ ap (λ r. pending_pieces source fs p ++ r) (all_kept source fs f ps h.1)
 
-each_behind : {A : Type 0} (P : A → Type 0) (xs ys : List A) → Each P xs → Each P ys → Each P (xs ++ ys)
+pub each_behind : {A : Type 0} (P : A → Type 0) (xs ys : List A) → Each P xs → Each P ys → Each P (xs ++ ys)
 each_behind P [] ys h k = k
 each_behind P (x ∷ xs) ys h k = (h.0, each_behind P xs ys h.1 k)
 

@@ -14,7 +14,7 @@ use Rattle.vs_hierarchy.specs.Parameters.{override_of}
 use Rattle.vs_scope.specs.declared.frames.Frame.{Frame}
 use Rattle.vs_scope.specs.declared.maps.NameMap.{NameMap}
 use Rattle.vs_scope.specs.declared.parameters.Override.{Override}
-use Rattle.vs_scope.specs.Maps.{Pair, value_at, with_value}
+use Rattle.vs_scope.specs.Maps.{AreDistinct, Pair, value_at, with_value}
 use Rattle.vs_scope.specs.MapViews.{pairs}
 use Rattle.vs_scope.specs.Overrides.{override_typed, overrides_of, EachOverride, AreOverrides}
 use Rattle.vs_elab.specs.Noted.{AreFirst, MayHave, named}
@@ -36,6 +36,9 @@ said_alike frames m os a name =
 
 pub none_said : (frames : List Frame) (m : NameMap Override) → pairs m ≡ [] → AreSaid frames m []
 none_said frames m e = record { all = []; first = record { each = λ name. ap (value_at name) e }; are = refl }
+
+pub none_distinct : (m : NameMap Override) → pairs m ≡ [] → AreDistinct (pairs m)
+none_distinct m e = subst AreDistinct (sym e) tt
 
 pub same_said : (frames : List Frame) (m : NameMap Override) (os qs : List spec.Override) → os ≡ qs → AreSaid frames m os → AreSaid frames m qs
 same_said frames m os qs e a = subst (AreSaid frames m) e a

@@ -36,10 +36,10 @@ other_pieces source around (tree.GenerateCase place subject arms other) made o =
 
 -- ---- lists that are alike
 
-heads : {A : Type 0} (a b : A) (cs bs : List A) → (let x : List A = a ∷ cs in x) ≡ b ∷ bs → a ≡ b
+pub heads : {A : Type 0} (a b : A) (cs bs : List A) → (let x : List A = a ∷ cs in x) ≡ b ∷ bs → a ≡ b
 heads a b cs bs h = cc
 
-tails : {A : Type 0} (a b : A) (cs bs : List A) → (let x : List A = a ∷ cs in x) ≡ b ∷ bs → cs ≡ bs
+pub tails : {A : Type 0} (a b : A) (cs bs : List A) → (let x : List A = a ∷ cs in x) ≡ b ∷ bs → cs ≡ bs
 tails a b cs bs h = cc
 
 pub alike_at : {A B C : Type 0} (f : A → C) (g : B → C) (d : B) (xs : List A) (ys : List B) (i : ℕ) (x : A) → map f xs ≡ map g ys → i < length xs → x ≡ get_or xs i x → f x ≡ g (get_or ys i d)

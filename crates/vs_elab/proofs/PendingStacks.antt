@@ -10,7 +10,7 @@ use Rattle.vs_elab.specs.Stacks as stacks
 use Rattle.vs_elab.specs.Pending.{part_pieces, parts_pieces, scope_around, pending_pieces, stack_pieces}
 use Rattle.vs_elab.proofs.PendingParts.{part_more}
 
-stack_behind : (source : tree.Source) (frames : List Frame) (ps : List Pending) (p : Pending) → stack_pieces source frames (ps ++ p ∷ []) ≡ pending_pieces source frames p ++ stack_pieces source frames ps
+pub stack_behind : (source : tree.Source) (frames : List Frame) (ps : List Pending) (p : Pending) → stack_pieces source frames (ps ++ p ∷ []) ≡ pending_pieces source frames p ++ stack_pieces source frames ps
 stack_behind source frames ps p = ap (flat_map (pending_pieces source frames)) (reverse-append ps (p ∷ []))
 
 -- a part goes from the end of the parts to the stack

@@ -11,7 +11,7 @@ use Rattle.vs_hierarchy.specs.Limits.{Limits}
 use Rattle.vs_hierarchy.specs.Pieces.{Task, is_instance, Connection, Piece, Own, Instance, Within}
 use Rattle.vs_hierarchy.specs.Surveys.{Totals, Survey, survey}
 use Rattle.vs_hierarchy.specs.Elaborated.{both_designs, of_processes, then_do, unless_fault, port_assign, Read, ReadPieces, read_piece, read_pieces, counted, limit_faults, scope_design, read_scope}
-use Rattle.vs_elab.specs.Stacks.{Pending, pending, rest_of, built_then}
+use Rattle.vs_elab.specs.Stacks.{Pending, pending, rest_of, built_then, scope_part, ports_part}
 
 -- ---- designs one after the other
 
@@ -118,13 +118,6 @@ within_fails limits source built left k ps t e h = ap (λ (q : Result Read Fault
 pub instance_fails : (limits : Limits) (source : Source) (built : Design) (left : ℕ) (cs : List Connection) (k : Task) (ps : List Pending) (t : Totals) (e : Fault)
     → read_scope left limits source k t ≡ Err e → built_then built (rest_of limits source (pending left (Instance cs k) ∷ ps) t) ≡ Err e
 instance_fails limits source built left cs k ps t e h = ap (λ (q : Result Read Fault). built_then built (and_rest limits source ps (instance_read k cs q))) h
-
--- a scope is its own part, and then its pieces
-abbrev pub scope_part : Task → Survey → Design
-scope_part k s = record { scopes = record { name = k.name; parent = k.parent; instance = is_instance k.contents } ∷ []; signals = s.signals; processes = [] }
-
-abbrev pub ports_part : Task → Survey → List Connection → Design
-ports_part k s cs = of_processes (map (port_assign k.place s.entries) cs)
 
 abbrev scope_then : Task → Survey → Result ReadPieces Fault → Result Read Fault
 scope_then k s q = then_do q λ r. Ok (record { entries = s.entries; design = scope_design k s r.design; totals = r.totals })

@@ -12,7 +12,7 @@ use Rattle.vs_build.proofs.Wider.{IsWider}
 use Rattle.vs_elab.specs.declared.connections.Connection.{Connection}
 use Rattle.vs_elab.specs.Wiring.{IsWirable}
 
-signal_wider : (c d : Design) → IsWider c d → (needed : Bool) (s : SignalMeaning) → IsSoundSignal c needed s → IsSoundSignal d needed s
+pub signal_wider : (c d : Design) → IsWider c d → (needed : Bool) (s : SignalMeaning) → IsSoundSignal c needed s → IsSoundSignal d needed s
 signal_wider c d w true s h = h
 signal_wider c d w false s h = (w.signals s.signal h.0, h.1, h.2)
 

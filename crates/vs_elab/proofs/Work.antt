@@ -9,32 +9,8 @@ use Rattle.vs_hierarchy.specs.Limits.{Limits}
 use Rattle.vs_hierarchy.specs.Pieces.{Task, Connection, Piece, Own, Instance, Within}
 use Rattle.vs_hierarchy.specs.Surveys.{Totals, Survey, survey}
 use Rattle.vs_hierarchy.specs.Elaborated.{both_designs, then_do, Read, ReadPieces, read_piece, read_pieces, counted, limit_faults, scope_design, read_scope}
-use Rattle.vs_elab.specs.Stacks.{Pending, pending, read_pending}
+use Rattle.vs_elab.specs.Stacks.{Pending, pending, after, piece_work, pieces_work, scope_work, work}
 use Rattle.vs_elab.proofs.Stacks.{within_read, instance_read, fair}
-
-abbrev after : Result ReadPieces Fault → (Totals → ℕ) → ℕ
-after (Err e) f = 0
-after (Ok a) f = f a.totals
-
-abbrev piece_work : (Task → Totals → ℕ) → Piece → Totals → ℕ
-piece_work f (Own p) t = 0
-piece_work f (Instance cs k) t = f k t
-piece_work f (Within k) t = f k t
-
-abbrev pieces_work : (Task → Totals → Result Read Fault) → (Task → Totals → ℕ) → List Piece → Totals → ℕ
-pieces_work read f [] t = 0
-pieces_work read f (p ∷ ps) t = suc (piece_work f p t + after (read_piece read p t) (λ u. pieces_work read f ps u))
-
--- of a scope
-abbrev scope_work : ℕ → Limits → Source → Task → Totals → ℕ
-scope_work zero limits source k t = 0
-scope_work (suc left) limits source k t =
-    pieces_work (read_scope left limits source) (scope_work left limits source) (survey limits source k (counted k t)).pieces (survey limits source k (counted k t)).totals
-
--- of all that is pending
-abbrev pub work : Limits → Source → List Pending → Totals → ℕ
-work limits source [] t = 0
-work limits source (p ∷ ps) t = suc (piece_work (scope_work p.left limits source) p.piece t + after (read_pending limits source p t) (λ u. work limits source ps u))
 
 work_append : (limits : Limits) (source : Source) (left : ℕ) (qs : List Piece) (ps : List Pending) (t : Totals)
     → work limits source (map (pending left) qs ++ ps) t

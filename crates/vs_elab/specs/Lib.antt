@@ -20,3 +20,7 @@ pub mod Instances
 pub mod Items
 pub mod Stated
 pub mod StatementFaults
+pub mod Fine
+pub mod OwnParts
+pub mod Reading
+pub mod Answers

@@ -1,11 +1,15 @@
 //! What the ports of an instance are connected to (IEEE 1364-2005, 12.3.5 and 12.3.6).
 
-ghost use Rattle.std.specs.Prelude.{◌≡◌, ◌++◌, [], List, Some, IfOk, OnOk, map, option_map};
+ghost use Rattle.std.specs.Prelude.{◌≡◌, ◌≤◌, ◌++◌, [], List, Some, IfOk, OnOk, map, option_map};
 ghost use Rattle.vs_grammar.specs.Trees as tree;
+ghost use Rattle.vs_grammar.specs.Shapes.{AreConnections, Each};
+ghost use Rattle.vs_grammar.specs.Depths.{connections_depth};
+ghost use Rattle.vs_grammar.specs.Spelled.{depth_limit};
 ghost use Rattle.vs_ast.specs.Views as view;
 ghost use Rattle.vs_hierarchy.specs.Environments.{Env};
 ghost use Rattle.vs_hierarchy.specs.Instances.{connected, connected_by_name, connected_by_order, in_port_order, said_connections};
 ghost use Rattle.vs_hierarchy.specs.Ports as spec;
+ghost use Rattle.vs_elab.specs.Fine.{AreFineOrdered, IsFineConnected, IsFineNamed, IsFineValue};
 ghost use Rattle.vs_elab.specs.Connections.{AreApart, AreNamed, connected_at, said};
 ghost use Rattle.vs_scope.specs.MapViews.{pairs};
 ghost use Rattle.vs_elab.specs.Interfaces.{IsInterface};
@@ -33,7 +37,9 @@ fn push_connection<'a>(
     port: Option<Port<'a>>,
     value: &'a Option<Expr>,
 ) -> Result<(), AllocError>
-    ensures { (env : Env) → OnOk result (said env list.new.items ≡ said env list.old.items ++ (connected (option_map port_of port.entry) (view.option view.expr value.now) env).connections) }
+    ensures said { (env : Env) → OnOk result (said env list.new.items ≡ said env list.old.items ++ (connected (option_map port_of port.entry) (view.option view.expr value.now) env).connections) }
+    ensures fine { (env : Env) → IsFineValue env (option_map port_of port.entry) (view.option view.expr value.now)
+        → Each (IsFineConnected env) list.old.items → OnOk result (Each (IsFineConnected env) list.new.items) }
 {
     if let Some(
         Port {
@@ -55,8 +61,10 @@ pub(crate) fn by_order<'a>(
     ports: &Ports<'a>,
     parts: &'a [Option<Expr>],
 ) -> Result<Vec<Connection<'a>>, AllocError>
-    ensures { (ps : List spec.Port) (env : Env) → ArePorts ports.now ps
+    ensures said { (ps : List spec.Port) (env : Env) → ArePorts ports.now ps
         → IfOk result (λ v. said env v.items ≡ (connected_by_order ps 0 (map (view.option view.expr) parts.now) env).connections) }
+    ensures fine { (ps : List spec.Port) (env : Env) → ArePorts ports.now ps → AreFineOrdered ps 0 env (map (view.option view.expr) parts.now)
+        → IfOk result (λ v. Each (IsFineConnected env) v.items) }
 {
     let mut list = Vec::new(alloc);
     for n in 0..parts.len() {
@@ -86,8 +94,10 @@ fn push_named<'a>(
     name: &'a [u8],
     names: &NameMap<'a, &'a Option<Expr>>,
 ) -> Result<(), AllocError>
-    ensures { (ps : List spec.Port) (cs : List tree.NamedConnection) (env : Env) → ArePorts ports.now ps → AreNamed (pairs names.now) cs
+    ensures said { (ps : List spec.Port) (cs : List tree.NamedConnection) (env : Env) → ArePorts ports.now ps → AreNamed (pairs names.now) cs
         → OnOk result (said env list.new.items ≡ said env list.old.items ++ connected_at ps cs env name.now) }
+    ensures fine { (ps : List spec.Port) (cs : List tree.NamedConnection) (env : Env) → ArePorts ports.now ps → AreNamed (pairs names.now) cs
+        → Each (IsFineNamed ps env) cs → Each (IsFineConnected env) list.old.items → OnOk result (Each (IsFineConnected env) list.new.items) }
 {
     match names.get(name) {
         None => Ok(()),
@@ -101,8 +111,10 @@ pub(crate) fn by_name<'a>(
     ports: &Ports<'a>,
     parts: &'a [NamedConnection],
 ) -> Result<Vec<Connection<'a>>, AllocError>
-    ensures { (ps : List spec.Port) (env : Env) → ArePorts ports.now ps → AreApart (map view.named_connection parts.now)
+    ensures said { (ps : List spec.Port) (env : Env) → ArePorts ports.now ps → AreApart (map view.named_connection parts.now)
         → IfOk result (λ v. said env v.items ≡ in_port_order ps (connected_by_name ps (map view.named_connection parts.now) env).connections) }
+    ensures fine { (ps : List spec.Port) (env : Env) → ArePorts ports.now ps → Each (IsFineNamed ps env) (map view.named_connection parts.now)
+        → IfOk result (λ v. Each (IsFineConnected env) v.items) }
 {
     let names = by_first_name(alloc, parts)?;
     let mut list = Vec::new(alloc);
@@ -118,8 +130,11 @@ pub(crate) fn connections_of<'a>(
     seen: &Interface<'a>,
     connections: &'a Connections,
 ) -> Result<Vec<Connection<'a>>, AllocError>
-    ensures { (m : tree.Module) (name : tree.Name) (env : Env) → IsInterface seen.now m → (said_connections (Some m) name (view.connections connections.now) env).faults ≡ []
+    ensures said { (m : tree.Module) (name : tree.Name) (env : Env) → IsInterface seen.now m → (said_connections (Some m) name (view.connections connections.now) env).faults ≡ []
         → IfOk result (λ v. said env v.items ≡ (said_connections (Some m) name (view.connections connections.now) env).connections) }
+    ensures fine { (m : tree.Module) (name : tree.Name) (env : Env) → IsInterface seen.now m → AreConnections (view.connections connections.now)
+        → connections_depth (view.connections connections.now) ≤ depth_limit → (said_connections (Some m) name (view.connections connections.now) env).faults ≡ []
+        → IfOk result (λ v. Each (IsFineConnected env) v.items) }
 {
     match connections {
         Connections::Unconnected => Ok(Vec::new(alloc)),

@@ -9,6 +9,8 @@ ghost use Rattle.vs_hierarchy.specs.Environments.{Env};
 ghost use Rattle.vs_hierarchy.specs.Instances as instances;
 ghost use Rattle.vs_hierarchy.specs.Parameters as spec;
 ghost use Rattle.vs_scope.specs.Frames.{env_at, envs};
+ghost use Rattle.vs_scope.specs.Maps.{AreDistinct};
+ghost use Rattle.vs_scope.specs.MapViews.{pairs};
 ghost use Rattle.vs_scope.specs.Overrides.{AreOverrides, overrides_of};
 ghost use Rattle.vs_scope.specs.declared.frames.Frame.{Frame};
 ghost use Rattle.vs_elab.specs.Interfaces.{IsInterface};
@@ -31,6 +33,7 @@ fn note_override<'a>(
     ensures said { (frames : List Frame) (os : List spec.Override) → AreSaid frames overrides.old os
         → OnOk result (AreSaid frames overrides.new (os ++ one_override (option_map name_bytes name.entry) (view.option view.expr value.now) (env_at (envs frames) (Some frame)))) }
     ensures fine { (frames : List Frame) → AreOverrides frames overrides.old → Given IsExpr (view.option view.expr value.now) → frame < length frames → OnOk result (AreOverrides frames overrides.new) }
+    ensures distinct { AreDistinct (pairs overrides.old) → OnOk result (AreDistinct (pairs overrides.new)) }
 {
     match name {
         None => Ok(()),
@@ -54,6 +57,7 @@ fn by_order<'a>(
     requires { Each (Given IsExpr) (map (view.option view.expr) parts.now) }
     ensures alike { (frames : List Frame) → IfOk result (λ m. AreAlike (overrides_of frames m) (instances.overrides_by_order (map name_bytes parameters.now) 0 (map (view.option view.expr) parts.now) (env_at (envs frames) (Some frame))).overrides) }
     ensures fine { (frames : List Frame) → frame < length frames → IfOk result (AreOverrides frames) }
+    ensures distinct { IfOk result (λ o. AreDistinct (pairs o)) }
 {
     let mut overrides = NameMap::new(alloc);
     for n in 0..parts.len() {
@@ -71,6 +75,7 @@ fn by_name<'a>(
     requires { Each IsConnection (map view.named_connection parts.now) }
     ensures alike { (frames : List Frame) → IfOk result (λ m. AreAlike (overrides_of frames m) (instances.overrides_by_name (map view.named_connection parts.now) (env_at (envs frames) (Some frame))).overrides) }
     ensures fine { (frames : List Frame) → frame < length frames → IfOk result (AreOverrides frames) }
+    ensures distinct { IfOk result (λ o. AreDistinct (pairs o)) }
 {
     let mut overrides = NameMap::new(alloc);
     for part in parts {
@@ -91,6 +96,7 @@ pub(crate) fn overriding<'a>(
     ensures alike { (m : tree.Module) (of : tree.Name) (frames : List Frame) → IsInterface seen.now m
         → IfOk result (λ o. AreAlike (overrides_of frames o) (instances.said_overrides of (Some m) (view.connections overrides.now) (env_at (envs frames) (Some frame))).overrides) }
     ensures fine { (frames : List Frame) → frame < length frames → IfOk result (AreOverrides frames) }
+    ensures distinct { IfOk result (λ o. AreDistinct (pairs o)) }
 {
     match overrides {
         Connections::Unconnected => Ok(NameMap::new(alloc)),

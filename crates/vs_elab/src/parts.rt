@@ -2,12 +2,15 @@
 
 ghost use Rattle.std.specs.Prelude.{◌≡◌, ◌++◌, ◌∷◌, [], List, IfOk, OnOk, length, map};
 ghost use Rattle.vs_grammar.specs.Trees as tree;
+ghost use Rattle.vs_grammar.specs.Shapes.{Each};
 ghost use Rattle.vs_ast.specs.Views as view;
+ghost use Rattle.vs_hierarchy.specs.Environments.{Env};
 ghost use Rattle.vs_hierarchy.specs.Generate as generate;
 ghost use Rattle.vs_hierarchy.specs.Instances.{Around};
 ghost use Rattle.vs_hierarchy.specs.Surveys.{item_said, items_said, nested_piece};
 ghost use Rattle.vs_scope.specs.Contents.{block_items, contents_items};
 ghost use Rattle.vs_scope.specs.Made as code;
+ghost use Rattle.vs_elab.specs.Fine.{AreFineInside, AreFineItems, AreFineParts, IsFineItem};
 ghost use Rattle.vs_elab.specs.Pending.{parts_pieces};
 
 use crate::pending::{Part, push_assigns, push_instances, push_wires};
@@ -21,8 +24,9 @@ fn push_blocks<'a>(
     alloc: Global,
     blocks: &[Nested<'a>],
 ) -> Result<(), AllocError>
-    ensures { (source : tree.Source) (around : Around)
+    ensures pieces { (source : tree.Source) (around : Around)
         → OnOk result (parts_pieces source around parts.new.items ≡ parts_pieces source around parts.old.items ++ map (nested_piece around) (map code.nested blocks.now)) }
+    ensures fine { (source : tree.Source) (env : Env) → Each (λ (b : generate.Nested). AreFineInside b.items) (map code.nested blocks.now) → AreFineParts source env parts.old.items → OnOk result (AreFineParts source env parts.new.items) }
 {
     for b in blocks {
         let name = b.name.to_vec(alloc)?;
@@ -42,8 +46,10 @@ fn push_item<'a>(
     item: &'a Item,
     made: &Made<'a>,
 ) -> Result<(), AllocError>
-    ensures { (source : tree.Source) (around : Around) (m : generate.Made) → code.made made.now ≡ code.kept m
+    ensures pieces { (source : tree.Source) (around : Around) (m : generate.Made) → code.made made.now ≡ code.kept m
         → OnOk result (parts_pieces source around parts.new.items ≡ parts_pieces source around parts.old.items ++ (item_said source around (view.item item.now) m).pieces) }
+    ensures fine { (source : tree.Source) (around : Around) (m : generate.Made) → code.made made.now ≡ code.kept m
+        → IsFineItem source around (view.item item.now) m → AreFineParts source around.env parts.old.items → OnOk result (AreFineParts source around.env parts.new.items) }
 {
     match item {
         Item::Signals(s) => push_wires(parts, s.place, &s.names),
@@ -65,8 +71,10 @@ fn push_items<'a>(
     made: &[Made<'a>],
 ) -> Result<(), AllocError>
     requires { length made.now ≡ length items.now }
-    ensures { (source : tree.Source) (around : Around) (ms : List generate.Made) → map code.made made.now ≡ map code.kept ms
+    ensures pieces { (source : tree.Source) (around : Around) (ms : List generate.Made) → map code.made made.now ≡ map code.kept ms
         → OnOk result (parts_pieces source around parts.new.items ≡ parts_pieces source around parts.old.items ++ (items_said source around (map view.item items.now) ms).pieces) }
+    ensures fine { (source : tree.Source) (around : Around) (ms : List generate.Made) → map code.made made.now ≡ map code.kept ms
+        → AreFineItems source around (map view.item items.now) ms → AreFineParts source around.env parts.old.items → OnOk result (AreFineParts source around.env parts.new.items) }
 {
     for i in 0..items.len() {
         push_item(parts, alloc, &items[i], &made[i])?;
@@ -82,8 +90,10 @@ fn push_one<'a>(
     made: &[Made<'a>],
 ) -> Result<(), AllocError>
     requires { length made.now ≡ 1 }
-    ensures { (source : tree.Source) (around : Around) (ms : List generate.Made) → map code.made made.now ≡ map code.kept ms
+    ensures pieces { (source : tree.Source) (around : Around) (ms : List generate.Made) → map code.made made.now ≡ map code.kept ms
         → OnOk result (parts_pieces source around parts.new.items ≡ parts_pieces source around parts.old.items ++ (items_said source around (view.item item.now ∷ []) ms).pieces) }
+    ensures fine { (source : tree.Source) (around : Around) (ms : List generate.Made) → map code.made made.now ≡ map code.kept ms
+        → AreFineItems source around (view.item item.now ∷ []) ms → AreFineParts source around.env parts.old.items → OnOk result (AreFineParts source around.env parts.new.items) }
 {
     push_item(parts, alloc, item, &made[0])
 }
@@ -96,8 +106,10 @@ fn push_block<'a>(
     made: &[Made<'a>],
 ) -> Result<(), AllocError>
     requires { length made.now ≡ length (block_items block) }
-    ensures { (source : tree.Source) (around : Around) (ms : List generate.Made) → map code.made made.now ≡ map code.kept ms
+    ensures pieces { (source : tree.Source) (around : Around) (ms : List generate.Made) → map code.made made.now ≡ map code.kept ms
         → OnOk result (parts_pieces source around parts.new.items ≡ parts_pieces source around parts.old.items ++ (items_said source around (block_items block.entry) ms).pieces) }
+    ensures fine { (source : tree.Source) (around : Around) (ms : List generate.Made) → map code.made made.now ≡ map code.kept ms
+        → AreFineItems source around (block_items block.entry) ms → AreFineParts source around.env parts.old.items → OnOk result (AreFineParts source around.env parts.new.items) }
 {
     match block {
         BlockItems::One(item) => push_one(parts, alloc, item, made),
@@ -113,8 +125,10 @@ fn push_contents<'a>(
     made: &[Made<'a>],
 ) -> Result<(), AllocError>
     requires { length made.now ≡ length (contents_items contents) }
-    ensures { (source : tree.Source) (around : Around) (ms : List generate.Made) → map code.made made.now ≡ map code.kept ms
+    ensures pieces { (source : tree.Source) (around : Around) (ms : List generate.Made) → map code.made made.now ≡ map code.kept ms
         → OnOk result (parts_pieces source around parts.new.items ≡ parts_pieces source around parts.old.items ++ (items_said source around (contents_items contents.entry) ms).pieces) }
+    ensures fine { (source : tree.Source) (around : Around) (ms : List generate.Made) → map code.made made.now ≡ map code.kept ms
+        → AreFineItems source around (contents_items contents.entry) ms → AreFineParts source around.env parts.old.items → OnOk result (AreFineParts source around.env parts.new.items) }
 {
     match contents {
         Contents::Module(m) => push_items(parts, alloc, &m.items, made),
@@ -129,8 +143,10 @@ pub(crate) fn parts_of<'a>(
     made: &[Made<'a>],
 ) -> Result<Vec<Part<'a>>, AllocError>
     requires { length made.now ≡ length (contents_items contents) }
-    ensures { (source : tree.Source) (around : Around) (ms : List generate.Made) → map code.made made.now ≡ map code.kept ms
+    ensures pieces { (source : tree.Source) (around : Around) (ms : List generate.Made) → map code.made made.now ≡ map code.kept ms
         → IfOk result (λ ps. parts_pieces source around ps.items ≡ (items_said source around (contents_items contents.entry) ms).pieces) }
+    ensures fine { (source : tree.Source) (around : Around) (ms : List generate.Made) → map code.made made.now ≡ map code.kept ms
+        → AreFineItems source around (contents_items contents.entry) ms → IfOk result (λ ps. AreFineParts source around.env ps.items) }
 {
     let mut parts = Vec::new(alloc);
     push_contents(&mut parts, alloc, contents, made)?;

@@ -2,11 +2,14 @@
 
 ghost use Rattle.std.specs.Prelude.{◌≡◌, ◌++◌, OnOk, map};
 ghost use Rattle.vs_grammar.specs.Trees as tree;
+ghost use Rattle.vs_grammar.specs.Shapes.{Each};
 ghost use Rattle.vs_ast.specs.Views as view;
+ghost use Rattle.vs_hierarchy.specs.Environments.{Env};
 ghost use Rattle.vs_hierarchy.specs.Pieces.{all_said};
 ghost use Rattle.vs_hierarchy.specs.Surveys as survey;
 ghost use Rattle.vs_hierarchy.specs.Instances as spec;
 ghost use Rattle.vs_elab.specs.Pending.{parts_pieces};
+ghost use Rattle.vs_elab.specs.Fine.{AreFineParts, IsFineAssign, IsFineInstance, IsFineWire};
 
 use std::alloc::AllocError;
 use vs_ast::{AlwaysBlock, Assign, Declarator, Expr, Instance, Instances, Name};
@@ -42,8 +45,9 @@ pub(crate) enum Part<'a> {
 
 /// Adds the part of a declared name, if it has a value.
 fn push_wire<'a>(parts: &mut Vec<Part<'a>>, place: u32, d: &'a Declarator) -> Result<(), AllocError>
-    ensures { (source : tree.Source) (around : spec.Around)
+    ensures pieces { (source : tree.Source) (around : spec.Around)
         → OnOk result (parts_pieces source around parts.new.items ≡ parts_pieces source around parts.old.items ++ (survey.wire_said around.env place (view.declarator d.now)).pieces) }
+    ensures fine { (source : tree.Source) (env : Env) → IsFineWire env (view.declarator d.now) → AreFineParts source env parts.old.items → OnOk result (AreFineParts source env parts.new.items) }
 {
     match &d.value {
         None => Ok(()),
@@ -64,8 +68,9 @@ pub(crate) fn push_wires<'a>(
     place: u32,
     names: &'a [Declarator],
 ) -> Result<(), AllocError>
-    ensures { (source : tree.Source) (around : spec.Around)
+    ensures pieces { (source : tree.Source) (around : spec.Around)
         → OnOk result (parts_pieces source around parts.new.items ≡ parts_pieces source around parts.old.items ++ (all_said (survey.wire_said around.env place) (map view.declarator names.now)).pieces) }
+    ensures fine { (source : tree.Source) (env : Env) → Each (IsFineWire env) (map view.declarator names.now) → AreFineParts source env parts.old.items → OnOk result (AreFineParts source env parts.new.items) }
 {
     for d in names {
         push_wire(parts, place, d)?;
@@ -79,8 +84,9 @@ pub(crate) fn push_assigns<'a>(
     place: u32,
     assigns: &'a [Assign],
 ) -> Result<(), AllocError>
-    ensures { (source : tree.Source) (around : spec.Around)
+    ensures pieces { (source : tree.Source) (around : spec.Around)
         → OnOk result (parts_pieces source around parts.new.items ≡ parts_pieces source around parts.old.items ++ (all_said (survey.assign_said around.env place) (map view.assign assigns.now)).pieces) }
+    ensures fine { (source : tree.Source) (env : Env) → Each (IsFineAssign env) (map view.assign assigns.now) → AreFineParts source env parts.old.items → OnOk result (AreFineParts source env parts.new.items) }
 {
     for assign in assigns {
         parts.push(Part::Assigned { place, assign })?;
@@ -93,8 +99,9 @@ pub(crate) fn push_instances<'a>(
     parts: &mut Vec<Part<'a>>,
     item: &'a Instances,
 ) -> Result<(), AllocError>
-    ensures { (source : tree.Source) (around : spec.Around)
+    ensures pieces { (source : tree.Source) (around : spec.Around)
         → OnOk result (parts_pieces source around parts.new.items ≡ parts_pieces source around parts.old.items ++ (spec.instances_said source around (view.instances item.now)).pieces) }
+    ensures fine { (source : tree.Source) (env : Env) → Each (IsFineInstance source env (view.instances item.now)) (view.instances item.now).instances → AreFineParts source env parts.old.items → OnOk result (AreFineParts source env parts.new.items) }
 {
     for instance in &item.instances {
         parts.push(Part::Instance { item, instance })?;

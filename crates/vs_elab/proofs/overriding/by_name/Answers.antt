@@ -8,13 +8,14 @@ use Rattle.vs_scope.specs.Frames.{env_at, envs}
 use Rattle.vs_elab.specs.Overriding.{one_override}
 use Rattle.vs_elab.proofs.FaultLists.{each_at}
 use Rattle.vs_elab.proofs.Repeats.{one_more}
-use Rattle.vs_elab.proofs.OverridingSteps.{none_said, none_fine, same_said, said_alike, names_more}
+use Rattle.vs_elab.proofs.OverridingSteps.{none_said, none_fine, none_distinct, same_said, said_alike, names_more}
 use Rattle.vs_elab.proofs.overriding.by_name.Goals as goal
 
 pub loop-part-init : goal.loop-part-init
 loop-part-init c = record {
   said = λ frames. none_said frames c.new-overrides.result c.new-overrides.ensures;
   fine = λ frames h. none_fine frames c.new-overrides.result c.new-overrides.ensures;
+  distinct = none_distinct c.new-overrides.result c.new-overrides.ensures;
 }
 
 pub loop-part-preserved : goal.loop-part-preserved
@@ -31,6 +32,7 @@ loop-part-preserved c = record {
   fine = λ frames h.
       c.in_ok-note_override.ensures.fine frames (c.loop-part.invariant.fine frames h)
       (each_at IsConnection view.named_connection c.args.parts.now c.loop-part.part-index c.part-item.result c.loop-part-test.true c.part-item.is c.requires).1 h;
+  distinct = c.in_ok-note_override.ensures.distinct c.loop-part.invariant.distinct;
 }
 
 pub returns-clause-alike : goal.returns-clause-alike

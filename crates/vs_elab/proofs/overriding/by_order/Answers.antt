@@ -7,13 +7,14 @@ use Rattle.vs_elab.specs.Ports.{name_bytes}
 use Rattle.vs_elab.specs.Overriding.{one_override}
 use Rattle.vs_elab.proofs.ConnectionSteps.{got_at}
 use Rattle.vs_elab.proofs.FaultLists.{each_at}
-use Rattle.vs_elab.proofs.OverridingSteps.{none_said, none_fine, said_alike, order_more, order_end}
+use Rattle.vs_elab.proofs.OverridingSteps.{none_said, none_fine, none_distinct, said_alike, order_more, order_end}
 use Rattle.vs_elab.proofs.overriding.by_order.Goals as goal
 
 pub loop-n-init : goal.loop-n-init
 loop-n-init c = record {
   said = λ frames. ([], none_said frames c.new-overrides.result c.new-overrides.ensures, refl);
   fine = λ frames h. none_fine frames c.new-overrides.result c.new-overrides.ensures;
+  distinct = none_distinct c.new-overrides.result c.new-overrides.ensures;
 }
 
 pub loop-n-preserved : goal.loop-n-preserved
@@ -32,6 +33,7 @@ loop-n-preserved c = record {
   fine = λ frames h.
       c.in_ok-note_override.ensures.fine frames (c.loop-n.invariant.fine frames h)
       (each_at (Given IsExpr) (view.option view.expr) c.args.parts.now c.loop-n.n c.index-parts-n.result c.loop-n-test.true c.index-parts-n.is c.requires) h;
+  distinct = c.in_ok-note_override.ensures.distinct c.loop-n.invariant.distinct;
 }
 
 pub returns-clause-alike : goal.returns-clause-alike

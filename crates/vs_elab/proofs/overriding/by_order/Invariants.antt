@@ -3,6 +3,8 @@ use Rattle.vs_ast.specs.Views as view
 use Rattle.vs_hierarchy.specs.Instances.{overrides_by_order}
 use Rattle.vs_hierarchy.specs.Parameters as spec
 use Rattle.vs_scope.specs.Frames.{env_at, envs}
+use Rattle.vs_scope.specs.Maps.{AreDistinct}
+use Rattle.vs_scope.specs.MapViews.{pairs}
 use Rattle.vs_scope.specs.Overrides.{AreOverrides}
 use Rattle.vs_scope.specs.declared.frames.Frame.{Frame}
 use Rattle.vs_elab.specs.Overriding.{AreSaid}
@@ -16,4 +18,5 @@ invariant-loop-n l = record {
       × (done ++ (overrides_by_order (map name_bytes l.parameters) l.n (map (view.option view.expr) (drop l.n l.parts)) (env_at (envs frames) (Some l.frame))).overrides
       ≡ (overrides_by_order (map name_bytes l.parameters) 0 (map (view.option view.expr) l.parts) (env_at (envs frames) (Some l.frame))).overrides);
   fine : (frames : List Frame) → l.frame < length frames → AreOverrides frames l.overrides;
+  distinct : AreDistinct (pairs l.overrides);
 }

@@ -1,12 +1,18 @@
 use Rattle.std.proofs.Common.{◌≡◌, ◌++◌, map, take}
 use Rattle.vs_grammar.specs.Trees as tree
+use Rattle.vs_grammar.specs.Shapes.{Each}
+use Rattle.vs_hierarchy.specs.Environments.{Env}
+use Rattle.vs_hierarchy.specs.Generate.{Nested}
 use Rattle.vs_hierarchy.specs.Instances.{Around}
 use Rattle.vs_hierarchy.specs.Surveys.{nested_piece}
 use Rattle.vs_scope.specs.Made as code
+use Rattle.vs_elab.specs.Fine.{AreFineInside, AreFineParts}
 use Rattle.vs_elab.specs.Pending.{parts_pieces}
 use Rattle.vs_elab.proofs.parts.push_blocks.Given as goal
 
 -- the blocks before this one
 abbrev pub invariant-loop-b : goal.invariant-loop-b
-invariant-loop-b l =
-    (source : tree.Source) (around : Around) → parts_pieces source around l.parts.items ≡ parts_pieces source around l.fn.parts.items ++ map (nested_piece around) (map code.nested (take l.b-index l.blocks))
+invariant-loop-b l = record {
+  pieces : (source : tree.Source) (around : Around) → parts_pieces source around l.parts.items ≡ parts_pieces source around l.fn.parts.items ++ map (nested_piece around) (map code.nested (take l.b-index l.blocks));
+  fine : (source : tree.Source) (env : Env) → Each (λ (b : Nested). AreFineInside b.items) (map code.nested l.blocks) → AreFineParts source env l.fn.parts.items → AreFineParts source env l.parts.items;
+}

@@ -5,11 +5,15 @@ use Rattle.vs_hierarchy.specs.Generate.{Made}
 use Rattle.vs_hierarchy.specs.Instances.{Around}
 use Rattle.vs_hierarchy.specs.Surveys.{items_said}
 use Rattle.vs_scope.specs.Made as code
+use Rattle.vs_elab.specs.Fine.{AreFineItems, AreFineParts}
 use Rattle.vs_elab.specs.Pending.{parts_pieces}
 use Rattle.vs_elab.proofs.parts.push_items.Given as goal
 
 -- the items before this one
 abbrev pub invariant-loop-i : goal.invariant-loop-i
-invariant-loop-i l =
-    (source : tree.Source) (around : Around) (ms : List Made) → map code.made l.made ≡ map code.kept ms
-    → parts_pieces source around l.parts.items ≡ parts_pieces source around l.fn.parts.items ++ (items_said source around (map view.item (take l.i l.items)) (take l.i ms)).pieces
+invariant-loop-i l = record {
+  pieces : (source : tree.Source) (around : Around) (ms : List Made) → map code.made l.made ≡ map code.kept ms
+      → parts_pieces source around l.parts.items ≡ parts_pieces source around l.fn.parts.items ++ (items_said source around (map view.item (take l.i l.items)) (take l.i ms)).pieces;
+  fine : (source : tree.Source) (around : Around) (ms : List Made) → map code.made l.made ≡ map code.kept ms
+      → AreFineItems source around (map view.item l.items) ms → AreFineParts source around.env l.fn.parts.items → AreFineParts source around.env l.parts.items;
+}

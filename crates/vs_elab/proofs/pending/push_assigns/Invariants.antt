@@ -1,13 +1,18 @@
 use Rattle.std.proofs.Common.{◌≡◌, ◌++◌, map, take}
 use Rattle.vs_grammar.specs.Trees as tree
+use Rattle.vs_grammar.specs.Shapes.{Each}
 use Rattle.vs_ast.specs.Views as view
+use Rattle.vs_hierarchy.specs.Environments.{Env}
 use Rattle.vs_hierarchy.specs.Pieces.{all_said}
 use Rattle.vs_hierarchy.specs.Instances.{Around}
 use Rattle.vs_hierarchy.specs.Surveys.{assign_said}
+use Rattle.vs_elab.specs.Fine.{IsFineAssign, AreFineParts}
 use Rattle.vs_elab.specs.Pending.{parts_pieces}
 use Rattle.vs_elab.proofs.pending.push_assigns.Given as goal
 
 -- the parts of those before this one
 abbrev pub invariant-loop-assign : goal.invariant-loop-assign
-invariant-loop-assign l =
-    (source : tree.Source) (around : Around) → parts_pieces source around l.parts.items ≡ parts_pieces source around l.fn.parts.items ++ (all_said (assign_said around.env l.place) (map view.assign (take l.assign-index l.assigns))).pieces
+invariant-loop-assign l = record {
+  pieces : (source : tree.Source) (around : Around) → parts_pieces source around l.parts.items ≡ parts_pieces source around l.fn.parts.items ++ (all_said (assign_said around.env l.place) (map view.assign (take l.assign-index l.assigns))).pieces;
+  fine : (source : tree.Source) (env : Env) → Each (IsFineAssign env) (map view.assign l.assigns) → AreFineParts source env l.fn.parts.items → AreFineParts source env l.parts.items;
+}

@@ -1,0 +1,96 @@
+-- What an item without a fault adds breaks no rule.
+use Rattle.std.proofs.Common.{◌≡◌, ◌≤◌, ◌<◌, ℕ, zero, suc, List, [], ◌∷◌, ◌++◌, length, get_or, map, Option, Some, None, refl, sym, subst, arith}
+use Rattle.vs_grammar.specs.Trees as tree
+use Rattle.vs_grammar.specs.Shapes.{Each, OneOrMore, IsDeclarator, IsAssign, IsInstance, AreInstances}
+use Rattle.vs_grammar.specs.Depths.{deepest, declarator_depth, assign_depth, instance_depth, instances_depth}
+use Rattle.vs_grammar.specs.Spelled.{depth_limit}
+use Rattle.vs_ast.specs.declared.items.Item.{Item}
+use Rattle.vs_ast.specs.Views as view
+use Rattle.vs_const.specs.declared.faults.Fault.{Fault}
+use Rattle.vs_const.specs.Faults.{fault}
+use Rattle.vs_const.proofs.Formed.{both_nil}
+use Rattle.vs_hierarchy.specs.Environments.{Env}
+use Rattle.vs_hierarchy.specs.Generate.{Made}
+use Rattle.vs_hierarchy.specs.Ports.{find_module}
+use Rattle.vs_hierarchy.specs.Pieces.{Said, all_said}
+use Rattle.vs_hierarchy.specs.Instances.{Around, said_overrides, instance_said, unknown_module}
+use Rattle.vs_hierarchy.specs.Surveys.{wire_said, assign_said, item_said, items_said}
+use Rattle.vs_elab.specs.Fine.{IsFineAssign, IsFineWire, IsFineBlock, IsFineInstance, IsFineItem, AreFineItems}
+use Rattle.vs_elab.proofs.ItemLists.{made_at}
+
+-- each of a list that says no fault
+all_fine : {A : Type 0} (said : A → Said) (shaped fine : A → Type 0) (depth : A → ℕ) → ((a : A) → shaped a → depth a ≤ depth_limit → (said a).faults ≡ [] → fine a)
+    → (xs : List A) → Each shaped xs → deepest depth xs ≤ depth_limit → (all_said said xs).faults ≡ [] → Each fine xs
+all_fine said shaped fine depth h [] s d c = tt
+all_fine said shaped fine depth h (x ∷ xs) s d c =
+    let both = both_nil (said x).faults (all_said said xs).faults c in
+    (h x s.0 (omega (arith, d)) both.0, all_fine said shaped fine depth h xs s.1 (omega (arith, d)) both.1)
+
+-- ---- declared names
+
+value_fine : (env : Env) (place : ℕ) (name : tree.Name) (v : Option tree.Expr)
+    → (let d : tree.Declarator = record { name = name; value = v } in IsDeclarator d → declarator_depth d ≤ depth_limit → (wire_said env place d).faults ≡ [] → IsFineWire env d)
+value_fine env place name None s h c = tt
+value_fine env place name (Some e) s h c = record { shaped = ((s.0, tt), s.1); clean = c; shallow = omega (arith, h) }
+
+wire_fine : (env : Env) (place : ℕ) (d : tree.Declarator) → IsDeclarator d → declarator_depth d ≤ depth_limit → (wire_said env place d).faults ≡ [] → IsFineWire env d
+wire_fine env place d s h c = value_fine env place d.name d.value s h c
+
+pub wires_fine : (source : tree.Source) (around : Around) (t : tree.Signals) (m : Made) → IsFineItem source around (tree.SignalsItem t) m → Each (IsFineWire around.env) t.names
+wires_fine source around t m f =
+    all_fine (wire_said around.env t.place) IsDeclarator (IsFineWire around.env) declarator_depth (wire_fine around.env t.place) t.names f.stated (omega (arith, f.shallow)) f.clean
+
+-- ---- assigns and always blocks
+
+pub assigns_fine : (source : tree.Source) (around : Around) (place : ℕ) (xs : List tree.Assign) (m : Made) → IsFineItem source around (tree.AssignsItem place xs) m → Each (IsFineAssign around.env) xs
+assigns_fine source around place xs m f =
+    all_fine (assign_said around.env place) IsAssign (IsFineAssign around.env) assign_depth (λ a s h c. record { shaped = s; clean = c; shallow = h }) xs f.stated f.shallow f.clean
+
+pub block_fine : (source : tree.Source) (around : Around) (b : tree.AlwaysBlock) (m : Made) → IsFineItem source around (tree.AlwaysItem b) m → IsFineBlock around.env b
+block_fine source around b m f = record { shaped = f.stated; clean = f.clean; shallow = f.shallow }
+
+-- ---- instances
+
+fault_some : (n place : ℕ) (fs : List Fault) → (let all : List Fault = fault n place ++ fs in all) ≡ [] → ⊥
+fault_some n place fs h = cc
+
+some_instances : (xs : List tree.Instance) → OneOrMore IsInstance xs → Each IsInstance xs
+some_instances [] h = tt
+some_instances (x ∷ xs) h = h
+
+instances_of : (source : tree.Source) (around : Around) (t : tree.Instances) (o : Option tree.Module) → find_module source t.of.bytes ≡ o → AreInstances t → instances_depth t ≤ depth_limit
+    → (unknown_module o t.of.place ++ (said_overrides t.of o t.overrides around.env).faults) ++ (all_said (instance_said around t.of.place o (said_overrides t.of o t.overrides around.env).overrides) t.instances).faults ≡ []
+    → Each (IsFineInstance source around.env t) t.instances
+instances_of source around t None found s h c =
+    absurd (fault_some 34 t.of.place (said_overrides t.of None t.overrides around.env).faults (both_nil (unknown_module None t.of.place ++ (said_overrides t.of None t.overrides around.env).faults) _ c).0)
+instances_of source around t (Some of) found s h c =
+    let both = both_nil (said_overrides t.of (Some of) t.overrides around.env).faults _ c in
+    all_fine (instance_said around t.of.place (Some of) (said_overrides t.of (Some of) t.overrides around.env).overrides) IsInstance (IsFineInstance source around.env t) instance_depth
+    (λ i r k n. record { of = of; found = found; overrides = s.overrides; connections = r.1; overridden = both.0; connected = n; shallow = k })
+    t.instances (some_instances t.instances s.instances) (omega (arith, h)) both.1
+
+pub instances_fine : (source : tree.Source) (around : Around) (t : tree.Instances) (m : Made) → IsFineItem source around (tree.InstancesItem t) m → Each (IsFineInstance source around.env t) t.instances
+instances_fine source around t m f = instances_of source around t (find_module source t.of.bytes) refl f.stated f.shallow f.clean
+
+-- ---- one of several items
+
+items_at : (source : tree.Source) (around : Around) (items : List Item) (made : List Made) (i : ℕ) (d : Item) → i < length items → length made ≡ length items
+    → AreFineItems source around (map view.item items) made → IsFineItem source around (view.item (get_or items i d)) (made_at made i)
+items_at source around [] made i d h same f = absurd (let no : ⊥ = omega (arith, h) in no)
+items_at source around (x ∷ items) [] i d h same f = absurd (let no : ⊥ = omega (arith, same) in no)
+items_at source around (x ∷ items) (m ∷ made) zero d h same f =
+    record { stated = f.stated.0; shallow = omega (arith, f.shallow); made = f.made.0; clean = (both_nil (item_said source around (view.item x) m).faults (items_said source around (map view.item items) made).faults f.clean).0 }
+items_at source around (x ∷ items) (m ∷ made) (suc i) d h same f =
+    items_at source around items made i d (omega (arith, h)) (omega (arith, same))
+    (record { stated = f.stated.1; shallow = omega (arith, f.shallow); made = f.made.1; clean = (both_nil (item_said source around (view.item x) m).faults (items_said source around (map view.item items) made).faults f.clean).1 })
+
+pub item_at : (source : tree.Source) (around : Around) (items : List Item) (made : List Made) (i : ℕ) (x : Item) → i < length items → x ≡ get_or items i x → length made ≡ length items
+    → AreFineItems source around (map view.item items) made → IsFineItem source around (view.item x) (made_at made i)
+item_at source around items made i x h e same f = subst (λ (y : Item). IsFineItem source around (view.item y) (made_at made i)) (sym e) (items_at source around items made i x h same f)
+
+-- the one item of a block
+pub one_fine : (source : tree.Source) (around : Around) (i : tree.Item) (made : List Made) → length made ≡ 1 → AreFineItems source around (i ∷ []) made → IsFineItem source around i (made_at made 0)
+one_fine source around i [] h f = absurd (let no : ⊥ = omega (arith, h) in no)
+one_fine source around i (m ∷ []) h f =
+    record { stated = f.stated.0; shallow = omega (arith, f.shallow); made = f.made.0; clean = (both_nil (item_said source around i m).faults [] f.clean).0 }
+one_fine source around i (m ∷ n ∷ ms) h f = absurd (let no : ⊥ = omega (arith, h) in no)

@@ -1,0 +1,108 @@
+-- Parts of a scope that break no rule, whatever the design that they are built in.
+use Rattle.std.specs.Prelude.{◌≡◌, ◌≤◌, ◌++◌, ℕ, suc, false, List, [], ◌∷◌, slice_get, Option, Some}
+use Rattle.vs_grammar.specs.Trees as tree
+use Rattle.vs_grammar.specs.Shapes.{Each, Given, IsExpr, IsAssign, IsStatement, AreConnections, IsGenerateItem}
+use Rattle.vs_grammar.specs.Depths.{deepest, option_depth, expr_depth, assign_depth, statement_depth, connections_depth, item_depth}
+use Rattle.vs_grammar.specs.Spelled.{depth_limit}
+use Rattle.vs_ast.specs.Views as view
+use Rattle.vs_const.specs.Expressions.{typed}
+use Rattle.vs_hierarchy.specs.Environments.{Env, named}
+use Rattle.vs_hierarchy.specs.Targets.{typed_target}
+use Rattle.vs_hierarchy.specs.Statements.{typed_control, typed_statement}
+use Rattle.vs_hierarchy.specs.Generate.{Nested, Made}
+use Rattle.vs_hierarchy.specs.Ports.{Port, find_port, find_module}
+use Rattle.vs_hierarchy.specs.Instances.{Around, directed, connected, said_overrides, said_connections}
+use Rattle.vs_hierarchy.specs.Surveys.{item_said, items_said}
+use Rattle.vs_build.specs.Writable.{wire_assign}
+use Rattle.vs_scope.specs.Contents.{block_items}
+use Rattle.vs_elab.specs.declared.connections.Connection.{Connection}
+use Rattle.vs_elab.specs.declared.pending.Part.{Part}
+use Rattle.vs_elab.specs.declared.pending.Part.TheVariants.{Wire, Assigned, Always, Instance, Block}
+use Rattle.vs_elab.specs.Stated.{IsStated, AreStated}
+
+-- ---- parts
+
+-- an assign (6.1)
+pub record IsFineAssign (env : Env) (a : tree.Assign) : Type 0 where
+  pub shaped : IsAssign a
+  pub clean : (typed_target a.target (named env) false).faults ++ (typed a.e (named env) false).faults ≡ []
+  pub shallow : assign_depth a ≤ depth_limit
+
+-- a declared name: the assign of its value, if it has one (6.1.1)
+abbrev pub IsFineWire : Env → tree.Declarator → Type 0
+IsFineWire env d = Given (λ (e : tree.Expr). IsFineAssign env (wire_assign d.name e)) d.value
+
+-- an always block (9.9.2)
+pub record IsFineBlock (env : Env) (b : tree.AlwaysBlock) : Type 0 where
+  pub shaped : IsStatement b.statement
+  pub clean : (typed_control b.control (named env)).faults ++ (typed_statement b.statement (named env)).faults ≡ []
+  pub shallow : statement_depth b.statement ≤ depth_limit
+
+-- an instance of an item, whose module the text has (12.1.2)
+pub record IsFineInstance (source : tree.Source) (env : Env) (t : tree.Instances) (i : tree.Instance) : Type 0 where
+  pub of : tree.Module
+  pub found : find_module source t.of.bytes ≡ Some of
+  pub overrides : AreConnections t.overrides
+  pub connections : AreConnections i.connections
+  pub overridden : (said_overrides t.of (Some of) t.overrides env).faults ≡ []
+  pub connected : (said_connections (Some of) i.name i.connections env).faults ≡ []
+  pub shallow : connections_depth i.connections ≤ depth_limit
+
+-- the items of a generate block (12.4)
+pub record AreFineInside (items : List tree.Item) : Type 0 where
+  pub shaped : Each IsGenerateItem items
+  pub shallow : deepest item_depth items ≤ depth_limit
+
+-- a part of a scope, where this stands around it
+abbrev pub IsFinePart : tree.Source → Env → Part → Type 0
+IsFinePart source env (Wire place name value) = IsFineAssign env (wire_assign (view.name name.now) (view.expr value.now))
+IsFinePart source env (Assigned place a) = IsFineAssign env (view.assign a.now)
+IsFinePart source env (Always b) = IsFineBlock env (view.always_block b.now)
+IsFinePart source env (Instance t i) = IsFineInstance source env (view.instances t.now) (view.instance i.now)
+IsFinePart source env (Block name items t) = AreFineInside (block_items items)
+
+abbrev pub AreFineParts : tree.Source → Env → List Part → Type 0
+AreFineParts source env ps = Each (IsFinePart source env) ps
+
+-- ---- items
+
+-- the blocks that an item makes
+abbrev pub MakesFine : Made → Type 0
+MakesFine m = Each (λ (b : Nested). AreFineInside b.items) m.blocks
+
+-- an item that makes this breaks no rule
+pub record IsFineItem (source : tree.Source) (around : Around) (item : tree.Item) (m : Made) : Type 0 where
+  pub stated : IsStated item
+  pub shallow : item_depth item ≤ depth_limit
+  pub made : MakesFine m
+  pub clean : (item_said source around item m).faults ≡ []
+
+-- items that make these break no rule
+pub record AreFineItems (source : tree.Source) (around : Around) (items : List tree.Item) (ms : List Made) : Type 0 where
+  pub stated : AreStated items
+  pub shallow : deepest item_depth items ≤ depth_limit
+  pub made : Each MakesFine ms
+  pub clean : (items_said source around items ms).faults ≡ []
+
+-- ---- connections
+
+-- a connection of a port, where the instance stands in this
+pub record IsFineConnected (env : Env) (c : Connection) : Type 0 where
+  pub shaped : IsExpr (view.expr c.e.now)
+  pub clean : (directed c.name.now (Some c.input) (view.expr c.e.now) env).faults ≡ []
+  pub shallow : expr_depth (view.expr c.e.now) ≤ depth_limit
+
+-- what stands for this port, if it is open or not
+pub record IsFineValue (env : Env) (port : Option Port) (e : Option tree.Expr) : Type 0 where
+  pub shaped : Given IsExpr e
+  pub clean : (connected port e env).faults ≡ []
+  pub shallow : option_depth expr_depth e ≤ depth_limit
+
+-- by order, for the ports from the n-th on
+abbrev pub AreFineOrdered : List Port → ℕ → Env → List (Option tree.Expr) → Type 0
+AreFineOrdered ports n env [] = Unit {0}
+AreFineOrdered ports n env (e ∷ es) = IsFineValue env (slice_get ports n) e × AreFineOrdered ports (suc n) env es
+
+-- by name
+abbrev pub IsFineNamed : List Port → Env → tree.NamedConnection → Type 0
+IsFineNamed ports env c = IsFineValue env (find_port ports c.name.bytes) c.e

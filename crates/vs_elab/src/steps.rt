@@ -1,0 +1,196 @@
+//! One part after the other, each before those within it (IEEE 1364-2005, 12.1).
+
+ghost use Rattle.std.specs.Prelude.{◌≡◌, ◌<◌, ◌^◌, ◌++◌, ◌∷◌, [], suc, false, length, IfErr, IfOk, OnOk, Err, Some};
+ghost use Rattle.vs_ast.specs.Views as view;
+ghost use Rattle.vs_hierarchy.specs.Ports.{find_module};
+ghost use Rattle.vs_hierarchy.specs.Sound.{AreSoundFrames};
+ghost use Rattle.vs_scope.specs.Frames.{env_at, envs};
+ghost use Rattle.vs_build.specs.Growth.{draft};
+ghost use Rattle.vs_build.specs.Items.{and_processes};
+ghost use Rattle.vs_elab.specs.Modules.{IsOf};
+ghost use Rattle.vs_elab.specs.OwnParts.{IsFineOwn, own_processes};
+ghost use Rattle.vs_elab.specs.Reading.{IsReading, IsStep, IsText, Tells, design_so_far, outcome, pending_at, source_of};
+ghost use Rattle.vs_elab.specs.declared.error.ElabError.TheVariants.{Broken};
+ghost use Rattle.vs_elab.specs.declared.pending.Part.TheVariants as parts;
+
+use crate::connections::connections_of;
+use crate::error::ElabError;
+use crate::modules::Known;
+use crate::opened::open_scope;
+use crate::overriding::overriding;
+use crate::pending::Part;
+use crate::reading::{NewScope, Reading, Text};
+use crate::stack::{Pending, push_parts};
+use crate::wiring::wire_ports;
+use std::alloc::{AllocError, Global};
+use vs_ast::{Instance, Instances};
+use vs_build::{always, assign, wire};
+use vs_const::Fault;
+use vs_hierarchy::{instance_law, scope_law};
+use vs_scope::{BlockItems, Contents, NameMap, Turn, View};
+
+/// Where a part stands: the number of its scope, the instances around it, and how deep scopes may stand within one another in it.
+#[derive(Clone, Copy)]
+pub(crate) struct Standing {
+    pub frame: usize,
+    pub depth: u32,
+    pub left: u32,
+}
+
+/// How deep scopes may stand within one another in a scope that stands here, or the fault of one that stands too deep.
+fn one_deeper(left: u32, place: u32) -> Result<u32, ElabError>
+    ensures deeper { IfOk result (λ n. left ≡ suc n) }
+    ensures none { IfErr result (λ e. left ≡ 0) }
+    ensures fault { IfErr result (λ e. e ≡ Broken (record { number = 40; place = place })) }
+{
+    if left == 0 {
+        Err(ElabError::Broken(Fault { number: 40, place }))
+    } else {
+        Ok(left - 1)
+    }
+}
+
+/// Builds a process of a scope's own.
+fn read_own<'a>(
+    alloc: Global,
+    reading: &mut Reading<'a>,
+    frame: usize,
+    part: &Part<'a>,
+) -> Result<(), AllocError>
+    requires within { frame < length reading.old.frames.items }
+    requires seen { AreSoundFrames (design_so_far reading.old) false (env_at (envs reading.old.frames.items) (Some frame)).frames }
+    requires room { length (design_so_far reading.old).processes < 2 ^ 16 }
+    requires fine { IsFineOwn (env_at (envs reading.old.frames.items) (Some frame)) part.now }
+    ensures built { OnOk result (draft reading.new.builder ≡ and_processes (draft reading.old.builder) (own_processes (env_at (envs reading.old.frames.items) (Some frame)) part.now)) }
+    ensures frames { reading.new.frames.items ≡ reading.old.frames.items }
+    ensures counts { reading.new.counts ≡ reading.old.counts }
+{
+    scope_law();
+    let here = View::of(&reading.frames, frame);
+    match part {
+        Part::Wire { place, name, value } => {
+            wire(&mut reading.builder, alloc, *place, name, value, &here)
+        }
+        Part::Assigned { place, assign: a } => {
+            assign(&mut reading.builder, alloc, *place, a, &here)
+        }
+        Part::Always(block) => always(&mut reading.builder, alloc, block, &here),
+        _ => unreachable!(),
+    }
+}
+
+/// Opens a generate block (12.4).
+fn read_block<'a>(
+    alloc: Global,
+    text: &Text<'a>,
+    reading: &mut Reading<'a>,
+    stack: &mut Vec<Pending<'a>>,
+    at: Standing,
+    name: Vec<u8>,
+    items: BlockItems<'a>,
+    turn: Option<Turn>,
+) -> Result<(), ElabError>
+    requires text { IsText text.now }
+    requires reading { IsReading text.now reading.old (stack.old.items ++ pending_at at (parts.Block name items turn) ∷ []) }
+    ensures step { OnOk result (IsStep text.now reading.old (stack.old.items ++ pending_at at (parts.Block name items.entry turn) ∷ []) reading.new stack.new.items) }
+    ensures broken { IfErr result (λ e. Tells e (λ f. outcome text.now reading.old (stack.old.items ++ pending_at at (parts.Block name items.entry turn) ∷ []) ≡ Err f)) }
+{
+    let left = one_deeper(at.left, 0)?;
+    let none = NameMap::new(alloc);
+    let number = reading.counts.start.scope as usize;
+    let scope = NewScope {
+        name: &name,
+        within: Some(at.frame as u32),
+        contents: Contents::Block(items),
+        overrides: &none,
+        parent: Some(at.frame),
+        turn,
+        depth: at.depth,
+        place: 0,
+    };
+    let parts = open_scope(alloc, text, reading, scope)?;
+    push_parts(stack, parts, number, at.depth, left)?;
+    Ok(())
+}
+
+/// Opens an instance of a module (12.1.2), and builds the assigns of its ports (12.3.9.2).
+fn read_instance<'a>(
+    alloc: Global,
+    text: &Text<'a>,
+    reading: &mut Reading<'a>,
+    stack: &mut Vec<Pending<'a>>,
+    at: Standing,
+    item: &'a Instances,
+    instance: &'a Instance,
+    known: &Known<'a>,
+) -> Result<(), ElabError>
+    requires text { IsText text.now }
+    requires reading { IsReading text.now reading.old (stack.old.items ++ pending_at at (parts.Instance item instance) ∷ []) }
+    requires known { IsOf (Some known.now) (find_module (source_of text.now) (view.instances item.now).of.bytes) }
+    ensures step { OnOk result (IsStep text.now reading.old (stack.old.items ++ pending_at at (parts.Instance item.entry instance.entry) ∷ []) reading.new stack.new.items) }
+    ensures broken { IfErr result (λ e. Tells e (λ f. outcome text.now reading.old (stack.old.items ++ pending_at at (parts.Instance item.entry instance.entry) ∷ []) ≡ Err f)) }
+{
+    scope_law();
+    instance_law();
+    let place = item.of.place;
+    let left = one_deeper(at.left, place)?;
+    let overrides = overriding(alloc, &known.seen, &item.overrides, at.frame)?;
+    let connections = connections_of(alloc, &known.seen, &instance.connections)?;
+    let depth = at.depth + 1;
+    let number = reading.counts.start.scope as usize;
+    let scope = NewScope {
+        name: instance.name.text.as_bytes(),
+        within: Some(at.frame as u32),
+        contents: Contents::Module(known.of),
+        overrides: &overrides,
+        parent: None,
+        turn: None,
+        depth,
+        place,
+    };
+    let parts = open_scope(alloc, text, reading, scope)?;
+    let here = View::of(&reading.frames, at.frame);
+    wire_ports(
+        &mut reading.builder,
+        alloc,
+        place,
+        &reading.frames[number].names,
+        &connections,
+        &here,
+    )?;
+    push_parts(stack, parts, number, depth, left)?;
+    Ok(())
+}
+
+/// Reads one part: builds its process, or opens its scope, whose parts are pending then. An error is the first rule that it breaks, or want of memory;
+/// what has been read is of no use then.
+pub(crate) fn read_part<'a>(
+    alloc: Global,
+    text: &Text<'a>,
+    reading: &mut Reading<'a>,
+    stack: &mut Vec<Pending<'a>>,
+    next: Pending<'a>,
+) -> Result<(), ElabError>
+    requires text { IsText text.now }
+    requires reading { IsReading text.now reading.old (stack.old.items ++ next ∷ []) }
+    ensures step { OnOk result (IsStep text.now reading.old (stack.old.items ++ next.entry ∷ []) reading.new stack.new.items) }
+    ensures broken { IfErr result (λ e. Tells e (λ f. outcome text.now reading.old (stack.old.items ++ next.entry ∷ []) ≡ Err f)) }
+{
+    let Pending {
+        frame,
+        depth,
+        left,
+        part,
+    } = next;
+    let at = Standing { frame, depth, left };
+    match part {
+        Part::Block { name, items, turn } => {
+            read_block(alloc, text, reading, stack, at, name, items, turn)
+        }
+        Part::Instance { item, instance } => match text.modules.get(item.of.text.as_bytes()) {
+            None => unreachable!(),
+            Some(known) => { read_instance(alloc, text, reading, stack, at, item, instance, known) }
+        },
+        part => Ok(read_own(alloc, reading, frame, &part)?),
+    }
+}

@@ -1,0 +1,147 @@
+//! From the tree of a text to its flat design (IEEE 1364-2005, clause 12).
+
+ghost use Rattle.std.specs.Prelude.{◌≡◌, ◌≤◌, [], true, IfErr, IfOk, Ok, Err, None, Some};
+ghost use Rattle.vs_design.specs.Designs.{Design};
+ghost use Rattle.vs_grammar.specs.Depths.{module_depth};
+ghost use Rattle.vs_grammar.specs.Shapes.{IsModule, IsShaped};
+ghost use Rattle.vs_grammar.specs.Spelled.{depth_limit};
+ghost use Rattle.vs_ast.specs.Views as view;
+ghost use Rattle.vs_hierarchy.specs.Limits.{the_limits};
+ghost use Rattle.vs_hierarchy.specs.Surveys.{no_totals};
+ghost use Rattle.vs_hierarchy.specs.Elaborated.{elaborated, elaborated_top, of_processes};
+ghost use Rattle.vs_flat.specs.DesignOf.{design_of};
+ghost use Rattle.vs_flat.specs.Lawful.{IsLawful};
+ghost use Rattle.vs_elab.specs.Reading.{IsRead, IsReading, IsText, Tells, design_so_far, outcome, source_of, totals_of};
+
+use crate::error::ElabError;
+use crate::modules::{Known, Modules, by_names};
+use crate::opened::open_scope;
+use crate::reading::{Counts, NewScope, Reading, Text};
+use crate::stack::{Pending, push_parts};
+use crate::steps::read_part;
+use std::alloc::Global;
+use vs_ast::Source;
+use vs_build::Builder;
+use vs_const::Fault;
+use vs_flat::Flat;
+use vs_hierarchy::elaborated_law;
+use vs_scope::{Contents, NameMap, Start};
+
+/// How many scopes may stand within one another: the top, and at most 201 for each of 32 instances.
+const SCOPE_DEPTH: u32 = 1 + 32 * 201;
+
+/// Nothing has been read.
+fn nothing_read<'a>(alloc: Global) -> Reading<'a>
+    ensures design { design_so_far result ≡ of_processes [] }
+    ensures frames { result.frames.items ≡ [] }
+    ensures totals { totals_of result.counts ≡ no_totals }
+    ensures top { result.counts.start.top ≡ true }
+    ensures read { IsRead result }
+{
+    Reading {
+        builder: Builder::new(alloc),
+        frames: Vec::new(alloc),
+        counts: Counts {
+            start: Start {
+                scope: 0,
+                top: true,
+                signal: 0,
+                bit: 0,
+            },
+            instances: 0,
+            turns: 0,
+            processes: 0,
+        },
+    }
+}
+
+/// Reads all that is pending, one part after the other. An error is the first rule that is broken, or want of memory.
+fn read_pending<'a>(
+    alloc: Global,
+    text: &Text<'a>,
+    reading: Reading<'a>,
+    stack: Vec<Pending<'a>>,
+) -> Result<Reading<'a>, ElabError>
+    requires text { IsText text.now }
+    requires reading { IsReading text.now reading stack.items }
+    ensures design { IfOk result (λ r. outcome text.now reading.entry stack.entry.items ≡ Ok (design_so_far r)) }
+    ensures broken { IfErr result (λ e. Tells e (λ f. outcome text.now reading.entry stack.entry.items ≡ Err f)) }
+{
+    let mut reading = reading;
+    let mut stack = stack;
+    while let Some(next) = stack.pop() {
+        read_part(alloc, text, &mut reading, &mut stack, next)?;
+    }
+    Ok(reading)
+}
+
+/// Reads the top, and then all that is within it. An error is the first rule that is broken, or want of memory.
+fn read_top<'a>(alloc: Global, text: &Text<'a>, top: &Known<'a>) -> Result<Reading<'a>, ElabError>
+    requires text { IsText text.now }
+    requires shaped { IsModule (view.module_tree top.now.of.now) }
+    requires shallow { module_depth (view.module_tree top.now.of.now) ≤ depth_limit }
+    ensures design { IfOk result (λ r. elaborated_top the_limits (source_of text.now) (Some (view.module_tree top.now.of.now)) ≡ Ok (design_so_far r)) }
+    ensures broken { IfErr result (λ e. Tells e (λ f. elaborated_top the_limits (source_of text.now) (Some (view.module_tree top.now.of.now)) ≡ Err f)) }
+{
+    let mut reading = nothing_read(alloc);
+    let mut stack = Vec::new(alloc);
+    let none = NameMap::new(alloc);
+    let scope = NewScope {
+        name: top.of.name.text.as_bytes(),
+        within: None,
+        contents: Contents::Module(top.of),
+        overrides: &none,
+        parent: None,
+        turn: None,
+        depth: 1,
+        place: 0,
+    };
+    let parts = open_scope(alloc, text, &mut reading, scope)?;
+    push_parts(&mut stack, parts, 0, 1, SCOPE_DEPTH - 1)?;
+    read_pending(alloc, text, reading, stack)
+}
+
+/// The design that the tree of a text has from the module `top` on, flat: every scope, signal and process of it in the order of the text, each scope
+/// before those within it (IEEE 1364-2005, 12.1). Nothing of the text is borrowed by it.
+///
+/// An error is the first rule that is broken: 33 before all others, then 32, then those of one scope after the other, each scope before those within
+/// it; of a scope that at the least token, and there the one with the least number.
+/// - 30, 31: an expression that has to be constant isn't, or has unknown bits.
+/// - 32: the text has no module `top`; the place is 0.
+/// - 33: the second module of a name.
+/// - 34: an instance of a module that the text doesn't have.
+/// - 35, 36: a name that isn't declared, or is twice (12.7).
+/// - 37: a range, a select or a number of copies that has no meaning.
+/// - 38, 39: too many connections or overrides, and one of a name that the module doesn't have (12.2, 12.3).
+/// - 40, 41: over 32 instances within one another, and over 4,096 in all.
+/// - 42: over 4,096 turns of one generate loop, or 1,048,576 of all (12.4.1).
+/// - 43: a name of another kind than is needed there.
+/// - 44, 45: over 1,048,576 bits, and over 65,536 processes.
+///
+/// Or it is want of memory. It takes time linear in the text and in what the generate constructs and instances make of it.
+pub fn flatten(alloc: Global, source: &Source, top: &[u8]) -> Result<Flat, ElabError>
+    requires { IsShaped (view.source source.now) }
+    ensures design { IfOk result (λ f. elaborated (view.source source.now) top.now ≡ Ok (design_of f)) }
+    ensures lawful { IfOk result IsLawful }
+    ensures broken { IfErr result (λ e. Tells e (λ f. elaborated (view.source source.now) top.now ≡ Err f)) }
+{
+    let Modules { by_name, repeated } = by_names(alloc, source)?;
+    if let Some(fault) = repeated {
+        return Err(ElabError::Broken(fault));
+    }
+    let text = Text {
+        source,
+        modules: by_name,
+    };
+    match text.modules.get(top) {
+        None => Err(ElabError::Broken(Fault {
+            number: 32,
+            place: 0,
+        })),
+        Some(known) => {
+            let reading = read_top(alloc, &text, known)?;
+            elaborated_law();
+            Ok(reading.builder.finish())
+        }
+    }
+}
