@@ -1,17 +1,17 @@
 -- What an accepted design gives.
-use Rattle.std.proofs.Common.{◌≡◌, ℕ, zero, suc, ◌<◌, arith, length, if◌then◌else◌, Bool, true, false, ◌||◌, List, [], ◌∷◌, Option, Some, None, slice_get, sym, ap, ◌∙◌, subst, refl}
+use Rattle.std.proofs.Common.{◌≡◌, ℕ, zero, suc, ◌<◌, arith, length, Bool, true, false, ◌||◌, List, [], ◌∷◌, Option, Some, slice_get, sym, ap, ◌∙◌, subst, refl}
 use Rattle.std.specs.List.{list_any}
-use Rattle.std.proofs.lemmas.List.Elements.{All-nil}
 use Rattle.vs_design.specs.Accepted.{is_empty}
 use Rattle.vs_design.specs.Clocks.{clock_nets, reads_clock}
-use Rattle.vs_design.specs.Designs.{Process, Design, bit_count, is_clocked}
+use Rattle.vs_design.specs.Designs.{Process, Design, bit_count}
 use Rattle.vs_design.specs.Elaborated.{IsLawfulDesign}
 use Rattle.vs_design.specs.Footprints.{contains, writes_of}
 use Rattle.vs_design.specs.Levels.{needs}
-use Rattle.vs_design.specs.Resets.{reset_of}
 use Rattle.vs_design.specs.Expressions.{Signal}
 use Rattle.vs_design.specs.Rules.{missing_bits}
 use Rattle.vs_clock.specs.Clocked.{Clocked, AreResets}
+use Rattle.vs_clock.specs.declared.resets.Reset.{Reset}
+use Rattle.vs_clock.specs.Resets.{IsReset, reset_at}
 use Rattle.vs_flat.specs.Arena.{Arena}
 use Rattle.vs_flat.specs.DesignOf.{design_of}
 use Rattle.vs_reads.specs.Footprint.{Footprint, footprints_of}
@@ -19,13 +19,10 @@ use Rattle.vs_reads.specs.Footprint as R
 use Rattle.vs_reads.specs.Laws.{EachHasItsBits}
 use Rattle.vs_clock.specs.Nets.{AreNets, Labelled, is_clock_bit}
 use Rattle.vs_cone.specs.Cones.{is_port_or, needs_at, needs_or, writes_at, writes_or}
-use Rattle.vs_cone.specs.Given.{bits_of_reset}
 use Rattle.vs_assemble.specs.Flags.{HasBitsOf}
-use Rattle.vs_assemble.specs.Plans.{reset_bits_or}
 use Rattle.vs_program.specs.Compiled.{IsAcceptedAt}
 use Rattle.vs_compile.specs.Known.{IsAcceptedBy, AreFacts, Known}
-use Rattle.vs_compile.specs.Plain.{IsPlain}
-use Rattle.vs_compile.proofs.Lists.{at_process, by_test, is_none, same_any, same_test}
+use Rattle.vs_compile.proofs.Lists.{at_process, is_none, same_any, same_test}
 use Rattle.vs_compile.proofs.Needs.{bits_of}
 use Rattle.vs_compile.proofs.Ports.{needs_tell}
 
@@ -39,15 +36,14 @@ accepted_at d c h = record {
     some_is : (a b : Signal) → Some a ≡ Some b → a ≡ b
     some_is a b q = cc
 
-pub are_facts : (a : Arena) (fs : List Footprint) (c : Clocked) → IsAcceptedBy (design_of a) c → fs ≡ footprints_of (design_of a) → AreResets a c → IsPlain (design_of a) c.bit → AreFacts a fs c
-are_facts a fs c h foot resets plain =
+pub are_facts : (a : Arena) (fs : List Footprint) (c : Clocked) → IsAcceptedBy (design_of a) c → fs ≡ footprints_of (design_of a) → AreResets a c → AreFacts a fs c
+are_facts a fs c h foot resets =
     let at = accepted_at (design_of a) c h in
     record {
       accepted = at;
       footprints_are = foot;
       nets = subst (λ n. AreNets (design_of a) n c.nets) (sym h.clock.bit_is) h.clock.nets_are;
       resets = resets;
-      plain = plain;
     }
 
 pub none_missing : (d : Design) (clock : ℕ) → IsAcceptedAt d clock → (p : ℕ) (x : Process) → slice_get d.processes p ≡ Some x → missing_bits x ≡ []
@@ -79,10 +75,9 @@ pub record KnownFacts (k : Known) (fs : List Footprint) (nets : Labelled) : Type
   pub accepted : IsAcceptedAt (design_of k.arena) k.clock
   pub footprints_are : fs ≡ footprints_of (design_of k.arena)
   pub nets_are : AreNets (design_of k.arena) k.clock nets
-  pub plain : IsPlain (design_of k.arena) k.clock
 
 pub known_facts : (a : Arena) (fs : List Footprint) (c : Clocked) (k : Known) → record { arena = a; clock = c.bit } ≡ k → AreFacts a fs c → KnownFacts k fs c.nets
-known_facts a fs c k is are = subst (λ (z : Known). KnownFacts z fs c.nets) is (record { accepted = are.accepted; footprints_are = are.footprints_are; nets_are = are.nets; plain = are.plain })
+known_facts a fs c k is are = subst (λ (z : Known). KnownFacts z fs c.nets) is (record { accepted = are.accepted; footprints_are = are.footprints_are; nets_are = are.nets })
 
 -- there is a process of each number below their count
 pub there : (ps : List Process) (p : ℕ) → p < length ps → (x : Process) × (slice_get ps p ≡ Some x)
@@ -125,14 +120,9 @@ ports_known k fs nets facts p low clock this list has result is =
     ∙ needs_tell all x.0 (clock_unread d k.clock facts.accepted p x.0 x.1)
     ∙ sym (ap (λ c. is_port_or (clock_nets d c) (slice_get d.processes p)) this ∙ ap (is_port_or all) x.1)
 
--- where no block has a reset no bit is set by one
-pub no_reset_bits : (k : Known) (fs : List Footprint) (nets : Labelled) → KnownFacts k fs nets → (p : ℕ) → p < length (design_of k.arena).processes → (clock : ℕ) → clock ≡ k.clock
-    → HasBitsOf (bit_count (design_of k.arena)) [] (reset_bits_or (design_of k.arena) clock (slice_get (design_of k.arena).processes p))
-no_reset_bits k fs nets facts p low clock this =
-    let d = design_of k.arena in
-    let x = there d.processes p low in
-    let none : reset_of d clock x.0 ≡ None = ap (λ c. reset_of d c x.0) this ∙ facts.plain.no_reset p x.0 x.1 in
-    let empty : reset_bits_or d clock (slice_get d.processes p) ≡ [] = ap (reset_bits_or d clock) x.1 ∙ by_test (is_clocked x.0)
-    (λ e. ap (λ (c : Bool). if c then bits_of_reset (reset_of d clock x.0) else []) e ∙ ap bits_of_reset none)
-    (λ e. ap (λ (c : Bool). if c then bits_of_reset (reset_of d clock x.0) else []) e) in
-    subst (λ (bs : List ℕ). HasBitsOf (bit_count d) [] bs) (sym empty) (record { same = λ b. refl; below = All-nil (λ b. b < bit_count d) })
+-- the reset of each process is the one that is told of the clock
+pub reset_known : (a : Arena) (fs : List Footprint) (c : Clocked) (k : Known) → record { arena = a; clock = c.bit } ≡ k → AreFacts a fs c → (p : ℕ) (result : Option Reset) → result ≡ reset_at c.resets p
+    → (x : Process) → slice_get (design_of k.arena).processes p ≡ Some x → IsReset k.arena k.clock x result
+reset_known a fs c k is are p result same =
+    subst (λ (z : Known). (x : Process) → slice_get (design_of z.arena).processes p ≡ Some x → IsReset z.arena z.clock x result) is
+    (λ x e. subst (λ (o : Option Reset). IsReset a c.bit x o) (sym same) (are.resets.resets.each p x e))

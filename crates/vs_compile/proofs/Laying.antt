@@ -1,5 +1,5 @@
 -- What a design with a layout gives the lowering of a process.
-use Rattle.std.proofs.Common.{◌≡◌, ℕ, ◌+◌, ◌<◌, ◌^◌, Bool, true, List, [], ◌++◌, Some, None, Option, length, slice_get, sym, ap, ◌∙◌, subst, arith}
+use Rattle.std.proofs.Common.{◌≡◌, ℕ, ◌+◌, ◌<◌, ◌^◌, Bool, true, false, List, [], ◌++◌, Some, None, Option, length, slice_get, sym, ap, ◌∙◌, subst, refl, arith}
 use Rattle.std.specs.Prelude.{slice_index}
 use Rattle.vs_net.specs.Network.{Sleeper}
 use Rattle.vs_net.specs.Network as N
@@ -7,20 +7,19 @@ use Rattle.vs_design.specs.Designs.{Process, Design, bit_count}
 use Rattle.vs_design.specs.Footprints.{ascending, contains}
 use Rattle.vs_design.specs.Resets.{reset_of}
 use Rattle.vs_design.specs.Sizes.{register_bits}
-use Rattle.vs_design.specs.Sleepers.{sleeper_if}
+use Rattle.vs_design.specs.Sleepers.{is_sleeping, sleeper_if}
 use Rattle.vs_flat.specs.Arena.{Arena}
 use Rattle.vs_flat.specs.DesignOf.{design_of}
 use Rattle.vs_cone.specs.Lists.{AscendingIsOnce, FewAreApart}
 use Rattle.vs_cone.specs.Sources.{SourcesOfDesign}
 use Rattle.vs_code.specs.Calls.{Call}
 use Rattle.vs_program.specs.Compiled.{IsAcceptedAt}
-use Rattle.vs_program.specs.Layouts.{AreRegisters, mask_of}
+use Rattle.vs_program.specs.Layouts.{AreRegisters, IsLayoutOf, mask_of}
 use Rattle.vs_program.specs.Lowered.{Layout, IsLoweredProcess, IsLoweredReset, process_stores}
 use Rattle.vs_program.specs.Made.{IsLoweredAs, IsLoweredAt, IsResetAt, RegistersInOrder}
 use Rattle.vs_reset.specs.Calls.{NoneAreNeeded}
 use Rattle.vs_compile.specs.Known.{Known}
 use Rattle.vs_compile.specs.Laid.{AreFewRegisters, IsTable, Laid, laid_layout, table_layout}
-use Rattle.vs_compile.specs.Plain.{IsPlain}
 use Rattle.vs_compile.proofs.Accepted.{there}
 use Rattle.vs_compile.proofs.Layouts.{few_registers, first_low}
 use Rattle.vs_compile.proofs.Lists.{all_from}
@@ -41,40 +40,54 @@ temps_fit few ordered d clock at count shadows first table p x e =
     let own = few_stores few d clock at (ascending (bit_count d) (register_bits d.processes)) (ordered d at.name at.accepted) p x e in
     omega (arith, low, own)
 
--- ---- where the premise is used
-
 -- the calls of a process that doesn't sleep
-pub lowered_at : (d : Design) (clock : ℕ) (l : Layout) (p : ℕ) (x : Process) → IsPlain d clock → slice_get d.processes p ≡ Some x → (calls : List Call) → IsLoweredProcess l x calls → IsLoweredAt d l p calls
-lowered_at d clock l p x plain e calls lowered =
-    (x, e, subst (λ (c : Bool). IsLoweredAs l (mask_of d p) (sleeper_if c x) x calls) (sym (plain.awake p x e)) lowered)
+pub lowered_at : (d : Design) (l : Layout) (p : ℕ) (x : Process) → is_sleeping d x ≡ false → slice_get d.processes p ≡ Some x → (calls : List Call) → IsLoweredProcess l x calls → IsLoweredAt d l p calls
+lowered_at d l p x awake e calls lowered =
+    (x, e, subst (λ (c : Bool). IsLoweredAs l (mask_of d p) (sleeper_if c x) x calls) (sym awake) lowered)
 
--- no calls are those of a block without a reset
-pub reset_at : NoneAreNeeded → (d : Design) (clock : ℕ) (l : Layout) (p : ℕ) → IsPlain d clock → p < length d.processes → (at : ℕ) → at ≡ clock → IsResetAt d at l p []
-reset_at none d clock l p plain low at this =
+-- ---- a block without a reset
+
+-- no calls are those of its reset
+reset_at : NoneAreNeeded → (d : Design) (clock : ℕ) (l : Layout) (p : ℕ) → p < length d.processes → ((x : Process) → slice_get d.processes p ≡ Some x → reset_of d clock x ≡ None) → (at : ℕ) → at ≡ clock → IsResetAt d at l p []
+reset_at none d clock l p low unset at this =
     let x = there d.processes p low in
-    let is : reset_of d at x.0 ≡ None = ap (λ c. reset_of d c x.0) this ∙ plain.no_reset p x.0 x.1 in
+    let is : reset_of d at x.0 ≡ None = ap (λ c. reset_of d c x.0) this ∙ unset x.0 x.1 in
     (x.0, x.1, subst (λ (o : Option N.Reset). IsLoweredReset l o x.0 []) (sym is) (none l x.0))
 
 -- ---- by the value that clauses see
 
-pub lowered_by : (k : Known) (count : ℕ) (shadows : List ℕ) (first : ℕ) (l : Laid) → record { known = k; count = count; shadows = shadows; first = first } ≡ l → IsPlain (design_of k.arena) k.clock
+pub lowered_by : (k : Known) (count : ℕ) (shadows : List ℕ) (first : ℕ) (l : Laid) → record { known = k; count = count; shadows = shadows; first = first } ≡ l
     → (p : ℕ) → p < length (design_of l.known.arena).processes → (old new : List Call) (a : Arena) (slots : List ℕ) → a ≡ k.arena → slots ≡ shadows
+    → ((x : Process) → slice_get (design_of a).processes p ≡ Some x → is_sleeping (design_of a) x ≡ false)
     → ((x : Process) → slice_get (design_of a).processes p ≡ Some x → (calls : List Call) × (new ≡ old ++ calls) × IsLoweredProcess (table_layout count slots first) x calls)
     → (calls : List Call) × (new ≡ old ++ calls) × IsLoweredAt (design_of l.known.arena) (laid_layout l) p calls
-lowered_by k count shadows first l is plain p low old new a slots same table done =
+lowered_by k count shadows first l is p low old new a slots same table awake done =
     subst (λ (z : Laid). p < length (design_of z.known.arena).processes → (calls : List Call) × (new ≡ old ++ calls) × IsLoweredAt (design_of z.known.arena) (laid_layout z) p calls) is here low
   where
     here : p < length (design_of k.arena).processes → (calls : List Call) × (new ≡ old ++ calls) × IsLoweredAt (design_of k.arena) (table_layout count shadows first) p calls
     here least =
         let x = there (design_of k.arena).processes p least in
-        let r = done x.0 (subst (λ (z : Arena). slice_get (design_of z).processes p ≡ Some x.0) (sym same) x.1) in
-        (r.0, r.1, lowered_at (design_of k.arena) k.clock (table_layout count shadows first) p x.0 plain x.1 r.0 (subst (λ s. IsLoweredProcess (table_layout count s first) x.0 r.0) table r.2))
+        let at = subst (λ (z : Arena). slice_get (design_of z).processes p ≡ Some x.0) (sym same) x.1 in
+        let r = done x.0 at in
+        let here = subst (λ (z : Arena). is_sleeping (design_of z) x.0 ≡ false) same (awake x.0 at) in
+        (r.0, r.1, lowered_at (design_of k.arena) (table_layout count shadows first) p x.0 here x.1 r.0 (subst (λ s. IsLoweredProcess (table_layout count s first) x.0 r.0) table r.2))
 
-pub reset_by : NoneAreNeeded → (k : Known) (count : ℕ) (shadows : List ℕ) (first : ℕ) (l : Laid) → record { known = k; count = count; shadows = shadows; first = first } ≡ l → IsPlain (design_of k.arena) k.clock
-    → (p : ℕ) → p < length (design_of l.known.arena).processes → (at : ℕ) → at ≡ l.known.clock → IsResetAt (design_of l.known.arena) at (laid_layout l) p []
-reset_by none k count shadows first l is plain p low at this =
-    let here : IsPlain (design_of l.known.arena) l.known.clock = subst (λ (z : Laid). IsPlain (design_of z.known.arena) z.known.clock) is plain in
-    reset_at none (design_of l.known.arena) l.known.clock (laid_layout l) p here low at this
+-- the calls of one that sleeps
+pub asleep_by : (k : Known) (count : ℕ) (shadows : List ℕ) (first : ℕ) (l : Laid) → record { known = k; count = count; shadows = shadows; first = first } ≡ l → IsTable (design_of k.arena) count shadows first
+    → (p : ℕ) (old new : List Call) (a : Arena) → a ≡ k.arena
+    → ((z : Layout) → IsLayoutOf (design_of a) z → z.first_temp ≡ first → (calls : List Call) × (new ≡ old ++ calls) × IsLoweredAt (design_of a) z p calls)
+    → (calls : List Call) × (new ≡ old ++ calls) × IsLoweredAt (design_of l.known.arena) (laid_layout l) p calls
+asleep_by k count shadows first l is table p old new a same done =
+    subst (λ (z : Laid). (calls : List Call) × (new ≡ old ++ calls) × IsLoweredAt (design_of z.known.arena) (laid_layout z) p calls) is
+    (subst (λ (z : Arena). (z_layout : Layout) → IsLayoutOf (design_of z) z_layout → z_layout.first_temp ≡ first → (calls : List Call) × (new ≡ old ++ calls) × IsLoweredAt (design_of z) z_layout p calls) same done
+    (table_layout count shadows first) table.layout.layout refl)
+
+pub none_by : NoneAreNeeded → (k : Known) (count : ℕ) (shadows : List ℕ) (first : ℕ) (l : Laid) → record { known = k; count = count; shadows = shadows; first = first } ≡ l
+    → (p : ℕ) → p < length (design_of l.known.arena).processes → ((x : Process) → slice_get (design_of k.arena).processes p ≡ Some x → reset_of (design_of k.arena) k.clock x ≡ None)
+    → (at : ℕ) → at ≡ l.known.clock → IsResetAt (design_of l.known.arena) at (laid_layout l) p []
+none_by none k count shadows first l is p low unset at this =
+    let each = subst (λ (z : Laid). (x : Process) → slice_get (design_of z.known.arena).processes p ≡ Some x → reset_of (design_of z.known.arena) z.known.clock x ≡ None) is unset in
+    reset_at none (design_of l.known.arena) l.known.clock (laid_layout l) p low each at this
 
 -- ---- what a layout is made of
 

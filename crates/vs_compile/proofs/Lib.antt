@@ -9,3 +9,9 @@ pub mod Accepted
 pub mod Layouts
 pub mod Lowering
 pub mod Laying
+pub mod Masks
+pub mod Slept
+pub mod Fixed
+pub mod Blocks
+pub mod Branches
+pub mod Setting

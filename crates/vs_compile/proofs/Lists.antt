@@ -79,7 +79,7 @@ and_false : (u : Bool) → (u && false) ≡ false
 and_false true = refl
 and_false false = refl
 
-contains_filter : (f : ℕ → Bool) (xs : List ℕ) (b : ℕ) → contains (filter f xs) b ≡ (contains xs b && f b)
+pub contains_filter : (f : ℕ → Bool) (xs : List ℕ) (b : ℕ) → contains (filter f xs) b ≡ (contains xs b && f b)
 contains_filter f [] b = refl
 contains_filter f (x ∷ xs) b =
     by_test (f x)

@@ -21,7 +21,7 @@ weighs d p x e =
     subst (λ z. process_weight z ≤ sum_by process_weight d.processes) at (get_or-le-sum_by process_weight d.processes p x within)
 
 -- the bits of a clocked block are registers
-writes_in : (ps : List Process) (p : ℕ) (x : Process) → slice_get ps p ≡ Some x → is_clocked x ≡ true → (b : ℕ) → contains (writes_of x) b ≡ true → contains (register_bits ps) b ≡ true
+pub writes_in : (ps : List Process) (p : ℕ) (x : Process) → slice_get ps p ≡ Some x → is_clocked x ≡ true → (b : ℕ) → contains (writes_of x) b ≡ true → contains (register_bits ps) b ≡ true
 writes_in [] p x e clocked b h = cc
 writes_in (y ∷ ps) zero x e clocked b h =
     let same : y ≡ x = some_is y x e in

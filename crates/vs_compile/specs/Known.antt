@@ -8,13 +8,16 @@ use Rattle.vs_reads.specs.Footprint.{Footprint, footprints_of}
 use Rattle.vs_clock.specs.Clocked.{Clocked, IsClockOf, AreResets}
 use Rattle.vs_clock.specs.Nets.{AreNets}
 use Rattle.vs_program.specs.Compiled.{IsAcceptedAt}
-use Rattle.vs_compile.specs.Plain.{IsPlain}
 
 -- the design is accepted by some name of its clock, and this is what is told of that clock
 pub record IsAcceptedBy (d : Design) (clocks : Clocked) : Type 0 where
   pub name : List ℕ
   pub accepted : IsAcceptedDesign d name
   pub clock : IsClockOf d name clocks
+
+-- the design is accepted by some name of its clock
+abbrev pub IsAccepted : Design → Type 0
+IsAccepted d = (name : List ℕ) × IsAcceptedDesign d name
 
 -- a flat design, and the bit of its clock
 pub record Known : Type 0 where
@@ -27,4 +30,3 @@ pub record AreFacts (a : Arena) (footprints : List Footprint) (clocks : Clocked)
   pub footprints_are : footprints ≡ footprints_of (design_of a)
   pub nets : AreNets (design_of a) clocks.bit clocks.nets
   pub resets : AreResets a clocks
-  pub plain : IsPlain (design_of a) clocks.bit

@@ -1,3 +1,3 @@
-pub mod Plain
 pub mod Known
 pub mod Laid
+pub mod Resets

@@ -7,7 +7,6 @@ ghost use Rattle.vs_reads.specs.Footprint.{footprints_of};
 ghost use Rattle.vs_clock.specs.Clocked.{AreResets};
 ghost use Rattle.vs_program.specs.Compiled.{IsProgramOf};
 ghost use Rattle.vs_compile.specs.Known.{IsAcceptedBy};
-ghost use Rattle.vs_compile.specs.Plain.{IsPlain};
 
 use crate::facts::Facts;
 use crate::lowerer::Lowerer;
@@ -20,9 +19,9 @@ use vs_program::Compiled;
 use vs_reads::Footprints;
 use vs_width::Typed;
 
-/// The program of an accepted design none of whose blocks sleeps or has a reset: straight programs over planes, one for each kind of time slot (IEEE 1364-2005, clause 11). The only error is that there is no memory.
+/// The program of an accepted design: straight programs over planes, one for each kind of time slot (IEEE 1364-2005, clause 11). The only error is that there is no memory.
 ///
-/// The footprints, the clock and the level order are those of the design.
+/// The footprints, the clock with its resets, and the level order are those of the design.
 pub fn compile(
     alloc: Global,
     typed: &Typed,
@@ -34,10 +33,9 @@ pub fn compile(
     requires footprints { footprints.now ≡ footprints_of (design_of typed.now) }
     requires resets { AreResets typed.now clocks.now }
     requires order { is_level_order (design_of typed.now) order.now ≡ true }
-    requires plain { IsPlain (design_of typed.now) clocks.now.bit }
     ensures { IfOk result (IsProgramOf (design_of typed.now) clocks.now.bit) }
 {
-    let facts = Facts::of(typed, footprints, clocks);
+    let facts = Facts::of(alloc, typed, footprints, clocks)?;
     let lowerer = Lowerer::of(alloc, facts)?;
     let nets = nets_of(alloc, typed, clocks)?;
     let frame = frame(alloc, typed.flat(), clocks.bit(), nets)?;

@@ -1,13 +1,14 @@
 //! What is known of the processes of a design.
 
-ghost use Rattle.std.specs.Prelude.{◌≡◌, ◌≤◌, ◌^◌, IfOk};
+ghost use Rattle.std.specs.Prelude.{◌≡◌, ◌<◌, ◌≤◌, ◌^◌, IfOk, Some, length, slice_get};
 ghost use Rattle.vs_flat.specs.DesignOf.{design_of};
 
 use crate::processes::{has_clock, is_clocked, needs};
+use crate::resets::ResetBits;
 use std::alloc::{AllocError, Global};
 use std::marker::Model;
 use vs_assemble::{Processes, registers};
-use vs_clock::Clocks;
+use vs_clock::{Clocks, Reset};
 use vs_cone::{list_law, sources_law};
 use vs_flat::{count_bits, trees_law};
 use vs_reads::{Footprints, footprint_law};
@@ -19,46 +20,63 @@ pub(crate) struct Facts<'a> {
     typed: &'a Typed,
     footprints: &'a Footprints,
     clocks: &'a Clocks,
+    reset_bits: ResetBits,
 }
 
 // Clauses see the flat design and the bit of its clock.
 impl<'a> Model for Facts<'a> {
-    ghost use Rattle.vs_compile.specs.Known.{Known, AreFacts};
+    ghost use Rattle.vs_compile.specs.Known.{Known};
+    ghost use Rattle.vs_compile.specs.Resets.{HasFacts};
 
     ghost Value = { Known };
 
     ghost view = { λ f. record { arena = f.typed.now; clock = f.clocks.now.bit } };
 
-    ghost invariant = { λ f. AreFacts f.typed.now f.footprints.now f.clocks.now };
+    ghost invariant = { λ f. HasFacts f.typed.now f.footprints.now f.clocks.now f.reset_bits };
 }
 
 impl<'a> Facts<'a> {
-    ghost use Rattle.vs_design.specs.Designs.{bit_count};
+    ghost use Rattle.vs_design.specs.Designs.{Process, bit_count};
+    ghost use Rattle.vs_design.specs.Footprints.{ascending, waits_of};
+    ghost use Rattle.vs_clock.specs.Resets.{IsReset};
     ghost use Rattle.vs_program.specs.Compiled.{IsAcceptedAt};
     ghost use Rattle.vs_compile.specs.Known.{AreFacts};
     ghost use Rattle.vs_compile.specs.Laid.{AreFewRegisters};
-    ghost use Rattle.vs_compile.specs.Plain.{IsPlain};
 
-    /// A design, its footprints and its clock.
-    pub(crate) fn of(typed: &'a Typed, footprints: &'a Footprints, clocks: &'a Clocks) -> Facts<'a>
+    /// A design, its footprints and its clock. The only error is that there is no memory.
+    pub(crate) fn of(
+        alloc: Global,
+        typed: &'a Typed,
+        footprints: &'a Footprints,
+        clocks: &'a Clocks,
+    ) -> Result<Facts<'a>, AllocError>
         requires { AreFacts typed.now footprints.now clocks.now }
-        ensures { result ≡ record { arena = typed.now; clock = clocks.now.bit } }
+        ensures { IfOk result (λ f. f ≡ record { arena = typed.now; clock = clocks.now.bit }) }
     {
-        Facts {
+        let reset_bits = ResetBits::of_design(alloc, typed, footprints, clocks)?;
+        Ok(Facts {
             typed,
             footprints,
             clocks,
-        }
+            reset_bits,
+        })
     }
 
     /// The design. It is accepted.
     pub(crate) fn typed(&self) -> &'a Typed
         ensures same { result.now ≡ self.now.arena }
         ensures accepted { IsAcceptedAt (design_of self.now.arena) self.now.clock }
-        ensures plain { IsPlain (design_of self.now.arena) self.now.clock }
     {
         let _clocks = self.clocks;
         self.typed
+    }
+
+    /// The reset of a process, where it has one.
+    pub(crate) fn reset(&self, process: u32) -> Option<Reset>
+        ensures { (x : Process) → slice_get (design_of self.now.arena).processes process ≡ Some x → IsReset self.now.arena self.now.clock x result }
+    {
+        let _typed = self.typed;
+        self.clocks.reset(process)
     }
 
     /// How many bits the design has.
@@ -81,6 +99,15 @@ impl<'a> Facts<'a> {
         sources_law();
         let _typed = self.typed();
         registers(alloc, self, count)
+    }
+
+    /// The bits that a process waits on, in ascending order and each once.
+    pub(crate) fn waits(&self, process: u32) -> &'a [u32]
+        requires { process < length (design_of self.now.arena).processes }
+        ensures { (x : Process) → slice_get (design_of self.now.arena).processes process ≡ Some x → result.now ≡ ascending (bit_count (design_of self.now.arena)) (waits_of x) }
+    {
+        footprint_law();
+        self.footprints.waits(process)
     }
 }
 
@@ -106,14 +133,14 @@ impl<'a> Processes for Facts<'a> {
         has_clock(self.clocks, needs(self.footprints, process))
     }
 
-    // No block has a reset.
     fn add_reset_bits(
         &self,
         _clock: u32,
-        _process: u32,
-        _bits: &mut Vec<u32>,
+        process: u32,
+        bits: &mut Vec<u32>,
     ) -> Result<(), AllocError> {
         let _typed = self.typed;
+        bits.extend_from_slice(self.reset_bits.of(process))?;
         Ok(())
     }
 

@@ -7,6 +7,9 @@ mod facts;
 mod lowerer;
 mod nets;
 mod processes;
+mod resets;
+mod resetting;
+mod sleeper;
 mod tables;
 
 pub use compiling::compile;

@@ -4,12 +4,15 @@ ghost use Rattle.std.specs.Prelude.{◌≡◌, IfOk};
 
 use crate::awake::lower_awake;
 use crate::facts::Facts;
+use crate::resetting::lower_branch;
+use crate::sleeper::lower_sleeper;
 use crate::tables::{shadows_of, sleeper_count};
 use std::alloc::{AllocError, Global};
 use std::marker::Model;
 use vs_assemble::{Lowering, Processes};
 use vs_code::Program;
 use vs_cone::{list_law, sources_law};
+use vs_design::reads_law;
 use vs_flat::trees_law;
 use vs_program::program_law;
 use vs_reset::reset_law;
@@ -106,14 +109,26 @@ impl<'a> Lowering for Lowerer<'a> {
 
     ghost layout = { laid_layout };
 
-    // No block sleeps.
     fn lower(&self, alloc: Global, process: u32, program: &mut Program) -> Result<(), AllocError> {
         trees_law();
         program_law();
         list_law();
+        let typed = self.facts.typed();
+        if typed.sleeps(process) {
+            let waits = self.facts.waits(process);
+            return lower_sleeper(
+                alloc,
+                typed,
+                process,
+                self.count,
+                waits,
+                self.first_temp,
+                program,
+            );
+        }
         lower_awake(
             alloc,
-            self.facts.typed(),
+            typed,
             process,
             self.count,
             self.shadows.as_slice(),
@@ -122,17 +137,24 @@ impl<'a> Lowering for Lowerer<'a> {
         )
     }
 
-    // No block has a reset, so no call is needed.
     fn lower_reset(
         &self,
-        _alloc: Global,
+        alloc: Global,
         _clock: u32,
-        _process: u32,
-        _program: &mut Program,
+        process: u32,
+        program: &mut Program,
     ) -> Result<(), AllocError> {
+        trees_law();
+        program_law();
+        list_law();
+        sources_law();
+        reads_law();
         reset_law();
-        let _typed = self.facts.typed();
-        Ok(())
+        let typed = self.facts.typed();
+        match self.facts.reset(process) {
+            Some(reset) => lower_branch(alloc, typed, reset, self.count, self.first_temp, program),
+            None => Ok(()),
+        }
     }
 
     fn shadow(&self, bit: u32) -> u32 {

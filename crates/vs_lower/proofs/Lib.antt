@@ -57,3 +57,4 @@ pub mod Stating
 pub mod Blocking
 pub mod Accepting
 pub mod Resetting
+pub mod Sleeping

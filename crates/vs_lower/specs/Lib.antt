@@ -18,3 +18,4 @@ pub mod Branched
 pub mod Stated
 pub mod Processed
 pub mod Resetting
+pub mod Asleep

@@ -83,7 +83,7 @@ fn copied(
 }
 
 /// The value in slots that are no bit's: copied to new ones, if one of them isn't new since `mark`.
-fn owned(
+pub(crate) fn owned(
     alloc: Global,
     value: Vec<u32>,
     width: u32,

@@ -4,6 +4,7 @@ ghost use Rattle.std.specs.Prelude.{◌≡◌, ◌+◌, ◌<◌, ◌≤◌, ◌^
 ghost use Rattle.std.specs.List.{range_with_len};
 ghost use Rattle.vs_code.specs.Calls.{IsCall, call_cost, length_of};
 ghost use Rattle.vs_lower.specs.Added.{fresh_call};
+ghost use Rattle.vs_lower.specs.Asleep.{stored_call};
 ghost use Rattle.vs_lower.specs.Coded.{with_call};
 ghost use Rattle.vs_lower.specs.Copies.{copy_call};
 
@@ -95,6 +96,28 @@ impl Code {
         let args = single(alloc, from)?;
         self.program.push(Op {
             kernel: AnyKernel::Logic(vs_kern_logic::Kernel::Copy),
+            args,
+            to: List::of(to),
+            scratch: List::of(Vec::new(alloc)),
+        })?;
+        Ok(())
+    }
+
+    /// Adds a call whose value gets these slots. On an error the calls are as they were.
+    pub(crate) fn store(
+        &mut self,
+        alloc: Global,
+        kernel: AnyKernel,
+        args: List<List<u32>>,
+        to: Vec<u32>,
+    ) -> Result<(), AllocError>
+        requires is { IsCall (stored_call kernel args to.items) }
+        requires few { length_of self.old.calls + call_cost (stored_call kernel args to.items) ≤ 2 ^ 32 }
+        ensures calls { OnOk result (self.new.calls ≡ self.old.calls ++ stored_call kernel args to.items ∷ []) }
+        ensures next { OnOk result (self.new.next ≡ self.old.next) }
+    {
+        self.program.push(Op {
+            kernel,
             args,
             to: List::of(to),
             scratch: List::of(Vec::new(alloc)),

@@ -43,7 +43,7 @@ fn has_edge(events: &[Event]) -> bool
 }
 
 /// What process p is: it names expressions and statements of the design.
-fn kind_at(typed: &Typed, p: u32) -> &Kind
+pub(crate) fn kind_at(typed: &Typed, p: u32) -> &Kind
     requires there { p < length typed.now.processes }
     ensures names { HasKindNames typed.now result.now }
     ensures is { (place : ℕ) × (slice_get (design_of typed.now).processes p ≡ Some (kind_of (signal_at (arena_signals typed.now)) (tree_at (arena_trees typed.now)) (body_of typed.now) place result.now)) }

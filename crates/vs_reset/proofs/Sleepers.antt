@@ -21,7 +21,7 @@ use Rattle.vs_design.specs.Footprints.{contains, statement_bits, all_reads, writ
 use Rattle.vs_design.specs.Sets.{only, is_only_x}
 use Rattle.vs_design.specs.LiftedBodies.{lifted_body}
 use Rattle.vs_design.specs.Sleepers.{is_still, at_once, stays_x, is_sleeping, sleeper_if, sleeper_of}
-use Rattle.vs_design.specs.Sizes.{distinct, process_weight, sleeper_weight, size}
+use Rattle.vs_design.specs.Sizes.{distinct, process_weight, statement_weight, sleeper_weight, size}
 use Rattle.vs_design.specs.Cycles.{AreApart}
 use Rattle.vs_design.specs.Networks.{process_of, block_process, writer_of, at_or_input, network_of}
 use Rattle.vs_design.specs.Accepted.{IsAcceptedDesign}
@@ -37,10 +37,10 @@ use Rattle.vs_code.specs.Laws.{SequenceIsBoth}
 use Rattle.vs_program.specs.Lowered.{Layout, home, bits_of, made_of, is_woken, HasConstants, IsSleeperRun, IsLoweredSleeper}
 use Rattle.vs_program.specs.Layouts.{IsLayoutOf, mask_of, MasksFit}
 use Rattle.vs_program.specs.Made.{IsLoweredAs}
-use Rattle.vs_reset.specs.Sleepers.{x_slots, compare_call, mask_call, finish_call, wake_calls, sleeper_calls, IsBodyRun, IsBody, SleeperCallsAre}
+use Rattle.vs_reset.specs.Sleepers.{x_slots, compare_call, mask_call, finish_call, wake_calls, sleeper_calls, IsMask, AreBits, AreOwn, IsBody, FinishIsCall, SleeperCallsAre, SleepersWrite, WakeIsCalls}
 use Rattle.vs_cone.specs.Writes.{WritesAre}
 use Rattle.vs_reset.proofs.Lists.{by_test, in_first, in_rest, first_or, place_in, in_map, all_in, apart, none_apart, none_different, different, map_apart}
-use Rattle.vs_reset.proofs.Calls.{le_true, map_same, none_at}
+use Rattle.vs_reset.proofs.Calls.{le_true, none_at}
 
 -- ---- writes of x
 
@@ -166,15 +166,176 @@ all_x_set s cs bs h =
     (λ k. absurd (both_ways (all_x s bs) e (all_of_x s bs (λ b m. x_of_all s cs b k (h b ∙ m)))))
     (λ k. k ∙ sym e))
 
+-- ---- they are calls
+
+nothing : {P : Type 0} (a : ℕ) → contains [] a ≡ true → P
+nothing a h = absurd (none h)
+  where
+    none : contains [] a ≡ true → ⊥
+    none h = cc
+
+home_in : (count : ℕ) (bs : List ℕ) → ((b : ℕ) → contains bs b ≡ true → b < count) → (a : ℕ) → contains (map home bs) a ≡ true → (4 ≤ a) × (a < home count)
+home_in count bs low a h = let q = in_map home bs a h in let under = low q.0 q.1 in (omega (arith, q.2), omega (arith, q.2, under))
+
+x_in : (bs : List ℕ) (a : ℕ) → contains (x_slots bs) a ≡ true → a ≡ 2
+x_in bs a h = (in_map (λ b. 2) bs a h).2
+
+homes_apart : (b c : ℕ) → home b ≡ home c → b ≡ c
+homes_apart b c e = omega (arith, e)
+
+module _ (count first mask : ℕ) (is : IsMask count first mask) where
+  compare_ok : (spare : ℕ) (on : List ℕ) → first ≤ spare → spare < 2 ^ 32 → AreBits count on → IsCall (compare_call mask spare on)
+  compare_ok spare on high numbered are = record {
+    lengths = compare_takes (length (map home on)) (length (x_slots on)) (omega (arith, hs, xs));
+    short = All-cons (λ n. n < 2 ^ 32) (suc (length (map home on))) (suc (length (x_slots on)) ∷ 1 ∷ []) (omega (arith, hs, are.few))
+        (All-cons (λ n. n < 2 ^ 32) (suc (length (x_slots on))) (1 ∷ []) (omega (arith, xs, are.few)) (All-cons (λ n. n < 2 ^ 32) 1 [] (omega arith) (All-nil (λ n. n < 2 ^ 32))));
+    room = omega arith;
+    targets = record {
+      to_below = All-cons (λ slot. slot < 2 ^ 32) spare [] numbered (All-nil (λ slot. slot < 2 ^ 32));
+      scratch_below = All-nil (λ slot. slot < 2 ^ 32);
+      to_differ = different (spare ∷ []) (refl, tt);
+      scratch_differ = none_different;
+      both_apart = none_apart (spare ∷ []);
+    };
+    arguments = All-cons P (mask ∷ map home on) ((0 ∷ x_slots on) ∷ []) (record {
+      below = all_in (λ slot. slot < 2 ^ 32) (mask ∷ map home on) (λ a h. let q = first_in a h in omega (arith, q, high, numbered));
+      to_apart = apart (mask ∷ map home on) (spare ∷ []) (λ a b h k e. first_or spare [] b k (λ y. let low = first_in a h in omega (arith, low, high, e, y)) (λ n. nothing b n));
+      scratch_apart = none_apart (mask ∷ map home on);
+    })
+        (All-cons P (0 ∷ x_slots on) [] (record {
+          below = all_in (λ slot. slot < 2 ^ 32) (0 ∷ x_slots on) (λ a h. let q = second_in a h in omega (arith, q, high, numbered));
+          to_apart = apart (0 ∷ x_slots on) (spare ∷ []) (λ a b h k e. first_or spare [] b k (λ y. let low = second_in a h in omega (arith, low, high, e, y)) (λ n. nothing b n));
+          scratch_apart = none_apart (0 ∷ x_slots on);
+        }) (All-nil P));
+  }
+    where
+      P : List ℕ → Type 0
+      P arg = IsArgument (2 ^ 32) arg (spare ∷ []) []
+
+      hs : length (map home on) ≡ length on
+      hs = length-map on home_of
+        where
+          home_of : ℕ → ℕ
+          home_of b = home b
+
+      xs : length (x_slots on) ≡ length on
+      xs = length-map on (λ b. 2)
+
+      first_in : (a : ℕ) → contains (mask ∷ map home on) a ≡ true → a < first
+      first_in a h = first_or mask (map home on) a h
+          (λ e. omega (arith, e, is.below))
+          (λ k. let q = home_in count on are.below a k in omega (arith, q.1, is.above, is.below))
+
+      second_in : (a : ℕ) → contains (0 ∷ x_slots on) a ≡ true → a < first
+      second_in a h = first_or 0 (x_slots on) a h (λ e. omega (arith, e, is.above, is.below)) (λ k. let q = x_in on a k in omega (arith, q, is.above, is.below))
+
+      compare_takes : (m n : ℕ) → m ≡ n → takes (Logic CaseNotEqual) (suc m ∷ suc n ∷ 1 ∷ []) ≡ true
+      compare_takes m n e =
+          let a : nat_le 1 (suc m) ≡ true = le_true (suc m) (omega arith) in
+          let b : (suc m == suc n) ≡ true = eq-eqb (suc m) (suc n) (ap suc e) in
+          ap (λ u. u && (suc m == suc n) && (1 == 1)) a ∙ ap (λ u. u && (1 == 1)) b
+
+  mask_ok : (spare : ℕ) → first ≤ spare → spare < 2 ^ 32 → IsCall (mask_call mask spare)
+  mask_ok spare high numbered = record {
+    lengths = refl;
+    short = All-cons (λ n. n < 2 ^ 32) 1 (1 ∷ []) (omega arith) (All-cons (λ n. n < 2 ^ 32) 1 [] (omega arith) (All-nil (λ n. n < 2 ^ 32)));
+    room = omega arith;
+    targets = record {
+      to_below = All-cons (λ slot. slot < 2 ^ 32) mask [] (omega (arith, is.below, high, numbered)) (All-nil (λ slot. slot < 2 ^ 32));
+      scratch_below = All-nil (λ slot. slot < 2 ^ 32);
+      to_differ = different (mask ∷ []) (refl, tt);
+      scratch_differ = none_different;
+      both_apart = none_apart (mask ∷ []);
+    };
+    arguments = All-cons (λ arg. IsArgument (2 ^ 32) arg (mask ∷ []) []) (spare ∷ []) [] (record {
+      below = All-cons (λ slot. slot < 2 ^ 32) spare [] numbered (All-nil (λ slot. slot < 2 ^ 32));
+      to_apart = apart (spare ∷ []) (mask ∷ []) (λ a b h k e.
+          first_or spare [] a h (λ x. first_or mask [] b k (λ y. omega (arith, is.below, high, e, x, y)) (λ n. nothing b n)) (λ n. nothing a n));
+      scratch_apart = none_apart (spare ∷ []);
+    }) (All-nil (λ arg. IsArgument (2 ^ 32) arg (mask ∷ []) []));
+  }
+
+  finish_ok : (bits now : List ℕ) → first ≤ 2 ^ 32 → AreBits count bits → AreApart bits → 1 ≤ length bits → length now ≡ length bits → AreOwn first now → IsCall (finish_call mask bits now)
+  finish_ok bits now numbered are once some long from = record {
+    lengths = choice_takes (length now) (length (x_slots bits)) (length (map home bits)) (omega (arith, some, long)) (omega (arith, long, xs)) (omega (arith, xs, hs));
+    short = All-cons (λ n. n < 2 ^ 32) 1 (length now ∷ length (x_slots bits) ∷ length (map home bits) ∷ []) (omega arith)
+        (All-cons (λ n. n < 2 ^ 32) (length now) (length (x_slots bits) ∷ length (map home bits) ∷ []) (omega (arith, long, are.few))
+        (All-cons (λ n. n < 2 ^ 32) (length (x_slots bits)) (length (map home bits) ∷ []) (omega (arith, xs, are.few))
+        (All-cons (λ n. n < 2 ^ 32) (length (map home bits)) [] (omega (arith, hs, are.few)) (All-nil (λ n. n < 2 ^ 32)))));
+    room = omega arith;
+    targets = record {
+      to_below = all_in (λ slot. slot < 2 ^ 32) (map home bits) (λ a h. let q = bit_in a h in omega (arith, q, numbered));
+      scratch_below = All-nil (λ slot. slot < 2 ^ 32);
+      to_differ = different (map home bits) (map_apart (λ b. home b) homes_apart bits once);
+      scratch_differ = none_different;
+      both_apart = none_apart (map home bits);
+    };
+    arguments = All-cons P (mask ∷ []) (now ∷ x_slots bits ∷ []) (record {
+      below = All-cons (λ slot. slot < 2 ^ 32) mask [] (omega (arith, is.below, numbered)) (All-nil (λ slot. slot < 2 ^ 32));
+      to_apart = apart (mask ∷ []) (map home bits) (λ a b h k e. first_or mask [] a h (λ x. let q = home_in count bits are.below b k in omega (arith, q.1, is.above, e, x)) (λ n. nothing a n));
+      scratch_apart = none_apart (mask ∷ []);
+    })
+        (All-cons P now (x_slots bits ∷ []) (record {
+          below = all_in (λ slot. slot < 2 ^ 32) now from.below;
+          to_apart = apart now (map home bits) (λ a b h k e. own_apart a b (from.own a h) k e);
+          scratch_apart = none_apart now;
+        })
+        (All-cons P (x_slots bits) [] (record {
+          below = all_in (λ slot. slot < 2 ^ 32) (x_slots bits) (λ a h. let q = x_in bits a h in omega (arith, q));
+          to_apart = apart (x_slots bits) (map home bits) (λ a b h k e. let q = home_in count bits are.below b k in let x = x_in bits a h in omega (arith, q.0, x, e));
+          scratch_apart = none_apart (x_slots bits);
+        }) (All-nil P)));
+  }
+    where
+      P : List ℕ → Type 0
+      P arg = IsArgument (2 ^ 32) arg (map home bits) []
+
+      hs : length (map home bits) ≡ length bits
+      hs = length-map bits home_of
+        where
+          home_of : ℕ → ℕ
+          home_of b = home b
+
+      xs : length (x_slots bits) ≡ length bits
+      xs = length-map bits (λ b. 2)
+
+      bit_in : (a : ℕ) → contains (map home bits) a ≡ true → a < first
+      bit_in a h = let q = home_in count bits are.below a h in omega (arith, q.1, is.above, is.below)
+
+      own_apart : (a b : ℕ) → (a < 4) ⊎ (first ≤ a) → contains (map home bits) b ≡ true → a ≡ b → ⊥
+      own_apart a b (inl low) k e = let q = home_in count bits are.below b k in omega (arith, q.0, low, e)
+      own_apart a b (inr high) k e = let q = bit_in b k in omega (arith, q, high, e)
+
+      choice_takes : (p q t : ℕ) → 1 ≤ p → p ≡ q → q ≡ t → takes (Select Branch) (1 ∷ p ∷ q ∷ t ∷ []) ≡ true
+      choice_takes p q t h e f =
+          let a : nat_le 1 p ≡ true = le_true p h in
+          let b : (p == q) ≡ true = eq-eqb p q e in
+          let c : (q == t) ≡ true = eq-eqb q t f in
+          ap (λ u. u && (p == q) && (q == t)) a ∙ ap (λ u. u && (q == t)) b ∙ c
+
+  wake_ok : (spare : ℕ) (on : List ℕ) → first ≤ spare → spare < 2 ^ 32 → AreBits count on → All IsCall (wake_calls mask spare on)
+  wake_ok spare [] high numbered are = All-nil IsCall
+  wake_ok spare (b ∷ on) high numbered are =
+      All-cons IsCall (compare_call mask spare (b ∷ on)) (mask_call mask spare ∷ []) (compare_ok spare (b ∷ on) high numbered are) (All-cons IsCall (mask_call mask spare) [] (mask_ok spare high numbered) (All-nil IsCall))
+
+pub wake_is_calls : WakeIsCalls
+wake_is_calls count first mask spare on is high numbered are = wake_ok count first mask is spare on high numbered are
+
+pub finish_is_call : FinishIsCall
+finish_is_call count first mask bits now is numbered are once some long from = finish_ok count first mask is bits now numbered are once some long from
+
 -- where the slots lie, and what the block writes and waits on: the bits to wait on are a list of those of the sleeper
-record HasRoom (l : Layout) (p : Process) (s : Sleeper) (mask : ℕ) (waits bits : List ℕ) : Type 0 where
+record HasRoom (l : Layout) (p : Process) (s : Sleeper) (mask spare : ℕ) (waits bits : List ℕ) : Type 0 where
   temps : home l.bits ≤ l.first_temp
+  spare_above : l.first_temp ≤ spare
+  spare_below : spare < l.first_temp + process_weight p
   mask_above : home l.bits ≤ mask
   mask_below : mask < l.first_temp
   bits_below : (b : ℕ) → contains bits b ≡ true → b < l.bits
   on_below : (b : ℕ) → contains waits b ≡ true → b < l.bits
   few_on : length waits + 1 < 2 ^ 32
-  few_bits : length bits < 2 ^ 32
+  few_bits : length bits + 1 < 2 ^ 32
+  few_written : length bits ≤ distinct s.bits
   numbers : l.first_temp + process_weight p ≤ 2 ^ 32
   written : (t : N.State) (b : ℕ) → is_written (made_of p t) b ≡ contains bits b
   once : AreApart bits
@@ -182,22 +343,7 @@ record HasRoom (l : Layout) (p : Process) (s : Sleeper) (mask : ℕ) (waits bits
   on_same : (b : ℕ) → contains waits b ≡ contains s.on b
   wakes : (b : ℕ) → contains waits b ≡ true → 1 ≤ distinct s.on
 
-module _ (sequence : SequenceIsBoth) (law : WritesAre) (l : Layout) (p : Process) (s : Sleeper) (mask spare : ℕ) (waits bits now : List ℕ) (body : List Call) (is : IsBody l p spare bits now body) (room : HasRoom l p s mask waits bits) where
-  nothing : {P : Type 0} (a : ℕ) → contains [] a ≡ true → P
-  nothing a h = absurd (none h)
-    where
-      none : contains [] a ≡ true → ⊥
-      none h = cc
-
-  home_in : (bs : List ℕ) → ((b : ℕ) → contains bs b ≡ true → b < l.bits) → (a : ℕ) → contains (map home bs) a ≡ true → (4 ≤ a) × (a < home l.bits)
-  home_in bs low a h = let q = in_map home bs a h in let under = low q.0 q.1 in (omega (arith, q.2), omega (arith, q.2, under))
-
-  x_in : (bs : List ℕ) (a : ℕ) → contains (x_slots bs) a ≡ true → a ≡ 2
-  x_in bs a h = (in_map (λ b. 2) bs a h).2
-
-  homes_apart : (b c : ℕ) → home b ≡ home c → b ≡ c
-  homes_apart b c e = omega (arith, e)
-
+module _ (sequence : SequenceIsBoth) (law : WritesAre) (l : Layout) (p : Process) (s : Sleeper) (mask spare : ℕ) (waits bits now : List ℕ) (body : List Call) (is : IsBody l p bits now body) (room : HasRoom l p s mask spare waits bits) where
   -- ---- the mask
 
   record Woken (m w : State) (woken : Bool) : Type 0 where
@@ -232,42 +378,38 @@ module _ (sequence : SequenceIsBoth) (law : WritesAre) (l : Layout) (p : Process
 
   ran : (before after : State) → HasConstants before → (before mask ≡ Zero) ⊎ (before mask ≡ One) → AreCalled (sleeper_calls mask spare waits bits now body) before after → IsSleeperRun l p s mask before after
   ran before after const bit called =
-      let parts = (sequence body (wake_calls mask spare waits ++ finish_call mask bits now ∷ []) before after).0 called in
-      let more = (sequence (wake_calls mask spare waits) (finish_call mask bits now ∷ []) parts.0 after).0 parts.2 in
-      by_parts parts.0 (is.run before parts.0 const parts.1) more.0 more.1 more.2
+      let parts = (sequence (wake_calls mask spare waits) (body ++ finish_call mask bits now ∷ []) before after).0 called in
+      let more = (sequence body (finish_call mask bits now ∷ []) parts.0 after).0 parts.2 in
+      by_parts parts.0 parts.1 more.0 more.1 more.2
     where
-      by_parts : (m : State) → IsBodyRun l p bits now before m → (w : State) → AreCalled (wake_calls mask spare waits) m w → AreCalled (finish_call mask bits now ∷ []) w after → IsSleeperRun l p s mask before after
-      by_parts m run w waking finishing =
+      by_parts : (m : State) → AreCalled (wake_calls mask spare waits) before m → (w : State) → AreCalled body m w → AreCalled (finish_call mask bits now ∷ []) w after → IsSleeperRun l p s mask before after
+      by_parts m waking w running finishing =
           let bases = room.temps in
           let mask_low = room.mask_below in
           let mask_high = room.mask_above in
-          let spare_high = is.spare_above in
-          let same_mask : m mask ≡ before mask = run.kept mask mask_low in
-          let low : m 0 ≡ Zero = run.kept 0 (omega (arith, bases)) ∙ const.zero in
-          let x : m 2 ≡ X = run.kept 2 (omega (arith, bases)) ∙ const.x in
-          let done = woke waits m w low x (subst (λ v. (v ≡ Zero) ⊎ (v ≡ One)) (sym same_mask) bit) waking in
-          let same_on : all_x (bits_of m) waits ≡ all_x (bits_of before) s.on = all_x_same (bits_of m) (bits_of before) waits (λ b h. let low = room.on_below b h in run.kept (home b) (omega (arith, low, bases))) ∙ all_x_set (bits_of before) waits s.on room.on_same in
-          let woken : (same (m mask) One || not (all_x (bits_of m) waits)) ≡ is_woken s mask before =
-          ap (λ v. same v One || not (all_x (bits_of m) waits)) same_mask ∙ ap (λ c. same (before mask) One || not c) same_on in
-          let mask_is : w mask ≡ (if is_woken s mask before then One else Zero) = done.mask_is ∙ ap (λ (c : Bool). if c then One else Zero) woken in
-          let now_same : map w now ≡ map (λ b. write_all (bits_of before) (made_of p (bits_of before)) b) bits =
-          map_same w m now (λ a h. let high = is.now_above a h in done.kept a (λ e. omega (arith, e, high, mask_low)) (λ e. is.spare_apart a h e)) ∙ run.values in
-          let x_same : map w (x_slots bits) ≡ map (λ b. X) bits = map_x w bits (done.kept 2 (λ e. omega (arith, e, mask_high)) (λ e. omega (arith, e, spare_high, bases)) ∙ x) in
-          let rest = finish w finishing mask_is now_same x_same in
+          let spare_high = room.spare_above in
+          let done = woke waits before m const.zero const.x bit waking in
+          let constant : (slot : ℕ) → slot < 4 → m slot ≡ before slot = λ slot h. done.kept slot (λ e. omega (arith, e, h, mask_high)) (λ e. omega (arith, e, h, spare_high, bases)) in
+          let constants : HasConstants m = record { zero = constant 0 (omega arith) ∙ const.zero; one = constant 1 (omega arith) ∙ const.one; x = constant 2 (omega arith) ∙ const.x; z = constant 3 (omega arith) ∙ const.z } in
+          let run = is.run m w (bits_of before) constants (λ b h. done.kept (home b) (λ e. omega (arith, e, h, mask_high)) (λ e. omega (arith, e, h, spare_high, bases))) running in
+          let woken : (same (before mask) One || not (all_x (bits_of before) waits)) ≡ is_woken s mask before = ap (λ c. same (before mask) One || not c) (all_x_set (bits_of before) waits s.on room.on_same) in
+          let mask_is : w mask ≡ (if is_woken s mask before then One else Zero) = run.kept mask mask_low ∙ done.mask_is ∙ ap (λ (c : Bool). if c then One else Zero) woken in
+          let x_same : map w (x_slots bits) ≡ map (λ b. X) bits = map_x w bits (run.kept 2 (omega (arith, bases)) ∙ constants.x) in
+          let rest = finish w finishing mask_is run.values x_same in
           record {
             bits = λ b h. by_test (contains bits b)
                 (λ k. rest.value b k ∙ chosen (bits_of before) (is_woken s mask before) b (room.written (bits_of before) b ∙ k))
                 (λ k. rest.kept (home b) (λ u. let q = in_map home bits (home b) u in both_ways (contains bits b) k (subst (λ z. contains bits z ≡ true) (homes_apart q.0 b (sym q.2)) q.1))
-                ∙ done.kept (home b) (λ e. omega (arith, e, h, mask_high)) (λ e. omega (arith, e, h, spare_high, bases))
                 ∙ run.kept (home b) (omega (arith, h, bases))
+                ∙ done.kept (home b) (λ e. omega (arith, e, h, mask_high)) (λ e. omega (arith, e, h, spare_high, bases))
                 ∙ other (bits_of before) (is_woken s mask before) b (room.written (bits_of before) b ∙ k));
-            woken = rest.kept mask (λ u. let q = home_in bits room.bits_below mask u in omega (arith, q.1, mask_high)) ∙ mask_is;
-            constants = λ slot h. rest.kept slot (λ u. let q = home_in bits room.bits_below slot u in omega (arith, q.0, h))
-                ∙ done.kept slot (λ e. omega (arith, e, h, mask_high)) (λ e. omega (arith, e, h, spare_high, bases))
-                ∙ run.kept slot (omega (arith, h, bases));
-            others = λ slot h k n. rest.kept slot (λ u. let q = home_in bits room.bits_below slot u in omega (arith, q.1, h))
-                ∙ done.kept slot n (λ e. omega (arith, e, k, spare_high))
-                ∙ run.kept slot k;
+            woken = rest.kept mask (λ u. let q = home_in l.bits bits room.bits_below mask u in omega (arith, q.1, mask_high)) ∙ mask_is;
+            constants = λ slot h. rest.kept slot (λ u. let q = home_in l.bits bits room.bits_below slot u in omega (arith, q.0, h))
+                ∙ run.kept slot (omega (arith, h, bases))
+                ∙ constant slot h;
+            others = λ slot h k n. rest.kept slot (λ u. let q = home_in l.bits bits room.bits_below slot u in omega (arith, q.1, h))
+                ∙ run.kept slot k
+                ∙ done.kept slot n (λ e. omega (arith, e, k, spare_high));
           }
         where
           one : (c : Bool) → is_one (truth ((if c then One else Zero) ∷ [])) ≡ c
@@ -304,135 +446,6 @@ module _ (sequence : SequenceIsBoth) (law : WritesAre) (l : Layout) (p : Process
   temp : (a : ℕ) → a < l.first_temp → a < l.first_temp + process_weight p
   temp a h = omega (arith, h)
 
-  compare_ok : (on : List ℕ) → ((b : ℕ) → contains on b ≡ true → b < l.bits) → length on + 1 < 2 ^ 32 → IsCall (compare_call mask spare on)
-  compare_ok on low few = record {
-    lengths = compare_takes (length (map home on)) (length (x_slots on)) (omega (arith, hs, xs));
-    short = All-cons (λ n. n < 2 ^ 32) (suc (length (map home on))) (suc (length (x_slots on)) ∷ 1 ∷ []) (omega (arith, hs, few))
-        (All-cons (λ n. n < 2 ^ 32) (suc (length (x_slots on))) (1 ∷ []) (omega (arith, xs, few)) (All-cons (λ n. n < 2 ^ 32) 1 [] (omega arith) (All-nil (λ n. n < 2 ^ 32))));
-    room = omega arith;
-    targets = record {
-      to_below = All-cons (λ slot. slot < 2 ^ 32) spare [] (below spare is.spare_below) (All-nil (λ slot. slot < 2 ^ 32));
-      scratch_below = All-nil (λ slot. slot < 2 ^ 32);
-      to_differ = different (spare ∷ []) (refl, tt);
-      scratch_differ = none_different;
-      both_apart = none_apart (spare ∷ []);
-    };
-    arguments = All-cons P (mask ∷ map home on) ((0 ∷ x_slots on) ∷ []) (record {
-      below = all_in (λ slot. slot < 2 ^ 32) (mask ∷ map home on) (λ a h. below a (temp a (first_in a h)));
-      to_apart = apart (mask ∷ map home on) (spare ∷ []) (λ a b h k e. first_or spare [] b k (λ y. let low = first_in a h in let high = is.spare_above in omega (arith, low, high, e, y)) (λ n. nothing b n));
-      scratch_apart = none_apart (mask ∷ map home on);
-    })
-        (All-cons P (0 ∷ x_slots on) [] (record {
-          below = all_in (λ slot. slot < 2 ^ 32) (0 ∷ x_slots on) (λ a h. below a (temp a (second_in a h)));
-          to_apart = apart (0 ∷ x_slots on) (spare ∷ []) (λ a b h k e. first_or spare [] b k (λ y. let low = second_in a h in let high = is.spare_above in omega (arith, low, high, e, y)) (λ n. nothing b n));
-          scratch_apart = none_apart (0 ∷ x_slots on);
-        }) (All-nil P));
-  }
-    where
-      P : List ℕ → Type 0
-      P arg = IsArgument (2 ^ 32) arg (spare ∷ []) []
-
-      hs : length (map home on) ≡ length on
-      hs = length-map on home_of
-        where
-          home_of : ℕ → ℕ
-          home_of b = home b
-
-      xs : length (x_slots on) ≡ length on
-      xs = length-map on (λ b. 2)
-
-      first_in : (a : ℕ) → contains (mask ∷ map home on) a ≡ true → a < l.first_temp
-      first_in a h = first_or mask (map home on) a h
-          (λ e. let m = room.mask_below in omega (arith, e, m))
-          (λ k. let q = home_in on low a k in let t = room.temps in omega (arith, q.1, t))
-
-      second_in : (a : ℕ) → contains (0 ∷ x_slots on) a ≡ true → a < l.first_temp
-      second_in a h = let t = room.temps in first_or 0 (x_slots on) a h (λ e. omega (arith, e, t)) (λ k. let q = x_in on a k in omega (arith, q, t))
-
-      compare_takes : (m n : ℕ) → m ≡ n → takes (Logic CaseNotEqual) (suc m ∷ suc n ∷ 1 ∷ []) ≡ true
-      compare_takes m n e =
-          let a : nat_le 1 (suc m) ≡ true = le_true (suc m) (omega arith) in
-          let b : (suc m == suc n) ≡ true = eq-eqb (suc m) (suc n) (ap suc e) in
-          ap (λ u. u && (suc m == suc n) && (1 == 1)) a ∙ ap (λ u. u && (1 == 1)) b
-
-  mask_ok : IsCall (mask_call mask spare)
-  mask_ok = record {
-    lengths = refl;
-    short = All-cons (λ n. n < 2 ^ 32) 1 (1 ∷ []) (omega arith) (All-cons (λ n. n < 2 ^ 32) 1 [] (omega arith) (All-nil (λ n. n < 2 ^ 32)));
-    room = omega arith;
-    targets = record {
-      to_below = All-cons (λ slot. slot < 2 ^ 32) mask [] (below mask (temp mask room.mask_below)) (All-nil (λ slot. slot < 2 ^ 32));
-      scratch_below = All-nil (λ slot. slot < 2 ^ 32);
-      to_differ = different (mask ∷ []) (refl, tt);
-      scratch_differ = none_different;
-      both_apart = none_apart (mask ∷ []);
-    };
-    arguments = All-cons (λ arg. IsArgument (2 ^ 32) arg (mask ∷ []) []) (spare ∷ []) [] (record {
-      below = All-cons (λ slot. slot < 2 ^ 32) spare [] (below spare is.spare_below) (All-nil (λ slot. slot < 2 ^ 32));
-      to_apart = apart (spare ∷ []) (mask ∷ []) (λ a b h k e.
-          first_or spare [] a h (λ x. first_or mask [] b k (λ y. let m = room.mask_below in let t = is.spare_above in omega (arith, m, t, e, x, y)) (λ n. nothing b n)) (λ n. nothing a n));
-      scratch_apart = none_apart (spare ∷ []);
-    }) (All-nil (λ arg. IsArgument (2 ^ 32) arg (mask ∷ []) []));
-  }
-
-  finish_ok : IsCall (finish_call mask bits now)
-  finish_ok = record {
-    lengths = choice_takes (length now) (length (x_slots bits)) (length (map home bits)) (omega (arith, room.some, is.long)) (omega (arith, is.long, xs)) (omega (arith, xs, hs));
-    short = All-cons (λ n. n < 2 ^ 32) 1 (length now ∷ length (x_slots bits) ∷ length (map home bits) ∷ []) (omega arith)
-        (All-cons (λ n. n < 2 ^ 32) (length now) (length (x_slots bits) ∷ length (map home bits) ∷ []) (omega (arith, is.long, room.few_bits))
-        (All-cons (λ n. n < 2 ^ 32) (length (x_slots bits)) (length (map home bits) ∷ []) (omega (arith, xs, room.few_bits))
-        (All-cons (λ n. n < 2 ^ 32) (length (map home bits)) [] (omega (arith, hs, room.few_bits)) (All-nil (λ n. n < 2 ^ 32)))));
-    room = omega arith;
-    targets = record {
-      to_below = all_in (λ slot. slot < 2 ^ 32) (map home bits) (λ a h. below a (temp a (bit_in a h)));
-      scratch_below = All-nil (λ slot. slot < 2 ^ 32);
-      to_differ = different (map home bits) (map_apart (λ b. home b) homes_apart bits room.once);
-      scratch_differ = none_different;
-      both_apart = none_apart (map home bits);
-    };
-    arguments = All-cons P (mask ∷ []) (now ∷ x_slots bits ∷ []) (record {
-      below = All-cons (λ slot. slot < 2 ^ 32) mask [] (below mask (temp mask room.mask_below)) (All-nil (λ slot. slot < 2 ^ 32));
-      to_apart = apart (mask ∷ []) (map home bits) (λ a b h k e. first_or mask [] a h (λ x. let q = home_in bits room.bits_below b k in let m = room.mask_above in omega (arith, q.1, m, e, x)) (λ n. nothing a n));
-      scratch_apart = none_apart (mask ∷ []);
-    })
-        (All-cons P now (x_slots bits ∷ []) (record {
-          below = all_in (λ slot. slot < 2 ^ 32) now (λ a h. below a (is.now_below a h));
-          to_apart = apart now (map home bits) (λ a b h k e. let q = bit_in b k in let high = is.now_above a h in omega (arith, q, high, e));
-          scratch_apart = none_apart now;
-        })
-        (All-cons P (x_slots bits) [] (record {
-          below = all_in (λ slot. slot < 2 ^ 32) (x_slots bits) (λ a h. let q = x_in bits a h in omega (arith, q));
-          to_apart = apart (x_slots bits) (map home bits) (λ a b h k e. let q = home_in bits room.bits_below b k in let x = x_in bits a h in omega (arith, q.0, x, e));
-          scratch_apart = none_apart (x_slots bits);
-        }) (All-nil P)));
-  }
-    where
-      P : List ℕ → Type 0
-      P arg = IsArgument (2 ^ 32) arg (map home bits) []
-
-      hs : length (map home bits) ≡ length bits
-      hs = length-map bits home_of
-        where
-          home_of : ℕ → ℕ
-          home_of b = home b
-
-      xs : length (x_slots bits) ≡ length bits
-      xs = length-map bits (λ b. 2)
-
-      bit_in : (a : ℕ) → contains (map home bits) a ≡ true → a < l.first_temp
-      bit_in a h = let q = home_in bits room.bits_below a h in let t = room.temps in omega (arith, q.1, t)
-
-      choice_takes : (p q t : ℕ) → 1 ≤ p → p ≡ q → q ≡ t → takes (Select Branch) (1 ∷ p ∷ q ∷ t ∷ []) ≡ true
-      choice_takes p q t h e f =
-          let a : nat_le 1 p ≡ true = le_true p h in
-          let b : (p == q) ≡ true = eq-eqb p q e in
-          let c : (q == t) ≡ true = eq-eqb q t f in
-          ap (λ u. u && (p == q) && (q == t)) a ∙ ap (λ u. u && (q == t)) b ∙ c
-
-  wake_ok : (on : List ℕ) → ((b : ℕ) → contains on b ≡ true → b < l.bits) → length on + 1 < 2 ^ 32 → All IsCall (wake_calls mask spare on)
-  wake_ok [] low few = All-nil IsCall
-  wake_ok (b ∷ on) low few = All-cons IsCall (compare_call mask spare (b ∷ on)) (mask_call mask spare ∷ []) (compare_ok (b ∷ on) low few) (All-cons IsCall (mask_call mask spare) [] mask_ok (All-nil IsCall))
-
   wake_cost : (on : List ℕ) → ((b : ℕ) → contains on b ≡ true → 1 ≤ distinct s.on) → length_of (wake_calls mask spare on) ≤ distinct s.on + 1
   wake_cost [] h = omega arith
   wake_cost (b ∷ on) h =
@@ -459,11 +472,11 @@ module _ (sequence : SequenceIsBoth) (law : WritesAre) (l : Layout) (p : Process
       All-append Q (call_slots (compare_call mask spare (b ∷ on))) (call_slots (mask_call mask spare) ++ [])
       (All-append Q ((mask ∷ map home (b ∷ on)) ++ ((0 ∷ x_slots (b ∷ on)) ++ [])) (spare ∷ [])
       (All-append Q (mask ∷ map home (b ∷ on)) ((0 ∷ x_slots (b ∷ on)) ++ [])
-      (all_in Q (mask ∷ map home (b ∷ on)) (λ a h. temp a (first_or mask (map home (b ∷ on)) a h (λ e. let m = room.mask_below in omega (arith, e, m)) (λ k. let q = home_in (b ∷ on) low a k in let t = room.temps in omega (arith, q.1, t)))))
+      (all_in Q (mask ∷ map home (b ∷ on)) (λ a h. temp a (first_or mask (map home (b ∷ on)) a h (λ e. let m = room.mask_below in omega (arith, e, m)) (λ k. let q = home_in l.bits (b ∷ on) low a k in let t = room.temps in omega (arith, q.1, t)))))
       (All-append Q (0 ∷ x_slots (b ∷ on)) [] (all_in Q (0 ∷ x_slots (b ∷ on)) (λ a h. temp a (let t = room.temps in first_or 0 (x_slots (b ∷ on)) a h (λ e. omega (arith, e, t)) (λ k. let q = x_in (b ∷ on) a k in omega (arith, q, t))))) (All-nil Q)))
-      (All-cons Q spare [] is.spare_below (All-nil Q)))
+      (All-cons Q spare [] room.spare_below (All-nil Q)))
       (All-append Q (call_slots (mask_call mask spare)) []
-      (All-cons Q spare (mask ∷ []) is.spare_below (All-cons Q mask [] (temp mask room.mask_below) (All-nil Q)))
+      (All-cons Q spare (mask ∷ []) room.spare_below (All-cons Q mask [] (temp mask room.mask_below) (All-nil Q)))
       (All-nil Q))
     where
       Q : ℕ → Type 0
@@ -473,9 +486,9 @@ module _ (sequence : SequenceIsBoth) (law : WritesAre) (l : Layout) (p : Process
   finish_slots =
       All-append Q (call_slots (finish_call mask bits now)) []
       (All-append Q ((mask ∷ []) ++ (now ++ (x_slots bits ++ []))) (map home bits ++ [])
-      (All-cons Q mask (now ++ (x_slots bits ++ [])) (temp mask room.mask_below) (All-append Q now (x_slots bits ++ []) (all_in Q now (λ a h. is.now_below a h))
+      (All-cons Q mask (now ++ (x_slots bits ++ [])) (temp mask room.mask_below) (All-append Q now (x_slots bits ++ []) (all_in Q now is.below)
       (All-append Q (x_slots bits) [] (all_in Q (x_slots bits) (λ a h. temp a (let t = room.temps in let q = x_in bits a h in omega (arith, q, t)))) (All-nil Q))))
-      (All-append Q (map home bits) [] (all_in Q (map home bits) (λ a h. temp a (let q = home_in bits room.bits_below a h in let t = room.temps in omega (arith, q.1, t)))) (All-nil Q)))
+      (All-append Q (map home bits) [] (all_in Q (map home bits) (λ a h. temp a (let q = home_in l.bits bits room.bits_below a h in let t = room.temps in omega (arith, q.1, t)))) (All-nil Q)))
       (All-nil Q)
     where
       Q : ℕ → Type 0
@@ -483,19 +496,28 @@ module _ (sequence : SequenceIsBoth) (law : WritesAre) (l : Layout) (p : Process
 
   lowered : IsLoweredSleeper l p s mask (sleeper_calls mask spare waits bits now body)
   lowered = record {
-    are_calls = All-append IsCall body (wake_calls mask spare waits ++ finish_call mask bits now ∷ []) is.are_calls
-        (All-append IsCall (wake_calls mask spare waits) (finish_call mask bits now ∷ []) (wake_ok waits room.on_below room.few_on) (All-cons IsCall (finish_call mask bits now) [] finish_ok (All-nil IsCall)));
+    are_calls = All-append IsCall (wake_calls mask spare waits) (body ++ finish_call mask bits now ∷ [])
+        (wake_ok l.bits l.first_temp mask mask_is spare waits room.spare_above (below spare room.spare_below) (record { below = room.on_below; few = room.few_on }))
+        (All-append IsCall body (finish_call mask bits now ∷ []) is.are_calls (All-cons IsCall (finish_call mask bits now) [] finish_is (All-nil IsCall)));
     stores =
-        let all = sum_by-append call_cost body (wake_calls mask spare waits ++ finish_call mask bits now ∷ []) in
-        let rest = sum_by-append call_cost (wake_calls mask spare waits) (finish_call mask bits now ∷ []) in
+        let all = sum_by-append call_cost (wake_calls mask spare waits) (body ++ finish_call mask bits now ∷ []) in
+        let rest = sum_by-append call_cost body (finish_call mask bits now ∷ []) in
         let own = is.stores in
-        omega (arith, all, rest, own, wake_cost waits room.wakes, finish_cost);
-    slots = subst (All (λ slot. slot < l.first_temp + process_weight p)) (sym (flat_map-append call_slots body (wake_calls mask spare waits ++ finish_call mask bits now ∷ [])))
-        (All-append (λ slot. slot < l.first_temp + process_weight p) (slots_of body) (slots_of (wake_calls mask spare waits ++ finish_call mask bits now ∷ [])) is.slots
-        (subst (All (λ slot. slot < l.first_temp + process_weight p)) (sym (flat_map-append call_slots (wake_calls mask spare waits) (finish_call mask bits now ∷ [])))
-        (All-append (λ slot. slot < l.first_temp + process_weight p) (slots_of (wake_calls mask spare waits)) (slots_of (finish_call mask bits now ∷ [])) (wake_slots waits room.on_below) finish_slots)));
+        let few = room.few_written in
+        omega (arith, all, rest, own, few, wake_cost waits room.wakes, finish_cost);
+    slots = subst (All (λ slot. slot < l.first_temp + process_weight p)) (sym (flat_map-append call_slots (wake_calls mask spare waits) (body ++ finish_call mask bits now ∷ [])))
+        (All-append (λ slot. slot < l.first_temp + process_weight p) (slots_of (wake_calls mask spare waits)) (slots_of (body ++ finish_call mask bits now ∷ [])) (wake_slots waits room.on_below)
+        (subst (All (λ slot. slot < l.first_temp + process_weight p)) (sym (flat_map-append call_slots body (finish_call mask bits now ∷ [])))
+        (All-append (λ slot. slot < l.first_temp + process_weight p) (slots_of body) (slots_of (finish_call mask bits now ∷ [])) is.slots finish_slots)));
     run = λ before after const bit called. ran before after const bit called;
   }
+    where
+      mask_is : IsMask l.bits l.first_temp mask
+      mask_is = record { above = room.mask_above; below = room.mask_below }
+
+      finish_is : IsCall (finish_call mask bits now)
+      finish_is = finish_ok l.bits l.first_temp mask mask_is bits now (let numbers = room.numbers in omega (arith, numbers)) (record { below = room.bits_below; few = room.few_bits }) room.once room.some is.long
+          (record { own = is.own; below = λ slot h. below slot (is.below slot h) })
 
 -- ---- of a design
 
@@ -524,7 +546,7 @@ some_bit test [] h = cc
 some_bit test (b ∷ bs) h = (b, in_first b bs)
 
 -- a sleeping block writes a bit
-writes_some : (d : Design) (x : Process) → is_sleeping d x ≡ true → (b : ℕ) × (contains (writes_of x) b ≡ true)
+pub writes_some : SleepersWrite
 writes_some d (Continuous place port target_place target e) h = cc
 writes_some d (Always place star events st) h =
     let last = last_of (is_combinational (Always place star events st)) (list_all (is_still d) (waits_of (Always place star events st))) (not (stays_x st)) h in
@@ -538,6 +560,18 @@ writes_some d (Always place star events st) h =
     denied : (c : Bool) → not c ≡ true → c ≡ false
     denied true h = cc
     denied false h = refl
+
+-- it weighs no less than the bits that it writes
+weighs_writes : (d : Design) (x : Process) → is_sleeping d x ≡ true → distinct (writes_of x) ≤ process_weight x
+weighs_writes d (Continuous place port target_place target e) h = cc
+weighs_writes d (Always place star events st) h =
+    let comb = first_of (is_combinational (Always place star events st)) (list_all (is_still d) (waits_of (Always place star events st))) (not (stays_x st)) h in
+    let weight : process_weight (Always place star events st) ≡ distinct (statement_bits st) + statement_weight st = ap (λ (c : Bool). (if c then distinct (statement_bits st) else 0) + statement_weight st) comb in
+    omega (arith, weight)
+  where
+    first_of : (u v w : Bool) → (u && v && w) ≡ true → u ≡ true
+    first_of true v w h = refl
+    first_of false v w h = cc
 
 not_empty : (bs : List ℕ) (b : ℕ) → contains bs b ≡ true → 1 ≤ length bs
 not_empty [] b h = cc
@@ -558,7 +592,7 @@ one_of_all f (z ∷ ps) zero y e = let sum = sum_by-cons f z ps in subst (λ w. 
 one_of_all f (z ∷ ps) (suc q) y e = let sum = sum_by-cons f z ps in let rest = one_of_all f ps q y e in omega (arith, sum, rest)
 
 module _ (fewer : FewAreApart) (lawful : AcceptedIsLawful) (footprint : BitsOfDesign) (masks : MasksFit) (d : Design) (name : List ℕ) (a : IsAcceptedDesign d name) (l : Layout) (layout : IsLayoutOf d l) (numbers : l.first_temp + size d ≤ 2 ^ 32) (p : ℕ) (x : Process) (e : slice_get d.processes p ≡ Some x) (h : is_sleeping d x ≡ true) (on bits : List ℕ) (on_is : HasEachOnce (waits_of x) on) (bits_is : HasEachOnce (writes_of x) bits) where
-  room_is : HasRoom l x (record { on = waits_of x; bits = writes_of x }) (mask_of d p) on bits
+  room_is : HasRoom l x (record { on = waits_of x; bits = writes_of x }) (mask_of d p) l.first_temp on bits
   room_is =
       let fits = masks d l layout p x e h in
       let temps = layout.layout.temps_above in
@@ -570,14 +604,18 @@ module _ (fewer : FewAreApart) (lawful : AcceptedIsLawful) (footprint : BitsOfDe
       let few_waits = fewer (waits_of x) on on_is.once (λ b k. sym (on_is.has b) ∙ k) in
       let few_writes = fewer (writes_of x) bits bits_is.once (λ b k. sym (bits_is.has b) ∙ k) in
       let written = writes_some d x h in
+      let heavy = weighs_writes d x h in
       record {
         temps = temps;
+        spare_above = omega arith;
+        spare_below = omega (arith, heavy, few_writes, not_empty bits written.0 (bits_is.has written.0 ∙ written.1));
         mask_above = fits.above;
         mask_below = fits.below;
         bits_below = λ b k. below b (in_right (all_reads x) (writes_of x ++ waits_of x) b (in_left (writes_of x) (waits_of x) b (sym (bits_is.has b) ∙ k)));
         on_below = λ b k. below b (in_right (all_reads x) (writes_of x ++ waits_of x) b (in_right (writes_of x) (waits_of x) b (sym (on_is.has b) ∙ k)));
         few_on = omega (arith, few_waits, sleeping, more, numbers, temps);
         few_bits = omega (arith, few_writes, sleeping, more, numbers, temps);
+        few_written = few_writes;
         numbers = omega (arith, weight, numbers);
         written = λ t b.
             ap (λ ws. is_written ws b) (sym (made_is d a.clock.first x t))
@@ -598,9 +636,9 @@ module _ (fewer : FewAreApart) (lawful : AcceptedIsLawful) (footprint : BitsOfDe
       nothing_there c k = cc
 
 pub sleeper_calls_are : SequenceIsBoth → WritesAre → FewAreApart → AcceptedIsLawful → BitsOfDesign → MasksFit → SleeperCallsAre
-sleeper_calls_are sequence law fewer lawful footprint masks d name a l layout numbers p x e h on bits on_is bits_is spare now body is = (
+sleeper_calls_are sequence law fewer lawful footprint masks d name a l layout numbers p x e h on bits on_is bits_is now body is = (
   x,
   e,
-  subst (λ (c : Bool). IsLoweredAs l (mask_of d p) (sleeper_if c x) x (sleeper_calls (mask_of d p) spare on bits now body)) (sym h)
-      (lowered sequence law l x (record { on = waits_of x; bits = writes_of x }) (mask_of d p) spare on bits now body is (room_is fewer lawful footprint masks d name a l layout numbers p x e h on bits on_is bits_is)),
+  subst (λ (c : Bool). IsLoweredAs l (mask_of d p) (sleeper_if c x) x (sleeper_calls (mask_of d p) l.first_temp on bits now body)) (sym h)
+      (lowered sequence law l x (record { on = waits_of x; bits = writes_of x }) (mask_of d p) l.first_temp on bits now body is (room_is fewer lawful footprint masks d name a l layout numbers p x e h on bits on_is bits_is)),
 )

@@ -27,9 +27,9 @@ abbrev pub calls_of : Design → List ℕ → List Process → List Call
 calls_of d bits [] = []
 calls_of d bits (x ∷ xs) = calls_with d bits (reset_of d 0 x) ++ calls_of d bits xs
 
--- of `always @* y = q & 1'b0;`, where q is bit 3 and y bit 4, the mask slot 10: the statement into slot 11, with slot 12 to spare
+-- of `always @* y = q & 1'b0;`, where q is bit 3 and y bit 4, the mask slot 10, the temporaries from slot 11 on
 abbrev pub block_calls : List Call
-block_calls = sleeper_calls 10 12 (3 ∷ []) (4 ∷ []) (11 ∷ []) (call (Logic And) ((7 ∷ []) ∷ (0 ∷ []) ∷ []) (11 ∷ []) ∷ [])
+block_calls = sleeper_calls 10 11 (3 ∷ []) (4 ∷ []) (11 ∷ []) (call (Logic And) ((7 ∷ []) ∷ (0 ∷ []) ∷ []) (11 ∷ []) ∷ [])
 
 pub record CallsComputed : Type 0 where
   -- `if (r) q <= 1'b0;` on a rising edge: r in slot 5, q in slot 7; three stores
@@ -39,8 +39,8 @@ pub record CallsComputed : Type 0 where
   -- `if (!r) q <= 1'b1;` on a falling one, through a port: the input r of the top in slot 5, q in slot 11
   pub falling : calls_of reset_through_port (7 ∷ []) reset_through_port.processes
       ≡ call (Logic LogicalNot) ((5 ∷ []) ∷ []) (13 ∷ []) ∷ call (Select Branch) ((13 ∷ []) ∷ (1 ∷ []) ∷ (11 ∷ []) ∷ []) (14 ∷ []) ∷ call (Logic Copy) ((14 ∷ []) ∷ []) (11 ∷ []) ∷ []
-  -- the statement, the comparison with 0 and x, the mask, and the value or x: four stores
+  -- the comparison with 0 and x, the mask, the statement, and the value or x: four stores
   pub asleep : block_calls
-      ≡ call (Logic And) ((7 ∷ []) ∷ (0 ∷ []) ∷ []) (11 ∷ []) ∷ call (Logic CaseNotEqual) ((10 ∷ 7 ∷ []) ∷ (0 ∷ 2 ∷ []) ∷ []) (12 ∷ []) ∷ call (Logic Copy) ((12 ∷ []) ∷ []) (10 ∷ [])
+      ≡ call (Logic CaseNotEqual) ((10 ∷ 7 ∷ []) ∷ (0 ∷ 2 ∷ []) ∷ []) (11 ∷ []) ∷ call (Logic Copy) ((11 ∷ []) ∷ []) (10 ∷ []) ∷ call (Logic And) ((7 ∷ []) ∷ (0 ∷ []) ∷ []) (11 ∷ [])
       ∷ call (Select Branch) ((10 ∷ []) ∷ (11 ∷ []) ∷ (2 ∷ []) ∷ []) (8 ∷ []) ∷ []
   pub asleep_stores : length_of block_calls ≡ 4

@@ -5,7 +5,7 @@
 
 ghost use Rattle.vs_reset.specs.Calls.{NoneAreNeeded, ResetCallsAre};
 ghost use Rattle.vs_reset.specs.Example.{CallsComputed};
-ghost use Rattle.vs_reset.specs.Sleepers.{SleeperCallsAre};
+ghost use Rattle.vs_reset.specs.Sleepers.{FinishIsCall, SleeperCallsAre, SleepersWrite, WakeIsCalls};
 
 use vs_code::sequence_law;
 use vs_cone::{list_law, sources_law, write_law};
@@ -22,9 +22,12 @@ pub fn reset_law()
     write_law();
 }
 
-/// A block's statement lowered to temporaries, a comparison, a copy and a choice do what a sleeping block does, within what it may store.
+/// A comparison, a copy, a block's statement lowered to slots that are no bits', and a choice do what a sleeping block does, within what it may store (`calls`). They are calls (`wake`, `finish`), since a sleeping block writes some bit (`some`).
 pub fn sleeper_law()
-    ensures { SleeperCallsAre }
+    ensures calls { SleeperCallsAre }
+    ensures wake { WakeIsCalls }
+    ensures finish { FinishIsCall }
+    ensures some { SleepersWrite }
 {
     sequence_law();
     write_law();

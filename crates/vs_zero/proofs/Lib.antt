@@ -9,6 +9,7 @@ pub mod Fixing
 pub mod BranchSteps
 pub mod Unwritten
 pub mod Valued
+pub mod Updating
 pub mod Sourcing
 pub mod Turning
 pub mod Numbered

@@ -66,7 +66,7 @@ joined_here bits b x z g = at (contains bits b) where
 
 -- ---- what is written
 
-same_self : (v : Bit4) → are_same v v ≡ true
+pub same_self : (v : Bit4) → are_same v v ≡ true
 same_self Zero = refl
 same_self One = refl
 same_self X = refl
@@ -81,7 +81,7 @@ unfolding write_all
 write_all_at [] s t b e = e
 write_all_at (w ∷ ws) s t b e = write_all_at ws (put s w.bit w.value) (put t w.bit w.value) b (ap (λ v. if b == w.bit then w.value else v) e)
 
-write_all_covered : (ws : List Write) (s t : State) (b : ℕ) → is_written ws b ≡ true → write_all s ws b ≡ write_all t ws b
+pub write_all_covered : (ws : List Write) (s t : State) (b : ℕ) → is_written ws b ≡ true → write_all s ws b ≡ write_all t ws b
 unfolding write_all is_written
 write_all_covered [] s t b h = cc
 write_all_covered (w ∷ ws) s t b h =
@@ -89,7 +89,7 @@ write_all_covered (w ∷ ws) s t b h =
     (λ e. write_all_at ws (put s w.bit w.value) (put t w.bit w.value) b (cond-true (b == w.bit) w.value (s b) e ∙ sym (cond-true (b == w.bit) w.value (t b) e)))
     (λ e. write_all_covered ws (put s w.bit w.value) (put t w.bit w.value) b (subst (λ c. (c || is_written ws b) ≡ true) e h))
 
-write_all_other : (ws : List Write) (s : State) (b : ℕ) → is_written ws b ≡ false → write_all s ws b ≡ s b
+pub write_all_other : (ws : List Write) (s : State) (b : ℕ) → is_written ws b ≡ false → write_all s ws b ≡ s b
 unfolding write_all is_written
 write_all_other [] s b h = refl
 write_all_other (w ∷ ws) s b h =
@@ -107,7 +107,7 @@ covered law st bits fit covers b h = covers b (law st fit unknown b (inr h))
 not_written : (bits : List ℕ) (ws : List Write) (b : ℕ) → AreCovered bits ws → contains bits b ≡ false → is_written ws b ≡ false
 not_written bits ws b h k = by_test (is_written ws b) (λ e. absurd (let c = h b e in let z : ⊥ = cc in z)) (λ e. e)
 
-within_all : (bits : List ℕ) (n b : ℕ) → All (λ b. b < n) bits → contains bits b ≡ true → b < n
+pub within_all : (bits : List ℕ) (n b : ℕ) → All (λ b. b < n) bits → contains bits b ≡ true → b < n
 within_all [] n b h k = absurd (let z : ⊥ = cc in z)
 within_all (c ∷ bits) n b h k =
     at (same_or_other b c) k (within_all bits n b (λ k d i. h (suc k) d (omega (arith, i))))

@@ -13,7 +13,9 @@ mod sources;
 mod targets;
 mod turns;
 mod values;
+mod written;
 mod zero;
 
 pub use error::ZeroError;
+pub use written::add_written;
 pub use zero::check;

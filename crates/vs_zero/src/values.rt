@@ -20,7 +20,7 @@ use vs_length::Shapes;
 use vs_sets::Set4;
 
 /// Whether two bits are the same.
-fn are_same(a: Bit4, b: Bit4) -> bool
+pub(crate) fn are_same(a: Bit4, b: Bit4) -> bool
     ensures { result ≡ are_same a b }
 {
     match a {
@@ -56,7 +56,7 @@ fn join(bits: &[u32], from_x: &[Bit4], from_zero: &[Bit4], table: &mut [Set4])
 }
 
 /// Gives each of these bits this value.
-fn reset_bits(state: &mut [Bit4], bits: &[u32], value: Bit4)
+pub(crate) fn reset_bits(state: &mut [Bit4], bits: &[u32], value: Bit4)
     requires { All (λ b. b < length state.old) bits.now }
     ensures { state_of state.new ≡ replaced_by bits.now (λ b. value) (state_of state.old) }
 {

@@ -2,8 +2,8 @@ use Rattle.vs_flat.specs.DesignOf.{design_of}
 use Rattle.vs_compile.proofs.Accepted.{accepted_at, are_facts}
 use Rattle.vs_compile.proofs.compiling.compile.Goals as goal
 
-pub of-facts-requires : goal.of-facts-requires
-of-facts-requires c = are_facts c.args.typed.now c.args.footprints.now c.args.clocks.now c.requires.accepted c.requires.footprints c.requires.resets c.requires.plain
+pub of-requires : goal.of-requires
+of-requires c = are_facts c.args.typed.now c.args.footprints.now c.args.clocks.now c.requires.accepted c.requires.footprints c.requires.resets
 
 pub nets_of-requires-clause-accepted : goal.nets_of-requires-clause-accepted
 nets_of-requires-clause-accepted c = accepted_at (design_of c.args.typed.now) c.args.clocks.now c.requires.accepted
@@ -15,14 +15,14 @@ pub frame-requires-clause-clocks : goal.frame-requires-clause-clocks
 frame-requires-clause-clocks c = rw (c.flat.ensures.same, c.bit.ensures) c.in_ok-nets.ensures
 
 pub assemble-requires-clause-accepted : goal.assemble-requires-clause-accepted
-assemble-requires-clause-accepted c = rw (c.in_ok-lowerer.ensures.same, c.of-facts.ensures, c.bit-2.ensures) (accepted_at (design_of c.args.typed.now) c.args.clocks.now c.requires.accepted)
+assemble-requires-clause-accepted c = rw (c.in_ok-lowerer.ensures.same, c.in_ok-facts.ensures, c.bit-2.ensures) (accepted_at (design_of c.args.typed.now) c.args.clocks.now c.requires.accepted)
 
 pub assemble-requires-clause-order : goal.assemble-requires-clause-order
-assemble-requires-clause-order c = rw (c.in_ok-lowerer.ensures.same, c.of-facts.ensures, c.list.ensures) c.requires.order
+assemble-requires-clause-order c = rw (c.in_ok-lowerer.ensures.same, c.in_ok-facts.ensures, c.list.ensures) c.requires.order
 
 pub assemble-requires-clause-frame : goal.assemble-requires-clause-frame
 assemble-requires-clause-frame c =
-    rw (c.in_ok-lowerer.ensures.same, c.of-facts.ensures, c.bit-2.ensures) (rw (c.flat.ensures.same, c.bit.ensures) at c.in_ok-frame.ensures)
+    rw (c.in_ok-lowerer.ensures.same, c.in_ok-facts.ensures, c.bit-2.ensures) (rw (c.flat.ensures.same, c.bit.ensures) at c.in_ok-frame.ensures)
 
 pub returns : goal.returns
-returns c = rw (c.in_ok-lowerer.ensures.same, c.of-facts.ensures, c.bit-2.ensures) at c.assemble.ensures
+returns c = rw (c.in_ok-lowerer.ensures.same, c.in_ok-facts.ensures, c.bit-2.ensures) at c.assemble.ensures

@@ -1,0 +1,164 @@
+-- What the reset of an accepted design's block is, and what its lowering needs.
+use Rattle.std.proofs.Common.{◌≡◌, ℕ, ◌+◌, ◌<◌, ◌≤◌, ◌^◌, Bool, true, ◌&&◌, List, [], ◌∷◌, ◌++◌, if◌then◌else◌, length, Option, Some, slice_get, refl, sym, ap, ◌∙◌, subst, arith}
+use Rattle.vs_net.specs.Network as N
+use Rattle.vs_design.specs.Accepted.{is_empty}
+use Rattle.vs_design.specs.Designs.{Edge, Any, Posedge, Negedge, Process, Always, is_clocked, Design, bit_count}
+use Rattle.vs_design.specs.Fits.{is_fit, fits_statement, fits_process}
+use Rattle.vs_design.specs.Footprints.{contains, statement_bits, writes_of}
+use Rattle.vs_design.specs.Resets.{branch_updates, net_edge, reset_of}
+use Rattle.vs_design.specs.Rules.{mixed_assigns, mixed_in}
+use Rattle.vs_design.specs.Statements.{Statement, If}
+use Rattle.vs_design.specs.TreeLaws.{BodyReads}
+use Rattle.vs_flat.specs.Arena.{Arena}
+use Rattle.vs_flat.specs.Arena as A
+use Rattle.vs_flat.specs.DesignOf.{design_of}
+use Rattle.vs_flat.specs.Operators.{edge_of}
+use Rattle.vs_clock.specs.declared.resets.Reset.{Reset}
+use Rattle.vs_clock.specs.Resets.{branch_of, plain_branch, plain_reset}
+use Rattle.vs_clock.specs.Resets as C
+use Rattle.vs_zero.specs.Constants.{IsFixed}
+use Rattle.vs_cone.specs.Lists.{AscendingIsOnce, FewAreApart}
+use Rattle.vs_cone.specs.Sources.{SourcesAre, SourcesOfDesign}
+use Rattle.vs_code.specs.Calls.{Call, length_of}
+use Rattle.vs_program.specs.Compiled.{IsAcceptedAt}
+use Rattle.vs_program.specs.Lowered.{Layout, IsLoweredReset}
+use Rattle.vs_program.specs.Made.{IsResetAt, RegistersInOrder}
+use Rattle.vs_assemble.specs.Plans.{may_store}
+use Rattle.vs_lower.specs.Coded.{Coding}
+use Rattle.vs_lower.specs.Resetting.{AddsReset, HasResetRoom, IsResetOf, IsResetReady}
+use Rattle.vs_lower.specs.Stated.{AreInside}
+use Rattle.vs_compile.specs.Known.{Known}
+use Rattle.vs_compile.specs.Laid.{IsTable, Laid, laid_layout, table_layout}
+use Rattle.vs_compile.specs.Resets.{falls}
+use Rattle.vs_compile.proofs.Accepted.{there}
+use Rattle.vs_compile.proofs.Blocks.{HasBranch, has_branch, has_room, left_has}
+use Rattle.vs_compile.proofs.Fixed.{fixed_updates}
+use Rattle.vs_compile.proofs.Laying.{registers_below, temps_fit}
+use Rattle.vs_compile.proofs.Lists.{and_true, at_process, is_none}
+use Rattle.vs_compile.proofs.Lowering.{stores_left, writes_in}
+
+-- ---- the branch
+
+pub record IsBranch (x : Process) (r : N.Reset) (taken : Statement) : Type 0 where
+  pub block : HasBranch x r.edge taken
+  pub fixed : IsFixed taken
+  pub within : (b : ℕ) → contains (statement_bits taken) b ≡ true → contains (writes_of x) b ≡ true
+
+left_empty : (xs ys : List ℕ) → xs ++ ys ≡ [] → xs ≡ []
+left_empty [] ys h = refl
+left_empty (x ∷ xs) ys h = absurd (let z : ⊥ = cc in z)
+
+pub branch_is : (d : Design) (clock : ℕ) → IsAcceptedAt d clock → (p : ℕ) (x : Process) → slice_get d.processes p ≡ Some x → (r : N.Reset) (taken : Statement) → reset_of d clock x ≡ Some r → branch_of d clock x ≡ Some taken → IsBranch x r taken
+branch_is d clock at p x e r taken is branch =
+    let h = has_branch d clock x r taken is branch in
+    let s = If h.c taken h.other in
+    let block = Always h.place h.star h.events s in
+    let fit : fits_statement s ≡ true = subst (λ z. fits_process z ≡ true) h.is (at_process fits_process d.processes p x at.accepted.fit e) in
+    let unmixed : mixed_assigns x ≡ [] = is_none (mixed_assigns x) (at_process (λ z. is_empty (mixed_assigns z)) d.processes p x at.accepted.unmixed e) in
+    let clocked : is_clocked block ≡ true = subst (λ z. is_clocked z ≡ true) h.is h.clocked in
+    let mixed : mixed_in (is_clocked block) s ≡ [] = subst (λ z. mixed_assigns z ≡ []) h.is unmixed in
+    record {
+      block = h;
+      fixed = record {
+        fixed = h.fixed;
+        fits = (and_true (is_fit h.c) (fits_statement taken) (and_true (is_fit h.c && fits_statement taken) (fits_statement h.other) fit).0).1;
+        unmixed = left_empty (mixed_in true taken) (mixed_in true h.other) (ap (λ k. mixed_in k s) (sym clocked) ∙ mixed);
+      };
+      within = λ b m. subst (λ z. contains (writes_of z) b ≡ true) (sym h.is) (left_has (statement_bits taken) (statement_bits h.other) b m);
+    }
+
+-- ---- what its lowering needs
+
+pub record CanReset (d : Design) (x : Process) (low : Bool) (r : N.Reset) (taken : Statement) : Type 0 where
+  pub fixed : IsFixed taken
+  pub there : r.input < bit_count d
+  pub inside : AreInside (bit_count d) (statement_bits taken)
+  pub is : IsResetOf r low r.input taken
+  pub room : HasResetRoom x low r.input taken
+
+can_reset : BodyReads → AscendingIsOnce → FewAreApart → SourcesOfDesign → (d : Design) (clock : ℕ) → IsAcceptedAt d clock → (p : ℕ) (x : Process) → slice_get d.processes p ≡ Some x
+    → (r : N.Reset) (taken : Statement) (low : Bool) → reset_of d clock x ≡ Some r → branch_of d clock x ≡ Some taken → r.edge ≡ (if low then N.Negedge else N.Posedge) → r.updates ≡ branch_updates taken → CanReset d x low r taken
+can_reset reads once few sources d clock at p x e r taken low is branch edge updates =
+    let h = branch_is d clock at p x e r taken is branch in
+    let source : SourcesAre d clock = subst (λ c. SourcesAre d c) at.clock_is (sources d at.name at.accepted) in
+    let inside : AreInside (bit_count d) (statement_bits taken) = λ b m. registers_below sources d clock at b (writes_in d.processes p x e h.block.clocked b (h.within b m)) in
+    record {
+      fixed = h.fixed;
+      there = source.data_below r.input (source.reset_input x r is);
+      inside = inside;
+      is = record { input_is = refl; edge_is = edge; updates_are = λ s. fixed_updates reads taken h.fixed.fixed s ∙ sym updates };
+      room = has_room once few (bit_count d) x low r.input taken (subst (λ (g : N.Edge). HasBranch x g taken) edge h.block) inside;
+    }
+
+edge_falls : (e : Edge) → net_edge e ≡ (if falls e then N.Negedge else N.Posedge)
+edge_falls Negedge = refl
+edge_falls Posedge = refl
+edge_falls Any = refl
+
+pub resets : BodyReads → AscendingIsOnce → FewAreApart → SourcesOfDesign → (a : Arena) (clock : ℕ) → IsAcceptedAt (design_of a) clock → (p : ℕ) (x : Process) → slice_get (design_of a).processes p ≡ Some x
+    → (r : Reset) → C.IsResetOf a clock x r → CanReset (design_of a) x (falls (edge_of r.edge)) (plain_reset a r) (plain_branch a r)
+resets reads once few sources a clock at p x e r i =
+    can_reset reads once few sources (design_of a) clock at p x e (plain_reset a r) (plain_branch a r) (falls (edge_of r.edge)) i.is i.branch (edge_falls (edge_of r.edge)) refl
+
+ready : (d : Design) (x : Process) (low : Bool) (r : N.Reset) (taken : Statement) (count first : ℕ) (calls : List Call) → CanReset d x low r taken → count ≡ bit_count d → 4 + count ≤ first
+    → first + Rattle.vs_program.specs.Lowered.process_stores x < 2 ^ 32 → length_of calls + Rattle.vs_program.specs.Lowered.process_stores x ≤ 2 ^ 32 → IsResetReady count (record { calls = calls; next = first }) low r.input taken
+ready d x low r taken count first calls can counted temps slots few = record {
+  temps = temps;
+  there = omega (arith, can.there, counted);
+  inside = λ b m. let under = can.inside b m in omega (arith, under, counted);
+  fit = can.fixed.fits;
+  unmixed = can.fixed.unmixed;
+  slots = omega (arith, slots, can.room.stores);
+  few = omega (arith, few, can.room.stores);
+}
+
+-- in the words of the code
+pub ready_as : (n : ℕ) (code : Coding) (calls : List Call) (next : ℕ) (low asked : Bool) (input : ℕ) (taken : Statement) → code.calls ≡ calls → code.next ≡ next → asked ≡ low
+    → IsResetReady n (record { calls = calls; next = next }) low input taken → IsResetReady n code asked input taken
+ready_as n code calls next low asked input taken same at is h = subst (λ (b : Bool). IsResetReady n code b input taken) (sym is) (record {
+  temps = omega (arith, h.temps, at);
+  there = h.there;
+  inside = h.inside;
+  fit = h.fit;
+  unmixed = h.unmixed;
+  slots = omega (arith, h.slots, at);
+  few = let long = ap length_of same in omega (arith, h.few, long);
+})
+
+pub ready_by : BodyReads → AscendingIsOnce → FewAreApart → SourcesOfDesign → RegistersInOrder → (k : Known) → IsAcceptedAt (design_of k.arena) k.clock
+    → (count : ℕ) (shadows : List ℕ) (first : ℕ) → IsTable (design_of k.arena) count shadows first → (p : ℕ) (x : Process) → slice_get (design_of k.arena).processes p ≡ Some x
+    → (r : Reset) → C.IsResetOf k.arena k.clock x r → (calls : List Call) → length_of calls + may_store (design_of k.arena) p ≤ 2 ^ 32
+    → (a : Arena) → a ≡ k.arena → count ≡ A.bit_count a.signals → IsResetReady (A.bit_count a.signals) (record { calls = calls; next = first }) (falls (edge_of r.edge)) r.input (plain_branch a r)
+ready_by reads once few sources ordered k at count shadows first table p x e r i calls left a same counted =
+    let d = design_of k.arena in
+    let can = resets reads once few sources k.arena k.clock at p x e r i in
+    subst (λ n. IsResetReady n (record { calls = calls; next = first }) (falls (edge_of r.edge)) r.input (plain_branch a r)) counted
+    (subst (λ (z : Arena). IsResetReady count (record { calls = calls; next = first }) (falls (edge_of r.edge)) r.input (plain_branch z r)) (sym same)
+    (ready d x (falls (edge_of r.edge)) (plain_reset k.arena r) (plain_branch k.arena r) count first calls can table.count_is table.layout.layout.layout.temps_above
+    (temps_fit few ordered d k.clock at count shadows first table p x e) (stores_left d p x (length_of calls) e left)))
+
+-- ---- what is then added
+
+abbrev pub Adds : Arena → Reset → ℕ → List Call → List Call → Type 0
+Adds a r first old new =
+    (l : Layout) (x : Process) → l.bits ≡ A.bit_count a.signals → l.first_temp ≡ first → IsResetOf (plain_reset a r) (falls (edge_of r.edge)) r.input (plain_branch a r)
+    → HasResetRoom x (falls (edge_of r.edge)) r.input (plain_branch a r) → AddsReset l (Some (plain_reset a r)) x old new
+
+pub added_by : BodyReads → AscendingIsOnce → FewAreApart → SourcesOfDesign → (k : Known) → IsAcceptedAt (design_of k.arena) k.clock → (count : ℕ) (shadows : List ℕ) (first : ℕ)
+    → (l : Laid) → record { known = k; count = count; shadows = shadows; first = first } ≡ l → (p : ℕ) → p < length (design_of l.known.arena).processes → (at : ℕ) → at ≡ l.known.clock
+    → (r : Reset) → ((x : Process) → slice_get (design_of k.arena).processes p ≡ Some x → C.IsResetOf k.arena k.clock x r)
+    → (old new : List Call) (a : Arena) → a ≡ k.arena → count ≡ A.bit_count a.signals → Adds a r first old new
+    → (calls : List Call) × (new ≡ old ++ calls) × IsResetAt (design_of l.known.arena) at (laid_layout l) p calls
+added_by reads once few sources k accepted count shadows first l is p low at this r each old new a same counted done =
+    subst (λ (z : Laid). p < length (design_of z.known.arena).processes → at ≡ z.known.clock → (calls : List Call) × (new ≡ old ++ calls) × IsResetAt (design_of z.known.arena) at (laid_layout z) p calls) is here low this
+  where
+    here : p < length (design_of k.arena).processes → at ≡ k.clock → (calls : List Call) × (new ≡ old ++ calls) × IsResetAt (design_of k.arena) at (table_layout count shadows first) p calls
+    here least clock =
+        let d = design_of k.arena in
+        let x = there d.processes p least in
+        let i = each x.0 x.1 in
+        let can = resets reads once few sources k.arena k.clock accepted p x.0 x.1 r i in
+        let so : Adds k.arena r first old new = subst (λ (z : Arena). Adds z r first old new) same done in
+        let adds = so (table_layout count shadows first) x.0 (counted ∙ ap (λ (z : Arena). A.bit_count z.signals) same) refl can.is can.room in
+        let own : reset_of d at x.0 ≡ Some (plain_reset k.arena r) = ap (λ c. reset_of d c x.0) clock ∙ i.is in
+        (adds.calls, adds.is, (x.0, x.1, subst (λ (o : Option N.Reset). IsLoweredReset (table_layout count shadows first) o x.0 adds.calls) (sym own) adds.lowered))
