@@ -29,7 +29,7 @@ same_some p q = cc
 pub none_some : {A : Type 0} {a : A} {x : Option A} → x ≡ None → x ≡ Some a → ⊥
 none_some p q = cc
 
-spells : (text : List ℕ) (tokens : List Token) (source : Source) → IsRead text tokens source → Spells text source
+pub spells : (text : List ℕ) (tokens : List Token) (source : Source) → IsRead text tokens source → Spells text source
 spells text tokens source r = record { tokens = tokens; cut = r.cut; spelled = r.spelled }
 
 -- the tokens of a text that is read spell its tree

@@ -1,3 +1,5 @@
 mod Answered
 mod AlikeDesign
 mod Alike
+mod Told
+mod Judged

@@ -1,2 +1,4 @@
 pub mod Refused
 pub mod Accepted
+pub mod Answers
+pub mod Lent

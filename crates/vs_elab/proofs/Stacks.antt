@@ -8,7 +8,7 @@ use Rattle.vs_grammar.specs.Trees.{Source}
 use Rattle.vs_const.specs.declared.faults.Fault.{Fault}
 use Rattle.vs_const.specs.Faults.{least}
 use Rattle.vs_hierarchy.specs.Limits.{Limits}
-use Rattle.vs_hierarchy.specs.Pieces.{Task, is_instance, Connection, Piece, Own, Instance, Within}
+use Rattle.vs_hierarchy.specs.Pieces.{Task, Connection, Piece, Own, Instance, Within}
 use Rattle.vs_hierarchy.specs.Surveys.{Totals, Survey, survey}
 use Rattle.vs_hierarchy.specs.Elaborated.{both_designs, of_processes, then_do, unless_fault, port_assign, Read, ReadPieces, read_piece, read_pieces, counted, limit_faults, scope_design, read_scope}
 use Rattle.vs_elab.specs.Stacks.{Pending, pending, rest_of, built_then, scope_part, ports_part}

@@ -1,5 +1,5 @@
 -- What is found of a scope is what its survey says.
-use Rattle.std.proofs.Common.{◌≡◌, ◌≤◌, ◌+◌, ◌^◌, ℕ, false, List, [], ◌∷◌, ◌++◌, length, map, Option, Some, None, refl, sym, ap, ◌∙◌}
+use Rattle.std.proofs.Common.{◌≡◌, ◌≤◌, ◌+◌, ◌^◌, ℕ, List, [], ◌∷◌, ◌++◌, length, map, Option, Some, None, refl, sym, ap, ◌∙◌}
 use Rattle.std.specs.Prelude.{sum_by}
 use Rattle.vs_grammar.specs.Trees as tree
 use Rattle.vs_grammar.specs.Shapes.{Each}
@@ -7,7 +7,7 @@ use Rattle.vs_ast.specs.Views as view
 use Rattle.vs_const.specs.declared.faults.Fault.{Fault}
 use Rattle.vs_const.specs.Faults.{least, better}
 use Rattle.vs_hierarchy.specs.Limits.{the_limits}
-use Rattle.vs_hierarchy.specs.Environments.{Env, Entry, named, within}
+use Rattle.vs_hierarchy.specs.Environments.{Env, named, within}
 use Rattle.vs_hierarchy.specs.Signals.{Start, SaidSignal}
 use Rattle.vs_hierarchy.specs.Generate.{Made}
 use Rattle.vs_hierarchy.specs.Pieces.{Task}

@@ -1,5 +1,5 @@
 -- What has been read of a text, and what is still to be read.
-use Rattle.std.specs.Prelude.{◌≡◌, ◌<◌, ◌≤◌, ◌+◌, ◌^◌, ◌++◌, ◌∷◌, [], ℕ, suc, Bool, false, List, Some, None, map, length, sum_by, is_none, Result, Err}
+use Rattle.std.specs.Prelude.{◌≡◌, ◌<◌, ◌≤◌, ◌+◌, ◌^◌, ◌++◌, ◌∷◌, [], ℕ, suc, false, List, Some, None, map, length, sum_by, Result, Err}
 use Rattle.vs_design.specs.Designs.{Design, bit_count}
 use Rattle.vs_grammar.specs.Trees as tree
 use Rattle.vs_grammar.specs.Shapes.{Each, IsShaped}
@@ -9,7 +9,6 @@ use Rattle.vs_const.specs.Faults.{least}
 use Rattle.vs_hierarchy.specs.Limits.{the_limits}
 use Rattle.vs_hierarchy.specs.Environments.{within}
 use Rattle.vs_hierarchy.specs.Pieces.{Task}
-use Rattle.vs_hierarchy.specs.Instances.{Around}
 use Rattle.vs_hierarchy.specs.Surveys.{Totals, Survey, survey, turned, piece_processes}
 use Rattle.vs_hierarchy.specs.Elaborated.{both_designs, counted, limit_faults, read_scope}
 use Rattle.vs_hierarchy.specs.Sound.{AreSoundFrames}

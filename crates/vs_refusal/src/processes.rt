@@ -4,7 +4,7 @@ ghost use Rattle.std.specs.Prelude.{◌≡◌};
 use std::marker::Model;
 
 /// The numbers of some processes, in order. Contracts see it as a list.
-#[derive(Drop)]
+#[derive(Debug, Drop)]
 pub struct Processes {
     numbers: Vec<u32>,
 }

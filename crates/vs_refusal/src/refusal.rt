@@ -8,7 +8,7 @@ use crate::processes::Processes;
 
 /// Why a run was refused. Places are in bytes of the design; processes, signals and bits are the
 /// numbers of the elaborated design; lanes count from 0 and lines from 1.
-#[derive(Drop)]
+#[derive(Debug, Drop)]
 pub enum Refusal {
     /// A refusal that carries nothing.
     Bare(BareName),

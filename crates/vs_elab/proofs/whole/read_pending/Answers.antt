@@ -1,7 +1,4 @@
-use Rattle.std.proofs.Common.{◌≡◌, ◌<◌, List, length, refl, sym, ap, ◌∙◌, subst, arith}
-use Rattle.std.specs.Prelude.{Err}
-use Rattle.std.proofs.lemmas.Result.{err_from_is_err_and}
-use Rattle.vs_const.specs.declared.faults.Fault.{Fault}
+use Rattle.std.proofs.Common.{◌<◌, List, refl, sym, ap, ◌∙◌, subst, arith}
 use Rattle.vs_elab.specs.declared.stack.Pending.{Pending}
 use Rattle.vs_elab.specs.Reading.{IsReading, outcome, work_left}
 use Rattle.vs_elab.proofs.TopReading.{all_read, told_part, none_taken}

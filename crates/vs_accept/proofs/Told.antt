@@ -1,0 +1,58 @@
+-- How each stage's refusal is told.
+use Rattle.std.proofs.Common.{◌≡◌, ℕ, List, refl, sym, ap, subst, ◌⊎◌, inl, inr, Option, Some, None}
+use Rattle.std.specs.Prelude.{Ok, Err}
+use Rattle.vs_lexer.specs.declared.token.Token.{Token}
+use Rattle.vs_lexer.specs.declared.token.LexError.{LexError}
+use Rattle.vs_lexer.specs.declared.token.LexError.TheVariants as lexer
+use Rattle.vs_lexer.specs.Cuts.{cut_text}
+use Rattle.vs_grammar.specs.Trees.{Source}
+use Rattle.vs_grammar.specs.Spelled.{Spells, SpelledBy}
+use Rattle.vs_const.specs.declared.faults.Fault.{Fault}
+use Rattle.vs_hierarchy.specs.Elaborated.{elaborated}
+use Rattle.vs_design.specs.Designs.{Design}
+use Rattle.vs_design.specs.Answers.{DesignRefusal, IsRefusedBy}
+use Rattle.vs_accept.specs.declared.error.AcceptError.{AcceptError}
+use Rattle.vs_accept.specs.declared.error.AcceptError.TheVariants.{Refused, Memory}
+use Rattle.vs_accept.specs.Accepted.{IsRead, ByTokens, ByTree, ByElaboration, ByRule}
+use Rattle.vs_accept.specs.Refused.{byte_of, token_refusal, TreeFault, IsTreeFault, tree_refusal, fault_refusal, design_refusal}
+use Rattle.vs_accept.specs.Answers.{refusal_in, IsRefusalOf, IsVerdict}
+use Rattle.vs_accept.proofs.Answered.{same_ok, none_some}
+
+-- ---- tokens and tree
+
+some_none : {A : Type 0} {a : A} {x : Option A} → Some a ≡ x → x ≡ None → ⊥
+some_none p q = none_some q (sym p)
+
+-- a text that isn't cut
+pub uncut : (text top clock : List ℕ) (l : LexError) (e : AcceptError) → (cut_text text ≡ Err l) ⊎ (l ≡ lexer.Memory) → refusal_in e ≡ token_refusal l → IsRefusalOf text top clock e
+uncut text top clock l (Refused r) (inl cut) told = ByTokens l cut (sym told)
+uncut text top clock l (Refused r) (inr out) told = absurd (some_none told (ap token_refusal out))
+uncut text top clock l Memory h told = tt
+
+-- tokens that spell no tree
+pub unspelled : (text top clock : List ℕ) (tokens : List Token) (x : TreeFault) (e : AcceptError) → cut_text text ≡ Ok tokens → IsTreeFault tokens x
+    → e ≡ Refused (tree_refusal (byte_of text tokens) x) → IsRefusalOf text top clock e
+unspelled text top clock tokens x e cut fault is = subst (IsRefusalOf text top clock) (sym is) (ByTree tokens x cut fault refl)
+
+-- the tokens of a text spell its tree
+pub read_by : (text : List ℕ) (tokens : List Token) (source : Source) → cut_text text ≡ Ok tokens → Spells text source → IsRead text tokens source
+read_by text tokens source cut s = record { cut = cut; spelled = subst (λ (ts : List Token). SpelledBy text ts source) (same_ok s.cut cut) s.spelled }
+
+-- ---- elaboration
+
+-- a tree that doesn't elaborate
+pub unelaborated : (text top clock : List ℕ) (tokens : List Token) (source : Source) (f : Fault) (e : AcceptError) → IsRead text tokens source → elaborated source top ≡ Err f
+    → e ≡ Refused (fault_refusal (byte_of text tokens) f) → IsRefusalOf text top clock e
+unelaborated text top clock tokens source f e read broken is = subst (IsRefusalOf text top clock) (sym is) (ByElaboration tokens source f read broken refl)
+
+-- ---- the design
+
+-- a design that breaks a rule
+pub verdict : (byte : ℕ → ℕ) (d : Design) (clock : List ℕ) (x : DesignRefusal) (e : AcceptError) → IsRefusedBy d clock x → e ≡ Refused (design_refusal byte x) → IsVerdict byte d clock e
+verdict byte d clock x e refused is = subst (IsVerdict byte d clock) (sym is) (record { breaks = x; refused = refused; told = refl })
+
+-- what is told of the design is told of the text
+pub by_rule : (text top clock : List ℕ) (tokens : List Token) (source : Source) (d : Design) (e : AcceptError) → IsRead text tokens source → elaborated source top ≡ Ok d
+    → IsVerdict (byte_of text tokens) d clock e → IsRefusalOf text top clock e
+by_rule text top clock tokens source d (Refused r) read elaborates v = ByRule tokens source d v.breaks read elaborates v.refused v.told
+by_rule text top clock tokens source d Memory read elaborates v = tt

@@ -1,0 +1,9 @@
+use Rattle.vs_ast.specs.Views as view
+use Rattle.vs_accept.proofs.Answered.{spells}
+use Rattle.vs_accept.proofs.acceptance.flat_of.Goals as goal
+
+pub flatten-requires : goal.flatten-requires
+flatten-requires c = c.shaped_law.ensures c.args.places.now.text.now (view.source c.args.source.now) (spells c.args.places.now.text.now c.args.places.now.tokens.now (view.source c.args.source.now) c.requires)
+
+pub returns-in-Err-clause-refused : goal.returns-in-Err-clause-refused
+returns-in-Err-clause-refused c = λ clock. c.elab_error.ensures (view.source c.args.source.now) c.args.top.now clock c.requires c.in-Err.ensures.broken

@@ -1,0 +1,9 @@
+use Rattle.vs_ast.specs.Views as view
+use Rattle.vs_accept.proofs.Told.{read_by}
+use Rattle.vs_accept.proofs.acceptance.tree_of.Goals as goal
+
+pub returns-in-Ok-clause-read : goal.returns-in-Ok-clause-read
+returns-in-Ok-clause-read c = read_by c.args.places.now.text.now c.args.places.now.tokens.now (view.source c.in-Ok.source) c.requires c.in-Ok.ensures.found
+
+pub returns-in-Err-clause-refused : goal.returns-in-Err-clause-refused
+returns-in-Err-clause-refused c = λ top clock. c.tree_error.ensures top clock c.requires c.in-Err.ensures.fault

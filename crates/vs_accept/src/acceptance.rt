@@ -1,0 +1,93 @@
+//! The acceptance of a text.
+
+ghost use Rattle.std.specs.Prelude.{◌≡◌, ◌≤◌, ℕ, List, Ok, IfOk, IfErr, IsErrAnd, MatchResult, length};
+ghost use Rattle.vs_lexer.specs.Cuts.{cut_text};
+ghost use Rattle.vs_ast.specs.Views as view;
+ghost use Rattle.vs_hierarchy.specs.Elaborated.{elaborated};
+ghost use Rattle.vs_design.specs.Designs.{Design};
+ghost use Rattle.vs_flat.specs.DesignOf.{design_of};
+ghost use Rattle.vs_flat.specs.Lawful.{IsLawful};
+ghost use Rattle.vs_refusal.specs.declared.refusal.Refusal.{Refusal};
+ghost use Rattle.vs_accept.specs.declared.error.AcceptError.TheVariants.{Memory};
+ghost use Rattle.vs_accept.specs.Accepted.{IsRead, IsAcceptedText, IsRefusedText};
+ghost use Rattle.vs_accept.specs.Answers.{IsRefusalOf, TellsLike};
+ghost use Rattle.vs_accept.specs.Lent.{IsAcceptance};
+
+use crate::judge::judge;
+use crate::places::Places;
+use crate::{AcceptError, Accepted, answer_law};
+use std::alloc::Global;
+use vs_ast::Source;
+use vs_elab::flatten;
+use vs_flat::Flat;
+use vs_grammar::laws::shaped_law;
+use vs_lexer::{MAX_BYTES, lex};
+use vs_parser::parse;
+
+/// The tree that the tokens of a text spell.
+fn tree_of(alloc: Global, places: &Places<'_>) -> Result<Source, AcceptError>
+    requires { cut_text places.now.text.now ≡ Ok places.now.tokens.now }
+    ensures read { IfOk result (λ s. IsRead places.now.text.now places.now.tokens.now (view.source s)) }
+    ensures refused { (top clock : List ℕ) → IfErr result (IsRefusalOf places.now.text.now top clock) }
+{
+    match parse(alloc, places.text, places.tokens) {
+        Ok(source) => Ok(source),
+        Err(error) => Err(places.tree_error(error)),
+    }
+}
+
+/// The flat design that a tree elaborates to.
+fn flat_of(
+    alloc: Global,
+    places: &Places<'_>,
+    source: &Source,
+    top: &[u8],
+) -> Result<Flat, AcceptError>
+    requires { IsRead places.now.text.now places.now.tokens.now (view.source source.now) }
+    ensures elaborates { IfOk result (λ f. elaborated (view.source source.now) top.now ≡ Ok (design_of f)) }
+    ensures lawful { IfOk result IsLawful }
+    ensures refused { (clock : List ℕ) → IfErr result (IsRefusalOf places.now.text.now top.now clock) }
+{
+    shaped_law();
+    match flatten(alloc, source, top) {
+        Ok(flat) => Ok(flat),
+        Err(error) => Err(places.elab_error(error)),
+    }
+}
+
+/// The answer to a text: its stages one after the other, up to the first that refuses.
+fn answer(alloc: Global, text: &[u8], top: &[u8], clock: &[u8]) -> Result<Accepted, AcceptError>
+    requires { length text.now ≤ MAX_BYTES }
+    ensures accepted { IfOk result (λ a. IsAcceptedText text.now top.now clock.now (design_of a.flat)) }
+    ensures lent { IfOk result (IsAcceptance clock.now) }
+    ensures refused { IfErr result (IsRefusalOf text.now top.now clock.now) }
+{
+    let tokens = lex(alloc, text)?;
+    let places = Places {
+        text,
+        tokens: tokens.as_slice(),
+    };
+    let source = tree_of(alloc, &places)?;
+    let flat = flat_of(alloc, &places, &source, top)?;
+    judge(alloc, &places, flat, clock)
+}
+
+/// Accepts a text of at most `MAX_BYTES` bytes as a design whose top module and whose clock input have these names, or refuses it by the
+/// first rule that it breaks (IEEE 1364-2005, clauses 3 and 12, annex A, and the rules of an accepted design).
+///
+/// The stages are tokens, tree, elaboration, lengths and size, blocks, drivers, the clock, the level order and time zero; each is tried only
+/// where none before it refuses. `Memory` may be the answer to any text.
+pub fn accept(alloc: Global, text: &[u8], top: &[u8], clock: &[u8]) -> Result<Accepted, AcceptError>
+    requires { length text.now ≤ MAX_BYTES }
+    // what is accepted is a design of the text, and all that is lent belongs to it
+    ensures accepted { IfOk result (λ a. IsAcceptedText text.now top.now clock.now (design_of a.flat)) }
+    ensures lent { IfOk result (IsAcceptance clock.now) }
+    // a refusal is one of the text
+    ensures refused { IfErr result (IsRefusalOf text.now top.now clock.now) }
+    // a text that is accepted as a design is answered by it, and one that is refused by its refusal, but for what is left open
+    ensures kept { (d : Design) → IsAcceptedText text.now top.now clock.now d → MatchResult result (λ a. design_of a.flat ≡ d) (λ e. e ≡ Memory) }
+    ensures refusal { (q : Refusal) → IsRefusedText text.now top.now clock.now q → IsErrAnd result (TellsLike q) }
+{
+    answer_law();
+    answer(alloc, text, top, clock)
+}

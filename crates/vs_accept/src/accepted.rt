@@ -1,0 +1,68 @@
+//! What is kept of an accepted text.
+
+ghost use Rattle.std.specs.Prelude.{◌≡◌};
+
+use std::marker::Model;
+use vs_clock::Clocks;
+use vs_level::Order;
+use vs_reads::Footprints;
+use vs_width::Typed;
+
+/// The design of an accepted text, and what was found out of it.
+#[derive(Drop)]
+pub struct Accepted {
+    typed: Typed,
+    footprints: Footprints,
+    clocks: Clocks,
+    order: Order,
+}
+
+impl Model for Accepted {
+    ghost use Rattle.vs_accept.specs.Lent.{Acceptance};
+
+    ghost Value = { Acceptance };
+
+    ghost view = { λ a. record { flat = a.typed; footprints = a.footprints; clocks = a.clocks; order = a.order } };
+}
+
+impl Accepted {
+    /// A design with its footprints, its clock and an order of its processes.
+    pub(crate) fn of(typed: Typed, footprints: Footprints, clocks: Clocks, order: Order) -> Accepted
+        ensures { result ≡ record { flat = typed; footprints = footprints; clocks = clocks; order = order } }
+    {
+        Accepted {
+            typed,
+            footprints,
+            clocks,
+            order,
+        }
+    }
+
+    /// The flat design, with the lengths of its expressions and its size.
+    pub fn typed(&self) -> &Typed
+        ensures { result.now ≡ self.now.flat }
+    {
+        &self.typed
+    }
+
+    /// The bits that each process reads, writes and waits on.
+    pub fn footprints(&self) -> &Footprints
+        ensures { result.now ≡ self.now.footprints }
+    {
+        &self.footprints
+    }
+
+    /// The clock, its nets and the resets.
+    pub fn clocks(&self) -> &Clocks
+        ensures { result.now ≡ self.now.clocks }
+    {
+        &self.clocks
+    }
+
+    /// A level order of the assigns and combinational blocks.
+    pub fn order(&self) -> &Order
+        ensures { result.now ≡ self.now.order }
+    {
+        &self.order
+    }
+}

@@ -1,0 +1,98 @@
+//! The rules on an elaborated design.
+
+ghost use Rattle.std.specs.Prelude.{◌≡◌, IfOk, IfErr, OnOk, ℕ, List};
+ghost use Rattle.vs_design.specs.Accepted.{IsAcceptedDesign};
+ghost use Rattle.vs_flat.specs.DesignOf.{design_of};
+ghost use Rattle.vs_flat.specs.Lawful.{IsLawful};
+ghost use Rattle.vs_reads.specs.Footprint.{footprints_of};
+ghost use Rattle.vs_accept.specs.Refused.{byte_of};
+ghost use Rattle.vs_accept.specs.Answers.{IsVerdict, KeepsDrivers};
+ghost use Rattle.vs_accept.specs.Lent.{IsAcceptance};
+
+use crate::places::Places;
+use crate::{AcceptError, Accepted};
+use std::alloc::{AllocError, Global};
+use vs_block::block_forms;
+use vs_design::accepted_law;
+use vs_flat::Flat;
+use vs_reads::{Footprints, footprints};
+use vs_width::{Typed, fits_law, type_design};
+
+/// What each process of a design reads, writes and waits on.
+fn prints_of(alloc: Global, typed: &Typed) -> Result<Footprints, AllocError>
+    ensures { IfOk result (λ f. f ≡ footprints_of (design_of typed.now)) }
+{
+    fits_law();
+    let _flat = typed.flat();
+    footprints(alloc, typed.shapes())
+}
+
+/// The rules on blocks, and then that of single drivers.
+fn check_writers(
+    alloc: Global,
+    places: &Places<'_>,
+    typed: &Typed,
+    footprints: &Footprints,
+) -> Result<(), AcceptError>
+    requires { footprints.now ≡ footprints_of (design_of typed.now) }
+    ensures kept { OnOk result (KeepsDrivers (design_of typed.now)) }
+    ensures refused { (clock : List ℕ) → IfErr result (IsVerdict (byte_of places.now.text.now places.now.tokens.now) (design_of typed.now) clock) }
+{
+    let _flat = typed.flat();
+    if let Err(error) = block_forms(alloc, typed, footprints) {
+        return Err(places.block_error(error));
+    }
+    match vs_driver::check(alloc, typed, footprints) {
+        Ok(()) => Ok(()),
+        Err(error) => Err(places.driver_error(error)),
+    }
+}
+
+/// All rules but those on lengths, in their order.
+fn judge_typed(
+    alloc: Global,
+    places: &Places<'_>,
+    typed: Typed,
+    clock: &[u8],
+) -> Result<Accepted, AcceptError>
+    ensures same { IfOk result (λ a. a.flat ≡ typed) }
+    ensures accepted { IfOk result (λ a. IsAcceptedDesign (design_of typed) clock.now) }
+    ensures lent { IfOk result (IsAcceptance clock.now) }
+    ensures refused { IfErr result (IsVerdict (byte_of places.now.text.now places.now.tokens.now) (design_of typed) clock.now) }
+{
+    accepted_law();
+    let _flat = typed.flat();
+    let footprints = prints_of(alloc, &typed)?;
+    check_writers(alloc, places, &typed, &footprints)?;
+    let clocks = match vs_clock::check(alloc, &typed, &footprints, clock) {
+        Ok(clocks) => clocks,
+        Err(error) => return Err(places.clock_error(error)),
+    };
+    let order = match vs_level::order(alloc, &typed, &footprints) {
+        Ok(order) => order,
+        Err(error) => return Err(places.level_error(error)),
+    };
+    match vs_zero::check(alloc, &typed, &footprints, &clocks, &order) {
+        Ok(()) => Ok(Accepted::of(typed, footprints, clocks, order)),
+        Err(error) => Err(places.zero_error(error)),
+    }
+}
+
+/// Judges an elaborated design by all rules, in their order: the first one that it breaks is told. `clock` is the name of the clock input.
+pub(crate) fn judge(
+    alloc: Global,
+    places: &Places<'_>,
+    flat: Flat,
+    clock: &[u8],
+) -> Result<Accepted, AcceptError>
+    requires { IsLawful flat }
+    ensures same { IfOk result (λ a. a.flat ≡ flat) }
+    ensures accepted { IfOk result (λ a. IsAcceptedDesign (design_of flat) clock.now) }
+    ensures lent { IfOk result (IsAcceptance clock.now) }
+    ensures refused { IfErr result (IsVerdict (byte_of places.now.text.now places.now.tokens.now) (design_of flat) clock.now) }
+{
+    match type_design(alloc, flat) {
+        Ok(typed) => judge_typed(alloc, places, typed, clock),
+        Err(error) => Err(places.width_error(error)),
+    }
+}

@@ -1,0 +1,192 @@
+//! The refusals of stages.
+
+ghost use Rattle.std.specs.Prelude.{◌≡◌, ℕ, true, List, Ok, None};
+ghost use Rattle.vs_lexer.specs.Cuts.{cut_text};
+ghost use Rattle.vs_grammar.specs.Trees.{Source};
+ghost use Rattle.vs_hierarchy.specs.Elaborated.{elaborated};
+ghost use Rattle.vs_parser.specs.Faults.{Fault as TreeFault};
+ghost use Rattle.vs_design.specs.Designs.{Design};
+ghost use Rattle.vs_design.specs.Refusals.{width_refusal};
+ghost use Rattle.vs_width.specs.Refused.{IsWidthError};
+ghost use Rattle.vs_block.specs.Refused.{IsBlockError};
+ghost use Rattle.vs_driver.specs.Refused.{IsDriverError};
+ghost use Rattle.vs_clock.specs.Refused.{IsClockError};
+ghost use Rattle.vs_level.specs.Level.{IsLevelError};
+ghost use Rattle.vs_zero.specs.Refused.{IsZeroError};
+ghost use Rattle.vs_design.specs.Levels.{has_no_cycle};
+ghost use Rattle.vs_accept.specs.declared.error.AcceptError.TheVariants.{Refused};
+ghost use Rattle.vs_accept.specs.Refused as spec;
+ghost use Rattle.vs_accept.specs.Refused.{byte_of, fault_refusal};
+ghost use Rattle.vs_accept.specs.Accepted.{IsRead};
+ghost use Rattle.vs_accept.specs.Answers.{IsElabError, IsRefusalOf, IsVerdict, KeepsBlocks, KeepsDrivers, KeepsClock};
+
+use crate::AcceptError;
+use crate::places::Places;
+use vs_block::BlockError;
+use vs_clock::ClockError;
+use vs_const::Fault;
+use vs_driver::DriverError;
+use vs_elab::ElabError;
+use vs_level::LevelError;
+use vs_parser::ParseError;
+use vs_refusal::{AtName, BareName, ProcessName, Processes, Refusal};
+use vs_width::WidthError;
+use vs_zero::ZeroError;
+
+/// The name of a rule of elaboration that has a place, by its number.
+fn rule_name(number: u32) -> AtName
+    ensures { result ≡ spec.rule_name number }
+{
+    match number {
+        30 => AtName::NotConstant,
+        31 => AtName::UnknownConstant,
+        33 => AtName::DuplicateModule,
+        34 => AtName::UnknownModule,
+        35 => AtName::UnknownName,
+        36 => AtName::DuplicateName,
+        37 => AtName::BadRange,
+        38 => AtName::PortCount,
+        39 => AtName::UnknownPort,
+        40 => AtName::InstanceDepth,
+        41 => AtName::TooManyInstances,
+        42 => AtName::GenerateTurns,
+        44 => AtName::TooManyBits,
+        45 => AtName::TooManyProcesses,
+        _ => AtName::WrongKind,
+    }
+}
+
+// Each error of a stage as the answer to a text. A stage is tried only where no rule before it refuses the design.
+impl Places<'_> {
+    /// The tokens spell no tree.
+    pub(crate) fn tree_error(&self, error: ParseError) -> AcceptError
+        ensures { (top clock : List ℕ) → cut_text self.now.text.now ≡ Ok self.now.tokens.now → TreeFault self.now.tokens.now error → IsRefusalOf self.now.text.now top clock result }
+    {
+        match error {
+            ParseError::LeftOut(token) => self.refused_at(AtName::LeftOut, token),
+            ParseError::Syntax(token) => self.refused_at(AtName::Syntax, token),
+            ParseError::TooDeep(token) => self.refused_at(AtName::TooDeep, token),
+            ParseError::Memory => AcceptError::Memory,
+        }
+    }
+
+    /// The tree doesn't elaborate.
+    pub(crate) fn elab_error(&self, error: ElabError) -> AcceptError
+        ensures { (source : Source) (top clock : List ℕ) → IsRead self.now.text.now self.now.tokens.now source → IsElabError (elaborated source top) error → IsRefusalOf self.now.text.now top clock result }
+    {
+        match error {
+            ElabError::Broken(fault) => self.fault_error(fault),
+            ElabError::Memory => AcceptError::Memory,
+        }
+    }
+
+    /// A rule of elaboration is broken. That there is no top is told without a place.
+    fn fault_error(&self, fault: Fault) -> AcceptError
+        ensures { result ≡ Refused (fault_refusal (byte_of self.now.text.now self.now.tokens.now) fault) }
+    {
+        if fault.number == 32 {
+            return AcceptError::Refused(Refusal::Bare(BareName::NoTop));
+        }
+        self.refused_at(rule_name(fault.number), fault.place)
+    }
+
+    /// A length or a division is refused, or the size.
+    pub(crate) fn width_error(&self, error: WidthError) -> AcceptError
+        ensures { (d : Design) (clock : List ℕ) → IsWidthError d error → IsVerdict (byte_of self.now.text.now self.now.tokens.now) d clock result }
+    {
+        match error {
+            WidthError::TooWide { at } => self.refused_at(AtName::TooWide, at),
+            WidthError::Division { at } => self.refused_at(AtName::Division, at),
+            WidthError::TooLarge { size } => AcceptError::Refused(Refusal::TooLarge { size }),
+            WidthError::Memory => AcceptError::Memory,
+        }
+    }
+
+    /// A block is refused.
+    pub(crate) fn block_error(&self, error: BlockError) -> AcceptError
+        ensures { (d : Design) (clock : List ℕ) → width_refusal d ≡ None → IsBlockError d error → IsVerdict (byte_of self.now.text.now self.now.tokens.now) d clock result }
+    {
+        match error {
+            BlockError::MixedAssign { at } => self.refused_at(AtName::MixedAssign, at),
+            BlockError::Sensitivity {
+                process,
+                signal,
+                at,
+            } => AcceptError::Refused(Refusal::Sensitivity {
+                process,
+                signal,
+                at: self.byte(at),
+            }),
+            BlockError::Latch { process, bit, at } => AcceptError::Refused(Refusal::Latch {
+                process,
+                bit,
+                at: self.byte(at),
+            }),
+            BlockError::Memory => AcceptError::Memory,
+        }
+    }
+
+    /// A bit has two drivers.
+    pub(crate) fn driver_error(&self, error: DriverError) -> AcceptError
+        ensures { (d : Design) (clock : List ℕ) → KeepsBlocks d → IsDriverError d error → IsVerdict (byte_of self.now.text.now self.now.tokens.now) d clock result }
+    {
+        match error {
+            DriverError::TwoDrivers {
+                bit,
+                first,
+                second,
+                at,
+            } => AcceptError::Refused(Refusal::TwoDrivers {
+                bit,
+                first,
+                second,
+                at: self.byte(at),
+            }),
+            DriverError::Memory => AcceptError::Memory,
+        }
+    }
+
+    /// The clock is refused, or a reset.
+    pub(crate) fn clock_error(&self, error: ClockError) -> AcceptError
+        ensures { (d : Design) (clock : List ℕ) → KeepsDrivers d → IsClockError d clock error → IsVerdict (byte_of self.now.text.now self.now.tokens.now) d clock result }
+    {
+        match error {
+            ClockError::NoClock => AcceptError::Refused(Refusal::Bare(BareName::NoClock)),
+            ClockError::ClockRead { process, at } => {
+                self.refused_process(ProcessName::ClockRead, process, at)
+            }
+            ClockError::NotTheClock { process, at } => {
+                self.refused_process(ProcessName::NotTheClock, process, at)
+            }
+            ClockError::ResetForm { process, at } => {
+                self.refused_process(ProcessName::ResetForm, process, at)
+            }
+            ClockError::Memory => AcceptError::Memory,
+        }
+    }
+
+    /// Processes feed one another in a circle.
+    pub(crate) fn level_error(&self, error: LevelError) -> AcceptError
+        ensures { (d : Design) (clock : List ℕ) → KeepsClock d clock → IsLevelError d error → IsVerdict (byte_of self.now.text.now self.now.tokens.now) d clock result }
+    {
+        match error {
+            LevelError::Cycle { processes, at } => AcceptError::Refused(Refusal::Cycle {
+                processes: Processes::new(processes),
+                at: self.byte(at),
+            }),
+            LevelError::Memory => AcceptError::Memory,
+        }
+    }
+
+    /// A block is refused at time zero.
+    pub(crate) fn zero_error(&self, error: ZeroError) -> AcceptError
+        ensures { (d : Design) (clock : List ℕ) → KeepsClock d clock → has_no_cycle d ≡ true → IsZeroError d clock error → IsVerdict (byte_of self.now.text.now self.now.tokens.now) d clock result }
+    {
+        match error {
+            ZeroError::TimeZero { process, at } => {
+                self.refused_process(ProcessName::TimeZero, process, at)
+            }
+            ZeroError::Memory => AcceptError::Memory,
+        }
+    }
+}
