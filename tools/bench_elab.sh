@@ -22,13 +22,13 @@ turns() {
     }'
 }
 
-# assigns of about 130 bytes, each to a wire of its own
+# assigns of about 100 bytes, each to a wire of its own
 assigns() {
     awk -v n="$1" 'BEGIN {
-        print "module top(input clk, input [7:0] a, input [7:0] b);"
-        for (i = 0; i < n; i++) print "wire [7:0] w" i ";"
-        print "assign w0 = a;"
-        for (i = 1; i < n; i++) print "assign w" i " = (w" (i - 1) " & a | b & ~a) ^ {a[3:0], b[7:4]} + (w" (i - 1) " >> 2) - 8'"'"'d" (i % 256) " | (a == b ? w" (i - 1) " : b << 1);"
+        print "module top(input clk, input [7:0] operand_a, input [7:0] operand_b);"
+        for (i = 0; i < n; i++) print "wire [7:0] stage_" i ";"
+        print "assign stage_0 = operand_a;"
+        for (i = 1; i < n; i++) print "assign stage_" i " = (stage_" (i - 1) " & operand_a | operand_b & ~operand_a) ^ (stage_" (i - 1) " >> 2) - 8'"'"'d" (i % 256) ";"
         print "endmodule"
     }'
 }
