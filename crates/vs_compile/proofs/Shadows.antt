@@ -1,6 +1,6 @@
 -- A table of slots, by bit.
 use Rattle.std.proofs.Common.{◌≡◌, ℕ, ◌+◌, ◌<◌, ◌≤◌, Bool, true, false, ◌||◌, ◌==◌, List, [], ◌∷◌, length, get_or, take, slice_set, sym, ap, ◌∙◌, refl, eqb-true, eq-eqb}
-use Rattle.std.proofs.lemmas.List.{take_more, take_all, get_or-set_same, get_or-set_other}
+use Rattle.std.proofs.lemmas.List.{take_more, get_or-set_same, get_or-set_other}
 use Rattle.vs_design.specs.Cycles.{AreApart}
 use Rattle.vs_design.specs.Footprints.{contains}
 use Rattle.vs_program.specs.Lowered.{home}
@@ -33,6 +33,3 @@ one_more count registers shadows n l apart below before = λ b h.
     shape b e = ap (λ xs. contains xs b) (take_more registers n 0 l)
         ∙ contains-append (take n registers) (get_or registers n 0 ∷ []) b
         ∙ ap (λ c. contains (take n registers) b || (c || false)) e
-
-pub all_of_them : (count : ℕ) (registers shadows : List ℕ) (n : ℕ) → length registers ≤ n → HaveFirst count registers shadows n → (b : ℕ) → contains registers b ≡ true → get_or shadows b 0 ≡ home count + place_of registers b
-all_of_them count registers shadows n l before b h = before b (ap (λ xs. contains xs b) (take_all n registers l) ∙ h)

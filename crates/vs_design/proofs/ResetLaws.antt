@@ -147,7 +147,7 @@ condition_holds Any b c r h e = cc
 -- ---- what a reset does
 
 -- a fixed branch reads nothing
-pub fixed_body : (d : Design) (s : Statement) (r t : State) → is_formed_statement d s ≡ true → is_fixed s ≡ true → body s r ≡ body s t
+fixed_body : (d : Design) (s : Statement) (r t : State) → is_formed_statement d s ≡ true → is_fixed s ≡ true → body s r ≡ body s t
 fixed_body d s r t f h =
     let none = and_both (has_none (statement_signals s)) (Rattle.vs_design.specs.Resets.are_constant s) h in
     body_reads s r t (λ b m. absurd (either_way (contains (signals_bits (statement_signals s)) b) (statement_named d s b f m) (has_nothing (statement_signals s) b none.0)))

@@ -15,9 +15,7 @@ use Rattle.vs_design.specs.Sets.{Set4, has}
 use Rattle.vs_design.specs.Lifted.{Family, lifted}
 use Rattle.vs_design.specs.LiftedBodies.{lifted_body}
 use Rattle.vs_design.specs.Fits.{fits_statement, fits_target, fits}
-use Rattle.vs_design.specs.Designs.{Design}
-use Rattle.vs_design.specs.Elaborated.{has_constant_selects, is_formed_statement}
-use Rattle.vs_design.specs.Resets.{is_fixed}
+use Rattle.vs_design.specs.Elaborated.{has_constant_selects}
 
 -- a value is as long as its context, which is at least as long as the expression
 abbrev pub ValueLength : Type 0
@@ -98,7 +96,3 @@ ValueSetsRead = (e : Expression) (w : ℕ) (signed : Bool) (f g : Family) → Sa
 -- and those after a body on those of the bits that it reads before it assigns them; so it is no matter from which sets the bits start that it assigns on every path
 abbrev pub BodySetsRead : Type 0
 BodySetsRead = (st : Statement) (f g : Family) → mixed_in false st ≡ [] → SameSets (early_reads st []) f g → (b : ℕ) → (f b ≡ g b) ⊎ (contains (assigned_after st []) b ≡ true) → lifted_body st f b ≡ lifted_body st g b
-
--- the branch of a reset reads nothing, so it does the same whatever the state (9.7.2)
-abbrev pub FixedDoesTheSame : Type 0
-FixedDoesTheSame = (d : Design) (st : Statement) (s t : State) → is_formed_statement d st ≡ true → is_fixed st ≡ true → body st s ≡ body st t

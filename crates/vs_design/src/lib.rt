@@ -15,7 +15,7 @@ ghost use Rattle.vs_design.specs.Laws.{AcceptedExactly, AcceptedIsLawful, Ascend
 ghost use Rattle.vs_design.specs.Paths.{LatchBitsAre};
 ghost use Rattle.vs_design.specs.RefusalLaws.{BlockRefusalIs, ClockRefusalIs, DriverRefusalIs, DriversAre, WidthRefusalIs, ZeroRefusalIs};
 ghost use Rattle.vs_design.specs.SlotValues.{SlotValuesAre};
-ghost use Rattle.vs_design.specs.TreeLaws.{AssignWritesExactly, AssignedLength, BlockReads, BlockWritesExactly, BodyAssigns, BodyInSets, BodyReads, BodySetsRead, BodyWritesWithin, ConstantValue, FixedDoesTheSame, NoUpdates, NoWrites, ValueInSets, ValueLength, ValueReads, ValueSetsRead};
+ghost use Rattle.vs_design.specs.TreeLaws.{AssignWritesExactly, AssignedLength, BlockReads, BlockWritesExactly, BodyAssigns, BodyInSets, BodyReads, BodySetsRead, BodyWritesWithin, ConstantValue, NoUpdates, NoWrites, ValueInSets, ValueLength, ValueReads, ValueSetsRead};
 
 /// A value has the length of its context, and a constant expression has one value (IEEE 1364-2005, 5.4 and 5.5).
 pub fn value_law()
@@ -43,11 +43,6 @@ pub fn write_law()
 pub fn block_law()
     ensures writes { BlockWritesExactly }
     ensures reads { BlockReads }
-{}
-
-/// The branch of a reset reads nothing, so it does the same whatever the state (IEEE 1364-2005, 9.7.2).
-pub fn reset_law()
-    ensures { FixedDoesTheSame }
 {}
 
 /// Where the bits that are read are in their sets, values and bodies are in their lifted sets; and lifted sets depend on the sets of what is read alone.

@@ -20,7 +20,7 @@ use Rattle.vs_elab.specs.declared.counts.Count.{Count}
 use Rattle.vs_elab.specs.Counts.{IsCounted}
 use Rattle.vs_elab.specs.Items.{assign_faults, value_faults, wire_faults}
 use Rattle.vs_elab.proofs.ItemFaults.{assigns_have, wires_have}
-use Rattle.vs_elab.proofs.ItemLists.{IsOther, made_at, made_more, length_taken, mapped}
+use Rattle.vs_elab.proofs.ItemLists.{made_at, made_more, length_taken, mapped}
 use Rattle.vs_elab.proofs.Repeats.{one_more}
 
 -- ---- what names mean is all that matters
@@ -45,18 +45,6 @@ module _ (e1 e2 : Env) (h : named e1 ≡ named e2) where
 
   pub block_alike : (b : tree.AlwaysBlock) → (block_said e1 b).faults ≡ (block_said e2 b).faults
   block_alike b = ap (λ (find : Find). (typed_control b.control find).faults ++ (typed_statement b.statement find).faults) h
-
--- an item that says none
-pub other_none : (source : tree.Source) (around : Around) (item : tree.Item) (made : Made) → IsOther item → (item_said source around item made).faults ≡ []
-other_none source around (tree.SignalsItem t) made o = absurd o
-other_none source around (tree.AssignsItem place assigns) made o = absurd o
-other_none source around (tree.AlwaysItem b) made o = absurd o
-other_none source around (tree.InstancesItem t) made o = absurd o
-other_none source around (tree.ParametersItem t) made o = refl
-other_none source around (tree.GenvarsItem place names) made o = refl
-other_none source around (tree.GenerateFor head block) made o = refl
-other_none source around (tree.GenerateIf place e taken other) made o = refl
-other_none source around (tree.GenerateCase place subject arms other) made o = refl
 
 -- ---- one item more
 

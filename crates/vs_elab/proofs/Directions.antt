@@ -50,15 +50,6 @@ declared_names kind s h = all s.names.items
     all [] = refl
     all (d ∷ ds) = ap (λ k. declared_name (spec.is_input (view.signal_kind k)) d ∷ map (declared_name (spec.is_input (view.signal_kind kind))) ds) h ∙ ap (λ r. declared_name (spec.is_input (view.signal_kind s.kind)) d ∷ r) (all ds)
 
--- of one declaration more
-pub declaration_more : (ss : List Signals) (i : ℕ) (s : Signals) → i < length ss → s ≡ get_or ss i s
-    → map declared_port (flat_map directions_in (map view.signals (take (i + 1) ss))) ≡ map declared_port (flat_map directions_in (map view.signals (take i ss))) ++ map declared_port (directions_in (view.signals s))
-declaration_more ss i s h e =
-    ap (λ xs. map declared_port (flat_map directions_in xs)) (one_more view.signals ss i s h e)
-    ∙ ap (map declared_port) (flat_map-append directions_in (map view.signals (take i ss)) (view.signals s ∷ []))
-    ∙ map-append declared_port (flat_map directions_in (map view.signals (take i ss))) (flat_map directions_in (view.signals s ∷ []))
-    ∙ ap (λ r. map declared_port (flat_map directions_in (map view.signals (take i ss))) ++ map declared_port r) (append-nil (directions_in (view.signals s)))
-
 -- of one name more of a plain header
 pub plain_more : (ns : List Name) (i : ℕ) (n : Name) (ds : List ports.Direction) → i < length ns → n ≡ get_or ns i n
     → ports.header_ports (tree.PlainPorts (map view.name (take (i + 1) ns))) ds

@@ -1,5 +1,5 @@
 -- The limits of an instance, and of a generate block, which has none.
-use Rattle.std.proofs.Common.{◌≡◌, ℕ, Bool, true, false, ◌&&◌, ◌++◌, nat_lt, None, ap, ◌∙◌}
+use Rattle.std.proofs.Common.{◌≡◌, ℕ, Bool, true, ◌&&◌, ◌++◌, nat_lt, ap, ◌∙◌}
 use Rattle.vs_const.specs.Faults.{fault_if, least, better}
 use Rattle.vs_const.proofs.Least.{least_append}
 use Rattle.vs_hierarchy.specs.Limits.{the_limits}
@@ -20,6 +20,3 @@ instance_limits t totals place depth instances h p d i =
     ∙ ap (λ n. better (least (fault_if (nat_lt 32 t.depth) 40 n)) (least (fault_if (nat_lt 4096 totals.instances) 41 n))) p
     ∙ ap (λ n. better (least (fault_if (nat_lt 32 n) 40 place)) (least (fault_if (nat_lt 4096 totals.instances) 41 place))) d
     ∙ ap (λ n. better (least (fault_if (nat_lt 32 depth) 40 place)) (least (fault_if (nat_lt 4096 n) 41 place))) i
-
-pub block_limits : (t : Task) (totals : Totals) → is_instance t.contents ≡ false → least (limit_faults the_limits t totals) ≡ None
-block_limits t totals h = limits_are t totals false h

@@ -9,7 +9,6 @@ use Rattle.vs_design.specs.Designs.{Scope, Process, Design, bit_count}
 use Rattle.vs_design.specs.Elaborated.{is_signal}
 use Rattle.vs_grammar.specs.Trees as tree
 use Rattle.vs_grammar.specs.Shapes.{Each, OneOrMore, IsModule, IsShaped}
-use Rattle.vs_const.specs.declared.faults.Fault.{Fault}
 use Rattle.vs_const.specs.Faults.{least}
 use Rattle.vs_hierarchy.specs.Limits.{the_limits}
 use Rattle.vs_hierarchy.specs.Environments.{within}
@@ -32,11 +31,10 @@ use Rattle.vs_elab.specs.declared.reading.Reading.{Reading}
 use Rattle.vs_elab.specs.Fine.{AreFineParts}
 use Rattle.vs_elab.specs.Opening.{signal, Follow, and_signals}
 use Rattle.vs_elab.specs.Pending.{parts_pieces, scope_around}
-use Rattle.vs_elab.specs.Reading.{AreSeen, FailsBy, IsRead, IsOpened, totals_of, design_so_far}
+use Rattle.vs_elab.specs.Reading.{AreSeen, IsRead, IsOpened, totals_of, design_so_far}
 use Rattle.vs_elab.specs.Stacks.{scope_part}
 use Rattle.vs_elab.proofs.FollowingSignals.{counted_follow}
 use Rattle.vs_elab.proofs.FineScopes.{none_left}
-use Rattle.vs_elab.proofs.Stacks.{limited, faulty}
 use Rattle.vs_elab.proofs.NewSignals.{IsBehind, signals_there, survey_behind}
 use Rattle.vs_elab.proofs.WiderScopes.{frames_wider, task_wider, seen_more}
 
@@ -182,14 +180,6 @@ scope_read r new t s f h sound behind fair made totals few frames seen =
     }
 
 -- ---- a scope with a fault
-
-pub fails_limited : (source : tree.Source) (t : Task) (totals c : Totals) (o : Option Fault) (e : Fault) → c ≡ counted t totals → o ≡ least (limit_faults the_limits t c) → o ≡ Some e → FailsBy source t totals e
-fails_limited source t totals c o e h l k left = limited left the_limits source t totals e (ap (λ (x : Totals). least (limit_faults the_limits t x)) (sym h) ∙ sym l ∙ k)
-
-pub fails_faulty : (source : tree.Source) (t : Task) (totals c : Totals) (o p : Option Fault) (e : Fault) → c ≡ counted t totals → o ≡ least (limit_faults the_limits t c) → o ≡ None
-    → p ≡ least (survey the_limits source t c).faults → p ≡ Some e → FailsBy source t totals e
-fails_faulty source t totals c o p e h l none f k left =
-    faulty left the_limits source t totals e (ap (λ (x : Totals). least (limit_faults the_limits t x)) (sym h) ∙ sym l ∙ none) (ap (λ (x : Totals). least (survey the_limits source t x).faults) (sym h) ∙ sym f ∙ k)
 
 -- ---- the whole
 

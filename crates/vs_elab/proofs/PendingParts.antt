@@ -1,12 +1,10 @@
 -- One part more of a scope.
-use Rattle.std.proofs.Common.{◌≡◌, ℕ, ◌+◌, ◌<◌, List, [], ◌∷◌, ◌++◌, length, get_or, take, map, Option, Some, None, sym, ap, ◌∙◌, append_assoc}
+use Rattle.std.proofs.Common.{◌≡◌, ℕ, ◌+◌, ◌<◌, List, [], ◌∷◌, ◌++◌, length, get_or, take, map, sym, ap, ◌∙◌, append_assoc}
 use Rattle.std.proofs.lemmas.List.{append-nil}
 use Rattle.std.proofs.lemmas.Grind.{flat_map-append}
 use Rattle.vs_grammar.specs.Trees as tree
-use Rattle.vs_hierarchy.specs.Environments.{Env}
 use Rattle.vs_hierarchy.specs.Pieces.{Piece, Said, all_said}
 use Rattle.vs_hierarchy.specs.Instances.{Around}
-use Rattle.vs_hierarchy.specs.Surveys.{wire_said}
 use Rattle.vs_elab.specs.declared.pending.Part.{Part}
 use Rattle.vs_elab.specs.Pending.{part_pieces, parts_pieces}
 use Rattle.vs_elab.proofs.Repeats.{one_more}
@@ -14,13 +12,6 @@ use Rattle.vs_elab.proofs.Repeats.{one_more}
 pub part_more : (source : tree.Source) (around : Around) (ps qs : List Part) (p : Part) → qs ≡ ps ++ p ∷ [] → parts_pieces source around qs ≡ parts_pieces source around ps ++ part_pieces source around p
 part_more source around ps qs p e =
     ap (parts_pieces source around) e ∙ flat_map-append (part_pieces source around) ps (p ∷ []) ∙ ap (λ xs. parts_pieces source around ps ++ xs) (append-nil (part_pieces source around p))
-
-pub wire_none : (env : Env) (place : ℕ) (name : tree.Name) (v : Option tree.Expr) → v ≡ None → (let d : tree.Declarator = record { name = name; value = v } in (wire_said env place d).pieces) ≡ []
-wire_none env place name v e = ap (λ (o : Option tree.Expr). let d : tree.Declarator = record { name = name; value = o } in (wire_said env place d).pieces) e
-
-pub wire_some : (env : Env) (place : ℕ) (name : tree.Name) (v : Option tree.Expr) (x : tree.Expr) → v ≡ Some x
-    → (let d : tree.Declarator = record { name = name; value = v } in (wire_said env place d).pieces) ≡ (let d : tree.Declarator = record { name = name; value = Some x } in (wire_said env place d).pieces)
-wire_some env place name v x e = ap (λ (o : Option tree.Expr). let d : tree.Declarator = record { name = name; value = o } in (wire_said env place d).pieces) e
 
 said_behind : {A : Type 0} (f : A → Said) (xs : List A) (x : A) → (all_said f (xs ++ x ∷ [])).pieces ≡ (all_said f xs).pieces ++ (f x).pieces
 said_behind f [] x = append-nil (f x).pieces

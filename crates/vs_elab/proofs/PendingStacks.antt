@@ -1,5 +1,5 @@
 -- The stack of what is pending, one part more.
-use Rattle.std.proofs.Common.{◌≡◌, ℕ, List, [], ◌∷◌, ◌++◌, map, flat_map, Option, Some, None, sym, ap, ◌∙◌, append_assoc}
+use Rattle.std.proofs.Common.{◌≡◌, ℕ, List, [], ◌∷◌, ◌++◌, map, flat_map, Option, Some, sym, ap, ◌∙◌, append_assoc}
 use Rattle.std.specs.Prelude.{option_to_list}
 use Rattle.std.proofs.lemmas.List.{append-nil, map-append, reverse-append}
 use Rattle.vs_grammar.specs.Trees as tree
@@ -29,10 +29,3 @@ part_moved source frames frame depth left parts rest r part stack new whole e is
     ∙ ap (λ qs. qs ++ stack_pieces source frames stack) (sym (map-append f done one))
     ∙ ap (λ qs. map f qs ++ stack_pieces source frames stack) (sym (part_more source around rest parts part (e ∙ ap (λ o. rest ++ option_to_list o) is)))
     ∙ before
-
--- no part is left
-pub parts_moved : (source : tree.Source) (frames : List Frame) (frame depth left : ℕ) (parts rest : List Part) (r : Option Part) (stack : List Pending) (whole : List stacks.Pending)
-    → parts ≡ rest ++ option_to_list r → r ≡ None → rest ≡ []
-    → map (stacks.pending left) (parts_pieces source (scope_around frames frame depth) parts) ++ stack_pieces source frames stack ≡ whole → stack_pieces source frames stack ≡ whole
-parts_moved source frames frame depth left parts rest r stack whole e is none before =
-    sym (ap (λ ps. map (stacks.pending left) (parts_pieces source (scope_around frames frame depth) ps) ++ stack_pieces source frames stack) (e ∙ ap (λ o. rest ++ option_to_list o) is ∙ append-nil rest ∙ none)) ∙ before

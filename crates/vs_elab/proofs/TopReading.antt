@@ -72,11 +72,6 @@ each_module (m ∷ ms) x = x
 pub module_whole : (source : tree.Source) (name : List ℕ) (m : tree.Module) → IsShaped source → find_module source name ≡ Some m → IsWhole m
 module_whole source name m x e = found_whole source.modules name m (each_module source.modules x.modules) x.shallow e
 
-pub known_none : (k : Option Known) (o : Option tree.Module) → k ≡ None → IsOf k o → o ≡ None
-known_none None None e h = refl
-known_none None (Some m) e h = absurd h
-known_none (Some k) o e h = cc
-
 pub known_some : (k : Option Known) (one : Known) (o : Option tree.Module) → k ≡ Some one → IsOf k o → o ≡ Some (view.module_tree one.of.now)
 known_some None one o e h = cc
 known_some (Some k) one None e h = absurd h

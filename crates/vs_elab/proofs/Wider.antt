@@ -6,7 +6,6 @@ use Rattle.vs_const.specs.Meanings.{SignalMeaning, Meaning, AValue, Undefined, A
 use Rattle.vs_const.specs.Sound.{IsSoundSignal, IsSound, AreSound}
 use Rattle.vs_hierarchy.specs.Environments.{Entry}
 use Rattle.vs_build.specs.Buildable.{IsBuildable}
-use Rattle.vs_build.specs.Writable.{IsAssignable}
 use Rattle.vs_build.specs.Outputs.{IsOutput}
 use Rattle.vs_build.proofs.Wider.{IsWider}
 use Rattle.vs_elab.specs.declared.connections.Connection.{Connection}
@@ -31,9 +30,6 @@ buildable_wider c d w find needed e h = record { shaped = h.shaped; sound = soun
 
 pub output_wider : (c d : Design) → IsWider c d → (find : Find) (e : tree.Expr) → IsOutput c find e → IsOutput d find e
 output_wider c d w find e h = record { is = h.is; fine = record { shaped = h.fine.shaped; sound = sound_wider c d w false find h.fine.sound; clean = h.fine.clean; shallow = h.fine.shallow } }
-
-pub assignable_wider : (c d : Design) → IsWider c d → (find : Find) (a : tree.Assign) → IsAssignable c find a → IsAssignable d find a
-assignable_wider c d w find a h = record { shaped = h.shaped; sound = sound_wider c d w false find h.sound; clean = h.clean; shallow = h.shallow }
 
 pub wirable_wider : (c d : Design) → IsWider c d → (find : Find) (es : List Entry) (x : Connection) → IsWirable c find es x → IsWirable d find es x
 wirable_wider c d w find es x h = record {

@@ -23,4 +23,3 @@ pub mod StatementFaults
 pub mod Fine
 pub mod OwnParts
 pub mod Reading
-pub mod Answers

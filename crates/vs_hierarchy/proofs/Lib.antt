@@ -1,4 +1,3 @@
-mod Lawfulness
 mod FormedBodies
 mod SoundNames
 mod NumberedSignals

@@ -29,7 +29,7 @@ use Rattle.vs_lower.specs.Joined.{IsJoined, differing_bits, join_args}
 use Rattle.vs_lower.specs.Made.{IsCallable}
 use Rattle.vs_lower.specs.Ready.{IsStatementReady}
 use Rattle.vs_lower.specs.Stated.{AddsArm, AddsArms, AddsBranch, AddsCases, AddsStatement, AreAmong, AreArmsReady, AreInOrder, IsArmReady}
-use Rattle.vs_lower.specs.Tested.{AddsTests, AreTestsReady}
+use Rattle.vs_lower.specs.Tested.{AddsTests}
 use Rattle.vs_lower.proofs.Adding.{env_more}
 use Rattle.vs_lower.proofs.Branched.{statement_kept, written_long}
 use Rattle.vs_lower.proofs.Branching.{CanJoin, put_back}
@@ -183,21 +183,6 @@ ready_arm count now later subject c0 c1 clocked kind w s writes items st rest bi
     }
 
 -- ---- the parts of an arm
-
-pub arm_tests : (count : ℕ) (now later subject : List ℕ) (code : Coding) (clocked : Bool) (w : ℕ) (items : List Expression) (st : Statement) (bits behind : List ℕ)
-    → IsArmReady count now later subject code clocked w items st bits behind → AreTestsReady count now subject code items w
-arm_tests count now later subject code clocked w items st bits behind r = record {
-  is_env = r.now_env;
-  has_bits = r.now_bits;
-  long = r.long;
-  below = r.below;
-  some = r.some;
-  at_most_64 = r.at_most_64;
-  fit = r.items_fit;
-  wide = r.items_wide;
-  slots = omega (arith, r.slots);
-  few = omega (arith, r.few);
-}
 
 pub arm_statement : (count : ℕ) (now later subject : List ℕ) (code one : Coding) (clocked : Bool) (kind : CaseKind) (w : ℕ) (s : Bool) (items : List Expression) (st : Statement) (bits behind ms : List ℕ)
     → IsArmReady count now later subject code clocked w items st bits behind → AddsTests now subject code one kind w s items ms → IsStatementReady count now later one clocked st

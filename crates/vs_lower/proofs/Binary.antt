@@ -116,16 +116,6 @@ short_is bits env code code1 code2 op a b w s ls ta tb o =
       most_b = omega (arith, r.1, o.right.value.length);
     }
 
-alike_way : (y : Way) (w m n p q : ℕ) → p ≡ left_width y w m n → q ≡ right_width y w m n → (y ≡ InContext → p ≡ q) × (y ≡ Compared → p ≡ q)
-alike_way InContext w m n p q h k = (λ e. h ∙ sym k, λ e. h ∙ sym k)
-alike_way Own w m n p q h k = (λ e. cc, λ e. cc)
-alike_way Compared w m n p q h k = (λ e. h ∙ sym k, λ e. h ∙ sym k)
-alike_way Shifted w m n p q h k = (λ e. cc, λ e. cc)
-
-pub alike_is : (bits : ℕ) (env : List ℕ) (code code1 code2 : Coding) (op : BinaryOp) (a b : Expression) (w : ℕ) (s ls : Bool) (ta tb : List ℕ) → Operands bits env code code1 code2 op a b w s ls ta tb
-    → (way op ≡ InContext → length ta ≡ length tb) × (way op ≡ Compared → length ta ≡ length tb)
-alike_is bits env code code1 code2 op a b w s ls ta tb o = alike_way (way op) w (width a) (width b) (length ta) (length tb) o.left.value.length o.right.value.length
-
 pub returns_folded : ValueLength → (bits : ℕ) (env : List ℕ) (code code1 code2 : Coding) (op : BinaryOp) (a b : Expression) (w : ℕ) (s ls : Bool) (ta tb to : List ℕ) → Operands bits env code code1 code2 op a b w s ls ta tb
     → AreConstant ta → AreConstant tb → to ≡ extended_slots w s (constant_slots (apply_binary op ls (constant_bits ta) (constant_bits tb)))
     → AddsValue env code.calls code.next code2.calls code2.next (Binary op a b) w s to

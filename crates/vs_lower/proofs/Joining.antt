@@ -178,10 +178,6 @@ branched now later tv sv m cond cc tc n cost taken bits most ct now1 later1 n1 o
       later_at = holds_after later co n1 s1 last ahead f1 o.added.fresh parts.2 k1;
     }
 
--- a bit that keeps its slot keeps its value
-same_value : (env env1 : List ℕ) (slots : State) (s t : N.State) (b : ℕ) → b < length env → length env1 ≡ length env → slice_index env1 b ≡ slice_index env b → Holds env slots s → Holds env1 slots t → s b ≡ t b
-same_value env env1 slots s t b l long kept h k = sym (h.bits b l) ∙ ap slots (sym kept) ∙ k.bits b (omega arith)
-
 -- The join of one of both. After the second branch the bits are in `env2`. The bits `js`, among which are all that differ in both, get the
 -- values that they have after the branch that is taken
 pub join_values : (env1 env2 tc : List ℕ) (js : List ℕ) (to : List ℕ) (last after : State) (c : BitList) (t1 t2 : N.State)

@@ -1,5 +1,5 @@
 -- Slots that are placed one by one.
-use Rattle.std.proofs.Common.{◌≡◌, ℕ, zero, suc, ◌+◌, ◌<◌, Bool, true, false, ℤ, pos, negsuc, ◌+ℤ◌, if◌then◌else◌, nat_lt, List, [], ◌∷◌, ◌++◌, map, length, take, set, slice_index, Option, Some, None, sym, ap, ◌∙◌, refl, arith, add-one, length-set}
+use Rattle.std.proofs.Common.{◌≡◌, ℕ, zero, suc, ◌+◌, ◌<◌, Bool, true, false, ℤ, pos, ◌+ℤ◌, if◌then◌else◌, List, [], ◌∷◌, ◌++◌, map, length, take, set, slice_index, Option, Some, None, sym, ap, ◌∙◌, refl, arith, add-one, length-set}
 use Rattle.std.specs.Prelude.{option_map}
 use Rattle.std.proofs.lemmas.List.{length-map, map-append, take_more, length-take}
 use Rattle.std.proofs.Common.{replicate}
@@ -75,14 +75,3 @@ known_placed env signal part s index value base start first count h b p f c w =
     ∙ ap (λ (ps : List (Option ℕ)). placed env (bits_at signal ps) value) (sym p)
     ∙ ap (λ (z : ℤ). placed env (bits_at signal (map (place_of part.range) (indices part z))) value) b
     ∙ sym (ap (λ (k : Bool). placed env (bits_at signal (if k then map (place_of part.range) (indices part (integer s index)) else replicate part.width None)) value) h)
-
-pub below_inside : (count : ℕ) (place : ℤ) (n : ℕ) → below count place ≡ Some n → n < count
-below_inside count (pos k) n h = by (nat_lt k count) refl
-  where
-    by : (b : Bool) → nat_lt k count ≡ b → n < count
-    by true e = let q : Some k ≡ Some n = sym (ap (λ (b : Bool). if b then Some k else None) e) ∙ h in let l : k < count = lt_is k count e in let same : k ≡ n = cc in omega arith
-      where
-        lt_is : (m n : ℕ) → nat_lt m n ≡ true → m < n
-        lt_is m n g = grind arith
-    by false e = let q : None ≡ Some n = sym (ap (λ (b : Bool). if b then Some k else None) e) ∙ h in cc
-below_inside count (negsuc k) n h = cc

@@ -7,12 +7,12 @@ use Rattle.vs_four.specs.Logic.{BitList}
 use Rattle.vs_net.specs.Network as N
 use Rattle.vs_design.specs.Bodies.{assignment_writes, body, effect_of}
 use Rattle.vs_design.specs.Expressions.{Expression, width}
-use Rattle.vs_design.specs.Fits.{fits, divides_constants, fits_target, is_fit, fits_statement, fits_arms}
+use Rattle.vs_design.specs.Fits.{fits, divides_constants, is_fit, fits_statement, fits_arms}
 use Rattle.vs_design.specs.Footprints.{contains, arms_bits, target_bits}
 use Rattle.vs_design.specs.Sizes.{distinct, statement_weight}
 use Rattle.vs_design.specs.Statements.{CaseKind, Target, Assignment, Case, Arms, Arm, Default, arms_width, case_width, case_sign, widest}
 use Rattle.vs_design.specs.Values.{value}
-use Rattle.vs_lower.specs.Assigned.{AddsRun, IsAssignReady, assign_most}
+use Rattle.vs_lower.specs.Assigned.{AddsRun, assign_most}
 use Rattle.vs_lower.specs.Branched.{unwritten, written}
 use Rattle.vs_lower.specs.Coded.{Coding}
 use Rattle.vs_lower.specs.Done.{placed}
@@ -33,22 +33,6 @@ use Rattle.vs_lower.proofs.Values.{both_true}
 most_within : (blocking : Bool) (target : Target) (e : Expression) (place : ℕ) → assign_most (not blocking) target e ≤ statement_weight (Assignment place target e blocking)
 most_within true target e place = omega arith
 most_within false target e place = omega arith
-
-pub ready_assign : (bits : ℕ) (now ahead : List ℕ) (code : Coding) (clocked : Bool) (place : ℕ) (target : Target) (e : Expression) (blocking : Bool)
-    → IsStatementReady bits now ahead code clocked (Assignment place target e blocking) → IsAssignReady bits now ahead code (not blocking) target e
-ready_assign bits now ahead code clocked place target e blocking r =
-    let f = both_true (fits_target target) (is_fit e) r.fit in
-    let most = most_within blocking target e place in
-    record {
-      now_env = r.now_env;
-      later_env = r.later_env;
-      now_bits = r.now_bits;
-      later_bits = r.later_bits;
-      target_fits = f.0;
-      fit = f.1;
-      slots = omega (arith, r.slots, most);
-      few = omega (arith, r.few, most);
-    }
 
 effect_twice : (blocking : Bool) (ws : List N.Write) → effect_of (not (not blocking)) ws ≡ effect_of blocking ws
 effect_twice true ws = refl

@@ -3,11 +3,9 @@ use Rattle.std.proofs.Common.{◌≡◌, ℕ, zero, suc, ◌+◌, ◌<◌, Bool,
 use Rattle.std.specs.Prelude.{◌&&◌, slice_index, if◌then◌else◌}
 use Rattle.std.specs.List.{list_all}
 use Rattle.std.proofs.lemmas.List.{drop_more}
-use Rattle.vs_four.specs.Logic.{BitList, truth}
-use Rattle.vs_four.specs.Tables.{is_one}
+use Rattle.vs_four.specs.Logic.{BitList}
 use Rattle.vs_net.specs.Network.{State, Write, Update, write_all, flatten}
 use Rattle.vs_design.specs.Expressions.{Signal, OfSignal, OfConstant, Expression, Literal, Name, Select, Unary, Binary, Choice, Join, Repeat, At, is_constant}
-use Rattle.vs_design.specs.Values.{own_value}
 use Rattle.vs_design.specs.Statements.{Target, CaseKind, Statement, Empty, Assignment, Then, If, Case, Arms, Arm, Default}
 use Rattle.vs_design.specs.Bodies.{assignment_writes, body, arms_body, is_taken}
 use Rattle.vs_design.specs.Elaborated.{has_constant_selects}
@@ -239,13 +237,6 @@ updated_then law first rest m s =
     ap (λ t. write_all s (flatten (done.updates ++ (body rest t).updates))) same
     ∙ ap (write_all s) (flat_both done.updates (body rest unknown).updates)
     ∙ write_all-append (flatten done.updates) (flatten (body rest unknown).updates) s
-
-pub updated_if : (c : Expression) (taken other : Statement) (s : State) (b : Bool) → is_one (truth (own_value c unknown)) ≡ b → updated (If c taken other) s ≡ updated (if b then taken else other) s
-updated_if c taken other s b h = ap (λ t. write_all s (flatten (if t then body taken unknown else body other unknown).updates)) h ∙ go b
-  where
-    go : (b : Bool) → write_all s (flatten (if b then body taken unknown else body other unknown).updates) ≡ updated (if b then taken else other) s
-    go true = refl
-    go false = refl
 
 pub updated_arms : (a : Arena) (kind : CaseKind) (w : ℕ) (g : Bool) (v : BitList) (other : Option ℕ) (arms : List F.Arm) (s : State)
     → write_all s (flatten (arms_body (arms_of a other arms) kind w g v unknown).updates) ≡ updated (R.branch (statement_of a) (taken_arm (tree_of a) kind w g v other arms)) s

@@ -4,7 +4,7 @@ use Rattle.std.specs.Prelude.{slice_get, All}
 use Rattle.std.specs.List.{list_any}
 use mathlib.Core.Path.{fun_ext}
 use Rattle.std.proofs.lemmas.List.{drop_more}
-use Rattle.vs_design.specs.Designs.{bit_count, is_clocked, is_combinational, has_edge}
+use Rattle.vs_design.specs.Designs.{bit_count, is_clocked, has_edge}
 use Rattle.vs_design.specs.Designs as D
 use Rattle.vs_design.specs.Footprints.{contains, statement_bits, writes_of, waits_of}
 use Rattle.vs_design.specs.Lifted.{Family}
@@ -138,11 +138,6 @@ block_by each a p r star events statement i h f x k edge asleep quiet wake e s q
 pub by_edge : (edge asleep quiet wake u : Bool) → (not edge && not asleep && not quiet && not wake) ≡ u → edge ≡ true → false ≡ u
 by_edge true asleep quiet wake u h e = h
 by_edge false asleep quiet wake u h e = absurd (let z : ⊥ = cc in z)
-
-pub by_sleep : (edge asleep quiet wake u : Bool) → (not edge && not asleep && not quiet && not wake) ≡ u → asleep ≡ true → false ≡ u
-by_sleep true true quiet wake u h e = h
-by_sleep false true quiet wake u h e = h
-by_sleep edge false quiet wake u h e = absurd (let z : ⊥ = cc in z)
 
 pub by_wake : (edge asleep quiet wake u : Bool) → (not edge && not asleep && not quiet && not wake) ≡ u → wake ≡ true → false ≡ u
 by_wake edge asleep quiet false u h e = absurd (let z : ⊥ = cc in z)

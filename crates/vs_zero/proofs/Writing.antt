@@ -25,9 +25,6 @@ pub written_some : (b : ℕ) (ps : List (Option ℕ)) (v : Bit4) (vs : BitList) 
 unfolding write_all
 written_some b ps v vs s = refl
 
-written_none : (ps : List (Option ℕ)) (v : Bit4) (vs : BitList) (s : State) → written (None ∷ ps) (v ∷ vs) s ≡ written ps vs s
-written_none ps v vs s = refl
-
 pub written_nothing : (ps : List (Option ℕ)) (s : State) → written ps [] s ≡ s
 unfolding write_all
 written_nothing [] s = refl
