@@ -1,5 +1,5 @@
 -- What the rules say of a design together.
-use Rattle.std.proofs.Common.{◌≡◌, ℕ, true, List, None, refl, sym, subst}
+use Rattle.std.proofs.Common.{◌≡◌, ◌≤◌, ℕ, true, List, None, length, refl, sym, subst}
 use Rattle.std.proofs.lemmas.Result.{err_from_is_err_and}
 use Rattle.vs_lexer.specs.declared.token.Token.{Token}
 use Rattle.vs_grammar.specs.Trees.{Source}
@@ -16,7 +16,7 @@ use Rattle.vs_flat.specs.DesignOf.{design_of}
 use Rattle.vs_refusal.specs.declared.refusal.Refusal.{Refusal}
 use Rattle.vs_accept.specs.declared.error.AcceptError.{AcceptError}
 use Rattle.vs_accept.specs.declared.error.AcceptError.TheVariants.{Refused, Memory}
-use Rattle.vs_accept.specs.Accepted.{IsRead, IsAcceptedText, IsRefusedText, OneDesign, NotBoth, OneRefusal}
+use Rattle.vs_accept.specs.Accepted.{most_bytes, IsRead, IsAcceptedText, IsRefusedText, OneDesign, NotBoth, OneRefusal}
 use Rattle.vs_accept.specs.Refused.{byte_of}
 use Rattle.vs_accept.specs.Answers.{IsRefusalOf, TellsLike, IsVerdict, KeepsClock}
 use Rattle.vs_accept.specs.Lent.{Acceptance}
@@ -40,12 +40,12 @@ passed_on Q r e h q = turned Q r h (λ y is. subst Q (sym is) q)
 -- ---- the answer to a text
 
 -- what is judged of the design is said of the text
-pub accepted_text : (text top clock : List ℕ) (tokens : List Token) (source : Source) (flat : Arena) (answer : Result Acceptance AcceptError) → IsRead text tokens source
+pub accepted_text : (text top clock : List ℕ) (tokens : List Token) (source : Source) (flat : Arena) (answer : Result Acceptance AcceptError) → length text ≤ most_bytes → IsRead text tokens source
     → elaborated source top ≡ Ok (design_of flat) → IfOk answer (λ (a : Acceptance). a.flat ≡ flat) → IfOk answer (λ (a : Acceptance). IsAcceptedDesign (design_of flat) clock)
     → IfOk answer (λ (a : Acceptance). IsAcceptedText text top clock (design_of a.flat))
-accepted_text text top clock tokens source flat (Ok a) read elaborates same judged =
-    subst (λ (b : Arena). IsAcceptedText text top clock (design_of b)) (sym same) (record { tokens = tokens; source = source; read = read; elaborates = elaborates; accepted = judged })
-accepted_text text top clock tokens source flat (Err e) read elaborates same judged = tt
+accepted_text text top clock tokens source flat (Ok a) short read elaborates same judged =
+    subst (λ (b : Arena). IsAcceptedText text top clock (design_of b)) (sym same) (record { short = short; tokens = tokens; source = source; read = read; elaborates = elaborates; accepted = judged })
+accepted_text text top clock tokens source flat (Err e) short read elaborates same judged = tt
 
 pub refused_text : {A : Type 0} (text top clock : List ℕ) (tokens : List Token) (source : Source) (d : Design) (answer : Result A AcceptError) → IsRead text tokens source → elaborated source top ≡ Ok d
     → IfErr answer (IsVerdict (byte_of text tokens) d clock) → IfErr answer (IsRefusalOf text top clock)

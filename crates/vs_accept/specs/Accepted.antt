@@ -1,5 +1,5 @@
 -- What a text is, by the names of its top and of its clock: an accepted design, or refused by the first rule that it breaks.
-use Rattle.std.specs.Prelude.{◌≡◌, ℕ, Bool, true, false, ◌&&◌, List, ◌⊎◌, Ok, Err, Some}
+use Rattle.std.specs.Prelude.{◌≡◌, ◌≤◌, ℕ, Bool, true, false, ◌&&◌, List, ◌⊎◌, Ok, Err, Some, length}
 use Rattle.vs_lexer.specs.declared.token.Token.{Token}
 use Rattle.vs_lexer.specs.declared.token.LexError.{LexError}
 use Rattle.vs_lexer.specs.Cuts.{cut_text}
@@ -21,8 +21,13 @@ pub record IsRead (text : List ℕ) (tokens : List Token) (source : Source) : Ty
   pub cut : cut_text text ≡ Ok tokens
   pub spelled : SpelledBy text tokens source
 
+-- the greatest number of bytes in a text
+abbrev pub most_bytes : ℕ
+most_bytes = 4194304
+
 -- the text is read, its tree elaborates from the top to this design (clause 12), and that breaks no rule
 pub record IsAcceptedText (text top clock : List ℕ) (d : Design) : Type 0 where
+  pub short : length text ≤ most_bytes
   pub tokens : List Token
   pub source : Source
   pub read : IsRead text tokens source

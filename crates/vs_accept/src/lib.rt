@@ -13,3 +13,4 @@ pub use acceptance::accept;
 pub use accepted::Accepted;
 pub use error::AcceptError;
 pub use laws::answer_law;
+pub use vs_lexer::MAX_BYTES;

@@ -22,7 +22,7 @@ returns-in_err-flat-clause-refused c =
 
 pub returns-clause-accepted : goal.returns-clause-accepted
 returns-clause-accepted c =
-    accepted_text c.args.text.now c.args.top.now c.args.clock.now _ (view.source c.in_ok-source.source) c.in_ok-flat.flat c.judge.result c.in_ok-source.ensures.read c.in_ok-flat.ensures.elaborates
+    accepted_text c.args.text.now c.args.top.now c.args.clock.now _ (view.source c.in_ok-source.source) c.in_ok-flat.flat c.judge.result c.requires c.in_ok-source.ensures.read c.in_ok-flat.ensures.elaborates
     c.judge.ensures.same c.judge.ensures.accepted
 
 pub returns-clause-refused : goal.returns-clause-refused
