@@ -13,8 +13,7 @@ ghost use Rattle.vs_design.specs.Footprints.{contains};
 ghost use Rattle.vs_plane.specs.Lanes.{pair_lane, slot_lane};
 ghost use Rattle.vs_program.specs.declared.compiled.Span.{Span};
 ghost use Rattle.vs_program.specs.Lowered.{home};
-ghost use Rattle.vs_code.specs.Calls.{length_of};
-ghost use Rattle.vs_program.specs.Program.{calls_at, values, first_stores, fall_stores, rise_stores};
+ghost use Rattle.vs_program.specs.Program.{values, first_stores, fall_stores, rise_stores};
 ghost use Rattle.vs_program.specs.Compiled.{IsProgramOf, span_bits};
 ghost use Rattle.vs_four.specs.Tables.{same};
 ghost use Rattle.vs_engine.specs.Lanes.{differ_below, home_writes, lane_slots, state, vector};
@@ -94,27 +93,30 @@ impl<W: Word> Engine<W> {
     pub fn stores(&self) -> (u64, u64)
         ensures fall { result.0 ≡ (if self.now.begun then fall_stores self.now.program else first_stores self.now.program) }
         ensures rise { result.1 ≡ rise_stores self.now.program }
+        ensures few { (result.0 < 2 ^ 32) × (result.1 < 2 ^ 32) }
     {
         let clocks = self.compiled.clocks().len() as u64;
         let next = self.compiled.length(Phase::Next);
         let rise = self.compiled.length(Phase::Rise);
-        (self.fall_stores(settling(self.begun)), clocks + next + rise)
+        (self.fall_stores(self.begun), clocks + next + rise)
     }
 
     /// How many steps each fall takes but the first.
     pub fn later_stores(&self) -> u64
-        ensures { result ≡ fall_stores self.now.program }
+        ensures fall { result ≡ fall_stores self.now.program }
+        ensures few { result < 2 ^ 32 }
     {
-        self.fall_stores(Phase::Fall)
+        self.fall_stores(true)
     }
 
-    /// How many steps a fall takes that runs this phase.
-    fn fall_stores(&self, phase: Phase) -> u64
-        ensures { result ≡ length self.now.program.inputs + length self.now.program.clocks + length_of (calls_at self.now.program phase) }
+    /// How many steps a fall takes: the first, or one behind another.
+    fn fall_stores(&self, begun: bool) -> u64
+        ensures exact { result ≡ (if begun then fall_stores self.now.program else first_stores self.now.program) }
+        ensures few { result < 2 ^ 32 }
     {
         let inputs = self.compiled.inputs().len() as u64;
         let clocks = self.compiled.clocks().len() as u64;
-        inputs + clocks + self.compiled.length(phase)
+        inputs + clocks + self.compiled.length(settling(begun))
     }
 }
 
