@@ -23,7 +23,7 @@ use Rattle.vs_design.specs.Elaborated.{have_bits_from}
 use Rattle.vs_design.specs.Resets.{reset_inputs}
 use Rattle.vs_design.specs.Accepted.{IsAcceptedDesign}
 use Rattle.vs_design.specs.Networks.{process_of, block_process, writer_of, at_or_input, network_of}
-use Rattle.vs_thin.specs.Compiled.{data_bits}
+use Rattle.vs_cone.specs.Given.{data_bits}
 use Rattle.vs_stim.specs.declared.input.Input.{Input}
 use Rattle.vs_stim.specs.Header.{lengths}
 use Rattle.vs_stim.specs.Row.{sizes}

@@ -2,9 +2,9 @@
 use Rattle.std.proofs.Common.{◌≡◌, ◌<◌, ◌∙◌, ℕ, Bool, true, false, not, List, [], length, sym, ap, subst, arith}
 use Rattle.vs_desk.specs.Desk.{Contents}
 use Rattle.vs_net.specs.Network.{State}
-use Rattle.vs_thin.specs.Lanes.{Running, state}
+use Rattle.vs_engine.specs.Lanes.{Running, state}
 use Rattle.vs_design.specs.Designs.{Design}
-use Rattle.vs_thin.specs.Compiled.{IsProgramOf, span_of}
+use Rattle.vs_program.specs.Compiled.{IsProgramOf, span_of}
 use Rattle.vs_stim.specs.Known.{Known, remaining}
 use Rattle.vs_stim.specs.Reading.{Reading}
 use Rattle.vs_drive.specs.Lanes.{lane_at}

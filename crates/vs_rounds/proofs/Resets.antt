@@ -22,7 +22,7 @@ use Rattle.vs_design.specs.Clocks.{Events, ByClock, ByBoth, clock_nets, root_of,
 use Rattle.vs_design.specs.Resets.{reset_branch, reset_with, reset_by, reset_of, has_root, reset_inputs}
 use Rattle.vs_design.specs.Accepted.{IsAcceptedDesign}
 use Rattle.vs_design.specs.Networks.{events_in, block_process, process_of, writer_of, at_or_input, network_of}
-use Rattle.vs_thin.specs.Compiled.{data_bits}
+use Rattle.vs_cone.specs.Given.{data_bits}
 use Rattle.vs_stim.specs.declared.input.Input.{Input}
 use Rattle.vs_stim.specs.Header.{lengths}
 use Rattle.vs_stim.specs.Row.{sizes}

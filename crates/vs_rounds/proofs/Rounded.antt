@@ -10,10 +10,10 @@ use Rattle.vs_net.specs.Solution.{IsSlotEnd}
 use Rattle.vs_design.specs.Expressions.{Signal}
 use Rattle.vs_design.specs.Designs.{Design}
 use Rattle.vs_design.specs.Values.{read, bits_of_signal}
-use Rattle.vs_thin.specs.declared.program.Span.{Span}
-use Rattle.vs_thin.specs.Program.{Program}
-use Rattle.vs_thin.specs.Compiled.{IsProgramOf, span_of, span_bits}
-use Rattle.vs_thin.specs.Lanes.{state}
+use Rattle.vs_program.specs.declared.compiled.Span.{Span}
+use Rattle.vs_program.specs.Program.{Program}
+use Rattle.vs_program.specs.Compiled.{IsProgramOf, span_of, span_bits}
+use Rattle.vs_engine.specs.Lanes.{state}
 use Rattle.vs_stim.specs.Lines.{lines, all_lines}
 use Rattle.vs_stim.specs.Known.{Known, place_of, remaining}
 use Rattle.vs_stim.specs.Reading.{Reading, limits, read_vectors}

@@ -1,10 +1,10 @@
 -- What a whole run counts.
-use Rattle.std.specs.Prelude.{◌≡◌, ℕ, zero, suc, ◌+◌, ◌*◌, ◌<◌, [], length, max, None}
+use Rattle.std.specs.Prelude.{◌≡◌, ℕ, zero, suc, ◌+◌, ◌*◌, ◌<◌, [], length, max, None, Bool}
 use Rattle.vs_desk.specs.Desk.{Contents}
 use Rattle.vs_net.specs.Bound.{sum_below}
-use Rattle.vs_thin.specs.Program.{Program}
-use Rattle.vs_thin.specs.Compiled.{fall_stores, rise_stores}
+use Rattle.vs_program.specs.Program.{Program, fall_stores, rise_stores}
 use Rattle.vs_stim.specs.Known.{place_of}
+use Rattle.vs_rounds.specs.Ready.{settling_stores}
 use Rattle.vs_waves.specs.Puts.{wave_place}
 use Rattle.vs_rounds.specs.Given.{IsGiven}
 use Rattle.vs_rounds.specs.Lanes.{Run, reading_of}
@@ -29,6 +29,7 @@ pub record AreCounted (run : Run) (lanes vectors settlings : ℕ) : Type 0 where
   pub vectors_are : vectors ≡ sum_below lanes (vectors_of run)
   pub settlings_are : settlings ≡ 2 * greatest_below lanes (vectors_of run)
 
--- the steps of so many rounds, each a fall and a rise for all lanes together
-pub record TicksRounds (p : Program) (rounds before after : ℕ) : Type 0 where
-  pub ticked : after ≡ before + rounds * (fall_stores p + rise_stores p)
+-- The steps of so many rounds, each a fall and a rise for all lanes together; the first one has the first fall where no slot was run before.
+pub record TicksRounds (p : Program) (begun : Bool) (rounds before after : ℕ) : Type 0 where
+  pub none : rounds ≡ 0 → after ≡ before
+  pub some : 0 < rounds → after + fall_stores p ≡ before + settling_stores p begun + rounds * (fall_stores p + rise_stores p)

@@ -5,7 +5,7 @@ use Rattle.vs_design.specs.Designs.{Design}
 use Rattle.vs_design.specs.Footprints.{contains}
 use Rattle.vs_design.specs.Resets.{reset_inputs}
 use Rattle.vs_design.specs.Accepted.{IsAcceptedDesign}
-use Rattle.vs_thin.specs.Compiled.{data_bits}
+use Rattle.vs_cone.specs.Given.{data_bits}
 use Rattle.vs_stim.specs.declared.input.Input.{Input}
 use Rattle.vs_stim.specs.Header.{IsInput, lengths}
 

@@ -5,8 +5,8 @@ use Rattle.vs_net.specs.Network.{State, Network}
 use Rattle.vs_design.specs.Designs.{Design}
 use Rattle.vs_design.specs.Networks.{network_of}
 use Rattle.vs_desk.specs.Desk.{Contents}
-use Rattle.vs_thin.specs.Compiled.{IsProgramOf}
-use Rattle.vs_thin.specs.Lanes.{Running, state}
+use Rattle.vs_program.specs.Compiled.{IsProgramOf}
+use Rattle.vs_engine.specs.Lanes.{Running, state}
 use Rattle.vs_stim.specs.declared.input.Input.{Input}
 use Rattle.vs_stim.specs.Known.{Known, remaining}
 use Rattle.vs_stim.specs.Reading.{Reading, reading, with_vector}

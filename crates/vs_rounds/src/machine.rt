@@ -1,10 +1,10 @@
 //! What a run needs in its rounds, and the phases of a round.
 
-ghost use Rattle.std.specs.Prelude.{◌≡◌, ℕ, [], ◌+◌, ◌<◌, ◌≤◌, length, suc, true, IsTrue, IfOk, IfErr, OnOk};
+ghost use Rattle.std.specs.Prelude.{◌≡◌, ℕ, ◌+◌, ◌<◌, ◌≤◌, length, suc, true, IsTrue, IfOk, IfErr, OnOk};
 ghost use Rattle.std.specs.List.{count_by};
 ghost use Rattle.vs_design.specs.Designs.{Design};
-ghost use Rattle.vs_thin.specs.Compiled.{IsProgramOf, fall_stores, rise_stores};
-ghost use Rattle.vs_drive.specs.Lanes.{AreAttached, OtherPlacesKept, lane_at};
+ghost use Rattle.vs_program.specs.Compiled.{IsProgramOf};
+ghost use Rattle.vs_drive.specs.Lanes.{AreAttached, OtherPlacesKept};
 ghost use Rattle.vs_waves.specs.Puts.{AreWritable};
 ghost use Rattle.vs_rounds.specs.Lanes.{Run, Simulation, HaveNext, HaveVectors, AreBeforeRound, AreInRound};
 ghost use Rattle.vs_rounds.specs.Ready.{AreParts, IsReady, IsNoted, Settles, Ticks};
@@ -17,14 +17,14 @@ use std::marker::Model;
 use std::sync::ledger::Ledger;
 use vs_desk::Desk;
 use vs_drive::Drive;
+use vs_engine::Engine;
 use vs_four::Bit4;
-use vs_plane::{Lanes, Pair, Steps};
-use vs_thin::Engine;
+use vs_plane::{Chunked, Lanes, Pair, Steps};
 use vs_waves::Waves;
 
 /// What a run needs in its rounds: the stimuli, the waves and the engine of all lanes. Lanes have no part in each other.
 #[derive(Drop)]
-pub struct Machine<W: Lanes> {
+pub struct Machine<W: Lanes + Chunked> {
     drive: Drive,
     waves: Waves,
     engine: Engine<W>,
@@ -32,7 +32,7 @@ pub struct Machine<W: Lanes> {
 }
 
 // Clauses see the stimuli, the waves and the engine.
-impl<W: Lanes> Model for Machine<W> {
+impl<W: Lanes + Chunked> Model for Machine<W> {
     ghost use Rattle.std.specs.Prelude.{◌≡◌, length};
     ghost use Rattle.vs_rounds.specs.Lanes.{Simulation};
 
@@ -43,7 +43,7 @@ impl<W: Lanes> Model for Machine<W> {
     ghost invariant = { λ m. length m.pairs.items ≡ length m.engine.program.inputs };
 }
 
-impl<W: Lanes> Machine<W> {
+impl<W: Lanes + Chunked> Machine<W> {
     /// A machine of these parts. No other call takes memory, and the only error is that there is none.
     pub fn new(
         alloc: Global,
@@ -61,6 +61,13 @@ impl<W: Lanes> Machine<W> {
             engine,
             pairs: vec![in alloc; Pair::of_bit(Bit4::X); count]?,
         })
+    }
+
+    /// The engine of all lanes.
+    pub(crate) fn engine(&self) -> &Engine<W>
+        ensures { result.now ≡ self.now.engine }
+    {
+        &self.engine
     }
 
     /// Reads the vectors of the next round, by lane.
@@ -98,7 +105,8 @@ impl<W: Lanes> Machine<W> {
         ensures noted { IsNoted self.new }
         ensures lanes { (d : Design) (clock i : ℕ) → IsProgramOf d clock self.old.engine.program → i < length self.old.stimuli
             → Settles W.lane d clock round i self.old self.new }
-        ensures ticked { Ticks self.old.engine.program (count_by (λ k. k.live) self.old.stimuli) steps.old steps.new }
+        ensures begun { 0 < count_by (λ k. k.live) self.old.stimuli → self.new.engine.begun ≡ true }
+        ensures ticked { Ticks self.old.engine.program self.old.engine.begun (count_by (λ k. k.live) self.old.stimuli) steps.old steps.new }
     {
         let vectors = count_live(self.drive.live());
         if vectors == 0 {
@@ -134,7 +142,8 @@ impl<W: Lanes> Machine<W> {
         ensures lane { IfErr result (IsLaneOf (length self.old.stimuli)) }
         ensures cause { IfErr result (HasCause (D.register desk.old) (D.register desk.new)) }
         ensures others { IsTrue D.tells → OthersStay (length self.old.stimuli) (D.contents desk.old) (D.contents desk.new) }
-        ensures ticked { Ticks self.old.engine.program (count_by (λ k. k.live) self.old.stimuli) steps.old steps.new }
+        ensures begun { 0 < count_by (λ k. k.live) self.old.stimuli → self.new.engine.begun ≡ true }
+        ensures ticked { Ticks self.old.engine.program self.old.engine.begun (count_by (λ k. k.live) self.old.stimuli) steps.old steps.new }
     {
         let vectors = self.settle(round, steps);
         if let Err(fault) = self.waves.put(&self.engine, self.drive.live(), round, desk) {

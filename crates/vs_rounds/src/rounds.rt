@@ -3,7 +3,7 @@
 ghost use Rattle.std.specs.Prelude.{◌≡◌, ℕ, ◌+◌, ◌*◌, ◌<◌, ◌≤◌, length, IsTrue, IfOk, IfErr, OnOk};
 ghost use Rattle.vs_design.specs.Designs.{Design};
 ghost use Rattle.vs_design.specs.Sizes.{size};
-ghost use Rattle.vs_thin.specs.Compiled.{IsProgramOf};
+ghost use Rattle.vs_program.specs.Compiled.{IsProgramOf};
 ghost use Rattle.vs_drive.specs.Lanes.{AreAttached, OtherPlacesKept};
 ghost use Rattle.vs_waves.specs.Puts.{AreWritable};
 ghost use Rattle.vs_rounds.specs.Lanes.{Run, AreInRound, AreOpened, AreBegun};
@@ -11,10 +11,11 @@ ghost use Rattle.vs_rounds.specs.Ready.{IsReady};
 ghost use Rattle.vs_rounds.specs.Stops.{AreUnrefused, ReadStops, StopsIn, IsLaneOf, HasCause, OthersStay};
 ghost use Rattle.vs_rounds.specs.Counts.{AreDone, AreCounted, TicksRounds};
 
+use crate::operations::SlotOperations;
 use crate::{Machine, Stop};
 use std::sync::ledger::Ledger;
 use vs_desk::Desk;
-use vs_plane::{Lanes, Steps};
+use vs_plane::{Chunked, Lanes, Steps};
 
 /// A stimulus has at most 16,777,216 vectors, and its end is read in one more round.
 const MOST_ROUNDS: u64 = 16_777_217;
@@ -26,9 +27,11 @@ pub struct Counts {
     pub vectors: u64,
     /// The engine's slots: twice the greatest number of vectors of a lane.
     pub settlings: u64,
+    /// The number of plane operations executed, for all lanes together.
+    pub operations: u64,
 }
 
-impl<W: Lanes> Machine<W> {
+impl<W: Lanes + Chunked> Machine<W> {
     /// Reads the first vector of each lane, by lane.
     ///
     /// It is a step of its own: nothing is put, and the places of the waves need not be attached. It stops at the first lane whose text
@@ -83,12 +86,13 @@ impl<W: Lanes> Machine<W> {
             → IfOk result (λ counts. AreCounted run (length self.old.stimuli) counts.vectors counts.settlings) }
         ensures most { IfOk result (λ counts. counts.settlings ≤ 33554434) }
         ensures same { OnOk result (D.register desk.new ≡ D.register desk.old) }
+        ensures operations { IfOk result (λ counts. steps.new ≡ steps.old + counts.operations) }
 
         // The engine's steps are those of a fall and a rise in each round, for all lanes together, within the design's size each.
-        ensures ticked { IfOk result (λ counts. (n : ℕ) × (counts.settlings ≡ 2 * n) × TicksRounds self.old.engine.program n steps.old steps.new) }
+        ensures ticked { IfOk result (λ counts. (n : ℕ) × (counts.settlings ≡ 2 * n) × TicksRounds self.old.engine.program self.old.engine.begun n steps.old steps.new) }
         ensures within { (d : Design) (clock : ℕ) → IsProgramOf d clock self.old.engine.program
             → IfOk result (λ counts. steps.new ≤ steps.old + size d * counts.settlings) }
-        ensures ticked_always { (n : ℕ) × TicksRounds self.old.engine.program n steps.old steps.new }
+        ensures ticked_always { (n : ℕ) × TicksRounds self.old.engine.program self.old.engine.begun n steps.old steps.new }
 
         // A stimulus or a call on the desk stops it, in some round; a stimulus not in the first, whose vectors were read before.
         ensures stops { IsTrue D.tells → (run : Run) → AreInRound W.lane run 0 self.old (D.contents desk.old)
@@ -97,17 +101,26 @@ impl<W: Lanes> Machine<W> {
         ensures cause { IfErr result (HasCause (D.register desk.old) (D.register desk.new)) }
         ensures others { IsTrue D.tells → OthersStay (length self.old.stimuli) (D.contents desk.old) (D.contents desk.new) }
     {
+        let slots = SlotOperations::of(self.engine());
         let mut vectors = 0;
         for round in 0..MOST_ROUNDS {
             let live = self.round(round, desk, steps)?;
             if live == 0 {
                 let settlings = 2 * round;
-                return Ok(Counts { vectors, settlings });
+                return Ok(Counts {
+                    vectors,
+                    settlings,
+                    operations: slots.in_rounds(round),
+                });
             }
             vectors += live;
             self.read(desk)?;
         }
         let settlings = 2 * MOST_ROUNDS;
-        Ok(Counts { vectors, settlings })
+        Ok(Counts {
+            vectors,
+            settlings,
+            operations: slots.in_rounds(MOST_ROUNDS),
+        })
     }
 }

@@ -4,15 +4,14 @@ use Rattle.std.proofs.lemmas.List.Sums.{count_by-le-length}
 use Rattle.std.proofs.lemmas.Result.{err_from_is_err_and}
 use Rattle.vs_desk.specs.Desk.{Register, IsWritable}
 use Rattle.vs_waves.specs.Puts.{wave_place}
-use Rattle.vs_thin.specs.Compiled.{fall_stores, rise_stores}
 use Rattle.vs_design.specs.Sizes.{size}
 use Rattle.vs_rounds.specs.Lanes.{AreInRound}
 use Rattle.vs_rounds.specs.Ready.{IsReady}
 use Rattle.vs_rounds.specs.Stops.{ReadStops}
-use Rattle.vs_rounds.specs.Counts.{AreCounted}
-use Rattle.vs_rounds.proofs.Counting.{AreTaken, none_taken, taken_next, all_taken, done_before, done_at_last, few_at_last, none_more, ticks_within}
+use Rattle.vs_rounds.specs.Counts.{AreCounted, TicksRounds}
+use Rattle.vs_rounds.proofs.Counting.{AreTaken, none_taken, taken_next, all_taken, done_before, done_at_last, few_at_last, none_more}
 use Rattle.vs_rounds.proofs.Rereads.{stops_in}
-use Rattle.vs_rounds.proofs.Going.{others_on, others_read, in_next, ticked_more}
+use Rattle.vs_rounds.proofs.Going.{others_on, others_read, in_next, rounds_within, ticked_more, ticked_stop, operations_are}
 use Rattle.vs_rounds.proofs.machine.Machine.rounds.Goals as goal
 
 pub loop-round-init : goal.loop-round-init
@@ -25,7 +24,9 @@ loop-round-init g c = record {
   waves = refl;
   program = refl;
   few = omega arith;
-  ticked = record { ticked = omega arith };
+  begun = λ h. absurd (omega (arith, h));
+  begins = λ h. refl;
+  ticked = record { none = λ h. refl; some = λ h. absurd (omega (arith, h)) };
   others = λ t. record { others = λ place ne. refl; left = λ place lt. refl };
   in_round = λ t run h. h;
   taken = λ t run h. none_taken run (length c.args.self.now.stimuli);
@@ -62,8 +63,24 @@ returns-then-live-eq0-clause-within g c =
     let e = c.in_ok-live.ensures in
     λ d clock is_program.
     let p = c.args.self.now.engine.program in
-    let small = ticks_within c.loop-round.round (fall_stores p) (rise_stores p) (size d) is_program.fall_small is_program.rise_small in
-    omega (arith, small, inv.ticked.ticked, e.ticked.none (sym e.count ∙ c.if-live-eq0.true))
+    let small = rounds_within p c.args.self.now.engine.begun c.loop-round.round (size d) c.args.steps.now c.loop-round.steps is_program.first_small is_program.fall_small is_program.rise_small inv.ticked in
+    omega (arith, small, e.ticked.none (sym e.count ∙ c.if-live-eq0.true))
+
+pub returns-then-live-eq0-clause-operations : goal.returns-then-live-eq0-clause-operations
+returns-then-live-eq0-clause-operations g c =
+    let e = c.in_ok-live.ensures in
+    let slots = c.of-slots.ensures in
+    let counted = operations_are c.args.self.now.engine c.engine.result.now c.loop-round.round c.of-slots.result.next_fall c.of-slots.result.later_fall c.of-slots.result.rise c.in_rounds.result c.args.steps.now c.loop-round.steps
+    c.engine.ensures slots.next_fall slots.later_fall slots.rise c.in_rounds.ensures.none c.in_rounds.ensures.some c.loop-round.invariant.ticked in
+    omega (arith, counted, e.ticked.none (sym e.count ∙ c.if-live-eq0.true))
+
+pub returns-clause-operations : goal.returns-clause-operations
+returns-clause-operations g c =
+    let last : c.loop-round.round ≡ 16777217 = omega arith in
+    let slots = c.of-slots.ensures in
+    operations_are c.args.self.now.engine c.engine.result.now 16777217 c.of-slots.result.next_fall c.of-slots.result.later_fall c.of-slots.result.rise c.in_rounds-2.result c.args.steps.now c.loop-round.steps
+    c.engine.ensures slots.next_fall slots.later_fall slots.rise c.in_rounds-2.ensures.none c.in_rounds-2.ensures.some
+    (subst (λ (n : ℕ). TicksRounds c.args.self.now.engine.program c.args.self.now.engine.begun n c.args.steps.now c.loop-round.steps) last c.loop-round.invariant.ticked)
 
 pub returns-in_err-read-clause-stops : goal.returns-in_err-read-clause-stops
 returns-in_err-read-clause-stops g c =
@@ -99,7 +116,9 @@ loop-round-preserved g c =
       waves = waves;
       program = ap (λ e. e.program) read.engine ∙ ran.program ∙ inv.program;
       few = omega (arith, inv.few, ran.count, count, inv.ready.alike.lanes.at_most_64);
-      ticked = ticked_more c.args.self.now.engine.program c.loop-round.self.engine.program k (count_by (λ s. s.live) c.loop-round.self.stimuli) c.args.steps.now c.loop-round.steps c.round.new.steps inv.program (omega (arith, some, ran.count)) inv.ticked ran.ticked;
+      begun = λ h. ap (λ e. e.begun) read.engine ∙ ran.begun (omega (arith, some, ran.count));
+      begins = λ h. absurd (omega (arith, h));
+      ticked = ticked_more c.args.self.now.engine.program c.loop-round.self.engine.program c.args.self.now.engine.begun c.loop-round.self.engine.begun k (count_by (λ s. s.live) c.loop-round.self.stimuli) c.args.steps.now c.loop-round.steps c.round.new.steps inv.program (omega (arith, some, ran.count)) inv.begins inv.begun inv.ticked ran.ticked;
       others = λ t. others_read (others_on inv.lanes (inv.others t) (ran.others t)) (read.others t);
       in_round = λ t run h. subst (λ (n : ℕ). AreInRound g.W.Word.lane run n c.read.new.self (g.D.Desk.contents c.read.new.desk)) next
           (in_next g.W.Word.lane run (suc k) c.round.new.self c.read.new.self (g.D.Desk.contents c.round.new.desk) (g.D.Desk.contents c.read.new.desk) read.lanes read.waves read.engine (read.others t).put (ran.done t run (inv.in_round t run h)) (read.read t run (suc k)));
@@ -119,3 +138,13 @@ returns-clause-counted g c =
     λ t run h.
     subst (λ (n : ℕ). AreCounted run (length c.args.self.now.stimuli) c.loop-round.vectors (2 * n)) last
     (all_taken run (length c.args.self.now.stimuli) c.loop-round.round c.loop-round.vectors (inv.taken t run h) (λ i lt. few_at_last run c.loop-round.round i (omega arith)))
+
+pub returns-in_err-live-clause-ticked_always : goal.returns-in_err-live-clause-ticked_always
+returns-in_err-live-clause-ticked_always g c =
+    let inv = c.loop-round.invariant in
+    ticked_stop c.args.self.now.engine.program c.loop-round.self.engine.program c.args.self.now.engine.begun c.loop-round.self.engine.begun c.loop-round.round (count_by (λ s. s.live) c.loop-round.self.stimuli) c.args.steps.now c.loop-round.steps c.round.new.steps inv.program inv.begins inv.begun inv.ticked c.round.ensures.ticked
+
+pub returns-in_err-read-clause-ticked_always : goal.returns-in_err-read-clause-ticked_always
+returns-in_err-read-clause-ticked_always g c =
+    let inv = c.loop-round.invariant in
+    ticked_stop c.args.self.now.engine.program c.loop-round.self.engine.program c.args.self.now.engine.begun c.loop-round.self.engine.begun c.loop-round.round (count_by (λ s. s.live) c.loop-round.self.stimuli) c.args.steps.now c.loop-round.steps c.round.new.steps inv.program inv.begins inv.begun inv.ticked c.round.ensures.ticked

@@ -1,4 +1,4 @@
-use Rattle.std.proofs.Common.{◌≡◌, ◌≤◌, ◌*◌, length, IsTrue}
+use Rattle.std.proofs.Common.{◌≡◌, ◌≤◌, ◌<◌, true, ◌*◌, length, IsTrue}
 use Rattle.vs_drive.specs.Lanes.{AreAttached}
 use Rattle.vs_waves.specs.Puts.{AreWritable}
 use Rattle.vs_rounds.specs.Lanes.{Run, AreInRound}
@@ -19,7 +19,9 @@ invariant-loop-round g l =
       waves : length l.self.waves ≡ length l.initial.self.waves;
       program : l.self.engine.program ≡ l.initial.self.engine.program;
       few : l.vectors ≤ 64 * l.round;
-      ticked : TicksRounds l.initial.self.engine.program l.round l.initial.steps l.steps;
+      begun : 0 < l.round → l.self.engine.begun ≡ true;
+      begins : l.round ≡ 0 → l.self.engine.begun ≡ l.initial.self.engine.begun;
+      ticked : TicksRounds l.initial.self.engine.program l.initial.self.engine.begun l.round l.initial.steps l.steps;
       others : IsTrue g.D.Desk.tells → OthersStay (length l.initial.self.stimuli) (g.D.Desk.contents l.initial.desk) (g.D.Desk.contents l.desk);
       in_round : IsTrue g.D.Desk.tells → (run : Run) → AreInRound g.W.Word.lane run 0 l.initial.self (g.D.Desk.contents l.initial.desk) → AreInRound g.W.Word.lane run l.round l.self (g.D.Desk.contents l.desk);
       taken : IsTrue g.D.Desk.tells → (run : Run) → AreInRound g.W.Word.lane run 0 l.initial.self (g.D.Desk.contents l.initial.desk) → AreTaken run (length l.initial.self.stimuli) l.round l.vectors;
