@@ -2,4 +2,5 @@ pub mod Equal
 pub mod Halves
 pub mod Ranges
 pub mod Listed
-pub mod Designs
+pub mod Options
+pub mod InTurn

@@ -1,7 +1,18 @@
--- A job whose texts are words of the command line.
-use Rattle.std.specs.Prelude.{map, string_bytes}
+-- What was read of the words, and a job, whose texts are words of the command line.
+use Rattle.std.specs.Prelude.{map, option_map}
 use Rattle.vs_job.specs.declared.job.Job.{Job}
 use Rattle.vs_job.specs.declared.words.Command.{Command}
+use Rattle.vs_job.specs.declared.words.Line.{Line as Lent}
+use Rattle.vs_job.specs.Lines.{Line}
+
+abbrev pub line_of : Lent → Line
+line_of l = record {
+  next = l.next;
+  top = option_map (λ s. s.now) l.top;
+  clock = option_map (λ s. s.now) l.clock;
+  half = option_map (λ s. s.now) l.half;
+  paths = map (λ s. s.now) l.paths.items;
+}
 
 abbrev pub job_of : Command → Job
-job_of c = record { top = c.top.now; clock = c.clock.now; half = c.half; design = c.design.now; stimuli = map string_bytes c.stimuli.now }
+job_of c = record { top = c.top.now; clock = c.clock.now; half = c.half; design = c.design.now; stimuli = map (λ s. s.now) c.stimuli.now }

@@ -5,7 +5,7 @@ ghost use Rattle.vs_job.specs.Job.{job, IsJob};
 ghost use Rattle.vs_job.specs.declared.job.JobError.TheVariants.{Memory};
 
 use crate::text::{Text, Texts};
-use crate::words::read_command;
+use crate::words::read_line;
 use std::alloc::{AllocError, Global};
 use thiserror::Error;
 
@@ -46,9 +46,10 @@ impl From<AllocError> for JobError {
 /// Reads the words of the command line, the program's own name first:
 /// `cyclesim run --top T --clock C [--half H] DESIGN STIM..`.
 ///
-/// The options are two words each, and stand in this order. H is a decimal number from 1 to
-/// 1,000,000 without a sign or a leading zero, and 5 where it isn't given. There are 1 to 64 stimuli.
-/// No value and no path begins with `-`.
+/// The options stand anywhere behind `run`, each once, with the value in the next word or, as in
+/// `--top=T`, behind the first `=`. `--` ends them: each word behind it is a path. Before it no value
+/// and no path begins with `-`. H is a decimal number from 1 to 1,000,000 without a sign or a leading
+/// zero, and 5 where it isn't given. The first path is the design, and 1 to 64 stimuli follow.
 ///
 /// `Usage` comes exactly where the words are no such list, before any memory is taken.
 pub fn read_job(alloc: Global, words: &[String]) -> Result<Job, JobError>
@@ -56,7 +57,10 @@ pub fn read_job(alloc: Global, words: &[String]) -> Result<Job, JobError>
     ensures in_range { IfOk result IsJob }
     ensures usage { (result ≡ Err JobError.Usage) ↔ (job (map string_bytes words.now) ≡ None) }
 {
-    let Some(command) = read_command(words) else {
+    let Some(line) = read_line(words) else {
+        return Err(JobError::Usage);
+    };
+    let Some(command) = line.called() else {
         return Err(JobError::Usage);
     };
     let job = command.to_job(alloc)?;

@@ -1,14 +1,20 @@
 //! Laws on jobs, as functions that do nothing: each clause is over the definitions alone.
 
-ghost use Rattle.std.specs.Prelude.{◌≡◌, ◌+◌, ℕ, List, None, Some, length, slice_get};
+ghost use Rattle.std.specs.Prelude.{◌≡◌, ◌+◌, ℕ, List, None, Some, map, length, slice_get};
 ghost use Rattle.vs_desk.specs.Places.{design_place, stimulus_place, waveform_place};
 ghost use Rattle.vs_job.specs.declared.job.Job.{Job};
 ghost use Rattle.vs_job.specs.Job.{job, IsJob};
+ghost use Rattle.vs_job.specs.Rows.{words, rows};
 ghost use Rattle.vs_job.specs.Places.{Place, places, same_paths, vcd_path, place, PathsDiffer};
 
 /// Every job that words call for keeps its ranges.
 pub fn job_law()
     ensures { (words : List (List ℕ)) (j : Job) → job words ≡ Some j → IsJob j }
+{}
+
+/// Which job each of the worked lines calls for.
+pub fn rows_law()
+    ensures { map (λ r. job (words r.line)) rows ≡ map (λ r. r.job) rows }
 {}
 
 /// Where no two places have one path, the paths of all places differ pairwise.

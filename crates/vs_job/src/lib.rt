@@ -9,7 +9,7 @@ mod text;
 mod words;
 
 pub use job::{Job, JobError, read_job};
-pub use laws::{job_law, places_law, same_paths_law};
+pub use laws::{job_law, places_law, rows_law, same_paths_law};
 pub use paths::{stimulus_paths, vcd_paths};
 pub use places::same_paths;
 pub use text::{Text, Texts};

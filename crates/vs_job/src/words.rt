@@ -1,14 +1,16 @@
 //! The reading of the words, which takes no memory.
 
-ghost use Rattle.std.specs.Prelude.{◌≡◌, map, option_map, IfOk, string_bytes};
-ghost use Rattle.std.specs.List.{list_all};
+ghost use Rattle.std.specs.Prelude.{◌≡◌, [], map, option_map, is_some, IfOk, string_bytes};
+ghost use Rattle.std.specs.List.{before_first};
 ghost use Rattle.vs_job.specs.Job as spec;
-ghost use Rattle.vs_job.specs.Command.{job_of};
+ghost use Rattle.vs_job.specs.Lines as lines;
+ghost use Rattle.vs_job.specs.Lines.{said_of, values};
+ghost use Rattle.vs_job.specs.Command.{line_of, job_of};
 
 use crate::job::Job;
 use crate::text::{Text, Texts};
+use arrayvec::ArrayVec;
 use std::alloc::{AllocError, Global};
-use vs_desk::MOST_LANES;
 
 /// The half-period where none is given.
 const DEFAULT_HALF: u32 = 5;
@@ -16,17 +18,52 @@ const DEFAULT_HALF: u32 = 5;
 /// The greatest half-period.
 const MOST_HALF: u32 = 1_000_000;
 
+/// How many paths there are at most: the design and 64 stimuli.
+const MOST_PATHS: usize = 65;
+
+/// An option.
+#[derive(Clone, Copy)]
+pub(crate) enum Flag {
+    /// `--top`.
+    Top,
+    /// `--clock`.
+    Clock,
+    /// `--half`.
+    Half,
+}
+
+/// What the next word may be.
+#[derive(Clone, Copy)]
+pub(crate) enum Next {
+    /// `--`, a path or an option.
+    Any,
+    /// The value of this option.
+    Value(Flag),
+    /// A path, since `--` was read.
+    Path,
+}
+
+/// What the words so far say, and what the next one may be.
+#[derive(Drop)]
+pub(crate) struct Line<'a> {
+    next: Next,
+    top: Option<&'a str>,
+    clock: Option<&'a str>,
+    half: Option<&'a str>,
+    paths: ArrayVec<&'a str, MOST_PATHS>,
+}
+
 /// A job whose texts are words of the command line.
 #[derive(Clone, Copy)]
-pub(crate) struct Command<'a> {
+pub(crate) struct Command<'b, 'a> {
     top: &'a str,
     clock: &'a str,
     half: u32,
     design: &'a str,
-    stimuli: &'a [String],
+    stimuli: &'b [&'a str],
 }
 
-/// Whether the word is a value or a path: it doesn't begin with `-`.
+/// Whether the word doesn't begin with `-`.
 fn is_plain(word: &str) -> bool
     ensures { result ≡ spec.is_plain word.now }
 {
@@ -34,13 +71,6 @@ fn is_plain(word: &str) -> bool
         None => true,
         Some((first, _)) => *first != b'-',
     }
-}
-
-/// Whether no word begins with `-`.
-fn are_plain(words: &[String]) -> bool
-    ensures { result ≡ list_all (λ word. spec.is_plain (string_bytes word)) words.now }
-{
-    words.iter().all(|word| is_plain(word.as_str()))
 }
 
 /// The words behind the program's own name and `run`.
@@ -56,17 +86,171 @@ fn behind_run(words: &[String]) -> Option<&[String]>
     }
 }
 
-/// The value of the option of this name, which stands first, and the words behind it.
-fn option_value<'a>(name: &str, words: &'a [String]) -> Option<(&'a str, &'a [String])>
-    ensures { option_map (λ r. spec.read r.0.now (map string_bytes r.1.now)) result ≡ spec.option_value name.now (map string_bytes words.now) }
+/// The option of this name.
+fn flag_named(name: &str) -> Option<Flag>
+    ensures { result ≡ spec.flag_named name.now }
 {
-    let (option, words) = words.split_first()?;
-    let (value, words) = words.split_first()?;
-    if option.as_str() == name && is_plain(value.as_str()) {
-        Some((value.as_str(), words))
+    if name == "--top" {
+        Some(Flag::Top)
+    } else if name == "--clock" {
+        Some(Flag::Clock)
+    } else if name == "--half" {
+        Some(Flag::Half)
     } else {
         None
     }
+}
+
+/// What stands before the first `=` of the word, and what stands behind it.
+fn name_and_value(word: &str) -> (&str, Option<&str>)
+    ensures name { result.0.now ≡ before_first spec.is_equals word.now }
+    ensures value { option_map (λ s. s.now) result.1 ≡ spec.attached word.now }
+{
+    match word.split_once('=') {
+        Some((name, value)) => (name, Some(value)),
+        None => (word, None),
+    }
+}
+
+impl<'a> Line<'a> {
+    /// Before the first word.
+    fn start() -> Line<'a>
+        ensures { line_of result ≡ lines.start }
+    {
+        Line {
+            next: Next::Any,
+            top: None,
+            clock: None,
+            half: None,
+            paths: ArrayVec::new(),
+        }
+    }
+
+    /// One more path: the design and 64 stimuli at most.
+    fn read_path(&mut self, path: &'a str) -> Option<()>
+        ensures { option_map (λ _. line_of self.new) result ≡ lines.with_path path.now (line_of self.old) }
+    {
+        if self.paths.is_full() {
+            return None;
+        }
+        self.paths.push(path);
+        Some(())
+    }
+
+    /// Whether the option has its value.
+    fn has_value(&self, flag: Flag) -> bool
+        ensures { result ≡ is_some (lines.value_of flag (line_of self.now)) }
+    {
+        match flag {
+            Flag::Top => self.top.is_some(),
+            Flag::Clock => self.clock.is_some(),
+            Flag::Half => self.half.is_some(),
+        }
+    }
+
+    /// The option's value: it doesn't begin with `-`, and the option has no other.
+    fn read_value(&mut self, flag: Flag, value: &'a str) -> Option<()>
+        ensures { option_map (λ _. line_of self.new) result ≡ lines.with_value flag value.now (line_of self.old) }
+    {
+        if !is_plain(value) || self.has_value(flag) {
+            return None;
+        }
+        self.next = Next::Any;
+        match flag {
+            Flag::Top => self.top = Some(value),
+            Flag::Clock => self.clock = Some(value),
+            Flag::Half => self.half = Some(value),
+        }
+        Some(())
+    }
+
+    /// An option alone, or with `=` and its value.
+    fn read_option(&mut self, word: &'a str) -> Option<()>
+        ensures { option_map (λ _. line_of self.new) result ≡ lines.with_option word.now (line_of self.old) }
+    {
+        let (name, value) = name_and_value(word);
+        let flag = flag_named(name)?;
+        match value {
+            Some(value) => self.read_value(flag, value),
+            None => {
+                self.next = Next::Value(flag);
+                Some(())
+            }
+        }
+    }
+
+    /// `--`, a path or an option.
+    fn read_any(&mut self, word: &'a str) -> Option<()>
+        ensures { option_map (λ _. line_of self.new) result ≡ lines.with_any word.now (line_of self.old) }
+    {
+        if word == "--" {
+            self.next = Next::Path;
+            Some(())
+        } else if is_plain(word) {
+            self.read_path(word)
+        } else {
+            self.read_option(word)
+        }
+    }
+
+    /// One more word.
+    fn read_word(&mut self, word: &'a str) -> Option<()>
+        ensures { option_map (λ _. line_of self.new) result ≡ lines.with_word self.old.next word.now (line_of self.old) }
+    {
+        match self.next {
+            Next::Any => self.read_any(word),
+            Next::Value(flag) => self.read_value(flag, word),
+            Next::Path => self.read_path(word),
+        }
+    }
+
+    /// The line, where no option waits for its value.
+    fn complete(self) -> Option<Line<'a>>
+        ensures { option_map line_of result ≡ lines.read (line_of self.entry) [] }
+    {
+        match self.next {
+            Next::Value(_) => None,
+            _ => Some(self),
+        }
+    }
+
+    /// The job that the line calls for.
+    pub(crate) fn called(&self) -> Option<Command<'_, 'a>>
+        ensures { option_map job_of result ≡ spec.called (said_of (line_of self.now)) }
+    {
+        let top = self.top?;
+        let clock = self.clock?;
+        let half = half_given(self.half)?;
+        let (design, stimuli) = self.paths.as_slice().split_first()?;
+        if stimuli.is_empty() {
+            return None;
+        }
+        Some(Command {
+            top,
+            clock,
+            half,
+            design: *design,
+            stimuli,
+        })
+    }
+}
+
+/// The words behind `run`, one after the other.
+fn read_words(words: &[String]) -> Option<Line<'_>>
+    ensures { option_map line_of result ≡ lines.read lines.start (map string_bytes words.now) }
+{
+    let mut line = Line::start();
+    for word in words {
+        line.read_word(word.as_str())?;
+    }
+    line.complete()
+}
+
+/// What the words say.
+pub(crate) fn read_line(words: &[String]) -> Option<Line<'_>>
+    ensures { option_map line_of result ≡ lines.line (map string_bytes words.now) }
+{
+    read_words(behind_run(words)?)
 }
 
 /// The half-period that the digits write.
@@ -85,59 +269,14 @@ fn half_value(digits: &str) -> Option<u32>
     }
 }
 
-/// The half-period behind `--half`, and the words behind it.
-fn half_given(words: &[String]) -> Option<(u32, &[String])>
-    ensures { option_map (λ r. spec.read r.0 (map string_bytes r.1.now)) result ≡ spec.half_given (map string_bytes words.now) }
+/// The half-period, which is 5 where none is given.
+fn half_given(digits: Option<&str>) -> Option<u32>
+    ensures { result ≡ spec.half_given (values (option_map (λ s. s.now) digits.entry)) }
 {
-    let (digits, words) = words.split_first()?;
-    Some((half_value(digits.as_str())?, words))
-}
-
-/// The half-period, and the words behind it.
-fn half_option(words: &[String]) -> Option<(u32, &[String])>
-    ensures { option_map (λ r. spec.read r.0 (map string_bytes r.1.now)) result ≡ spec.half_option (map string_bytes words.now) }
-{
-    let Some((option, rest)) = words.split_first() else {
-        return Some((DEFAULT_HALF, words));
-    };
-    if option.as_str() == "--half" {
-        half_given(rest)
-    } else {
-        Some((DEFAULT_HALF, words))
+    match digits {
+        None => Some(DEFAULT_HALF),
+        Some(digits) => half_value(digits),
     }
-}
-
-/// The design, and the stimuli behind it.
-fn design_and_stimuli(words: &[String]) -> Option<(&str, &[String])>
-    ensures { option_map (λ r. spec.read r.0.now (map string_bytes r.1.now)) result ≡ spec.design_and_stimuli (map string_bytes words.now) }
-{
-    let (design, stimuli) = words.split_first()?;
-    if !are_plain(words) {
-        return None;
-    }
-    if 1 <= stimuli.len() && stimuli.len() <= MOST_LANES {
-        Some((design.as_str(), stimuli))
-    } else {
-        None
-    }
-}
-
-/// The job that the words call for.
-pub(crate) fn read_command(words: &[String]) -> Option<Command<'_>>
-    ensures { option_map job_of result ≡ spec.job (map string_bytes words.now) }
-{
-    let words = behind_run(words)?;
-    let (top, words) = option_value("--top", words)?;
-    let (clock, words) = option_value("--clock", words)?;
-    let (half, words) = half_option(words)?;
-    let (design, stimuli) = design_and_stimuli(words)?;
-    Some(Command {
-        top,
-        clock,
-        half,
-        design,
-        stimuli,
-    })
 }
 
 /// Copies a word.
@@ -148,17 +287,17 @@ fn copy(alloc: Global, word: &str) -> Result<Text, AllocError>
 }
 
 /// Copies words.
-fn copies(alloc: Global, words: &[String]) -> Result<Texts, AllocError>
-    ensures { IfOk result (λ texts. texts ≡ map string_bytes words.now) }
+fn copies(alloc: Global, words: &[&str]) -> Result<Texts, AllocError>
+    ensures { IfOk result (λ texts. texts ≡ map (λ s. s.now) words.now) }
 {
     let mut texts = Vec::new(alloc);
     for word in words {
-        texts.push(copy(alloc, word.as_str())?)?;
+        texts.push(copy(alloc, *word)?)?;
     }
     Ok(Texts::of(texts))
 }
 
-impl Command<'_> {
+impl Command<'_, '_> {
     /// The job, with copies of the words.
     pub(crate) fn to_job(self, alloc: Global) -> Result<Job, AllocError>
         ensures { IfOk result (λ j. j ≡ job_of self.entry) }

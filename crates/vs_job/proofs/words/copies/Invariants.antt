@@ -1,5 +1,5 @@
-use Rattle.std.proofs.Common.{◌≡◌, map, take, string_bytes}
+use Rattle.std.proofs.Common.{◌≡◌, map, take}
 use Rattle.vs_job.proofs.words.copies.Given as goal
 
 abbrev pub invariant-loop-word : goal.invariant-loop-word
-invariant-loop-word l = l.texts.items ≡ map string_bytes (take l.word-index l.words)
+invariant-loop-word l = l.texts.items ≡ map (λ s. s.now) (take l.word-index l.words)

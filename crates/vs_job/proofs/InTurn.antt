@@ -1,0 +1,162 @@
+-- What is read one word after the other is what the words say.
+use Rattle.std.proofs.Common.{◌≡◌, ◌+◌, ◌<◌, nat_le, Bool, true, false, cond, not, ◌&&◌, List, [], ◌∷◌, ◌++◌, length, codes, Option, Some, None, is_some, option_map, option_and_then, refl, sym, ap, ◌∙◌, arith, append_assoc}
+use Rattle.std.specs.List.{before_first}
+use Rattle.std.specs.Str.{bytes_eq}
+use Rattle.std.proofs.lemmas.Bool.{and_parts, cond-false, false_from_ne_true, leb-true}
+use Rattle.std.proofs.lemmas.Bool.Decides.{nat_tests}
+use Rattle.std.proofs.lemmas.List.{length-append, append-nil}
+use Rattle.vs_desk.specs.Places.{most_lanes}
+use Rattle.vs_job.specs.declared.job.Job.{Job}
+use Rattle.vs_job.specs.declared.words.Flag.{Flag}
+use Rattle.vs_job.specs.declared.words.Flag.TheVariants.{Top, Clock, Half}
+use Rattle.vs_job.specs.declared.words.Next.{Next}
+use Rattle.vs_job.specs.declared.words.Next.TheVariants.{Any, Value, Path}
+use Rattle.vs_job.specs.Job.{Text, behind_run, Said, only_paths, path_and, value_and, is_plain, plain_value_and, flag_named, is_equals, attached, option_and, said, once, half_given, design_and_stimuli, called, job}
+use Rattle.vs_job.specs.Lines.{Line, start, with_path, value_of, given, with_value, with_flag, with_any, with_word, is_complete, read, line, values, said_of}
+
+-- what a line and the words behind it say
+abbrev behind : Line → Said → Said
+behind l s = record { tops = values l.top ++ s.tops; clocks = values l.clock ++ s.clocks; halves = values l.half ++ s.halves; paths = l.paths ++ s.paths }
+
+-- what words say where the first one may be this
+abbrev said_at : Next → List Text → Option Said
+said_at Any words = said None words
+said_at (Value flag) words = said (Some flag) words
+said_at Path words = Some (only_paths words)
+
+abbrev job_with : Line → Option Said → Option Job
+job_with l o = option_and_then (λ s. called (behind l s)) o
+
+abbrev pub job_read : Option Line → Option Job
+job_read o = option_and_then (λ l. called (said_of l)) o
+
+-- the line's job is that of what it and the words say
+abbrev Reads : List Text → Type 0
+Reads words = (l : Line) → job_read (read l words) ≡ job_with l (said_at l.next words)
+
+-- ---- what calls for no job
+
+no_more : {A B : Type 0} (o : Option A) (f : A → Option B) → ((a : A) → f a ≡ None) → option_and_then f o ≡ None
+no_more None f h = refl
+no_more (Some a) f h = h a
+
+called-tops : (s : Said) → once s.tops ≡ None → called s ≡ None
+called-tops s e = rw e
+
+called-clocks : (s : Said) → once s.clocks ≡ None → called s ≡ None
+called-clocks s e = no_more (once s.tops) _ (λ top. rw e)
+
+called-halves : (s : Said) → half_given s.halves ≡ None → called s ≡ None
+called-halves s e = no_more (once s.tops) _ (λ top. no_more (once s.clocks) _ (λ clock. rw e))
+
+called-paths : (s : Said) → design_and_stimuli s.paths ≡ None → called s ≡ None
+called-paths s e = no_more (once s.tops) _ (λ top. no_more (once s.clocks) _ (λ clock. no_more (half_given s.halves) _ (λ half. rw e)))
+
+too_many : (paths : List Text) → 1 + most_lanes < length paths → design_and_stimuli paths ≡ None
+too_many [] more = absurd (omega arith)
+too_many (design ∷ stimuli) more =
+    cond-false (nat_le 1 (length stimuli) && nat_le (length stimuli) most_lanes) _ _ (false_from_ne_true _ (λ is.
+    let few = leb-true (length stimuli) most_lanes (and_parts (nat_le 1 (length stimuli)) _ is).1 in
+    absurd (omega arith)))
+
+-- ---- one more path
+
+path_moved : (path : Text) (l : Line) (o : Option Said) → job_with (record l { paths = l.paths ++ path ∷ [] }) o ≡ job_with l (option_map (path_and path) o)
+path_moved path l None = refl
+path_moved path l (Some s) =
+    ap (λ (paths : List Text). called (record { tops = values l.top ++ s.tops; clocks = values l.clock ++ s.clocks; halves = values l.half ++ s.halves; paths = paths }))
+    (append_assoc l.paths (path ∷ []) s.paths)
+
+path_full : (path : Text) (l : Line) (o : Option Said) → nat_le (length l.paths) most_lanes ≡ false → job_with l (option_map (path_and path) o) ≡ None
+path_full path l None full = refl
+path_full path l (Some s) full =
+    let size = length-append l.paths (path ∷ s.paths) in
+    let more : most_lanes < length l.paths = grind (arith, nat_tests) in
+    called-paths (behind l (path_and path s)) (too_many (l.paths ++ path ∷ s.paths) (omega arith))
+
+path_step : (path : Text) (words : List Text) (l : Line) (next : Next) → l.next ≡ next → Reads words
+    → job_read (option_and_then (λ m. read m words) (with_path path l)) ≡ job_with l (option_map (path_and path) (said_at next words))
+path_step path words l next at reads = go (nat_le (length l.paths) most_lanes) refl
+  where
+    go : (t : Bool) → nat_le (length l.paths) most_lanes ≡ t → job_read (option_and_then (λ m. read m words) (cond t (Some (record l { paths = l.paths ++ path ∷ [] })) None)) ≡ job_with l (option_map (path_and path) (said_at next words))
+    go true room =
+        reads (record l { paths = l.paths ++ path ∷ [] }) ∙ ap (λ (n : Next). job_with (record l { paths = l.paths ++ path ∷ [] }) (said_at n words)) at
+        ∙ path_moved path l (said_at next words)
+    go false full = sym (path_full path l (said_at next words) full)
+
+-- ---- one more value
+
+value_moved : (flag : Flag) (value : Text) (l : Line) (o : Option Said) → value_of flag l ≡ None → job_with (given flag value l) o ≡ job_with l (option_map (value_and flag value) o)
+value_moved Top value l None e = refl
+value_moved Clock value l None e = refl
+value_moved Half value l None e = refl
+value_moved Top value l (Some s) e = rw e
+value_moved Clock value l (Some s) e = rw e
+value_moved Half value l (Some s) e = rw e
+
+value_twice : (flag : Flag) (value first : Text) (l : Line) (o : Option Said) → value_of flag l ≡ Some first → job_with l (option_map (value_and flag value) o) ≡ None
+value_twice Top value first l None e = refl
+value_twice Clock value first l None e = refl
+value_twice Half value first l None e = refl
+value_twice Top value first l (Some s) e = called-tops (behind l (value_and Top value s)) (rw e)
+value_twice Clock value first l (Some s) e = called-clocks (behind l (value_and Clock value s)) (rw e)
+value_twice Half value first l (Some s) e = called-halves (behind l (value_and Half value s)) (rw e)
+
+given_read : (flag : Flag) (value : Text) (words : List Text) (l : Line) → Reads words → job_read (read (given flag value l) words) ≡ job_with (given flag value l) (said None words)
+given_read Top value words l reads = reads (given Top value l)
+given_read Clock value words l reads = reads (given Clock value l)
+given_read Half value words l reads = reads (given Half value l)
+
+value_step : (flag : Flag) (value : Text) (words : List Text) (l : Line) → Reads words
+    → job_read (option_and_then (λ m. read m words) (with_value flag value l)) ≡ job_with l (plain_value_and flag value (said None words))
+value_step flag value words l reads = go (is_plain value) (value_of flag l) refl
+  where
+    go : (plain : Bool) (before : Option Text) → value_of flag l ≡ before → job_read (option_and_then (λ m. read m words) (cond (plain && not (is_some before)) (Some (given flag value l)) None)) ≡ job_with l (cond plain (option_map (value_and flag value) (said None words)) None)
+    go true None e = given_read flag value words l reads ∙ value_moved flag value l (said None words) e
+    go true (Some first) e = sym (value_twice flag value first l (said None words) e)
+    go false None e = refl
+    go false (Some first) e = refl
+
+-- ---- one more word
+
+option_step : (flag : Option Flag) (value : Option Text) (words : List Text) (l : Line) → Reads words
+    → job_read (option_and_then (λ m. read m words) (option_and_then (λ f. with_flag f value l) flag)) ≡ job_with l (option_and flag value (said None words) (λ f. said (Some f) words))
+option_step None value words l reads = refl
+option_step (Some flag) (Some value) words l reads = value_step flag value words l reads
+option_step (Some flag) None words l reads = reads (record l { next = Value flag })
+
+either : (t : Bool) (words : List Text) (l : Line) (a b : Option Line) (x y : Option Said) → job_read (option_and_then (λ m. read m words) a) ≡ job_with l x → job_read (option_and_then (λ m. read m words) b) ≡ job_with l y
+    → job_read (option_and_then (λ m. read m words) (cond t a b)) ≡ job_with l (cond t x y)
+either true words l a b x y first second = first
+either false words l a b x y first second = second
+
+any_step : (word : Text) (words : List Text) (l : Line) → l.next ≡ Any → Reads words → job_read (option_and_then (λ m. read m words) (with_any word l)) ≡ job_with l (said None (word ∷ words))
+any_step word words l at reads =
+    either (bytes_eq word (codes "--")) words l _ _ _ _ (reads (record l { next = Path }))
+    (either (is_plain word) words l _ _ _ _ (path_step word words l Any at reads) (option_step (flag_named (before_first is_equals word)) (attached word) words l reads))
+
+step : (next : Next) (word : Text) (words : List Text) (l : Line) → l.next ≡ next → Reads words → job_read (option_and_then (λ m. read m words) (with_word next word l)) ≡ job_with l (said_at next (word ∷ words))
+step Any word words l at reads = any_step word words l at reads
+step (Value flag) word words l at reads = value_step flag word words l reads
+step Path word words l at reads = path_step word words l Path at reads
+
+end : (l : Line) → called (said_of l) ≡ called (behind l (only_paths []))
+end l = rw (append-nil (values l.top), append-nil (values l.clock), append-nil (values l.half), append-nil l.paths)
+
+ends : (next : Next) (l : Line) → job_read (cond (is_complete next) (Some l) None) ≡ job_with l (said_at next [])
+ends Any l = end l
+ends (Value flag) l = refl
+ends Path l = end l
+
+reads_all : (words : List Text) → Reads words
+reads_all [] l = ends l.next l
+reads_all (word ∷ words) l = step l.next word words l refl (reads_all words)
+
+from_run : (o : Option (List Text)) → job_read (option_and_then (λ options. read start options) o) ≡ option_and_then (λ options. option_and_then called (said None options)) o
+from_run None = refl
+from_run (Some options) = reads_all options start
+
+-- the job of words whose line is known
+pub job-line : (words : List Text) (l : Option Line) → l ≡ line words → job_read l ≡ job words
+unfolding job
+job-line words l e = ap job_read e ∙ from_run (behind_run words)

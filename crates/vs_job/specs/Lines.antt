@@ -1,0 +1,89 @@
+-- The words, read one after the other.
+use Rattle.std.specs.Prelude.{Bool, true, false, not, ◌&&◌, nat_le, List, [], ◌∷◌, ◌++◌, length, Option, Some, None, is_some, codes, bytes_eq, if◌then◌else◌}
+use Rattle.std.specs.List.{before_first}
+use Rattle.vs_desk.specs.Places.{most_lanes}
+use Rattle.vs_job.specs.declared.words.Flag.{Flag}
+use Rattle.vs_job.specs.declared.words.Flag.TheVariants.{Top, Clock, Half}
+use Rattle.vs_job.specs.declared.words.Next.{Next}
+use Rattle.vs_job.specs.declared.words.Next.TheVariants.{Any, Value, Path}
+use Rattle.vs_job.specs.Job.{◌>>=◌, Text, Said, is_plain, is_equals, flag_named, attached, behind_run}
+
+-- what the words so far say, and what the next one may be
+pub record Line : Type 0 where
+  pub next : Next
+  pub top : Option Text
+  pub clock : Option Text
+  pub half : Option Text
+  pub paths : List Text
+
+-- before the first word
+abbrev pub start : Line
+start = record { next = Any; top = None; clock = None; half = None; paths = [] }
+
+-- one more path: the design and 64 stimuli at most
+abbrev pub with_path : Text → Line → Option Line
+with_path path l = if nat_le (length l.paths) most_lanes then Some (record l { paths = l.paths ++ path ∷ [] }) else None
+
+-- the value of the option so far
+abbrev pub value_of : Flag → Line → Option Text
+value_of Top l = l.top
+value_of Clock l = l.clock
+value_of Half l = l.half
+
+abbrev pub given : Flag → Text → Line → Line
+given Top value l = record l { next = Any; top = Some value }
+given Clock value l = record l { next = Any; clock = Some value }
+given Half value l = record l { next = Any; half = Some value }
+
+-- the option's value: it doesn't begin with `-`, and the option has no other
+abbrev pub with_value : Flag → Text → Line → Option Line
+with_value flag value l = if is_plain value && not (is_some (value_of flag l)) then Some (given flag value l) else None
+
+-- an option, with its value or before it
+abbrev pub with_flag : Flag → Option Text → Line → Option Line
+with_flag flag (Some value) l = with_value flag value l
+with_flag flag None l = Some (record l { next = Value flag })
+
+-- an option alone, or with `=` and its value
+abbrev pub with_option : Text → Line → Option Line
+with_option word l = do
+  flag ← flag_named (before_first is_equals word)
+  with_flag flag (attached word) l
+
+-- `--`, a path or an option
+abbrev pub with_any : Text → Line → Option Line
+with_any word l =
+    if bytes_eq word (codes "--") then Some (record l { next = Path })
+    else (if is_plain word then with_path word l else with_option word l)
+
+-- one more word
+abbrev pub with_word : Next → Text → Line → Option Line
+with_word Any word l = with_any word l
+with_word (Value flag) word l = with_value flag word l
+with_word Path word l = with_path word l
+
+-- no option waits for its value
+abbrev pub is_complete : Next → Bool
+is_complete (Value flag) = false
+is_complete _ = true
+
+-- the words behind `run`, one after the other
+abbrev pub read : Line → List Text → Option Line
+read l [] = if is_complete l.next then Some l else None
+read l (word ∷ words) = do
+  more ← with_word l.next word l
+  read more words
+
+-- what the words say
+abbrev pub line : List Text → Option Line
+line words = do
+  options ← behind_run words
+  read start options
+
+-- the values that an option has so far
+abbrev pub values : Option Text → List Text
+values None = []
+values (Some value) = value ∷ []
+
+abbrev pub said_of : Line → Said
+said_of l = record { tops = values l.top; clocks = values l.clock; halves = values l.half; paths = l.paths }
