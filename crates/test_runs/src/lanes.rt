@@ -64,11 +64,18 @@ fn each_lane_alone(rt: HostRuntime) -> Result<(), Fail> {
     Ok(())
 }
 
-/// A stimulus whose third line has so many bytes.
-fn expect_long(rt: &impl Abort, alloc: Global, length: usize, report: &str) -> Result<(), Fail> {
-    let mut text = String::from_str(alloc, "inputs a b\n1 0\n")?;
+/// A stimulus of these lines, and then one of so many bytes.
+fn expect_long(
+    rt: &impl Abort,
+    alloc: Global,
+    lines: &str,
+    byte: char,
+    length: usize,
+    report: &str,
+) -> Result<(), Fail> {
+    let mut text = String::from_str(alloc, lines)?;
     for _ in 0..length {
-        text.push('1')?;
+        text.push(byte)?;
     }
     let mut desk = desk_with(alloc, 4096, &[("d.v", AND)])?;
     desk.add_file(
@@ -86,11 +93,27 @@ fn expect_long(rt: &impl Abort, alloc: Global, length: usize, report: &str) -> R
 #[test]
 fn long_lines(rt: HostRuntime) -> Result<(), Fail> {
     let rows = [
-        (65536, "refused 71 BadVector lane=0 line=3\n"),
-        (65537, "refused 76 LineTooLong lane=0 line=3\n"),
+        (
+            "inputs a b\n1 0\n",
+            '1',
+            65536,
+            "refused 71 BadVector lane=0 line=3\n",
+        ),
+        (
+            "inputs a b\n1 0\n",
+            '1',
+            65537,
+            "refused 76 LineTooLong lane=0 line=3\n",
+        ),
+        (
+            "inputs a b\n",
+            ' ',
+            65537,
+            "refused 76 LineTooLong lane=0 line=2\n",
+        ),
     ];
-    for (length, report) in rows {
-        expect_long(&rt, rt.alloc(), length, report)?;
+    for (lines, byte, length, report) in rows {
+        expect_long(&rt, rt.alloc(), lines, byte, length, report)?;
     }
     Ok(())
 }

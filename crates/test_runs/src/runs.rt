@@ -131,7 +131,7 @@ fn expect_row(rt: &impl Abort, alloc: Global, piece: usize, row: &Row) -> Result
     Ok(())
 }
 
-const ROWS: [Row; 18] = [
+const ROWS: [Row; 20] = [
     Row {
         line: "c run --top top --clock clk d.v s0",
         stimuli: ["inputs a b\n1 0\n1 1\n", ""],
@@ -230,7 +230,7 @@ const ROWS: [Row; 18] = [
         line: "c run --top top --clock clk bad.v s0",
         stimuli: ["", ""],
         code: 3,
-        report: "refused 21 Syntax at=0\n",
+        report: "refused 21 Syntax at=6\n",
         slots: ["", ""],
     },
     Row {
@@ -258,7 +258,21 @@ const ROWS: [Row; 18] = [
         line: "c run --top top --clock a d.v s0",
         stimuli: ["inputs b\n1\n", ""],
         code: 3,
-        report: "refused 21 Syntax at=0\n",
+        report: "refused 62 ClockRead process=0 at=51\n",
+        slots: ["", ""],
+    },
+    Row {
+        line: "c run --top none --clock clk d.v s0",
+        stimuli: ["", ""],
+        code: 3,
+        report: "refused 32 NoTop\n",
+        slots: ["", ""],
+    },
+    Row {
+        line: "c run --top top --clock y d.v s0",
+        stimuli: ["", ""],
+        code: 3,
+        report: "refused 61 NoClock\n",
         slots: ["", ""],
     },
 ];

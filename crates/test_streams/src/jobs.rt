@@ -48,29 +48,91 @@ fn expect_job(
     Ok(())
 }
 
+/// Jobs of lines that keep the rules.
 #[test]
 fn jobs_of_words(rt: HostRuntime) -> Result<(), Fail> {
     let rows = [
-        ("cyclesim run --top t --clock c d s", 0, Some("t c 5 d 1")),
-        ("x run --top t --clock c --half 9 d s", 0, Some("t c 9 d 1")),
-        ("x run --top t --clock c d", 64, Some("t c 5 d 64")),
-        ("x run --top t --clock c d", 65, None),
-        ("x run --top t --clock c d", 0, None),
-        ("x run --top t --clock c --half 0 d s", 0, None),
-        ("x run --top t --clock c --half 05 d s", 0, None),
-        ("x run --top t --clock c --half +5 d s", 0, None),
-        ("x run --top t --clock c --half 1000001 d s", 0, None),
-        ("x run --top t --clock c --half", 2, None),
-        ("x run --clock c --top t d s", 0, None),
-        ("x run --top -t --clock c d s", 0, None),
-        ("x run --top t --clock c d -s", 0, None),
-        ("x run --top t --clock c d s --half 9", 0, None),
-        ("x bench 1", 0, None),
-        ("x", 0, None),
-        ("x run --top  --clock c d s", 0, Some(" c 5 d 1")),
+        ("cyclesim run --top t --clock c d s", 0, "t c 5 d 1"),
+        ("x run --top t --clock c --half 9 d s", 0, "t c 9 d 1"),
+        ("x run --half 9 --clock c --top t d s", 0, "t c 9 d 1"),
+        ("x run d s --clock c --top t u", 0, "t c 5 d 2"),
+        (
+            "x run d --top t s --half 1000000 --clock c",
+            0,
+            "t c 1000000 d 1",
+        ),
+        ("x run --top=t --clock=c --half=1 d s", 0, "t c 1 d 1"),
+        ("x run --top=a=b --clock c d s", 0, "a=b c 5 d 1"),
+        ("x run --top t --clock c -- d s", 0, "t c 5 d 1"),
+        ("x run --top t --clock c d -- s", 0, "t c 5 d 1"),
+        ("x run --top t --clock c -- -d --top", 0, "t c 5 -d 1"),
+        ("x run --top t --clock c -- -- --", 0, "t c 5 -- 1"),
+        (
+            "x run --top t --clock c -- d -h --help -- -",
+            0,
+            "t c 5 d 4",
+        ),
+        ("x run --top  --clock= d s", 0, "  5 d 1"),
+        ("x run run --top run --clock run run", 0, "run run 5 run 1"),
+        ("x run --top t --clock c d", 64, "t c 5 d 64"),
+        ("x run --top t --clock c", 65, "t c 5 t0 64"),
     ];
     for (line, more, expected) in rows {
-        expect_job(&rt, rt.alloc(), line, more, expected)?;
+        expect_job(&rt, rt.alloc(), line, more, Some(expected))?;
+    }
+    Ok(())
+}
+
+/// No job of lines that break a rule.
+#[test]
+fn no_job_of_words(rt: HostRuntime) -> Result<(), Fail> {
+    let rows = [
+        ("x", 0),
+        ("x run", 0),
+        ("x bench 1", 0),
+        ("x --top t --clock c run d s", 0),
+        ("x --help", 0),
+        ("x -h", 0),
+        ("x --version", 0),
+        ("x run --help", 0),
+        ("x run --top t --clock c d s --help", 0),
+        ("x run --top t --clock c d s -h", 0),
+        ("x run --top t --clock c d s --version", 0),
+        ("x run --clock c d s", 0),
+        ("x run --top t d s", 0),
+        ("x run --top t --top t --clock c d s", 0),
+        ("x run --top t --clock c --clock=c d s", 0),
+        ("x run --top t --clock c --half 9 d s --half 9", 0),
+        ("x run --top t --clock c --half", 2),
+        ("x run --top t d s --clock", 0),
+        ("x run --top t --clock -- c d s", 0),
+        ("x run --top -t --clock c d s", 0),
+        ("x run --top=-t --clock c d s", 0),
+        ("x run --top --clock c d s", 0),
+        ("x run --top t --clock c d -s", 0),
+        ("x run --top t --clock c - s", 0),
+        ("x run --top t --clock c --d s", 0),
+        ("x run --tops t --clock c d s", 0),
+        ("x run --to t --clock c d s", 0),
+        ("x run -top t --clock c d s", 0),
+        ("x run top=t --clock c d s", 0),
+        ("x run --top t --clock c --half 0 d s", 0),
+        ("x run --top t --clock c --half 05 d s", 0),
+        ("x run --top t --clock c --half=05 d s", 0),
+        ("x run --top t --clock c --half +5 d s", 0),
+        ("x run --top t --clock c --half -5 d s", 0),
+        ("x run --top t --clock c --half 0x5 d s", 0),
+        ("x run --top t --clock c --half 1_0 d s", 0),
+        ("x run --top t --clock c --half 1000001 d s", 0),
+        ("x run --top t --clock c --half 99999999999999999999 d s", 0),
+        ("x run --top t --clock c --half= d s", 0),
+        ("x run --top t --clock c", 0),
+        ("x run --top t --clock c d", 0),
+        ("x run --top t --clock c d", 65),
+        ("x run --top t --clock c -- d", 65),
+    ];
+    for (line, more) in rows {
+        expect_job(&rt, rt.alloc(), line, more, None)?;
     }
     assert!(rt; read_job(rt.alloc(), &[]).is_err());
     Ok(())
@@ -84,6 +146,7 @@ fn paths_of_jobs(rt: HostRuntime) -> Result<(), Fail> {
         ("x run --top t --clock c s s s", Some((1, 1000))),
         ("x run --top t --clock c s.vcd s", Some((1, 2000))),
         ("x run --top t --clock c d s.vcd a s a", Some((1001, 1003))),
+        ("x run d --top t s --clock c s", Some((1000, 1001))),
         ("x run --top t --clock c d s u", None),
     ];
     for (line, expected) in rows {

@@ -13,13 +13,13 @@ use std::marker::Brand;
 use std::process::Abort;
 use std::sync::ledger::{Blank, Ledger};
 use std::test::Fail;
+use vs_accept::AcceptError;
 use vs_desk::MemoryDesk;
+use vs_engine::Engine;
 use vs_flat::Flat;
 use vs_four::Bit4;
-use vs_front::AcceptError;
-use vs_plane::{Lanes, Pair, Steps, Words};
+use vs_plane::{Chunked, Lanes, Pair, Steps, Words};
 use vs_setup::{Loaded, load};
-use vs_thin::Engine;
 use vs_waves::{LaneFault, Waves, attach, rounds_law};
 
 const HALF: u64 = 5;
@@ -45,7 +45,7 @@ fn pair(first: Bit4, second: Bit4) -> Pair<Words<1>> {
 }
 
 /// One round of both lanes.
-fn run_round<W: Lanes, L: Ledger>(
+fn run_round<W: Lanes + Chunked, L: Ledger>(
     engine: &mut Engine<W>,
     waves: &mut Waves,
     round: u64,
@@ -75,7 +75,7 @@ fn run_round<W: Lanes, L: Ledger>(
 }
 
 /// The first lane has two vectors, and the second one has one. A round more puts nothing.
-fn run_all<W: Lanes, L: Ledger>(
+fn run_all<W: Lanes + Chunked, L: Ledger>(
     engine: &mut Engine<W>,
     waves: &mut Waves,
     first: &[Pair<W>],
@@ -129,7 +129,7 @@ fn run<L: Ledger>(
         inputs: _,
     } = loaded(alloc)?;
     let mut steps: Steps<L> = Steps::new(blank);
-    let mut waves = two_waves(alloc, accepted.flat(), desk)?;
+    let mut waves = two_waves(alloc, accepted.typed().flat(), desk)?;
     assert_eq!(rt; engine.compiled().inputs().len(), 2);
     let first = [pair(Bit4::One, Bit4::One), pair(Bit4::One, Bit4::Zero)];
     let second = [pair(Bit4::Zero, Bit4::X), pair(Bit4::One, Bit4::X)];

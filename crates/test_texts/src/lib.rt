@@ -1,8 +1,6 @@
-//! Tests of texts: tokens, syntax trees, flat designs, and which texts are accepted.
+//! Tests of texts: tokens, syntax trees, and flat designs.
 #![tactic(auto)]
 
-#[cfg(test)]
-mod acceptance;
 #[cfg(test)]
 mod flats;
 #[cfg(test)]

@@ -6,7 +6,6 @@ pub mod Targets
 pub mod Trees
 pub mod DesignOf
 pub mod Lawful
-pub mod Thin
 pub mod Example
 pub mod BlockExample
 pub mod Rows

@@ -1,3 +1,4 @@
+pub mod Loads
 pub mod Long
 pub mod Opening
 pub mod Readied

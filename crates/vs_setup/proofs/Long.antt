@@ -1,7 +1,7 @@
 -- What was taken of a design's text.
 use Rattle.std.proofs.Common.{◌≡◌, ℕ, ◌+◌, ◌-◌, ◌<◌, ◌≤◌, List, ◌++◌, length, drop, sym, ap, ◌∙◌, arith}
 use Rattle.std.proofs.lemmas.List.{length-append, drop_at}
-use Rattle.vs_front.specs.Accepted.{most_bytes}
+use Rattle.vs_accept.specs.Accepted.{most_bytes}
 use Rattle.vs_setup.specs.DesignText.{IsTooLong}
 
 -- it has more bytes than it may

@@ -10,19 +10,22 @@ use Rattle.vs_stim.specs.Source.{IsHeaderError}
 use Rattle.vs_drive.specs.Opened.{path_at, with_lanes, HaveHeaders}
 use Rattle.vs_design.specs.Designs.{Design}
 use Rattle.vs_flat.specs.DesignOf.{design_of}
-use Rattle.vs_thin.specs.Lanes.{Running}
-use Rattle.vs_front.specs.Lent.{Acceptance}
-use Rattle.vs_front.specs.Source.{Spells}
-use Rattle.vs_front.specs.Accepted.{IsAcceptedText, most_bytes}
+use Rattle.vs_engine.specs.Lanes.{Running}
+use Rattle.vs_refusal.specs.declared.refusal.Refusal.{Refusal}
+use Rattle.vs_accept.specs.declared.error.AcceptError.{AcceptError}
+use Rattle.vs_accept.specs.declared.error.AcceptError.TheVariants as A
+use Rattle.vs_accept.specs.Lent.{Acceptance}
+use Rattle.vs_accept.specs.Accepted.{most_bytes, IsRead, IsAcceptedText, IsRefusedText}
+use Rattle.vs_accept.specs.Answers.{IsRefusalOf}
 use Rattle.vs_job.specs.declared.job.Job.{Job}
 use Rattle.vs_rounds.specs.Inputs.{data_inputs}
 use Rattle.vs_setup.specs.declared.design_text.DesignError.{DesignError}
 use Rattle.vs_setup.specs.declared.design_text.DesignError.TheVariants as D
 use Rattle.vs_setup.specs.declared.error.SetupError.{SetupError}
-use Rattle.vs_setup.specs.declared.error.SetupError.TheVariants.{TooLong, NotAccepted, Stimulus, ReadFault, Memory}
+use Rattle.vs_setup.specs.declared.error.SetupError.TheVariants.{TooLong, Refused, Stimulus, ReadFault, Memory}
 use Rattle.vs_setup.specs.DesignText.{with_design, IsTooLong, DesignFails}
 use Rattle.vs_setup.specs.Prepared.{IsDesignLoaded}
-use Rattle.vs_setup.specs.Unprepared.{IsUnopened, IsUnprepared, IsDesignOf, IsNotAccepted, IsLoadError, IsTextRefusal, IsFirstRefused, StimulusFails, error_of, design_error}
+use Rattle.vs_setup.specs.Unprepared.{IsUnopened, IsUnprepared, IsDesignOf, IsDesignRefused, IsLoadError, IsTextRefusal, IsFirstRefused, StimulusFails, error_of, design_error, accept_error}
 
 -- what is known of the lane that stopped the opening
 pub record HasStopped (tells : Bool) (inputs : List Input) (stimuli : List (List ℕ)) (before : Register) (old : Contents) (now : Register) (lane : ℕ) (error : StimError) : Type 0 where
@@ -74,10 +77,10 @@ unopened tells inputs stimuli before old now lane E.Memory s = of_memory (s.memo
         let below = s.is_lane in
         (lane + 1, omega (arith, below), e)
 
--- an error that a result has, from what is known of each error
-pub on_err : {A E : Type 0} (P Q : E → Type 0) (r : Result A E) → IfErr r P → ((e : E) → r ≡ Err e → P e → Q e) → IfErr r Q
+-- an error that a result has
+pub on_err : {A E : Type 0} (P Q : E → Type 0) (r : Result A E) → IfErr r P → ((e : E) → P e → Q e) → IfErr r Q
 on_err P Q (Ok a) h f = tt
-on_err P Q (Err e) h f = f e refl h
+on_err P Q (Err e) h f = f e h
 
 err_same : {A E : Type 0} (d e : E) → ◌≡◌ {A = Result A E} (Err d) (Err e) → e ≡ d
 err_same d e is = cc
@@ -86,14 +89,20 @@ pub err_is : {A E : Type 0} (Q : E → Type 0) (r : Result A E) (e : E) → ◌�
 err_is Q (Ok a) e is h = tt
 err_is {A = A} Q (Err d) e is h = subst Q (err_same {A = A} d e is) h
 
+-- the error of a text that isn't accepted
+pub unaccepted : (text top clock : List ℕ) (e : AcceptError) → IsRefusalOf text top clock e → IsLoadError text top clock (accept_error e)
+unaccepted text top clock (A.Refused r) h = h
+unaccepted text top clock A.Memory h = h
+
 -- a text that can't be loaded
-pub unloaded : (tells : Bool) (job : Job) (before : Register) (old : Contents) (now : Register) (new : Contents) (e : SetupError) → IsLoadError e → now ≡ with_design before job.design
-    → (e ≡ NotAccepted → IsTrue tells → IsNotAccepted job old new) → IsUnprepared tells job before old now new e
-unloaded tells job before old now new TooLong h at none = absurd h
-unloaded tells job before old now new NotAccepted h at none = (at, none refl)
-unloaded tells job before old now new (Stimulus lane error) h at none = absurd h
-unloaded tells job before old now new (ReadFault place) h at none = absurd h
-unloaded tells job before old now new Memory h at none =
+pub unloaded : (tells : Bool) (job : Job) (before : Register) (old : Contents) (now : Register) (new : Contents) (text : List ℕ) (e : SetupError)
+    → IsLoadError text job.top job.clock e → now ≡ with_design before job.design
+    → ((r : Refusal) → IsTrue tells → IsRefusedText text job.top job.clock r → IsDesignRefused job old new r) → IsUnprepared tells job before old now new e
+unloaded tells job before old now new text TooLong h at refused = absurd h
+unloaded tells job before old now new text (Refused r) h at refused = (at, (text, h), λ t. refused r t h)
+unloaded tells job before old now new text (Stimulus lane error) h at refused = absurd h
+unloaded tells job before old now new text (ReadFault place) h at refused = absurd h
+unloaded tells job before old now new text Memory h at refused =
     let none_below : 0 ≤ length job.stimuli = omega arith in
     inr (0, none_below, at)
 
@@ -110,14 +119,13 @@ undesigned tells job before old now new path D.Memory is long attached fails =
     inr (0, none_below, attached (λ e. cc) ∙ ap (with_design before) is)
 
 -- an equal text is accepted as the same design
-pub with_text : (top clock : List ℕ) (d : Design) (text other : List ℕ) → text ≡ other → IsAcceptedText text top clock d → IsAcceptedText other top clock d
+with_text : (top clock : List ℕ) (d : Design) (text other : List ℕ) → text ≡ other → IsAcceptedText text top clock d → IsAcceptedText other top clock d
 with_text top clock d text other e a = record {
-  source = a.source;
   short = subst (λ (t : List ℕ). length t ≤ most_bytes) e a.short;
-  spelled = subst (λ (t : List ℕ). Spells t a.source) e a.spelled;
-  top_named = a.top_named;
-  declared = a.declared;
-  is_elaborated = a.is_elaborated;
+  tokens = a.tokens;
+  source = a.source;
+  read = subst (λ (t : List ℕ). IsRead t a.tokens a.source) e a.read;
+  elaborates = a.elaborates;
   accepted = a.accepted;
 }
 
@@ -128,9 +136,6 @@ pub unprepared : {W : Type 0} (lane : W → ℕ → Bool) (lanes : ℕ) (tells :
 unfolding with_text
 unprepared lane lanes tells job before old mid now new a inputs engine l same e u = by_error e u
   where
-    bit : ℕ
-    bit = l.loaded.accepted.accepted.clock.first
-
     accepted : (t : IsTrue tells) → IsDesignOf job old (design_of a.flat)
     accepted t = with_text job.top job.clock (design_of a.flat) l.text (old.files job.design) (l.text_is t) l.loaded.accepted
 
@@ -146,7 +151,7 @@ unprepared lane lanes tells job before old mid now new a inputs engine l same e 
 
     by_error : (e : SetupError) → IsUnopened tells inputs job.stimuli (with_design before job.design) mid now e → IsUnprepared tells job before old now new e
     by_error TooLong u = absurd u
-    by_error NotAccepted u = absurd u
+    by_error (Refused r) u = absurd u
     by_error (Stimulus n error) u = (
       u.0,
       u.1,

@@ -5,9 +5,9 @@ use Rattle.std.proofs.lemmas.List.{length-map}
 use Rattle.vs_desk.specs.Desk.{Contents}
 use Rattle.vs_design.specs.Designs.{Design}
 use Rattle.vs_flat.specs.DesignOf.{design_of}
-use Rattle.vs_thin.specs.Compiled.{IsProgramOf, span_of}
-use Rattle.vs_thin.specs.Lanes.{Running, state}
-use Rattle.vs_front.specs.Lent.{Acceptance}
+use Rattle.vs_program.specs.Compiled.{IsProgramOf, span_of}
+use Rattle.vs_engine.specs.Lanes.{Running, state}
+use Rattle.vs_accept.specs.Lent.{Acceptance}
 use Rattle.vs_stim.specs.declared.input.Input.{Input}
 use Rattle.vs_stim.specs.Reading.{reading}
 use Rattle.vs_drive.specs.Lanes.{lane_at, AreLanes}

@@ -3,7 +3,7 @@ use Rattle.std.specs.Prelude.{◌≡◌, ◌⊎◌, ℕ, ◌+◌, ◌<◌, ◌�
 use Rattle.vs_desk.specs.declared.desk.Way.TheVariants.{Read}
 use Rattle.vs_desk.specs.Desk.{Register, Contents, with_place, Fails}
 use Rattle.vs_desk.specs.Places.{design_place}
-use Rattle.vs_front.specs.Accepted.{most_bytes}
+use Rattle.vs_accept.specs.Accepted.{most_bytes}
 
 -- The text has more bytes than it may, and just the first of them was taken too.
 pub record IsTooLong (text left : List ℕ) : Type 0 where

@@ -1,11 +1,13 @@
 -- A run that can begin.
-use Rattle.std.specs.Prelude.{◌≡◌, ℕ, ◌+◌, Bool, IsTrue, List, [], All, length, map}
+use Rattle.std.specs.Prelude.{◌≡◌, ℕ, Bool, false, IsTrue, List, [], All, length, map}
 use Rattle.vs_desk.specs.Desk.{Register, Contents}
 use Rattle.vs_desk.specs.Places.{design_place}
 use Rattle.vs_design.specs.Designs.{Design}
 use Rattle.vs_design.specs.Sizes.{size as size_of}
-use Rattle.vs_thin.specs.Compiled.{IsProgramOf, fall_stores, rise_stores}
-use Rattle.vs_front.specs.Accepted.{IsAcceptedText}
+use Rattle.vs_program.specs.Compiled.{IsProgramOf}
+use Rattle.vs_engine.specs.Lanes.{Running}
+use Rattle.vs_accept.specs.Accepted.{IsAcceptedText}
+use Rattle.vs_accept.specs.Lent.{Acceptance}
 use Rattle.vs_stim.specs.Header.{IsInput}
 use Rattle.vs_drive.specs.Lanes.{AreAttached}
 use Rattle.vs_drive.specs.Opened.{path_at, HaveHeaders}
@@ -15,9 +17,7 @@ use Rattle.vs_rounds.specs.Inputs.{data_inputs}
 use Rattle.vs_rounds.specs.Lanes.{Run, Simulation, AreOpened}
 use Rattle.vs_rounds.specs.Ready.{IsReady}
 use Rattle.vs_setup.specs.Loaded.{IsLoaded}
-use Rattle.vs_front.specs.Lent.{Acceptance}
 use Rattle.vs_stim.specs.declared.input.Input.{Input}
-use Rattle.vs_thin.specs.Lanes.{Running}
 use Rattle.vs_setup.specs.Places.{with_texts}
 
 -- What a job runs where the files have these bytes: its design, with the bit of its clock, and a text for each lane.
@@ -32,7 +32,7 @@ pub record AreTextsKept (old new : Contents) : Type 0 where
 -- The design's text was taken to its end, accepted and loaded, each lane's stimulus is about to give its first vector, and nothing of the
 -- waveforms was begun, where the desk told this before and tells that now, and `lane` reads a lane of a word.
 pub record IsPrepared {W : Type 0} (lane : W → ℕ → Bool) (tells : Bool) (job : Job) (before : Register) (old : Contents) (now : Register) (new : Contents)
-    (m : Simulation W) (size stores : ℕ) (wave_paths : List (List ℕ)) : Type 0 where
+    (m : Simulation W) (size : ℕ) (wave_paths : List (List ℕ)) : Type 0 where
   -- the design
   pub text : List ℕ
   pub text_is : IsTrue tells → text ≡ old.files job.design
@@ -41,7 +41,8 @@ pub record IsPrepared {W : Type 0} (lane : W → ℕ → Bool) (tells : Bool) (j
   pub accepted : IsAcceptedText text job.top job.clock design
   pub size_is : size ≡ size_of design
   pub program : IsProgramOf design accepted.accepted.clock.first m.engine.program
-  pub stores_are : stores ≡ fall_stores m.engine.program + rise_stores m.engine.program
+  -- no slot was run
+  pub begun : m.engine.begun ≡ false
   pub all_inputs : All IsInput (data_inputs design accepted.accepted.clock.first)
   -- the lanes
   pub lanes : length m.stimuli ≡ length job.stimuli

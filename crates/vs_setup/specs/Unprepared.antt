@@ -3,7 +3,10 @@ use Rattle.std.specs.Prelude.{◌≡◌, ℕ, ◌<◌, ◌≤◌, ◌+◌, ◌�
 use Rattle.vs_desk.specs.Desk.{Register, Contents, Fails}
 use Rattle.vs_desk.specs.Places.{stimulus_place, design_place}
 use Rattle.vs_design.specs.Designs.{Design}
-use Rattle.vs_front.specs.Accepted.{IsAcceptedText, most_bytes}
+use Rattle.vs_refusal.specs.declared.refusal.Refusal.{Refusal}
+use Rattle.vs_accept.specs.declared.error.AcceptError.{AcceptError}
+use Rattle.vs_accept.specs.declared.error.AcceptError.TheVariants as A
+use Rattle.vs_accept.specs.Accepted.{most_bytes, IsAcceptedText, IsRefusedText}
 use Rattle.vs_stim.specs.declared.input.Input.{Input}
 use Rattle.vs_stim.specs.declared.error.StimError.{StimError}
 use Rattle.vs_stim.specs.declared.error.StimError.TheVariants as E
@@ -15,7 +18,7 @@ use Rattle.vs_rounds.specs.Inputs.{data_inputs}
 use Rattle.vs_setup.specs.declared.design_text.DesignError.{DesignError}
 use Rattle.vs_setup.specs.declared.design_text.DesignError.TheVariants as D
 use Rattle.vs_setup.specs.declared.error.SetupError.{SetupError}
-use Rattle.vs_setup.specs.declared.error.SetupError.TheVariants.{TooLong, NotAccepted, Stimulus, ReadFault, Memory}
+use Rattle.vs_setup.specs.declared.error.SetupError.TheVariants.{TooLong, Refused, Stimulus, ReadFault, Memory}
 use Rattle.vs_setup.specs.DesignText.{with_design, IsTooLong, DesignFails}
 use Rattle.vs_setup.specs.Places.{with_texts}
 
@@ -23,11 +26,15 @@ use Rattle.vs_setup.specs.Places.{with_texts}
 abbrev pub IsDesignOf : Job → Contents → Design → Type 0
 IsDesignOf job c d = IsAcceptedText (c.files job.design) job.top job.clock d
 
--- The design's text has at most as many bytes as it may, all of it was taken, and it is accepted as no design.
-pub record IsNotAccepted (job : Job) (old new : Contents) : Type 0 where
+-- The design's text has at most as many bytes as it may, all of it was taken, and it is refused so.
+pub record IsDesignRefused (job : Job) (old new : Contents) (r : Refusal) : Type 0 where
   pub short : length (old.files job.design) ≤ most_bytes
   pub taken : new.left design_place ≡ []
-  pub none : (d : Design) → ¬ (IsDesignOf job old d)
+  pub refused : IsRefusedText (old.files job.design) job.top job.clock r
+
+-- it is a refusal of some text, for the names of the job's top and clock
+abbrev pub IsSomeRefusal : Job → Refusal → Type 0
+IsSomeRefusal job r = (text : List ℕ) × IsRefusedText text job.top job.clock r
 
 -- the text of lane i's stimulus
 abbrev pub text_of : Contents → List (List ℕ) → ℕ → List ℕ
@@ -77,7 +84,8 @@ IsTextRefusal error = IsHeaderError error
 -- Why a run can't begin, where the desk told this before and tells that now.
 abbrev pub IsUnprepared : Bool → Job → Register → Contents → Register → Contents → SetupError → Type 0
 IsUnprepared tells job before old now new TooLong = (now ≡ with_design before job.design) × (IsTrue tells → IsTooLong (old.files job.design) (new.left design_place))
-IsUnprepared tells job before old now new NotAccepted = (now ≡ with_design before job.design) × (IsTrue tells → IsNotAccepted job old new)
+IsUnprepared tells job before old now new (Refused r) =
+    (now ≡ with_design before job.design) × IsSomeRefusal job r × (IsTrue tells → IsDesignRefused job old new r)
 IsUnprepared tells job before old now new (Stimulus lane error) =
     (lane < length job.stimuli) × IsTextRefusal error × (now ≡ with_texts before job (take (lane + 1) job.stimuli)) × (IsTrue tells → IsHeaderRefusal job old lane error)
 IsUnprepared tells job before old now new (ReadFault place) = IsDesignFault tells job before old now new place ⊎ IsStimulusFault tells job before old now place
@@ -86,7 +94,7 @@ IsUnprepared tells job before old now new Memory = (now ≡ before) ⊎ ((lanes 
 -- Why a stimulus can't be opened, where the design's inputs are these.
 abbrev pub IsUnopened : Bool → List Input → List (List ℕ) → Register → Contents → Register → SetupError → Type 0
 IsUnopened tells inputs stimuli before old now TooLong = ⊥
-IsUnopened tells inputs stimuli before old now NotAccepted = ⊥
+IsUnopened tells inputs stimuli before old now (Refused r) = ⊥
 IsUnopened tells inputs stimuli before old now (Stimulus lane error) =
     (lane < length stimuli) × IsTextRefusal error × (now ≡ with_lanes before (take (lane + 1) stimuli)) × (IsTrue tells → IsFirstRefused inputs old stimuli lane error)
 IsUnopened tells inputs stimuli before old now (ReadFault place) =
@@ -105,8 +113,13 @@ design_error D.TooLong = TooLong
 design_error D.ReadFault = ReadFault design_place
 design_error D.Memory = Memory
 
+-- the error of a text that isn't accepted
+abbrev pub accept_error : AcceptError → SetupError
+accept_error (A.Refused r) = Refused r
+accept_error A.Memory = Memory
+
 -- a design's text can't be loaded
-abbrev pub IsLoadError : SetupError → Type 0
-IsLoadError NotAccepted = Unit {0}
-IsLoadError Memory = Unit {0}
-IsLoadError _ = ⊥
+abbrev pub IsLoadError : (text top clock : List ℕ) → SetupError → Type 0
+IsLoadError text top clock (Refused r) = IsRefusedText text top clock r
+IsLoadError text top clock Memory = Unit {0}
+IsLoadError text top clock _ = ⊥

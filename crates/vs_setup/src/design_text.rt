@@ -5,14 +5,14 @@ ghost use Rattle.vs_desk.specs.Desk.{IsAttached, Fails};
 ghost use Rattle.vs_desk.specs.declared.desk.Way.TheVariants.{Read};
 ghost use Rattle.vs_desk.specs.Taking.{OnlyTaken, TakesAt};
 ghost use Rattle.vs_desk.specs.Places.{design_place};
-ghost use Rattle.vs_front.specs.Accepted.{most_bytes};
+ghost use Rattle.vs_accept.specs.Accepted.{most_bytes};
 ghost use Rattle.vs_setup.specs.declared.design_text.DesignError.TheVariants.{ReadFault, Memory};
 ghost use Rattle.vs_setup.specs.DesignText.{IsTooLong, IsPartTaken, DesignFails, with_design};
 
 use std::alloc::{AllocError, Global};
 use thiserror::Error;
+use vs_accept::MAX_BYTES;
 use vs_desk::{DESIGN_PLACE, Desk, Failed, Way};
-use vs_front::MAX_BYTES;
 
 /// How many bytes are taken at once at most.
 const BLOCK: usize = 4096;

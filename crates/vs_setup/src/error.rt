@@ -2,23 +2,25 @@
 
 ghost use Rattle.std.specs.Prelude.{◌≡◌};
 ghost use Rattle.vs_setup.specs.declared.error.SetupError.TheVariants.{Memory};
-ghost use Rattle.vs_setup.specs.Unprepared.{design_error};
+ghost use Rattle.vs_setup.specs.Unprepared.{accept_error, design_error};
 
 use crate::design_text::DesignError;
 use std::alloc::AllocError;
 use thiserror::Error;
+use vs_accept::AcceptError;
 use vs_desk::DESIGN_PLACE;
+use vs_refusal::Refusal;
 use vs_stim::StimError;
 
 /// Why a run can't begin.
-#[derive(Clone, Copy, PartialEq, Eq, Debug, Error)]
+#[derive(Debug, Drop, Error)]
 pub enum SetupError {
     /// 3: the design has more than 4,194,304 bytes.
     #[error("the design is too long")]
     TooLong,
-    /// The text is accepted as no design.
-    #[error("the design is not accepted")]
-    NotAccepted,
+    /// 10 to 66: the text is no design, or its design breaks a rule.
+    #[error("the design is refused")]
+    Refused(Refusal),
     /// 70, 75 or 76: a lane's stimulus is refused at a line up to its header.
     #[error("lane {lane}: {error}")]
     Stimulus { lane: u32, error: StimError },
@@ -48,6 +50,17 @@ impl From<DesignError> for SetupError {
                 place: DESIGN_PLACE,
             },
             DesignError::Memory => SetupError::Memory,
+        }
+    }
+}
+
+impl From<AcceptError> for SetupError {
+    ghost from_gives = { λ a e. e ≡ accept_error a };
+
+    fn from(error: AcceptError) -> SetupError {
+        match error {
+            AcceptError::Refused(refusal) => SetupError::Refused(refusal),
+            AcceptError::Memory => SetupError::Memory,
         }
     }
 }

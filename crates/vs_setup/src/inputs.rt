@@ -1,12 +1,11 @@
 //! The data inputs of a design.
 
-ghost use Rattle.std.specs.Prelude.{◌≡◌, ◌≤◌, ℕ, ◌&&◌, ◌==◌, not, All, IfOk};
+ghost use Rattle.std.specs.Prelude.{◌≡◌, ◌≤◌, ℕ, IfOk};
 ghost use Rattle.vs_design.specs.Expressions.{range_or_one};
 ghost use Rattle.vs_design.specs.Footprints.{contains};
 ghost use Rattle.vs_flat.specs.DesignOf.{design_of};
-ghost use Rattle.vs_flat.specs.Thin.{IsThin};
+ghost use Rattle.vs_flat.specs.Lawful.{IsLawful};
 ghost use Rattle.vs_flat.specs.Trees.{signal_of};
-ghost use Rattle.vs_stim.specs.Header.{IsInput};
 ghost use Rattle.vs_rounds.specs.Inputs.{input_of, inputs_among, is_data_input};
 
 use std::alloc::{AllocError, Global};
@@ -21,7 +20,7 @@ pub(crate) fn data_inputs(
     clock: u32,
     resets: &[u32],
 ) -> Result<Vec<Input>, AllocError>
-    requires { IsThin (design_of flat.now) }
+    requires { IsLawful flat.now }
     ensures { IfOk result (λ inputs. inputs.items ≡ inputs_among resets.now clock (design_of flat.now).signals) }
 {
     let mut inputs = Vec::new(alloc);

@@ -1,17 +1,18 @@
 //! The loading of a design text.
 
-ghost use Rattle.std.specs.Prelude.{◌≡◌, ◌≤◌, ℕ, Err, IfOk, length};
-ghost use Rattle.vs_design.specs.Designs.{Design};
-ghost use Rattle.vs_front.specs.Accepted.{IsAcceptedText, most_bytes};
-ghost use Rattle.vs_front.specs.declared.error.AcceptError.TheVariants.{Refused};
+ghost use Rattle.std.specs.Prelude.{◌≤◌, IfOk, IfErr, length};
+ghost use Rattle.vs_accept.specs.Accepted.{most_bytes};
+ghost use Rattle.vs_accept.specs.Answers.{IsRefusalOf};
 ghost use Rattle.vs_setup.specs.Loaded.{IsLoaded};
 
 use crate::inputs::data_inputs;
 use std::alloc::Global;
-use vs_front::{AcceptError, Accepted, accept};
+use vs_accept::{AcceptError, Accepted, accept};
+use vs_compile::compile;
+use vs_engine::Engine;
 use vs_plane::{Lanes, Word};
+use vs_rounds::inputs_law;
 use vs_stim::Input;
-use vs_thin::{Engine, compile};
 
 /// A design that is ready to run.
 #[derive(Drop)]
@@ -24,10 +25,8 @@ pub struct Loaded<W: Word> {
     pub inputs: Vec<Input>,
 }
 
-/// Loads the design of a text of at most 4,194,304 bytes whose top module and whose clock input have these names. All memory that an engine
-/// needs is taken here.
-///
-/// It is refused exactly where the text is accepted as no design.
+/// Loads the design of a text of at most 4,194,304 bytes whose top module and whose clock input have these names: it is accepted and compiled.
+/// All memory that an engine needs is taken here. Otherwise the text is refused, by the first rule that it breaks, or there is no memory.
 pub fn load<W: Lanes>(
     alloc: Global,
     text: &[u8],
@@ -36,13 +35,21 @@ pub fn load<W: Lanes>(
 ) -> Result<Loaded<W>, AcceptError>
     requires { length text.now ≤ most_bytes }
     ensures loaded { IfOk result (λ l. IsLoaded W.lane W.LANES text.now top.now clock.now l.accepted l.inputs.items l.engine) }
-    ensures refused { result ≡ Err Refused → (d : Design) → ¬ (IsAcceptedText text.now top.now clock.now d) }
+    ensures refused { IfErr result (IsRefusalOf text.now top.now clock.now) }
 {
+    inputs_law();
     let accepted = accept(alloc, text, top, clock)?;
-    let bit = accepted.flat().signal(accepted.clock()).first_bit;
-    let compiled = compile(alloc, accepted.flat(), accepted.order(), bit)?;
+    let typed = accepted.typed();
+    let clocks = accepted.clocks();
+    let compiled = compile(
+        alloc,
+        typed,
+        accepted.footprints(),
+        clocks,
+        accepted.order(),
+    )?;
     let engine = Engine::new(alloc, compiled)?;
-    let inputs = data_inputs(alloc, accepted.flat(), bit, accepted.reset_inputs())?;
+    let inputs = data_inputs(alloc, typed.flat(), clocks.bit(), clocks.reset_inputs())?;
     Ok(Loaded {
         accepted,
         engine,

@@ -1,13 +1,11 @@
 //! The set-up of a run.
 
-ghost use Rattle.std.specs.Prelude.{◌≡◌, ◌≤◌, ◌+◌, ℕ, ◌<◌, [], All, Err, IsNone, IsTrue, IfOk, IfErr, OnOk, length, map, string_bytes};
-ghost use Rattle.vs_desk.specs.declared.desk.Way.TheVariants.{Read};
+ghost use Rattle.std.specs.Prelude.{◌≡◌, ◌≤◌, ◌<◌, [], All, IsNone, IsTrue, IfOk, IfErr, OnOk, length, map, string_bytes};
 ghost use Rattle.vs_desk.specs.Taking.{OnlyTaken};
 ghost use Rattle.vs_desk.specs.Places.{design_place, most_lanes};
-ghost use Rattle.vs_design.specs.Designs.{Design};
-ghost use Rattle.vs_thin.specs.Compiled.{fall_stores, rise_stores};
 ghost use Rattle.vs_flat.specs.DesignOf.{design_of};
-ghost use Rattle.vs_front.specs.Accepted.{IsAcceptedText, most_bytes};
+ghost use Rattle.vs_accept.specs.Accepted.{most_bytes};
+ghost use Rattle.vs_design.specs.Sizes.{size as size_of};
 ghost use Rattle.vs_setup.specs.Loaded.{IsLoaded};
 ghost use Rattle.vs_stim.specs.Header.{IsInput};
 ghost use Rattle.vs_drive.specs.Lanes.{AreAttached, AreLanes, OtherPlacesKept};
@@ -26,29 +24,26 @@ use crate::loading::{Loaded, load};
 use std::alloc::{AllocError, Global};
 use vs_desk::{Desk, FIRST_STIMULUS};
 use vs_drive::{Drive, Stopped, open};
-use vs_front::AcceptError;
 use vs_job::{Job, stimulus_paths, vcd_paths};
-use vs_plane::Lanes;
+use vs_plane::{Chunked, Lanes};
 use vs_rounds::Machine;
 use vs_stim::{Input, StimError};
 use vs_waves::Waves;
 
 /// A run that can begin.
 #[derive(Drop)]
-pub struct Prepared<W: Lanes> {
+pub struct Prepared<W: Lanes + Chunked> {
     /// The stimuli, the waveforms and the engine.
     pub machine: Machine<W>,
     /// The size of the design.
     pub size: u64,
-    /// How many plane operations a fall and a rise of the clock take, for all lanes together.
-    pub stores: u64,
     /// The paths of the waveforms, by lane.
     pub wave_paths: Vec<String>,
 }
 
 /// Prepares a run: reads the design at place 1 and loads it, opens the stimulus of lane i at place 1000 + i by lane, and takes all the
 /// memory that the run needs.
-pub fn prepare<W: Lanes, D: Desk>(
+pub fn prepare<W: Lanes + Chunked, D: Desk>(
     alloc: Global,
     job: &Job,
     desk: &mut D,
@@ -56,7 +51,7 @@ pub fn prepare<W: Lanes, D: Desk>(
     requires width { W.LANES ≡ 64 }
     requires job { IsJob job.now }
     requires fresh { IsFresh (D.register desk.old) (length job.now.stimuli) }
-    ensures prepared { IfOk result (λ p. IsPrepared W.lane D.tells job.now (D.register desk.old) (D.contents desk.old) (D.register desk.new) (D.contents desk.new) p.machine p.size p.stores (map string_bytes p.wave_paths.items)) }
+    ensures prepared { IfOk result (λ p. IsPrepared W.lane D.tells job.now (D.register desk.old) (D.contents desk.old) (D.register desk.new) (D.contents desk.new) p.machine p.size (map string_bytes p.wave_paths.items)) }
     ensures unprepared { IfErr result (IsUnprepared D.tells job.now (D.register desk.old) (D.contents desk.old) (D.register desk.new) (D.contents desk.new)) }
     ensures kept { IsTrue D.tells → AreTextsKept (D.contents desk.old) (D.contents desk.new) }
 {
@@ -88,14 +83,10 @@ fn read_and_load<W: Lanes, D: Desk>(
 fn load_text<W: Lanes>(alloc: Global, job: &Job, text: &[u8]) -> Result<Loaded<W>, SetupError>
     requires { length text.now ≤ most_bytes }
     ensures loaded { IfOk result (λ l. IsLoaded W.lane W.LANES text.now job.now.top job.now.clock l.accepted l.inputs.items l.engine) }
-    ensures errors { IfErr result IsLoadError }
-    ensures refused { result ≡ Err SetupError.NotAccepted → (d : Design) → ¬ (IsAcceptedText text.now job.now.top job.now.clock d) }
+    ensures refused { IfErr result (IsLoadError text.now job.now.top job.now.clock) }
 {
-    match load(alloc, text, job.top.as_bytes(), job.clock.as_bytes()) {
-        Ok(loaded) => Ok(loaded),
-        Err(AcceptError::Refused) => Err(SetupError::NotAccepted),
-        Err(AcceptError::Memory) => Err(SetupError::Memory),
-    }
+    let loaded = load(alloc, text, job.top.as_bytes(), job.clock.as_bytes())?;
+    Ok(loaded)
 }
 
 /// Opens the stimuli.
@@ -141,7 +132,7 @@ fn stopped_at(stopped: Stopped) -> SetupError
 }
 
 /// Puts the parts of a run together.
-fn assemble<W: Lanes>(
+fn assemble<W: Lanes + Chunked>(
     alloc: Global,
     job: &Job,
     loaded: Loaded<W>,
@@ -151,8 +142,7 @@ fn assemble<W: Lanes>(
     ensures engine { IfOk result (λ p. p.machine.engine ≡ loaded.engine) }
     ensures lanes { IfOk result (λ p. length p.machine.waves ≡ length drive) }
     ensures waves { IfOk result (λ p. All (IsNewWave (design_of loaded.accepted.flat) job.now.half) p.machine.waves) }
-    ensures size { IfOk result (λ p. p.size ≡ loaded.accepted.size) }
-    ensures stores { IfOk result (λ p. p.stores ≡ fall_stores loaded.engine.program + rise_stores loaded.engine.program) }
+    ensures size { IfOk result (λ p. p.size ≡ size_of (design_of loaded.accepted.flat)) }
     ensures paths { IfOk result (λ p. map string_bytes p.wave_paths.items ≡ map vcd_path job.now.stimuli) }
 {
     let Loaded {
@@ -161,13 +151,12 @@ fn assemble<W: Lanes>(
         inputs,
     } = loaded;
     let _ = inputs;
-    let (fall, rise) = engine.stores();
     let half = job.half as u64;
-    let waves = Waves::new(alloc, accepted.flat(), half, drive.lanes())?;
+    let typed = accepted.typed();
+    let waves = Waves::new(alloc, typed.flat(), half, drive.lanes())?;
     Ok(Prepared {
         machine: Machine::new(alloc, drive, waves, engine)?,
-        size: accepted.size(),
-        stores: fall + rise,
+        size: typed.size(),
         wave_paths: vcd_paths(alloc, job)?,
     })
 }

@@ -136,7 +136,7 @@ stimulus_ends tells job old before new place h = subst (λ (p : ℕ). Ends old n
 
 setup_ends : (tells : Bool) (job : Job) (old : Register) (before : Contents) (new : Register) (after : Contents) (e : SetupError) → IsUnprepared tells job old before new after e → Ends old new (setup_outcome e)
 setup_ends tells job old before new after S.TooLong h = let q = quiet_at old (with_design old job.design) new (placed old 1 Read (job.design ∷ [])) h.0 in record { fault = q.faults; losses = q.losses }
-setup_ends tells job old before new after S.NotAccepted h = let q = quiet_at old (with_design old job.design) new (placed old 1 Read (job.design ∷ [])) h.0 in record { fault = q.faults; losses = q.losses }
+setup_ends tells job old before new after (S.Refused r) h = let q = quiet_at old (with_design old job.design) new (placed old 1 Read (job.design ∷ [])) h.0 in record { fault = q.faults; losses = q.losses }
 setup_ends tells job old before new after (S.Stimulus i e) h =
     refusal_ends old new i e (text_refusal e h.1) (quiet_at old (with_texts old job (take (i + 1) job.stimuli)) new (texts old job (take (i + 1) job.stimuli)) h.2)
 setup_ends tells job old before new after (S.ReadFault place) (inl h) = design_ends tells job old before new after place h

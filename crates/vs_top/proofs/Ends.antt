@@ -1,5 +1,5 @@
 -- What stays of a run once its line was reported.
-use Rattle.std.proofs.Common.{◌≡◌, ◌≢◌, ℕ, List, inl, inr, IsTrue, Bool, sym, ap, ◌∙◌, subst, arith}
+use Rattle.std.proofs.Common.{◌≡◌, ◌≢◌, ℕ, List, inl, inr, IsTrue, Bool, true, false, Some, if◌then◌else◌, sym, ap, ◌∙◌, subst, arith}
 use Rattle.std.proofs.lemmas.Bool.{ne_eqb, cond-false}
 use Rattle.vs_desk.specs.Desk.{Register, Contents, with_put}
 use Rattle.vs_desk.specs.Places.{stimulus_place}
@@ -11,12 +11,21 @@ use Rattle.vs_top.specs.declared.outcome.Summary.{Summary}
 use Rattle.vs_top.specs.declared.outcome.Outcome.{Outcome}
 use Rattle.vs_stim.specs.declared.error.StimError.{StimError}
 use Rattle.vs_stim.specs.declared.error.StimError.TheVariants as E
-use Rattle.vs_refusal.specs.declared.refusal.Refusal.TheVariants.{Bare, SamePath}
-use Rattle.vs_refusal.specs.declared.names.BareName.TheVariants.{Usage}
+use Rattle.vs_lexer.specs.declared.token.LexError.{LexError}
+use Rattle.vs_lexer.specs.declared.token.LexError.TheVariants as lexer
+use Rattle.vs_design.specs.Answers.{DesignRefusal, OfWidth, OfBlock, OfDriver, OfClock, Cycle, OfZero}
+use Rattle.vs_design.specs.Refusals as rule
+use Rattle.vs_refusal.specs.declared.refusal.Refusal.{Refusal}
+use Rattle.vs_refusal.specs.declared.refusal.Refusal.TheVariants.{Bare, SamePath, At}
+use Rattle.vs_refusal.specs.declared.names.AtName.{AtName}
+use Rattle.vs_refusal.specs.declared.names.BareName.TheVariants.{NoTop, Usage}
+use Rattle.vs_accept.specs.Refused.{token_refusal, TreeFault, OutOfLanguage, OutOfGrammar, OutOfDepth, tree_refusal, rule_name, design_refusal}
+use Rattle.vs_accept.specs.Accepted.{IsRefusedText, ByTokens, ByTree, ByElaboration, ByRule}
 use Rattle.vs_rounds.specs.declared.stop.Stop.{Stop}
 use Rattle.vs_rounds.specs.declared.stop.Stop.TheVariants as R
 use Rattle.vs_setup.specs.declared.error.SetupError.{SetupError}
 use Rattle.vs_setup.specs.declared.error.SetupError.TheVariants as S
+use Rattle.vs_setup.specs.Unprepared.{IsUnprepared}
 use Rattle.vs_top.specs.declared.outcome.Outcome.TheVariants.{Done, Refused, ReadFault, WriteFault, Memory}
 use Rattle.vs_top.specs.Answers.{stimulus_outcome, setup_outcome, stop_outcome}
 use Rattle.vs_top.specs.Ended.{IsEnd}
@@ -70,12 +79,52 @@ stimulus_usage i (E.LineTooLong n) h = cc
 stimulus_usage i E.ReadFault h = cc
 stimulus_usage i E.Memory h = cc
 
-setup_usage : (e : SetupError) → setup_outcome e ≡ Refused (Bare Usage) → ⊥
-setup_usage S.TooLong h = cc
-setup_usage S.NotAccepted h = cc
-setup_usage (S.Stimulus i e) h = stimulus_usage i e h
-setup_usage (S.ReadFault place) h = cc
-setup_usage S.Memory h = cc
+token_usage : (e : LexError) → token_refusal e ≡ Some (Bare Usage) → ⊥
+token_usage (lexer.NoToken at) h = cc
+token_usage (lexer.OpenComment at) h = cc
+token_usage (lexer.BadLiteral at) h = cc
+token_usage (lexer.TooManyTokens at) h = cc
+token_usage lexer.Memory h = cc
+
+tree_usage : (byte : ℕ → ℕ) (x : TreeFault) → tree_refusal byte x ≡ Bare Usage → ⊥
+tree_usage byte (OutOfLanguage k) h = cc
+tree_usage byte (OutOfGrammar k) h = cc
+tree_usage byte (OutOfDepth k) h = cc
+
+either_usage : (b : Bool) (name : AtName) (at : ℕ) → (if b then Bare NoTop else At name at) ≡ Bare Usage → ⊥
+either_usage true name at h = cc
+either_usage false name at h = cc
+
+design_usage : (byte : ℕ → ℕ) (x : DesignRefusal) → design_refusal byte x ≡ Bare Usage → ⊥
+design_usage byte (OfWidth (rule.TooWide at)) h = cc
+design_usage byte (OfWidth (rule.Division at)) h = cc
+design_usage byte (OfWidth (rule.TooLarge size)) h = cc
+design_usage byte (OfBlock (rule.MixedAssign at)) h = cc
+design_usage byte (OfBlock (rule.Sensitivity p signal at)) h = cc
+design_usage byte (OfBlock (rule.Latch p bit at)) h = cc
+design_usage byte (OfDriver (rule.TwoDrivers bit one other at)) h = cc
+design_usage byte (OfClock rule.NoClock) h = cc
+design_usage byte (OfClock (rule.ClockRead p at)) h = cc
+design_usage byte (OfClock (rule.NotTheClock p at)) h = cc
+design_usage byte (OfClock (rule.ResetForm p at)) h = cc
+design_usage byte (Cycle processes at) h = cc
+design_usage byte (OfZero (rule.TimeZero p at)) h = cc
+
+text_usage : (text top clock : List ℕ) (r : Refusal) → IsRefusedText text top clock r → r ≡ Bare Usage → ⊥
+text_usage text top clock r (ByTokens e cut told) h = token_usage e (told ∙ ap (λ (q : Refusal). Some q) h)
+text_usage text top clock r (ByTree tokens x cut fault told) h = tree_usage _ x (told ∙ h)
+text_usage text top clock r (ByElaboration tokens source f read fault told) h = either_usage _ (rule_name f.number) _ (told ∙ h)
+text_usage text top clock r (ByRule tokens source d x read elaborates broken told) h = design_usage _ x (told ∙ h)
+
+same_refusal : (r q : Refusal) → Refused r ≡ Refused q → r ≡ q
+same_refusal r q h = cc
+
+setup_usage : (tells : Bool) (job : Job) (before : Register) (old : Contents) (now : Register) (new : Contents) (e : SetupError) → IsUnprepared tells job before old now new e → setup_outcome e ≡ Refused (Bare Usage) → ⊥
+setup_usage tells job before old now new S.TooLong c h = cc
+setup_usage tells job before old now new (S.Refused r) c h = text_usage c.1.0 job.top job.clock r c.1.1 (same_refusal r (Bare Usage) h)
+setup_usage tells job before old now new (S.Stimulus i e) c h = stimulus_usage i e h
+setup_usage tells job before old now new (S.ReadFault place) c h = cc
+setup_usage tells job before old now new S.Memory c h = cc
 
 stop_usage : (s : Stop) → stop_outcome s ≡ Refused (Bare Usage) → ⊥
 stop_usage (R.Refused i e) h = stimulus_usage i e h
@@ -87,7 +136,7 @@ end_usage tells job before old now new o (same e) h = same_usage e.first e.secon
   where
     same_usage : (a b : ℕ) → Refused (SamePath a b) ≡ Refused (Bare Usage) → ⊥
     same_usage a b h = cc
-end_usage tells job before old now new o (setup d e) h = setup_usage e.error (sym e.outcome_is ∙ h)
+end_usage tells job before old now new o (setup d e) h = setup_usage tells job before old now new e.error e.cause (sym e.outcome_is ∙ h)
 end_usage tells job before old now new o (first d e) h = stop_usage e.stop (sym e.outcome_is ∙ h)
 end_usage tells job before old now new o (attached d e) h = fault_usage (wave_place e.lane) (sym e.outcome_is ∙ h)
   where

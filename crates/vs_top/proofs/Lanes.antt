@@ -5,8 +5,7 @@ use Rattle.vs_design.specs.Designs.{Design}
 use Rattle.vs_design.specs.Networks.{network_of}
 use Rattle.vs_design.specs.Accepted.{IsAcceptedDesign}
 use Rattle.vs_desk.specs.Desk.{Register, Contents}
-use Rattle.vs_front.specs.Source.{Spells}
-use Rattle.vs_front.specs.Accepted.{IsAcceptedText, most_bytes}
+use Rattle.vs_accept.specs.Accepted.{IsAcceptedText, IsRead, most_bytes}
 use Rattle.vs_stim.specs.declared.input.Input.{Input}
 use Rattle.vs_stim.specs.Header.{IsInput}
 use Rattle.vs_stim.specs.Reading.{reading, stimulus}
@@ -61,19 +60,18 @@ lane_written every_run some_run has_vector d name a half inputs driven text put 
 -- an equal text is accepted as the same design
 abbrev pub accepted_as : (top clock : List ℕ) (d : Design) (text other : List ℕ) → text ≡ other → IsAcceptedText text top clock d → IsAcceptedText other top clock d
 accepted_as top clock d text other e a = record {
-  source = a.source;
   short = subst (λ (t : List ℕ). length t ≤ most_bytes) e a.short;
-  spelled = subst (λ (t : List ℕ). Spells t a.source) e a.spelled;
-  top_named = a.top_named;
-  declared = a.declared;
-  is_elaborated = a.is_elaborated;
+  tokens = a.tokens;
+  source = a.source;
+  read = subst (λ (t : List ℕ). IsRead t a.tokens a.source) e a.read;
+  elaborates = a.elaborates;
   accepted = a.accepted;
 }
 
 -- a prepared run is that of the job
-pub run_is : {W : Type 0} (lane : W → ℕ → Bool) (tells : Bool) (job : Job) (before : Register) (old : Contents) (now : Register) (new : Contents) (m : Simulation W) (size stores : ℕ) (paths : List (List ℕ))
-    (p : IsPrepared lane tells job before old now new m size stores paths) → IsTrue tells → IsRunOf job old (run_of job old.files p.design p.accepted.accepted.clock.first)
-run_is lane tells job before old now new m size stores paths p t = record {
+pub run_is : {W : Type 0} (lane : W → ℕ → Bool) (tells : Bool) (job : Job) (before : Register) (old : Contents) (now : Register) (new : Contents) (m : Simulation W) (size : ℕ) (paths : List (List ℕ))
+    (p : IsPrepared lane tells job before old now new m size paths) → IsTrue tells → IsRunOf job old (run_of job old.files p.design p.accepted.accepted.clock.first)
+run_is lane tells job before old now new m size paths p t = record {
   design = p.design;
   accepted = accepted_as job.top job.clock p.design p.text (old.files job.design) (p.text_is t) p.accepted;
   run_is = refl;

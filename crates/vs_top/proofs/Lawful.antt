@@ -1,5 +1,5 @@
--- A lawful job on a desk without a fault is done, unless there was no memory.
-use Rattle.std.proofs.Common.{◌≡◌, ℕ, ◌<◌, Bool, IsTrue, List, [], ◌∷◌, length, Option, Some, None, sym, ap, ◌∙◌, subst, inl, inr, arith}
+-- On a desk without a fault a lawful job is done and a refused one is refused so, unless there was no memory.
+use Rattle.std.proofs.Common.{◌≡◌, ℕ, ◌<◌, Bool, IsTrue, List, [], ◌∷◌, length, Option, Some, None, refl, sym, ap, ◌∙◌, subst, inl, inr, arith}
 use Rattle.vs_desk.specs.Desk.{Register, Contents}
 use Rattle.vs_stim.specs.declared.input.Input.{Input}
 use Rattle.vs_stim.specs.declared.input.Column.{Column}
@@ -10,29 +10,26 @@ use Rattle.vs_stim.specs.Reading.{Limits, Place, Reading, limits, refused, behin
 use Rattle.vs_stim.specs.Reading.Said.{Skipped, Malformed, Given}
 use Rattle.vs_drive.specs.Opened.{path_at}
 use Rattle.vs_rounds.specs.Drives.{Vector}
+use Rattle.vs_rounds.specs.Inputs.{data_inputs}
 use Rattle.vs_rounds.specs.Lanes.{Run, reading_of}
-use Rattle.vs_rounds.specs.Stops.{ReadStops, StopsIn, IsLaneOf}
-use Rattle.vs_waves.specs.Puts.{wave_place}
 use Rattle.vs_refusal.specs.declared.refusal.Refusal.{Refusal}
-use Rattle.vs_design.specs.Designs.{Design}
-use Rattle.vs_rounds.specs.declared.stop.Stop.{Stop}
-use Rattle.vs_rounds.specs.declared.stop.Stop.TheVariants as R
+use Rattle.vs_refusal.specs.declared.refusal.Refusal.TheVariants.{SamePath}
+use Rattle.vs_accept.specs.Accepted.{NotBoth, OneDesign, OneRefusal}
 use Rattle.vs_job.specs.declared.job.Job.{Job}
 use Rattle.vs_job.specs.Places.{same_paths}
-use Rattle.vs_rounds.specs.Inputs.{data_inputs}
-use Rattle.vs_setup.specs.declared.error.SetupError.{SetupError}
-use Rattle.vs_setup.specs.declared.error.SetupError.TheVariants as S
 use Rattle.vs_setup.specs.Prepared.{run_of}
-use Rattle.vs_setup.specs.Unprepared.{IsUnprepared, IsDesignOf}
+use Rattle.vs_setup.specs.Unprepared.{IsHeaderRefusal}
 use Rattle.vs_top.specs.declared.outcome.Summary.{Summary}
 use Rattle.vs_top.specs.declared.outcome.Outcome.{Outcome}
 use Rattle.vs_top.specs.declared.outcome.Outcome.TheVariants.{Done, Refused, ReadFault, WriteFault, Memory}
-use Rattle.vs_top.specs.Answers.{setup_outcome, stop_outcome}
+use Rattle.vs_top.specs.Headline.{IsWritten}
 use Rattle.vs_top.specs.Ended.{IsEnd, IsStopped, IsRunOf}
 use Rattle.vs_top.specs.Ended.IsEnd.{same, setup, first, attached, stopped, whole}
 use Rattle.vs_top.specs.Reported.{ReportsDone, OnStopped}
-use Rattle.vs_top.proofs.Causes.{on_stopped}
 use Rattle.vs_top.specs.Causes.{ShowsCause, IsLawful, IsFaultless, IsDoneOrMemory}
+use Rattle.vs_top.specs.Refused.{IsRefusedJob, ByPaths, ByLength, ByDesign, ByHeader, ByLine, IsRefusedSo}
+use Rattle.vs_top.proofs.Causes.{on_stopped}
+use Rattle.vs_top.proofs.Refusals.{some_none, refused_job, one_inputs, alike}
 
 -- ---- a valid stimulus is nowhere refused
 
@@ -78,9 +75,6 @@ refuses l is p [] e h = h
 refuses l is p (line ∷ later) e h =
     refuses_here l is p (length line.bytes) later e (too_long l p (length line.bytes) line.ended) (header_line is (content line)) (refuses l is (behind p (length line.bytes)) later e) h
 
-some_none : {A : Type 0} (o : Option A) (a : A) → o ≡ Some a → o ≡ None → ⊥
-some_none o a s n = cc
-
 valid_whole : (text : List ℕ) (is : List Input) (vectors : List Vector) → stimulus text is vectors → (reading is text).refusal ≡ None
 valid_whole text is vectors h = ap (λ (r : Reading). r.refusal) h
 
@@ -89,85 +83,100 @@ no_header_refusal text is vectors e valid h = some_none (reading is text).refusa
 
 -- ---- no refusal of a lawful job
 
--- the refusal that a lane's text would have
-no_text_refusal : (job : Job) (old : Contents) (l : IsLawful job old) (d : Design) (a : IsDesignOf job old d) (i : ℕ) (e : StimError) → i < length job.stimuli
-    → header_refusal (data_inputs d a.accepted.clock.first) (old.files (path_at job.stimuli i)) ≡ Some e → ⊥
-no_text_refusal job old l d a i e lt h =
-    let v = l.valid d a i lt in
-    no_header_refusal (old.files (path_at job.stimuli i)) (data_inputs d a.accepted.clock.first) v.0 e v.1 h
-
-no_line_refusal : (job : Job) (old : Contents) (l : IsLawful job old) (run : Run) → IsRunOf job old run → (i : ℕ) (e : StimError) → i < length job.stimuli → (reading_of run i).refusal ≡ Some e → ⊥
-no_line_refusal job old l run r i e lt h =
+lawful_line : (job : Job) (c : Contents) (l : IsLawful job c) (run : Run) → IsRunOf job c run → (i : ℕ) (e : StimError) → i < length job.stimuli → (reading_of run i).refusal ≡ Some e → ⊥
+lawful_line job c l run r i e lt h =
     let v = l.valid r.design r.accepted i lt in
-    let none : (reading_of (run_of job old.files r.design r.accepted.accepted.clock.first) i).refusal ≡ None = valid_whole (old.files (path_at job.stimuli i)) (data_inputs r.design r.accepted.accepted.clock.first) v.0 v.1 in
+    let none : (reading_of (run_of job c.files r.design r.accepted.accepted.clock.first) i).refusal ≡ None = valid_whole (c.files (path_at job.stimuli i)) (data_inputs r.design r.accepted.accepted.clock.first) v.0 v.1 in
     some_none (reading_of run i).refusal e h (subst (λ (n : Run). (reading_of n i).refusal ≡ None) (sym r.run_is) none)
 
-no_setup : (tells : Bool) (job : Job) (before : Register) (old : Contents) (now : Register) (new : Contents) → IsTrue tells → IsLawful job old
-    → (error : SetupError) (r : Refusal) → IsUnprepared tells job before old now new error → Refused r ≡ setup_outcome error → ⊥
-no_setup tells job before old now new told l S.TooLong r c e =
-    let long = (c.1 told).long in
+lawful_header : (job : Job) (c : Contents) (l : IsLawful job c) (i : ℕ) (e : StimError) → i < length job.stimuli → IsHeaderRefusal job c i e → ⊥
+lawful_header job c l i e lt h =
+    let v = l.valid h.design h.accepted i lt in
+    no_header_refusal (c.files (path_at job.stimuli i)) (data_inputs h.design h.accepted.accepted.clock.first) v.0 e v.1 h.first.refused
+
+no_refusal : NotBoth → (job : Job) (c : Contents) → IsLawful job c → (r : Refusal) → IsRefusedJob job c r → ⊥
+no_refusal not_both job c l r (ByPaths x y two is) = some_none (same_paths job) (x, y) two l.paths
+no_refusal not_both job c l r (ByLength d long is) =
     let short = l.accepted.short in
     omega (arith, long, short)
-no_setup tells job before old now new told l S.NotAccepted r c e = (c.1 told).none l.design l.accepted
-no_setup tells job before old now new told l (S.Stimulus i error) r c e =
-    let h = c.3 told in
-    no_text_refusal job old l h.design h.accepted i error c.0 h.first.refused
-no_setup tells job before old now new told l (S.ReadFault place) r c e = cc
-no_setup tells job before old now new told l S.Memory r c e = cc
+no_refusal not_both job c l r (ByDesign d short t) = not_both (c.files job.design) job.top job.clock l.design r l.accepted t
+no_refusal not_both job c l r (ByHeader d i e lt h is) = lawful_header job c l i e lt h
+no_refusal not_both job c l r (ByLine d run k i e lt m h is) = lawful_line job c l run m i e lt h.refusal
 
-no_stop : (job : Job) (old : Contents) (l : IsLawful job old) (run : Run) → IsRunOf job old run → (k : ℕ) (stop : Stop) (r : Refusal) → IsLaneOf (length job.stimuli) stop
-    → ReadStops run (length job.stimuli) k stop → Refused r ≡ stop_outcome stop → ⊥
-no_stop job old l run is k (R.Refused i error) r lane s e = no_line_refusal job old l run is i error lane s.refusal
-no_stop job old l run is k (R.ReadFault i) r lane s e = cc
-no_stop job old l run is k (R.WriteFault i) r lane s e = cc
+-- ---- what is written is lawful
 
-no_round : (job : Job) (old : Contents) (l : IsLawful job old) (run : Run) → IsRunOf job old run → (k : ℕ) (new : Contents) (stop : Stop) (r : Refusal) → IsLaneOf (length job.stimuli) stop
-    → StopsIn run (length job.stimuli) k new stop → Refused r ≡ stop_outcome stop → ⊥
-no_round job old l run is k new (R.Refused i error) r lane s e = no_line_refusal job old l run is i error lane s.1.refusal
-no_round job old l run is k new (R.ReadFault i) r lane s e = cc
-no_round job old l run is k new (R.WriteFault i) r lane s e = cc
+written_lawful : OneDesign → (job : Job) (old new : Contents) (s : Summary) → same_paths job ≡ None → IsWritten job old new s → IsLawful job old
+written_lawful one job old new s paths w = record {
+  paths = paths;
+  design = w.design;
+  accepted = w.accepted;
+  valid = λ d a i lt.
+      let lane = w.lanes i lt in
+      (lane.vectors, subst (λ (is : List Input). stimulus (old.files (path_at job.stimuli i)) is lane.vectors) (one_inputs one job old w.design w.accepted d a) lane.valid);
+}
 
-no_refusal : (tells : Bool) (job : Job) (before : Register) (old : Contents) (now : Register) (new : Contents) → IsTrue tells → IsLawful job old
-    → (o : Outcome) (r : Refusal) → Refused r ≡ o → IsEnd tells job before old now new o → ⊥
-no_refusal tells job before old now new told l o r is (same e) = some_none (same_paths job) (e.first, e.second) e.same l.paths
-no_refusal tells job before old now new told l o r is (setup d e) = no_setup tells job before old now new told l e.error r e.cause (is ∙ e.outcome_is)
-no_refusal tells job before old now new told l o r is (first d e) =
-    let s = e.stops told in
-    no_stop job old l s.0 s.1 0 e.stop r e.lane s.2 (is ∙ e.outcome_is)
-no_refusal tells job before old now new told l o r is (attached d e) = fault (wave_place e.lane) (is ∙ e.outcome_is)
-  where
-    fault : (p : ℕ) → Refused r ≡ WriteFault p → ⊥
-    fault p h = cc
-no_refusal tells job before old now new told l o r is (stopped d e) =
-    let s = e.stops told in
-    no_round job old l s.0 s.1 s.2.0 new e.stop r e.lane s.2.1 (is ∙ e.outcome_is)
-no_refusal tells job before old now new told l o r is (whole d e) = done e.summary (is ∙ e.outcome_is)
-  where
-    done : (s : Summary) → Refused r ≡ Done s → ⊥
-    done s h = cc
+-- ---- an answer of a desk without a fault
 
--- a fault is none where no call failed
-no_fault : (old new : Register) (p : ℕ) → IsFaultless old new → ShowsCause old new (WriteFault p) → ⊥
-no_fault old new p f (inl c) = f.no_fault c.rose
-no_fault old new p f (inr c) = f.no_loss c.1.rose
+-- it is a refusal, or the run is done, or there was no memory
+on_answer : (old new : Register) (result : Outcome) (P : Outcome → Type 0) → IsFaultless old new → ShowsCause old new result
+    → ((s : Summary) → result ≡ Done s → P (Done s)) → ((r : Refusal) → result ≡ Refused r → P (Refused r)) → P Memory → P result
+on_answer old new (Done s) P f cause done refused memory = done s refl
+on_answer old new (Refused r) P f cause done refused memory = refused r refl
+on_answer old new (ReadFault p) P f cause done refused memory = absurd (f.no_fault cause.rose)
+on_answer old new (WriteFault p) P f (inl c) done refused memory = absurd (f.no_fault c.rose)
+on_answer old new (WriteFault p) P f (inr c) done refused memory = absurd (f.no_loss c.1.rose)
+on_answer old new Memory P f cause done refused memory = memory
+
+not_stopped : (o : Outcome) (s : Summary) → IsStopped o → o ≡ Done s → ⊥
+not_stopped o s h e = subst IsStopped e h
 
 -- a job that stopped, by its report
-ends_well : (tells : Bool) (job : Job) (before : Register) (old : Contents) (now new : Register) (c : Contents) → IsTrue tells → IsLawful job old → IsFaultless before new
-    → (o result : Outcome) → result ≡ o → IsEnd tells job before old now c o → ShowsCause before new result → IsDoneOrMemory result
-ends_well tells job before old now new c told l f o (Done s) is h cause = tt
-ends_well tells job before old now new c told l f o (Refused r) is h cause = no_refusal tells job before old now c told l o r is h
-ends_well tells job before old now new c told l f o (ReadFault p) is h cause = f.no_fault cause.rose
-ends_well tells job before old now new c told l f o (WriteFault p) is h cause = no_fault before new p f cause
-ends_well tells job before old now new c told l f o Memory is h cause = tt
-
-pub stopped_complete : {D : Type 0} (register : D → Register) (tells : Bool) (contents : D → Contents) (job : Job) (old middle new : D) (o result : Outcome)
+pub stopped_complete : {D : Type 0} (register : D → Register) (tells : Bool) (contents : D → Contents) (job : Job) (old middle new : D) (o result : Outcome) → NotBoth
     → IsStopped o → IsEnd tells job (register old) (contents old) (register middle) (contents middle) o → OnStopped o (result ≡ o) → ShowsCause (register old) (register new) result
     → IsTrue tells → IsLawful job (contents old) → IsFaultless (register old) (register new) → IsDoneOrMemory result
-stopped_complete register tells contents job old middle new o result halted end is cause told l f =
-    ends_well tells job (register old) (contents old) (register middle) (register new) (contents middle) told l f o result (on_stopped o (result ≡ o) halted is) end cause
+stopped_complete register tells contents job old middle new o result not_both halted end is cause told l f =
+    let same = on_stopped o (result ≡ o) halted is in
+    on_answer (register old) (register new) result IsDoneOrMemory f cause (λ s e. tt)
+    (λ r e. no_refusal not_both job (contents old) l r (refused_job tells job (register old) (contents old) (register middle) (contents middle) told o r (sym e ∙ same) end)) tt
+
+pub stopped_refused : {D : Type 0} (register : D → Register) (tells : Bool) (contents : D → Contents) (job : Job) (old middle new : D) (o result : Outcome) → OneDesign → NotBoth → OneRefusal
+    → IsStopped o → IsEnd tells job (register old) (contents old) (register middle) (contents middle) o → OnStopped o (result ≡ o) → ShowsCause (register old) (register new) result
+    → IsTrue tells → (q : Refusal) → IsRefusedJob job (contents old) q → IsFaultless (register old) (register new) → IsRefusedSo q result
+stopped_refused register tells contents job old middle new o result one not_both texts halted end is cause told q job_refused f =
+    let same = on_stopped o (result ≡ o) halted is in
+    on_answer (register old) (register new) result (IsRefusedSo q) f cause (λ s e. absurd (not_stopped o s halted (sym same ∙ e)))
+    (λ r e. alike one not_both texts job (contents old) r q (refused_job tells job (register old) (contents old) (register middle) (contents middle) told o r (sym e ∙ same) end) job_refused) tt
 
 -- a job that is done, by its report
 pub done_complete : {D : Type 0} (register : D → Register) (tells : Bool) (contents : D → Contents) (old middle new : D) (s : Summary) (result : Outcome)
     → ReportsDone register tells contents middle new (Done s) result → ShowsCause (register old) (register new) result → IsFaultless (register old) (register new) → IsDoneOrMemory result
-done_complete register tells contents old middle new s result (inl r) cause f = subst IsDoneOrMemory (sym r.0) tt
-done_complete register tells contents old middle new s result (inr r) cause f = absurd (no_fault (register old) (register new) 0 f (subst (ShowsCause (register old) (register new)) r.0 cause))
+done_complete register tells contents old middle new s result report cause f =
+    on_answer (register old) (register new) result IsDoneOrMemory f cause (λ t e. tt) (λ r e. not_refused report r e) tt
+  where
+    not_refused : ReportsDone register tells contents middle new (Done s) result → (r : Refusal) → result ≡ Refused r → ⊥
+    not_refused (inl h) r e = clash (sym h.0 ∙ e)
+      where
+        clash : Done s ≡ Refused r → ⊥
+        clash e = cc
+    not_refused (inr h) r e = clash (sym h.0 ∙ e)
+      where
+        clash : WriteFault 0 ≡ Refused r → ⊥
+        clash e = cc
+
+-- the paths of a job that is done differ
+different : (tells : Bool) (job : Job) (before : Register) (old : Contents) (now : Register) (new : Contents) (s : Summary) → IsEnd tells job before old now new (Done s) → same_paths job ≡ None
+different tells job before old now new s (same e) = absurd (clash e.first e.second e.outcome_is)
+  where
+    clash : (x y : ℕ) → Done s ≡ Refused (SamePath x y) → ⊥
+    clash x y e = cc
+different tells job before old now new s (setup d e) = d
+different tells job before old now new s (first d e) = d
+different tells job before old now new s (attached d e) = d
+different tells job before old now new s (stopped d e) = d
+different tells job before old now new s (whole d e) = d
+
+-- a job that is refused isn't done
+pub refused_undone : (tells : Bool) (job : Job) (before : Register) (old : Contents) (now : Register) (new : Contents) (s : Summary) → OneDesign → NotBoth
+    → IsEnd tells job before old now new (Done s) → IsWritten job old new s → (q : Refusal) → IsRefusedJob job old q → ⊥
+refused_undone tells job before old now new s one not_both end written q job_refused =
+    no_refusal not_both job old (written_lawful one job old new s (different tells job before old now new s end) written) q job_refused

@@ -3,4 +3,5 @@ pub mod Places
 pub mod Lanes
 pub mod Ends
 pub mod Causes
+pub mod Refusals
 pub mod Lawful

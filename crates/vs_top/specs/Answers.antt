@@ -4,9 +4,8 @@ use Rattle.vs_desk.specs.Places.{stimulus_place, most_lanes}
 use Rattle.vs_stim.specs.declared.error.StimError.{StimError}
 use Rattle.vs_stim.specs.declared.error.StimError.TheVariants as E
 use Rattle.vs_waves.specs.Puts.{wave_place}
-use Rattle.vs_refusal.specs.declared.refusal.Refusal.TheVariants.{Bare, At, Lane, Line}
+use Rattle.vs_refusal.specs.declared.refusal.Refusal.TheVariants.{Bare, Lane, Line}
 use Rattle.vs_refusal.specs.declared.names.BareName.TheVariants as bare
-use Rattle.vs_refusal.specs.declared.names.AtName.TheVariants as at
 use Rattle.vs_refusal.specs.declared.names.LaneName.TheVariants as lane
 use Rattle.vs_refusal.specs.declared.names.LineName.TheVariants as line
 use Rattle.vs_setup.specs.declared.error.SetupError.{SetupError}
@@ -29,10 +28,10 @@ stimulus_outcome i (E.LineTooLong n) = Refused (Line line.LineTooLong i n)
 stimulus_outcome i E.ReadFault = ReadFault (stimulus_place i)
 stimulus_outcome i E.Memory = Memory
 
--- a run can't begin; a text that is accepted as no design is refused at its first byte
+-- a run can't begin
 abbrev pub setup_outcome : SetupError → Outcome
 setup_outcome S.TooLong = Refused (Bare bare.TooLong)
-setup_outcome S.NotAccepted = Refused (At at.Syntax 0)
+setup_outcome (S.Refused r) = Refused r
 setup_outcome (S.Stimulus i error) = stimulus_outcome i error
 setup_outcome (S.ReadFault place) = ReadFault place
 setup_outcome S.Memory = Memory

@@ -7,7 +7,7 @@ use Rattle.vs_design.specs.Networks.{network_of}
 use Rattle.vs_design.specs.Sizes.{size as size_of}
 use Rattle.vs_desk.specs.Desk.{Contents}
 use Rattle.vs_desk.specs.Places.{stimulus_place, design_place}
-use Rattle.vs_front.specs.Accepted.{IsAcceptedText}
+use Rattle.vs_accept.specs.Accepted.{IsAcceptedText}
 use Rattle.vs_stim.specs.declared.input.Input.{Input}
 use Rattle.vs_stim.specs.Reading.{stimulus}
 use Rattle.vs_drive.specs.Opened.{path_at}

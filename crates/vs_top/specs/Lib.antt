@@ -5,3 +5,4 @@ pub mod Ended
 pub mod Answers
 pub mod Reports
 pub mod Causes
+pub mod Refused

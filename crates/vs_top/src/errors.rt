@@ -8,7 +8,7 @@ ghost use Rattle.vs_top.specs.Ended.{IsStopped};
 
 use crate::outcome::Outcome;
 use vs_desk::{FIRST_STIMULUS, FIRST_WAVEFORM};
-use vs_refusal::{AtName, BareName, LaneName, LineName, Refusal};
+use vs_refusal::{BareName, LaneName, LineName, Refusal};
 use vs_rounds::Stop;
 use vs_setup::SetupError;
 use vs_stim::StimError;
@@ -50,7 +50,7 @@ pub(crate) fn setup_outcome(error: SetupError) -> Outcome
 {
     match error {
         SetupError::TooLong => Outcome::Refused(Refusal::Bare(BareName::TooLong)),
-        SetupError::NotAccepted => Outcome::Refused(Refusal::At(AtName::Syntax, 0)),
+        SetupError::Refused(refusal) => Outcome::Refused(refusal),
         SetupError::Stimulus { lane, error } => stimulus_outcome(lane, error),
         SetupError::ReadFault { place } => Outcome::ReadFault { place },
         SetupError::Memory => Outcome::Memory,

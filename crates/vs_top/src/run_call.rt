@@ -1,16 +1,17 @@
 //! The run of a job, and of the words that call for it.
 
 ghost use Rattle.std.specs.Prelude.{◌≡◌, ◌≢◌, ◌+◌, ◌*◌, ◌≤◌, ◌⊎◌, None, Some, IsTrue, length, map, string_bytes};
-ghost use Rattle.vs_desk.specs.Desk.{Contents};
 ghost use Rattle.vs_desk.specs.Places.{most_lanes};
 ghost use Rattle.vs_job.specs.declared.job.Job.{Job};
 ghost use Rattle.vs_job.specs.Job.{IsJob, job};
 ghost use Rattle.vs_refusal.specs.declared.names.BareName.TheVariants.{Usage};
+ghost use Rattle.vs_refusal.specs.declared.refusal.Refusal.{Refusal};
 ghost use Rattle.vs_refusal.specs.declared.refusal.Refusal.TheVariants.{Bare};
 ghost use Rattle.vs_top.specs.declared.outcome.Summary.{Summary};
 ghost use Rattle.vs_top.specs.declared.outcome.Outcome.TheVariants.{Done, Memory, Refused};
 ghost use Rattle.vs_top.specs.Causes.{IsDoneOrMemory, IsFaultless, IsLawful, ShowsCause};
 ghost use Rattle.vs_top.specs.Ended.{IsUnused};
+ghost use Rattle.vs_top.specs.Refused.{IsRefusedJob, IsRefusedSo};
 ghost use Rattle.vs_top.specs.Reports.{IsSimulated, IsReported};
 ghost use Rattle.vs_top.specs.Headline.{IsWritten};
 
@@ -19,6 +20,7 @@ use crate::report_line::report;
 use crate::simulation::run_job;
 use std::alloc::Global;
 use std::sync::ledger::Ledger;
+use vs_accept::answer_law;
 use vs_desk::Desk;
 use vs_job::{Job, JobError, read_job};
 use vs_plane::Steps;
@@ -39,9 +41,11 @@ pub fn simulate<D: Desk, L: Ledger>(
     ensures ended { IsSimulated D.register D.tells D.contents job.now desk.old desk.new result }
     ensures causes { ShowsCause (D.register desk.old) (D.register desk.new) result }
     ensures complete { IsTrue D.tells → IsLawful job.now (D.contents desk.old) → IsFaultless (D.register desk.old) (D.register desk.new) → IsDoneOrMemory result }
+    ensures refused { IsTrue D.tells → (q : Refusal) → IsRefusedJob job.now (D.contents desk.old) q → IsFaultless (D.register desk.old) (D.register desk.new) → IsRefusedSo q result }
     ensures not_usage { result ≢ Refused (Bare Usage) }
     ensures written { IsTrue D.tells → (s : Summary) → result ≡ Done s → IsWritten job.now (D.contents desk.old) (D.contents desk.new) s }
 {
+    answer_law();
     match run_job(alloc, job, desk, steps) {
         Ok(summary) => report(desk, Outcome::Done(summary)),
         Err(outcome) => report(desk, outcome),
@@ -74,7 +78,9 @@ pub fn run<D: Desk, L: Ledger>(
     ensures ended { (j : Job) → job (map string_bytes words.now) ≡ Some j
         → IsSimulated D.register D.tells D.contents j desk.old desk.new result ⊎ ((result ≡ Memory) × IsReported D.register D.tells D.contents desk.old desk.new result) }
 
-    // And nothing but want of memory keeps a lawful job from its end.
+    // And where no call on the desk fails, nothing but want of memory keeps a refused job from its refusal, or a lawful job from its end.
+    ensures refused { IsTrue D.tells → (j : Job) → job (map string_bytes words.now) ≡ Some j → (q : Refusal) → IsRefusedJob j (D.contents desk.old) q
+        → IsFaultless (D.register desk.old) (D.register desk.new) → IsRefusedSo q result }
     ensures complete { IsTrue D.tells → (j : Job) → job (map string_bytes words.now) ≡ Some j → IsLawful j (D.contents desk.old)
         → IsFaultless (D.register desk.old) (D.register desk.new) → IsDoneOrMemory result }
 {

@@ -1,6 +1,6 @@
 //! A job from its paths to its waveforms.
 
-ghost use Rattle.std.specs.Prelude.{◌≡◌, ◌+◌, ◌*◌, ◌≤◌, ℕ, IsTrue, IfOk, IfErr, length};
+ghost use Rattle.std.specs.Prelude.{◌≡◌, ◌+◌, ◌*◌, ◌≤◌, IsTrue, IfOk, IfErr, length};
 ghost use Rattle.vs_job.specs.Job.{IsJob};
 ghost use Rattle.vs_top.specs.declared.outcome.Outcome.TheVariants.{Done};
 ghost use Rattle.vs_top.specs.Headline.{IsWritten};
@@ -51,7 +51,6 @@ pub(crate) fn run_job<D: Desk, L: Ledger>(
     let Prepared {
         mut machine,
         size,
-        stores,
         wave_paths,
     } = prepared;
     if let Err(stop) = machine.begin(desk) {
@@ -67,7 +66,7 @@ pub(crate) fn run_job<D: Desk, L: Ledger>(
             vectors: counts.vectors,
             settlings: counts.settlings,
             size,
-            operations: counts.settlings / 2 * stores,
+            operations: counts.operations,
         }),
         Err(stop) => Err(stop_outcome(stop)),
     }

@@ -12,7 +12,7 @@ All-at P xs i x e all = subst P (get_or_from_slice_get xs i x x e) (All-get_or P
 
 pub run_all-requires-clause-waves : goal.run_all-requires-clause-waves
 run_all-requires-clause-waves g c =
-    let signals = c.in_ok-accepted.ensures ∙ ap (λ (f : Arena). length (design_of f).signals) (sym c.flat.ensures) in
+    let signals = c.in_ok-accepted.ensures ∙ ap (λ (f : Arena). length (design_of f).signals) (sym (c.flat.ensures.same ∙ c.typed.ensures)) in
     record {
       each = λ i w q. c.rounds_law.ensures.first (design_of c.flat.result.now) 5 c.in_ok-accepted.field-0.engine.program.signals w signals
           (All-at (IsNewWave (design_of c.flat.result.now) 5) c.in_ok-waves.waves i w q c.in_ok-waves.ensures.new);

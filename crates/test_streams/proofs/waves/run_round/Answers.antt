@@ -2,8 +2,8 @@ use Rattle.std.proofs.Common.{◌≡◌, ℕ, zero, suc, List, [], ◌∷◌, �
 use Rattle.std.specs.Prelude.{slice_get, Some, true}
 use Rattle.std.proofs.lemmas.Option.{slice_get_within}
 use Rattle.std.proofs.lemmas.Result.{on_ok_weaker}
-use Rattle.vs_thin.specs.Program.{Program}
-use Rattle.vs_thin.specs.Lanes.{Running, state}
+use Rattle.vs_program.specs.Program.{Program}
+use Rattle.vs_engine.specs.Lanes.{Running, state}
 use Rattle.vs_waves.specs.Wave.{Wave}
 use Rattle.vs_waves.specs.Rounds.{CanBegin, CanPut, EachGoesOn, begun, after_put, lane_values, values_in}
 use Rattle.vs_waves.specs.Laws.{IsBefore, Follows, RoundsFollow}

@@ -1,7 +1,7 @@
 use Rattle.std.proofs.Common.{◌<◌, ◌≤◌, ◌+◌, ◌-◌, ◌++◌, ℕ, List, length, take, append_assoc, ◌∙◌, sym, ap, arith}
 use Rattle.std.proofs.lemmas.List.{length-take}
 use Rattle.vs_desk.specs.Places.{design_place}
-use Rattle.vs_front.specs.Accepted.{most_bytes}
+use Rattle.vs_accept.specs.Accepted.{most_bytes}
 use Rattle.vs_setup.proofs.Long.{long_text}
 use Rattle.vs_setup.proofs.design_text.take_text.Goals as goal
 

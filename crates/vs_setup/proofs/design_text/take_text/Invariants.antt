@@ -1,7 +1,7 @@
 use Rattle.std.proofs.Common.{◌≡◌, ◌+◌, ◌-◌, ◌≤◌, ◌++◌, length, IsTrue}
 use Rattle.vs_desk.specs.Taking.{OnlyTaken}
 use Rattle.vs_desk.specs.Places.{design_place}
-use Rattle.vs_front.specs.Accepted.{most_bytes}
+use Rattle.vs_accept.specs.Accepted.{most_bytes}
 use Rattle.vs_setup.proofs.design_text.take_text.Given as goal
 
 abbrev pub invariant-taking : goal.invariant-taking

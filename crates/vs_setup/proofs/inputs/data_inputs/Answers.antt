@@ -1,15 +1,13 @@
-use Rattle.std.proofs.Common.{Vec, Global, [], ◌∷◌, ◌++◌, Bool, if◌then◌else◌, ap, ◌∙◌, sym, append-nil, arith}
+use Rattle.std.proofs.Common.{Vec, Global, [], ◌∷◌, ◌++◌, Bool, if◌then◌else◌, ap, ◌∙◌, sym, append-nil}
 use Rattle.vs_stim.specs.declared.input.Input.{Input}
 use Rattle.vs_flat.specs.Trees.{signal_of}
 use Rattle.vs_rounds.specs.Inputs.{input_of}
-use Rattle.vs_setup.proofs.Signals.{scalar_at, more, all}
+use Rattle.vs_setup.proofs.Signals.{few_bits_at, more, all}
 use Rattle.vs_setup.proofs.inputs.data_inputs.Goals as goal
 use Rattle.vs_setup.proofs.inputs.data_inputs.Goals.{then-is_data_input+in_ok-input_of+in_ok-push, else-is_data_input}
 
 pub input_of-requires : goal.input_of-requires
-input_of-requires c =
-    let one = scalar_at c.args.flat.now c.requires c.loop-n.n c.signal-signal.result.now c.signal-signal.ensures in
-    omega (arith, one)
+input_of-requires c = few_bits_at c.args.flat.now c.requires c.loop-n.n c.signal-signal.result.now c.signal-signal.ensures
 
 pub loop-n-preserved : goal.loop-n-preserved
 loop-n-preserved c =

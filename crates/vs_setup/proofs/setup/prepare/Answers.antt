@@ -1,10 +1,9 @@
-use Rattle.std.proofs.Common.{rules, ◌+◌, ◌≤◌, ℕ, List, All, length, inr, sym, subst, ap, ◌∙◌, arith}
+use Rattle.std.proofs.Common.{rules, ◌≤◌, ℕ, List, All, length, inr, sym, subst, ap, ◌∙◌, arith}
 use Rattle.std.proofs.lemmas.List.{take_all}
 use Rattle.std.proofs.lemmas.Result.{err_from_is_err_and}
 use Rattle.vs_desk.specs.Desk.{Register}
 use Rattle.vs_flat.specs.DesignOf.{design_of}
-use Rattle.vs_thin.specs.Compiled.{fall_stores, rise_stores}
-use Rattle.vs_thin.specs.Lanes.{Running}
+use Rattle.vs_engine.specs.Lanes.{Running}
 use Rattle.vs_stim.specs.Header.{IsInput}
 use Rattle.vs_drive.specs.Opened as drive
 use Rattle.vs_drive.specs.Opened.{with_lanes, HaveHeaders}
@@ -66,10 +65,10 @@ returns-clause-prepared g c =
       taken = λ t. (c.in_ok-drive.ensures.others t).before 1 (omega arith) ∙ c.in_ok-loaded.ensures.taken t;
       design = design_of l.accepted.flat;
       accepted = parts.loaded.loaded.accepted;
-      size_is = c.in_ok-prepared.ensures.size ∙ parts.loaded.loaded.size;
+      size_is = c.in_ok-prepared.ensures.size;
       program = program_is g.W.Word.lane g.W.Word.LANES tells job old mid new l.accepted l.inputs.items l.engine m parts;
+      begun = ap (λ (e : Running _). e.begun) c.in_ok-prepared.ensures.engine ∙ parts.loaded.loaded.begun;
       all_inputs = subst (All IsInput) parts.loaded.loaded.inputs_are parts.loaded.loaded.are_inputs;
-      stores_are = c.in_ok-prepared.ensures.stores ∙ ap (λ (e : Running _). fall_stores e.program + rise_stores e.program) (sym c.in_ok-prepared.ensures.engine);
       lanes = parts.opened.lanes;
       headers = λ t.
           subst (λ (is : List Input). HaveHeaders is old.files job.stimuli (length job.stimuli)) (c.deref.ensures.value ∙ parts.loaded.loaded.inputs_are)

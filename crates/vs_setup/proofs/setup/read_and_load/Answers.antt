@@ -1,12 +1,11 @@
-use Rattle.std.proofs.Common.{rules, ◌≡◌, ◌≤◌, ℕ, List, length, Err, sym, ap, subst, ◌∙◌}
+use Rattle.std.proofs.Common.{rules, ◌≡◌, ◌≤◌, ℕ, List, length, Err, ap, subst, ◌∙◌}
 use Rattle.std.proofs.lemmas.Result.{err_from_is_err_and}
 use Rattle.std.specs.Prelude.{string_bytes}
-use Rattle.vs_front.specs.Accepted.{most_bytes}
-use Rattle.vs_setup.specs.declared.error.SetupError.{SetupError}
+use Rattle.vs_accept.specs.Accepted.{most_bytes, IsRefusedText}
 use Rattle.vs_setup.specs.DesignText.{with_design}
 use Rattle.vs_setup.specs.Unprepared.{IsLoadError, IsUnprepared}
 use Rattle.vs_setup.specs.declared.design_text.DesignError.{DesignError}
-use Rattle.vs_setup.proofs.Opening.{on_err, unloaded, undesigned, with_text}
+use Rattle.vs_setup.proofs.Opening.{on_err, unloaded, undesigned}
 use Rattle.vs_setup.proofs.setup.read_and_load.Goals as goal
 
 pub returns-clause-unprepared : goal.returns-clause-unprepared
@@ -18,14 +17,14 @@ returns-clause-unprepared g c =
     let job = c.args.job.now in
     let attached : now ≡ with_design before job.design = search rules in
     let path : string_bytes c.in_ok-path.path ≡ job.design = search rules in
-    on_err IsLoadError (IsUnprepared g.D.Desk.tells job before old now new) c.load_text.result c.load_text.ensures.errors
-    (λ e is load_error. unloaded g.D.Desk.tells job before old now new e load_error attached (λ not_accepted t.
+    let slice = c.as_slice.result.now in
+    on_err (IsLoadError slice job.top job.clock) (IsUnprepared g.D.Desk.tells job before old now new) c.load_text.result c.load_text.ensures.refused
+    (λ e load_error. unloaded g.D.Desk.tells job before old now new slice e load_error attached (λ r t h.
     let text = c.in_ok-text.ensures.text t ∙ ap old.files path in
     record {
       short = subst (λ (xs : List ℕ). length xs ≤ most_bytes) text c.in_ok-text.ensures.short;
       taken = c.in_ok-text.ensures.end t;
-      none = λ d a. c.load_text.ensures.refused (is ∙ ap (λ (x : SetupError). Err x) not_accepted) d
-          (with_text job.top job.clock d (old.files job.design) c.as_slice.result.now (sym (c.as_slice.ensures.value ∙ text)) a);
+      refused = subst (λ (xs : List ℕ). IsRefusedText xs job.top job.clock r) (c.as_slice.ensures.value ∙ text) h;
     }))
 
 pub returns-in_err-text-clause-unprepared : goal.returns-in_err-text-clause-unprepared

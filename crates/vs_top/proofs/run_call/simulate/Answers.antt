@@ -1,7 +1,7 @@
 use Rattle.vs_top.specs.declared.outcome.Outcome.TheVariants.{Done}
 use Rattle.vs_top.proofs.Ends.{reported_written}
 use Rattle.vs_top.proofs.Causes.{stopped_cause, done_cause}
-use Rattle.vs_top.proofs.Lawful.{stopped_complete, done_complete}
+use Rattle.vs_top.proofs.Lawful.{stopped_complete, stopped_refused, done_complete, refused_undone}
 use Rattle.vs_top.proofs.run_call.simulate.Goals as goal
 
 pub returns-in-Ok-clause-ended : goal.returns-in-Ok-clause-ended
@@ -46,4 +46,14 @@ returns-in-Err-clause-causes g c =
 pub returns-in-Err-clause-complete : goal.returns-in-Err-clause-complete
 returns-in-Err-clause-complete g c = λ told lawful faultless.
     stopped_complete g.D.Desk.register g.D.Desk.tells g.D.Desk.contents c.args.job.now c.args.desk.now c.run_job.new.desk c.report-in-Err.new.desk c.in-Err.outcome c.report-in-Err.result
-    c.in-Err.ensures.not_done c.in-Err.ensures.stopped c.report-in-Err.ensures.stopped (returns-in-Err-clause-causes g c) told lawful faultless
+    c.answer_law.ensures.not_both c.in-Err.ensures.not_done c.in-Err.ensures.stopped c.report-in-Err.ensures.stopped (returns-in-Err-clause-causes g c) told lawful faultless
+
+pub returns-in-Ok-clause-refused : goal.returns-in-Ok-clause-refused
+returns-in-Ok-clause-refused g c = λ told q job_refused faultless.
+    absurd (refused_undone g.D.Desk.tells c.args.job.now (g.D.Desk.register c.args.desk.now) (g.D.Desk.contents c.args.desk.now) (g.D.Desk.register c.run_job.new.desk) (g.D.Desk.contents c.run_job.new.desk) c.in-Ok.summary
+    c.answer_law.ensures.one c.answer_law.ensures.not_both c.in-Ok.ensures.done (c.in-Ok.ensures.written told) q job_refused)
+
+pub returns-in-Err-clause-refused : goal.returns-in-Err-clause-refused
+returns-in-Err-clause-refused g c = λ told q job_refused faultless.
+    stopped_refused g.D.Desk.register g.D.Desk.tells g.D.Desk.contents c.args.job.now c.args.desk.now c.run_job.new.desk c.report-in-Err.new.desk c.in-Err.outcome c.report-in-Err.result
+    c.answer_law.ensures.one c.answer_law.ensures.not_both c.answer_law.ensures.alike c.in-Err.ensures.not_done c.in-Err.ensures.stopped c.report-in-Err.ensures.stopped (returns-in-Err-clause-causes g c) told q job_refused faultless

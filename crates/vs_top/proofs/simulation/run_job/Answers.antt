@@ -1,12 +1,11 @@
-use Rattle.std.proofs.Common.{rules, ◌≡◌, ◌+◌, ◌*◌, ◌/◌, ◌<◌, ℕ, List, String, Global, IsTrue, IsNone, length, map, take, sym, subst, ap, ◌∙◌, refl, arith}
+use Rattle.std.proofs.Common.{rules, ◌≡◌, ◌*◌, ◌<◌, ℕ, List, String, Global, IsTrue, IsNone, length, map, take, sym, subst, ap, ◌∙◌, refl, arith}
 use Rattle.std.specs.Prelude.{string_bytes, if◌then◌else◌, []}
 use Rattle.std.proofs.lemmas.List.{length-map, take-map}
 use Rattle.vs_desk.specs.declared.desk.Way.TheVariants.{Write}
 use Rattle.vs_desk.specs.Desk.{Register, Contents, Fails, IsAttached}
 use Rattle.vs_desk.specs.Places.{with_places, waveform_place}
-use Rattle.vs_thin.specs.Lanes.{Running}
-use Rattle.vs_thin.specs.Program.{Program}
-use Rattle.vs_thin.specs.Compiled.{IsProgramOf, fall_stores, rise_stores}
+use Rattle.vs_program.specs.Compiled.{IsProgramOf}
+use Rattle.vs_engine.specs.Lanes.{Running}
 use Rattle.vs_design.specs.Sizes.{size as size_of}
 use Rattle.vs_drive.specs.Lanes.{AreAttached}
 use Rattle.vs_drive.specs.Opened.{path_at}
@@ -36,9 +35,18 @@ returns-in-Err-begin-clause-stopped g c =
       outcome_is = c.stop_outcome.ensures.outcome;
       lane = subst (λ (n : ℕ). IsLaneOf n stop) p.lanes c.in-Err-begin.ensures.lane;
       cause = subst (λ (r : Register). HasCause r (g.D.Desk.register c.begin.new.desk) stop) p.register_is c.in-Err-begin.ensures.cause;
-      stops = λ t. (run, run_is _ _ _ _ _ _ _ _ _ _ _ p t, subst (λ (n : ℕ). ReadStops run n 0 stop) p.lanes (c.in-Err-begin.ensures.stops t run (p.opened t)));
+      stops = λ t. (run, run_is _ _ _ _ _ _ _ _ _ _ p t, subst (λ (n : ℕ). ReadStops run n 0 stop) p.lanes (c.in-Err-begin.ensures.stops t run (p.opened t)));
       kept = λ t. let begun = c.begin.ensures.others t in record { files = begun.files ∙ (p.kept t).files; put = begun.put ∙ (p.kept t).put };
     })
+
+pub attach-requires-clause-few : goal.attach-requires-clause-few
+attach-requires-clause-few g c =
+    let job = c.args.job.now in
+    let items : List (String Global) = c.in-Ok.prepared.wave_paths.items in
+    let lanes : length items ≡ length job.stimuli = sym (length-map items (string_bytes {Z = Global})) ∙ ap length c.in-Ok.ensures.prepared.paths ∙ length-map job.stimuli vcd_path in
+    let held = c.in-Ok.prepared.wave_paths.ok.0 in
+    let few = c.requires.job.few in
+    omega (arith, held, lanes, few)
 
 pub attach-requires-clause-free : goal.attach-requires-clause-free
 attach-requires-clause-free g c = λ i h.
@@ -74,7 +82,7 @@ returns-in-Err-attach-clause-stopped g c =
       is_lane = omega (arith, within, held, lanes);
       outcome_is = refl;
       fails = subst (λ (all : List (List ℕ)). P (with_texts before job job.stimuli) (take lane all) all) p.paths mapped;
-      texts = λ t. (run, run_is _ _ _ _ _ _ _ _ _ _ _ p t, subst (λ (n : ℕ). AreUnrefused run 0 n 1) p.lanes (c.in_default-begin.ensures.unrefused t run (p.opened t)));
+      texts = λ t. (run, run_is _ _ _ _ _ _ _ _ _ _ p t, subst (λ (n : ℕ). AreUnrefused run 0 n 1) p.lanes (c.in_default-begin.ensures.unrefused t run (p.opened t)));
       empty = λ t. (c.in-Err-attach.ensures.bytes_before t).lanes;
       emptied = λ t.
           let paths : map string_bytes (take lane items) ≡ take lane (wave_paths job) = sym (take-map string_bytes lane items) ∙ ap (take lane) p.paths in
@@ -99,8 +107,8 @@ rounds-requires-clause-writable g c = λ i lt _.
     let below : i < length (map (string_bytes {Z = Global}) items) = subst (λ n. i < n) (waves ∙ lanes ∙ sym paths) lt in
     subst (λ (r : Register). IsAttached r (wave_place i) Write) (sym c.in_default-attach.ensures.attached) (with_places-at c.attach_law.ensures.each (g.D.Desk.register c.begin.new.desk) (waveform_place 0) Write (map (string_bytes {Z = Global}) items) i below)
 
-all_written : (g : Over) (c : goal.After-drop-machine-inside-in-Ok-rounds-10 g) → IsWholeEnd g.D.Desk.tells c.args.job.now (g.D.Desk.register c.args.desk.now) (g.D.Desk.contents c.args.desk.now) (g.D.Desk.register c.rounds.new.desk) (g.D.Desk.contents c.rounds.new.desk)
-    (Done (record { lanes = c.len.result; vectors = c.in-Ok-rounds.counts.vectors; settlings = c.in-Ok-rounds.counts.settlings; size = c.in-Ok.prepared.size; operations = c.in-Ok-rounds.counts.settlings / 2 * c.in-Ok.prepared.stores }))
+all_written : (g : Over) (c : goal.After-drop-machine-inside-in-Ok-rounds-15 g) → IsWholeEnd g.D.Desk.tells c.args.job.now (g.D.Desk.register c.args.desk.now) (g.D.Desk.contents c.args.desk.now) (g.D.Desk.register c.rounds.new.desk) (g.D.Desk.contents c.rounds.new.desk)
+    (Done (record { lanes = c.len.result; vectors = c.in-Ok-rounds.counts.vectors; settlings = c.in-Ok-rounds.counts.settlings; size = c.in-Ok.prepared.size; operations = c.in-Ok-rounds.counts.operations }))
 all_written g c =
     let job = c.args.job.now in
     let before = g.D.Desk.register c.args.desk.now in
@@ -118,7 +126,7 @@ all_written g c =
     let in_round = λ (t : IsTrue g.D.Desk.tells). (c.in_default-begin.ensures.begun t run (p.opened t)).begun (g.D.Desk.contents c.attach.new.desk) (empty t).left (λ i h. (empty t).lanes i (omega (arith, h, held, lanes, paths))) in
     let done : IsTrue g.D.Desk.tells → AreDone run (length job.stimuli) new = λ t. subst (λ (n : ℕ). AreDone run n new) lanes (c.in-Ok-rounds.ensures.done t run (in_round t)) in
     record {
-      summary = record { lanes = c.len.result; vectors = counts.vectors; settlings = counts.settlings; size = c.in-Ok.prepared.size; operations = counts.settlings / 2 * c.in-Ok.prepared.stores };
+      summary = record { lanes = c.len.result; vectors = counts.vectors; settlings = counts.settlings; size = c.in-Ok.prepared.size; operations = counts.operations };
       outcome_is = refl;
       register_is = c.in-Ok-rounds.ensures.same ∙ c.in_default-attach.ensures.attached ∙ ap (λ (ps : List (List ℕ)). with_places (g.D.Desk.register c.begin.new.desk) (waveform_place 0) Write ps) p.paths
           ∙ ap (λ (r : Register). with_places r (waveform_place 0) Write (wave_paths job)) (c.in_default-begin.ensures.same ∙ p.register_is);
@@ -146,18 +154,12 @@ pub returns-in-Ok-rounds-clause-within : goal.returns-in-Ok-rounds-clause-within
 returns-in-Ok-rounds-clause-within g c =
     let p = c.in-Ok.ensures.prepared in
     let counts = c.in-Ok-rounds.counts in
-    let ticked = c.in-Ok-rounds.ensures.ticked in
-    let n = ticked.0 in
-    let same : c.begin.new.self.engine.program ≡ c.in-Ok.prepared.machine.engine.program = ap (λ (e : Running _). e.program) c.begin.ensures.engine in
-    let program : IsProgramOf p.design p.accepted.accepted.clock.first c.begin.new.self.engine.program = subst (IsProgramOf p.design p.accepted.accepted.clock.first) (sym same) p.program in
-    let within = c.in-Ok-rounds.ensures.within p.design p.accepted.accepted.clock.first program in
-    let twice = ticked.1 in
-    let steps = ticked.2.ticked in
-    let half : counts.settlings / 2 ≡ n = omega (arith, twice) in
-    let stores : c.in-Ok.prepared.stores ≡ fall_stores c.begin.new.self.engine.program + rise_stores c.begin.new.self.engine.program = p.stores_are ∙ ap (λ (q : Program). fall_stores q + rise_stores q) (sym same) in
-    let operations : counts.settlings / 2 * c.in-Ok.prepared.stores ≡ n * (fall_stores c.begin.new.self.engine.program + rise_stores c.begin.new.self.engine.program) = ap (λ k. k * c.in-Ok.prepared.stores) half ∙ ap (λ k. n * k) stores in
+    let clock = p.accepted.accepted.clock.first in
+    let program : IsProgramOf p.design clock c.begin.new.self.engine.program = subst (λ (e : Running _). IsProgramOf p.design clock e.program) (sym c.begin.ensures.engine) p.program in
+    let within = c.in-Ok-rounds.ensures.within p.design clock program in
+    let steps = c.in-Ok-rounds.ensures.operations in
     let size : size_of p.design * counts.settlings ≡ c.in-Ok.prepared.size * counts.settlings = ap (λ k. k * counts.settlings) (sym p.size_is) in
-    omega (arith, operations, size, within, steps)
+    omega (arith, size, within, steps)
 
 pub returns-clause-stopped : goal.returns-clause-stopped
 returns-clause-stopped g c =
@@ -184,7 +186,7 @@ returns-clause-stopped g c =
       cause = subst (λ (r : Register). HasCause r now stop) register c.in-Err-rounds.ensures.cause;
       stops = λ t.
           let s = c.in-Err-rounds.ensures.stops t run (in_round t) in
-          (run, run_is _ _ _ _ _ _ _ _ _ _ _ p t, (s.0, subst (λ (n : ℕ). StopsIn run n s.0 new stop) lanes s.1));
+          (run, run_is _ _ _ _ _ _ _ _ _ _ p t, (s.0, subst (λ (n : ℕ). StopsIn run n s.0 new stop) lanes s.1));
       puts = λ t place other.
           (c.rounds.ensures.others t).others place (λ i h. other i (subst (λ n. i < n) lanes h))
           ∙ (empty t).others place (λ i h. other i (omega (arith, h, held, paths)))

@@ -1,0 +1,226 @@
+-- A job that ended in a refusal is refused so, and all refusals of a job are alike.
+use Rattle.std.proofs.Common.{◌≡◌, ℕ, suc, ◌<◌, ◌≤◌, Bool, IsTrue, List, length, Option, Some, None, refl, sym, ap, ◌∙◌, subst, inl, inr, arith}
+use Rattle.std.proofs.lemmas.Bool.{cases_lt, cases_order}
+use Rattle.vs_desk.specs.Desk.{Register, Contents}
+use Rattle.vs_stim.specs.declared.input.Input.{Input}
+use Rattle.vs_stim.specs.declared.error.StimError.{StimError}
+use Rattle.vs_stim.specs.Reading.{Reading, header_refusal}
+use Rattle.vs_design.specs.Expressions.{Signal}
+use Rattle.vs_design.specs.Designs.{Design}
+use Rattle.vs_drive.specs.Opened.{HaveHeaders}
+use Rattle.vs_waves.specs.Puts.{wave_place}
+use Rattle.vs_rounds.specs.Inputs.{data_inputs}
+use Rattle.vs_rounds.specs.Lanes.{Run, reading_of}
+use Rattle.vs_rounds.specs.Stops.{IsUnrefused, IsReadStop, IsRefusal, ReadStops, StopsIn, IsLaneOf}
+use Rattle.vs_rounds.specs.declared.stop.Stop.{Stop}
+use Rattle.vs_rounds.specs.declared.stop.Stop.TheVariants as R
+use Rattle.vs_refusal.specs.declared.refusal.Refusal.{Refusal}
+use Rattle.vs_refusal.specs.declared.refusal.Refusal.TheVariants.{Bare, SamePath}
+use Rattle.vs_refusal.specs.declared.names.BareName.TheVariants.{TooLong}
+use Rattle.vs_accept.specs.Accepted.{most_bytes, IsRefusedText, AreAlike, NotBoth, OneDesign, OneRefusal}
+use Rattle.vs_job.specs.declared.job.Job.{Job}
+use Rattle.vs_job.specs.Places.{same_paths}
+use Rattle.vs_setup.specs.declared.error.SetupError.{SetupError}
+use Rattle.vs_setup.specs.declared.error.SetupError.TheVariants as S
+use Rattle.vs_setup.specs.Prepared.{run_of}
+use Rattle.vs_setup.specs.Unprepared.{IsUnprepared, IsDesignOf, IsHeaderRefusal, text_of}
+use Rattle.vs_top.specs.declared.outcome.Summary.{Summary}
+use Rattle.vs_top.specs.declared.outcome.Outcome.{Outcome}
+use Rattle.vs_top.specs.declared.outcome.Outcome.TheVariants.{Done, Refused, WriteFault}
+use Rattle.vs_top.specs.Answers.{stimulus_outcome, setup_outcome, stop_outcome}
+use Rattle.vs_top.specs.Ended.{IsEnd, IsRunOf}
+use Rattle.vs_top.specs.Ended.IsEnd.{same, setup, first, attached, stopped, whole}
+use Rattle.vs_top.specs.Refused.{IsRefusedJob, ByPaths, ByLength, ByDesign, ByHeader, ByLine}
+
+pub some_none : {A : Type 0} (o : Option A) (a : A) → o ≡ Some a → o ≡ None → ⊥
+some_none o a s n = cc
+
+pub some_same : {A : Type 0} (o : Option A) (a b : A) → o ≡ Some a → o ≡ Some b → a ≡ b
+some_same o a b s t = cc
+
+same_refusal : (o : Outcome) (r q : Refusal) → Refused r ≡ o → Refused q ≡ o → r ≡ q
+same_refusal o r q a b = cc
+
+-- ---- a job that ended in a refusal
+
+unprepared : (tells : Bool) (job : Job) (before : Register) (old : Contents) (now : Register) (new : Contents) → IsTrue tells → same_paths job ≡ None
+    → (error : SetupError) (r : Refusal) → IsUnprepared tells job before old now new error → Refused r ≡ setup_outcome error → IsRefusedJob job old r
+unprepared tells job before old now new told d S.TooLong r c e = ByLength d (c.1 told).long (same_refusal (Refused (Bare TooLong)) r (Bare TooLong) e refl)
+unprepared tells job before old now new told d (S.Refused q) r c e =
+    let h = c.2 told in
+    subst (IsRefusedJob job old) (same_refusal (Refused q) q r refl e) (ByDesign d h.short h.refused)
+unprepared tells job before old now new told d (S.Stimulus i error) r c e = ByHeader d i error c.0 (c.3 told) e
+unprepared tells job before old now new told d (S.ReadFault place) r c e = cc
+unprepared tells job before old now new told d S.Memory r c e = cc
+
+unread : (job : Job) (old : Contents) → same_paths job ≡ None → (run : Run) → IsRunOf job old run → (k : ℕ) (stop : Stop) (r : Refusal) → IsLaneOf (length job.stimuli) stop
+    → ReadStops run (length job.stimuli) k stop → Refused r ≡ stop_outcome stop → IsRefusedJob job old r
+unread job old d run is k (R.Refused i error) r lane s e = ByLine d run k i error lane is s e
+unread job old d run is k (R.ReadFault i) r lane s e = cc
+unread job old d run is k (R.WriteFault i) r lane s e = cc
+
+unsettled : (job : Job) (old : Contents) → same_paths job ≡ None → (run : Run) → IsRunOf job old run → (k : ℕ) (new : Contents) (stop : Stop) (r : Refusal) → IsLaneOf (length job.stimuli) stop
+    → StopsIn run (length job.stimuli) k new stop → Refused r ≡ stop_outcome stop → IsRefusedJob job old r
+unsettled job old d run is k new (R.Refused i error) r lane s e = ByLine d run k i error lane is s.1 e
+unsettled job old d run is k new (R.ReadFault i) r lane s e = cc
+unsettled job old d run is k new (R.WriteFault i) r lane s e = cc
+
+pub refused_job : (tells : Bool) (job : Job) (before : Register) (old : Contents) (now : Register) (new : Contents) → IsTrue tells
+    → (o : Outcome) (r : Refusal) → Refused r ≡ o → IsEnd tells job before old now new o → IsRefusedJob job old r
+refused_job tells job before old now new told o r is (same e) =
+    let outcome = Refused (SamePath e.first e.second) in
+    ByPaths e.first e.second e.same (same_refusal outcome r (SamePath e.first e.second) (is ∙ e.outcome_is) refl)
+refused_job tells job before old now new told o r is (setup d e) = unprepared tells job before old now new told d e.error r e.cause (is ∙ e.outcome_is)
+refused_job tells job before old now new told o r is (first d e) =
+    let s = e.stops told in
+    unread job old d s.0 s.1 0 e.stop r e.lane s.2 (is ∙ e.outcome_is)
+refused_job tells job before old now new told o r is (attached d e) = absurd (fault (wave_place e.lane) (is ∙ e.outcome_is))
+  where
+    fault : (p : ℕ) → Refused r ≡ WriteFault p → ⊥
+    fault p h = cc
+refused_job tells job before old now new told o r is (stopped d e) =
+    let s = e.stops told in
+    unsettled job old d s.0 s.1 s.2.0 new e.stop r e.lane s.2.1 (is ∙ e.outcome_is)
+refused_job tells job before old now new told o r is (whole d e) = absurd (done e.summary (is ∙ e.outcome_is))
+  where
+    done : (s : Summary) → Refused r ≡ Done s → ⊥
+    done s h = cc
+
+-- ---- a job has one design, and so one run
+
+pub one_inputs : OneDesign → (job : Job) (c : Contents) (d : Design) (a : IsDesignOf job c d) (e : Design) (b : IsDesignOf job c e) → data_inputs d a.accepted.clock.first ≡ data_inputs e b.accepted.clock.first
+one_inputs one job c d a e b =
+    subst (λ (e : Design). (b : IsDesignOf job c e) → data_inputs d a.accepted.clock.first ≡ data_inputs e b.accepted.clock.first) (one (c.files job.design) job.top job.clock d e a b)
+    (λ b. ap (λ (s : Signal). data_inputs d s.first) (some_same _ a.accepted.clock b.accepted.clock a.accepted.clock_found b.accepted.clock_found)) b
+
+one_run : OneDesign → (job : Job) (c : Contents) (m n : Run) → IsRunOf job c m → IsRunOf job c n → m ≡ n
+one_run one job c m n a b =
+    a.run_is ∙ subst (λ (e : Design). (b : IsDesignOf job c e) → run_of job c.files a.design a.accepted.accepted.clock.first ≡ run_of job c.files e b.accepted.clock.first) (one (c.files job.design) job.top job.clock a.design b.design a.accepted b.accepted)
+    (λ b. ap (λ (s : Signal). run_of job c.files a.design s.first) (some_same _ a.accepted.accepted.clock b.accepted.clock a.accepted.accepted.clock_found b.accepted.clock_found)) b.accepted
+    ∙ sym b.run_is
+
+-- ---- the first refused line
+
+-- a text isn't refused before this round, so its refusal behind k vectors isn't either
+not_before : (r : Reading) (error : StimError) (k l : ℕ) → r.refusal ≡ Some error → length r.vectors ≡ k → IsUnrefused r l → l ≤ k
+not_before r error k l refusal count (inl none) = absurd (some_none r.refusal error refusal none)
+not_before r error k l refusal count (inr within) = omega (arith, within, count)
+
+-- a lane that is refused behind k vectors isn't before the first refusal
+record IsBehind (k i l j : ℕ) : Type 0 where
+  round : l ≤ k
+  lane : l ≡ k → j ≤ i
+
+behind : (run : Run) (lanes k i l j : ℕ) (error : StimError) → i < lanes → (reading_of run i).refusal ≡ Some error → length (reading_of run i).vectors ≡ k → IsReadStop run lanes l j → IsBehind k i l j
+behind run lanes k i l j error lt refusal count s =
+    elim (cases_lt i j) [
+      | inl below ↦ let h = not_before (reading_of run i) error k (suc l) refusal count (s.earlier.each i (omega arith) below) in record { round = omega (arith, h); lane = λ e. omega (arith, h, e) }
+      | inr above ↦ record { round = not_before (reading_of run i) error k l refusal count (s.later.each i above lt); lane = λ e. above }
+    ]
+
+one_error : (run : Run) (i j : ℕ) (e f : StimError) → i ≡ j → (reading_of run i).refusal ≡ Some e → (reading_of run j).refusal ≡ Some f → stimulus_outcome i e ≡ stimulus_outcome j f
+one_error run i j e f is a b =
+    let there : (reading_of run i).refusal ≡ Some f = subst (λ (n : ℕ). (reading_of run n).refusal ≡ Some f) (sym is) b in
+    ap (stimulus_outcome i) (some_same (reading_of run i).refusal e f a there) ∙ ap (λ (n : ℕ). stimulus_outcome n f) is
+
+one_line : (run : Run) (lanes k i l j : ℕ) (e f : StimError) → i < lanes → j < lanes → IsRefusal run lanes k i e → IsRefusal run lanes l j f → stimulus_outcome i e ≡ stimulus_outcome j f
+one_line run lanes k i l j e f lt also a b =
+    let there = behind run lanes k i l j e lt a.refusal a.count b.stop in
+    let back = behind run lanes l j k i f also b.refusal b.count a.stop in
+    let up = there.round in
+    let down = back.round in
+    let round : l ≡ k = omega (arith, up, down) in
+    let left = there.lane round in
+    let right = back.lane (sym round) in
+    one_error run i j e f (omega (arith, left, right)) a.refusal b.refusal
+
+-- ---- the first refused header
+
+no_header : (is : List Input) (c : Contents) (stimuli : List (List ℕ)) (lanes i : ℕ) (error : StimError) → i < lanes → header_refusal is (text_of c stimuli i) ≡ Some error → HaveHeaders is c.files stimuli lanes → ⊥
+no_header is c stimuli lanes i error lt refused have = some_none (header_refusal is (text_of c stimuli i)) error refused (have.each i lt)
+
+one_header : OneDesign → (job : Job) (c : Contents) (i j : ℕ) (e f : StimError) → IsHeaderRefusal job c i e → IsHeaderRefusal job c j f → stimulus_outcome i e ≡ stimulus_outcome j f
+one_header one job c i j e f a b =
+    let inputs = one_inputs one job c b.design b.accepted a.design a.accepted in
+    let is = data_inputs a.design a.accepted.accepted.clock.first in
+    let refused = subst (λ (is : List Input). header_refusal is (text_of c job.stimuli j) ≡ Some f) inputs b.first.refused in
+    let earlier = subst (λ (is : List Input). HaveHeaders is c.files job.stimuli j) inputs b.first.earlier in
+    elim (cases_order i j) [
+      | inl at ↦
+          let there = subst (λ (n : ℕ). header_refusal is (text_of c job.stimuli n) ≡ Some f) (sym at) refused in
+          ap (stimulus_outcome i) (some_same _ e f a.first.refused there) ∙ ap (λ (n : ℕ). stimulus_outcome n f) at
+      | inr other ↦ elim other [
+        | inl below ↦ absurd (no_header is c job.stimuli j i e below a.first.refused earlier)
+        | inr above ↦ absurd (no_header is c job.stimuli i j f above refused a.first.earlier)
+      ]
+    ]
+
+-- ---- all refusals of a job are alike
+
+-- what holds of every text
+record Laws : Type 0 where
+  one : OneDesign
+  not_both : NotBoth
+  alike : OneRefusal
+
+long_short : (text : List ℕ) → most_bytes < length text → length text ≤ most_bytes → ⊥
+long_short text long short = omega (arith, long, short)
+
+same_told : (r q : Refusal) (o p : Outcome) → Refused r ≡ o → o ≡ p → Refused q ≡ p → AreAlike r q
+same_told r q o p a e b = inl (same_refusal p r q (a ∙ e) b)
+
+by_paths : (job : Job) (c : Contents) (r q : Refusal) (x y : ℕ) → same_paths job ≡ Some (x, y) → r ≡ SamePath x y → IsRefusedJob job c q → AreAlike r q
+by_paths job c r q x y two is (ByPaths v w also be) =
+    inl (is ∙ ap (λ (p : ℕ × ℕ). SamePath p.0 p.1) (some_same (same_paths job) (x, y) (v, w) two also) ∙ sym be)
+by_paths job c r q x y two is (ByLength d long be) = absurd (some_none (same_paths job) (x, y) two d)
+by_paths job c r q x y two is (ByDesign d short t) = absurd (some_none (same_paths job) (x, y) two d)
+by_paths job c r q x y two is (ByHeader d j f lt h be) = absurd (some_none (same_paths job) (x, y) two d)
+by_paths job c r q x y two is (ByLine d n l j f lt m h be) = absurd (some_none (same_paths job) (x, y) two d)
+
+by_length : (job : Job) (c : Contents) (r q : Refusal) → same_paths job ≡ None → most_bytes < length (c.files job.design) → r ≡ Bare TooLong → IsRefusedJob job c q → AreAlike r q
+by_length job c r q d long is (ByPaths v w two be) = absurd (some_none (same_paths job) (v, w) two d)
+by_length job c r q d long is (ByLength e also be) = inl (is ∙ sym be)
+by_length job c r q d long is (ByDesign e short t) = absurd (long_short (c.files job.design) long short)
+by_length job c r q d long is (ByHeader e j f lt h be) = absurd (long_short (c.files job.design) long h.accepted.short)
+by_length job c r q d long is (ByLine e n l j f lt m h be) = absurd (long_short (c.files job.design) long m.accepted.short)
+
+by_design : Laws → (job : Job) (c : Contents) (r q : Refusal) → same_paths job ≡ None → length (c.files job.design) ≤ most_bytes → IsRefusedText (c.files job.design) job.top job.clock r → IsRefusedJob job c q → AreAlike r q
+by_design laws job c r q d short t (ByPaths v w two be) = absurd (some_none (same_paths job) (v, w) two d)
+by_design laws job c r q d short t (ByLength e long be) = absurd (long_short (c.files job.design) long short)
+by_design laws job c r q d short t (ByDesign e also u) = laws.alike (c.files job.design) job.top job.clock r q t u
+by_design laws job c r q d short t (ByHeader e j f lt h be) = absurd (laws.not_both (c.files job.design) job.top job.clock h.design r h.accepted t)
+by_design laws job c r q d short t (ByLine e n l j f lt m h be) = absurd (laws.not_both (c.files job.design) job.top job.clock m.design r m.accepted t)
+
+-- a header that is refused, and the job's run
+header_run : OneDesign → (job : Job) (c : Contents) (i : ℕ) (e : StimError) (n : Run) → i < length job.stimuli → IsHeaderRefusal job c i e → IsRunOf job c n → ⊥
+header_run one job c i e n lt h m =
+    let inputs = ap (λ (n : Run). n.inputs) m.run_is ∙ one_inputs one job c m.design m.accepted h.design h.accepted in
+    no_header (data_inputs h.design h.accepted.accepted.clock.first) c job.stimuli (length job.stimuli) i e lt h.first.refused
+    (subst (λ (is : List Input). HaveHeaders is c.files job.stimuli (length job.stimuli)) inputs m.headers)
+
+by_header : Laws → (job : Job) (c : Contents) (r q : Refusal) → same_paths job ≡ None → (i : ℕ) (e : StimError) → i < length job.stimuli → IsHeaderRefusal job c i e → Refused r ≡ stimulus_outcome i e → IsRefusedJob job c q → AreAlike r q
+by_header laws job c r q d i e lt h is (ByPaths v w two be) = absurd (some_none (same_paths job) (v, w) two d)
+by_header laws job c r q d i e lt h is (ByLength x long be) = absurd (long_short (c.files job.design) long h.accepted.short)
+by_header laws job c r q d i e lt h is (ByDesign x short t) = absurd (laws.not_both (c.files job.design) job.top job.clock h.design q h.accepted t)
+by_header laws job c r q d i e lt h is (ByHeader x j f also g be) = same_told r q (stimulus_outcome i e) (stimulus_outcome j f) is (one_header laws.one job c i j e f h g) be
+by_header laws job c r q d i e lt h is (ByLine x n l j f also m g be) = absurd (header_run laws.one job c i e n lt h m)
+
+by_line : Laws → (job : Job) (c : Contents) (r q : Refusal) → same_paths job ≡ None → (n : Run) (k i : ℕ) (e : StimError) → i < length job.stimuli → IsRunOf job c n → IsRefusal n (length job.stimuli) k i e
+    → Refused r ≡ stimulus_outcome i e → IsRefusedJob job c q → AreAlike r q
+by_line laws job c r q d n k i e lt m h is (ByPaths v w two be) = absurd (some_none (same_paths job) (v, w) two d)
+by_line laws job c r q d n k i e lt m h is (ByLength x long be) = absurd (long_short (c.files job.design) long m.accepted.short)
+by_line laws job c r q d n k i e lt m h is (ByDesign x short t) = absurd (laws.not_both (c.files job.design) job.top job.clock m.design q m.accepted t)
+by_line laws job c r q d n k i e lt m h is (ByHeader x j f also g be) = absurd (header_run laws.one job c j f n also g m)
+by_line laws job c r q d n k i e lt m h is (ByLine x o l j f also p g be) =
+    let there = subst (λ (run : Run). IsRefusal run (length job.stimuli) l j f) (one_run laws.one job c o n p m) g in
+    same_told r q (stimulus_outcome i e) (stimulus_outcome j f) is (one_line n (length job.stimuli) k i l j e f lt also h there) be
+
+pub alike : OneDesign → NotBoth → OneRefusal → (job : Job) (c : Contents) (r q : Refusal) → IsRefusedJob job c r → IsRefusedJob job c q → AreAlike r q
+alike one not_both texts job c r q = of (record { one = one; not_both = not_both; alike = texts })
+  where
+    of : Laws → IsRefusedJob job c r → IsRefusedJob job c q → AreAlike r q
+    of laws (ByPaths x y two is) = by_paths job c r q x y two is
+    of laws (ByLength d long is) = by_length job c r q d long is
+    of laws (ByDesign d short t) = by_design laws job c r q d short t
+    of laws (ByHeader d i e lt h is) = by_header laws job c r q d i e lt h is
+    of laws (ByLine d n k i e lt m h is) = by_line laws job c r q d n k i e lt m h is
