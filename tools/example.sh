@@ -1,6 +1,6 @@
 #!/usr/bin/env bash
-# Proves and builds the program where it stands, runs it on each folder of examples/, and compares the report and the waveforms with those
-# worked by hand. It shows the first example and where the program is. Its first run takes long, since all below is proved first; what was
+# Proves and builds the program where it stands, runs it on each folder of examples/, and compares the report and the waveforms with the
+# expected ones. It shows the first example and where the program is. Its first run takes long, since all below is proved first; what was
 # proved is kept in the folders out/.
 set -eu
 top=$(cd "$(dirname "$0")/.." && pwd)
@@ -13,15 +13,16 @@ echo 'proving and building ..' >&2
 (cd crates/cyclesim && rt run > "$work/log" 2>&1) || grep -q '^refused 1 Usage' "$work/log" || { tail -40 "$work/log" >&2; exit 1; }
 
 count=0
-for example in and lanes unknown refused refused-start; do
+for example in fifo uart processor and lanes unknown refused refused-start; do
     cp -r "$top/examples/$example" "$work/$example"
     cd "$work/$example"
     read -r _ words < command
     # (the words of these commands have no blanks in them)
     "$program" $words > printed || true
-    if [ "$example" = and ]; then
+    if [ "$example" = fifo ]; then
         echo "> cyclesim $words"
-        cat printed s1.vcd
+        cat printed
+        python3 "$top/tools/wave_picture.py" --to 110 overflow.vcd clk push pop in count full overflow out
     fi
     cmp printed report
     for wave in *.expected.vcd; do
