@@ -6,10 +6,10 @@ use Rattle.vs_four.specs.declared.Bit4.{Bit4}
 use Rattle.vs_four.specs.declared.Bit4.TheVariants.{Zero, One, X, Z}
 use Rattle.vs_four.specs.Tables.{is_one, not_bit}
 use Rattle.vs_four.specs.Logic.{BitList, truth}
-use Rattle.vs_net.specs.Network.{State, Update, Effect, to_value, Network, Kind, AnInput, TheClock, AnAssign, AClocked, kind, writes, listens, updates}
+use Rattle.vs_net.specs.Network.{State, Update, Effect, to_value, Network, Kind, AnInput, AnAssign, kind, writes, updates}
 use Rattle.vs_net.specs.Network as N
 use Rattle.vs_net.specs.Lawful.{IsClockPort, IsResetPort}
-use Rattle.vs_design.specs.Expressions.{Signal, signal_length, Expression, Literal, Name, Select, Unary, UnaryOp, BitNot, LogicalNot, Binary, Choice, Join, Repeat, At, width, sign}
+use Rattle.vs_design.specs.Expressions.{Signal, signal_length, Expression, Literal, Name, Select, Unary, BitNot, LogicalNot, Binary, Choice, Join, Repeat, At, sign}
 use Rattle.vs_design.specs.Values.{bits_of_signal, count_from, own_value, value}
 use Rattle.vs_design.specs.Statements.{Target, Whole, Statement, Empty, Assignment, Then, If, Case}
 use Rattle.vs_design.specs.Bodies.{body}

@@ -1,7 +1,6 @@
 //! The engine.
 
-ghost use Rattle.std.specs.Prelude.{◌≡◌, ℕ, ◌+◌, ◌<◌, ◌≤◌, ◌^◌, [], length, slice_get, IfOk, Some, true, false, not, if◌then◌else◌};
-ghost use Rattle.std.specs.List.{list_all};
+ghost use Rattle.std.specs.Prelude.{◌≡◌, ℕ, ◌+◌, ◌<◌, ◌≤◌, ◌^◌, length, slice_get, IfOk, Some, true, false, not, if◌then◌else◌};
 ghost use Rattle.vs_four.specs.declared.Bit4.{Bit4};
 ghost use Rattle.vs_net.specs.Network.{write_all};
 ghost use Rattle.vs_net.specs.Queue.{Fall, Rise};

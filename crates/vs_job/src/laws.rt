@@ -5,7 +5,7 @@ ghost use Rattle.vs_desk.specs.Places.{design_place, stimulus_place, waveform_pl
 ghost use Rattle.vs_job.specs.declared.job.Job.{Job};
 ghost use Rattle.vs_job.specs.Job.{job, IsJob};
 ghost use Rattle.vs_job.specs.Rows.{words, rows};
-ghost use Rattle.vs_job.specs.Places.{Place, places, same_paths, vcd_path, place, PathsDiffer};
+ghost use Rattle.vs_job.specs.Places.{places, same_paths, vcd_path, place, PathsDiffer};
 
 /// Every job that words call for keeps its ranges.
 pub fn job_law()

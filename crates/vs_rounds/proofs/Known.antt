@@ -9,7 +9,7 @@ use Rattle.vs_four.specs.declared.Bit4.{Bit4}
 use Rattle.vs_four.specs.declared.Bit4.TheVariants.{Zero, One, X, Z}
 use Rattle.vs_four.specs.Tables.{is_known}
 use Rattle.vs_four.specs.Logic.{BitList, map2}
-use Rattle.vs_net.specs.Network.{State, Write, put, write_all, kind, writes, AnInput}
+use Rattle.vs_net.specs.Network.{State, put, write_all, kind, writes, AnInput}
 use Rattle.vs_net.specs.Network as N
 use Rattle.vs_net.specs.Lawful.{IsKnown}
 use Rattle.vs_net.specs.Laws.{IsKnownVector}

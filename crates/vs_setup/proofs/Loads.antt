@@ -1,6 +1,5 @@
 -- What is loaded of a text, put together.
 use Rattle.std.proofs.Common.{◌≡◌, ℕ, ◌<◌, Bool, false, Some, List, length, sym, subst, ap, ◌∙◌, All}
-use Rattle.std.specs.Prelude.{sum}
 use Rattle.vs_design.specs.Expressions.{Signal}
 use Rattle.vs_design.specs.Designs.{Design}
 use Rattle.vs_design.specs.Networks.{network_of}
@@ -12,7 +11,7 @@ use Rattle.vs_program.specs.Program.{Program}
 use Rattle.vs_program.specs.Compiled.{IsProgramOf}
 use Rattle.vs_engine.specs.Lanes.{Running, state}
 use Rattle.vs_stim.specs.declared.input.Input.{Input}
-use Rattle.vs_stim.specs.Header.{IsInput, lengths}
+use Rattle.vs_stim.specs.Header.{IsInput}
 use Rattle.vs_accept.specs.Lent.{Acceptance, IsAcceptance}
 use Rattle.vs_accept.specs.Accepted.{IsAcceptedText}
 use Rattle.vs_rounds.specs.Inputs.{inputs_among, data_inputs, InputBitsFit}
