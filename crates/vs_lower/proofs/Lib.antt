@@ -58,3 +58,6 @@ pub mod Blocking
 pub mod Accepting
 pub mod Resetting
 pub mod Sleeping
+mod Multiplying
+mod Summed
+mod Summing

@@ -19,3 +19,4 @@ pub mod Stated
 pub mod Processed
 pub mod Resetting
 pub mod Asleep
+pub mod Products

@@ -1,6 +1,6 @@
 //! The lowering of expressions.
 
-ghost use Rattle.std.specs.Prelude.{◌≡◌, ℕ, ◌+◌, ◌<◌, ◌≤◌, ◌^◌, max, map, [], ◌∷◌, ◌&&◌, Bool, All, length, slice_index, IfOk, OnOk, true, false};
+ghost use Rattle.std.specs.Prelude.{◌≡◌, ◌⊎◌, ℕ, ◌+◌, ◌<◌, ◌≤◌, ◌^◌, max, map, [], ◌∷◌, ◌&&◌, Bool, All, length, slice_index, IfOk, OnOk, true, false};
 ghost use Rattle.std.specs.List.{range_with_len};
 ghost use Rattle.vs_design.specs.Expressions as E;
 ghost use Rattle.vs_design.specs.Fits.{is_fit, is_division};
@@ -20,6 +20,7 @@ ghost use Rattle.vs_lower.specs.Coded.{with_call};
 ghost use Rattle.vs_lower.specs.Constants.{AreConstant, constant_bits, constant_slots, extended_slots, shifted_slots};
 ghost use Rattle.vs_lower.specs.Ready.{IsReady};
 ghost use Rattle.vs_lower.specs.Choices.{binary_kernel, result_of_way};
+ghost use Rattle.vs_lower.specs.Products.{IsCheap};
 ghost use Rattle.vs_lower.specs.Valued.{AddsValue};
 ghost use Rattle.vs_lower.specs.declared.expressions.Route.TheVariants as Routes;
 
@@ -28,6 +29,7 @@ use crate::code::Code;
 use crate::environment::Environment;
 use crate::joins::{appended, copied, period};
 use crate::names::{literal, name};
+use crate::products::{is_cheap, summed};
 use crate::shifts::moved;
 use crate::slots::{are_constant, constant_bits, constant_slots, extended};
 use crate::sources::{chosen_bits, source, source_fits};
@@ -317,6 +319,13 @@ fn is_shift(op: BinaryOp) -> bool
     )
 }
 
+/// Whether it is `*`.
+fn is_product(op: BinaryOp) -> bool
+    ensures { result ≡ true → binary_of op ≡ E.Multiply }
+{
+    matches!(op, BinaryOp::Multiply)
+}
+
 /// Adds the calls of an operator of two operands, and answers the slots of its value.
 #[cycle(expressions)]
 fn binary(
@@ -350,6 +359,7 @@ fn binary(
     match route_of(op, p.as_slice(), q.as_slice()) {
         Route::Folded => folded(alloc, op, l.signed, p.as_slice(), q.as_slice(), context),
         Route::Moved => shifted(alloc, op, l.signed, p.as_slice(), q.as_slice(), context),
+        Route::Summed => summed(alloc, p.as_slice(), q.as_slice(), code),
         Route::Called => called(alloc, op, l.signed, p, q, context, code),
     }
 }
@@ -361,6 +371,8 @@ enum Route {
     Folded,
     /// It is a shift by a constant amount.
     Moved,
+    /// It is a product by a constant with few ones.
+    Summed,
     /// By a call of its kernel.
     Called,
 }
@@ -369,19 +381,19 @@ enum Route {
 fn route_of(op: BinaryOp, a: &[u32], b: &[u32]) -> Route
     ensures folded { result ≡ Routes.Folded → AreConstant a.now × AreConstant b.now }
     ensures moved { result ≡ Routes.Moved → (is_shift (E.way (binary_of op)) ≡ true) × AreConstant b.now }
+    ensures summed { result ≡ Routes.Summed → (binary_of op ≡ E.Multiply) × (AreConstant a.now → AreConstant b.now → ⊥) × (IsCheap a.now ⊎ IsCheap b.now) }
     ensures called { result ≡ Routes.Called → (AreConstant a.now → AreConstant b.now → ⊥) × (is_shift (E.way (binary_of op)) ≡ true → AreConstant b.now → ⊥) }
 {
-    if !are_constant(b) {
-        return Route::Called;
-    }
-    if are_constant(a) {
+    if are_constant(a) && are_constant(b) {
         return Route::Folded;
     }
-    if is_shift(op) {
-        Route::Moved
-    } else {
-        Route::Called
+    if is_shift(op) && are_constant(b) {
+        return Route::Moved;
     }
+    if is_product(op) && (is_cheap(a) || is_cheap(b)) {
+        return Route::Summed;
+    }
+    Route::Called
 }
 
 /// The slots of a shift by a constant amount, extended.

@@ -17,6 +17,7 @@ mod joins;
 mod leaves;
 mod lowered;
 mod names;
+mod products;
 mod resets;
 mod selects;
 mod shifts;

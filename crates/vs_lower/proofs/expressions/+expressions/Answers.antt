@@ -1,4 +1,4 @@
-use Rattle.std.proofs.Common.{◌||◌, ◌&&◌, not, map, slice_index, Vec, Global, Some, true, ◌≡◌, ◌∙◌, ◌<◌, ℕ, List, [], ◌∷◌, length, sym, ap, subst, refl, arith}
+use Rattle.std.proofs.Common.{◌||◌, ◌&&◌, not, map, slice_index, Vec, Global, Some, true, ◌≡◌, ◌∙◌, ◌<◌, ℕ, List, [], ◌∷◌, length, sym, ap, subst, subst₂, refl, arith, ◌⊎◌}
 use Rattle.std.proofs.lemmas.Result.{IfOk-weaker}
 use Rattle.vs_design.specs.Expressions as E
 use Rattle.vs_design.specs.Values.{left_width, right_width}
@@ -26,6 +26,8 @@ use Rattle.vs_lower.specs.Valued.{AddsValue}
 use Rattle.vs_lower.proofs.Readying.{ready_left, ready_right}
 use Rattle.vs_lower.proofs.Binary.{context_is, adds_at, ready_at, operands_of, short_is, returns_folded, returns_moved, call_is, returns_called, both_ok}
 use Rattle.vs_lower.specs.Made.{IsUnary, IsChoice}
+use Rattle.vs_lower.specs.Products.{IsCheap, HasRoom, AddsProduct, product_cost}
+use Rattle.vs_lower.proofs.Summing.{summable, returns_summed}
 use Rattle.vs_lower.proofs.Unary.{ready_operand, operand_of, operand_long, callable_unary, returns_unary}
 use Rattle.vs_lower.proofs.Choosing.{ready_condition, own_value_of, ready_first, ready_second, Parts, parts_long, callable_choice, returns_choice}
 use Rattle.std.specs.List.{All}
@@ -263,6 +265,98 @@ binary-returns-in-Moved t c =
     both.0 (subst AreConstant c.as_slice-2.ensures.value both.1)
     (is ∙ ap (λ (x : List ℕ). extended_slots w s (shifted_slots op ls x (constant_bits c.as_slice-in-Moved-2.result.now))) slots_p ∙ ap (λ (x : List ℕ). extended_slots w s (shifted_slots op ls p (constant_bits x))) slots_q))
     c.shifted.ensures
+
+pub binary-summed-requires-clause-cheap : goal.binary-summed-requires-clause-cheap
+binary-summed-requires-clause-cheap t c =
+    let route = c.in-Summed.ensures.summed refl in
+    subst₂ (λ x y. IsCheap x ⊎ IsCheap y) (c.as_slice.ensures.value ∙ sym c.as_slice-in-Summed.ensures.value) (c.as_slice-2.ensures.value ∙ sym c.as_slice-in-Summed-2.ensures.value) route.2
+
+pub binary-summed-requires-clause-alike : goal.binary-summed-requires-clause-alike
+binary-summed-requires-clause-alike t c =
+    let op = binary_of c.args.op in
+    let a = tree_at (arena_trees c.args.typed.now) c.args.a in
+    let b = tree_at (arena_trees c.args.typed.now) c.args.b in
+    let w = c.args.context.width in
+    let s = c.args.context.signed in
+    let bits = bit_count c.args.typed.now.signals in
+    let env = c.args.env.now in
+    let code = c.args.code.now in
+    let ls = c.left-l.result.signed in
+    let p = c.in_ok-p.p.items in
+    let q = c.in_ok-q.q.items in
+    let o = operands_of bits env code c.lower.new.code c.lower-2.new.code op a b w s c.left-l.result.width ls c.right-r.result.width c.right-r.result.signed c.width.result c.width-2.result c.signed.result c.signed-2.result p q
+    c.left-l.ensures.width c.left-l.ensures.signed c.right-r.ensures.width c.right-r.ensures.signed c.width.ensures c.width-2.ensures c.signed.ensures c.signed-2.ensures c.requires.ready c.in_ok-p.ensures c.in_ok-q.ensures in
+    let route = c.in-Summed.ensures.summed refl in
+    let f = λ (h : AreConstant p) (k : AreConstant q). route.1 (subst AreConstant (sym c.as_slice.ensures.value) h) (subst AreConstant (sym c.as_slice-2.ensures.value) k) in
+    let ready = summable bits env code c.lower.new.code c.lower-2.new.code op a b w s ls p q route.0 o f in
+    subst₂ (λ x y. length x ≡ length y) (sym c.as_slice-in-Summed.ensures.value) (sym c.as_slice-in-Summed-2.ensures.value) ready.alike
+
+pub binary-summed-requires-clause-room_a : goal.binary-summed-requires-clause-room_a
+binary-summed-requires-clause-room_a t c =
+    let op = binary_of c.args.op in
+    let a = tree_at (arena_trees c.args.typed.now) c.args.a in
+    let b = tree_at (arena_trees c.args.typed.now) c.args.b in
+    let w = c.args.context.width in
+    let s = c.args.context.signed in
+    let bits = bit_count c.args.typed.now.signals in
+    let env = c.args.env.now in
+    let code = c.args.code.now in
+    let ls = c.left-l.result.signed in
+    let p = c.in_ok-p.p.items in
+    let q = c.in_ok-q.q.items in
+    let o = operands_of bits env code c.lower.new.code c.lower-2.new.code op a b w s c.left-l.result.width ls c.right-r.result.width c.right-r.result.signed c.width.result c.width-2.result c.signed.result c.signed-2.result p q
+    c.left-l.ensures.width c.left-l.ensures.signed c.right-r.ensures.width c.right-r.ensures.signed c.width.ensures c.width-2.ensures c.signed.ensures c.signed-2.ensures c.requires.ready c.in_ok-p.ensures c.in_ok-q.ensures in
+    let route = c.in-Summed.ensures.summed refl in
+    let f = λ (h : AreConstant p) (k : AreConstant q). route.1 (subst AreConstant (sym c.as_slice.ensures.value) h) (subst AreConstant (sym c.as_slice-2.ensures.value) k) in
+    let ready = summable bits env code c.lower.new.code c.lower-2.new.code op a b w s ls p q route.0 o f in
+    subst (λ x. HasRoom c.lower-2.new.code x (product_cost (length x))) (sym c.as_slice-in-Summed.ensures.value) ready.room_a
+
+pub binary-summed-requires-clause-room_b : goal.binary-summed-requires-clause-room_b
+binary-summed-requires-clause-room_b t c =
+    let op = binary_of c.args.op in
+    let a = tree_at (arena_trees c.args.typed.now) c.args.a in
+    let b = tree_at (arena_trees c.args.typed.now) c.args.b in
+    let w = c.args.context.width in
+    let s = c.args.context.signed in
+    let bits = bit_count c.args.typed.now.signals in
+    let env = c.args.env.now in
+    let code = c.args.code.now in
+    let ls = c.left-l.result.signed in
+    let p = c.in_ok-p.p.items in
+    let q = c.in_ok-q.q.items in
+    let o = operands_of bits env code c.lower.new.code c.lower-2.new.code op a b w s c.left-l.result.width ls c.right-r.result.width c.right-r.result.signed c.width.result c.width-2.result c.signed.result c.signed-2.result p q
+    c.left-l.ensures.width c.left-l.ensures.signed c.right-r.ensures.width c.right-r.ensures.signed c.width.ensures c.width-2.ensures c.signed.ensures c.signed-2.ensures c.requires.ready c.in_ok-p.ensures c.in_ok-q.ensures in
+    let route = c.in-Summed.ensures.summed refl in
+    let f = λ (h : AreConstant p) (k : AreConstant q). route.1 (subst AreConstant (sym c.as_slice.ensures.value) h) (subst AreConstant (sym c.as_slice-2.ensures.value) k) in
+    let ready = summable bits env code c.lower.new.code c.lower-2.new.code op a b w s ls p q route.0 o f in
+    subst₂ (λ x y. HasRoom c.lower-2.new.code y (product_cost (length x))) (sym c.as_slice-in-Summed.ensures.value) (sym c.as_slice-in-Summed-2.ensures.value) ready.room_b
+
+pub binary-returns-in-Summed : goal.binary-returns-in-Summed
+binary-returns-in-Summed t c =
+    let op = binary_of c.args.op in
+    let a = tree_at (arena_trees c.args.typed.now) c.args.a in
+    let b = tree_at (arena_trees c.args.typed.now) c.args.b in
+    let w = c.args.context.width in
+    let s = c.args.context.signed in
+    let bits = bit_count c.args.typed.now.signals in
+    let env = c.args.env.now in
+    let code = c.args.code.now in
+    let ls = c.left-l.result.signed in
+    let p = c.in_ok-p.p.items in
+    let q = c.in_ok-q.q.items in
+    let o = operands_of bits env code c.lower.new.code c.lower-2.new.code op a b w s c.left-l.result.width ls c.right-r.result.width c.right-r.result.signed c.width.result c.width-2.result c.signed.result c.signed-2.result p q
+    c.left-l.ensures.width c.left-l.ensures.signed c.right-r.ensures.width c.right-r.ensures.signed c.width.ensures c.width-2.ensures c.signed.ensures c.signed-2.ensures c.requires.ready c.in_ok-p.ensures c.in_ok-q.ensures in
+    let route = c.in-Summed.ensures.summed refl in
+    let f = λ (h : AreConstant p) (k : AreConstant q). route.1 (subst AreConstant (sym c.as_slice.ensures.value) h) (subst AreConstant (sym c.as_slice-2.ensures.value) k) in
+    let code3 = c.summed.new.code in
+    let x = c.as_slice-in-Summed.result.now in
+    let y = c.as_slice-in-Summed-2.result.now in
+    IfOk-weaker c.summed.result
+    (λ (to : Vec ℕ Global). AddsProduct c.lower-2.new.code code3 x y (product_cost (length x)) to.items)
+    (λ (to : Vec ℕ Global). AddsValue env code.calls code.next code3.calls code3.next (E.Binary op a b) w s to.items)
+    (λ to h. returns_summed bits env code c.lower.new.code c.lower-2.new.code code3 op a b w s ls p q to.items route.0 o f
+    (subst₂ (λ u v. AddsProduct c.lower-2.new.code code3 u v (product_cost (length u)) to.items) c.as_slice-in-Summed.ensures.value c.as_slice-in-Summed-2.ensures.value h))
+    c.summed.ensures
 
 pub binary-returns-in-Called : goal.binary-returns-in-Called
 binary-returns-in-Called t c =
