@@ -5,7 +5,7 @@ use Rattle.vs_desk.specs.Desk.{Register, with_place}
 
 -- the greatest number of lanes
 abbrev pub most_lanes : ℕ
-most_lanes = 64
+most_lanes = 256
 
 -- the text of the design
 abbrev pub design_place : ℕ

@@ -1,7 +1,7 @@
 // The places of a run.
 
 /// The greatest number of lanes.
-pub const MOST_LANES: usize = 64;
+pub const MOST_LANES: usize = 256;
 
 /// The place of the design.
 pub const DESIGN_PLACE: u32 = 1;

@@ -55,10 +55,10 @@ length_driven n ks i h = elim (cases_lt i (length ks)) [
 ]
 
 -- one more pair
-pub fed_more : {W : Type 0} (lane : W → ℕ → Bool) (done : ℕ) (ks : List Known) (pairs : List (Pair W)) (pair : Pair W) → HaveBits (length pairs) ks
-    → done < length pairs → ((i : ℕ) → i < 64 → pair_lane lane pair i ≡ get_or (driven (length pairs) (lane_at ks i)) done X)
-    → AreFed lane done ks pairs → AreFed lane (done + 1) ks (set pairs done pair)
-fed_more lane done ks pairs pair bits within here fed = record {
+pub fed_more : {W : Type 0} (lane : W → ℕ → Bool) (lanes done : ℕ) (ks : List Known) (pairs : List (Pair W)) (pair : Pair W) → HaveBits (length pairs) ks
+    → done < length pairs → ((i : ℕ) → i < lanes → pair_lane lane pair i ≡ get_or (driven (length pairs) (lane_at ks i)) done X)
+    → AreFed lane lanes done ks pairs → AreFed lane lanes (done + 1) ks (set pairs done pair)
+fed_more lane lanes done ks pairs pair bits within here fed = record {
   each = λ i h.
       let f = λ (p : Pair _). pair_lane lane p i in
       let long : length (driven (length pairs) (lane_at ks i)) ≡ length pairs = length_driven (length pairs) ks i bits in
@@ -70,9 +70,9 @@ fed_more lane done ks pairs pair bits within here fed = record {
 }
 
 -- all pairs
-pub fed_all : {W : Type 0} (lane : W → ℕ → Bool) (n : ℕ) (ks : List Known) (pairs : List (Pair W)) → length pairs ≡ n → HaveBits n ks → AreFed lane n ks pairs
-    → (i : ℕ) → i < 64 → map (λ p. pair_lane lane p i) pairs ≡ driven n (lane_at ks i)
-fed_all lane n ks pairs e bits fed i h =
+pub fed_all : {W : Type 0} (lane : W → ℕ → Bool) (lanes n : ℕ) (ks : List Known) (pairs : List (Pair W)) → length pairs ≡ n → HaveBits n ks → AreFed lane lanes n ks pairs
+    → (i : ℕ) → i < lanes → map (λ p. pair_lane lane p i) pairs ≡ driven n (lane_at ks i)
+fed_all lane lanes n ks pairs e bits fed i h =
     let f = λ (p : Pair _). pair_lane lane p i in
     let long : length (driven n (lane_at ks i)) ≡ n = length_driven n ks i bits in
     sym (take_all n (map f pairs) (omega (arith, length-map pairs f)))

@@ -10,6 +10,7 @@ use Rattle.vs_desk.specs.Places.{stimulus_place}
 use Rattle.vs_stim.specs.declared.input.Input.{Input}
 use Rattle.vs_stim.specs.Known.{Known}
 use Rattle.vs_stim.specs.Reading.{reading, header_refusal}
+use Rattle.vs_desk.specs.Places.{most_lanes}
 use Rattle.vs_drive.specs.Lanes.{ended, lane_at, AreLanes}
 use Rattle.vs_drive.specs.Opened.{texts, path_at, HaveHeaders, IsOpened, AreOpened}
 use Rattle.vs_drive.proofs.Rounds.{remaining_by_left}
@@ -68,25 +69,25 @@ headers_more inputs before mid paths path lanes h same files here = record {
 }
 
 -- stimuli that are opened are those of the lanes
-pub lanes_opened : (tells : Bool) (inputs : List Input) (before after : Contents) (paths : List (List ℕ)) (ks : List Known) → length paths ≤ 64
+pub lanes_opened : (tells : Bool) (inputs : List Input) (before after : Contents) (paths : List (List ℕ)) (ks : List Known) → length paths ≤ most_lanes
     → AreOpened tells inputs before after paths ks → AreLanes ks
 lanes_opened tells inputs before after paths ks few h =
     let l : length ks ≡ length paths = h.lanes in
     record {
-      at_most_64 = omega arith;
+      few = omega arith;
       numbered = λ i below. (h.each i below).lane;
       alike = λ i below. (h.each i below).sizes ∙ sym ((h.each 0 (omega arith)).sizes);
     }
 
 -- all of them are live
-pub flags_opened : (tells : Bool) (inputs : List Input) (before after : Contents) (paths : List (List ℕ)) (ks : List Known) → length paths ≤ 64
-    → AreOpened tells inputs before after paths ks → take (length ks) (replicate 64 true) ≡ map (λ (k : Known). k.live) ks
+pub flags_opened : (tells : Bool) (inputs : List Input) (before after : Contents) (paths : List (List ℕ)) (ks : List Known) → length paths ≤ most_lanes
+    → AreOpened tells inputs before after paths ks → take (length ks) (replicate most_lanes true) ≡ map (λ (k : Known). k.live) ks
 flags_opened tells inputs before after paths ks few h =
     let l : length ks ≡ length paths = h.lanes in
-    let room : length ks ≤ length (replicate 64 true) = rw (length-replicate 64 true) (omega arith) in
-    let long : length (take (length ks) (replicate 64 true)) ≡ length ks = length-take-le (length ks) (replicate 64 true) room in
-    ext_get_or true (take (length ks) (replicate 64 true)) (map (λ (k : Known). k.live) ks) (long ∙ sym (length-map ks (λ (k : Known). k.live))) (λ i below.
+    let room : length ks ≤ length (replicate most_lanes true) = rw (length-replicate most_lanes true) (omega arith) in
+    let long : length (take (length ks) (replicate most_lanes true)) ≡ length ks = length-take-le (length ks) (replicate most_lanes true) room in
+    ext_get_or true (take (length ks) (replicate most_lanes true)) (map (λ (k : Known). k.live) ks) (long ∙ sym (length-map ks (λ (k : Known). k.live))) (λ i below.
     let within : i < length ks = omega arith in
-    get_or-take (length ks) (replicate 64 true) i true within
-    ∙ get_or-replicate 64 i true true (omega arith)
+    get_or-take (length ks) (replicate most_lanes true) i true within
+    ∙ get_or-replicate most_lanes i true true (omega arith)
     ∙ sym (get_or-map (λ (k : Known). k.live) ks i ended true within ∙ (h.each i within).live))

@@ -63,7 +63,7 @@ lanes_set ks j new lanes h el es =
     let same : (i : ℕ) → sizes (lane_at (set ks j new) i).vector ≡ sizes (lane_at ks i).vector =
     λ i. at_set ks i j new (λ k. sizes k.vector ≡ sizes (lane_at ks i).vector) h (λ e. rw e es) (λ _. refl) in
     record {
-      at_most_64 = rw (length-set ks j new) lanes.at_most_64;
+      few = rw (length-set ks j new) lanes.few;
       numbered = λ i below. at_set ks i j new (λ k. k.lane ≡ i) h (λ e. el ∙ lanes.numbered j h ∙ sym e) (λ _. lanes.numbered i (rw (length-set ks j new) at below));
       alike = λ i below. same i ∙ lanes.alike i (rw (length-set ks j new) at below) ∙ sym (same 0);
     }

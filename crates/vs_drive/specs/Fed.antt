@@ -31,6 +31,6 @@ pub record IsPlaced (number count offset : ℕ) (ks : List Known) : Type 0 where
   pub bits : (i : ℕ) → i < length ks → length (slice_index_or (lane_at ks i).vector number []) ≡ count
   pub first : (i : ℕ) → i < length ks → sum (take number (sizes (lane_at ks i).vector)) ≡ offset
 
--- the first pairs, this many, have the bits that the lanes drive, where `lane` reads a lane of a word
-pub record AreFed {W : Type 0} (lane : W → ℕ → Bool) (done : ℕ) (ks : List Known) (pairs : List (Pair W)) : Type 0 where
-  pub each : (i : ℕ) → i < 64 → take done (map (λ p. pair_lane lane p i) pairs) ≡ take done (driven (length pairs) (lane_at ks i))
+-- the first pairs, this many, have the bits that the lanes drive, where `lane` reads a lane of a word of so many lanes
+pub record AreFed {W : Type 0} (lane : W → ℕ → Bool) (lanes done : ℕ) (ks : List Known) (pairs : List (Pair W)) : Type 0 where
+  pub each : (i : ℕ) → i < lanes → take done (map (λ p. pair_lane lane p i) pairs) ≡ take done (driven (length pairs) (lane_at ks i))

@@ -16,9 +16,9 @@ ended = record { lane = 0; live = false; columns = []; count = 0; vector = []; a
 abbrev pub lane_at : List Known → ℕ → Known
 lane_at ks i = slice_index_or ks i ended
 
--- At most 64 stimuli, the i-th is that of lane i, and all drive inputs of the same lengths.
+-- There are no more stimuli than lanes, the i-th is that of lane i, and all drive inputs of the same lengths.
 pub record AreLanes (ks : List Known) : Type 0 where
-  pub at_most_64 : length ks ≤ most_lanes
+  pub few : length ks ≤ most_lanes
   pub numbered : (i : ℕ) → i < length ks → (lane_at ks i).lane ≡ i
   pub alike : (i : ℕ) → i < length ks → sizes (lane_at ks i).vector ≡ sizes (lane_at ks 0).vector
 

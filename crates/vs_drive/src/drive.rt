@@ -23,7 +23,7 @@ use vs_desk::{Desk, MOST_LANES, attach_law};
 use vs_plane::{Lanes, Pair};
 use vs_stim::{Input, StimError, Stimulus};
 
-/// The stimuli of 1 to 64 lanes. Lane i reads place 1000 + i of a desk. Contracts see what is known
+/// The stimuli of 1 to 256 lanes. Lane i reads place 1000 + i of a desk. Contracts see what is known
 /// of each (`Known`), by lane.
 #[derive(Drop)]
 pub struct Drive {
@@ -152,9 +152,10 @@ impl Drive {
     /// Packs the vectors of the live lanes: a pair for each bit of the inputs, input by input, least
     /// significant bit first. A lane that has ended, or isn't there, gets x.
     pub fn feed<W: Lanes>(&self, pairs: &mut [Pair<W>])
-        requires width { W.LANES ≡ 64 }
+        requires width { W.LANES ≤ most_lanes }
+        requires few { length self.now ≤ W.LANES }
         requires count { HaveBits (length pairs.old) self.now }
-        ensures { (i : ℕ) → i < 64 → map (λ p. pair_lane W.lane p i) pairs.new ≡ driven (length pairs.old) (lane_at self.now i) }
+        ensures { (i : ℕ) → i < W.LANES → map (λ p. pair_lane W.lane p i) pairs.new ≡ driven (length pairs.old) (lane_at self.now i) }
     {
         feed_all(&self.stimuli, pairs);
     }

@@ -2,6 +2,7 @@
 
 ghost use Rattle.std.specs.Prelude.{◌≡◌, ℕ, ◌+◌, ◌<◌, ◌≤◌, length, suc, true, IsTrue, IfOk, IfErr, OnOk};
 ghost use Rattle.std.specs.List.{count_by};
+ghost use Rattle.vs_desk.specs.Places.{most_lanes};
 ghost use Rattle.vs_design.specs.Designs.{Design};
 ghost use Rattle.vs_program.specs.Compiled.{IsProgramOf};
 ghost use Rattle.vs_drive.specs.Lanes.{AreAttached, OtherPlacesKept};
@@ -96,7 +97,8 @@ impl<W: Lanes + Chunked> Machine<W> {
     /// Runs the engine's two slots of a round, where some lane has a vector, and notes the values after the first. Answers how many
     /// lanes have one.
     pub(crate) fn settle<L: Ledger>(&mut self, round: u64, steps: &mut Steps<L>) -> u64
-        requires width { W.LANES ≡ 64 }
+        requires width { W.LANES ≤ most_lanes }
+        requires lanes { length self.old.stimuli ≤ W.LANES }
         requires round { round ≤ 16777216 }
         requires ready { IsReady round self.old }
         ensures count { result ≡ count_by (λ k. k.live) self.old.stimuli }
@@ -126,7 +128,8 @@ impl<W: Lanes + Chunked> Machine<W> {
         desk: &mut D,
         steps: &mut Steps<L>,
     ) -> Result<u64, Stop>
-        requires width { W.LANES ≡ 64 }
+        requires width { W.LANES ≤ most_lanes }
+        requires lanes { length self.old.stimuli ≤ W.LANES }
         requires round { round ≤ 16777216 }
         requires ready { IsReady round self.old }
         requires writable { AreWritable (D.register desk.old) (length self.old.waves) }

@@ -1,6 +1,7 @@
 //! The rounds of a run.
 
 ghost use Rattle.std.specs.Prelude.{◌≡◌, ℕ, ◌+◌, ◌*◌, ◌<◌, ◌≤◌, length, IsTrue, IfOk, IfErr, OnOk};
+ghost use Rattle.vs_desk.specs.Places.{most_lanes};
 ghost use Rattle.vs_design.specs.Designs.{Design};
 ghost use Rattle.vs_design.specs.Sizes.{size};
 ghost use Rattle.vs_program.specs.Compiled.{IsProgramOf};
@@ -74,7 +75,8 @@ impl<W: Lanes + Chunked> Machine<W> {
         desk: &mut D,
         steps: &mut Steps<L>,
     ) -> Result<Counts, Stop>
-        requires width { W.LANES ≡ 64 }
+        requires width { W.LANES ≤ most_lanes }
+        requires lanes { length self.old.stimuli ≤ W.LANES }
         requires ready { IsReady 0 self.old }
         requires readable { AreAttached (D.register desk.old) self.old.stimuli }
         requires writable { AreWritable (D.register desk.old) (length self.old.waves) }

@@ -3,7 +3,6 @@ use Rattle.std.proofs.Common.{◌≡◌, ℕ, ◌<◌, Bool, false, Some, List, 
 use Rattle.vs_design.specs.Expressions.{Signal}
 use Rattle.vs_design.specs.Designs.{Design}
 use Rattle.vs_design.specs.Networks.{network_of}
-use Rattle.vs_design.specs.Resets.{reset_inputs}
 use Rattle.vs_design.specs.Accepted.{IsAcceptedDesign}
 use Rattle.vs_flat.specs.DesignOf.{design_of}
 use Rattle.vs_clock.specs.Clocked.{Clocked, IsClockOf}

@@ -33,7 +33,7 @@ pub record HasParts {W : Type 0} (lane : W → ℕ → Bool) (lanes : ℕ) (tell
   pub waves : length m.waves ≡ length m.stimuli
   pub new_waves : All (IsNewWave (design_of a.flat) job.half) m.waves
   pub half : job.half ≤ 1000000
-  pub width : lanes ≡ 64
+  pub few : length m.stimuli ≤ lanes
 
 pub program_is : {W : Type 0} (lane : W → ℕ → Bool) (lanes : ℕ) (tells : Bool) (job : Job) (old mid new : Contents) (a : Acceptance) (inputs : List Input) (engine : Running W) (m : Simulation W)
     → (p : HasParts lane lanes tells job old mid new a inputs engine m) → IsProgramOf (design_of a.flat) p.loaded.loaded.accepted.accepted.clock.first m.engine.program
@@ -76,7 +76,4 @@ begins lane lanes tells job old mid new a inputs engine m p t = record {
 }
   where
     below : (i : ℕ) → i < length m.stimuli → i < lanes
-    below i h =
-        let most = p.numbered.at_most_64 in
-        let width = p.width in
-        omega (arith, h, most, width)
+    below i h = let few = p.few in omega (arith, h, few)

@@ -48,7 +48,7 @@ pub fn prepare<W: Lanes + Chunked, D: Desk>(
     job: &Job,
     desk: &mut D,
 ) -> Result<Prepared<W>, SetupError>
-    requires width { W.LANES ≡ 64 }
+    requires lanes { length job.now.stimuli ≤ W.LANES }
     requires job { IsJob job.now }
     requires fresh { IsFresh (D.register desk.old) (length job.now.stimuli) }
     ensures prepared { IfOk result (λ p. IsPrepared W.lane D.tells job.now (D.register desk.old) (D.contents desk.old) (D.register desk.new) (D.contents desk.new) p.machine p.size (map string_bytes p.wave_paths.items)) }

@@ -3,4 +3,4 @@ use Rattle.vs_drive.specs.Fed.{AreFed}
 use Rattle.vs_drive.proofs.column.feed_input.Given as goal
 
 abbrev pub invariant-loop-bit : goal.invariant-loop-bit
-invariant-loop-bit g l = AreFed g.W.Word.lane (l.first + l.bit) l.stimuli l.pairs
+invariant-loop-bit g l = AreFed g.W.Word.lane g.W.Word.LANES (l.first + l.bit) l.stimuli l.pairs

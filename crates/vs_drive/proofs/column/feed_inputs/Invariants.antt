@@ -7,5 +7,5 @@ use Rattle.vs_drive.proofs.column.feed_inputs.Given as goal
 abbrev pub invariant-loop-input : goal.invariant-loop-input
 invariant-loop-input g l = record {
   first : l.first ≡ sum (take l.input (sizes (lane_at l.stimuli 0).vector));
-  fed : AreFed g.W.Word.lane l.first l.stimuli l.pairs;
+  fed : AreFed g.W.Word.lane g.W.Word.LANES l.first l.stimuli l.pairs;
 }

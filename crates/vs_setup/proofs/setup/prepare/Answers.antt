@@ -57,7 +57,7 @@ returns-clause-prepared g c =
       waves = c.in_ok-prepared.ensures.lanes ∙ ap length (sym drive_is);
       new_waves = c.in_ok-prepared.ensures.waves;
       half = c.requires.job.half_to;
-      width = c.requires.width;
+      few = subst (λ ks. length ks ≤ g.W.Word.LANES) (sym drive_is) (omega (arith, c.requires.lanes, opened.lanes));
     } in
     record {
       text = parts.loaded.text;

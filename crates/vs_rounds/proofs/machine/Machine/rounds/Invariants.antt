@@ -1,4 +1,5 @@
 use Rattle.std.proofs.Common.{◌≡◌, ◌≤◌, ◌<◌, true, ◌*◌, length, IsTrue}
+use Rattle.vs_desk.specs.Places.{most_lanes}
 use Rattle.vs_drive.specs.Lanes.{AreAttached}
 use Rattle.vs_waves.specs.Puts.{AreWritable}
 use Rattle.vs_rounds.specs.Lanes.{Run, AreInRound}
@@ -18,7 +19,7 @@ invariant-loop-round g l =
       lanes : length l.self.stimuli ≡ length l.initial.self.stimuli;
       waves : length l.self.waves ≡ length l.initial.self.waves;
       program : l.self.engine.program ≡ l.initial.self.engine.program;
-      few : l.vectors ≤ 64 * l.round;
+      few : l.vectors ≤ most_lanes * l.round;
       begun : 0 < l.round → l.self.engine.begun ≡ true;
       begins : l.round ≡ 0 → l.self.engine.begun ≡ l.initial.self.engine.begun;
       ticked : TicksRounds l.initial.self.engine.program l.initial.self.engine.begun l.round l.initial.steps l.steps;
