@@ -1,6 +1,7 @@
 pub mod Equal
-pub mod Halves
+pub mod Counts
 pub mod Ranges
+pub mod Benches
 pub mod Listed
 pub mod Options
 pub mod InTurn

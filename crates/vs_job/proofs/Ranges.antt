@@ -6,27 +6,27 @@ use Rattle.std.proofs.lemmas.Bool.{and_parts, leb-true}
 use Rattle.std.proofs.lemmas.Option.{cond_some, option_and_then_some, same_Some}
 use Rattle.vs_desk.specs.Places.{most_lanes}
 use Rattle.vs_job.specs.declared.job.Job.{Job}
-use Rattle.vs_job.specs.Job.{Text, behind_run, said, half_value, is_half, once, half_given, Paths, design_and_stimuli, job, IsJob, most_half}
+use Rattle.vs_job.specs.Job.{Text, behind_run, said, is_count, count_value, once, half_given, Paths, design_and_stimuli, job, IsJob, most_half}
 
-pub record IsHalf (n : ℕ) : Type 0 where
+pub record IsCount (most n : ℕ) : Type 0 where
   pub from : 1 ≤ n
-  pub to : n ≤ most_half
+  pub to : n ≤ most
 
-half_value-range : (ds : List ℕ) (n : ℕ) → half_value ds ≡ Some n → IsHalf n
-half_value-range ds n e =
-    let h = cond_some (is_half ds) (digits_value 10 ds) n e in
+pub count_value-range : (most : ℕ) (ds : List ℕ) (n : ℕ) → count_value most ds ≡ Some n → IsCount most n
+count_value-range most ds n e =
+    let h = cond_some (is_count most ds) (digits_value 10 ds) n e in
     let first = and_parts (not (eqb (get_or ds 0 0) 48)) _ (and_parts (all_ascii_digits ds) _ h.0).1 in
     let range = and_parts (nat_le 1 (digits_value 10 ds)) _ first.1 in
     let low = leb-true 1 (digits_value 10 ds) range.0 in
-    let high = leb-true (digits_value 10 ds) most_half range.1 in
+    let high = leb-true (digits_value 10 ds) most range.1 in
     let same : digits_value 10 ds ≡ n = h.1 in
     record { from = omega arith; to = omega arith }
 
-half_given-range : (digits : List Text) (n : ℕ) → half_given digits ≡ Some n → IsHalf n
+half_given-range : (digits : List Text) (n : ℕ) → half_given digits ≡ Some n → IsCount most_half n
 half_given-range [] n e =
     let value : 5 ≡ n = cc in
     record { from = omega arith; to = omega arith }
-half_given-range (digits ∷ []) n e = half_value-range digits n e
+half_given-range (digits ∷ []) n e = count_value-range most_half digits n e
 half_given-range (digits ∷ more ∷ rest) n e = absurd (cc)
 
 pub record IsFew (stimuli : List Text) : Type 0 where

@@ -79,16 +79,19 @@ said None (word ∷ words) =
     else (if is_plain word then option_map (path_and word) (said None words)
     else option_and (flag_named (before_first is_equals word)) (attached word) (said None words) (λ flag. said (Some flag) words))
 
+-- decimal digits without a sign or a leading zero, with a value from 1 to this one
+abbrev pub is_count : ℕ → List ℕ → Bool
+is_count most digits = all_ascii_digits digits && (not (slice_index digits 0 == 48) && (nat_le 1 (digits_value 10 digits) && nat_le (digits_value 10 digits) most))
+
+abbrev pub count_value : ℕ → List ℕ → Option ℕ
+count_value most digits = if is_count most digits then Some (digits_value 10 digits) else None
+
 -- the greatest half-period of the clock, in units of time
 abbrev pub most_half : ℕ
 most_half = 1000000
 
--- decimal digits without a sign or a leading zero, with a value from 1 to the greatest half-period
-abbrev pub is_half : List ℕ → Bool
-is_half digits = all_ascii_digits digits && (not (slice_index digits 0 == 48) && (nat_le 1 (digits_value 10 digits) && nat_le (digits_value 10 digits) most_half))
-
 abbrev pub half_value : List ℕ → Option ℕ
-half_value digits = if is_half digits then Some (digits_value 10 digits) else None
+half_value = count_value most_half
 
 -- the value of an option that is given once
 abbrev pub once : List Text → Option Text
@@ -106,7 +109,7 @@ pub record Paths : Type 0 where
   pub design : Text
   pub stimuli : List Text
 
--- the first path is the design, and 1 to 64 stimuli follow
+-- the first path is the design, and 1 to 256 stimuli follow
 abbrev pub design_and_stimuli : List Text → Option Paths
 design_and_stimuli [] = None
 design_and_stimuli (design ∷ stimuli) = if nat_le 1 (length stimuli) && nat_le (length stimuli) most_lanes then Some (record { design = design; stimuli = stimuli }) else None

@@ -1,4 +1,5 @@
 pub mod Job
+pub mod Bench
 pub mod Lines
 pub mod Command
 pub mod Places

@@ -20,7 +20,7 @@ pub record Line : Type 0 where
 abbrev pub start : Line
 start = record { next = Any; top = None; clock = None; half = None; paths = [] }
 
--- one more path: the design and 64 stimuli at most
+-- one more path: the design and 256 stimuli at most
 abbrev pub with_path : Text → Line → Option Line
 with_path path l = if nat_le (length l.paths) most_lanes then Some (record l { paths = l.paths ++ path ∷ [] }) else None
 

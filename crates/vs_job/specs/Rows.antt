@@ -1,32 +1,49 @@
--- Lines of words, each cut at its spaces, with the jobs that they call for.
+-- Lines of words, each cut at its spaces, with the jobs and the benches that they call for.
 use Rattle.std.specs.Prelude.{ℕ, ◌==◌, List, [], ◌∷◌, ◌++◌, map, Option, Some, None, codes}
 use Rattle.std.specs.List.{slice_split}
+use Rattle.vs_job.specs.declared.bench.Bench.{Bench}
 use Rattle.vs_job.specs.declared.job.Job.{Job}
 use Rattle.vs_job.specs.Job.{Text}
 
 abbrev pub words : Text → List Text
 words line = slice_split (λ b. b == 32) line
 
--- a line, and its job
+-- a line, and its job or its bench
 pub record Row : Type 0 where
   pub line : Text
   pub job : Option Job
+  pub bench : Option Bench
 
-abbrev row : Text → Option Job → Row
-row line job = record { line = line; job = job }
+abbrev of_job : Text → Job → Row
+of_job line job = record { line = line; job = Some job; bench = None }
+
+abbrev of_bench : Text → ℕ → ℕ → Row
+of_bench line vectors lanes = record { line = line; job = None; bench = Some (record { vectors = vectors; lanes = lanes }) }
+
+abbrev of_none : Text → Row
+of_none line = record { line = line; job = None; bench = None }
 
 -- the job of top t, clock c and design d
 abbrev a_job : ℕ → List Text → Job
 a_job half stimuli = record { top = codes "t"; clock = codes "c"; half = half; design = codes "d"; stimuli = stimuli }
 
 -- options in any order, among the paths too, with their values as words of their own or behind `=`
-abbrev kept : List Row
-kept =
-    row (codes "x run --top t --clock c d s") (Some (a_job 5 (codes "s" ∷ [])))
-    ∷ row (codes "x run d --clock=c s --half 9 --top=t u") (Some (a_job 9 (codes "s" ∷ codes "u" ∷ [])))
-    ∷ row (codes "x run --top=t --half=1000000 --clock c -- d -s -- --top=u") (Some (a_job 1000000 (codes "-s" ∷ codes "--" ∷ codes "--top=u" ∷ [])))
-    ∷ row (codes "x run --top t=u= --clock= d s") (Some (record { top = codes "t=u="; clock = []; half = 5; design = codes "d"; stimuli = codes "s" ∷ [] }))
-    ∷ row (codes "x run --top=t=u --clock  d ") (Some (record { top = codes "t=u"; clock = []; half = 5; design = codes "d"; stimuli = [] ∷ [] }))
+abbrev jobs : List Row
+jobs =
+    of_job (codes "x run --top t --clock c d s") (a_job 5 (codes "s" ∷ []))
+    ∷ of_job (codes "x run d --clock=c s --half 9 --top=t u") (a_job 9 (codes "s" ∷ codes "u" ∷ []))
+    ∷ of_job (codes "x run --top=t --half=1000000 --clock c -- d -s -- --top=u") (a_job 1000000 (codes "-s" ∷ codes "--" ∷ codes "--top=u" ∷ []))
+    ∷ of_job (codes "x run --top t=u= --clock= d s") (record { top = codes "t=u="; clock = []; half = 5; design = codes "d"; stimuli = codes "s" ∷ [] })
+    ∷ of_job (codes "x run --top=t=u --clock  d ") (record { top = codes "t=u"; clock = []; half = 5; design = codes "d"; stimuli = [] ∷ [] })
+    ∷ []
+
+-- vectors for each lane, and the lanes, 64 where they aren't given
+abbrev benches : List Row
+benches =
+    of_bench (codes "x bench 1") 1 64
+    ∷ of_bench (codes "x bench 1000") 1000 64
+    ∷ of_bench (codes "x bench 1 256") 1 256
+    ∷ of_bench (codes "x bench 3 1") 3 1
     ∷ []
 
 -- each breaks one rule
@@ -57,7 +74,17 @@ broken =
     ∷ codes "x run --top t --clock c --half=+5 d s"
     ∷ codes "x run --top t --clock c --half= d s"
     ∷ codes "x run --top t --clock c --half 1000001 d s"
+    ∷ codes "x bench"
+    ∷ codes "x bench 0"
+    ∷ codes "x bench 1001"
+    ∷ codes "x bench 01"
+    ∷ codes "x bench 1 257"
+    ∷ codes "x bench 1 0"
+    ∷ codes "x bench +1"
+    ∷ codes "x bench 1 2 3"
+    ∷ codes "x bench -- 1"
+    ∷ codes "x bench x"
     ∷ []
 
 abbrev pub rows : List Row
-rows = kept ++ map (λ line. row line None) broken
+rows = jobs ++ benches ++ map of_none broken

@@ -20,7 +20,7 @@ pub struct Job {
     pub half: u32,
     /// The path of the design.
     pub design: Text,
-    /// The path of each lane's stimulus, for 1 to 64 lanes.
+    /// The path of each lane's stimulus, for 1 to 256 lanes.
     pub stimuli: Texts,
 }
 
@@ -49,7 +49,7 @@ impl From<AllocError> for JobError {
 /// The options stand anywhere behind `run`, each once, with the value in the next word or, as in
 /// `--top=T`, behind the first `=`. `--` ends them: each word behind it is a path. Before it no value
 /// and no path begins with `-`. H is a decimal number from 1 to 1,000,000 without a sign or a leading
-/// zero, and 5 where it isn't given. The first path is the design, and 1 to 64 stimuli follow.
+/// zero, and 5 where it isn't given. The first path is the design, and 1 to 256 stimuli follow.
 ///
 /// `Usage` comes exactly where the words are no such list, before any memory is taken.
 pub fn read_job(alloc: Global, words: &[String]) -> Result<Job, JobError>

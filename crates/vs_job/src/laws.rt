@@ -1,8 +1,10 @@
-//! Laws on jobs, as functions that do nothing: each clause is over the definitions alone.
+//! Laws on jobs and benches, as functions that do nothing: each clause is over the definitions alone.
 
 ghost use Rattle.std.specs.Prelude.{◌≡◌, ◌+◌, ℕ, List, None, Some, map, length, slice_get};
 ghost use Rattle.vs_desk.specs.Places.{design_place, stimulus_place, waveform_place};
+ghost use Rattle.vs_job.specs.declared.bench.Bench.{Bench};
 ghost use Rattle.vs_job.specs.declared.job.Job.{Job};
+ghost use Rattle.vs_job.specs.Bench.{bench, IsBench};
 ghost use Rattle.vs_job.specs.Job.{job, IsJob};
 ghost use Rattle.vs_job.specs.Rows.{words, rows};
 ghost use Rattle.vs_job.specs.Places.{places, same_paths, vcd_path, place, PathsDiffer};
@@ -12,9 +14,20 @@ pub fn job_law()
     ensures { (words : List (List ℕ)) (j : Job) → job words ≡ Some j → IsJob j }
 {}
 
-/// Which job each of the worked lines calls for.
+/// Every bench that words call for keeps its ranges.
+pub fn bench_law()
+    ensures { (words : List (List ℕ)) (b : Bench) → bench words ≡ Some b → IsBench b }
+{}
+
+/// Words that call for a job call for no bench.
+pub fn apart_law()
+    ensures { (words : List (List ℕ)) (j : Job) → job words ≡ Some j → bench words ≡ None }
+{}
+
+/// Which job and which bench each of the worked lines calls for.
 pub fn rows_law()
-    ensures { map (λ r. job (words r.line)) rows ≡ map (λ r. r.job) rows }
+    ensures jobs { map (λ r. job (words r.line)) rows ≡ map (λ r. r.job) rows }
+    ensures benches { map (λ r. bench (words r.line)) rows ≡ map (λ r. r.bench) rows }
 {}
 
 /// Where no two places have one path, the paths of all places differ pairwise.

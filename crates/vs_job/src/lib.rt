@@ -1,6 +1,7 @@
-//! The words of the command line, and the paths of the job that they call for.
+//! The words of the command line: the job or the bench that they call for, and the paths of a job.
 #![tactic(auto)]
 
+mod bench;
 mod job;
 mod laws;
 mod paths;
@@ -8,8 +9,9 @@ mod places;
 mod text;
 mod words;
 
+pub use bench::{Bench, read_bench};
 pub use job::{Job, JobError, read_job};
-pub use laws::{job_law, places_law, rows_law, same_paths_law};
+pub use laws::{apart_law, bench_law, job_law, places_law, rows_law, same_paths_law};
 pub use paths::{stimulus_paths, vcd_paths};
 pub use places::same_paths;
 pub use text::{Text, Texts};

@@ -11,6 +11,7 @@ use crate::job::Job;
 use crate::text::{Text, Texts};
 use arrayvec::ArrayVec;
 use std::alloc::{AllocError, Global};
+use vs_desk::MOST_LANES;
 
 /// The half-period where none is given.
 const DEFAULT_HALF: u32 = 5;
@@ -18,8 +19,8 @@ const DEFAULT_HALF: u32 = 5;
 /// The greatest half-period.
 const MOST_HALF: u32 = 1_000_000;
 
-/// How many paths there are at most: the design and 64 stimuli.
-const MOST_PATHS: usize = 65;
+/// How many paths there are at most: the design and 256 stimuli.
+const MOST_PATHS: usize = MOST_LANES + 1;
 
 /// An option.
 #[derive(Clone, Copy)]
@@ -126,7 +127,7 @@ impl<'a> Line<'a> {
         }
     }
 
-    /// One more path: the design and 64 stimuli at most.
+    /// One more path: the design and 256 stimuli at most.
     fn read_path(&mut self, path: &'a str) -> Option<()>
         ensures { option_map (λ _. line_of self.new) result ≡ lines.with_path path.now (line_of self.old) }
     {
@@ -253,17 +254,17 @@ pub(crate) fn read_line(words: &[String]) -> Option<Line<'_>>
     read_words(behind_run(words)?)
 }
 
-/// The half-period that the digits write.
-fn half_value(digits: &str) -> Option<u32>
-    ensures { result ≡ spec.half_value digits.now }
+/// The number from 1 to the greatest one that the digits write.
+pub(crate) fn count_value(digits: &str, most: u32) -> Option<u32>
+    ensures { result ≡ spec.count_value most digits.now }
 {
     let (first, _) = digits.as_bytes().split_first()?;
     if *first == b'+' || *first == b'0' {
         return None;
     }
-    let half = digits.parse().ok()?;
-    if 1 <= half && half <= MOST_HALF {
-        Some(half)
+    let count = digits.parse().ok()?;
+    if 1 <= count && count <= most {
+        Some(count)
     } else {
         None
     }
@@ -275,7 +276,7 @@ fn half_given(digits: Option<&str>) -> Option<u32>
 {
     match digits {
         None => Some(DEFAULT_HALF),
-        Some(digits) => half_value(digits),
+        Some(digits) => count_value(digits, MOST_HALF),
     }
 }
 
