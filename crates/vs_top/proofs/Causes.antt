@@ -168,7 +168,7 @@ ends tells job old before new after o (whole d e) =
 -- ---- the report
 
 -- no call of the report is one of another place
-report_keeps : {D : Type 0} (register : D → Register) (tells : Bool) (contents : D → Contents) (old new : D) (line : List ℕ) → ReportsLine register tells contents old new line
+pub report_keeps : {D : Type 0} (register : D → Register) (tells : Bool) (contents : D → Contents) (old new : D) (line : List ℕ) → ReportsLine register tells contents old new line
     → ((register new).faults ≡ (register old).faults) × ((register new).failed ≡ (register old).failed)
 report_keeps register tells contents old new line (inl p) = (ap (λ (r : Register). r.faults) p.same, ap (λ (r : Register). r.failed) p.same)
 report_keeps register tells contents old new line (inr l) = (l.failed.no_fault refl, l.failed.not_noted refl)

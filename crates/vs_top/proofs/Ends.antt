@@ -131,7 +131,7 @@ stop_usage (R.Refused i e) h = stimulus_usage i e h
 stop_usage (R.ReadFault i) h = cc
 stop_usage (R.WriteFault i) h = cc
 
-end_usage : (tells : Bool) (job : Job) (before : Register) (old : Contents) (now : Register) (new : Contents) (o : Outcome) → IsEnd tells job before old now new o → o ≡ Refused (Bare Usage) → ⊥
+pub end_usage : (tells : Bool) (job : Job) (before : Register) (old : Contents) (now : Register) (new : Contents) (o : Outcome) → IsEnd tells job before old now new o → o ≡ Refused (Bare Usage) → ⊥
 end_usage tells job before old now new o (same e) h = same_usage e.first e.second (sym e.outcome_is ∙ h)
   where
     same_usage : (a b : ℕ) → Refused (SamePath a b) ≡ Refused (Bare Usage) → ⊥

@@ -5,3 +5,4 @@ pub mod Ends
 pub mod Causes
 pub mod Refusals
 pub mod Lawful
+pub mod Benches

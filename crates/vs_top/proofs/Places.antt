@@ -6,7 +6,7 @@ use Rattle.vs_desk.specs.declared.desk.Way.{Way}
 use Rattle.vs_desk.specs.declared.desk.Way.TheVariants.{Read, Write}
 use Rattle.vs_desk.specs.Desk.{Attachment, Register, IsAttached}
 use Rattle.vs_desk.specs.Laws.{OtherPlacesStay, EachPlaceIsAttached}
-use Rattle.vs_desk.specs.Places.{with_places, design_place, waveform_place, stimulus_place}
+use Rattle.vs_desk.specs.Places.{most_lanes, with_places, design_place, waveform_place, stimulus_place}
 use Rattle.vs_stim.specs.Known.{Known}
 use Rattle.vs_drive.specs.Lanes.{lane_at, ended, AreLanes, AreAttached}
 use Rattle.vs_waves.specs.Puts.{wave_place}
@@ -34,13 +34,13 @@ pub still_attached : OtherPlacesStay → (r : Register) (paths : List (List ℕ)
 still_attached law r paths ks lanes attached = record {
   each = λ i live.
       let within = live_within ks i live in
-      let few = lanes.at_most_64 in
+      let few = lanes.few in
       let P : Option Attachment → Type 0 = λ o. IsSomeAnd o (λ a. a.way ≡ Read) in
       subst P (sym (law r (waveform_place 0) Write paths (stimulus_place i) (inl (omega arith)))) (attached.each i live);
 }
 
 -- the waveforms' places stay free where those of the texts are attached
-pub still_free : OtherPlacesStay → (r : Register) (job : Job) (i : ℕ) → length job.stimuli ≤ 64 → AreFree r (length job.stimuli) → i < length job.stimuli → IsNone ((with_texts r job job.stimuli).attached (wave_place i))
+pub still_free : OtherPlacesStay → (r : Register) (job : Job) (i : ℕ) → length job.stimuli ≤ most_lanes → AreFree r (length job.stimuli) → i < length job.stimuli → IsNone ((with_texts r job job.stimuli).attached (wave_place i))
 still_free law r job i few free h =
     let P : Option Attachment → Type 0 = λ o. IsNone o in
     subst P (sym (law (with_design r job.design) (stimulus_place 0) Read job.stimuli (wave_place i) (inr (omega arith)) ∙ cond-false _ _ _ (ne_eqb (wave_place i) design_place (λ e. omega arith)))) (free i h)

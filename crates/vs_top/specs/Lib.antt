@@ -4,5 +4,6 @@ pub mod Headline
 pub mod Ended
 pub mod Answers
 pub mod Reports
+pub mod Benched
 pub mod Causes
 pub mod Refused

@@ -1,6 +1,7 @@
 //! The top call: a job from its words to its waveforms and its report line.
 #![tactic(auto)]
 
+mod bench_call;
 mod errors;
 mod exit_status;
 mod outcome;
@@ -8,6 +9,7 @@ mod report_line;
 mod run_call;
 mod simulation;
 
+pub use bench_call::bench;
 pub use exit_status::status;
 pub use outcome::{Outcome, Summary};
 pub use report_line::report;

@@ -3,18 +3,22 @@
 ghost use Rattle.std.specs.Prelude.{◌≡◌, ◌≢◌, ◌+◌, ◌*◌, ◌≤◌, ◌⊎◌, None, Some, IsTrue, length, map, string_bytes};
 ghost use Rattle.vs_desk.specs.Places.{most_lanes};
 ghost use Rattle.vs_job.specs.declared.job.Job.{Job};
+ghost use Rattle.vs_job.specs.declared.bench.Bench.{Bench};
+ghost use Rattle.vs_job.specs.Bench.{bench};
 ghost use Rattle.vs_job.specs.Job.{IsJob, job};
 ghost use Rattle.vs_refusal.specs.declared.names.BareName.TheVariants.{Usage};
 ghost use Rattle.vs_refusal.specs.declared.refusal.Refusal.{Refusal};
 ghost use Rattle.vs_refusal.specs.declared.refusal.Refusal.TheVariants.{Bare};
 ghost use Rattle.vs_top.specs.declared.outcome.Summary.{Summary};
 ghost use Rattle.vs_top.specs.declared.outcome.Outcome.TheVariants.{Done, Memory, Refused};
+ghost use Rattle.vs_top.specs.Benched.{IsBenched};
 ghost use Rattle.vs_top.specs.Causes.{IsDoneOrMemory, IsFaultless, IsLawful, ShowsCause};
 ghost use Rattle.vs_top.specs.Ended.{IsUnused};
 ghost use Rattle.vs_top.specs.Refused.{IsRefusedJob, IsRefusedSo};
 ghost use Rattle.vs_top.specs.Reports.{IsSimulated, IsReported};
 ghost use Rattle.vs_top.specs.Headline.{IsWritten};
 
+use crate::bench_call::bench;
 use crate::outcome::Outcome;
 use crate::report_line::report;
 use crate::simulation::run_job;
@@ -22,7 +26,7 @@ use std::alloc::Global;
 use std::sync::ledger::Ledger;
 use vs_accept::answer_law;
 use vs_desk::Desk;
-use vs_job::{Job, JobError, read_job};
+use vs_job::{Job, JobError, apart_law, read_bench, read_job};
 use vs_plane::Steps;
 use vs_refusal::{BareName, Refusal};
 
@@ -52,12 +56,13 @@ pub fn simulate<D: Desk, L: Ledger>(
     }
 }
 
-/// Runs the job that the words of the command line call for, the program's own name first: `cyclesim run --top T --clock C [--half H] DESIGN
-/// STIM..`.
+/// Runs the job or the bench that the words of the command line call for, the program's own name first: `cyclesim run --top T --clock C
+/// [--half H] DESIGN STIM..`, or `cyclesim bench N [L]`.
 ///
-/// Where the design is accepted and every stimulus is valid, a run that ends `Done` has written, for each lane, exactly the VCD text of the
-/// slot-end values that every completed run of the event queue (IEEE 1364-2005, clause 11) on that lane's stimulus alone has, and has executed
-/// at most as many plane operations as the design's size for each half-period of the clock, for all lanes together.
+/// Where the words call for a job, the design is accepted and every stimulus is valid, a run that ends `Done` has written, for each lane,
+/// exactly the VCD text of the slot-end values that every completed run of the event queue (IEEE 1364-2005, clause 11) on that lane's
+/// stimulus alone has, and has executed at most as many plane operations as the design's size for each half-period of the clock, for all
+/// lanes together.
 pub fn run<D: Desk, L: Ledger>(
     alloc: Global,
     words: &[String],
@@ -67,16 +72,18 @@ pub fn run<D: Desk, L: Ledger>(
     requires unused { IsUnused (D.register desk.old) most_lanes }
 
     // The headline.
-    ensures written { IsTrue D.tells → (s : Summary) → result ≡ Done s
-        → (j : Job) × (job (map string_bytes words.now) ≡ Some j) × IsWritten j (D.contents desk.old) (D.contents desk.new) s }
+    ensures written { IsTrue D.tells → (j : Job) → job (map string_bytes words.now) ≡ Some j → (s : Summary) → result ≡ Done s
+        → IsWritten j (D.contents desk.old) (D.contents desk.new) s }
     ensures operations { (s : Summary) → result ≡ Done s → (steps.new ≡ steps.old + s.operations) × (s.operations ≤ s.size * s.settlings) }
 
     // Every answer has its cause.
-    ensures usage { job (map string_bytes words.now) ≡ None → (result ≡ Refused (Bare Usage)) × IsReported D.register D.tells D.contents desk.old desk.new result }
-    ensures usage_only { result ≡ Refused (Bare Usage) → job (map string_bytes words.now) ≡ None }
+    ensures usage { job (map string_bytes words.now) ≡ None → bench (map string_bytes words.now) ≡ None
+        → (result ≡ Refused (Bare Usage)) × IsReported D.register D.tells D.contents desk.old desk.new result }
+    ensures usage_only { result ≡ Refused (Bare Usage) → (job (map string_bytes words.now) ≡ None) × (bench (map string_bytes words.now) ≡ None) }
     ensures causes { ShowsCause (D.register desk.old) (D.register desk.new) result }
     ensures ended { (j : Job) → job (map string_bytes words.now) ≡ Some j
         → IsSimulated D.register D.tells D.contents j desk.old desk.new result ⊎ ((result ≡ Memory) × IsReported D.register D.tells D.contents desk.old desk.new result) }
+    ensures benched { (b : Bench) → bench (map string_bytes words.now) ≡ Some b → IsBenched D.register D.tells D.contents b desk.old desk.new result }
 
     // And where no call on the desk fails, nothing but want of memory keeps a refused job from its refusal, or a lawful job from its end.
     ensures refused { IsTrue D.tells → (j : Job) → job (map string_bytes words.now) ≡ Some j → (q : Refusal) → IsRefusedJob j (D.contents desk.old) q
@@ -84,6 +91,10 @@ pub fn run<D: Desk, L: Ledger>(
     ensures complete { IsTrue D.tells → (j : Job) → job (map string_bytes words.now) ≡ Some j → IsLawful j (D.contents desk.old)
         → IsFaultless (D.register desk.old) (D.register desk.new) → IsDoneOrMemory result }
 {
+    apart_law();
+    if let Some(sizes) = read_bench(words) {
+        return bench(alloc, sizes, desk, steps);
+    }
     match read_job(alloc, words) {
         Ok(job) => simulate(alloc, &job, desk, steps),
         Err(JobError::Usage) => report(desk, Outcome::Refused(Refusal::Bare(BareName::Usage))),

@@ -1,6 +1,7 @@
 //! A job from its paths to its waveforms.
 
 ghost use Rattle.std.specs.Prelude.{◌≡◌, ◌+◌, ◌*◌, ◌≤◌, IsTrue, IfOk, IfErr, length};
+ghost use Rattle.vs_desk.specs.Places.{most_lanes};
 ghost use Rattle.vs_job.specs.Job.{IsJob};
 ghost use Rattle.vs_top.specs.declared.outcome.Outcome.TheVariants.{Done};
 ghost use Rattle.vs_top.specs.Headline.{IsWritten};
@@ -12,14 +13,14 @@ use std::alloc::Global;
 use std::sync::ledger::Ledger;
 use vs_desk::{Desk, FIRST_WAVEFORM, attach_law};
 use vs_job::{Job, same_paths};
-use vs_plane::{Steps, Words};
+use vs_plane::{Chunked, Lanes, Steps, Words};
 use vs_refusal::Refusal;
 use vs_rounds::headline_law;
 use vs_setup::{Prepared, prepare};
 use vs_stim::laws::known_law;
 use vs_waves::attach;
 
-/// Runs a job to the end of its rounds.
+/// Runs a job to the end of its rounds, in words of as many lanes as it needs: 64, 128 or 256.
 ///
 /// The order is: two equal paths; the design; the stimuli's headers, by lane; all memory; the first vectors, by lane; the waveforms'
 /// places, by lane; the rounds.
@@ -38,13 +39,41 @@ pub(crate) fn run_job<D: Desk, L: Ledger>(
     ensures counted { IfOk result (λ s. steps.new ≡ steps.old + s.operations) }
     ensures within { IfOk result (λ s. s.operations ≤ s.size * s.settlings) }
 {
+    let lanes = job.stimuli.len();
+    if lanes <= 64 {
+        run_lanes::<Words<1>, D, L>(alloc, job, desk, steps)
+    } else if lanes <= 128 {
+        run_lanes::<Words<2>, D, L>(alloc, job, desk, steps)
+    } else {
+        run_lanes::<Words<4>, D, L>(alloc, job, desk, steps)
+    }
+}
+
+/// Runs a job to the end of its rounds, in words of so many lanes.
+fn run_lanes<W: Lanes + Chunked, D: Desk, L: Ledger>(
+    alloc: Global,
+    job: &Job,
+    desk: &mut D,
+    steps: &mut Steps<L>,
+) -> Result<Summary, Outcome>
+    requires job { IsJob job.now }
+    requires unused { IsUnused (D.register desk.old) (length job.now.stimuli) }
+    requires width { W.LANES ≤ most_lanes }
+    requires lanes { length job.now.stimuli ≤ W.LANES }
+    ensures done { IfOk result (λ s. IsEnd D.tells job.now (D.register desk.old) (D.contents desk.old) (D.register desk.new) (D.contents desk.new) (Done s)) }
+    ensures stopped { IfErr result (IsEnd D.tells job.now (D.register desk.old) (D.contents desk.old) (D.register desk.new) (D.contents desk.new)) }
+    ensures written { IsTrue D.tells → IfOk result (IsWritten job.now (D.contents desk.old) (D.contents desk.new)) }
+    ensures not_done { IfErr result IsStopped }
+    ensures counted { IfOk result (λ s. steps.new ≡ steps.old + s.operations) }
+    ensures within { IfOk result (λ s. s.operations ≤ s.size * s.settlings) }
+{
     attach_law();
     headline_law();
     known_law();
     if let Some((first, second)) = same_paths(job) {
         return Err(Outcome::Refused(Refusal::SamePath { first, second }));
     }
-    let prepared = match prepare::<Words<1>, D>(alloc, job, desk) {
+    let prepared = match prepare::<W, D>(alloc, job, desk) {
         Ok(prepared) => prepared,
         Err(error) => return Err(setup_outcome(error)),
     };

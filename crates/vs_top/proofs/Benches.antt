@@ -1,0 +1,109 @@
+-- The job of a bench over a desk of its own.
+use Rattle.std.proofs.Common.{◌≡◌, ◌≢◌, ◌⊎◌, ℕ, zero, suc, Bool, true, [], ◌∷◌, length, refl, sym, ap, ◌∙◌, subst, inl, inr, arith, length-append}
+use Rattle.vs_desk.specs.Desk.{Register, Contents, no_register}
+use Rattle.vs_job.specs.declared.bench.Bench.{Bench}
+use Rattle.vs_job.specs.declared.job.Job.{Job}
+use Rattle.vs_job.specs.Bench.{IsBench}
+use Rattle.vs_job.specs.Job.{IsJob}
+use Rattle.vs_bench.specs.Bench as bench
+use Rattle.vs_refusal.specs.declared.refusal.Refusal.TheVariants.{Bare}
+use Rattle.vs_refusal.specs.declared.names.BareName.TheVariants.{Usage}
+use Rattle.vs_top.specs.declared.outcome.Summary.{Summary}
+use Rattle.vs_top.specs.declared.outcome.Outcome.{Outcome}
+use Rattle.vs_top.specs.declared.outcome.Outcome.TheVariants.{Done, Refused, ReadFault, WriteFault, Memory}
+use Rattle.vs_top.specs.Outcomes.{outcome_line}
+use Rattle.vs_top.specs.Reported.{ReportsDone, ReportsLine, OnStopped}
+use Rattle.vs_top.specs.Ended.{IsEnd, IsStopped, IsUnused}
+use Rattle.vs_top.specs.Benched.{of_bench, IsBenchEnd}
+use Rattle.vs_top.specs.Causes.{ShowsCause}
+use Rattle.vs_top.proofs.Ends.{end_usage}
+use Rattle.vs_top.proofs.Causes.{on_stopped, report_keeps}
+
+pub paths_long : (lanes : ℕ) → length (bench.lane_paths lanes) ≡ lanes
+paths_long zero = refl
+paths_long (suc lane) =
+    let e = length-append (bench.lane_paths lane) (bench.lane_path lane ∷ []) in
+    let before = paths_long lane in
+    omega (arith, e, before)
+
+pub bench_job_is : (b : Bench) → IsBench b → IsJob (bench.job b.lanes)
+bench_job_is b h =
+    let long = paths_long b.lanes in
+    record { half_from = omega arith; half_to = omega arith; some = omega (arith, long, h.lanes_from); few = omega (arith, long, h.lanes_to) }
+
+pub all_unused : (lanes : ℕ) → IsUnused no_register lanes
+all_unused lanes = record { texts = record { design = refl; stimuli = λ i h. refl }; waves = λ i h. refl }
+
+-- how a bench ended, from how its job did
+pub bench_ended : (b : Bench) (j : Job) (before : Register) (old : Contents) (now : Register) (new : Contents) (inner o : Outcome) → j ≡ bench.job b.lanes
+    → before ≡ no_register → old ≡ bench.files b.vectors b.lanes → IsEnd true j before old now new inner → o ≡ of_bench inner → IsBenchEnd b o
+bench_ended b j before old now new inner o job_is register_is contents_are ended is = record {
+  register = now;
+  contents = new;
+  inner = inner;
+  ended = subst (λ (c : Contents). IsEnd true (bench.job b.lanes) no_register c now new inner) contents_are
+      (subst (λ (r : Register). IsEnd true (bench.job b.lanes) r old now new inner) register_is
+      (subst (λ (k : Job). IsEnd true k before old now new inner) job_is ended));
+  outcome_is = is;
+}
+
+-- ---- what the counts of the other desk say
+
+inner_usage : (inner : Outcome) → Refused (Bare Usage) ≡ of_bench inner → inner ≡ Refused (Bare Usage)
+inner_usage (Done s) h = cc
+inner_usage (Refused r) h = sym h
+inner_usage (ReadFault place) h = cc
+inner_usage (WriteFault place) h = cc
+inner_usage Memory h = cc
+
+-- no bench ends as a faulty list of words
+pub bench_usage : (b : Bench) (o : Outcome) → (o ≡ Memory) ⊎ IsBenchEnd b o → o ≢ Refused (Bare Usage)
+bench_usage b o (inl memory) = λ h. never (sym memory ∙ h)
+  where
+    never : Memory ≡ Refused (Bare Usage) → ⊥
+    never h = cc
+bench_usage b o (inr e) = λ h.
+    end_usage true (bench.job b.lanes) no_register (bench.files b.vectors b.lanes) e.register e.contents e.inner e.ended (inner_usage e.inner (sym h ∙ e.outcome_is))
+
+-- nor with a failed call
+no_fault : (old new : Register) (o : Outcome) (inner : Outcome) → o ≡ of_bench inner → IsStopped o → new.faults ≡ old.faults → ShowsCause old new o
+no_fault old new o inner is stopped same = subst (ShowsCause old new) (sym is) (go inner (subst IsStopped is stopped))
+  where
+    go : (i : Outcome) → IsStopped (of_bench i) → ShowsCause old new (of_bench i)
+    go (Done s) h = absurd h
+    go (Refused r) h = same
+    go (ReadFault place) h = same
+    go (WriteFault place) h = same
+    go Memory h = same
+
+pub bench_stopped_cause : {D : Type 0} (register : D → Register) (tells : Bool) (contents : D → Contents) (b : Bench) (old new : D) (o result : Outcome)
+    → IsStopped o → (o ≡ Memory) ⊎ IsBenchEnd b o → OnStopped o (result ≡ o) → OnStopped o (ReportsLine register tells contents old new (outcome_line o))
+    → ShowsCause (register old) (register new) result
+bench_stopped_cause register tells contents b old new o result stopped end is line =
+    subst (ShowsCause (register old) (register new)) (sym (on_stopped o (result ≡ o) stopped is)) (go end)
+  where
+    same : (register new).faults ≡ (register old).faults
+    same = (report_keeps register tells contents old new (outcome_line o) (on_stopped o (ReportsLine register tells contents old new (outcome_line o)) stopped line)).0
+
+    go : (o ≡ Memory) ⊎ IsBenchEnd b o → ShowsCause (register old) (register new) o
+    go (inl memory) = no_fault (register old) (register new) o Memory memory stopped same
+    go (inr e) = no_fault (register old) (register new) o e.inner e.outcome_is stopped same
+
+pub bench_done_cause : {D : Type 0} (register : D → Register) (tells : Bool) (contents : D → Contents) (old new : D) (s : Summary) (result : Outcome)
+    → ReportsDone register tells contents old new (Done s) result → ShowsCause (register old) (register new) result
+bench_done_cause register tells contents old new s result (inl r) =
+    subst (ShowsCause (register old) (register new)) (sym r.0) (ap (λ (k : Register). k.faults) r.1.same, ap (λ (k : Register). k.losses) r.1.same)
+bench_done_cause register tells contents old new s result (inr r) =
+    subst (ShowsCause (register old) (register new)) (sym r.0) (inr (refl, record { rose = r.1.failed.loss refl; no_fault = r.1.failed.no_fault refl }))
+
+-- a run that is done and reported isn't a faulty list of words
+pub done_usage : {D : Type 0} (register : D → Register) (tells : Bool) (contents : D → Contents) (old new : D) (s : Summary) (result : Outcome)
+    → ReportsDone register tells contents old new (Done s) result → result ≢ Refused (Bare Usage)
+done_usage register tells contents old new s result (inl r) = λ h. never (sym r.0 ∙ h)
+  where
+    never : Done s ≡ Refused (Bare Usage) → ⊥
+    never h = cc
+done_usage register tells contents old new s result (inr r) = λ h. never (sym r.0 ∙ h)
+  where
+    never : WriteFault 0 ≡ Refused (Bare Usage) → ⊥
+    never h = cc
