@@ -13,7 +13,7 @@ const LINE: &str = "c run --top top --clock clk d.v";
 
 /// Lane n's stimulus: 1 to 5 vectors, which depend on the lane.
 fn stimulus(alloc: Global, n: usize) -> Result<String, AllocError>
-    requires { n < 128 }
+    requires { n < 512 }
 {
     let mut text = String::from_str(alloc, "inputs a b\n")?;
     for k in 0..n % 5 + 1 {
@@ -28,7 +28,7 @@ fn stimulus(alloc: Global, n: usize) -> Result<String, AllocError>
 
 /// Runs so many stimuli, from this one on, over a new desk, and answers the status.
 fn run_lanes(alloc: Global, first: usize, count: usize) -> Result<(u8, MemoryDesk), AllocError>
-    requires { first + count ≤ 128 }
+    requires { first + count ≤ 512 }
 {
     let mut desk = desk_with(alloc, 4096, &[("d.v", AND)])?;
     let mut words = words(alloc, LINE)?;
@@ -43,22 +43,25 @@ fn run_lanes(alloc: Global, first: usize, count: usize) -> Result<(u8, MemoryDes
 
 #[test]
 fn each_lane_alone(rt: HostRuntime) -> Result<(), Fail> {
-    let (code, all) = run_lanes(rt.alloc(), 0, 64)?;
-    assert_eq!(rt; code, 0);
-    assert_eq!(rt;
-        all.written(0),
-        b"ok lanes=64 vectors=190 settlings=10 size=5\n".as_slice()
-    );
-    for n in 0..64 {
-        let (code, alone) = run_lanes(rt.alloc(), n, 1)?;
+    let rows = [(64, 190), (65, 195), (128, 381), (129, 385), (256, 766)];
+    for (count, vectors) in rows {
+        let (code, all) = run_lanes(rt.alloc(), 0, count)?;
+        let report = format!(in rt.alloc();
+            "ok lanes={count} vectors={vectors} settlings=10 size=5\n"
+        )?;
         assert_eq!(rt; code, 0);
-        assert_eq!(rt;
-            all.written(2000 + n as u32),
-            alone.written(2000),
-            "lane {n}"
-        );
+        assert_eq!(rt; all.written(0), report.as_bytes());
+        for n in 0..count {
+            let (code, alone) = run_lanes(rt.alloc(), n, 1)?;
+            assert_eq!(rt; code, 0);
+            assert_eq!(rt;
+                all.written(2000 + n as u32),
+                alone.written(2000),
+                "lane {n}"
+            );
+        }
     }
-    let (code, desk) = run_lanes(rt.alloc(), 0, 65)?;
+    let (code, desk) = run_lanes(rt.alloc(), 0, 257)?;
     assert_eq!(rt; code, 2);
     assert_eq!(rt; desk.written(0), b"refused 1 Usage\n".as_slice());
     Ok(())

@@ -74,8 +74,8 @@ fn jobs_of_words(rt: HostRuntime) -> Result<(), Fail> {
         ),
         ("x run --top  --clock= d s", 0, "  5 d 1"),
         ("x run run --top run --clock run run", 0, "run run 5 run 1"),
-        ("x run --top t --clock c d", 64, "t c 5 d 64"),
-        ("x run --top t --clock c", 65, "t c 5 t0 64"),
+        ("x run --top t --clock c d", 256, "t c 5 d 256"),
+        ("x run --top t --clock c", 257, "t c 5 t0 256"),
     ];
     for (line, more, expected) in rows {
         expect_job(&rt, rt.alloc(), line, more, Some(expected))?;
@@ -128,8 +128,8 @@ fn no_job_of_words(rt: HostRuntime) -> Result<(), Fail> {
         ("x run --top t --clock c --half= d s", 0),
         ("x run --top t --clock c", 0),
         ("x run --top t --clock c d", 0),
-        ("x run --top t --clock c d", 65),
-        ("x run --top t --clock c -- d", 65),
+        ("x run --top t --clock c d", 257),
+        ("x run --top t --clock c -- d", 257),
     ];
     for (line, more) in rows {
         expect_job(&rt, rt.alloc(), line, more, None)?;
