@@ -1,0 +1,41 @@
+//! The help that `clap` has for the declared words, which README shows.
+
+use crate::command::{bench, run};
+use std::test::Fail;
+
+#[test]
+fn help_of_run(rt: HostRuntime) -> Result<(), Fail> {
+    let help = run(rt.alloc(), "cyclesim run")?.render_help()?;
+    let expected = "\
+Runs a design under stimuli, and writes a waveform beside each
+
+Usage: cyclesim run [OPTIONS] --top <T> --clock <C> <DESIGN> <STIM>...
+
+Arguments:
+  <DESIGN>   The path of the design
+  <STIM>...  The paths of 1 to 256 stimuli
+
+Options:
+      --top <T>    The name of the top module
+      --clock <C>  The name of the top's clock input
+      --half <H>   Half a clock period, from 1 to 1000000 [default: 5]
+";
+    assert_eq!(&rt; help.as_str(), expected);
+    Ok(())
+}
+
+#[test]
+fn help_of_bench(rt: HostRuntime) -> Result<(), Fail> {
+    let help = bench(rt.alloc(), "cyclesim bench")?.render_help()?;
+    let expected = "\
+Runs a design and stimuli of its own, in memory
+
+Usage: cyclesim bench <N> [L]
+
+Arguments:
+  <N>  The vectors of each lane, from 1 to 1000
+  [L]  The lanes, from 1 to 256 [default: 64]
+";
+    assert_eq!(&rt; help.as_str(), expected);
+    Ok(())
+}
