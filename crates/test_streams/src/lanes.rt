@@ -59,7 +59,7 @@ fn open_both(alloc: Global, desk: &mut MemoryDesk) -> Result<Drive, Fail>
     Ok(open(alloc, desk, paths, &inputs)?)
 }
 
-// Reads a round and packs it.
+// Reads a round of up to 64 lanes and packs it.
 #[tactic(auto, using(crate::proofs::Bits::bits_kept))]
 fn read_round(
     drive: &mut Drive,
@@ -72,7 +72,9 @@ fn read_round(
     ensures bits { HaveBits (length pairs.old) drive.new }
 {
     let some = drive.read(desk)?;
-    drive.feed(pairs);
+    if drive.lanes() <= 64 {
+        drive.feed(pairs);
+    }
     Ok(some)
 }
 
