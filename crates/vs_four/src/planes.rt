@@ -58,6 +58,7 @@ impl Bits {
     }
 
     /// The vector of the low bits of two planes, where 0 is (0, 0), 1 is (1, 0), z is (0, 1) and x is (1, 1), as value and unknown.
+    #[inline]
     pub fn of_planes(len: u32, value: u64, unknown: u64) -> Bits
         requires some { 1 ≤ len }
         requires at_most_64 { len ≤ 64 }
@@ -71,7 +72,18 @@ impl Bits {
         }
     }
 
+    /// The two planes, value and unknown, as `of_planes` takes them. Past the last bit they are 0.
+    #[inline]
+    pub fn planes(&self) -> (u64, u64)
+        ensures vector { bits_of_planes (length self.now) result.0 result.1 ≡ self.now }
+        ensures value_below { result.0 < 2 ^ length self.now }
+        ensures unknown_below { result.1 < 2 ^ length self.now }
+    {
+        (self.value, self.unknown)
+    }
+
     /// How many bits there are, from 1 to 64.
+    #[inline]
     pub fn len(&self) -> u32
         ensures length { result ≡ length self.now }
         ensures some { 1 ≤ result }
@@ -81,6 +93,7 @@ impl Bits {
     }
 
     /// Bit n, where bit 0 is the least significant one.
+    #[inline]
     pub fn get(&self, n: u32) -> Bit4
         requires { n < length self.now }
         ensures { slice_get self.now n ≡ Some result }
@@ -90,6 +103,7 @@ impl Bits {
 }
 
 /// A word with this many ones at its low end.
+#[inline]
 pub(crate) fn ones(len: u32) -> u64
     requires some { 1 ≤ len }
     requires at_most_64 { len ≤ 64 }
