@@ -15,14 +15,14 @@ use Rattle.vs_plane.specs.Kernels.{lane_bits, FillingComputes}
 use Rattle.vs_plane.specs.Squares.{AreColumns}
 
 -- bit m of a vector, by bit m of its two planes
-get_or-planes : (n v u m : ℕ) → m < n → get_or (bits_of_planes n v u) m X ≡ Planes.decode (bit_at v m) (bit_at u m)
+pub get_or-planes : (n v u m : ℕ) → m < n → get_or (bits_of_planes n v u) m X ≡ Planes.decode (bit_at v m) (bit_at u m)
 unfolding bits_of_planes
 get_or-planes zero v u m h = absurd (let e : ⊥ = omega arith in e)
 get_or-planes (suc n) v u zero h = sym (ap₂ Planes.decode (bit_at_lowest v) (bit_at_lowest u))
 get_or-planes (suc n) v u (suc m) h = get_or-planes n (v / 2) (u / 2) m (omega arith) ∙ sym (ap₂ Planes.decode (bit_at-suc v m) (bit_at-suc u m))
 
 -- the same bit by digits and by truth
-decode_is : (p q : ℕ) → p < 2 → q < 2 → Planes.decode p q ≡ decode (p == 1) (q == 1)
+pub decode_is : (p q : ℕ) → p < 2 → q < 2 → Planes.decode p q ≡ decode (p == 1) (q == 1)
 decode_is zero zero h l = refl
 decode_is zero (suc zero) h l = refl
 decode_is (suc zero) zero h l = refl

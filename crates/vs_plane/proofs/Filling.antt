@@ -12,12 +12,12 @@ use Rattle.vs_plane.specs.Kernels.{lane_bits, AreDifferent, AreApart, KeepsOther
 cases_lt_or : {P : Type 0} (a b : ℕ) → (a < b → P) → (b ≤ a → P) → P
 cases_lt_or a b f g = elim (cases_lt a b) [ inl h ↦ f h | inr h ↦ g h ]
 
-slice_get-set_same : {A : Type 0} → (xs : List A) (n : ℕ) (a : A) → n < length xs → slice_get (set xs n a) n ≡ Some a
+pub slice_get-set_same : {A : Type 0} → (xs : List A) (n : ℕ) (a : A) → n < length xs → slice_get (set xs n a) n ≡ Some a
 slice_get-set_same xs n a h =
     let within : n < length (set xs n a) = omega (arith, length-set xs n a) in
     slice_get-get_or (set xs n a) n a within ∙ ap Some (get_or-set_same xs n a a h)
 
-slice_get-set_other : {A : Type 0} → (xs : List A) (n m : ℕ) (a : A) → n ≢ m → slice_get (set xs n a) m ≡ slice_get xs m
+pub slice_get-set_other : {A : Type 0} → (xs : List A) (n m : ℕ) (a : A) → n ≢ m → slice_get (set xs n a) m ≡ slice_get xs m
 slice_get-set_other [] n m a ne = refl
 slice_get-set_other (x ∷ xs) zero zero a ne = absurd (ne refl)
 slice_get-set_other (x ∷ xs) zero (suc m) a ne = refl

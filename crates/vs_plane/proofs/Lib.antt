@@ -1,4 +1,5 @@
 pub mod WordBits
+pub mod AnyBits
 pub mod Filling
 pub mod Parts
 pub mod RowBits
@@ -6,3 +7,4 @@ pub mod Turns
 pub mod Stores
 pub mod SquareTurns
 pub mod ColumnBits
+pub mod PackedBits

@@ -96,6 +96,28 @@ impl<const K: usize> Lanes for Words<K> {
     fn sixty_four(self, k: u32) -> u64 {
         self.words[k as usize]
     }
+
+    #[inline]
+    fn with_sixty_four(self, k: u32, bits: u64) -> Self {
+        let mut words = self.words;
+        words[k as usize] = bits;
+        Words { words }
+    }
+
+    #[inline]
+    fn any(self) -> bool {
+        let whole = Self::LANES / 64;
+        let mut bits = 0;
+        for k in 0..whole as usize {
+            bits |= self.words[k];
+        }
+        // A word of which some bits are no lanes comes last, if there is one: of more words than a `u32` counts the lanes.
+        let mut any = bits != 0;
+        for i in 64 * whole..Self::LANES {
+            any = any || self.bit(i);
+        }
+        any
+    }
 }
 
 // The word with this bit at place `i`.

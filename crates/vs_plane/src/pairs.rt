@@ -223,8 +223,8 @@ impl<W: Lanes> Pair<W> {
         }
     }
 
-    // The pair with this bit in lane `i`, and the other lanes as they are.
-    fn with_lane(self, i: u32, bit: Bit4) -> Self
+    /// The pair with this bit in lane `i`, and the other lanes as they are.
+    pub fn with_lane(self, i: u32, bit: Bit4) -> Self
         requires { i < W.LANES }
         ensures changed { pair_lane W.lane result i ≡ bit }
         ensures others { (k : ℕ) → k < W.LANES → k ≢ i

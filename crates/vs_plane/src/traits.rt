@@ -1,5 +1,5 @@
 //! Words of lanes, and their operations.
-ghost use Rattle.std.specs.Prelude.{◌≡◌, ℕ, ◌+◌, ◌*◌, ◌<◌, Bool, true, false, not, ◌&&◌, ◌||◌, ◌≢◌, ◌≤◌, ◌==◌};
+ghost use Rattle.std.specs.Prelude.{◌≡◌, ℕ, ◌+◌, ◌*◌, ◌/◌, ◌<◌, Bool, true, false, not, ◌&&◌, ◌||◌, ◌≢◌, ◌≤◌, ◌==◌};
 ghost use Rattle.std.specs.Int.{bit_at};
 ghost use Rattle.vs_plane.specs.Bits.{differ};
 
@@ -56,6 +56,17 @@ pub trait Lanes: Word {
     fn sixty_four(self, k: u32) -> u64
         requires { 64 * k + 64 ≤ Self.LANES }
         ensures { (i : ℕ) → i < 64 → (bit_at result i == 1) ≡ Self.lane self (64 * k + i) };
+
+    /// The word with these bits in the 64 lanes from `64 * k` on, and the other lanes as they are.
+    fn with_sixty_four(self, k: u32, bits: u64) -> Self
+        requires { 64 * k + 64 ≤ Self.LANES }
+        ensures changed { (i : ℕ) → i < 64 → Self.lane result (64 * k + i) ≡ (bit_at bits i == 1) }
+        ensures others { (n : ℕ) → n < Self.LANES → n / 64 ≢ k → Self.lane result n ≡ Self.lane self n };
+
+    /// Whether the bit of some lane is 1.
+    fn any(self) -> bool
+        ensures none { result ≡ false → (i : ℕ) → i < Self.LANES → Self.lane self i ≡ false }
+        ensures some { result ≡ true → (i : ℕ) × (i < Self.LANES) × (Self.lane self i ≡ true) };
 }
 
 /// A word that is one of the eight parts of a wide one. None of its operations shows a bit.

@@ -1,10 +1,12 @@
 //! The vectors of 64 lanes at once.
-ghost use Rattle.std.specs.Prelude.{◌≡◌, ℕ, ◌+◌, ◌*◌, ◌<◌, ◌≤◌, ◌^◌, length, slice_index, All};
+ghost use Rattle.std.specs.Prelude.{◌≡◌, ◌≢◌, ℕ, ◌+◌, ◌*◌, ◌/◌, ◌<◌, ◌≤◌, ◌^◌, length, map, slice_index, All};
 ghost use Rattle.vs_four.specs.Planes.{bits_of_planes};
 ghost use Rattle.vs_plane.specs.Kernels.{lane_bits};
+ghost use Rattle.vs_plane.specs.Lanes.{pair_lane};
 
 use crate::file::PlaneFile;
 use crate::filling_law;
+use crate::pairs::Pair;
 use crate::squares::columns;
 use crate::traits::{Lanes, Word};
 
@@ -39,5 +41,29 @@ impl<W: Lanes> PlaneFile<W> {
         let value = columns(&value);
         let unknown = columns(&unknown);
         Columns { value, unknown }
+    }
+}
+
+impl<W: Lanes> Pair<W> {
+    /// Gives the pairs the bits of these vectors, in the 64 lanes from `64 * k` on: pair n has bit n of each vector then. The other
+    /// lanes stay as they are.
+    pub fn pack(pairs: &mut [Pair<W>], k: u32, vectors: &Columns)
+        requires most { length pairs.old ≤ 64 }
+        requires lanes { 64 * k + 64 ≤ W.LANES }
+        ensures count { length pairs.new ≡ length pairs.old }
+        ensures packed { (i : ℕ) → i < 64 → map (λ p. pair_lane W.lane p (64 * k + i)) pairs.new
+            ≡ bits_of_planes (length pairs.old) (slice_index vectors.now.value i) (slice_index vectors.now.unknown i) }
+        ensures others { (n : ℕ) → n < W.LANES → n / 64 ≢ k
+            → map (λ p. pair_lane W.lane p n) pairs.new ≡ map (λ p. pair_lane W.lane p n) pairs.old }
+    {
+        let value = columns(&vectors.value);
+        let unknown = columns(&vectors.unknown);
+        for n in 0..pairs.len() {
+            let pair = pairs[n];
+            pairs[n] = Pair {
+                value: pair.value.with_sixty_four(k, value[n]),
+                unknown: pair.unknown.with_sixty_four(k, unknown[n]),
+            };
+        }
     }
 }
