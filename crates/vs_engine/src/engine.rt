@@ -1,6 +1,6 @@
 //! The engine.
 
-ghost use Rattle.std.specs.Prelude.{◌≡◌, ℕ, ◌+◌, ◌<◌, ◌≤◌, ◌^◌, length, slice_get, IfOk, Some, true, false, not, if◌then◌else◌};
+ghost use Rattle.std.specs.Prelude.{◌≡◌, ℕ, ◌+◌, ◌*◌, ◌/◌, ◌≢◌, ◌<◌, ◌≤◌, ◌^◌, length, slice_get, IfOk, Some, true, false, not, if◌then◌else◌};
 ghost use Rattle.vs_four.specs.declared.Bit4.{Bit4};
 ghost use Rattle.vs_net.specs.Network.{write_all};
 ghost use Rattle.vs_net.specs.Queue.{Fall, Rise};
@@ -88,6 +88,18 @@ impl<W: Word> Engine<W> {
         differing(&self.file, 4 + span.first, span.length, old)
     }
 
+    /// Copies the planes of a signal's bits, as they are at the end of the last slot.
+    pub fn copy(&self, signal: u32, out: &mut [Pair<W>])
+        requires signal { signal < length self.now.program.signals }
+        requires room { (s : Span) → slice_get self.now.program.signals signal ≡ Some s → length out.old ≡ s.length }
+        ensures count { length out.new ≡ length out.old }
+        ensures planes { (s : Span) (k i : ℕ) → slice_get self.now.program.signals signal ≡ Some s → k < s.length
+            → slot_lane W.lane out.new k i ≡ state W.lane self.now i (s.first + k) }
+    {
+        let span = self.compiled.signals()[signal as usize];
+        copy_planes(&self.file, 4 + span.first, out);
+    }
+
     /// How many steps the next fall takes, and how many each rise.
     pub fn stores(&self) -> (u64, u64)
         ensures fall { result.0 ≡ (if self.now.begun then fall_stores self.now.program else first_stores self.now.program) }
@@ -164,7 +176,7 @@ impl<W: Lanes> Engine<W> {
         read(&self.file, lane, span)
     }
 
-    /// The values of a signal in all lanes, by lane.
+    /// The values of a signal in all lanes, by lane, as they are at the end of the last slot.
     pub fn values(&self, signal: u32, out: &mut [Bits])
         requires signal { signal < length self.now.program.signals }
         requires lanes { length out.old ≡ W.LANES }
@@ -172,9 +184,20 @@ impl<W: Lanes> Engine<W> {
         ensures values { (s : Span) (i : ℕ) → slice_get self.now.program.signals signal ≡ Some s → i < length out.new
             → slice_get out.new i ≡ Some (read (state W.lane self.now i) (span_bits s)) }
     {
-        for lane in 0..W::LANES {
-            out[lane as usize] = self.value(lane, signal);
-        }
+        let span = self.compiled.signals()[signal as usize];
+        read_all(&self.file, span, out);
+    }
+}
+
+/// Copies the planes of the slots from this one on.
+fn copy_planes<W: Word>(file: &PlaneFile<W>, first: u32, out: &mut [Pair<W>])
+    requires inside { first + length out.old ≤ length file.now }
+    requires few { length file.now < 2 ^ 32 }
+    ensures count { length out.new ≡ length out.old }
+    ensures planes { (k i : ℕ) → k < length out.old → slot_lane W.lane out.new k i ≡ slot_lane W.lane file.now (first + k) i }
+{
+    for k in 0..out.len() {
+        out[k] = file.load(first + k as u32);
     }
 }
 
@@ -225,6 +248,59 @@ fn read<W: Lanes>(file: &PlaneFile<W>, lane: u32, span: Span) -> Bits
         bits = join(Bits::of(&[next]), bits);
     }
     bits
+}
+
+/// The bits of a signal in all lanes, by lane.
+fn read_all<W: Lanes>(file: &PlaneFile<W>, span: Span, out: &mut [Bits])
+    requires lanes { length out.old ≡ W.LANES }
+    requires some { 1 ≤ span.length }
+    requires short { span.length ≤ 64 }
+    requires inside { home (span.first + span.length) ≤ length file.now }
+    requires few { length file.now < 2 ^ 32 }
+    ensures count { length out.new ≡ length out.old }
+    ensures values { (i : ℕ) → i < length out.new
+        → slice_get out.new i ≡ Some (read (λ b. slot_lane W.lane file.now (home b) i) (span_bits span)) }
+{
+    let groups = W::LANES / 64;
+    for k in 0..groups {
+        read_group(file, span, k, out);
+    }
+    for lane in 64 * groups..W::LANES {
+        out[lane as usize] = read(file, lane, span);
+    }
+}
+
+/// The bits of a signal in the 64 lanes from `64 * k` on, by lane.
+fn read_group<W: Lanes>(file: &PlaneFile<W>, span: Span, k: u32, out: &mut [Bits])
+    requires lanes { 64 * k + 64 ≤ W.LANES }
+    requires room { length out.old ≡ W.LANES }
+    requires some { 1 ≤ span.length }
+    requires short { span.length ≤ 64 }
+    requires inside { home (span.first + span.length) ≤ length file.now }
+    requires few { length file.now < 2 ^ 32 }
+    ensures count { length out.new ≡ length out.old }
+    ensures values { (i : ℕ) → i < 64
+        → slice_get out.new (64 * k + i) ≡ Some (read (λ b. slot_lane W.lane file.now (home b) (64 * k + i)) (span_bits span)) }
+    ensures others { (n : ℕ) → n / 64 ≢ k → slice_get out.new n ≡ slice_get out.old n }
+{
+    let from = 64 * k as usize;
+    if span.length == 1 {
+        let pair = file.load(4 + span.first);
+        let value = pair.value.sixty_four(k);
+        let unknown = pair.unknown.sixty_four(k);
+        for i in 0..64 {
+            out[from + i] = Bits::of_planes(1, value >> i, unknown >> i);
+        }
+    } else {
+        let mut slots = [0; 64];
+        for n in 0..span.length {
+            slots[n as usize] = 4 + span.first + n;
+        }
+        let columns = file.columns(&slots[..span.length as usize], k);
+        for i in 0..64 {
+            out[from + i] = Bits::of_planes(span.length, columns.value[i], columns.unknown[i]);
+        }
+    }
 }
 
 /// Gives each of these bits its pair.
