@@ -11,7 +11,7 @@ use Rattle.vs_plane.specs.Lanes.{pair_lane}
 use Rattle.vs_stim.specs.Known.{Known}
 use Rattle.vs_stim.specs.Row.{sizes}
 use Rattle.vs_drive.specs.Lanes.{ended, lane_at, AreLanes}
-use Rattle.vs_drive.specs.Fed.{vector_bits, driven, driven_bit, HaveBits, IsPlaced, AreFed}
+use Rattle.vs_drive.specs.Fed.{vector_bits, driven, driven_bit, HaveBits, AreFed}
 
 -- a vector has as many bits as its values together
 length_bits : (vector : List (List Bit4)) → length (vector_bits vector) ≡ sum (sizes vector)
@@ -87,6 +87,12 @@ none_driven n ks i done e = ap (λ k. get_or (driven n k) done X) (get_or_past k
 -- past the lanes each bit is x
 pub past_driven : (ks : List Known) (i number bit : ℕ) → length ks ≤ i → driven_bit (lane_at ks i) number bit ≡ X
 past_driven ks i number bit h = ap (λ k. driven_bit k number bit) (get_or_past ks i ended h)
+
+-- In each lane the input has this many bits, behind this many bits of the inputs before it.
+pub record IsPlaced (number count offset : ℕ) (ks : List Known) : Type 0 where
+  pub input : (i : ℕ) → i < length ks → number < length (lane_at ks i).vector
+  pub bits : (i : ℕ) → i < length ks → length (get_or (lane_at ks i).vector number []) ≡ count
+  pub first : (i : ℕ) → i < length ks → sum (take number (sizes (lane_at ks i).vector)) ≡ offset
 
 -- a bit of an input that was placed, in any lane
 pub fed_bit : (n : ℕ) (ks : List Known) (i number count offset bit : ℕ) → IsPlaced number count offset ks → bit < count

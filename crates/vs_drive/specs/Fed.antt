@@ -21,15 +21,18 @@ driven count k = elim k.live [ true ↦ vector_bits k.vector | false ↦ replica
 abbrev pub driven_bit : Known → ℕ → ℕ → Bit4
 driven_bit k input bit = elim k.live [ true ↦ slice_index_or (slice_index_or k.vector input []) bit X | false ↦ X ]
 
+-- the value of an input that a lane drives, of this many bits
+abbrev pub driven_value : ℕ → Known → ℕ → List Bit4
+driven_value count k input = elim k.live [ true ↦ slice_index_or k.vector input [] | false ↦ replicate count X ]
+
 -- each lane's vector has this many bits
 pub record HaveBits (count : ℕ) (ks : List Known) : Type 0 where
   pub each : (i : ℕ) → i < length ks → sum (sizes (lane_at ks i).vector) ≡ count
 
--- In each lane the input has this many bits, behind this many bits of the inputs before it.
-pub record IsPlaced (number count offset : ℕ) (ks : List Known) : Type 0 where
+-- in each lane the input has this many bits
+pub record IsWide (number count : ℕ) (ks : List Known) : Type 0 where
   pub input : (i : ℕ) → i < length ks → number < length (lane_at ks i).vector
   pub bits : (i : ℕ) → i < length ks → length (slice_index_or (lane_at ks i).vector number []) ≡ count
-  pub first : (i : ℕ) → i < length ks → sum (take number (sizes (lane_at ks i).vector)) ≡ offset
 
 -- the first pairs, this many, have the bits that the lanes drive, where `lane` reads a lane of a word of so many lanes
 pub record AreFed {W : Type 0} (lane : W → ℕ → Bool) (lanes done : ℕ) (ks : List Known) (pairs : List (Pair W)) : Type 0 where

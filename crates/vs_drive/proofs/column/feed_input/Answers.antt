@@ -1,15 +1,13 @@
-use Rattle.std.proofs.Common.{◌≡◌, ℕ, ◌+◌, length, set, sym, ◌∙◌, subst, arith}
-use Rattle.vs_drive.specs.Fed.{HaveBits, AreFed}
-use Rattle.vs_drive.proofs.Feeds.{fed_more, fed_bit}
+use Rattle.std.proofs.Common.{length}
+use Rattle.vs_drive.proofs.Packs.{group_more, one_more}
 use Rattle.vs_drive.proofs.column.feed_input.Goals as goal
 
-pub loop-bit-preserved : goal.loop-bit-preserved
-loop-bit-preserved g c =
-    let ks = c.args.stimuli.now in
-    let pairs = c.loop-bit.pairs in
-    let at = c.args.first + c.loop-bit.bit in
-    let bits : HaveBits (length pairs) ks = subst (λ (n : ℕ). HaveBits n ks) (sym c.loop-bit.auto.pairs) c.requires.bits in
-    let next : at + 1 ≡ c.args.first + (c.loop-bit.bit + 1) = omega arith in
-    subst (λ (n : ℕ). AreFed g.W.Word.lane g.W.Word.LANES n ks (set pairs at c.column.result)) next
-    (fed_more g.W.Word.lane g.W.Word.LANES at ks pairs c.column.result bits (omega (arith, c.requires.room)) (λ i h.
-    c.column.ensures i h ∙ sym (fed_bit (length pairs) ks i c.args.input c.args.count c.args.first c.loop-bit.bit c.requires.placed c.loop-bit-test.true)) c.loop-bit.invariant)
+pub loop-k-preserved : goal.loop-k-preserved
+loop-k-preserved g c =
+    group_more g.W.Word.lane g.W.Word.LANES c.loop-k.k c.args.stimuli.now c.args.input (length c.args.pairs.now) c.columns_of.result.value c.columns_of.result.unknown c.loop-k.pairs c.pack.new.pairs
+    c.requires.input c.requires.most record { each = c.columns_of.ensures } c.pack.ensures.count c.pack.ensures.packed c.pack.ensures.others c.loop-k.invariant
+
+pub loop-lane-preserved : goal.loop-lane-preserved
+loop-lane-preserved g c =
+    one_more g.W.Word.lane g.W.Word.LANES c.loop-lane.lane c.args.stimuli.now c.args.input (length c.args.pairs.now) c.loop-lane.pairs c.feed_lane.new.pairs
+    c.feed_lane.ensures.count c.feed_lane.ensures.packed c.feed_lane.ensures.others c.loop-lane.invariant

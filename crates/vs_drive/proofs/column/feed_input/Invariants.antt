@@ -1,6 +1,9 @@
-use Rattle.std.proofs.Common.{◌+◌}
-use Rattle.vs_drive.specs.Fed.{AreFed}
+use Rattle.std.proofs.Common.{◌*◌, length}
+use Rattle.vs_drive.proofs.Packs.{ArePacked}
 use Rattle.vs_drive.proofs.column.feed_input.Given as goal
 
-abbrev pub invariant-loop-bit : goal.invariant-loop-bit
-invariant-loop-bit g l = AreFed g.W.Word.lane g.W.Word.LANES (l.first + l.bit) l.stimuli l.pairs
+abbrev pub invariant-loop-k : goal.invariant-loop-k
+invariant-loop-k g l = ArePacked g.W.Word.lane g.W.Word.LANES (64 * l.k) l.stimuli l.input (length l.fn.pairs) l.pairs
+
+abbrev pub invariant-loop-lane : goal.invariant-loop-lane
+invariant-loop-lane g l = ArePacked g.W.Word.lane g.W.Word.LANES l.lane l.stimuli l.input (length l.fn.pairs) l.pairs
