@@ -1,10 +1,11 @@
 pub mod Appending
 pub mod Arenas
+pub mod Bytes
+pub mod Digits
 pub mod Grouping
-pub mod Moving
+pub mod Known
+pub mod LineLemmas
 pub mod NumeralLemmas
-pub mod Numbers
 pub mod Outline
-pub mod Taken
 pub mod Unchanged
 pub mod ValueLemmas

@@ -6,8 +6,8 @@ use Rattle.std.proofs.lemmas.Bool.{ltb-true, lt-ltb, eq-eqb, ne_eqb}
 use Rattle.std.proofs.lemmas.Option.{slice_get_within}
 use Rattle.vs_design.specs.Expressions.{Signal}
 use Rattle.vs_design.specs.Designs.{Scope, Design}
-use Rattle.vs_vcd.specs.declared.head.Step.{Step}
-use Rattle.vs_vcd.specs.declared.head.Step.TheVariants.{Scopes, Close}
+use Rattle.vs_vcd.specs.declared.declarations.Step.{Step}
+use Rattle.vs_vcd.specs.declared.declarations.Step.TheVariants.{Scopes, Close}
 use Rattle.vs_vcd.specs.Groups.{is_in, first_in, AreLinkedFrom}
 use Rattle.vs_vcd.specs.Scopes.{variable_line, variables, scope_line, upscope_line, stands_in, scopes_in}
 use Rattle.vs_vcd.specs.Steps.{scope_key, scope_keys, signal_keys, scopes_from, step_text, steps_text, link_steps, IsStep, AreSteps}

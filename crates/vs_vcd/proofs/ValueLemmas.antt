@@ -1,15 +1,16 @@
 -- Digits of a value, from the most significant one on.
-use Rattle.std.proofs.Common.{◌≡◌, ℕ, zero, suc, ◌<◌, ◌≤◌, true, false, [], ◌∷◌, ◌++◌, length, take, refl, sym, ap, ◌∙◌, arith}
+use Rattle.std.proofs.Common.{◌≡◌, ℕ, zero, suc, ◌/◌, ◌%◌, ◌<◌, ◌≤◌, true, false, [], ◌∷◌, ◌++◌, length, take, refl, sym, ap, ◌∙◌, arith}
 use Rattle.std.specs.Prelude.{reverse, slice_get, Some}
 use Rattle.std.proofs.Math.Seq.{take-suc}
 use Rattle.std.proofs.lemmas.Option.{get_or_from_slice_get}
 use Rattle.std.proofs.lemmas.List.{reverse-append}
 use Rattle.vs_four.specs.declared.Bit4.{Bit4}
 use Rattle.vs_four.specs.Logic.{BitList}
+use Rattle.vs_four.specs.Planes.{decode, bits_of_planes}
 use Rattle.vs_vcd.specs.Values.{is_redundant, shortest}
 
 -- the bit before the others
-pub reverse-take_more : (bits : BitList) (m n : ℕ) (b : Bit4) → m ≡ suc n → n < length bits → slice_get bits n ≡ Some b → reverse (take m bits) ≡ b ∷ reverse (take n bits)
+reverse-take_more : (bits : BitList) (m n : ℕ) (b : Bit4) → m ≡ suc n → n < length bits → slice_get bits n ≡ Some b → reverse (take m bits) ≡ b ∷ reverse (take n bits)
 reverse-take_more bits m n b s h e =
     ap (λ (k : ℕ). reverse (take k bits)) s
     ∙ ap (λ (bs : BitList). reverse bs) (take-suc bits n b h ∙ ap (λ (x : Bit4). take n bits ++ x ∷ []) (get_or_from_slice_get bits n b b e))
@@ -46,3 +47,10 @@ shortest-one bits zero h = refl
 shortest-one [] (suc zero) h = refl
 shortest-one (b ∷ bits) (suc zero) h = refl
 shortest-one bits (suc (suc n)) h = absurd (omega arith)
+
+-- the planes of the least significant bits
+pub planes-take : (m n v u : ℕ) → m ≤ n → take m (bits_of_planes n v u) ≡ bits_of_planes m v u
+unfolding bits_of_planes
+planes-take zero n v u h = refl
+planes-take (suc m) zero v u h = absurd (omega arith)
+planes-take (suc m) (suc n) v u h = ap (λ bs. decode (v % 2) (u % 2) ∷ bs) (planes-take m n (v / 2) (u / 2) (omega arith))

@@ -1,4 +1,4 @@
--- What contracts see of a `Vcd`.
+-- What is known of the dump of a run, as it is handed out slot by slot.
 use Rattle.std.specs.Prelude.{ℕ, List}
 use Rattle.vs_four.specs.Logic.{BitList}
 

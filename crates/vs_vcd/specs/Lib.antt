@@ -3,9 +3,6 @@ pub mod Values
 pub mod Scopes
 pub mod Texts
 pub mod Dump
-pub mod Moves
-pub mod Slot
-pub mod Kept
 pub mod Groups
 pub mod Steps
 pub mod ExampleTexts

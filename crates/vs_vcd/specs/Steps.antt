@@ -2,8 +2,8 @@
 use Rattle.std.specs.Prelude.{◌≡◌, ℕ, suc, true, false, List, [], ◌∷◌, ◌++◌, drop, map, nat_lt, slice_get, Option, None, Some}
 use Rattle.vs_design.specs.Expressions.{Signal}
 use Rattle.vs_design.specs.Designs.{Scope, Design}
-use Rattle.vs_vcd.specs.declared.head.Step.{Step}
-use Rattle.vs_vcd.specs.declared.head.Step.TheVariants.{Scopes, Close}
+use Rattle.vs_vcd.specs.declared.declarations.Step.{Step}
+use Rattle.vs_vcd.specs.declared.declarations.Step.TheVariants.{Scopes, Close}
 use Rattle.vs_vcd.specs.Scopes.{upscope_line, scopes_in}
 
 -- group 0 is the top's, and group n + 1 that of the scopes in scope n; a scope stands in an earlier one

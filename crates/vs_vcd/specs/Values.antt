@@ -39,3 +39,7 @@ value_text (a ∷ b ∷ bits) = codes "b" ++ map digit_code (shortest (reverse (
 -- the value of signal n
 unfoldable pub value_line : ℕ → BitList → List ℕ
 value_line n bits = line (value_text bits ++ identifier n)
+
+-- what ends the line of a value of more bits than one; of one bit it ends it without the blank
+unfoldable pub tail_text : ℕ → List ℕ
+tail_text n = codes " " ++ line (identifier n)

@@ -1,13 +1,19 @@
 //! Value change dumps: the text of a waveform (IEEE 1364-2005, clause 18).
 #![tactic(auto)]
 
-mod dump;
+mod declarations;
+mod eights;
+mod fours;
 mod groups;
-mod head;
 mod laws;
 mod line;
-mod moves;
-mod slot;
+mod shortest;
+mod tail;
+mod time;
+mod values;
 
-pub use dump::Vcd;
+pub use declarations::head;
 pub use laws::{parts_law, texts_law, unchanged_law};
+pub use tail::Tail;
+pub use time::put_time;
+pub use values::put_value;

@@ -1,0 +1,16 @@
+use Rattle.std.proofs.Common.{◌≡◌, ◌++◌, length}
+use Rattle.vs_flat.specs.DesignOf.{design_of}
+use Rattle.vs_vcd.specs.Scopes.{variables}
+use Rattle.vs_vcd.specs.Steps.{signal_keys}
+use Rattle.vs_vcd.proofs.Grouping.{numbers_left, IsLink}
+use Rattle.vs_vcd.proofs.Outline.{variables_at}
+use Rattle.vs_vcd.proofs.declarations.push_variables.Given as goal
+
+abbrev pub invariant-loop-link : goal.invariant-loop-link
+invariant-loop-link l = record {
+  text : l.text.items ++ variables_at (design_of l.flat).signals l.scope l.link ≡ l.initial.text.items ++ variables (design_of l.flat).signals l.scope;
+  linked : IsLink (signal_keys (design_of l.flat).signals) l.scope l.link;
+}
+
+abbrev pub decreases-loop-link : goal.decreases-loop-link
+decreases-loop-link l = numbers_left (length (design_of l.flat).signals) l.link

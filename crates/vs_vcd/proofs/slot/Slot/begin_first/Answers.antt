@@ -1,9 +1,0 @@
-use Rattle.std.proofs.Common.{ℕ, List, length, sym, subst, arith}
-use Rattle.std.specs.Prelude.{All, ◌<◌}
-use Rattle.vs_vcd.proofs.Numbers.{all_counted}
-use Rattle.vs_vcd.proofs.slot.Slot.begin_first.Goals as goal
-
-pub returns-clause-below : goal.returns-clause-below
-returns-clause-below c =
-    let count = length c.args.now.now in
-    subst (λ (ns : List ℕ). All (λ n. n < count) ns) (sym c.list_all.ensures.items) (all_counted count 0 count (omega arith))
