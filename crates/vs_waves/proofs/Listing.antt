@@ -1,0 +1,73 @@
+-- The lines of changes, one after the other.
+use Rattle.std.proofs.Common.{◌≡◌, ℕ, zero, suc, ◌+◌, ◌*◌, ◌<◌, ◌≤◌, Bool, List, [], ◌∷◌, ◌++◌, append-nil, length, get_or, slice_get, Some, refl, sym, ap, ap₂, ◌∙◌, subst, arith}
+use Rattle.std.proofs.Math.Nat.{mul-le-mul_right, suc-mul}
+use Rattle.std.proofs.lemmas.Grind.{flat_map-append}
+use Rattle.std.proofs.lemmas.List.{length-append}
+use Rattle.std.proofs.lemmas.Option.{unwrap_or-slice_get}
+use Rattle.std.specs.List.{flat_map}
+use Rattle.std.specs.Prelude.{unwrap_or, Option, None}
+use Rattle.vs_four.specs.Logic.{BitList}
+use Rattle.vs_design.specs.Values.{count_from}
+use Rattle.vs_engine.proofs.Spans.{count_from-more}
+use Rattle.vs_waves.specs.declared.changes.Change.{Change}
+use Rattle.vs_waves.specs.declared.changes.Changes.{Changes}
+use Rattle.vs_waves.specs.Changes.{change_line, changes_text, line_at}
+
+-- where there is no change there is no line
+pub no_lines : {W : Type 0} (lane : W → ℕ → Bool) (lanes : ℕ) (c : Changes W) (i : ℕ) → c.changed.items ≡ [] → changes_text lane lanes c i ≡ []
+unfolding changes_text
+no_lines lane lanes c i none = ap (λ (l : List (Change _)). flat_map (line_at lane lanes c i) (count_from 0 (length l))) none
+
+-- the place of a value
+pub place_below : (m n lanes i : ℕ) → m < n → i < lanes → m * lanes + i < n * lanes
+place_below m n lanes i h l =
+    let more : suc m * lanes ≤ n * lanes = mul-le-mul_right lanes (let e : suc m ≤ n = omega arith in e) in
+    omega (arith, suc-mul m lanes)
+
+same_lines : (f g : ℕ → List ℕ) (first n : ℕ) → ((k : ℕ) → k < n → f (first + k) ≡ g (first + k)) → flat_map f (count_from first n) ≡ flat_map g (count_from first n)
+same_lines f g first zero same = refl
+same_lines f g first (suc n) same =
+    let here : first + 0 ≡ first = omega arith in
+    ap₂ (λ (xs ys : List ℕ). xs ++ ys)
+    (subst (λ (k : ℕ). f k ≡ g k) here (same 0 (omega arith)))
+    (same_lines f g (suc first) n (λ k h. let e : first + suc k ≡ suc first + k = omega arith in subst (λ (j : ℕ). f j ≡ g j) e (same (suc k) (omega arith))))
+
+pub slice_get-before : {A : Type 0} (xs ys : List A) (n : ℕ) → n < length xs → slice_get (xs ++ ys) n ≡ slice_get xs n
+slice_get-before [] ys n h = absurd (omega arith)
+slice_get-before (x ∷ xs) ys zero h = refl
+slice_get-before (x ∷ xs) ys (suc n) h = slice_get-before xs ys n (omega arith)
+
+pub slice_get-last : {A : Type 0} (xs : List A) (y : A) → slice_get (xs ++ y ∷ []) (length xs) ≡ Some y
+slice_get-last [] y = refl
+slice_get-last (x ∷ xs) y = slice_get-last xs y
+
+-- one change more, behind the values of the others
+pub one_more : {W : Type 0} (lane : W → ℕ → Bool) (lanes i : ℕ) (old new : Changes W) (change : Change W) (value : BitList) → i < lanes
+    → new.changed.items ≡ old.changed.items ++ change ∷ []
+    → ((n : ℕ) → n < length old.changed.items * lanes → slice_get new.values.items n ≡ slice_get old.values.items n)
+    → slice_get new.values.items (length old.changed.items * lanes + i) ≡ Some value
+    → changes_text lane lanes new i ≡ changes_text lane lanes old i ++ change_line lane i value change
+unfolding changes_text
+one_more lane lanes i old new change value in_lanes added before is =
+    let n : ℕ = length old.changed.items in
+    let f : ℕ → List ℕ = line_at lane lanes old i in
+    let g : ℕ → List ℕ = line_at lane lanes new i in
+    let long : length new.changed.items ≡ n + 1 = ap length added ∙ length-append old.changed.items (change ∷ []) in
+    let others : (k : ℕ) → k < n → g (0 + k) ≡ f (0 + k) = λ k h.
+    let e : 0 + k ≡ k = omega arith in
+    subst (λ (m : ℕ). g m ≡ f m) (sym e)
+    (ap₂ (λ (x : Option (Change _)) (v : BitList). elim x [ None ↦ [] | Some it ↦ change_line lane i v it ])
+    (ap (λ (l : List (Change _)). slice_get l k) added ∙ slice_get-before old.changed.items (change ∷ []) k h)
+    (value_is (k * lanes + i) (before (k * lanes + i) (place_below k n lanes i h in_lanes)))) in
+    let last : g n ≡ change_line lane i value change =
+    ap₂ (λ (x : Option (Change _)) (v : BitList). elim x [ None ↦ [] | Some it ↦ change_line lane i v it ])
+    (ap (λ (l : List (Change _)). slice_get l n) added ∙ slice_get-last old.changed.items change)
+    (sym (unwrap_or-slice_get new.values.items (n * lanes + i) []) ∙ ap (λ (x : Option BitList). unwrap_or x []) is) in
+    ap (λ (k : ℕ). flat_map g (count_from 0 k)) long
+    ∙ ap (flat_map g) (count_from-more 0 n)
+    ∙ flat_map-append g (count_from 0 n) ((0 + n) ∷ [])
+    ∙ ap₂ (λ (xs ys : List ℕ). xs ++ ys) (same_lines g f 0 n others)
+    (append-nil (g (0 + n)) ∙ ap g (let e : 0 + n ≡ n = omega arith in e) ∙ last)
+  where
+    value_is : (k : ℕ) → slice_get new.values.items k ≡ slice_get old.values.items k → get_or new.values.items k [] ≡ get_or old.values.items k []
+    value_is k e = sym (unwrap_or-slice_get new.values.items k []) ∙ ap (λ (x : Option BitList). unwrap_or x []) e ∙ unwrap_or-slice_get old.values.items k []

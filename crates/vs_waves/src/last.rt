@@ -1,0 +1,108 @@
+//! The planes of all signals, as they were at the end of a slot.
+
+ghost use Rattle.std.specs.Prelude.{◌≡◌, ℕ, ◌<◌, ◌≤◌, ◌^◌, ◌+◌, ◌||◌, length, map, slice_get, Some, true, false, IfOk, if◌then◌else◌};
+ghost use Rattle.vs_design.specs.Expressions.{range_or_one, signal_length};
+ghost use Rattle.vs_design.specs.Values.{count_from};
+ghost use Rattle.vs_engine.specs.Lanes.{differ_below, state};
+ghost use Rattle.vs_flat.specs.DesignOf.{design_of};
+ghost use Rattle.vs_plane.specs.Lanes.{slot_lane};
+ghost use Rattle.vs_program.specs.declared.compiled.Span.{Span};
+ghost use Rattle.vs_vcd.specs.Texts.{changed_from, value_lines};
+ghost use Rattle.vs_waves.specs.Changes.{changes_text, AreOf};
+ghost use Rattle.vs_waves.specs.Last.{last_values};
+ghost use Rattle.vs_waves.specs.Rounds.{lane_values};
+
+use crate::changes::Changes;
+use std::alloc::{AllocError, Global};
+use std::marker::Model;
+use vs_engine::Engine;
+use vs_flat::Flat;
+use vs_four::{Bit4, Range};
+use vs_plane::{Lanes, Pair, Word};
+use vs_program::Span;
+
+/// The planes of all signals' bits, one signal behind the other, as they were at the end of a slot.
+#[derive(Drop)]
+pub(crate) struct Last<W: Word> {
+    spans: Vec<Span>,
+    planes: Vec<Pair<W>>,
+}
+
+// Clauses see the planes, and the bits of each signal.
+impl<W: Word> Model for Last<W> {
+    ghost use Rattle.std.specs.Prelude.{length};
+    ghost use Rattle.vs_waves.specs.Last.{LastPlanes, AreApart};
+
+    ghost Value = { LastPlanes W };
+
+    ghost view = { λ l. record { spans = l.spans.items; planes = l.planes.items } };
+
+    ghost invariant = { λ l. AreApart l.spans.items (length l.planes.items) };
+}
+
+impl<W: Lanes> Last<W> {
+    /// The planes of a design's signals. Each bit is x in every lane.
+    pub(crate) fn new(alloc: Global, flat: &Flat) -> Result<Last<W>, AllocError>
+        ensures { IfOk result (λ last. map (λ (s : Span). s.length) last.spans ≡ map signal_length (design_of flat.now).signals) }
+    {
+        let mut spans = Vec::with_capacity(alloc, flat.signal_count() as usize)?;
+        let mut first = 0;
+        for n in 0..flat.signal_count() {
+            let length = length_of(flat.signal(n).range);
+            spans.push_reserved(Span { first, length });
+            first += length;
+        }
+        let planes = vec![in alloc; Pair::of_bit(Bit4::X); first as usize]?;
+        Ok(Last { spans, planes })
+    }
+
+    /// Takes over the planes that the engine holds. The changes are then those of the signals, in the lanes in which their values
+    /// weren't the same before, or all of them, if so told.
+    pub(crate) fn take_over(&mut self, engine: &Engine<W>, all: bool, changes: &mut Changes<W>)
+        requires lengths { map (λ (s : Span). s.length) engine.now.program.signals ≡ map (λ (s : Span). s.length) self.old.spans }
+        requires room { AreOf W.LANES (length self.old.spans) changes.old }
+        ensures spans { self.new.spans ≡ self.old.spans }
+        ensures values { (i : ℕ) → i < W.LANES → last_values W.lane self.new i ≡ lane_values W.lane engine.now i }
+        ensures text { (i : ℕ) → i < W.LANES → changes_text W.lane W.LANES changes.new i ≡ value_lines (lane_values W.lane engine.now i)
+            (if all then count_from 0 (length self.old.spans) else changed_from 0 (last_values W.lane self.old i) (lane_values W.lane engine.now i)) }
+        ensures room { AreOf W.LANES (length self.old.spans) changes.new }
+    {
+        changes.clear();
+        for n in 0..self.spans.len() {
+            let span = self.spans[n];
+            let from = span.first as usize;
+            let to = from + span.length as usize;
+            let planes = &mut self.planes[from..to];
+            let lanes = lanes_to_write(engine, n as u32, planes, all);
+            if lanes.any() {
+                engine.copy(n as u32, planes);
+                changes.add(engine, n as u32, lanes);
+            }
+        }
+    }
+}
+
+/// The lanes in which a signal is to be written: all, if so told, or those in which these planes aren't those that the engine holds.
+fn lanes_to_write<W: Lanes>(engine: &Engine<W>, signal: u32, old: &[Pair<W>], all: bool) -> W
+    requires signal { signal < length engine.now.program.signals }
+    requires old { (s : Span) → slice_get engine.now.program.signals signal ≡ Some s → length old.now ≡ s.length }
+    ensures { (s : Span) (i : ℕ) → slice_get engine.now.program.signals signal ≡ Some s → i < W.LANES → W.lane result i
+        ≡ (all || differ_below (λ k. slot_lane W.lane old.now k i) (λ k. state W.lane engine.now i (s.first + k)) s.length) }
+{
+    if all {
+        W::all()
+    } else {
+        engine.changed(signal, old)
+    }
+}
+
+/// How many bits a signal has (IEEE 1364-2005, 3.3).
+fn length_of(range: Option<Range>) -> u32
+    requires { range_or_one range ≤ 2 ^ 20 }
+    ensures { result ≡ range_or_one range }
+{
+    match range {
+        None => 1,
+        Some(range) => range.left.abs_diff(range.right) + 1,
+    }
+}

@@ -1,0 +1,204 @@
+//! A slot's text, lane by lane.
+
+ghost use Rattle.std.specs.Prelude.{◌≡◌, ℕ, ◌<◌, ◌≤◌, ◌^◌, ◌++◌, length, map, take, false, IsTrue, IfOk, OnOk, OnErr};
+ghost use Rattle.vs_desk.specs.Desk.{Fails, IsWritable, PutsPart};
+ghost use Rattle.vs_program.specs.declared.compiled.Span.{Span};
+ghost use Rattle.vs_vcd.specs.Texts.{first_text, slot_text};
+ghost use Rattle.vs_waves.specs.Changes.{AreOf, changes_text, line_at};
+ghost use Rattle.vs_waves.specs.Last.{last_values};
+ghost use Rattle.vs_waves.specs.Puts.{PutsFront};
+ghost use Rattle.vs_waves.specs.Rounds.{lane_values};
+ghost use Rattle.vs_waves.specs.Slots.{AreTails, IsSlot, closing, slot_lines};
+
+use crate::changes::Changes;
+use crate::last::Last;
+use crate::putting::{make_room, put_text};
+use std::alloc::{AllocError, Global};
+use vs_desk::{Desk, Failed, put_law};
+use vs_engine::Engine;
+use vs_plane::{Lanes, Word};
+use vs_vcd::{Tail, put_time, put_value};
+
+/// What opens the first slot behind the line of its time (IEEE 1364-2005, 18.2.3.9), and what closes it.
+const DUMP: &[u8] = b"$dumpvars\n";
+
+const END: &[u8] = b"$end\n";
+
+/// The text of a slot for all lanes: the lines that open it, and what changed.
+#[derive(Drop)]
+pub(crate) struct Slot<W: Word> {
+    opening: [u8; 32],
+    opened: usize,
+    is_first: bool,
+    changes: Changes<W>,
+}
+
+impl<W: Lanes> Slot<W> {
+    /// A slot without changes, with room for so many signals.
+    pub(crate) fn new(alloc: Global, signals: usize) -> Result<Slot<W>, AllocError>
+        ensures { IfOk result (IsSlot W.LANES signals) }
+    {
+        Ok(Slot {
+            opening: [0; 32],
+            opened: 0,
+            is_first: false,
+            changes: Changes::new(alloc, signals)?,
+        })
+    }
+
+    /// Whether it is the first slot.
+    pub(crate) fn is_first(&self) -> bool
+        ensures { result ≡ self.now.is_first }
+    {
+        self.is_first
+    }
+
+    /// Makes it the first slot: all values that the engine holds, which are the last ones then.
+    pub(crate) fn begin(&mut self, engine: &Engine<W>, last: &mut Last<W>)
+        requires lengths { map (λ (s : Span). s.length) engine.now.program.signals ≡ map (λ (s : Span). s.length) last.old.spans }
+        requires slot { IsSlot W.LANES (length last.old.spans) self.old }
+        ensures text { (i : ℕ) → i < W.LANES → slot_lines W.lane W.LANES self.new i ≡ first_text (lane_values W.lane engine.now i) }
+        ensures first { IsTrue self.new.is_first }
+        ensures spans { last.new.spans ≡ last.old.spans }
+        ensures values { (i : ℕ) → i < W.LANES → last_values W.lane last.new i ≡ lane_values W.lane engine.now i }
+        ensures slot { IsSlot W.LANES (length last.old.spans) self.new }
+    {
+        let time = put_time(&mut self.opening, 0, 0);
+        self.opened = time + DUMP.len();
+        self.opening[time..self.opened].copy_from_slice(DUMP);
+        self.is_first = true;
+        last.take_over(engine, true, &mut self.changes);
+    }
+
+    /// Makes it a later slot, at this time: the values that the engine holds where they aren't the last ones, which they are then.
+    pub(crate) fn go_on(&mut self, time: u64, engine: &Engine<W>, last: &mut Last<W>)
+        requires lengths { map (λ (s : Span). s.length) engine.now.program.signals ≡ map (λ (s : Span). s.length) last.old.spans }
+        requires slot { IsSlot W.LANES (length last.old.spans) self.old }
+        ensures text { (i : ℕ) → i < W.LANES → slot_lines W.lane W.LANES self.new i ≡ slot_text time (last_values W.lane last.old i) (lane_values W.lane engine.now i) }
+        ensures first { self.new.is_first ≡ false }
+        ensures spans { last.new.spans ≡ last.old.spans }
+        ensures values { (i : ℕ) → i < W.LANES → last_values W.lane last.new i ≡ lane_values W.lane engine.now i }
+        ensures slot { IsSlot W.LANES (length last.old.spans) self.new }
+    {
+        self.opened = put_time(&mut self.opening, 0, time);
+        self.is_first = false;
+        last.take_over(engine, false, &mut self.changes);
+    }
+
+    /// Moves the text of a lane behind the first bytes of the block, so many, and puts the block where it would get too full. Answers
+    /// how many bytes stand in it then.
+    pub(crate) fn put<D: Desk>(
+        &self,
+        lane: u32,
+        tails: &[Tail],
+        block: &mut [u8],
+        filled: usize,
+        desk: &mut D,
+        place: u32,
+    ) -> Result<usize, Failed>
+        requires lane { lane < W.LANES }
+        requires tails { AreTails tails.now }
+        requires slot { IsSlot W.LANES (length tails.now) self.now }
+        requires writable { IsWritable (D.register desk.old) place }
+        requires block { 80 ≤ length block.old }
+        requires filled { filled ≤ length block.old }
+        ensures filled { IfOk result (λ n. n ≤ length block.new) }
+        ensures long { length block.new ≡ length block.old }
+        ensures same { OnOk result (D.register desk.new ≡ D.register desk.old) }
+        ensures bytes { IsTrue D.tells → IfOk result (λ n. PutsFront (D.register desk.old) (D.contents desk.old) (D.contents desk.new)
+            place (take filled block.old ++ slot_lines W.lane W.LANES self.now lane) (take n block.new)) }
+        ensures failed { OnErr result
+            (Fails (D.register desk.old) (D.register desk.new) place (D.register desk.old).asked) }
+        ensures bytes_part { IsTrue D.tells → OnErr result (PutsPart (D.register desk.old)
+            (D.contents desk.old) (D.contents desk.new) place (take filled block.old ++ slot_lines W.lane W.LANES self.now lane)) }
+    {
+        put_law();
+        let opening = &self.opening;
+        let opened = put_text(&opening[..self.opened], block, filled, desk, place)?;
+        let changed = put_changes(&self.changes, lane, tails, block, opened, desk, place)?;
+        let closed = put_text(closing(self.is_first), block, changed, desk, place)?;
+        Ok(closed)
+    }
+}
+
+/// What closes a slot.
+fn closing(is_first: bool) -> &'static [u8]
+    ensures { result.now ≡ closing is_first }
+{
+    if is_first { END } else { b"" }
+}
+
+/// Moves the lines of the changes in a lane behind the first bytes of the block, so many, and puts the block each time that there
+/// might be no room for the next line. Answers how many bytes stand in it then.
+fn put_changes<W: Lanes, D: Desk>(
+    changes: &Changes<W>,
+    lane: u32,
+    tails: &[Tail],
+    block: &mut [u8],
+    filled: usize,
+    desk: &mut D,
+    place: u32,
+) -> Result<usize, Failed>
+    requires lane { lane < W.LANES }
+    requires tails { AreTails tails.now }
+    requires changes { AreOf W.LANES (length tails.now) changes.now }
+    requires writable { IsWritable (D.register desk.old) place }
+    requires block { 80 ≤ length block.old }
+    requires filled { filled ≤ length block.old }
+    ensures filled { IfOk result (λ n. n ≤ length block.new) }
+    ensures long { length block.new ≡ length block.old }
+    ensures same { OnOk result (D.register desk.new ≡ D.register desk.old) }
+    ensures bytes { IsTrue D.tells → IfOk result (λ n. PutsFront (D.register desk.old) (D.contents desk.old) (D.contents desk.new)
+        place (take filled block.old ++ changes_text W.lane W.LANES changes.now lane) (take n block.new)) }
+    ensures failed { OnErr result
+        (Fails (D.register desk.old) (D.register desk.new) place (D.register desk.old).asked) }
+    ensures bytes_part { IsTrue D.tells → OnErr result (PutsPart (D.register desk.old)
+        (D.contents desk.old) (D.contents desk.new) place (take filled block.old ++ changes_text W.lane W.LANES changes.now lane)) }
+{
+    put_law();
+    let mut filled = filled;
+    for n in 0..changes.len() {
+        filled = put_change(changes, n, lane, tails, block, filled, desk, place)?;
+    }
+    Ok(filled)
+}
+
+/// Moves the line of the n-th change, if it changed in the lane, behind the first bytes of the block, so many, and puts the block before
+/// where there might be no room for the line. Answers how many bytes stand in it then.
+#[inline]
+fn put_change<W: Lanes, D: Desk>(
+    changes: &Changes<W>,
+    n: usize,
+    lane: u32,
+    tails: &[Tail],
+    block: &mut [u8],
+    filled: usize,
+    desk: &mut D,
+    place: u32,
+) -> Result<usize, Failed>
+    requires change { n < length changes.now.changed.items }
+    requires lane { lane < W.LANES }
+    requires tails { AreTails tails.now }
+    requires changes { AreOf W.LANES (length tails.now) changes.now }
+    requires writable { IsWritable (D.register desk.old) place }
+    requires block { 80 ≤ length block.old }
+    requires filled { filled ≤ length block.old }
+    ensures filled { IfOk result (λ n. n ≤ length block.new) }
+    ensures long { length block.new ≡ length block.old }
+    ensures same { OnOk result (D.register desk.new ≡ D.register desk.old) }
+    ensures bytes { IsTrue D.tells → IfOk result (λ end. PutsFront (D.register desk.old) (D.contents desk.old) (D.contents desk.new)
+        place (take filled block.old ++ line_at W.lane W.LANES changes.now lane n) (take end block.new)) }
+    ensures failed { OnErr result
+        (Fails (D.register desk.old) (D.register desk.new) place (D.register desk.old).asked) }
+    ensures bytes_part { IsTrue D.tells → OnErr result (PutsPart (D.register desk.old)
+        (D.contents desk.old) (D.contents desk.new) place (take filled block.old)) }
+{
+    put_law();
+    let change = changes.at(n);
+    if !change.lanes.bit(lane) {
+        return Ok(filled);
+    }
+    let at = make_room(block, filled, desk, place)?;
+    let value = changes.value(n, lane);
+    Ok(put_value(block, at, value, &tails[change.signal as usize]))
+}
