@@ -29,9 +29,9 @@ use Rattle.vs_rounds.specs.Lanes.{Run, reading_of, network, Simulation, wave_at,
 use Rattle.vs_rounds.specs.Ready.{AreAlike, IsReady, IsWaveReady, IsNoted, IsWaveNoted, Settles, signal_values}
 use Rattle.vs_rounds.specs.Stops.{IsWriteStop}
 use Rattle.vs_rounds.proofs.Readings.{read_on}
-use Rattle.vs_rounds.proofs.Waves.{wave_goes_on, wave_ends}
+use Rattle.vs_rounds.proofs.Waves.{wave_goes_on, noted_ends}
 use Rattle.vs_rounds.proofs.Rereads.{unrefused_read}
-use Rattle.vs_rounds.proofs.Settled.{at-map, values_are, in_time, lengths_of_values, length-map}
+use Rattle.vs_rounds.proofs.Settled.{at-map, values_are, in_time, lengths_of_values}
 use Rattle.vs_rounds.proofs.Limited.{has_vector}
 
 -- the values of the signals of a compiled design
@@ -59,7 +59,7 @@ lane_done : (run : Run) (r : Reading) (k : ℕ) (w : Wave) (now mid next : State
     → let noted = begun k live (values_of run.design mid) w in
     IsWaveAt run r (suc k) (after_put live (values_of run.design next) noted) next (text ++ round_text k live (values_of run.design next) noted)
 lane_done run r k w now mid next true v rest text some h read falls rises = wave_goes_on run r k w now mid next v rest text h read (falls refl) (rises refl)
-lane_done run r k w now mid next false v rest text some h read falls rises = wave_ends run r k w now next v rest text (values_of run.design next) some h read
+lane_done run r k w now mid next false v rest text some h read falls rises = noted_ends run r k w now next v rest text (values_of run.design mid) (values_of run.design next) some h read
 
 -- What is known of a round before its puts.
 pub record IsRun {W : Type 0} (lane : W → ℕ → Bool) (run : Run) (k : ℕ) (old m : Simulation W) (c : Contents) : Type 0 where
@@ -134,31 +134,26 @@ put_ready lane k m live few h lives i l w is_live is_wave =
     let wave_is : wave_at m.waves i ≡ w = get_or_from_slice_get m.waves i w closed is_wave in
     let noted : IsWaveNoted m.engine.program l w = subst (λ (v : Wave). IsWaveNoted m.engine.program l v) wave_is (subst (λ (b : Bool). IsWaveNoted m.engine.program b (wave_at m.waves i)) live_is (h.waves i within)) in
     record {
-      lengths = λ e. lengths_of_values (state lane m.engine i) m.engine.program.signals ∙ sym (noted.lengths e);
+      lengths = lengths_of_values (state lane m.engine i) m.engine.program.signals ∙ sym noted.lengths;
       handed_out = λ e _. noted.handed_out e;
-      in_time = in_time k w.dump.half few noted.half;
+      in_time = in_time k w.dump.half (omega (arith, few)) noted.half;
     }
 
 -- a wave that was put is ready for the next round
-wave_ready : (k : ℕ) (p : Program) (live : Bool) (s : State) (w : Wave) → IsWaveNoted p live w → IsWaveReady k p live (after_put live (signal_values p s) w)
-wave_ready k p true s w h = record {
-  half = h.half;
-  count = length-map (λ (x : Span). read s (span_bits x)) p.signals;
-  lengths = λ _ _. lengths_of_values s p.signals;
-  handed_out = refl;
-}
-wave_ready k p false s w h = record { half = h.half; count = h.count; lengths = λ _ e. absurd (cc); handed_out = h.handed_out refl }
+wave_ready : (k : ℕ) (p : Program) (live : Bool) (s : State) (w : Wave) → k ≤ 16777217 → IsWaveNoted p live w → IsWaveReady k p (after_put live (signal_values p s) w)
+wave_ready k p true s w few h = record { half = h.half; in_time = in_time k w.dump.half few h.half; lengths = lengths_of_values s p.signals; handed_out = refl }
+wave_ready k p false s w few h = record { half = h.half; in_time = in_time k w.dump.half few h.half; lengths = lengths_of_values s p.signals; handed_out = refl }
 
-pub ready_put : {W : Type 0} (lane : W → ℕ → Bool) (k : ℕ) (m : Simulation W) (live : List Bool) (waves : List Wave) → IsNoted m → live ≡ map (λ s. s.live) m.stimuli
+pub ready_put : {W : Type 0} (lane : W → ℕ → Bool) (k : ℕ) (m : Simulation W) (live : List Bool) (waves : List Wave) → k ≤ 16777217 → IsNoted m → live ≡ map (λ s. s.live) m.stimuli
     → EachGoesOn (λ i l w. after_put l (lane_values lane m.engine i) w) live m.waves waves
     → IsReady {W = W} k (record { stimuli = m.stimuli; waves = waves; engine = m.engine })
-ready_put lane k m live waves h lives gone = record {
+ready_put lane k m live waves few h lives gone = record {
   alike = record { lanes = h.alike.lanes; waves = gone.count ∙ h.alike.waves; bits = h.alike.bits };
   waves = λ i lt.
       let in_waves : i < length m.waves = omega (arith, h.alike.waves) in
       let wave_is = get_or_from_slice_get waves i _ closed (gone.each i (lane_at m.stimuli i).live (wave_at m.waves i) (live_at m live i lives lt) (slice_get-get_or m.waves i closed in_waves)) in
-      subst (λ (w : Wave). IsWaveReady k m.engine.program (lane_at m.stimuli i).live w) (sym wave_is)
-      (wave_ready k m.engine.program (lane_at m.stimuli i).live (state lane m.engine i) (wave_at m.waves i) (h.waves i lt));
+      subst (λ (w : Wave). IsWaveReady k m.engine.program w) (sym wave_is)
+      (wave_ready k m.engine.program (lane_at m.stimuli i).live (state lane m.engine i) (wave_at m.waves i) few (h.waves i lt));
 }
 
 -- a put stopped the round

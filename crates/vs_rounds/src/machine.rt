@@ -27,7 +27,7 @@ use vs_waves::Waves;
 #[derive(Drop)]
 pub struct Machine<W: Lanes + Chunked> {
     drive: Drive,
-    waves: Waves,
+    waves: Waves<W>,
     engine: Engine<W>,
     pairs: Vec<Pair<W>>,
 }
@@ -49,7 +49,7 @@ impl<W: Lanes + Chunked> Machine<W> {
     pub fn new(
         alloc: Global,
         drive: Drive,
-        waves: Waves,
+        waves: Waves<W>,
         engine: Engine<W>,
     ) -> Result<Machine<W>, AllocError>
         ensures parts { IfOk result (λ m. m ≡ record { stimuli = drive; waves = waves; engine = engine }) }
@@ -94,8 +94,8 @@ impl<W: Lanes + Chunked> Machine<W> {
         Ok(())
     }
 
-    /// Runs the engine's two slots of a round, where some lane has a vector, and notes the values after the first. Answers how many
-    /// lanes have one.
+    /// Runs the engine's two slots of a round, where some lane has a vector, and notes the values after the first, or those that it
+    /// holds. Answers how many lanes have one.
     pub(crate) fn settle<L: Ledger>(&mut self, round: u64, steps: &mut Steps<L>) -> u64
         requires width { W.LANES ≤ most_lanes }
         requires lanes { length self.old.stimuli ≤ W.LANES }
@@ -112,6 +112,7 @@ impl<W: Lanes + Chunked> Machine<W> {
     {
         let vectors = count_live(self.drive.live());
         if vectors == 0 {
+            self.waves.begin(&self.engine, self.drive.live(), round);
             return 0;
         }
         self.drive.feed(&mut self.pairs);

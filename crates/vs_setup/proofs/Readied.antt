@@ -1,21 +1,22 @@
 -- A run whose parts were put together.
-use Rattle.std.proofs.Common.{◌≡◌, ℕ, ◌<◌, ◌≤◌, Bool, List, length, arith, IsTrue, All, sym, subst, ap, ◌∙◌}
+use Rattle.std.proofs.Common.{◌≡◌, ℕ, ◌<◌, ◌≤◌, Bool, List, [], ◌∷◌, length, map, arith, IsTrue, All, refl, sym, subst, ap, ◌∙◌}
 use Rattle.std.specs.Prelude.{sum}
-use Rattle.std.proofs.lemmas.List.{length-map}
 use Rattle.vs_desk.specs.Desk.{Contents}
+use Rattle.vs_design.specs.Expressions.{Signal, signal_length}
 use Rattle.vs_design.specs.Designs.{Design}
 use Rattle.vs_flat.specs.DesignOf.{design_of}
+use Rattle.vs_program.specs.declared.compiled.Span.{Span}
 use Rattle.vs_program.specs.Compiled.{IsProgramOf, span_of}
 use Rattle.vs_engine.specs.Lanes.{Running, state}
 use Rattle.vs_accept.specs.Lent.{Acceptance}
 use Rattle.vs_stim.specs.declared.input.Input.{Input}
 use Rattle.vs_stim.specs.Reading.{reading}
-use Rattle.vs_drive.specs.Lanes.{lane_at, AreLanes}
+use Rattle.vs_drive.specs.Lanes.{AreLanes}
 use Rattle.vs_drive.specs.Opened as drive
 use Rattle.vs_drive.specs.Opened.{path_at}
 use Rattle.vs_waves.specs.Wave.{Wave, IsNewWave}
 use Rattle.vs_rounds.specs.Lanes.{Simulation, AreOpened, wave_at, closed}
-use Rattle.vs_rounds.specs.Ready.{IsReady, IsWaveReady}
+use Rattle.vs_rounds.specs.Ready.{IsReady, IsWaveReady, signal_lengths}
 use Rattle.vs_job.specs.declared.job.Job.{Job}
 use Rattle.vs_setup.specs.Prepared.{IsDesignLoaded, run_of}
 
@@ -50,14 +51,21 @@ ready lane lanes tells job old mid new a inputs engine m p = record {
   waves = λ i h. each i (new_wave (design_of a.flat) job.half m.waves p.new_waves i (subst (λ n. i < n) (sym p.waves) h));
 }
   where
-    signals : length (design_of a.flat).signals ≡ length m.engine.program.signals
-    signals = sym (length-map (design_of a.flat).signals span_of) ∙ ap length (sym (program_is lane lanes tells job old mid new a inputs engine m p).signals)
+    lengths_of_spans : (signals : List Signal) → map (λ (x : Span). x.length) (map span_of signals) ≡ map signal_length signals
+    lengths_of_spans [] = refl
+    lengths_of_spans (s ∷ ss) = ap (λ (ns : List ℕ). signal_length s ∷ ns) (lengths_of_spans ss)
 
-    each : (i : ℕ) → IsNewWave (design_of a.flat) job.half (wave_at m.waves i) → IsWaveReady 0 m.engine.program (lane_at m.stimuli i).live (wave_at m.waves i)
+    signals : map signal_length (design_of a.flat).signals ≡ signal_lengths m.engine.program
+    signals = sym (lengths_of_spans (design_of a.flat).signals) ∙ ap (map (λ (x : Span). x.length)) (sym (program_is lane lanes tells job old mid new a inputs engine m p).signals)
+
+    small : {w : Wave} → IsNewWave (design_of a.flat) job.half w → w.dump.half ≤ 1000000
+    small w = subst (λ n. n ≤ 1000000) (sym w.half_is) p.half
+
+    each : (i : ℕ) → IsNewWave (design_of a.flat) job.half (wave_at m.waves i) → IsWaveReady 0 m.engine.program (wave_at m.waves i)
     each i w = record {
-      half = subst (λ n. n ≤ 1000000) (sym w.half_is) p.half;
-      count = w.count ∙ signals;
-      lengths = λ none. absurd (omega (arith, none));
+      half = small w;
+      in_time = omega (arith, small w);
+      lengths = w.lengths ∙ signals;
       handed_out = w.left_is;
     }
 
