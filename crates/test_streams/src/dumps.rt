@@ -1,15 +1,13 @@
-//! Worked texts, through pieces of several lengths.
+//! Worked texts, composed of the head and of lines.
 
-ghost use Rattle.std.specs.Prelude.{◌≡◌, ◌<◌, ◌≤◌, ◌+◌, ◌^◌, [], ◌∷◌, ◌++◌, true, false, None, Some, length, IfOk, OnOk};
-ghost use Rattle.vs_flat.specs.Arena.{empty_arena, with_scope, with_signal};
+ghost use Rattle.std.specs.Prelude.{◌≡◌, IfOk};
 ghost use Rattle.vs_flat.specs.Example.{net, example_ports};
-ghost use Rattle.vs_vcd.specs.Dump.{Dump};
 
 use std::alloc::{AllocError, Global};
 use std::test::Fail;
 use vs_flat::{Flat, Scope, Signal, Text};
-use vs_four::{Bit4, Bits, Range};
-use vs_vcd::Vcd;
+use vs_four::{Bit4, Bits};
+use vs_vcd::{Tail, head, put_time, put_value};
 
 const ZERO: Bit4 = Bit4::Zero;
 
@@ -50,159 +48,109 @@ fn ports(alloc: Global) -> Result<Flat, AllocError>
     Ok(flat)
 }
 
-/// Hands out the rest of the part in pieces that fit the block: joined, they are that part.
-fn drain(vcd: &mut Vcd, block: &mut [u8], text: &mut Vec<u8>) -> Result<(), AllocError>
-    requires { 0 < length block.old }
-    ensures text { OnOk result (text.new.items ≡ text.old.items ++ vcd.old.left) }
-    ensures left { OnOk result (vcd.new ≡ record vcd.old { left = [] }) }
-{
-    'pieces: loop {
-        let count = vcd.fill(block);
-        if count == 0 {
-            return Ok(());
-        }
-        text.extend_from_slice(&block[..count])?;
-    }
-}
-
-/// The four values of scalars.
-fn values(clk: Bit4, a: Bit4, b: Bit4, y: Bit4) -> [Bits; 4]
-    ensures { result ≡ (clk ∷ []) ∷ (a ∷ []) ∷ (b ∷ []) ∷ (y ∷ []) ∷ [] }
-{
-    [
-        Bits::of(&[clk]),
-        Bits::of(&[a]),
-        Bits::of(&[b]),
-        Bits::of(&[y]),
-    ]
-}
-
-/// The text of `assign y = a & b;`, where a is 1 and b is 0 and then 1.
-fn and_text(alloc: Global, block: &mut [u8]) -> Result<Vec<u8>, AllocError>
-    requires { 0 < length block.old }
-{
-    let mut vcd = Vcd::new(alloc, &ports(alloc)?, 5)?;
-    let mut text = Vec::new(alloc);
-    vcd.start_head();
-    drain(&mut vcd, block, &mut text)?;
-    vcd.start_first(&values(ZERO, ONE, ZERO, ZERO));
-    drain(&mut vcd, block, &mut text)?;
-    vcd.start_slot(5, &values(ONE, ONE, ZERO, ZERO));
-    drain(&mut vcd, block, &mut text)?;
-    vcd.start_slot(10, &values(ZERO, ONE, ONE, ONE));
-    drain(&mut vcd, block, &mut text)?;
-    vcd.start_slot(15, &values(ONE, ONE, ONE, ONE));
-    drain(&mut vcd, block, &mut text)?;
-    vcd.start_last(20);
-    drain(&mut vcd, block, &mut text)?;
-    Ok(text)
-}
-
 #[test]
 fn writes_the_whole_text(rt: HostRuntime) -> Result<(), Fail> {
     let expected = "$version cyclesim $end\n$timescale 1ns $end\n$scope module top $end\n\
         $var wire 1 ! clk $end\n$var wire 1 \" a $end\n$var wire 1 # b $end\n$var wire 1 $ y $end\n\
         $upscope $end\n$enddefinitions $end\n\
-        #0\n$dumpvars\n0!\n1\"\n0#\n0$\n$end\n\
+        #0\n$dumpvars\n0!\n1\"\n0#\nx$\n$end\n\
         #5\n1!\n#10\n0!\n1#\n1$\n#15\n1!\n#20\n";
-    for room in [1, 7, 65_536] {
-        let mut block = vec![in rt.alloc(); 0; room]?;
-        let text = and_text(rt.alloc(), &mut block)?;
-        assert_eq!(rt; text.as_slice(), expected.as_bytes(), "by {room}");
-    }
-
-    // The head and slot 0 begun as one.
-    let mut block = vec![in rt.alloc(); 0; 300]?;
-    let mut text = Vec::new(rt.alloc());
-    let mut vcd = Vcd::new(rt.alloc(), &ports(rt.alloc())?, 5)?;
-    vcd.start_dump(&values(ZERO, ONE, ZERO, X));
-    drain(&mut vcd, &mut block, &mut text)?;
-    let expected = "$version cyclesim $end\n$timescale 1ns $end\n$scope module top $end\n\
-        $var wire 1 ! clk $end\n$var wire 1 \" a $end\n$var wire 1 # b $end\n$var wire 1 $ y $end\n\
-        $upscope $end\n$enddefinitions $end\n#0\n$dumpvars\n0!\n1\"\n0#\nx$\n$end\n";
+    let (zero, one) = (Bits::of(&[ZERO]), Bits::of(&[ONE]));
+    let (clk, a, b, y) = (Tail::of(0), Tail::of(1), Tail::of(2), Tail::of(3));
+    let mut block = [b'?'; 1024];
+    let mut text = head(rt.alloc(), &ports(rt.alloc())?)?;
+    let mut at = put_time(&mut block, 0, 0);
+    text.extend_from_slice(&block[..at])?;
+    text.extend_from_slice(b"$dumpvars\n")?;
+    at = put_value(&mut block, 0, zero, &clk);
+    at = put_value(&mut block, at, one, &a);
+    at = put_value(&mut block, at, zero, &b);
+    at = put_value(&mut block, at, Bits::of(&[X]), &y);
+    text.extend_from_slice(&block[..at])?;
+    text.extend_from_slice(b"$end\n")?;
+    at = put_time(&mut block, 0, 5);
+    at = put_value(&mut block, at, one, &clk);
+    at = put_time(&mut block, at, 10);
+    at = put_value(&mut block, at, zero, &clk);
+    at = put_value(&mut block, at, one, &b);
+    at = put_value(&mut block, at, one, &y);
+    at = put_time(&mut block, at, 15);
+    at = put_value(&mut block, at, one, &clk);
+    at = put_time(&mut block, at, 20);
+    text.extend_from_slice(&block[..at])?;
     assert_eq!(rt; text.as_slice(), expected.as_bytes());
     Ok(())
-}
-
-/// `module top(..); reg [3:0] v;`
-fn vector(alloc: Global) -> Result<Flat, AllocError>
-    ensures { IfOk result (λ f. f ≡ with_signal (with_scope empty_arena (record { name = 116 ∷ 111 ∷ 112 ∷ []; parent = None; instance = true }))
-        (record (net (118 ∷ []) false 0) { net = false; range = Some (record { left = 3; right = 0 }) })) }
-{
-    let mut flat = Flat::new(alloc);
-    flat.add_scope(Scope {
-        name: Text::of(b"top".to_vec(alloc)?),
-        parent: None,
-        instance: true,
-    })?;
-    flat.add_signal(Signal {
-        name: Text::of(b"v".to_vec(alloc)?),
-        scope: 0,
-        net: false,
-        input: false,
-        range: Some(Range { left: 3, right: 0 }),
-        signed: false,
-        first_bit: 0,
-    })?;
-    Ok(flat)
-}
-
-/// Slot 0 of that vector.
-fn value_text(alloc: Global, v: Bits) -> Result<Vec<u8>, AllocError> {
-    let mut vcd = Vcd::new(alloc, &vector(alloc)?, 5)?;
-    let mut text = Vec::new(alloc);
-    vcd.start_first(&[v]);
-    drain(&mut vcd, &mut [0; 16], &mut text)?;
-    Ok(text)
 }
 
 #[test]
 fn writes_values(rt: HostRuntime) -> Result<(), Fail> {
     // Bits least significant first, digits most significant first (18.2.2).
+    // Planes: 0 is (0, 0), 1 is (1, 0), z is (0, 1) and x is (1, 1).
+    let most = u64::MAX;
     let table = [
-        ([ZERO, ZERO, ZERO, ZERO], "b0"),
-        ([ONE, X, ZERO, ZERO], "b0x1"),
-        ([ONE, ZERO, X, ZERO], "b0x01"),
-        ([ZERO, ZERO, X, X], "bx00"),
-        ([ZERO, Z, Z, Z], "bz0"),
-        ([Z, Z, Z, Z], "bz"),
-        ([ONE, ONE, ONE, ONE], "b1111"),
+        (Bits::of(&[ZERO]), "0!"),
+        (Bits::of(&[ONE]), "1!"),
+        (Bits::of(&[X]), "x!"),
+        (Bits::of(&[Z]), "z!"),
+        (Bits::of(&[ZERO, ZERO, ZERO, ZERO]), "b0 !"),
+        (Bits::of(&[ONE, X, ZERO, ZERO]), "b0x1 !"),
+        (Bits::of(&[ONE, ZERO, X, ZERO]), "b0x01 !"),
+        (Bits::of(&[ZERO, ZERO, X, X]), "bx00 !"),
+        (Bits::of(&[ZERO, Z, Z, Z]), "bz0 !"),
+        (Bits::of(&[Z, Z, Z, Z]), "bz !"),
+        (Bits::of(&[ONE, ONE, ONE, ONE]), "b1111 !"),
+        (Bits::of_planes(7, 0x55, 0), "b1010101 !"),
+        (Bits::of_planes(7, 0x7f, 0x7f), "bx !"),
+        (Bits::of_planes(8, 0x80, 0), "b10000000 !"),
+        (Bits::of_planes(8, 0x31, 0x40), "b0z110001 !"),
+        (Bits::of_planes(9, 0x103, 0), "b100000011 !"),
+        (Bits::of_planes(9, 0xf1, 0x100), "bz11110001 !"),
+        (
+            Bits::of_planes(63, 1 << 62, 0),
+            "b100000000000000000000000000000000000000000000000000000000000000 !",
+        ),
+        (
+            Bits::of_planes(63, 1 << 62, 1 << 62),
+            "bx00000000000000000000000000000000000000000000000000000000000000 !",
+        ),
+        (
+            Bits::of_planes(64, most, 0),
+            "b1111111111111111111111111111111111111111111111111111111111111111 !",
+        ),
+        (Bits::of_planes(64, 1, 0), "b1 !"),
+        (Bits::of_planes(64, 0, 1), "b0z !"),
+        (Bits::of_planes(64, most, most), "bx !"),
     ];
-    for (bits, value) in table {
-        let text = value_text(rt.alloc(), Bits::of(&bits))?;
-        let expected = format!(in rt.alloc(); "#0\n$dumpvars\n{value} !\n$end\n")?;
-        assert_eq!(rt; text.as_slice(), expected.as_str().as_bytes());
+    for (value, line) in table {
+        let mut block = [b'?'; 80];
+        let end = put_value(&mut block, 0, value, &Tail::of(0));
+        let expected = format!(in rt.alloc(); "{line}\n")?;
+        assert_eq!(rt; &block[..end], expected.as_str().as_bytes());
     }
     Ok(())
 }
 
-/// A top with so many nets of one bit, each of the name `s`.
-#[tactic(auto, using(std::proofs::lemmas::List::Sums::sum_by_push))]
-fn nets(alloc: Global, count: u32) -> Result<Flat, AllocError>
-    requires { count ≤ 2 ^ 20 }
-{
-    let mut flat = Flat::new(alloc);
-    flat.add_scope(Scope {
-        name: Text::of(b"top".to_vec(alloc)?),
-        parent: None,
-        instance: true,
-    })?;
-    for n in 0..count {
-        flat.add_signal(port(alloc, b"s", false, n)?)?;
-    }
-    Ok(flat)
+#[test]
+fn writes_the_longest_lines(rt: HostRuntime) -> Result<(), Fail> {
+    let mut block = [b'?'; 102];
+    let time = put_time(&mut block, 0, u64::MAX);
+    let end = put_value(
+        &mut block,
+        time,
+        Bits::of_planes(64, u64::MAX, 1),
+        &Tail::of(u32::MAX),
+    );
+    let expected =
+        "#18446744073709551615\nb111111111111111111111111111111111111111111111111111111111111111x J|\"\"X\n";
+    assert_eq!(rt; &block[..end], expected.as_bytes());
+    Ok(())
 }
 
 #[test]
 fn writes_identifier_codes(rt: HostRuntime) -> Result<(), Fail> {
-    let mut vcd = Vcd::new(rt.alloc(), &nets(rt.alloc(), 17_673)?, 5)?;
-    let mut text = Vec::new(rt.alloc());
-    vcd.start_head();
-    drain(&mut vcd, &mut [0; 4096], &mut text)?;
-    let head = str::from_utf8(text.as_slice())?;
     // Numbers in base 94, the least digit first: 8835 is 93 + 93 * 94, and 17671 is 93 + 93 * 94 + 94 * 94.
     for (number, code) in [
-        (0u16, "!"),
+        (0, "!"),
         (93, "~"),
         (94, "!\""),
         (95, "\"\""),
@@ -216,11 +164,10 @@ fn writes_identifier_codes(rt: HostRuntime) -> Result<(), Fail> {
         (17671, "~~\""),
         (17672, "!!#"),
     ] {
-        let line = format!(in rt.alloc(); "$var wire 1 {code} s $end")?;
-        assert_eq!(rt;
-            head.lines().nth(3 + usize::from(number)),
-            Some(line.as_str())
-        );
+        let mut block = [b'?'; 80];
+        let end = put_value(&mut block, 0, Bits::of(&[ONE]), &Tail::of(number));
+        let expected = format!(in rt.alloc(); "1{code}\n")?;
+        assert_eq!(rt; &block[..end], expected.as_str().as_bytes());
     }
     Ok(())
 }

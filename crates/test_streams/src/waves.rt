@@ -1,9 +1,11 @@
 //! The waves of two lanes of `module top(input clk, input a, input b, output y); assign y = a & b; endmodule`.
 
-ghost use Rattle.std.specs.Prelude.{◌≡◌, ◌+◌, ◌*◌, ◌<◌, ◌≤◌, ◌^◌, ℕ, Bool, true, length, slice_get, Some, All, IfOk, OnOk};
+ghost use Rattle.std.specs.Prelude.{◌≡◌, ◌+◌, ◌*◌, ◌<◌, ◌≤◌, ◌^◌, length, map, All, IfOk, OnOk};
 ghost use Rattle.vs_desk.specs.Desk.{no_register};
 ghost use Rattle.vs_desk.specs.MemoryDesk as memory;
+ghost use Rattle.vs_design.specs.Expressions.{signal_length};
 ghost use Rattle.vs_flat.specs.DesignOf.{design_of};
+ghost use Rattle.vs_program.specs.declared.compiled.Span.{Span};
 ghost use Rattle.vs_waves.specs.Laws.{AreBefore};
 ghost use Rattle.vs_waves.specs.Puts.{AreWritable};
 ghost use Rattle.vs_waves.specs.Wave.{IsNewWave};
@@ -30,7 +32,7 @@ const HEAD: &str = "$version cyclesim $end\n$timescale 1ns $end\n$scope module t
 
 /// The design of that text, and an engine of it.
 fn loaded(alloc: Global) -> Result<Loaded<Words<1>>, AcceptError>
-    ensures { IfOk result (λ l. length l.engine.program.signals ≡ length (design_of l.accepted.flat).signals) }
+    ensures { IfOk result (λ l. map (λ (s : Span). s.length) l.engine.program.signals ≡ map signal_length (design_of l.accepted.flat).signals) }
 {
     let text = b"module top(input clk, input a, input b, output y); assign y = a & b; endmodule";
     load(alloc, text, b"top", b"clk")
@@ -47,7 +49,7 @@ fn pair(first: Bit4, second: Bit4) -> Pair<Words<1>> {
 /// One round of both lanes.
 fn run_round<W: Lanes + Chunked, L: Ledger>(
     engine: &mut Engine<W>,
-    waves: &mut Waves,
+    waves: &mut Waves<W>,
     round: u64,
     live: &[bool],
     inputs: &[Pair<W>],
@@ -58,13 +60,12 @@ fn run_round<W: Lanes + Chunked, L: Ledger>(
     requires flags { length live.now ≡ length waves.old }
     requires lanes { length waves.old ≤ W.LANES }
     requires few { length waves.old ≤ 64 }
-    requires first { (i : ℕ) (l : Bool) → round ≡ 0 → slice_get live.now i ≡ Some l → l ≡ true }
     requires time { (2 * round + 2) * 5 < 2 ^ 64 }
-    requires waves { AreBefore round 5 engine.old.program.signals waves.old }
+    requires waves { AreBefore 5 engine.old.program.signals waves.old }
     requires writable { AreWritable (memory.register desk.old) (length waves.old) }
     ensures program { engine.new.program ≡ engine.old.program }
     ensures count { OnOk result (length waves.new ≡ length waves.old) }
-    ensures waves { OnOk result (AreBefore (round + 1) 5 engine.old.program.signals waves.new) }
+    ensures waves { OnOk result (AreBefore 5 engine.old.program.signals waves.new) }
     ensures same { OnOk result (memory.register desk.new ≡ memory.register desk.old) }
 {
     rounds_law();
@@ -77,7 +78,7 @@ fn run_round<W: Lanes + Chunked, L: Ledger>(
 /// The first lane has two vectors, and the second one has one. A round more puts nothing.
 fn run_all<W: Lanes + Chunked, L: Ledger>(
     engine: &mut Engine<W>,
-    waves: &mut Waves,
+    waves: &mut Waves<W>,
     first: &[Pair<W>],
     second: &[Pair<W>],
     steps: &mut Steps<L>,
@@ -87,7 +88,7 @@ fn run_all<W: Lanes + Chunked, L: Ledger>(
     requires second { length second.now ≡ length engine.old.program.inputs }
     requires count { length waves.old ≡ 2 }
     requires lanes { 2 ≤ W.LANES }
-    requires waves { AreBefore 0 5 engine.old.program.signals waves.old }
+    requires waves { AreBefore 5 engine.old.program.signals waves.old }
     requires writable { AreWritable (memory.register desk.old) 2 }
 {
     run_round(engine, waves, 0, &[true, true], first, steps, desk)?;
@@ -97,7 +98,7 @@ fn run_all<W: Lanes + Chunked, L: Ledger>(
 }
 
 /// Waves of two lanes at their places, of which nothing was put.
-fn two_waves(alloc: Global, flat: &Flat, desk: &mut MemoryDesk) -> Result<Waves, Fail>
+fn two_waves(alloc: Global, flat: &Flat, desk: &mut MemoryDesk) -> Result<Waves<Words<1>>, Fail>
     requires { memory.register desk.old ≡ no_register }
     ensures count { IfOk result (λ waves. length waves ≡ 2) }
     ensures new { IfOk result (λ waves. All (IsNewWave (design_of flat.now) 5) waves) }

@@ -22,41 +22,41 @@ element (x ∷ xs) (suc i) h = element xs i (omega arith)
 record Round {W : Type 0} (lane : W → ℕ → Bool) (start fallen risen : Running W) (round i : ℕ) (l : Bool) (w : Wave) : Type 0 where
   begins : CanBegin round (lane_values lane fallen i) w
   puts : CanPut round l (lane_values lane risen i) (begun round l (lane_values lane fallen i) w)
-  next : IsBefore (round + 1) 5 start.program.signals (after_put l (lane_values lane risen i) (begun round l (lane_values lane fallen i) w))
+  next : IsBefore 5 start.program.signals (after_put l (lane_values lane risen i) (begun round l (lane_values lane fallen i) w))
 
 round_of : {W : Type 0} (lane : W → ℕ → Bool) (start fallen risen : Running W) (round i : ℕ) (l : Bool) (w : Wave) → RoundsFollow → fallen.program ≡ start.program → risen.program ≡ start.program
-    → IsBefore round 5 start.program.signals w → (round ≡ 0 → l ≡ true) → (2 * round + 2) * 5 < 2 ^ 64 → Round lane start fallen risen round i l w
-round_of lane start fallen risen round i l w law falls rises before first time =
-    let f : Follows round 5 start.program.signals l (state lane fallen i) (state lane risen i) w = law round 5 start.program.signals l (state lane fallen i) (state lane risen i) w before first time in
+    → IsBefore 5 start.program.signals w → (2 * round + 2) * 5 < 2 ^ 64 → Round lane start fallen risen round i l w
+round_of lane start fallen risen round i l w law falls rises before time =
+    let f : Follows round 5 start.program.signals l (state lane fallen i) (state lane risen i) w = law round 5 start.program.signals l (state lane fallen i) (state lane risen i) w before time in
     let fall : values_in (state lane fallen i) start.program.signals ≡ lane_values lane fallen i = ap (λ (p : Program). values_in (state lane fallen i) p.signals) (sym falls) in
     let rise : values_in (state lane risen i) start.program.signals ≡ lane_values lane risen i = ap (λ (p : Program). values_in (state lane risen i) p.signals) (sym rises) in
     record {
       begins = subst (λ now. CanBegin round now w) fall f.begins;
       puts = subst (λ now. CanPut round l (lane_values lane risen i) (begun round l now w)) fall (subst (λ now. CanPut round l now (begun round l (values_in (state lane fallen i) start.program.signals) w)) rise f.puts);
-      next = rw (add-one round) (subst (λ now. IsBefore (suc round) 5 start.program.signals (after_put l (lane_values lane risen i) (begun round l now w))) fall
-          (subst (λ now. IsBefore (suc round) 5 start.program.signals (after_put l now (begun round l (values_in (state lane fallen i) start.program.signals) w))) rise f.next));
+      next = subst (λ now. IsBefore 5 start.program.signals (after_put l (lane_values lane risen i) (begun round l now w))) fall
+          (subst (λ now. IsBefore 5 start.program.signals (after_put l now (begun round l (values_in (state lane fallen i) start.program.signals) w))) rise f.next);
     }
 
 pub begin-requires-clause-ready : goal.begin-requires-clause-ready
-begin-requires-clause-ready g c = λ i w p q.
-    (round_of g.W.Word.lane c.args.engine.now c.fall.new.self c.fall.new.self c.args.round i true w c.rounds_law.ensures.follow c.fall.ensures.program c.fall.ensures.program (c.requires.waves.each i w q) (λ e. refl) c.requires.time).begins
+begin-requires-clause-ready g c = λ i w q.
+    (round_of g.W.Word.lane c.args.engine.now c.fall.new.self c.fall.new.self c.args.round i true w c.rounds_law.ensures.follow c.fall.ensures.program c.fall.ensures.program (c.requires.waves.each i w q) c.requires.time).begins
 
 pub put-requires-clause-ready : goal.put-requires-clause-ready
 put-requires-clause-ready g c = λ i l w p q.
     let found = element c.args.waves.now i (omega (arith, c.begin.ensures.count, slice_get_within c.begin.new.self i w q)) in
     let step = round_of g.W.Word.lane c.args.engine.now c.fall.new.self c.rise.new.self c.args.round i l found.0 c.rounds_law.ensures.follow c.fall.ensures.program (c.rise.ensures.program ∙ c.fall.ensures.program)
-    (c.requires.waves.each i found.0 found.1) (λ e. c.requires.first i l e p) c.requires.time in
+    (c.requires.waves.each i found.0 found.1) c.requires.time in
     subst (λ (v : Wave). CanPut c.args.round l (lane_values g.W.Word.lane c.rise.new.self i) v) (same_element c.begin.new.self i _ w (c.begin.ensures.each i l found.0 p found.1) q) step.puts
 
 pub returns-clause-waves : goal.returns-clause-waves
 returns-clause-waves g c = on_ok_weaker c.put.result (λ after. record { each = λ i w q. next_of after i w q }) c.put.ensures.waves where
   next_of : EachGoesOn (λ (i : ℕ) (l : Bool) (w : Wave). after_put l (lane_values g.W.Word.lane c.rise.new.self i) w) c.args.live.now c.begin.new.self c.put.new.self
-      → (i : ℕ) (w : Wave) → slice_get c.put.new.self i ≡ Some w → IsBefore (c.args.round + 1) 5 c.args.engine.now.program.signals w
+      → (i : ℕ) (w : Wave) → slice_get c.put.new.self i ≡ Some w → IsBefore 5 c.args.engine.now.program.signals w
   next_of after i w q =
       let long : i < length c.args.waves.now = omega (arith, after.count, c.begin.ensures.count, slice_get_within c.put.new.self i w q) in
       let flag = element c.args.live.now i (omega (arith, c.requires.flags)) in
       let found = element c.args.waves.now i long in
       let step = round_of g.W.Word.lane c.args.engine.now c.fall.new.self c.rise.new.self c.args.round i flag.0 found.0 c.rounds_law.ensures.follow c.fall.ensures.program (c.rise.ensures.program ∙ c.fall.ensures.program)
-      (c.requires.waves.each i found.0 found.1) (λ e. c.requires.first i flag.0 e flag.1) c.requires.time in
+      (c.requires.waves.each i found.0 found.1) c.requires.time in
       let now = c.begin.ensures.each i flag.0 found.0 flag.1 found.1 in
-      subst (λ (v : Wave). IsBefore (c.args.round + 1) 5 c.args.engine.now.program.signals v) (same_element c.put.new.self i _ w (after.each i flag.0 _ flag.1 now) q) step.next
+      subst (λ (v : Wave). IsBefore 5 c.args.engine.now.program.signals v) (same_element c.put.new.self i _ w (after.each i flag.0 _ flag.1 now) q) step.next
