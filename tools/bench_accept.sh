@@ -2,17 +2,9 @@
 # The benchmark that `bench_elab.sh` and `bench_checks.sh` share: `bench_accept.sh FOLDER` accepts each design FOLDER/*.v, with the top `top` and the
 # clock `clk`, and prints its processor time. It is no part of the gate.
 set -eu
-top=$(cd "$(dirname "$0")/.." && pwd)
-texts=$1
-work=$(mktemp -d)
-trap 'rm -rf "$work"' EXIT
-(cd "$top" && tar cf - --exclude=out crates crates.txt) | tar xf - -C "$work"
-cd "$work"
-rt new crates/bench_accept start_io > /dev/null
-rm -rf crates/bench_accept/{specs,proofs,stdin,stdout} crates/bench_accept/src/*
-mkdir -p crates/bench_accept/specs crates/bench_accept/proofs
-below=$(sed -n 's/^vs_accept: //p' crates.txt)
-echo "bench_accept: vs_accept $below anyhow" >> crates.txt
+texts=$(cd "$1" && pwd)
+. "$(dirname "$0")/scratch.sh"
+scratch bench_accept vs_accept
 cat > crates/bench_accept/src/main.rt <<'MAIN'
 //! Times the acceptance of a design, which stands on standard input: from text to flat design, and the whole.
 #![tactic(auto)]

@@ -4,16 +4,8 @@
 # is compiled needs; for designs of logic, of sums, of products by constants and by variables, of cases, and for one whose size is near the limit. It
 # is no part of the gate. It proves all that it stands on first, from what the checks here kept.
 set -eu
-top=$(cd "$(dirname "$0")/.." && pwd)
-work=$(mktemp -d)
-trap 'rm -rf "$work"' EXIT
-(cd "$top" && tar cf - crates crates.txt) | tar xf - -C "$work"
-cd "$work"
-rt new crates/bench_engine start_io > /dev/null
-rm -rf crates/bench_engine/{specs,proofs,stdin,stdout} crates/bench_engine/src/*
-mkdir -p crates/bench_engine/specs crates/bench_engine/proofs
-below=$(sed -n 's/^vs_setup: //p' crates.txt | sed 's/ thiserror//')
-echo "bench_engine: vs_setup $below anyhow" >> crates.txt
+. "$(dirname "$0")/scratch.sh"
+scratch bench_engine vs_setup
 cat > crates/bench_engine/src/main.rt <<'MAIN'
 //! Times a compiled design, whose text stands on standard input. With the word `accept` it is accepted alone.
 #![tactic(auto)]
