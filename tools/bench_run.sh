@@ -3,17 +3,18 @@
 #   bench   the design and the stimuli of `cyclesim bench` (crates/vs_bench), in 64 and in 256 lanes;
 #   gates   300 gates of one bit that all change in every clock period, in 64 lanes;
 #   still   3,000 signals of one bit of which 1 in 100 changes, in 64 lanes.
-# Of the processor time it shows what goes to accept and to compile the design, to settle it, to find what changed in each slot (scan), to write
-# the text of that to memory, and to put it into files (the time of the system); the rest is to read the stimuli. Where Icarus Verilog or Verilator
-# is installed (Debian's packages iverilog and verilator), it runs the first design on the same stimuli by them, one lane after the other. It is no
-# part of the gate. It proves and builds what it runs first, from what the checks here kept.
+# Of the processor time it shows what goes to accept and to compile the design, to settle it, to find what changed in each slot (scan), to read
+# the stimuli (those of a run whose design has the inputs alone) and to put the text into files (the time of the system); the rest is to write the
+# text. Where Icarus Verilog or Verilator is installed (Debian's packages iverilog and verilator), it runs the first design on the same stimuli by
+# them, one lane after the other. It is no part of the gate. It proves and builds what it runs first, from what `rt check` kept here.
 set -eu
 vectors=${1:-1000}
 . "$(dirname "$0")/scratch.sh"
 scratch bench_phases vs_setup
 cat > crates/bench_phases/src/main.rt <<'MAIN'
 //! Times the parts of a run, for a design on standard input and so many rounds, the first word: to accept it, to compile it, and to settle it, in
-//! 64, 128 and 256 lanes; and in 64 lanes to note what changed in each slot, and to write the text of it to memory.
+//! 64, 128 and 256 lanes; and in 64 lanes to settle it and to note what changed in each slot, where the bits of its inputs change from the second
+//! word on up to the third.
 #![tactic(auto)]
 
 ghost use Rattle.std.specs.Prelude.{◌≡◌, ◌+◌, ◌*◌, ◌<◌, ◌≤◌, ◌^◌, length, map, All, IfOk, OnOk};
@@ -34,7 +35,7 @@ use std::marker::Brand;
 use std::rt::CpuClock;
 use std::sync::ledger::{Blank, Ledger};
 use vs_accept::{AcceptError, MAX_BYTES, accept};
-use vs_desk::MemoryDesk;
+use vs_desk::{MemoryDesk, attach_law};
 use vs_engine::Engine;
 use vs_flat::Flat;
 use vs_four::Bit4;
@@ -42,53 +43,66 @@ use vs_plane::{Chunked, Lanes, Pair, Steps, Word, Words};
 use vs_setup::{Loaded, load};
 use vs_waves::{LaneFault, Waves, attach, rounds_law};
 
-/// A pair for each bit of the inputs.
-fn pairs<W: Word>(alloc: Global, count: usize) -> Result<Vec<Pair<W>>, AllocError> {
-    let mut pairs = Vec::new(alloc);
-    for _ in 0..count {
-        pairs.push(Pair::of_bit(Bit4::One))?;
-    }
-    Ok(pairs)
+/// A pair for each bit of an engine's inputs.
+fn inputs_of<W: Word>(alloc: Global, engine: &Engine<W>) -> Result<Vec<Pair<W>>, AllocError>
+    ensures { IfOk result (λ pairs. length pairs.items ≡ length engine.now.program.inputs) }
+{
+    let count = engine.compiled().inputs().len();
+    vec![in alloc; Pair::of_bit(Bit4::One); count]
 }
 
-/// Times the loading, and so many rounds.
+/// So many rounds without waves.
+fn settle<W: Chunked + Lanes, L: Ledger>(
+    engine: &mut Engine<W>,
+    inputs: &[Pair<W>],
+    rounds: u32,
+    steps: &mut Steps<L>,
+)
+    requires { length inputs.now ≡ length engine.old.program.inputs }
+{
+    for _ in 0..rounds {
+        engine.fall(inputs, steps);
+        engine.rise(steps);
+    }
+}
+
+/// The processor time, in microseconds, of so many rounds without waves.
 fn time<W: Chunked + Lanes, L: Ledger>(
-    rt: &(impl CpuClock + Print + Alloc<A = Global>),
-    text: &[u8],
+    rt: &(impl CpuClock + Alloc<A = Global>),
+    engine: &mut Engine<W>,
     rounds: u32,
     blank: Blank,
-) -> Result<()>
+) -> Result<u128>
     requires name { blank.name ≡ L.name }
     requires parts { blank.parts ≡ L.parts }
     requires some { 0 < blank.parts }
 {
-    let alloc = rt.alloc();
-    if text.len() > MAX_BYTES {
-        return Ok(());
-    }
-    let start = rt.thread_cpu_time()?;
-    let Ok(mut loaded) = load::<W>(alloc, text, b"top", b"clk") else {
-        return Ok(());
-    };
-    let ready = rt.thread_cpu_time()?;
+    let inputs = inputs_of(rt.alloc(), engine)?;
     let mut steps: Steps<L> = Steps::new(blank);
-    let count = loaded.engine.compiled().inputs().len();
-    let inputs = pairs(alloc, count)?;
-    if inputs.len() == loaded.engine.compiled().inputs().len() {
-        for _ in 0..rounds {
-            loaded.engine.fall(&inputs, &mut steps);
-            loaded.engine.rise(&mut steps);
-        }
+    let start = rt.thread_cpu_time()?;
+    settle(engine, &inputs, rounds, &mut steps);
+    Ok(rt.thread_cpu_time()?.saturating_sub(start).as_micros())
+}
+
+/// Times the loading, and so many rounds without waves.
+fn times<W: Chunked + Lanes>(
+    rt: &(impl CpuClock + Print + Alloc<A = Global>),
+    text: &[u8],
+    rounds: u32,
+) -> Result<()>
+    requires { length text.now ≤ 4194304 }
+{
+    let start = rt.thread_cpu_time()?;
+    if let Ok(mut loaded) = load::<W>(rt.alloc(), text, b"top", b"clk") {
+        let load = rt.thread_cpu_time()?.saturating_sub(start).as_micros();
+        let settle = time::<W, Brand>(rt, &mut loaded.engine, rounds, Blank::new(1))?;
+        println!(rt; "lanes={} load={load} settle={settle}", W::LANES)?;
     }
-    let end = rt.thread_cpu_time()?;
-    let load = ready.saturating_sub(start).as_micros();
-    let settle = end.saturating_sub(ready).as_micros();
-    println!(rt; "lanes={} load={load} settle={settle}", W::LANES)?;
     Ok(())
 }
 
-/// Other bits in each of 64 lanes.
-fn stir(pairs: &mut [Pair<Words<1>>], seed: u64) -> u64
+/// Other bits of these inputs in each of 64 lanes, and 0 of the others.
+fn stir(pairs: &mut [Pair<Words<1>>], seed: u64, from: usize, to: usize) -> u64
     ensures { length pairs.new ≡ length pairs.old }
 {
     let mut state = seed;
@@ -96,8 +110,9 @@ fn stir(pairs: &mut [Pair<Words<1>>], seed: u64) -> u64
         state = state
             .wrapping_mul(6364136223846793005)
             .wrapping_add(1442695040888963407);
+        let bits = if from <= n && n < to { state ^ (state >> 29) } else { 0 };
         pairs[n] = Pair {
-            value: Words::none().with_sixty_four(0, state ^ (state >> 29)),
+            value: Words::none().with_sixty_four(0, bits),
             unknown: Words::none(),
         };
     }
@@ -141,26 +156,28 @@ fn run_round<W: Lanes + Chunked, L: Ledger>(
     waves.put(engine, live, round, desk)
 }
 
-/// So many rounds, in each of which all lanes are live, or none is.
+/// So many rounds, in the first of which the inputs are as they are. No lane is live, so nothing is written.
 fn run_rounds<L: Ledger>(
     engine: &mut Engine<Words<1>>,
     waves: &mut Waves<Words<1>>,
     rounds: u32,
-    live: &[bool],
     inputs: &mut [Pair<Words<1>>],
+    from: usize,
+    to: usize,
     steps: &mut Steps<L>,
     desk: &mut MemoryDesk,
 ) -> Result<(), LaneFault>
     requires inputs { length inputs.old ≡ length engine.old.program.inputs }
-    requires flags { length live.now ≡ length waves.old }
-    requires few { length waves.old ≤ 64 }
+    requires few { length waves.old ≡ 64 }
     requires waves { AreBefore 5 engine.old.program.signals waves.old }
-    requires writable { AreWritable (memory.register desk.old) (length waves.old) }
+    requires writable { AreWritable (memory.register desk.old) 64 }
 {
     let mut state = 1;
     for round in 0..rounds {
-        state = stir(inputs, state);
-        run_round(engine, waves, round as u64, live, inputs, steps, desk)?;
+        if round > 0 {
+            state = stir(inputs, state, from, to);
+        }
+        run_round(engine, waves, round as u64, &[false; 64], inputs, steps, desk)?;
     }
     Ok(())
 }
@@ -172,60 +189,84 @@ fn new_waves(alloc: Global, flat: &Flat, desk: &mut MemoryDesk) -> Result<Waves<
     ensures new { IfOk result (λ waves. All (IsNewWave (design_of flat.now) 5) waves) }
     ensures writable { OnOk result (AreWritable (memory.register desk.new) 64) }
 {
+    attach_law();
     let mut paths = Vec::new(alloc);
-    for lane in 0..64 {
+    for lane in 0..64u32 {
         paths.push(format!(in alloc; "{lane}")?)?;
     }
     attach(desk, paths)?;
     Ok(Waves::new(alloc, flat, 5, 64)?)
 }
 
-/// Times so many rounds with the waves of 64 lanes. Where no lane is live, nothing is written of them.
+/// The processor time, in microseconds, of so many rounds with these waves.
+fn measure<L: Ledger>(
+    rt: &(impl CpuClock + Alloc<A = Global>),
+    engine: &mut Engine<Words<1>>,
+    waves: &mut Waves<Words<1>>,
+    words: [u32; 3],
+    desk: &mut MemoryDesk,
+    blank: Blank,
+) -> Result<u128>
+    requires name { blank.name ≡ L.name }
+    requires parts { blank.parts ≡ L.parts }
+    requires some { 0 < blank.parts }
+    requires count { length waves.old ≡ 64 }
+    requires waves { AreBefore 5 engine.old.program.signals waves.old }
+    requires writable { AreWritable (memory.register desk.old) 64 }
+{
+    let [rounds, from, to] = words;
+    let mut inputs = inputs_of(rt.alloc(), engine)?;
+    let mut steps: Steps<L> = Steps::new(blank);
+    let start = rt.thread_cpu_time()?;
+    let _ = run_rounds(engine, waves, rounds, &mut inputs, from as usize, to as usize, &mut steps, desk);
+    Ok(rt.thread_cpu_time()?.saturating_sub(start).as_micros())
+}
+
+/// Times so many rounds with the waves of 64 lanes of a design.
 fn time_waves<L: Ledger>(
     rt: &(impl CpuClock + Print + Alloc<A = Global>),
-    text: &[u8],
-    rounds: u32,
-    live: bool,
+    loaded: &mut Loaded<Words<1>>,
+    words: [u32; 3],
     blank: Blank,
 ) -> Result<()>
     requires name { blank.name ≡ L.name }
     requires parts { blank.parts ≡ L.parts }
     requires some { 0 < blank.parts }
+    requires lengths { map (λ (s : Span). s.length) loaded.old.engine.program.signals ≡ map signal_length (design_of loaded.old.accepted.flat).signals }
 {
-    let alloc = rt.alloc();
-    if text.len() > MAX_BYTES {
-        return Ok(());
-    }
     rounds_law();
-    let Ok(Loaded {
-        accepted,
-        mut engine,
-        inputs: _,
-    }) = loaded(alloc, text)
-    else {
-        return Ok(());
-    };
-    let mut steps: Steps<L> = Steps::new(blank);
-    let mut desk = MemoryDesk::new(alloc, 65_536);
-    let mut waves = new_waves(alloc, accepted.typed().flat(), &mut desk)?;
-    let mut inputs = pairs(alloc, engine.compiled().inputs().len())?;
-    if inputs.len() != engine.compiled().inputs().len() {
-        return Ok(());
-    }
-    let start = rt.thread_cpu_time()?;
-    let flags = [live; 64];
-    let _ = run_rounds(&mut engine, &mut waves, rounds, &flags, &mut inputs, &mut steps, &mut desk);
-    let spent = rt.thread_cpu_time()?.saturating_sub(start).as_micros();
-    println!(rt; "live={live} spent={spent}")?;
+    let mut desk = MemoryDesk::new(rt.alloc(), 65_536);
+    let mut waves = new_waves(rt.alloc(), loaded.accepted.typed().flat(), &mut desk)?;
+    let spent = measure::<L>(rt, &mut loaded.engine, &mut waves, words, &mut desk, blank)?;
+    println!(rt; "scan={spent}")?;
     Ok(())
+}
+
+/// Loads a design, and times its rounds with waves.
+fn times_waves(
+    rt: &(impl CpuClock + Print + Alloc<A = Global>),
+    text: &[u8],
+    words: [u32; 3],
+) -> Result<()>
+    requires { length text.now ≤ 4194304 }
+{
+    if let Ok(mut loaded) = loaded(rt.alloc(), text) {
+        time_waves::<Brand>(rt, &mut loaded, words, Blank::new(1))?;
+    }
+    Ok(())
+}
+
+/// A number, or 0.
+fn number(word: &String) -> u32 {
+    word.parse::<u32>().unwrap_or(0)
 }
 
 fn main(rt: HostRuntime) -> Result<()> {
     let alloc = rt.alloc();
-    let words = env::args(&rt)?.collect(alloc)?;
-    let rounds = match words.as_slice() {
-        [_, rounds] => rounds.parse::<u32>().unwrap_or(0),
-        _ => 0,
+    let words: Vec<String> = env::args(&rt)?.collect(alloc)?;
+    let [rounds, from, to] = match words.as_slice() {
+        [_, rounds, from, to] => [number(rounds), number(from), number(to)],
+        _ => [0; 3],
     };
     let mut text = Vec::new(alloc);
     rt.reader().read_to_end(&mut text)?;
@@ -236,11 +277,10 @@ fn main(rt: HostRuntime) -> Result<()> {
     let _ = accept(alloc, &text, b"top", b"clk");
     let accepted = rt.thread_cpu_time()?;
     println!(rt; "accept={}", accepted.saturating_sub(start).as_micros())?;
-    time::<Words<1>, Brand>(&rt, &text, rounds, Blank::new(1))?;
-    time::<Words<2>, Brand>(&rt, &text, rounds, Blank::new(1))?;
-    time::<Words<4>, Brand>(&rt, &text, rounds, Blank::new(1))?;
-    time_waves::<Brand>(&rt, &text, rounds, false, Blank::new(1))?;
-    time_waves::<Brand>(&rt, &text, rounds, true, Blank::new(1))
+    times::<Words<1>>(&rt, &text, rounds)?;
+    times::<Words<2>>(&rt, &text, rounds)?;
+    times::<Words<4>>(&rt, &text, rounds)?;
+    times_waves(&rt, &text, [rounds, from, to])
 }
 MAIN
 # Their proofs are those of the test that runs two lanes in this way.
@@ -250,7 +290,91 @@ for function in loaded run_round; do
         sed 's/test_streams\.proofs\.waves/bench_phases.proofs/' "$file" > crates/bench_phases/proofs/$function/"$(basename "$file")"
     done
 done
-@@PROOFS@@
+for function in run_rounds new_waves time_waves settle times times_waves; do mkdir -p crates/bench_phases/proofs/$function; done
+cat > crates/bench_phases/proofs/run_rounds/Invariants.antt <<'PROOF'
+use Rattle.std.proofs.Common.{◌≡◌, length}
+use Rattle.vs_desk.specs.MemoryDesk as memory
+use Rattle.vs_waves.specs.Laws.{AreBefore}
+use Rattle.bench_phases.proofs.run_rounds.Given as goal
+
+abbrev pub invariant-loop-round : goal.invariant-loop-round
+invariant-loop-round g l = record {
+  program : l.engine.program ≡ l.initial.engine.program;
+  inputs : length l.inputs ≡ length l.initial.inputs;
+  count : length l.waves ≡ length l.initial.waves;
+  waves : AreBefore 5 l.initial.engine.program.signals l.waves;
+  same : memory.register l.desk ≡ memory.register l.initial.desk;
+}
+PROOF
+cat > crates/bench_phases/proofs/new_waves/Invariants.antt <<'PROOF'
+use Rattle.std.proofs.Common.{◌≡◌}
+use Rattle.std.specs.Prelude.{vec_len}
+use Rattle.bench_phases.proofs.new_waves.Given as goal
+
+abbrev pub invariant-loop-lane : goal.invariant-loop-lane
+invariant-loop-lane l = vec_len l.paths ≡ l.lane-counter
+PROOF
+cat > crates/bench_phases/proofs/new_waves/Answers.antt <<'PROOF'
+use Rattle.std.proofs.Common.{◌≡◌, ◌∙◌, ◌<◌, ℕ, List, String, Global, length, refl, sym, subst, arith}
+use Rattle.std.specs.Prelude.{map, string_bytes, Option}
+use Rattle.std.specs.Option.{IsSomeAnd}
+use Rattle.std.proofs.lemmas.List.{length-map}
+use Rattle.vs_desk.specs.declared.desk.Way.TheVariants.{Write}
+use Rattle.vs_desk.specs.Desk.{Attachment, Register, IsAttached, IsWritable}
+use Rattle.vs_desk.specs.MemoryDesk as memory
+use Rattle.vs_desk.specs.Places.{with_places}
+use Rattle.vs_waves.specs.Puts.{AreWritable, wave_place}
+use Rattle.bench_phases.proofs.new_waves.Goals as goal
+
+pub returns-clause-writable : goal.returns-clause-writable
+returns-clause-writable c = λ i h _.
+    let items : List (String Global) = c.loop-lane.paths.items in
+    let P : Option Attachment → Type 0 = λ o. IsSomeAnd o (λ a. a.way ≡ Write) in
+    let long : i < length (map (string_bytes {Z = Global}) items) = omega (arith, h, length-map items (string_bytes {Z = Global}), c.loop-lane.invariant, c.loop-lane.paths.ok.0) in
+    subst (λ (r : Register). IsAttached r (wave_place i) Write) (sym c.in_ok-attach.ensures.attached)
+    (subst P (sym (c.attach_law.ensures.each (memory.register c.args.desk.now) 2000 Write (map (string_bytes {Z = Global}) items) i long)) refl)
+PROOF
+cat > crates/bench_phases/proofs/time_waves/Answers.antt <<'PROOF'
+use Rattle.std.proofs.Common.{◌≡◌, ◌∙◌, ℕ, List, length, map, sym, ap, subst}
+use Rattle.std.specs.Prelude.{slice_get, Some, All}
+use Rattle.std.proofs.lemmas.List.Elements.{All-get_or}
+use Rattle.std.proofs.lemmas.Option.{slice_get_within, get_or_from_slice_get}
+use Rattle.vs_design.specs.Expressions.{signal_length}
+use Rattle.vs_flat.specs.Arena.{Arena}
+use Rattle.vs_flat.specs.DesignOf.{design_of}
+use Rattle.vs_waves.specs.Wave.{IsNewWave}
+use Rattle.bench_phases.proofs.time_waves.Goals as goal
+
+All-at : {X : Type 0} (P : X → Type 0) (xs : List X) (i : ℕ) (x : X) → slice_get xs i ≡ Some x → All P xs → P x
+All-at P xs i x e all = subst P (get_or_from_slice_get xs i x x e) (All-get_or P xs i x (slice_get_within xs i x e) all)
+
+pub measure-requires-clause-waves : goal.measure-requires-clause-waves
+measure-requires-clause-waves g c =
+    let signals = c.requires.lengths ∙ ap (λ (f : Arena). map signal_length (design_of f).signals) (sym (c.flat.ensures.same ∙ c.typed.ensures)) in
+    record {
+      each = λ i w q. c.rounds_law.ensures.first (design_of c.flat.result.now) 5 c.args.loaded.now.engine.program.signals w signals
+          (All-at (IsNewWave (design_of c.flat.result.now) 5) c.in_ok-waves.waves i w q c.in_ok-waves.ensures.new);
+    }
+PROOF
+cat > crates/bench_phases/proofs/settle/Invariants.antt <<'PROOF'
+use Rattle.std.proofs.Common.{◌≡◌}
+use Rattle.bench_phases.proofs.settle.Given as goal
+
+abbrev pub invariant-loop : goal.invariant-loop
+invariant-loop g l = l.engine.program ≡ l.initial.engine.program
+PROOF
+cat > crates/bench_phases/proofs/times/Invariants.antt <<'PROOF'
+use Rattle.bench_phases.proofs.times.Given as goal
+
+abbrev pub ghosts-time : goal.ghosts-time
+ghosts-time g a = record { name = a.blank.name; parts = a.blank.parts }
+PROOF
+cat > crates/bench_phases/proofs/times_waves/Invariants.antt <<'PROOF'
+use Rattle.bench_phases.proofs.times_waves.Given as goal
+
+abbrev pub ghosts-time_waves : goal.ghosts-time_waves
+ghosts-time_waves g a = record { name = a.blank.name; parts = a.blank.parts }
+PROOF
 mkdir files
 python3 - files "$vectors" <<'FILES'
 import re, sys
@@ -288,7 +412,7 @@ endmodule
 """ % (vectors - 1, vectors - 1))
 FILES
 echo 'proving and building ..' >&2
-(cd crates/bench_phases && rt run -- 1 < ../../files/bench.v) > log 2>&1 || { tail -20 log >&2; exit 1; }
+(cd crates/bench_phases && rt run -- 1 0 1 < ../../files/bench.v) > log 2>&1 || { tail -20 log >&2; exit 1; }
 (cd crates/cyclesim && cp data/* . && rt run -- run --top top --clock clk and.v s1) > log 2>&1 || { tail -20 log >&2; exit 1; }
 cd files
 if command -v iverilog > log; then iverilog -pRECURSIVE_MOD_LIMIT=20 -o icarus bench_tb.v bench.v; fi
@@ -314,27 +438,31 @@ def written():
         os.remove(name)
     return count
 
-def phases(name):
-    """The seconds to accept and to compile the design, to settle it by the number of lanes, and, in 64 lanes, to scan and to write text."""
-    out = spent([crates + "/bench_phases/out/bench_phases", str(vectors)], name + ".v")[0]
-    accept = int(re.search(r"accept=(\d+)", out).group(1)) / 1e6
-    settle = {int(l): int(t) / 1e6 for l, t in re.findall(r"lanes=(\d+) load=\d+ settle=(\d+)", out)}
-    load = int(re.search(r"load=(\d+)", out).group(1)) / 1e6
-    dead = int(re.search(r"live=false spent=(\d+)", out).group(1)) / 1e6
-    live = int(re.search(r"live=true spent=(\d+)", out).group(1)) / 1e6
-    return accept, load - accept, settle, dead - settle[64], live - dead
+# The inputs of each design, and which of their bits change.
+inputs = {"bench": ("input rst, input [31:0] a", 1, 33), "gates": ("input a", 0, 1), "still": ("input a, input b", 0, 1)}
+
+def simulated(design, name, lanes):
+    words = [crates + "/cyclesim/out/cyclesim", "run", "--top", "top", "--clock", "clk", design]
+    return spent(words + ["%s%d" % (name, lane) for lane in range(lanes)])
 
 def run(name, lanes):
     """Runs the design in so many lanes, and shows what it took."""
-    accept, compile, settle, scan, text = phases(name)
-    words = [crates + "/cyclesim/out/cyclesim", "run", "--top", "top", "--clock", "clk", name + ".v"]
-    report, own, system, memory = spent(words + ["%s%d" % (name, lane) for lane in range(lanes)])
+    report, own, system, memory = simulated(name + ".v", name, lanes)
     size = written() / 1e6
     print("%s, %d lanes, %d vectors each: %s" % (name, lanes, vectors, report.strip()))
     print("  %.3f s, %.1f MB of VCD, %.0f MB a second, %.0f MB of memory" % (own + system, size, size / (own + system), memory / 1e6))
-    if lanes == 64:
-        rest = own - accept - compile - settle[64] - scan - text
-        print("  accept %.3f, compile %.3f, settle %.3f, scan %.3f, text %.3f, files %.3f, stimuli and the rest %.3f" % (accept, compile, settle[64], scan, text, system, rest))
+    if lanes > 64:
+        return own + system, memory, 0
+    ports, first, end = inputs[name]
+    out = spent([crates + "/bench_phases/out/bench_phases", str(vectors), str(first), str(end)], name + ".v")[0]
+    told = {what: int(number) / 1e6 for what, number in re.findall(r"(\w+)=(\d+)", re.sub(r"lanes=(128|256) .*", "", out))}
+    scan = told["scan"] - told["settle"]
+    open("ports.v", "w").write("module top(input clk, %s);\nendmodule\n" % ports)
+    stimuli = simulated("ports.v", name, lanes)[1]
+    written()
+    text = own - told["load"] - told["settle"] - scan - stimuli
+    parts = (told["accept"], told["load"] - told["accept"], told["settle"], scan, stimuli, text, system)
+    print("  accept %.3f, compile %.3f, settle %.3f, scan %.3f, stimuli %.3f, text %.3f, files %.3f" % parts)
     return own + system, memory, scan
 
 bench, _, _ = run("bench", 64)
@@ -342,7 +470,7 @@ run("bench", 256)
 run("gates", 64)
 _, less, scan = run("still", 64)
 _, more, _ = run("still", 256)
-print("an unchanged signal: %.3f ns a lane and slot; %.0f bytes of memory a signal and lane" % (scan * 1e9 / (2 * vectors * 64 * 2970), (more - less) / (192 * 3003)))
+print("an unchanged signal: %.3f ns a lane and slot; %.0f bytes of memory a signal and lane" % (scan * 1e9 / (2 * vectors * 64 * 3000), (more - less) / (192 * 3003)))
 for name, command in (("Icarus Verilog", ["vvp", "icarus"]), ("Verilator", ["verilated/verilator"])):
     if not os.path.exists(command[-1]):
         continue
