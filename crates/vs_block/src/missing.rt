@@ -8,8 +8,7 @@ ghost use Rattle.vs_design.specs.Refusals.{least, signal_of};
 ghost use Rattle.vs_design.specs.Values.{count_from};
 ghost use Rattle.vs_flat.specs.DesignOf.{arena_signals};
 
-use vs_flat::{Flat, Signal, trees_law};
-use vs_four::Range;
+use vs_flat::{Flat, Signal, length_of, trees_law};
 
 /// Whether a bit is among these, which rise.
 fn is_among(bits: &[u32], bit: u32) -> bool
@@ -31,17 +30,6 @@ pub(crate) fn first_missing(reads: &[u32], waits: &[u32]) -> Option<u32>
         }
     }
     None
-}
-
-/// How many bits a signal has (IEEE 1364-2005, 3.3).
-fn length_of(range: Option<Range>) -> u32
-    requires { range_or_one range ≤ 2 ^ 20 }
-    ensures { result ≡ range_or_one range }
-{
-    match range {
-        None => 1,
-        Some(range) => range.left.abs_diff(range.right) + 1,
-    }
 }
 
 /// Whether a bit is one of the signal's.

@@ -1,15 +1,15 @@
 //! The number of a design's bits.
 
-ghost use Rattle.std.specs.Prelude.{◌≡◌, ◌≤◌, ◌^◌};
+ghost use Rattle.std.specs.Prelude.{◌≡◌, ◌<◌, ◌^◌};
 ghost use Rattle.vs_design.specs.Expressions.{range_or_one};
 ghost use Rattle.vs_flat.specs.Arena.{bit_count};
 
 use crate::Flat;
 use vs_four::Range;
 
-/// How many bits a signal has (IEEE 1364-2005, 3.3).
-fn length_of(range: Option<Range>) -> u32
-    requires { range_or_one range ≤ 2 ^ 20 }
+/// How many bits a signal of this range has (IEEE 1364-2005, 3.3): one, where it has none.
+pub fn length_of(range: Option<Range>) -> u32
+    requires { range_or_one range < 2 ^ 32 }
     ensures { result ≡ range_or_one range }
 {
     match range {

@@ -10,7 +10,7 @@ mod placed;
 mod processes;
 mod statements;
 
-pub use bits::count_bits;
+pub use bits::{count_bits, length_of};
 pub use expressions::{BinaryOp, Node, UnaryOp};
 pub use flat::Flat;
 pub use laws::{

@@ -1,7 +1,6 @@
 //! The slots of signals, and of literals.
 
 ghost use Rattle.std.specs.Prelude.{◌≡◌, ◌+◌, ◌<◌, ◌≤◌, ◌^◌, ◌||◌, ◌&&◌, not, map, length, slice_index, IfOk};
-ghost use Rattle.vs_design.specs.Expressions.{range_or_one};
 ghost use Rattle.vs_design.specs.Values.{bits_of_signal, count_from};
 ghost use Rattle.vs_four.specs.Lengths.{last_or};
 ghost use Rattle.vs_four.specs.Tables.{is_known};
@@ -15,26 +14,9 @@ use crate::environment::Environment;
 use crate::expressions::Context;
 use crate::slots::{constant_slots, extended};
 use std::alloc::{AllocError, Global};
-use vs_flat::{lawful_law, trees_law};
-use vs_four::{Bit4, Bits, Range, top};
+use vs_flat::{lawful_law, length_of, trees_law};
+use vs_four::{Bit4, Bits, top};
 use vs_width::Typed;
-
-/// How many bits a signal of this range has.
-pub(crate) fn length_of(range: Option<Range>) -> u32
-    requires { range_or_one range < 2 ^ 32 }
-    ensures { result ≡ range_or_one range }
-{
-    match range {
-        None => 1,
-        Some(r) => {
-            if r.right <= r.left {
-                r.left - r.right + 1
-            } else {
-                r.right - r.left + 1
-            }
-        }
-    }
-}
 
 /// The slots of bits one after the other.
 fn run(alloc: Global, env: &Environment, first: u32, count: u32) -> Result<Vec<u32>, AllocError>
