@@ -1,5 +1,5 @@
 -- Whether some bit of a row of words is 1.
-use Rattle.std.proofs.Common.{◌≡◌, ◌≢◌, ℕ, zero, suc, ◌+◌, ◌*◌, ◌/◌, ◌%◌, ◌^◌, ◌<◌, ◌≤◌, Bool, true, false, not, ◌⊎◌, ◌||◌, ◌==◌, List, get_or, refl, sym, ap, ap₂, ◌∙◌, arith, inl, inr, below_more}
+use Rattle.std.proofs.Common.{◌≡◌, ◌≢◌, ℕ, zero, suc, ◌+◌, ◌*◌, ◌/◌, ◌%◌, ◌^◌, ◌<◌, Bool, true, false, not, ◌⊎◌, ◌||◌, ◌==◌, List, get_or, refl, sym, ap, ap₂, ◌∙◌, arith, inl, inr, below_more}
 use Rattle.std.proofs.lemmas.Bool.{cases_eq, true≢false, eqb-true}
 use Rattle.std.proofs.lemmas.Nat.Bits.{bit_at-suc, bit_at-zero, bit_at_lowest}
 use Rattle.std.proofs.Math.Nat.{pow-suc}
@@ -49,23 +49,19 @@ words_more words count bits so_far = record {
       λ k h. below_more (λ n. bit_is (get_or words n 0) i ≡ false) count (λ n l. so_far.none i parts.0 n l) parts.1 k h;
 }
 
--- whether a lane among the first ones is 1
-pub record AreLanesAny (words : List ℕ) (lanes count : ℕ) (any : Bool) : Type 0 where
-  pub some : any ≡ true → (i : ℕ) × (i < lanes) × (bit_of_words words i ≡ true)
-  pub none : any ≡ false → (i : ℕ) → i < count → bit_of_words words i ≡ false
+-- what the bits together say of the lanes of the words
+pub some_lane : (words : List ℕ) (whole bits : ℕ) → bits < 2 ^ 64 → AreWordsOr words whole bits → not (bits == 0) ≡ true
+    → (i : ℕ) × (i < 64 * whole) × (bit_of_words words i ≡ true)
+some_lane words whole bits fits h e =
+    let ne : bits ≢ 0 = λ z. true≢false (sym e ∙ ap (λ (n : ℕ). not (n == 0)) z) in
+    let b = some_bit 64 bits fits ne in
+    let w = h.some b.0 b.1 (ap (λ n. n == 1) b.2) in
+    let place : (64 * w.0 + b.0) / 64 ≡ w.0 = omega (arith, b.1) in
+    let low : (64 * w.0 + b.0) % 64 ≡ b.0 = omega (arith, b.1) in
+    (64 * w.0 + b.0, omega (arith, w.1, b.1), ap₂ (λ (m j : ℕ). bit_is (get_or words m 0) j) place low ∙ w.2)
 
--- all lanes of the whole words
-pub whole_words : (words : List ℕ) (lanes whole bits : ℕ) → 64 * whole ≤ lanes → bits < 2 ^ 64 → AreWordsOr words whole bits
-    → AreLanesAny words lanes (64 * whole) (not (bits == 0))
-whole_words words lanes whole bits most fits h = record {
-  some = λ e.
-      let ne : bits ≢ 0 = λ z. true≢false (sym e ∙ ap (λ (n : ℕ). not (n == 0)) z) in
-      let b = some_bit 64 bits fits ne in
-      let w = h.some b.0 b.1 (ap (λ n. n == 1) b.2) in
-      let place : (64 * w.0 + b.0) / 64 ≡ w.0 = omega (arith, b.1) in
-      let low : (64 * w.0 + b.0) % 64 ≡ b.0 = omega (arith, b.1) in
-      (64 * w.0 + b.0, omega (arith, w.1, b.1, most), ap₂ (λ (m j : ℕ). bit_is (get_or words m 0) j) place low ∙ w.2);
-  none = λ e i l.
-      let zero_bits : bits ≡ 0 = eqb-true bits 0 (not_false (bits == 0) e) in
-      h.none (i % 64) (ap (λ (n : ℕ). bit_is n (i % 64)) zero_bits ∙ ap (λ n. n == 1) (bit_at-zero (i % 64))) (i / 64) (omega arith);
-}
+pub no_lane : (words : List ℕ) (whole bits : ℕ) → AreWordsOr words whole bits → not (bits == 0) ≡ false
+    → (i : ℕ) → i < 64 * whole → bit_of_words words i ≡ false
+no_lane words whole bits h e i l =
+    let zero_bits : bits ≡ 0 = eqb-true bits 0 (not_false (bits == 0) e) in
+    h.none (i % 64) (ap (λ (n : ℕ). bit_is n (i % 64)) zero_bits ∙ ap (λ n. n == 1) (bit_at-zero (i % 64))) (i / 64) (omega arith)

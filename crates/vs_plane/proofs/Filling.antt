@@ -1,16 +1,13 @@
 -- Values stored bit by bit.
-use Rattle.std.proofs.Common.{◌≡◌, ◌≢◌, ℕ, zero, suc, ◌+◌, ◌<◌, ◌≤◌, Bool, List, [], ◌∷◌, map, length, get_or, set, slice_get, Some, sym, refl, ap, ◌∙◌, subst, arith, below_more, ◌-◌, inl, inr}
+use Rattle.std.proofs.Common.{◌≡◌, ◌≢◌, ℕ, zero, suc, ◌+◌, ◌<◌, ◌≤◌, Bool, List, [], ◌∷◌, map, length, get_or, set, slice_get, Some, sym, refl, ap, ◌∙◌, arith, below_more}
 use Rattle.std.proofs.lemmas.List.{get_or-map, length-map, ext_get_or, length-set, get_or-set_same, get_or_default}
 use Rattle.std.proofs.lemmas.Option.{slice_get-get_or}
-use Rattle.std.proofs.lemmas.Bool.{cases_lt}
+use Rattle.vs_four.specs.declared.Bit4.{Bit4}
 use Rattle.vs_four.specs.declared.Bit4.TheVariants.{X}
-use Rattle.vs_four.specs.Logic.{BitList}
+use Rattle.vs_four.specs.Logic.{BitList, map2}
 use Rattle.vs_plane.specs.declared.pairs.Pair.{Pair}
 use Rattle.vs_plane.specs.Lanes.{lane_or_x, pair_lane, slot_lane}
 use Rattle.vs_plane.specs.Kernels.{lane_bits, AreDifferent, AreApart, KeepsOthers, Computes, Fills, FillingComputes}
-
-cases_lt_or : {P : Type 0} (a b : ℕ) → (a < b → P) → (b ≤ a → P) → P
-cases_lt_or a b f g = elim (cases_lt a b) [ inl h ↦ f h | inr h ↦ g h ]
 
 pub slice_get-set_same : {A : Type 0} → (xs : List A) (n : ℕ) (a : A) → n < length xs → slice_get (set xs n a) n ≡ Some a
 slice_get-set_same xs n a h =
@@ -48,29 +45,6 @@ grows lane lanes value to done before file pair different within below fills hol
           k h;
       kept = λ s h. slice_get-set_other file slot s pair (h done (omega arith)) ∙ fills.kept s (λ k l. h k (omega arith));
     }
-
-joins : {W : Type 0} (lane : W → ℕ → Bool) (lanes : ℕ) (value part : ℕ → BitList) (to slots : List ℕ) (done count : ℕ) (before file after : List (Pair W))
-    → AreDifferent to → done + count ≤ length to
-    → ((j : ℕ) → j < count → get_or slots j 0 ≡ get_or to (done + j) 0)
-    → ((j i : ℕ) → j < count → i < lanes → get_or (part i) j X ≡ get_or (value i) (done + j) X)
-    → Fills lane lanes value to done before file
-    → Fills lane lanes part slots count file after
-    → Fills lane lanes value to (done + count) before after
-joins lane lanes value part to slots done count before file after different within places same fills next = record {
-  slots = next.slots ∙ fills.slots;
-  bits = λ k i h l. cases_lt_or k done
-      (λ first. ap (λ o. lane_or_x lane o i) (next.kept (get_or to k 0)
-      (λ j m e. let one : k ≡ done + j = different.place k (done + j) (omega arith) (omega arith) (sym (sym (places j m) ∙ e)) in absurd (let n : ⊥ = omega arith in n)))
-      ∙ fills.bits k i first l)
-      (λ later. let j : ℕ = k - done in
-      let at : done + j ≡ k = omega arith in
-      let m : j < count = omega arith in
-      subst (λ (n : ℕ). slot_lane lane after (get_or to n 0) i ≡ get_or (value i) n X) at
-      (ap (λ (n : ℕ). slot_lane lane after n i) (sym (places j m)) ∙ next.bits j i m l ∙ same j i m l));
-  kept = λ slot none.
-      next.kept slot (λ j m e. none (done + j) (omega arith) (sym (places j m) ∙ e))
-      ∙ fills.kept slot (λ k m. none k (omega arith));
-}
 
 bit : {W : Type 0} (lane : W → ℕ → Bool) (file : List (Pair W)) (slots : List ℕ) (k i : ℕ) → k < length slots
     → get_or (lane_bits lane file slots i) k X ≡ slot_lane lane file (get_or slots k 0) i
@@ -115,15 +89,38 @@ ends lane lanes operator args to scratch done before file long all fills =
       others = others lane lanes value to scratch done before file (omega arith) fills;
     }
 
+-- an operator on two vectors, place by place
+get_or-map2 : (f : Bit4 → Bit4 → Bit4) (xs ys : BitList) (k : ℕ) → k < length xs → k < length ys → get_or (map2 f xs ys) k X ≡ f (get_or xs k X) (get_or ys k X)
+get_or-map2 f [] ys k h j = absurd (let n : ⊥ = omega arith in n)
+get_or-map2 f (x ∷ xs) [] k h j = absurd (let n : ⊥ = omega arith in n)
+get_or-map2 f (x ∷ xs) (y ∷ ys) zero h j = refl
+get_or-map2 f (x ∷ xs) (y ∷ ys) (suc k) h j = get_or-map2 f xs ys k (omega arith) (omega arith)
+
+length-map2 : (f : Bit4 → Bit4 → Bit4) (xs ys : BitList) → length xs ≡ length ys → length (map2 f xs ys) ≡ length xs
+length-map2 f [] ys h = refl
+length-map2 f (x ∷ xs) [] h = absurd (let n : ⊥ = omega arith in n)
+length-map2 f (x ∷ xs) (y ∷ ys) h = ap suc (length-map2 f xs ys (omega arith))
+
+-- a value that is the same in each lane
+fills_same : {W : Type 0} (lane : W → ℕ → Bool) (lanes : ℕ) (value other : ℕ → BitList) (to : List ℕ) (done : ℕ) (before file : List (Pair W))
+    → ((i : ℕ) → i < lanes → value i ≡ other i) → Fills lane lanes value to done before file → Fills lane lanes other to done before file
+fills_same lane lanes value other to done before file same fills = record {
+  slots = fills.slots;
+  bits = λ k i h j. fills.bits k i h j ∙ ap (λ (v : BitList). get_or v k X) (same i j);
+  kept = fills.kept;
+}
+
 pub filling : {W : Type 0} (lane : W → ℕ → Bool) (lanes : ℕ) → FillingComputes lane lanes
 filling lane lanes = record {
   begins = begins lane lanes;
   grows = grows lane lanes;
-  joins = joins lane lanes;
   reads = reads lane lanes;
   stands = stands lane lanes;
   others = others lane lanes;
   ends = ends lane lanes;
   bit = bit lane;
   long = λ file slots i. length-map slots (λ slot. slot_lane lane file slot i);
+  pair_at = get_or-map2;
+  pair_long = length-map2;
+  same = fills_same lane lanes;
 }

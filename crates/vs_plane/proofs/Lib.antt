@@ -1,10 +1,6 @@
 pub mod WordBits
 pub mod AnyBits
 pub mod Filling
-pub mod Parts
-pub mod RowBits
-pub mod Turns
-pub mod Stores
 pub mod SquareTurns
 pub mod ColumnBits
 pub mod PackedBits

@@ -52,7 +52,7 @@ pub not_is : (x i : ℕ) → x < 2 ^ 64 → i < 64 → bit_is (bit_not w64 x) i 
 not_is x i fits small = ap (λ n. n == 1) (bit_at_not w64 x i fits small) ∙ rest_is (bit_at x i) (bit_at-lt x i)
 
 -- the word of a lane is one of the words
-pub place_within : (n i : ℕ) → i < min (64 * n) 536870911 → i / 64 < n
+pub place_within : (n i : ℕ) → i < 64 * min n 67108863 → i / 64 < n
 place_within n i h = omega arith
 
 low_within : (i : ℕ) → i % 64 < 64

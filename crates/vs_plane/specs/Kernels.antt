@@ -2,7 +2,7 @@
 use Rattle.std.specs.Prelude.{◌≡◌, ◌≢◌, ℕ, ◌+◌, ◌<◌, ◌≤◌, Bool, List, [], ◌∷◌, map, length, slice_get, slice_set, slice_index, slice_index_or, All, Contains}
 use Rattle.vs_four.specs.declared.Bit4.{Bit4}
 use Rattle.vs_four.specs.declared.Bit4.TheVariants.{X}
-use Rattle.vs_four.specs.Logic.{BitList}
+use Rattle.vs_four.specs.Logic.{BitList, map2}
 use Rattle.vs_plane.specs.declared.pairs.Pair.{Pair}
 use Rattle.vs_plane.specs.Lanes.{pair_lane, slot_lane}
 
@@ -88,14 +88,6 @@ pub record FillingComputes {W : Type 0} (lane : W → ℕ → Bool) (lanes : ℕ
       → Fills lane lanes value to done before file
       → ((i : ℕ) → i < lanes → pair_lane lane pair i ≡ slice_index_or (value i) done X)
       → Fills lane lanes value to (done + 1) before (slice_set file (slice_index to done) pair)
-  -- the next slots of `to` get their bits, in whatever way
-  pub joins : (value part : ℕ → BitList) (to slots : List ℕ) (done count : ℕ) (before file after : List (Pair W))
-      → AreDifferent to → done + count ≤ length to
-      → ((j : ℕ) → j < count → slice_index slots j ≡ slice_index to (done + j))
-      → ((j i : ℕ) → j < count → i < lanes → slice_index_or (part i) j X ≡ slice_index_or (value i) (done + j) X)
-      → Fills lane lanes value to done before file
-      → Fills lane lanes part slots count file after
-      → Fills lane lanes value to (done + count) before after
   -- what is read on the way is the bit that the argument's vector had before
   pub reads : (value : ℕ → BitList) (to : List ℕ) (done : ℕ) (before file : List (Pair W)) (arg : List ℕ) (k i : ℕ)
       → AreApart arg to → done ≤ length to → k < length arg
@@ -122,3 +114,9 @@ pub record FillingComputes {W : Type 0} (lane : W → ℕ → Bool) (lanes : ℕ
       → slice_index_or (lane_bits lane file slots i) k X ≡ slot_lane lane file (slice_index slots k) i
   -- a vector has a bit for each slot
   pub long : (file : List (Pair W)) (slots : List ℕ) (i : ℕ) → length (lane_bits lane file slots i) ≡ length slots
+  -- bit k of an operator's value that goes bit by bit on two vectors, and how many bits it has
+  pub pair_at : (f : Bit4 → Bit4 → Bit4) (xs ys : BitList) (k : ℕ) → k < length xs → k < length ys → slice_index_or (map2 f xs ys) k X ≡ f (slice_index_or xs k X) (slice_index_or ys k X)
+  pub pair_long : (f : Bit4 → Bit4 → Bit4) (xs ys : BitList) → length xs ≡ length ys → length (map2 f xs ys) ≡ length xs
+  -- the value may be said otherwise
+  pub same : (value other : ℕ → BitList) (to : List ℕ) (done : ℕ) (before file : List (Pair W))
+      → ((i : ℕ) → i < lanes → value i ≡ other i) → Fills lane lanes value to done before file → Fills lane lanes other to done before file

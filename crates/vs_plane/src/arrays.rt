@@ -1,31 +1,31 @@
 //! Words of lanes as arrays of 64-bit words.
-ghost use Rattle.std.specs.Prelude.{◌≡◌, ℕ, ◌<◌, ◌*◌, ◌-◌, ◌^◌, min, length, slice_index, bit_and, bit_or, bit_xor, ◌==◌, ◌≢◌};
+ghost use Rattle.std.specs.Prelude.{◌≡◌, ℕ, ◌<◌, ◌*◌, ◌-◌, ◌^◌, min, refl, length, slice_index, bit_and, bit_or, bit_xor, ◌==◌, ◌≢◌};
 ghost use Rattle.std.specs.Int.{bit_at};
 ghost use Rattle.vs_plane.specs.Bits.{bit_of_words};
 
 use crate::traits::{Lanes, Word};
 
-/// `K` words of 64 bits, with `64 * K` lanes, but never more than an eighth of what a `u32` counts. Lane i is bit i % 64 of word i / 64.
+/// `K` words of 64 bits, with `64 * K` lanes, as far as a `u32` counts them. Lane i is bit i % 64 of word i / 64.
 #[derive(Clone, Copy)]
 pub struct Words<const K: usize> {
     pub(crate) words: [u64; K],
 }
 
-// The number of bits of this many words, as far as a `u32` counts eight times as many.
-pub(crate) const fn lanes_of(words: usize) -> u32
-    ensures { result ≡ min (64 * words) (2 ^ 29 - 1) }
+// The number of bits of this many words, as far as a `u32` counts them.
+const fn lanes_of(words: usize) -> u32
+    ensures { result ≡ 64 * min words (2 ^ 26 - 1) }
 {
-    if words < 8_388_608 {
+    if words < 67_108_864 {
         64 * words as u32
     } else {
-        u32::MAX / 8
+        4_294_967_232
     }
 }
 
 impl<const K: usize> Word for Words<K> {
     ghost lane = { λ w. bit_of_words w.words };
 
-    ghost LANES = { min (64 * K) (2 ^ 29 - 1) };
+    ghost LANES = { 64 * min K (2 ^ 26 - 1) };
 
     const LANES: u32 = lanes_of(K);
 
@@ -106,18 +106,14 @@ impl<const K: usize> Lanes for Words<K> {
 
     #[inline]
     fn any(self) -> bool {
-        let whole = Self::LANES / 64;
         let mut bits = 0;
-        for k in 0..whole as usize {
-            bits |= self.words[k];
+        for k in 0..Self::LANES / 64 {
+            bits |= self.words[k as usize];
         }
-        // A word of which some bits are no lanes comes last, if there is one: of more words than a `u32` counts the lanes.
-        let mut any = bits != 0;
-        for i in 64 * whole..Self::LANES {
-            any = any || self.bit(i);
-        }
-        any
+        bits != 0
     }
+
+    ghost whole = { (min K (2 ^ 26 - 1), refl) };
 }
 
 // The word with this bit at place `i`.

@@ -3,25 +3,20 @@
 
 ghost use Rattle.vs_plane.specs.Kernels.{FillingComputes};
 ghost use Rattle.vs_plane.specs.Lanes.{EncodingIsExact};
-ghost use Rattle.vs_plane.specs.Turns.{TurnsFill};
 
 mod arrays;
-mod chunks;
 mod counting;
 mod file;
 mod pairs;
-mod rows;
 mod squares;
 mod traits;
 mod vectors;
 
 pub use arrays::Words;
-pub use chunks::parts_law;
 pub use counting::Steps;
 pub use file::PlaneFile;
 pub use pairs::Pair;
-pub use rows::Rows;
-pub use traits::{Chunked, Lanes, Word};
+pub use traits::{Lanes, Word};
 pub use vectors::Columns;
 
 /// Each four-valued bit has one encoding in two planes, and each encoding is of one bit.
@@ -32,9 +27,4 @@ pub fn encoding_law()
 /// A value stored bit by bit, from the first slot to the last, stands there in the end, in every lane.
 pub fn filling_law<W: Word>()
     ensures { FillingComputes W.lane W.LANES }
-{}
-
-/// A value stored part by part, eight slots a turn and then the rest, stands there in the end too.
-pub fn turns_law<W: Word>()
-    ensures { TurnsFill W.lane W.LANES }
 {}

@@ -39,7 +39,7 @@ pub trait Word: Copy {
         ensures { (i : ℕ) → i < LANES → lane result i ≡ differ (lane self i) (lane other i) };
 }
 
-/// A word whose lanes can be read and changed one by one.
+/// A word whose lanes can be read and changed one by one, and 64 at a time.
 pub trait Lanes: Word {
     /// The bit of lane `i`.
     fn bit(self, i: u32) -> bool
@@ -67,25 +67,7 @@ pub trait Lanes: Word {
     fn any(self) -> bool
         ensures none { result ≡ false → (i : ℕ) → i < Self.LANES → Self.lane self i ≡ false }
         ensures some { result ≡ true → (i : ℕ) × (i < Self.LANES) × (Self.lane self i ≡ true) };
-}
 
-/// A word that is one of the eight parts of a wide one. None of its operations shows a bit.
-pub trait Chunked: Word {
-    /// A wide word, of eight times as many lanes. Its part `j`, for `j` below 8, has the lanes from `j * LANES` on.
-    type Eight: Word;
-
-    /// Part `j` of a wide word.
-    fn part(eight: Self::Eight, j: u32) -> Self
-        requires { j < 8 }
-        ensures { (i : ℕ) → i < Self.LANES → Self.lane result i ≡ Self.Eight.lane eight (j * Self.LANES + i) };
-
-    /// The wide word with this part `j`, and the other parts as they are.
-    fn with_part(eight: Self::Eight, j: u32, word: Self) -> Self::Eight
-        requires { j < 8 }
-        ensures changed { (i : ℕ) → i < Self.LANES → Self.Eight.lane result (j * Self.LANES + i) ≡ Self.lane word i }
-        ensures others { (k i : ℕ) → k < 8 → k ≢ j → i < Self.LANES
-            → Self.Eight.lane result (k * Self.LANES + i) ≡ Self.Eight.lane eight (k * Self.LANES + i) };
-
-    // There are as many lanes as the parts have.
-    ghost eight: { Self.Eight.LANES ≡ 8 * Self.LANES };
+    // There are 64 lanes, or so many times 64.
+    ghost whole: { (groups : ℕ) × (Self.LANES ≡ 64 * groups) };
 }
