@@ -12,10 +12,10 @@ use crate::reductions::{
     reduce_xnor, reduce_xor,
 };
 use std::sync::ledger::Ledger;
-use vs_plane::{Chunked, PlaneFile, Steps};
+use vs_plane::{PlaneFile, Steps, Word};
 
 /// Runs a kernel of one argument.
-pub fn run_one<W: Chunked, L: Ledger>(
+pub fn run_one<W: Word, L: Ledger>(
     kernel: Kernel,
     file: &mut PlaneFile<W>,
     a: &[u32],
@@ -55,7 +55,7 @@ pub fn run_one<W: Chunked, L: Ledger>(
 }
 
 /// Runs a kernel of two arguments.
-pub fn run_two<W: Chunked, L: Ledger>(
+pub fn run_two<W: Word, L: Ledger>(
     kernel: Kernel,
     file: &mut PlaneFile<W>,
     a: &[u32],

@@ -1,4 +1,4 @@
-//! Equality, and the matches of `case` (IEEE 1364-2005, 5.1.8 and 9.5), with one store each: the fold stays in registers, eight places a turn.
+//! Equality, and the matches of `case` (IEEE 1364-2005, 5.1.8 and 9.5), with one store each: the fold stays in registers.
 ghost use Rattle.std.specs.Prelude.{◌≡◌, ℕ, ◌+◌, ◌<◌, length, All, [], ◌∷◌};
 ghost use Rattle.vs_four.specs.Logic.{equal, identical, map2, matches_x, matches_z, reduce_and};
 ghost use Rattle.vs_plane.specs.Kernels.{AreTargets, Computes, IsArgument, binary, bit_of_two, lane_bits};
@@ -7,14 +7,13 @@ ghost use Rattle.vs_kern_logic.specs.Costs.{cost_of};
 ghost use Rattle.vs_kern_logic.specs.Gates.{gate_bit, output_bit};
 ghost use Rattle.vs_kern_logic.specs.Operators.{not_equal, not_identical};
 
-use crate::gates::{Fold, Gate, goes_by_eights, output, store_bit};
-use crate::laws::match_places;
+use crate::gates::{Gate, output, store_bit};
 use std::sync::ledger::Ledger;
 use vs_four::Bit4;
-use vs_plane::{Chunked, Pair, PlaneFile, Steps, parts_law, turns_law};
+use vs_plane::{Pair, PlaneFile, Steps, Word};
 
 /// `a == b` (IEEE 1364-2005, 5.1.8): 0 where two known bits differ, whatever stands elsewhere, else x where a bit is unknown, else 1.
-pub fn equal<W: Chunked, L: Ledger>(
+pub fn equal<W: Word, L: Ledger>(
     file: &mut PlaneFile<W>,
     a: &[u32],
     b: &[u32],
@@ -34,7 +33,7 @@ pub fn equal<W: Chunked, L: Ledger>(
 }
 
 /// `a != b` (IEEE 1364-2005, 5.1.8): `~` of `a == b`.
-pub fn not_equal<W: Chunked, L: Ledger>(
+pub fn not_equal<W: Word, L: Ledger>(
     file: &mut PlaneFile<W>,
     a: &[u32],
     b: &[u32],
@@ -54,7 +53,7 @@ pub fn not_equal<W: Chunked, L: Ledger>(
 }
 
 /// `a === b` (IEEE 1364-2005, 5.1.8), and the match of `case` (9.5): all bits as written, x and z too.
-pub fn case_equal<W: Chunked, L: Ledger>(
+pub fn case_equal<W: Word, L: Ledger>(
     file: &mut PlaneFile<W>,
     a: &[u32],
     b: &[u32],
@@ -74,7 +73,7 @@ pub fn case_equal<W: Chunked, L: Ledger>(
 }
 
 /// `a !== b` (IEEE 1364-2005, 5.1.8): `~` of `a === b`.
-pub fn case_not_equal<W: Chunked, L: Ledger>(
+pub fn case_not_equal<W: Word, L: Ledger>(
     file: &mut PlaneFile<W>,
     a: &[u32],
     b: &[u32],
@@ -94,7 +93,7 @@ pub fn case_not_equal<W: Chunked, L: Ledger>(
 }
 
 /// The match of `casez` (IEEE 1364-2005, 9.5.1): as `case`, but a z on either side matches any bit.
-pub fn matches_z<W: Chunked, L: Ledger>(
+pub fn matches_z<W: Word, L: Ledger>(
     file: &mut PlaneFile<W>,
     a: &[u32],
     b: &[u32],
@@ -114,7 +113,7 @@ pub fn matches_z<W: Chunked, L: Ledger>(
 }
 
 /// The match of `casex` (IEEE 1364-2005, 9.5.1): as `case`, but an x or z on either side matches any bit.
-pub fn matches_x<W: Chunked, L: Ledger>(
+pub fn matches_x<W: Word, L: Ledger>(
     file: &mut PlaneFile<W>,
     a: &[u32],
     b: &[u32],
@@ -134,7 +133,7 @@ pub fn matches_x<W: Chunked, L: Ledger>(
 }
 
 /// Whether a gate gives 1 at each place of two arguments, inverted where this says so.
-fn compare<W: Chunked, L: Ledger>(
+fn compare<W: Word, L: Ledger>(
     gate: Gate,
     inverted: bool,
     file: &mut PlaneFile<W>,
@@ -156,25 +155,18 @@ fn compare<W: Chunked, L: Ledger>(
     store_bit(file, to, scratch, pair, steps);
 }
 
-/// The `&` of what a gate gives at each place of two arguments, in each lane: eight places a turn, and the rest one by one.
-fn match_bits<W: Chunked>(gate: Gate, file: &PlaneFile<W>, a: &[u32], b: &[u32]) -> Pair<W>
+/// The `&` of what a gate gives at each place of two arguments, in each lane.
+fn match_bits<W: Word>(gate: Gate, file: &PlaneFile<W>, a: &[u32], b: &[u32]) -> Pair<W>
     requires a { All (λ slot. slot < length file.now) a.now }
     requires b { All (λ slot. slot < length file.now) b.now }
     requires lengths { length b.now ≡ length a.now }
     ensures { (i : ℕ) → i < W.LANES → pair_lane W.lane result i
         ≡ reduce_and (map2 (gate_bit gate) (lane_bits W.lane file.now a.now i) (lane_bits W.lane file.now b.now i)) }
 {
-    parts_law::<W>();
-    turns_law::<W>();
-    if !goes_by_eights::<W>() {
-        return match_places(gate, Pair::of_bit(Bit4::One), file, a, b);
+    let mut pair = Pair::of_bit(Bit4::One);
+    for (k, slot) in a.iter().enumerate() {
+        let matched = gate.apply(file.load(*slot), file.load(b[k]));
+        pair = pair.and(matched);
     }
-    let (a_chunks, a_rest) = a.as_chunks::<8>();
-    let (b_chunks, b_rest) = b.as_chunks::<8>();
-    let mut eight: Pair<W::Eight> = Pair::of_bit(Bit4::One);
-    for (n, slots) in a_chunks.iter().enumerate() {
-        let matched = gate.apply(file.load_chunk(slots), file.load_chunk(&b_chunks[n]));
-        eight = eight.and(matched);
-    }
-    match_places(gate, Fold::All.parts(eight), file, a_rest, b_rest)
+    pair
 }

@@ -1,14 +1,12 @@
 //! Operators on one bit and on two, and the store of a value of one bit.
 ghost use Rattle.std.specs.Prelude.{◌≡◌, ℕ, ◌+◌, ◌<◌, length, [], ◌∷◌};
-ghost use Rattle.vs_four.specs.Logic.{fold_with};
-ghost use Rattle.vs_plane.specs.Chunks.{parts};
 ghost use Rattle.vs_plane.specs.Kernels.{AreTargets, KeepsOthers, lane_bits};
 ghost use Rattle.vs_plane.specs.Lanes.{pair_lane};
 ghost use Rattle.vs_kern_logic.specs.Gates.{first_bit, fold_bit, gate_bit, output_bit};
 
 use std::sync::ledger::Ledger;
 use vs_four::Bit4;
-use vs_plane::{Chunked, Pair, PlaneFile, Steps, Word, filling_law, parts_law};
+use vs_plane::{Pair, PlaneFile, Steps, Word, filling_law};
 
 /// An operator on two bits.
 #[derive(Clone, Copy)]
@@ -81,26 +79,6 @@ impl Fold {
             Fold::Parity => a.xor(b),
         }
     }
-
-    /// The eight parts of a wide pair folded, in each lane.
-    #[inline]
-    pub(crate) fn parts<W: Chunked>(self, eight: Pair<W::Eight>) -> Pair<W>
-        ensures { (i : ℕ) → i < W.LANES → pair_lane W.lane result i
-            ≡ fold_with (fold_bit self) (first_bit self) (parts W.Eight.lane W.LANES eight i) }
-    {
-        parts_law::<W>();
-        let mut pair = Pair::of_bit(self.first());
-        for j in 0..8 {
-            pair = self.apply(pair, Pair::<W>::part(eight, j));
-        }
-        pair
-    }
-}
-
-/// Whether eight slots a turn are faster than one: eight words of more than 64 lanes don't fit into the processor's registers.
-#[inline]
-pub(crate) fn goes_by_eights<W: Word>() -> bool {
-    W::LANES <= 64
 }
 
 /// The bits, inverted where this says so, in each lane.

@@ -7,7 +7,6 @@ mod calls;
 mod comparisons;
 mod costs;
 mod gates;
-mod laws;
 mod reductions;
 
 pub use bitwise::{and, copy, not, or, xnor, xor};

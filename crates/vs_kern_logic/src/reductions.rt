@@ -1,4 +1,4 @@
-//! Reductions and truths (IEEE 1364-2005, 5.1.9 and 5.1.11), with one store each: the fold stays in registers, eight slots a turn.
+//! Reductions and truths (IEEE 1364-2005, 5.1.9 and 5.1.11), with one store each: the fold stays in registers.
 ghost use Rattle.std.specs.Prelude.{◌≡◌, ℕ, ◌+◌, ◌<◌, length, All, [], ◌∷◌};
 ghost use Rattle.vs_four.specs.Logic.{fold_with, reduce_and, reduce_or, reduce_xor, truth};
 ghost use Rattle.vs_plane.specs.Kernels.{AreTargets, Computes, IsArgument, binary, bit_of_one, bit_of_two, lane_bits, unary};
@@ -7,13 +7,12 @@ ghost use Rattle.vs_kern_logic.specs.Costs.{cost_of};
 ghost use Rattle.vs_kern_logic.specs.Gates.{first_bit, fold_bit, gate_bit, output_bit};
 ghost use Rattle.vs_kern_logic.specs.Operators.{logical_and, logical_not, logical_or, reduce_nand, reduce_nor, reduce_xnor};
 
-use crate::gates::{Fold, Gate, goes_by_eights, output, store_bit};
-use crate::laws::fold_places;
+use crate::gates::{Fold, Gate, output, store_bit};
 use std::sync::ledger::Ledger;
-use vs_plane::{Chunked, Pair, PlaneFile, Steps, parts_law, turns_law};
+use vs_plane::{Pair, PlaneFile, Steps, Word};
 
 /// `&a` (IEEE 1364-2005, 5.1.11): 0 where some bit is 0, else x where some bit is unknown, else 1.
-pub fn reduce_and<W: Chunked, L: Ledger>(
+pub fn reduce_and<W: Word, L: Ledger>(
     file: &mut PlaneFile<W>,
     a: &[u32],
     to: &[u32],
@@ -30,7 +29,7 @@ pub fn reduce_and<W: Chunked, L: Ledger>(
 }
 
 /// `~&a` (IEEE 1364-2005, 5.1.11): `~` of `&a`.
-pub fn reduce_nand<W: Chunked, L: Ledger>(
+pub fn reduce_nand<W: Word, L: Ledger>(
     file: &mut PlaneFile<W>,
     a: &[u32],
     to: &[u32],
@@ -47,7 +46,7 @@ pub fn reduce_nand<W: Chunked, L: Ledger>(
 }
 
 /// `|a` (IEEE 1364-2005, 5.1.11): 1 where some bit is 1, else x where some bit is unknown, else 0.
-pub fn reduce_or<W: Chunked, L: Ledger>(
+pub fn reduce_or<W: Word, L: Ledger>(
     file: &mut PlaneFile<W>,
     a: &[u32],
     to: &[u32],
@@ -64,7 +63,7 @@ pub fn reduce_or<W: Chunked, L: Ledger>(
 }
 
 /// `~|a` (IEEE 1364-2005, 5.1.11): `~` of `|a`.
-pub fn reduce_nor<W: Chunked, L: Ledger>(
+pub fn reduce_nor<W: Word, L: Ledger>(
     file: &mut PlaneFile<W>,
     a: &[u32],
     to: &[u32],
@@ -81,7 +80,7 @@ pub fn reduce_nor<W: Chunked, L: Ledger>(
 }
 
 /// `^a` (IEEE 1364-2005, 5.1.11): x where some bit is unknown, else whether the number of ones is odd.
-pub fn reduce_xor<W: Chunked, L: Ledger>(
+pub fn reduce_xor<W: Word, L: Ledger>(
     file: &mut PlaneFile<W>,
     a: &[u32],
     to: &[u32],
@@ -98,7 +97,7 @@ pub fn reduce_xor<W: Chunked, L: Ledger>(
 }
 
 /// `~^a` (IEEE 1364-2005, 5.1.11): `~` of `^a`.
-pub fn reduce_xnor<W: Chunked, L: Ledger>(
+pub fn reduce_xnor<W: Word, L: Ledger>(
     file: &mut PlaneFile<W>,
     a: &[u32],
     to: &[u32],
@@ -115,7 +114,7 @@ pub fn reduce_xnor<W: Chunked, L: Ledger>(
 }
 
 /// `!a` (IEEE 1364-2005, 5.1.9): `~` of the truth of the argument.
-pub fn logical_not<W: Chunked, L: Ledger>(
+pub fn logical_not<W: Word, L: Ledger>(
     file: &mut PlaneFile<W>,
     a: &[u32],
     to: &[u32],
@@ -132,7 +131,7 @@ pub fn logical_not<W: Chunked, L: Ledger>(
 }
 
 /// `a && b` (IEEE 1364-2005, 5.1.9): `&` of the truths of the arguments, which may have any lengths.
-pub fn logical_and<W: Chunked, L: Ledger>(
+pub fn logical_and<W: Word, L: Ledger>(
     file: &mut PlaneFile<W>,
     a: &[u32],
     b: &[u32],
@@ -151,7 +150,7 @@ pub fn logical_and<W: Chunked, L: Ledger>(
 }
 
 /// `a || b` (IEEE 1364-2005, 5.1.9): `|` of the truths of the arguments, which may have any lengths.
-pub fn logical_or<W: Chunked, L: Ledger>(
+pub fn logical_or<W: Word, L: Ledger>(
     file: &mut PlaneFile<W>,
     a: &[u32],
     b: &[u32],
@@ -170,7 +169,7 @@ pub fn logical_or<W: Chunked, L: Ledger>(
 }
 
 /// A fold of the argument, inverted where this says so.
-fn reduce<W: Chunked, L: Ledger>(
+fn reduce<W: Word, L: Ledger>(
     fold: Fold,
     inverted: bool,
     file: &mut PlaneFile<W>,
@@ -190,7 +189,7 @@ fn reduce<W: Chunked, L: Ledger>(
 }
 
 /// A gate of the truths of two arguments.
-fn logical<W: Chunked, L: Ledger>(
+fn logical<W: Word, L: Ledger>(
     gate: Gate,
     file: &mut PlaneFile<W>,
     a: &[u32],
@@ -211,28 +210,22 @@ fn logical<W: Chunked, L: Ledger>(
 }
 
 /// The truth of a vector in each lane (IEEE 1364-2005, 5.1.9): 1 where some bit is 1, 0 where all bits are 0, else x. It stores nothing.
-pub fn truth<W: Chunked>(file: &PlaneFile<W>, a: &[u32]) -> Pair<W>
+pub fn truth<W: Word>(file: &PlaneFile<W>, a: &[u32]) -> Pair<W>
     requires { All (λ slot. slot < length file.now) a.now }
     ensures { (i : ℕ) → i < W.LANES → pair_lane W.lane result i ≡ truth (lane_bits W.lane file.now a.now i) }
 {
     fold_bits(Fold::Any, file, a)
 }
 
-/// The bits of the argument folded, in each lane: eight slots a turn, and the rest one by one.
-fn fold_bits<W: Chunked>(fold: Fold, file: &PlaneFile<W>, a: &[u32]) -> Pair<W>
+/// The bits of the argument folded, in each lane.
+fn fold_bits<W: Word>(fold: Fold, file: &PlaneFile<W>, a: &[u32]) -> Pair<W>
     requires { All (λ slot. slot < length file.now) a.now }
     ensures { (i : ℕ) → i < W.LANES → pair_lane W.lane result i
         ≡ fold_with (fold_bit fold) (first_bit fold) (lane_bits W.lane file.now a.now i) }
 {
-    parts_law::<W>();
-    turns_law::<W>();
-    if !goes_by_eights::<W>() {
-        return fold_places(fold, Pair::of_bit(fold.first()), file, a);
+    let mut pair = Pair::of_bit(fold.first());
+    for slot in a {
+        pair = fold.apply(pair, file.load(*slot));
     }
-    let (chunks, rest) = a.as_chunks::<8>();
-    let mut eight: Pair<W::Eight> = Pair::of_bit(fold.first());
-    for slots in chunks {
-        eight = fold.apply(eight, file.load_chunk(slots));
-    }
-    fold_places(fold, fold.parts(eight), file, rest)
+    pair
 }

@@ -1,12 +1,9 @@
-use Rattle.std.proofs.Common.{◌≡◌, ℕ, ◌*◌, ◌<◌, drop}
-use Rattle.vs_four.specs.Logic.{fold_with}
-use Rattle.vs_plane.specs.Chunks.{parts}
-use Rattle.vs_plane.specs.Kernels.{lane_bits}
-use Rattle.vs_kern_logic.specs.Gates.{fold_bit, first_bit}
+use Rattle.std.proofs.Common.{◌≡◌, ℕ, ◌<◌, drop}
+use Rattle.vs_plane.specs.Lanes.{pair_lane}
+use Rattle.vs_kern_logic.specs.Gates.{first_bit, fold_bit}
+use Rattle.vs_kern_logic.proofs.Folds.{rest}
 use Rattle.vs_kern_logic.proofs.reductions.fold_bits.Given as goal
 
--- the bits that are left make of the eight folds so far what all bits make of the first bit
-abbrev pub invariant-loop-slots : goal.invariant-loop-slots
-invariant-loop-slots g l = (i : ℕ) → i < g.W.Word.LANES
-    → fold_with (fold_bit l.fold) (fold_with (fold_bit l.fold) (first_bit l.fold) (parts g.W.Eight.Word.lane g.W.Word.LANES l.eight i)) (lane_bits g.W.Word.lane l.file (drop (8 * l.slots-index) l.a) i)
-    ≡ fold_with (fold_bit l.fold) (first_bit l.fold) (lane_bits g.W.Word.lane l.file l.a i)
+-- what is left makes of the bit so far what the whole makes of the first one
+abbrev pub invariant-loop-slot : goal.invariant-loop-slot
+invariant-loop-slot g l = (i : ℕ) → i < g.W.Word.LANES → rest g.W.Word.lane l.file i (fold_bit l.fold) (pair_lane g.W.Word.lane l.pair i) (drop l.slot-index l.a) ≡ rest g.W.Word.lane l.file i (fold_bit l.fold) (first_bit l.fold) l.a
