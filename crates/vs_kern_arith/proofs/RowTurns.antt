@@ -1,5 +1,5 @@
 -- A row added in place to the slots from its place on.
-use Rattle.std.proofs.Common.{◌≡◌, ℕ, suc, ◌+◌, ◌-◌, ◌<◌, Bool, List, length, get_or, drop, Option, refl, sym, ap, ◌∙◌, subst, arith, inl, inr, length-drop}
+use Rattle.std.proofs.Common.{◌≡◌, ℕ, suc, ◌+◌, ◌-◌, ◌<◌, ◌≤◌, Bool, List, length, get_or, drop, Option, refl, sym, ap, ◌∙◌, subst, arith, inl, inr, length-drop}
 use Rattle.std.proofs.lemmas.Bool.{cases_lt}
 use Rattle.std.proofs.lemmas.List.{ext_get_or, get_or-drop}
 use Rattle.vs_four.specs.declared.Bit4.TheVariants.{X}
@@ -7,11 +7,16 @@ use Rattle.vs_four.specs.Logic.{BitList, all_known}
 use Rattle.vs_plane.specs.declared.pairs.Pair.{Pair}
 use Rattle.vs_plane.specs.Lanes.{lane_or_x, slot_lane}
 use Rattle.vs_plane.specs.Kernels.{lane_bits, AreDifferent, Fills, FillingComputes}
-use Rattle.vs_plane.specs.Turns.{IsPart}
 use Rattle.vs_kern_arith.specs.Digits.{digits}
 use Rattle.vs_kern_arith.specs.Rows.{row_added}
 use Rattle.vs_kern_arith.proofs.SumLaws.{some_unknown}
 use Rattle.vs_kern_arith.proofs.ProductLaws.{product, length-product, product_low, row_stands}
+
+-- `part` is the `count` numbers of `xs` from place `from` on
+pub record IsPart (xs part : List ℕ) (from count : ℕ) : Type 0 where
+  pub long : length part ≡ count
+  pub within : from + count ≤ length xs
+  pub at : (j : ℕ) → j < count → get_or part j 0 ≡ get_or xs (from + j) 0
 
 -- no slot below the part is one of it
 below_part : (to part : List ℕ) (n count k j : ℕ) → AreDifferent to → IsPart to part n count → k < n → j < count → get_or part j 0 ≡ get_or to k 0 → ⊥

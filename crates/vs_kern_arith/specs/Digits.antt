@@ -46,10 +46,6 @@ summed inverted w a b = if_known (all_known a && all_known b) w (bits_of w (tota
 abbrev pub digits : BitList → ℕ → Bool
 digits a k = value_bit (slice_index_or a k Zero)
 
--- the digits of a vector from place k on, inverted where this says so; those past its end are 0, inverted too
-abbrev pub digits_from : Bool → BitList → ℕ → ℕ → Bool
-digits_from inverted a k j = differ inverted (value_bit (slice_index_or a (k + j) Zero))
-
 -- the carry into place k, where c is the one into place 0: a place generates one, or passes on the one into it
 unfoldable pub carry_into : (ℕ → Bool) → (ℕ → Bool) → Bool → ℕ → Bool
 carry_into generates passes c zero = c

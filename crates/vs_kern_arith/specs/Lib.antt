@@ -2,4 +2,3 @@ pub mod Digits
 pub mod Operators
 pub mod Costs
 pub mod Rows
-pub mod Parts

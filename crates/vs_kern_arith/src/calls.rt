@@ -9,10 +9,10 @@ use crate::orders::{greater, greater_equal, less, less_equal};
 use crate::products::mul;
 use crate::sums::{add, neg, sub};
 use std::sync::ledger::Ledger;
-use vs_plane::{Chunked, PlaneFile, Steps};
+use vs_plane::{PlaneFile, Steps, Word};
 
 /// Runs a kernel of one argument.
-pub fn run_one<W: Chunked, L: Ledger>(
+pub fn run_one<W: Word, L: Ledger>(
     kernel: Kernel,
     file: &mut PlaneFile<W>,
     a: &[u32],
@@ -39,7 +39,7 @@ pub fn run_one<W: Chunked, L: Ledger>(
 }
 
 /// Runs a kernel of two arguments.
-pub fn run_two<W: Chunked, L: Ledger>(
+pub fn run_two<W: Word, L: Ledger>(
     kernel: Kernel,
     file: &mut PlaneFile<W>,
     a: &[u32],

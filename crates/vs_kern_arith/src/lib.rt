@@ -2,9 +2,7 @@
 #![tactic(auto)]
 
 mod calls;
-mod carries;
 mod costs;
-mod laws;
 mod orders;
 mod products;
 mod sums;

@@ -10,10 +10,10 @@ ghost use Rattle.vs_kern_arith.specs.Operators.{greater, greater_equal, less_equ
 
 use crate::words::{digit_at, known_bits, next_less, top_digit, unknown_lanes};
 use std::sync::ledger::Ledger;
-use vs_plane::{Chunked, Pair, PlaneFile, Steps, Word, filling_law};
+use vs_plane::{Pair, PlaneFile, Steps, Word, filling_law};
 
 /// `a < b` (IEEE 1364-2005, 5.1.7), of two's complement where it is signed: x where a bit of the operands is unknown.
-pub fn less<W: Chunked, L: Ledger>(
+pub fn less<W: Word, L: Ledger>(
     signed: bool,
     file: &mut PlaneFile<W>,
     a: &[u32],
@@ -35,7 +35,7 @@ pub fn less<W: Chunked, L: Ledger>(
 }
 
 /// `a <= b` (IEEE 1364-2005, 5.1.7), of two's complement where it is signed: x where a bit of the operands is unknown.
-pub fn less_equal<W: Chunked, L: Ledger>(
+pub fn less_equal<W: Word, L: Ledger>(
     signed: bool,
     file: &mut PlaneFile<W>,
     a: &[u32],
@@ -57,7 +57,7 @@ pub fn less_equal<W: Chunked, L: Ledger>(
 }
 
 /// `a > b` (IEEE 1364-2005, 5.1.7), of two's complement where it is signed: x where a bit of the operands is unknown.
-pub fn greater<W: Chunked, L: Ledger>(
+pub fn greater<W: Word, L: Ledger>(
     signed: bool,
     file: &mut PlaneFile<W>,
     a: &[u32],
@@ -79,7 +79,7 @@ pub fn greater<W: Chunked, L: Ledger>(
 }
 
 /// `a >= b` (IEEE 1364-2005, 5.1.7), of two's complement where it is signed: x where a bit of the operands is unknown.
-pub fn greater_equal<W: Chunked, L: Ledger>(
+pub fn greater_equal<W: Word, L: Ledger>(
     signed: bool,
     file: &mut PlaneFile<W>,
     a: &[u32],
@@ -101,7 +101,7 @@ pub fn greater_equal<W: Chunked, L: Ledger>(
 }
 
 /// `a < b` in each lane. It stores nothing.
-fn less_bit<W: Chunked>(signed: bool, file: &PlaneFile<W>, a: &[u32], b: &[u32]) -> Pair<W>
+fn less_bit<W: Word>(signed: bool, file: &PlaneFile<W>, a: &[u32], b: &[u32]) -> Pair<W>
     requires a { All (λ slot. slot < length file.now) a.now }
     requires b { All (λ slot. slot < length file.now) b.now }
     requires lengths { length b.now ≡ length a.now }

@@ -9,10 +9,10 @@ ghost use Rattle.vs_kern_arith.specs.Rows.{row_added};
 
 use crate::words::{digit_sum, known_bits, next_carry, unknown_lanes};
 use std::sync::ledger::Ledger;
-use vs_plane::{Chunked, PlaneFile, Steps, Word, filling_law, turns_law};
+use vs_plane::{PlaneFile, Steps, Word, filling_law};
 
 /// `a * b` (IEEE 1364-2005, 5.1.5): the product modulo 2^w, or all x where a bit of the operands is unknown.
-pub fn mul<W: Chunked, L: Ledger>(
+pub fn mul<W: Word, L: Ledger>(
     file: &mut PlaneFile<W>,
     a: &[u32],
     b: &[u32],
@@ -29,7 +29,6 @@ pub fn mul<W: Chunked, L: Ledger>(
     ensures ticked { steps.new ≡ steps.old + cost_of Mul (length a.now ∷ length b.now ∷ length to.now ∷ []) }
 {
     filling_law::<W>();
-    turns_law::<W>();
     let unknown = unknown_lanes(unknown_lanes(W::none(), file, a), file, b);
     clear(unknown, file, to, steps);
     for n in 0..to.len() {

@@ -1,56 +1,27 @@
 //! Digits, carries and the unknown lanes, as words with a bit for each lane.
 ghost use Rattle.std.specs.Prelude.{◌≡◌, ℕ, ◌<◌, not, ◌||◌, length, slice_index_or, All, if◌then◌else◌};
-ghost use Rattle.std.specs.List.{list_any};
 ghost use Rattle.vs_four.specs.declared.Bit4.TheVariants.{X, Zero};
 ghost use Rattle.vs_four.specs.Lengths.{last_or};
 ghost use Rattle.vs_four.specs.Logic.{all_known};
 ghost use Rattle.vs_four.specs.Tables.{of_bool};
 ghost use Rattle.vs_plane.specs.Bits.{differ};
-ghost use Rattle.vs_plane.specs.Chunks.{eight_places};
 ghost use Rattle.vs_plane.specs.Kernels.{lane_bits};
 ghost use Rattle.vs_plane.specs.Lanes.{pair_lane, value_bit};
 ghost use Rattle.vs_kern_arith.specs.Digits.{carry_of, less_of, sum_of};
-ghost use Rattle.vs_kern_arith.specs.Parts.{part_bit};
 
-use crate::laws::unknown_places;
-use vs_plane::{Chunked, Pair, PlaneFile, Word, parts_law, turns_law};
+use vs_plane::{Pair, PlaneFile, Word};
 
-/// The lanes in which a vector has an unknown bit, and those of `first`: where that is faster eight slots a turn, and the rest one by one.
-pub(crate) fn unknown_lanes<W: Chunked>(first: W, file: &PlaneFile<W>, a: &[u32]) -> W
+/// The lanes in which a vector has an unknown bit, and those of `first`.
+pub(crate) fn unknown_lanes<W: Word>(first: W, file: &PlaneFile<W>, a: &[u32]) -> W
     requires { All (λ slot. slot < length file.now) a.now }
     ensures { (i : ℕ) → i < W.LANES
         → W.lane result i ≡ (W.lane first i || not (all_known (lane_bits W.lane file.now a.now i))) }
 {
-    parts_law::<W>();
-    turns_law::<W>();
-    if a.len() < 8 || !goes_by_eights::<W>() {
-        return unknown_places(first, file, a);
+    let mut unknown = first;
+    for slot in a {
+        unknown = unknown.or(file.load(*slot).unknown);
     }
-    let (chunks, rest) = a.as_chunks::<8>();
-    let mut eight: W::Eight = Word::none();
-    for slots in chunks {
-        eight = eight.or(file.load_chunk(slots).unknown);
-    }
-    unknown_places(some_part(first, eight), file, rest)
-}
-
-/// Whether eight slots a turn are faster than one: eight words of more than 64 lanes don't fit into the processor's registers.
-#[inline]
-pub(crate) fn goes_by_eights<W: Word>() -> bool {
-    W::LANES <= 64
-}
-
-/// The lanes that some part of a wide word has, and those of `first`.
-#[inline]
-pub(crate) fn some_part<W: Chunked>(first: W, eight: W::Eight) -> W
-    ensures { (i : ℕ) → i < W.LANES → W.lane result i ≡ (W.lane first i || list_any (part_bit W.Eight.lane W.LANES eight i) eight_places) }
-{
-    parts_law::<W>();
-    let mut word = first;
-    for j in 0..8 {
-        word = word.or(W::part(eight, j));
-    }
-    word
+    unknown
 }
 
 /// The value bits at place `k` of a vector, and 0 past its end.

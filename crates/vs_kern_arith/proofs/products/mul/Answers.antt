@@ -6,12 +6,11 @@ use Rattle.vs_four.specs.Logic.{BitList, all_known}
 use Rattle.vs_plane.specs.declared.pairs.Pair.{Pair}
 use Rattle.vs_plane.specs.Lanes.{lane_or_x, slot_lane, value_bit}
 use Rattle.vs_plane.specs.Kernels.{lane_bits}
-use Rattle.vs_plane.specs.Turns.{IsPart}
 use Rattle.vs_kern_arith.specs.Digits.{digits}
 use Rattle.vs_kern_arith.specs.Rows.{row_added}
 use Rattle.vs_kern_arith.proofs.SumLaws.{some_unknown}
 use Rattle.vs_kern_arith.proofs.ProductLaws.{product, product_begins, product_ends}
-use Rattle.vs_kern_arith.proofs.RowTurns.{row_turn, row_added-same, rest_part}
+use Rattle.vs_kern_arith.proofs.RowTurns.{IsPart, row_turn, row_added-same, rest_part}
 use Rattle.vs_kern_arith.proofs.Still.{unmoved, value_plane_is}
 use Rattle.vs_kern_arith.proofs.products.mul.Goals as goal
 

@@ -1,46 +1,45 @@
-use Rattle.std.proofs.Common.{◌≡◌, ℕ, ◌+◌, ◌*◌, ◌/◌, ◌<◌, not, ◌||◌, Bool, List, [], length, get_or, drop, sym, ap, ◌∙◌, arith}
-use Rattle.std.specs.List.{list_any}
-use Rattle.vs_four.specs.Logic.{BitList, all_known}
-use Rattle.vs_plane.specs.Chunks.{eight_places}
+use Rattle.std.proofs.Common.{◌≡◌, ℕ, ◌+◌, not, ◌||◌, ◌&&◌, Bool, true, false, List, get_or, drop, refl, sym, ap, ◌∙◌}
+use Rattle.std.proofs.lemmas.List.{at_drop_more, at_drop_all}
+use Rattle.vs_four.specs.declared.Bit4.{Bit4}
+use Rattle.vs_four.specs.Tables.{is_known}
+use Rattle.vs_four.specs.Logic.{all_known}
+use Rattle.vs_plane.specs.Lanes.{decode, slot_lane}
 use Rattle.vs_plane.specs.Kernels.{lane_bits}
-use Rattle.vs_kern_arith.specs.Parts.{part_bit}
-use Rattle.vs_kern_arith.proofs.PartLaws.{unknown_turn, unknown_begins}
 use Rattle.vs_kern_arith.proofs.words.unknown_lanes.Goals as goal
 
-pub loop-slots-init : goal.loop-slots-init
-loop-slots-init g c = λ i h.
-    ap (λ (v : Bool). v || not (all_known (lane_bits g.W.Word.lane c.args.file.now c.args.a.now i)))
-    (unknown_begins g.W.Eight.Word.lane g.W.Word.LANES c.none-eight.result i (g.W.Word.lane c.args.first i) h (λ n k. c.none-eight.ensures n (omega (arith, c.parts_law.ensures.lanes))))
+-- a bit's unknown plane
+unknown_is : (v u : Bool) → u ≡ not (is_known (decode v u))
+unknown_is true true = refl
+unknown_is true false = refl
+unknown_is false true = refl
+unknown_is false false = refl
 
-pub load_chunk-requires : goal.load_chunk-requires
-load_chunk-requires g c =
-    let small : c.loop-slots.slots-index < length c.args.a.now / 8 = omega (arith, c.as_chunks.ensures.front_len, c.loop-slots-test.true) in
-    c.turns_law.ensures.below (length c.args.file.now) c.args.a.now (get_or c.as_chunks.result.0.now c.loop-slots.slots-index []) (8 * c.loop-slots.slots-index) 8 c.requires
-    (c.turns_law.ensures.chunk c.args.a.now c.as_chunks.result.0.now c.loop-slots.slots-index c.as_chunks.ensures.front small)
+one_more : (u p q : Bool) → ((u || not p) || not q) ≡ (u || not (p && q))
+one_more true p q = refl
+one_more false true q = refl
+one_more false false q = refl
 
-pub loop-slots-preserved : goal.loop-slots-preserved
-loop-slots-preserved g c = λ i h.
+or_false : (u : Bool) → u ≡ (u || false)
+or_false true = refl
+or_false false = refl
+
+pub loop-slot-preserved : goal.loop-slot-preserved
+loop-slot-preserved g c = λ i h.
     let lane = g.W.Word.lane in
-    let wide = g.W.Eight.Word.lane in
-    let lanes = g.W.Word.LANES in
-    let n = c.loop-slots.slots-index in
-    let first : Bool = lane c.args.first i in
-    let so_far : Bool = list_any (part_bit wide lanes c.loop-slots.eight i) eight_places in
-    let small : n < length c.args.a.now / 8 = omega (arith, c.as_chunks.ensures.front_len, c.loop-slots-test.true) in
-    let chunk : List ℕ = get_or c.as_chunks.result.0.now n [] in
-    let rest : BitList = lane_bits lane c.args.file.now (drop (8 * (n + 1)) c.args.a.now) i in
-    unknown_turn wide lanes c.loop-slots.eight c.or-eight.result c.load_chunk.result i first (lane_bits lane c.args.file.now chunk i) rest h
-    (λ m k. c.or-eight.ensures m (omega (arith, c.parts_law.ensures.lanes)))
-    (c.load_chunk.ensures i h)
-    ∙ ap (λ (v : BitList). (first || so_far) || not (all_known v)) (sym (c.turns_law.ensures.bits c.args.file.now i c.args.a.now c.as_chunks.result.0.now n c.as_chunks.ensures.front small))
-    ∙ c.loop-slots.invariant i h
+    let file = c.args.file.now in
+    let n = c.loop-slot.slot-index in
+    let u : Bool = lane c.loop-slot.unknown i in
+    let rest : Bool = all_known (lane_bits lane file (drop (n + 1) c.args.a.now) i) in
+    let slot : ℕ = get_or c.args.a.now n 0 in
+    ap (λ (v : Bool). v || not rest) (c.or-unknown.ensures i h ∙ ap (λ (v : Bool). u || v) (unknown_is (lane c.load.result.value i) (lane c.load.result.unknown i) ∙ ap (λ (b : Bit4). not (is_known b)) (c.load.ensures.lanes i)))
+    ∙ one_more u (is_known (slot_lane lane file slot i)) rest
+    ∙ sym (at_drop_more (λ (xs : List ℕ). u || not (all_known (lane_bits lane file xs i))) c.args.a.now n 0 c.loop-slot-test.true)
+    ∙ c.loop-slot.invariant i h
 
 pub returns : goal.returns
 returns g c = λ i h.
     let lane = g.W.Word.lane in
-    let so_far : Bool = lane c.args.first i || list_any (part_bit g.W.Eight.Word.lane g.W.Word.LANES c.loop-slots.eight i) eight_places in
-    let last : c.loop-slots.slots-index ≡ length c.args.a.now / 8 = omega (arith, c.as_chunks.ensures.front_len, c.loop-slots-test.false) in
-    c.unknown_places-2.ensures i h
-    ∙ ap (λ (v : Bool). v || not (all_known (lane_bits lane c.args.file.now c.as_chunks.result.1.now i))) (c.some_part.ensures i h)
-    ∙ ap (λ (xs : List ℕ). so_far || not (all_known (lane_bits lane c.args.file.now xs i))) (c.turns_law.ensures.rest_is c.args.a.now c.as_chunks.result.1.now c.loop-slots.slots-index c.as_chunks.ensures.back last)
-    ∙ c.loop-slots.invariant i h
+    let u : Bool = lane c.loop-slot.unknown i in
+    or_false u
+    ∙ sym (at_drop_all (λ (xs : List ℕ). u || not (all_known (lane_bits lane c.args.file.now xs i))) c.args.a.now c.loop-slot.slot-index c.loop-slot-test.false)
+    ∙ c.loop-slot.invariant i h
