@@ -1,15 +1,14 @@
 -- The places of a select's bits, by its base.
-use Rattle.std.proofs.Common.{◌≡◌, ◌≢◌, ℕ, zero, suc, ◌+◌, ◌-◌, ◌<◌, ◌≤◌, Bool, true, false, not, ◌&&◌, ◌==◌, if◌then◌else◌, nat_lt, ℤ, pos, negsuc, ◌+ℤ◌, ◌-ℤ◌, int_eq, Option, Some, None, List, [], ◌∷◌, map, length, get_or, set, take, drop, replicate, eq-eqb, refl, sym, ap, ap₂, ◌∙◌, arith}
+use Rattle.std.proofs.Common.{◌≡◌, ◌≢◌, ℕ, zero, suc, ◌+◌, ◌-◌, ◌<◌, ◌≤◌, Bool, true, false, ◌&&◌, ◌==◌, if◌then◌else◌, nat_lt, ℤ, pos, negsuc, ◌+ℤ◌, ◌-ℤ◌, int_eq, Option, Some, None, List, [], ◌∷◌, map, length, get_or, set, take, replicate, eq-eqb, refl, sym, ap, ◌∙◌, arith}
 use Rattle.std.proofs.lemmas.Bool.{cond-true, cond-false, eqb-true, eqb-false, ltb-true, ltb-false}
 use Rattle.std.proofs.lemmas.Bool.Decides.{Decides-int_eq}
 use Rattle.std.proofs.lemmas.Int.{ints}
 use Rattle.std.proofs.lemmas.List.{get_or-map, get_or-take, get_or_past, length-map, length-take-le, get_or-set_same, get_or-set_other, length-set}
 use Rattle.vs_four.specs.declared.Bit4.{Bit4}
 use Rattle.vs_four.specs.declared.Bit4.TheVariants.{X}
-use Rattle.vs_four.specs.declared.Range.{Range}
 use Rattle.vs_four.specs.Logic.{BitList, all_known}
 use Rattle.vs_four.specs.Numbers.{integer}
-use Rattle.vs_four.specs.Selects.{is_descending, range_length, below, place_of, Part, least_index, greatest_index, indices_up, indices_down, indices, places, at_place, select, write_places, write_select}
+use Rattle.vs_four.specs.Selects.{is_descending, range_length, below, place_of, Part, least_index, greatest_index, indices_up, indices_down, indices, places, at_place, select, write_places}
 use Rattle.vs_kern_select.specs.Matches.{base_by, is_number, is_place}
 use Rattle.vs_kern_select.proofs.SelectNumbers.{same_int, other_int}
 

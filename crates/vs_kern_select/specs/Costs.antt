@@ -5,7 +5,6 @@ use Rattle.vs_four.specs.Numbers.{log_up}
 use Rattle.vs_four.specs.Selects.{range_length}
 use Rattle.vs_kern_select.specs.declared.costs.Kernel.{Kernel}
 use Rattle.vs_kern_select.specs.declared.costs.Kernel.TheVariants.{ShiftLeft, ShiftRight, ShiftArith, Select, Write, Choose, Branch}
-use Rattle.vs_kern_select.specs.declared.costs.Selection.{Selection}
 
 -- what a kernel's operands and value are
 pub data Shape : Type 0 where

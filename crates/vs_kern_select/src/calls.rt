@@ -9,10 +9,10 @@ use crate::costs::Kernel;
 use crate::selects::{select, write};
 use crate::shifts::{shift_arith, shift_left, shift_right};
 use std::sync::ledger::Ledger;
-use vs_plane::{Chunked, PlaneFile, Steps};
+use vs_plane::{PlaneFile, Steps, Word};
 
 /// Runs a kernel of two arguments.
-pub fn run_two<W: Chunked, L: Ledger>(
+pub fn run_two<W: Word, L: Ledger>(
     kernel: Kernel,
     file: &mut PlaneFile<W>,
     a: &[u32],
@@ -38,7 +38,7 @@ pub fn run_two<W: Chunked, L: Ledger>(
 }
 
 /// Runs a kernel of three arguments.
-pub fn run_three<W: Chunked, L: Ledger>(
+pub fn run_three<W: Word, L: Ledger>(
     kernel: Kernel,
     file: &mut PlaneFile<W>,
     a: &[u32],

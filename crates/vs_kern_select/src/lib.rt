@@ -5,7 +5,6 @@
 mod calls;
 mod choices;
 mod costs;
-mod laws;
 mod selects;
 mod shifts;
 

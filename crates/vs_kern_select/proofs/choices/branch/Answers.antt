@@ -25,7 +25,7 @@ returns-clause-computes g c =
     ∙ branched_is (t i) (p i) (q i) (as_long i) in
     law.ends (ternary branch) (c.args.c.now ∷ c.args.p.now ∷ c.args.q.now ∷ []) to c.args.scratch.now (length to) before c.choose_bits.new.file
     (λ i h. ap length (sym (branched_is (t i) (p i) (q i) (as_long i)))
-    ∙ c.turns_law.ensures.pair_long (chosen_bit (is_one (t i)) (not (is_one (t i)))) (p i) (q i) (as_long i)
+    ∙ law.pair_long (chosen_bit (is_one (t i)) (not (is_one (t i)))) (p i) (q i) (as_long i)
     ∙ law.long before c.args.p.now i ∙ c.requires.p_length)
     refl
-    (c.turns_law.ensures.same (chosen_bits lane (λ i. chosen_bit (lane c.one-taken.result i) (lane c.not.result i)) before c.args.p.now c.args.q.now) (λ i. if is_one (t i) then p i else q i) to (length to) before c.choose_bits.new.file is c.choose_bits.ensures.fills)
+    (law.same (chosen_bits lane (λ i. chosen_bit (lane c.one-taken.result i) (lane c.not.result i)) before c.args.p.now c.args.q.now) (λ i. if is_one (t i) then p i else q i) to (length to) before c.choose_bits.new.file is c.choose_bits.ensures.fills)

@@ -26,7 +26,7 @@ returns-clause-computes g c =
     ∙ chosen_is (t i) (p i) (q i) (as_long i) in
     law.ends (ternary choose) (c.args.c.now ∷ c.args.p.now ∷ c.args.q.now ∷ []) to c.args.scratch.now (length to) before c.choose_bits.new.file
     (λ i h. ap length (sym (chosen_is (t i) (p i) (q i) (as_long i)))
-    ∙ c.turns_law.ensures.pair_long (chosen_bit (is_one (t i)) (is_one (not_bit (t i)))) (p i) (q i) (as_long i)
+    ∙ law.pair_long (chosen_bit (is_one (t i)) (is_one (not_bit (t i)))) (p i) (q i) (as_long i)
     ∙ law.long before c.args.p.now i ∙ c.requires.p_length)
     refl
-    (c.turns_law.ensures.same (chosen_bits lane (λ i. chosen_bit (lane c.one.result i) (lane c.one-2.result i)) before c.args.p.now c.args.q.now) (λ i. choose_by (t i) (p i) (q i)) to (length to) before c.choose_bits.new.file is c.choose_bits.ensures.fills)
+    (law.same (chosen_bits lane (λ i. chosen_bit (lane c.one.result i) (lane c.one-2.result i)) before c.args.p.now c.args.q.now) (λ i. choose_by (t i) (p i) (q i)) to (length to) before c.choose_bits.new.file is c.choose_bits.ensures.fills)
