@@ -46,14 +46,6 @@ concat_more xss i d l =
     ∙ ap (λ (ys : List ℕ). ys ++ (get_or xss i d ++ [])) (sym (concat_is (take i xss)))
     ∙ ap (λ (ys : List ℕ). concat (take i xss) ++ ys) (append-nil (get_or xss i d))
 
--- one more argument's slots
-pub more_slots : (xss : List (List ℕ)) (i : ℕ) (x : List ℕ) → i < length xss → x ≡ get_or xss i x → count_for (concat (take (i + 1) xss)) ≡ max (count_for (concat (take i xss))) (count_for x)
-more_slots xss i x l e = ap count_for (concat_more xss i x l) ∙ count_for-append (concat (take i xss)) (get_or xss i x) ∙ ap (λ (ys : List ℕ). max (count_for (concat (take i xss))) (count_for ys)) (sym e)
-
--- of all slots of a call
-pub call_count : (args : List (List ℕ)) (to scratch : List ℕ) → max (max (count_for to) (count_for scratch)) (count_for (concat args)) ≡ count_for (concat args ++ (to ++ scratch))
-call_count args to scratch = omega (arith, count_for-append (concat args) (to ++ scratch), count_for-append to scratch)
-
 -- of all slots of calls, with one call more
 pub slots_push : (calls : List Call) (call : Call) → count_for (slots_of (calls ++ call ∷ [])) ≡ max (count_for (slots_of calls)) (count_for (call_slots call))
 slots_push calls call =

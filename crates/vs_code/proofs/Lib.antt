@@ -1,4 +1,6 @@
+pub mod Arena
 pub mod Arguments
 pub mod Counts
+pub mod Kept
 pub mod Runs
 pub mod Weights

@@ -1,7 +1,7 @@
 -- Calls one after the other, and the lanes that they change.
-use Rattle.std.proofs.Common.{◌≡◌, ℕ, zero, suc, ◌<◌, Bool, List, [], ◌∷◌, ◌++◌, length, get_or, take, drop, ◌+◌, ◌-◌, ◌≤◌, sym, ap, ◌∙◌, subst, refl, arith}
-use Rattle.std.proofs.lemmas.List.{take_more, take_all}
-use Rattle.std.proofs.lemmas.List.Sums.{sum_by_more, sum_by_more_le, sum_by-take-le, sum_by-take-drop}
+use Rattle.std.proofs.Common.{◌≡◌, ℕ, zero, suc, ◌<◌, Bool, List, [], ◌∷◌, ◌++◌, length, get_or, slice_get, take, drop, ◌+◌, ◌-◌, ◌≤◌, sym, ap, ◌∙◌, subst, refl, arith}
+use Rattle.std.proofs.lemmas.List.{take_more}
+use Rattle.std.proofs.lemmas.List.Sums.{sum_by_more, sum_by-take-le, sum_by-take-drop}
 use Rattle.std.specs.List.{All, Contains, flat_map, slice_range}
 use Rattle.std.proofs.lemmas.List.Elements.{All-contains, Contains-get_or, Contains-append_left, Contains-append_right, All-take, All-drop}
 use mathlib.Core.Path.{fun_ext}
@@ -9,7 +9,8 @@ use Rattle.vs_plane.specs.declared.pairs.Pair.{Pair}
 use Rattle.vs_plane.specs.Lanes.{slot_lane, lane_or_x}
 use Rattle.vs_plane.specs.Kernels.{Computes}
 use Rattle.vs_code.specs.Kernels.{operator_of}
-use Rattle.vs_code.specs.Calls.{Call, State, IsCall, IsCalled, AreCalled, call_cost, length_of}
+use Rattle.vs_code.specs.Calls.{Call, State, IsCalled, AreCalled, call_cost, call_targets, length_of, targets_of}
+use Rattle.vs_code.proofs.Arguments.{HasRun}
 
 -- calls, and then others from the state that they led to
 pub called-append : (first second : List Call) (before middle after : State) → AreCalled first before middle → AreCalled second middle after → AreCalled (first ++ second) before after
@@ -30,34 +31,25 @@ pub one_called : (call : Call) (before after : State) → AreCalled (call ∷ []
 one_called call before after h = subst (λ (s : State). IsCalled call before s) (sym (fun_ext h.2)) h.1
 
 -- one call more
-pub called_more : (calls : List Call) (n : ℕ) (call : Call) (before middle after : State) → n < length calls → call ≡ get_or calls n call
+called_more : (calls : List Call) (n : ℕ) (call : Call) (before middle after : State) → n < length calls → call ≡ get_or calls n call
     → AreCalled (take n calls) before middle → IsCalled call middle after → AreCalled (take (n + 1) calls) before after
 called_more calls n call before middle after l e h k =
     subst (λ (cs : List Call). AreCalled cs before after)
     (ap (λ (c : Call). take n calls ++ c ∷ []) e ∙ sym (take_more calls n call l))
     (called-append (take n calls) (call ∷ []) before middle after h (called_one call middle after k))
 
--- all of them
-pub called_all : (calls : List Call) (n : ℕ) (before after : State) → length calls ≤ n → AreCalled (take n calls) before after → AreCalled calls before after
-called_all calls n before after l h = subst (λ (cs : List Call). AreCalled cs before after) (take_all n calls l) h
-
-pub length_more : (calls : List Call) (n : ℕ) (call : Call) → n < length calls → call ≡ get_or calls n call → length_of (take (n + 1) calls) ≡ length_of (take n calls) + call_cost call
+length_more : (calls : List Call) (n : ℕ) (call : Call) → n < length calls → call ≡ get_or calls n call → length_of (take (n + 1) calls) ≡ length_of (take n calls) + call_cost call
 length_more calls n call l e = sum_by_more call_cost calls n call l ∙ ap (λ (c : Call). length_of (take n calls) + call_cost c) (sym e)
 
--- the calls so far and the next one make no more stores than all of them
-pub length_within : (calls : List Call) (n : ℕ) (call : Call) → n < length calls → call ≡ get_or calls n call → length_of (take n calls) + call_cost call ≤ length_of calls
-length_within calls n call l e =
-    subst (λ (c : Call). length_of (take n calls) + call_cost c ≤ length_of calls) (sym e) (sum_by_more_le call_cost calls n call l)
-
--- a part of calls is of calls, and makes no more stores than all of them
-pub part_calls : (calls : List Call) (i j : ℕ) → All IsCall calls → All IsCall (slice_range calls i j)
-part_calls calls i j h = All-take IsCall (j - i) (drop i calls) (All-drop IsCall i calls h)
+-- what holds of all holds of a part; a part of calls makes no more stores than all of them
+pub part_all : {X : Type 0} (P : X → Type 0) (xs : List X) (i j : ℕ) → All P xs → All P (slice_range xs i j)
+part_all P xs i j h = All-take P (j - i) (drop i xs) (All-drop P i xs h)
 
 pub part_length : (calls : List Call) (i j : ℕ) → length_of (slice_range calls i j) ≤ length_of calls
 part_length calls i j = omega (arith, sum_by-take-le call_cost (drop i calls) (j - i), sum_by-take-drop call_cost calls i)
 
 -- what a kernel computes in all lanes it does in each
-pub lane_called : {W : Type 0} (lane : W → ℕ → Bool) (lanes : ℕ) (call : Call) (before after : List (Pair W)) (i : ℕ) → i < lanes
+lane_called : {W : Type 0} (lane : W → ℕ → Bool) (lanes : ℕ) (call : Call) (before after : List (Pair W)) (i : ℕ) → i < lanes
     → Computes lane lanes (operator_of call.kernel (length call.to)) call.args call.to call.scratch before after
     → IsCalled call (λ slot. slot_lane lane before slot i) (λ slot. slot_lane lane after slot i)
 lane_called lane lanes call before after i l h = record {
@@ -66,7 +58,7 @@ lane_called lane lanes call before after i l h = record {
 }
 
 -- a number in the list of one element is in the list of all
-pub in_all : {X : Type 0} (f : X → List ℕ) (xs : List X) (n : ℕ) (x : X) (slot : ℕ) → n < length xs → x ≡ get_or xs n x → Contains (f x) slot → Contains (flat_map f xs) slot
+in_all : {X : Type 0} (f : X → List ℕ) (xs : List X) (n : ℕ) (x : X) (slot : ℕ) → n < length xs → x ≡ get_or xs n x → Contains (f x) slot → Contains (flat_map f xs) slot
 in_all f [] n x slot l e h = absurd (omega arith)
 in_all f (y ∷ ys) zero x slot l e h = Contains-append_left (f y) (flat_map f ys) slot (subst (λ z. Contains (f z) slot) e h)
 in_all f (y ∷ ys) (suc n) x slot l e h = Contains-append_right (f y) (flat_map f ys) slot (in_all f ys n x slot (omega arith) e h)
@@ -74,3 +66,30 @@ in_all f (y ∷ ys) (suc n) x slot l e h = Contains-append_right (f y) (flat_map
 -- what holds of all numbers of the lists holds of those of one
 pub all_of_one : {X : Type 0} (P : ℕ → Type 0) (f : X → List ℕ) (xs : List X) (n : ℕ) (x : X) → n < length xs → x ≡ get_or xs n x → All P (flat_map f xs) → All P (f x)
 all_of_one P f xs n x l e h = λ k d m. All-contains P (flat_map f xs) (get_or (f x) k d) h (in_all f xs n x (get_or (f x) k d) l e (Contains-get_or (f x) k d m))
+
+-- ---- in all lanes
+
+-- these of the calls were made
+pub record HaveRun {W : Type 0} (lane : W → ℕ → Bool) (lanes : ℕ) (before after : List (Pair W)) (old new : ℕ) (calls made : List Call) : Type 0 where
+  pub applied : (i : ℕ) → i < lanes → AreCalled made (λ slot. slot_lane lane before slot i) (λ slot. slot_lane lane after slot i)
+  pub slots : length after ≡ length before
+  pub kept : (slot : ℕ) → ¬ Contains (targets_of calls) slot → slice_get after slot ≡ slice_get before slot
+  pub ticked : new ≡ old + length_of made
+
+-- the next one was made too
+pub made_more : {W : Type 0} (lane : W → ℕ → Bool) (lanes : ℕ) (before middle after : List (Pair W)) (old mid new : ℕ) (calls : List Call) (n : ℕ) (call : Call)
+    → n < length calls → call ≡ get_or calls n call
+    → HaveRun lane lanes before middle old mid calls (take n calls) → HasRun lane lanes middle after mid new call
+    → HaveRun lane lanes before after old new calls (take (n + 1) calls)
+made_more lane lanes before middle after old mid new calls n call l e h k = record {
+  applied = λ i m.
+      called_more calls n call (λ slot. slot_lane lane before slot i) (λ slot. slot_lane lane middle slot i) (λ slot. slot_lane lane after slot i)
+      l e (h.applied i m) (lane_called lane lanes call middle after i m k.computes);
+  slots = k.computes.others.slots ∙ h.slots;
+  kept = λ slot other.
+      k.computes.others.kept slot
+      (λ t. other (in_all call_targets calls n call slot l e (Contains-append_left call.to call.scratch slot t)))
+      (λ t. other (in_all call_targets calls n call slot l e (Contains-append_right call.to call.scratch slot t)))
+      ∙ h.kept slot other;
+  ticked = omega (arith, k.ticked, h.ticked, length_more calls n call l e);
+}

@@ -1,4 +1,5 @@
 pub mod Kernels
 pub mod Calls
+pub mod Placed
 pub mod Kept
 pub mod Laws

@@ -4,7 +4,7 @@ ghost use Rattle.vs_plane.specs.Kernels.{AreTargets, Computes, IsArgument};
 ghost use Rattle.vs_code.specs.Kernels.{cost_of, operator_of, room_of, takes};
 
 use std::sync::ledger::Ledger;
-use vs_plane::{Chunked, PlaneFile, Steps};
+use vs_plane::{PlaneFile, Steps, Word};
 
 /// A kernel of any of the kernel crates.
 #[derive(Clone, Copy, PartialEq, Eq, Debug)]
@@ -31,7 +31,7 @@ pub(crate) fn cost(kernel: AnyKernel, lengths: &[u32]) -> u64
 }
 
 /// Runs a kernel of one argument.
-pub(crate) fn run_one<W: Chunked, L: Ledger>(
+pub(crate) fn run_one<W: Word, L: Ledger>(
     kernel: AnyKernel,
     file: &mut PlaneFile<W>,
     a: &[u32],
@@ -53,7 +53,7 @@ pub(crate) fn run_one<W: Chunked, L: Ledger>(
 }
 
 /// Runs a kernel of two arguments.
-pub(crate) fn run_two<W: Chunked, L: Ledger>(
+pub(crate) fn run_two<W: Word, L: Ledger>(
     kernel: AnyKernel,
     file: &mut PlaneFile<W>,
     a: &[u32],
@@ -80,7 +80,7 @@ pub(crate) fn run_two<W: Chunked, L: Ledger>(
 }
 
 /// Runs a kernel of three arguments.
-pub(crate) fn run_three<W: Chunked, L: Ledger>(
+pub(crate) fn run_three<W: Word, L: Ledger>(
     kernel: AnyKernel,
     file: &mut PlaneFile<W>,
     a: &[u32],

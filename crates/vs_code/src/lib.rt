@@ -5,6 +5,7 @@ mod kernels;
 mod laws;
 mod lists;
 mod ops;
+mod placed;
 mod program;
 
 pub use kernels::AnyKernel;

@@ -1,19 +1,25 @@
 //! The program.
 
-ghost use Rattle.std.specs.Prelude.{◌≡◌, ◌≢◌, ℕ, ◌+◌, ◌<◌, ◌≤◌, ◌^◌, [], ◌∷◌, ◌++◌, length, slice_get, slice_range, All, Any, Contains, OnOk, OnErr, IsTrue, ◌↔◌};
+ghost use Rattle.std.specs.Prelude.{◌≡◌, ◌≢◌, ℕ, ◌+◌, ◌<◌, ◌≤◌, ◌^◌, true, [], ◌∷◌, ◌++◌, length, slice_get, slice_range, sum_by, All, Any, Contains, OnOk, OnErr, IsTrue, ◌↔◌};
 ghost use Rattle.vs_plane.specs.Lanes.{slot_lane};
-ghost use Rattle.vs_code.specs.Calls.{AreCalled, IsCall, call_cost, length_of, slots_of, targets_of};
+ghost use Rattle.vs_code.specs.Kernels.{takes};
+ghost use Rattle.vs_code.specs.Calls.{AreCalled, IsCall, call_cost, count_for, length_of, slots_of, targets_of};
+ghost use Rattle.vs_code.specs.Placed.{IsWithin, calls_at, cost_at, lengths_at};
 
 use crate::ops::Op;
+use crate::placed::Placed;
 use std::alloc::{AllocError, Global};
 use std::marker::Model;
 use std::sync::ledger::Ledger;
-use vs_plane::{Chunked, PlaneFile, Steps};
+use vs_plane::{PlaneFile, Steps, Word};
 
 /// A straight program: calls of kernels, one after the other. It makes at most 2^32 stores.
+///
+/// The lists of slots of all its calls stand in one arena.
 #[derive(Drop)]
 pub struct Program {
-    ops: Vec<Op>,
+    calls: Vec<Placed>,
+    arena: Vec<u32>,
     length: u64,
     slots: u64,
 }
@@ -25,9 +31,10 @@ impl Model for Program {
 
     ghost Value = { List Call };
 
+    ghost use Rattle.vs_code.specs.Placed.{calls_at};
     ghost use Rattle.vs_code.specs.Kept.{IsKept};
 
-    ghost view = { λ p. p.ops.items };
+    ghost view = { λ p. calls_at p.arena.items p.calls.items };
 
     ghost invariant = { IsKept };
 }
@@ -38,7 +45,8 @@ impl Program {
         ensures { result ≡ [] }
     {
         Program {
-            ops: Vec::new(alloc),
+            calls: Vec::new(alloc),
+            arena: Vec::new(alloc),
             length: 0,
             slots: 0,
         }
@@ -51,9 +59,11 @@ impl Program {
         ensures ok { OnOk result (self.new ≡ self.old ++ op ∷ []) }
         ensures err { OnErr result (self.new ≡ self.old) }
     {
-        let length = self.length + op.cost();
-        let slots = self.slots.max(op.slots());
-        self.ops.push(op)?;
+        let first = self.arena.len();
+        let placed = Placed::add(&op, &mut self.arena)?;
+        let length = self.length + placed.cost();
+        let slots = self.slots.max(count_for(&self.arena.as_slice()[first..]));
+        self.calls.push(placed)?;
         self.length = length;
         self.slots = slots;
         Ok(())
@@ -63,14 +73,14 @@ impl Program {
     pub fn len(&self) -> usize
         ensures { result ≡ length self.now }
     {
-        self.ops.len()
+        self.calls.len()
     }
 
     /// Whether there is no call.
     pub fn is_empty(&self) -> bool
         ensures { IsTrue result ↔ (self.now ≡ []) }
     {
-        self.ops.is_empty()
+        self.calls.is_empty()
     }
 
     /// How many stores an execution makes, at most 2^32.
@@ -89,7 +99,7 @@ impl Program {
         ensures exact { result ≡ length_of (slice_range self.now from to) }
         ensures most { result ≤ 2 ^ 32 }
     {
-        count_stores(&self.ops.as_slice()[from..to])
+        count_stores(&self.calls.as_slice()[from..to])
     }
 
     /// The least number of slots that a file must have to have all that the calls name, at most 2^32.
@@ -104,8 +114,8 @@ impl Program {
     /// Makes the calls in their order. It takes no memory and never fails.
     ///
     /// In each lane it is as if the operators were applied one after the other to that lane's bits, whatever stands in the other lanes. It
-    /// goes over the program once for all lanes: a word that is `Chunked` shows no bit, so a body that goes lane by lane can't be written.
-    pub fn execute<W: Chunked, L: Ledger>(&self, file: &mut PlaneFile<W>, steps: &mut Steps<L>)
+    /// goes over the program once for all lanes: a `Word` shows no bit, so a body that goes lane by lane can't be written.
+    pub fn execute<W: Word, L: Ledger>(&self, file: &mut PlaneFile<W>, steps: &mut Steps<L>)
         requires { All (λ slot. slot < length file.old) (slots_of self.now) }
         ensures applied { (i : ℕ) → i < W.LANES
             → AreCalled self.now (λ slot. slot_lane W.lane file.old slot i) (λ slot. slot_lane W.lane file.new slot i) }
@@ -113,11 +123,11 @@ impl Program {
         ensures kept { (slot : ℕ) → ¬ Contains (targets_of self.now) slot → slice_get file.new slot ≡ slice_get file.old slot }
         ensures ticked { steps.new ≡ steps.old + length_of self.now }
     {
-        run_all(self.ops.as_slice(), file, steps);
+        run_all(self.calls.as_slice(), self.arena.as_slice(), file, steps);
     }
 
     /// Makes the calls from number `from` to before number `to`, in their order, as `execute` makes all of them.
-    pub fn execute_part<W: Chunked, L: Ledger>(
+    pub fn execute_part<W: Word, L: Ledger>(
         &self,
         from: usize,
         to: usize,
@@ -133,34 +143,57 @@ impl Program {
         ensures kept { (slot : ℕ) → ¬ Contains (targets_of (slice_range self.now from to)) slot → slice_get file.new slot ≡ slice_get file.old slot }
         ensures ticked { steps.new ≡ steps.old + length_of (slice_range self.now from to) }
     {
-        run_all(&self.ops.as_slice()[from..to], file, steps);
+        run_all(
+            &self.calls.as_slice()[from..to],
+            self.arena.as_slice(),
+            file,
+            steps,
+        );
     }
 }
 
 /// How many stores these calls make.
-fn count_stores(ops: &[Op]) -> u64
-    requires calls { All IsCall ops.now }
-    requires few { length_of ops.now ≤ 2 ^ 32 }
-    ensures { result ≡ length_of ops.now }
+fn count_stores(calls: &[Placed]) -> u64
+    requires lengths { All (λ placed. takes placed.kernel (lengths_at placed) ≡ true) calls.now }
+    requires few { sum_by cost_at calls.now ≤ 2 ^ 32 }
+    ensures { result ≡ sum_by cost_at calls.now }
 {
     let mut count = 0;
-    for op in ops {
-        count += op.cost();
+    for call in calls {
+        count += call.cost();
+    }
+    count
+}
+
+/// How many slots a file must have to have all of these.
+fn count_for(slots: &[u32]) -> u64
+    ensures exact { result ≡ count_for slots.now }
+    ensures most { result ≤ 2 ^ 32 }
+{
+    let mut count = 0;
+    for slot in slots {
+        count = count.max(u64::from(*slot) + 1);
     }
     count
 }
 
 /// Makes these calls in their order.
-fn run_all<W: Chunked, L: Ledger>(ops: &[Op], file: &mut PlaneFile<W>, steps: &mut Steps<L>)
-    requires calls { All IsCall ops.now }
-    requires below { All (λ slot. slot < length file.old) (slots_of ops.now) }
+fn run_all<W: Word, L: Ledger>(
+    calls: &[Placed],
+    arena: &[u32],
+    file: &mut PlaneFile<W>,
+    steps: &mut Steps<L>,
+)
+    requires within { All (IsWithin arena.now) calls.now }
+    requires calls { All IsCall (calls_at arena.now calls.now) }
+    requires below { All (λ slot. slot < length file.old) (slots_of (calls_at arena.now calls.now)) }
     ensures applied { (i : ℕ) → i < W.LANES
-        → AreCalled ops.now (λ slot. slot_lane W.lane file.old slot i) (λ slot. slot_lane W.lane file.new slot i) }
+        → AreCalled (calls_at arena.now calls.now) (λ slot. slot_lane W.lane file.old slot i) (λ slot. slot_lane W.lane file.new slot i) }
     ensures slots { length file.new ≡ length file.old }
-    ensures kept { (slot : ℕ) → ¬ Contains (targets_of ops.now) slot → slice_get file.new slot ≡ slice_get file.old slot }
-    ensures ticked { steps.new ≡ steps.old + length_of ops.now }
+    ensures kept { (slot : ℕ) → ¬ Contains (targets_of (calls_at arena.now calls.now)) slot → slice_get file.new slot ≡ slice_get file.old slot }
+    ensures ticked { steps.new ≡ steps.old + length_of (calls_at arena.now calls.now) }
 {
-    for op in ops {
-        op.run(file, steps);
+    for call in calls {
+        call.run(arena, file, steps);
     }
 }

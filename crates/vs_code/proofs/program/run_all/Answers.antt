@@ -1,41 +1,27 @@
-use Rattle.std.proofs.Common.{◌<◌, ◌∙◌, length, sym, subst, arith}
+use Rattle.std.proofs.Common.{◌<◌, length, sym, subst, arith}
 use Rattle.std.specs.List.{All}
-use Rattle.std.proofs.lemmas.List.Elements.{Contains-append_left, Contains-append_right}
-use Rattle.vs_plane.specs.Lanes.{slot_lane}
-use Rattle.vs_code.specs.Calls.{IsCall, call_slots, call_targets, slots_of}
-use Rattle.vs_code.proofs.Runs.{called_more, called_all, length_more, lane_called, in_all, all_of_one}
+use Rattle.std.proofs.lemmas.List.{length-map}
+use Rattle.vs_code.specs.Calls.{IsCall, call_slots, slots_of}
+use Rattle.vs_code.specs.Placed.{call_at, calls_at}
+use Rattle.vs_code.proofs.Arena.{one_at, same_at}
+use Rattle.vs_code.proofs.Runs.{all_of_one, made_more}
 use Rattle.vs_code.proofs.program.run_all.Goals as goal
 
-pub run-requires : goal.run-requires
-run-requires g c =
-    let calls = c.args.ops.now in
-    let n = c.loop-op.op-index in
-    let below = subst (λ count. All (λ slot. slot < count) (slots_of calls)) (sym c.loop-op.invariant.slots) c.requires.below in
-    record {
-      call = subst IsCall (sym c.op-item.is) (c.requires.calls n c.op-item.result c.loop-op-test.true);
-      below = all_of_one (λ slot. slot < length c.loop-op.file) call_slots calls n c.op-item.result c.loop-op-test.true c.op-item.is below;
-    }
+pub run-requires-clause-call : goal.run-requires-clause-call
+run-requires-clause-call g c = one_at IsCall c.args.arena.now c.args.calls.now c.loop-call.call-index _ c.loop-call-test.true c.requires.calls
 
-pub loop-op-preserved : goal.loop-op-preserved
-loop-op-preserved g c =
-    let calls = c.args.ops.now in
-    let n = c.loop-op.op-index in
-    let call = c.op-item.result in
-    record {
-      applied = λ i l.
-          called_more calls n call (λ slot. slot_lane g.W.Word.lane c.args.file.now slot i) (λ slot. slot_lane g.W.Word.lane c.loop-op.file slot i) (λ slot. slot_lane g.W.Word.lane c.run.new.file slot i)
-          c.loop-op-test.true c.op-item.is (c.loop-op.invariant.applied i l)
-          (lane_called g.W.Word.lane g.W.Word.LANES call c.loop-op.file c.run.new.file i l c.run.ensures.computes);
-      slots = c.run.ensures.computes.others.slots ∙ c.loop-op.invariant.slots;
-      kept = λ slot other.
-          c.run.ensures.computes.others.kept slot
-          (λ h. other (in_all call_targets calls n call slot c.loop-op-test.true c.op-item.is (Contains-append_left call.to call.scratch slot h)))
-          (λ h. other (in_all call_targets calls n call slot c.loop-op-test.true c.op-item.is (Contains-append_right call.to call.scratch slot h)))
-          ∙ c.loop-op.invariant.kept slot other;
-      ticked = omega (arith, c.run.ensures.ticked, c.loop-op.invariant.ticked, length_more calls n call c.loop-op-test.true c.op-item.is);
-    }
+pub run-requires-clause-below : goal.run-requires-clause-below
+run-requires-clause-below g c =
+    let calls = calls_at c.args.arena.now c.args.calls.now in
+    let below = subst (λ count. All (λ slot. slot < count) (slots_of calls)) (sym c.loop-call.invariant.slots) c.requires.below in
+    all_of_one (λ slot. slot < length c.loop-call.file) call_slots calls c.loop-call.call-index _
+    (omega (arith, c.loop-call-test.true, length-map c.args.calls.now (call_at c.args.arena.now)))
+    (same_at c.args.arena.now c.args.calls.now c.loop-call.call-index _ c.loop-call-test.true) below
 
-pub returns-clause-applied : goal.returns-clause-applied
-returns-clause-applied g c = λ i l.
-    called_all c.args.ops.now c.loop-op.op-index (λ slot. slot_lane g.W.Word.lane c.args.file.now slot i) (λ slot. slot_lane g.W.Word.lane c.loop-op.file slot i)
-    c.loop-op-test.false (c.loop-op.invariant.applied i l)
+pub loop-call-preserved : goal.loop-call-preserved
+loop-call-preserved g c =
+    made_more g.W.Word.lane g.W.Word.LANES c.args.file.now c.loop-call.file c.run.new.file c.args.steps.now c.loop-call.steps c.run.new.steps
+    (calls_at c.args.arena.now c.args.calls.now) c.loop-call.call-index _
+    (omega (arith, c.loop-call-test.true, length-map c.args.calls.now (call_at c.args.arena.now)))
+    (same_at c.args.arena.now c.args.calls.now c.loop-call.call-index _ c.loop-call-test.true)
+    c.loop-call.invariant (record { computes = c.run.ensures.computes; ticked = c.run.ensures.ticked })

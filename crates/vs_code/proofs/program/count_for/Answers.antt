@@ -1,6 +1,6 @@
 use Rattle.std.proofs.Common.{arith}
 use Rattle.vs_code.proofs.Counts.{count_for_more, max_is}
-use Rattle.vs_code.proofs.ops.count_for.Goals as goal
+use Rattle.vs_code.proofs.program.count_for.Goals as goal
 
 pub loop-slot-preserved : goal.loop-slot-preserved
 loop-slot-preserved c =

@@ -1,6 +1,6 @@
 use Rattle.std.proofs.Common.{◌≡◌, ◌≤◌, ◌^◌, take}
 use Rattle.vs_code.specs.Calls.{count_for}
-use Rattle.vs_code.proofs.ops.count_for.Given as goal
+use Rattle.vs_code.proofs.program.count_for.Given as goal
 
 -- the count for the slots so far
 abbrev pub invariant-loop-slot : goal.invariant-loop-slot
