@@ -11,7 +11,7 @@ use std::marker::Model;
 use std::sync::ledger::Ledger;
 use vs_code::{Program, sequence_law};
 use vs_four::Bit4;
-use vs_plane::{Chunked, PlaneFile, Steps};
+use vs_plane::{PlaneFile, Steps, Word};
 
 /// The bits of a signal: the number of its least significant bit, and how many there are, from 1 to 64.
 #[derive(Clone, Copy, PartialEq, Eq, Debug)]
@@ -173,7 +173,7 @@ impl Compiled {
     /// Makes the calls of this phase in their order, in every lane, in a file that has a slot for each that the design begins with.
     ///
     /// In each lane it is as if the operators were applied one after the other to that lane's bits, whatever stands in the other lanes. It takes no memory and never fails.
-    pub fn execute<W: Chunked, L: Ledger>(
+    pub fn execute<W: Word, L: Ledger>(
         &self,
         phase: Phase,
         file: &mut PlaneFile<W>,
@@ -204,7 +204,7 @@ fn count_stores(calls: &Program, runs: &[Run]) -> u64
 }
 
 /// Makes these runs of a program, one after the other.
-fn execute_runs<W: Chunked, L: Ledger>(
+fn execute_runs<W: Word, L: Ledger>(
     calls: &Program,
     runs: &[Run],
     file: &mut PlaneFile<W>,
