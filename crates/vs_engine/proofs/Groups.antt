@@ -60,18 +60,6 @@ first_groups value k initial before xs first group = record {
   ];
 }
 
--- one more element
-pub first_more : {A : Type 0} (value : ℕ → A) (n : ℕ) (initial xs : List A) (v : A) → n < length initial → v ≡ value n → FirstAre value n initial xs → FirstAre value (n + 1) initial (set xs n v)
-first_more value n initial xs v room is first =
-    let within : n < length xs = omega (arith, first.long) in
-    record {
-      long = length-set xs n v ∙ first.long;
-      values = λ i h. elim (cases_eq i n) as (λ _. slice_get (set xs n v) i ≡ Some (value i)) [
-        | inl e ↦ subst (λ (j : ℕ). slice_get (set xs n v) j ≡ Some (value j)) (sym e) (slice_get-set_same xs n v within ∙ ap Some is)
-        | inr ne ↦ slice_get-set_other xs n i v (λ e. ne (sym e)) ∙ first.values i (omega arith)
-      ];
-    }
-
 -- ---- the values of a group
 
 -- one bit, by the bits of its two planes

@@ -22,7 +22,7 @@ use std::marker::Model;
 use std::sync::ledger::Ledger;
 use vs_cone::write_law;
 use vs_four::{Bit4, Bits, join};
-use vs_plane::{Chunked, Lanes, Pair, PlaneFile, Steps, Word};
+use vs_plane::{Lanes, Pair, PlaneFile, Steps, Word};
 use vs_program::{Compiled, Phase, Span};
 
 /// A compiled design at work: its slots, in every lane. Each lane is a run of the design of its own.
@@ -131,7 +131,7 @@ impl<W: Word> Engine<W> {
     }
 }
 
-impl<W: Chunked> Engine<W> {
+impl<W: Word> Engine<W> {
     /// A slot in which the clock falls: each lane gets its vector, one pair for each bit of the data inputs in bit order, and has then the
     /// values at the end of that slot.
     pub fn fall<L: Ledger>(&mut self, inputs: &[Pair<W>], steps: &mut Steps<L>)
@@ -261,12 +261,8 @@ fn read_all<W: Lanes>(file: &PlaneFile<W>, span: Span, out: &mut [Bits])
     ensures values { (i : ℕ) → i < length out.new
         → slice_get out.new i ≡ Some (read (λ b. slot_lane W.lane file.now (home b) i) (span_bits span)) }
 {
-    let groups = W::LANES / 64;
-    for k in 0..groups {
+    for k in 0..W::LANES / 64 {
         read_group(file, span, k, out);
-    }
-    for lane in 64 * groups..W::LANES {
-        out[lane as usize] = read(file, lane, span);
     }
 }
 

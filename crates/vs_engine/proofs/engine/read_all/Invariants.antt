@@ -9,7 +9,3 @@ use Rattle.vs_engine.proofs.engine.read_all.Given as goal
 -- the lanes of the first groups have their values
 abbrev pub invariant-loop-k : goal.invariant-loop-k
 invariant-loop-k g l = FirstAre (λ n. read (λ b. slot_lane g.W.Word.lane l.file (home b) n) (span_bits l.span)) (64 * l.k) l.initial.out l.out
-
--- the first lanes have their values
-abbrev pub invariant-loop-lane : goal.invariant-loop-lane
-invariant-loop-lane g l = FirstAre (λ n. read (λ b. slot_lane g.W.Word.lane l.file (home b) n) (span_bits l.span)) l.lane l.initial.out l.out
