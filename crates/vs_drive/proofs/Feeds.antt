@@ -11,7 +11,7 @@ use Rattle.vs_plane.specs.Lanes.{pair_lane}
 use Rattle.vs_stim.specs.Known.{Known}
 use Rattle.vs_stim.specs.Row.{sizes}
 use Rattle.vs_drive.specs.Lanes.{ended, lane_at, AreLanes}
-use Rattle.vs_drive.specs.Fed.{vector_bits, driven, driven_bit, HaveBits, AreFed}
+use Rattle.vs_drive.specs.Fed.{vector_bits, driven, driven_value, HaveBits, AreFed}
 
 -- a vector has as many bits as its values together
 length_bits : (vector : List (List Bit4)) → length (vector_bits vector) ≡ sum (sizes vector)
@@ -25,8 +25,8 @@ unknown_at n i = elim (cases_lt i n) [
 ]
 
 -- the bits of an input stand behind those of the inputs before it
-pub driven_at : (n : ℕ) (k : Known) (number count offset bit : ℕ) → number < length k.vector → length (get_or k.vector number []) ≡ count
-    → sum (take number (sizes k.vector)) ≡ offset → bit < count → get_or (driven n k) (offset + bit) X ≡ driven_bit k number bit
+driven_at : (n : ℕ) (k : Known) (number count offset bit : ℕ) → number < length k.vector → length (get_or k.vector number []) ≡ count
+    → sum (take number (sizes k.vector)) ≡ offset → bit < count → get_or (driven n k) (offset + bit) X ≡ get_or (driven_value count k number) bit X
 driven_at n k number count offset bit within size place below =
     let start : length (vector_bits (take number k.vector)) ≡ offset =
     length_bits (take number k.vector) ∙ ap sum (sym (take-map (λ (value : List Bit4). length value) number k.vector)) ∙ place in
@@ -36,9 +36,10 @@ driven_at n k number count offset bit within size place below =
     go bits k.live
   where
     go : get_or (vector_bits k.vector) (offset + bit) X ≡ get_or (get_or k.vector number []) bit X → (b : Bool)
-        → get_or (elim b as (λ _. List Bit4) [ true ↦ vector_bits k.vector | false ↦ replicate n X ]) (offset + bit) X ≡ (elim b as (λ _. Bit4) [ true ↦ get_or (get_or k.vector number []) bit X | false ↦ X ])
+        → get_or (elim b as (λ _. List Bit4) [ true ↦ vector_bits k.vector | false ↦ replicate n X ]) (offset + bit) X
+        ≡ get_or (elim b as (λ _. List Bit4) [ true ↦ get_or k.vector number [] | false ↦ replicate count X ]) bit X
     go bits true = bits
-    go bits false = unknown_at n (offset + bit)
+    go bits false = unknown_at n (offset + bit) ∙ sym (unknown_at count bit)
 
 length_known : (n : ℕ) (k : Known) → sum (sizes k.vector) ≡ n → length (driven n k) ≡ n
 length_known n k h = go k.live
@@ -85,8 +86,8 @@ pub none_driven : (n : ℕ) (ks : List Known) (i done : ℕ) → length ks ≡ 0
 none_driven n ks i done e = ap (λ k. get_or (driven n k) done X) (get_or_past ks i ended (omega arith)) ∙ unknown_at n done
 
 -- past the lanes each bit is x
-pub past_driven : (ks : List Known) (i number bit : ℕ) → length ks ≤ i → driven_bit (lane_at ks i) number bit ≡ X
-past_driven ks i number bit h = ap (λ k. driven_bit k number bit) (get_or_past ks i ended h)
+past_driven : (ks : List Known) (i count number bit : ℕ) → length ks ≤ i → get_or (driven_value count (lane_at ks i) number) bit X ≡ X
+past_driven ks i count number bit h = ap (λ k. get_or (driven_value count k number) bit X) (get_or_past ks i ended h) ∙ unknown_at count bit
 
 -- In each lane the input has this many bits, behind this many bits of the inputs before it.
 pub record IsPlaced (number count offset : ℕ) (ks : List Known) : Type 0 where
@@ -96,10 +97,10 @@ pub record IsPlaced (number count offset : ℕ) (ks : List Known) : Type 0 where
 
 -- a bit of an input that was placed, in any lane
 pub fed_bit : (n : ℕ) (ks : List Known) (i number count offset bit : ℕ) → IsPlaced number count offset ks → bit < count
-    → get_or (driven n (lane_at ks i)) (offset + bit) X ≡ driven_bit (lane_at ks i) number bit
+    → get_or (driven n (lane_at ks i)) (offset + bit) X ≡ get_or (driven_value count (lane_at ks i) number) bit X
 fed_bit n ks i number count offset bit h below = elim (cases_lt i (length ks)) [
   | inl within ↦ driven_at n (lane_at ks i) number count offset bit (h.input i within) (h.bits i within) (h.first i within) below
-  | inr past ↦ ap (λ k. get_or (driven n k) (offset + bit) X) (get_or_past ks i ended past) ∙ unknown_at n (offset + bit) ∙ sym (past_driven ks i number bit past)
+  | inr past ↦ ap (λ k. get_or (driven n k) (offset + bit) X) (get_or_past ks i ended past) ∙ unknown_at n (offset + bit) ∙ sym (past_driven ks i count number bit past)
 ]
 
 -- the input stands at the same place in each lane

@@ -1,9 +1,8 @@
 -- An input's pairs, and the planes that they are packed from.
-use Rattle.std.proofs.Common.{◌≡◌, ◌≢◌, ℕ, zero, suc, ◌+◌, ◌-◌, ◌*◌, ◌/◌, ◌%◌, ◌^◌, ◌<◌, ◌≤◌, Bool, true, false, List, [], ◌∷◌, ◌++◌, length, get_or, slice_get, Some, set, take, drop, map, replicate, sum, refl, sym, ap, ap₂, ◌∙◌, subst, inl, inr, arith}
+use Rattle.std.proofs.Common.{◌≡◌, ◌≢◌, ℕ, zero, suc, ◌+◌, ◌-◌, ◌*◌, ◌/◌, ◌%◌, ◌^◌, ◌<◌, ◌≤◌, Bool, true, false, List, [], ◌∷◌, ◌++◌, length, get_or, set, take, drop, map, replicate, sum, refl, sym, ap, ap₂, ◌∙◌, subst, inl, inr, arith}
 use Rattle.std.proofs.lemmas.Bool.{cases_eq, cases_lt}
-use Rattle.std.proofs.lemmas.List.{length-map, length-replicate, get_or-map, get_or_past, get_or_read, get_or-set_same, get_or-set_other, map-set, set-get_or, take_more, take_more_set, take-map, map-append, append_assoc, length-append, length-drop, length-take-le, get_or-take, get_or-drop, ext_get_or}
+use Rattle.std.proofs.lemmas.List.{length-replicate, get_or_past, get_or_read, get_or-set_same, get_or-set_other, take-map, map-append, append_assoc, length-append, length-drop, length-take-le, get_or-take, get_or-drop, ext_get_or}
 use Rattle.std.proofs.Math.Seq.{take-add, take-append_seam}
-use Rattle.std.proofs.lemmas.Option.{get_or_from_slice_get}
 use Rattle.std.proofs.lemmas.Nat.{pow_pos}
 use Rattle.std.proofs.Math.Nat.{pow-suc}
 use Rattle.vs_four.specs.declared.Bit4.{Bit4}
@@ -15,9 +14,8 @@ use Rattle.vs_plane.specs.Lanes.{pair_lane}
 use Rattle.vs_stim.specs.Known.{Known}
 use Rattle.vs_stim.specs.Row.{sizes}
 use Rattle.vs_drive.specs.Lanes.{ended, lane_at, AreLanes}
-use Rattle.vs_drive.specs.Fed.{driven, driven_bit, driven_value, HaveBits, IsWide, AreFed}
-use Rattle.vs_drive.proofs.Places.{live_within}
-use Rattle.vs_drive.proofs.Feeds.{IsPlaced, unknown_at, length_driven, fed_bit, placed, offset_more, offset_within, value_size}
+use Rattle.vs_drive.specs.Fed.{driven, driven_value, HaveBits, IsWide, AreFed}
+use Rattle.vs_drive.proofs.Feeds.{IsPlaced, length_driven, fed_bit, placed, offset_more, offset_within, value_size}
 
 -- planes of ones are x
 unknown_planes : (n k : ℕ) → n ≤ k → bits_of_planes n (2 ^ k - 1) (2 ^ k - 1) ≡ replicate n X
@@ -41,20 +39,6 @@ ended_planes count number k h most = unknown_planes count 64 most ∙ sym (value
 past_ended : (ks : List Known) (lane : ℕ) → length ks ≤ lane → (lane_at ks lane).live ≡ false
 past_ended ks lane h = ap (λ (k : Known). k.live) (get_or_past ks lane ended h)
 
--- a bit that was read of a live lane
-bit_live : (k : Known) (number bit : ℕ) → k.live ≡ true → get_or (get_or k.vector number []) bit X ≡ driven_bit k number bit
-bit_live k number bit h = rw h refl
-
-pub live_bit : (ks : List Known) (lane number bit : ℕ) (k : Known) (now : List (List Bit4)) (value : List Bit4) (read : Bit4) → (lane_at ks lane).live ≡ true
-    → (lane < length ks → number < length (lane_at ks lane).vector) → k ≡ get_or ks lane k → now ≡ k.vector → value ≡ get_or now number value → slice_get value bit ≡ Some read
-    → read ≡ driven_bit (lane_at ks lane) number bit
-live_bit ks lane number bit k now value read live has at was item is =
-    let there : lane < length ks = live_within ks lane live in
-    let same : now ≡ (lane_at ks lane).vector = was ∙ ap (λ (s : Known). s.vector) (get_or_read ks lane k there at ended) in
-    let within : number < length now = subst (λ (vs : List (List Bit4)). number < length vs) (sym same) (has there) in
-    let stands : value ≡ get_or (lane_at ks lane).vector number [] = get_or_read now number value within item [] ∙ ap (λ (vs : List (List Bit4)). get_or vs number []) same in
-    sym (get_or_from_slice_get value bit read X is) ∙ ap (λ (v : List Bit4). get_or v bit X) stands ∙ bit_live (lane_at ks lane) number bit live
-
 -- the planes of the first lanes of a group
 pub record AreRead (ks : List Known) (number k done : ℕ) (value unknown : List ℕ) : Type 0 where
   pub each : (count i : ℕ) → IsWide number count ks → count ≤ 64 → i < done → bits_of_planes count (get_or value i 0) (get_or unknown i 0) ≡ driven_value count (lane_at ks (64 * k + i)) number
@@ -72,14 +56,6 @@ read_more ks number k done value unknown v u value_room unknown_room here read =
   ];
 }
 
--- a bit of a value
-pub value_bit : (count : ℕ) (k : Known) (number bit : ℕ) → get_or (driven_value count k number) bit X ≡ driven_bit k number bit
-value_bit count k number bit = go k.live
-  where
-    go : (b : Bool) → get_or (elim b as (λ _. List Bit4) [ true ↦ get_or k.vector number [] | false ↦ replicate count X ]) bit X ≡ (elim b as (λ _. Bit4) [ true ↦ get_or (get_or k.vector number []) bit X | false ↦ X ])
-    go true = refl
-    go false = unknown_at count bit
-
 -- a value has as many bits as its input
 pub value_length : (count number : ℕ) (ks : List Known) (i : ℕ) → IsWide number count ks → length (driven_value count (lane_at ks i) number) ≡ count
 value_length count number ks i wide = elim (cases_lt i (length ks)) [
@@ -90,28 +66,6 @@ value_length count number ks i wide = elim (cases_lt i (length ks)) [
     go : (k : Known) → length (get_or k.vector number []) ≡ count → (b : Bool) → length (elim b as (λ _. List Bit4) [ true ↦ get_or k.vector number [] | false ↦ replicate count X ]) ≡ count
     go k h true = h
     go k h false = length-replicate count X
-
--- one bit more in a lane
-pub lane_more : {W : Type 0} (lane : W → ℕ → Bool) (ks : List Known) (number i count bit : ℕ) (pairs : List (Pair W)) (pair : Pair W) (read : Bit4)
-    → IsWide number count ks → length pairs ≡ count → bit < count → pair_lane lane pair i ≡ read → read ≡ driven_bit (lane_at ks i) number bit
-    → take bit (map (λ p. pair_lane lane p i) pairs) ≡ take bit (driven_value count (lane_at ks i) number)
-    → take (bit + 1) (map (λ p. pair_lane lane p i) (set pairs bit pair)) ≡ take (bit + 1) (driven_value count (lane_at ks i) number)
-lane_more lane ks number i count bit pairs pair read wide long within here is so_far =
-    let f = λ (p : Pair _). pair_lane lane p i in
-    let value : List Bit4 = driven_value count (lane_at ks i) number in
-    let size : length value ≡ count = value_length count number ks i wide in
-    ap (take (bit + 1)) (map-set f pairs bit pair)
-    ∙ take_more_set (map f pairs) bit (f pair) (rw (length-map pairs f) (omega arith))
-    ∙ ap₂ (λ (xs : List Bit4) (x : Bit4). xs ++ x ∷ []) so_far (here ∙ is ∙ sym (value_bit count (lane_at ks i) number bit))
-    ∙ sym (take_more value bit X (omega arith))
-
--- and none in the others
-pub lane_stays : {W : Type 0} (lane : W → ℕ → Bool) (i bit : ℕ) (pairs : List (Pair W)) (old new : Pair W) (bits : List Bit4) → bit < length pairs → old ≡ get_or pairs bit old
-    → pair_lane lane new i ≡ pair_lane lane old i → map (λ p. pair_lane lane p i) pairs ≡ bits → map (λ p. pair_lane lane p i) (set pairs bit new) ≡ bits
-lane_stays lane i bit pairs old new bits within was same before =
-    let f = λ (p : Pair _). pair_lane lane p i in
-    let stood : get_or (map f pairs) bit X ≡ f old = get_or-map f pairs bit old X within ∙ ap f (sym was) in
-    map-set f pairs bit new ∙ ap (set (map f pairs) bit) (same ∙ sym stood) ∙ set-get_or (map f pairs) bit X ∙ before
 
 -- the first lanes have their values
 pub record ArePacked {W : Type 0} (lane : W → ℕ → Bool) (lanes done : ℕ) (ks : List Known) (number count : ℕ) (pairs : List (Pair W)) : Type 0 where
@@ -135,19 +89,6 @@ group_more lane lanes k ks number count value unknown pairs news wide most read 
   ];
 }
 
-pub one_more : {W : Type 0} (lane : W → ℕ → Bool) (lanes done : ℕ) (ks : List Known) (number count : ℕ) (pairs news : List (Pair W)) → length news ≡ length pairs
-    → map (λ p. pair_lane lane p done) news ≡ driven_value (length pairs) (lane_at ks done) number
-    → ((i : ℕ) → i < lanes → i ≢ done → map (λ p. pair_lane lane p i) news ≡ map (λ p. pair_lane lane p i) pairs)
-    → ArePacked lane lanes done ks number count pairs → ArePacked lane lanes (done + 1) ks number count news
-one_more lane lanes done ks number count pairs news long packed others so_far = record {
-  long = long ∙ so_far.long;
-  each = λ i h below. elim (cases_eq i done) as (λ _. map (λ p. pair_lane lane p i) news ≡ driven_value count (lane_at ks i) number) [
-    | inl e ↦ subst (λ (n : ℕ). map (λ p. pair_lane lane p n) news ≡ driven_value count (lane_at ks n) number) (sym e)
-        (packed ∙ ap (λ n. driven_value n (lane_at ks done) number) so_far.long)
-    | inr ne ↦ others i h ne ∙ so_far.each i h (omega arith)
-  ];
-}
-
 -- ---- the pairs of an input among those of all inputs
 
 -- the value stands in the bits that a lane drives
@@ -164,8 +105,7 @@ placed_value n ks i number count offset placed bits room =
     let below : bit < count = omega arith in
     get_or-take count (drop offset all) bit X below
     ∙ get_or-drop offset all bit X
-    ∙ fed_bit n ks i number count offset bit placed below
-    ∙ sym (value_bit count (lane_at ks i) number bit))
+    ∙ fed_bit n ks i number count offset bit placed below)
 
 -- the next input stands behind those before it, and there is room for it among this many pairs
 pub record IsNext (n number count offset : ℕ) (ks : List Known) : Type 0 where

@@ -17,10 +17,6 @@ vector_bits vector = flat_map (λ value. value) vector
 abbrev pub driven : ℕ → Known → List Bit4
 driven count k = elim k.live [ true ↦ vector_bits k.vector | false ↦ replicate count X ]
 
--- a bit of an input that a lane drives
-abbrev pub driven_bit : Known → ℕ → ℕ → Bit4
-driven_bit k input bit = elim k.live [ true ↦ slice_index_or (slice_index_or k.vector input []) bit X | false ↦ X ]
-
 -- the value of an input that a lane drives, of this many bits
 abbrev pub driven_value : ℕ → Known → ℕ → List Bit4
 driven_value count k input = elim k.live [ true ↦ slice_index_or k.vector input [] | false ↦ replicate count X ]

@@ -1,11 +1,11 @@
 //! The bits of all lanes, packed into pairs of planes.
 
-ghost use Rattle.std.specs.Prelude.{◌≡◌, ◌≢◌, ℕ, ◌+◌, ◌*◌, ◌<◌, ◌≤◌, [], true, length, map, slice_index, slice_index_or};
+ghost use Rattle.std.specs.Prelude.{◌≡◌, ℕ, ◌+◌, ◌*◌, ◌<◌, ◌≤◌, [], length, map, slice_index, slice_index_or};
 ghost use Rattle.vs_desk.specs.Places.{most_lanes};
 ghost use Rattle.vs_four.specs.Planes.{bits_of_planes};
 ghost use Rattle.vs_plane.specs.Lanes.{pair_lane};
 ghost use Rattle.vs_drive.specs.Lanes.{lane_at, AreLanes};
-ghost use Rattle.vs_drive.specs.Fed.{driven, driven_bit, driven_value, HaveBits, IsWide, AreFed};
+ghost use Rattle.vs_drive.specs.Fed.{driven, driven_value, HaveBits, IsWide, AreFed};
 
 use vs_four::Bit4;
 use vs_plane::{Columns, Lanes, Pair};
@@ -47,47 +47,15 @@ fn columns_of(stimuli: &[Stimulus], input: usize, k: u32) -> Columns
     Columns { value, unknown }
 }
 
-/// A bit of an input in a lane; x where its stimulus has ended, or isn't there.
-fn bit_of(stimuli: &[Stimulus], input: usize, lane: usize, bit: u32) -> Bit4
-    requires input { lane < length stimuli.now → input < length (lane_at stimuli.now lane).vector }
-    requires bit { lane < length stimuli.now → bit < length (slice_index_or (lane_at stimuli.now lane).vector input []) }
-    ensures { result ≡ driven_bit (lane_at stimuli.now lane) input bit }
-{
-    if is_live(stimuli, lane) {
-        stimuli[lane].vector()[input].get(bit)
-    } else {
-        Bit4::X
-    }
-}
-
-/// Packs an input into its pairs in one lane, bit by bit.
-fn feed_lane<W: Lanes>(stimuli: &[Stimulus], input: usize, lane: u32, pairs: &mut [Pair<W>])
-    requires lane { lane < W.LANES }
-    requires input { IsWide input (length pairs.old) stimuli.now }
-    requires most { length pairs.old ≤ 64 }
-    ensures count { length pairs.new ≡ length pairs.old }
-    ensures packed { map (λ p. pair_lane W.lane p lane) pairs.new ≡ driven_value (length pairs.old) (lane_at stimuli.now lane) input }
-    ensures others { (i : ℕ) → i < W.LANES → i ≢ lane → map (λ p. pair_lane W.lane p i) pairs.new ≡ map (λ p. pair_lane W.lane p i) pairs.old }
-{
-    for bit in 0..pairs.len() {
-        let driven = bit_of(stimuli, input, lane as usize, bit as u32);
-        pairs[bit] = pairs[bit].with_lane(lane, driven);
-    }
-}
-
-/// Packs an input into its pairs, one for each bit: 64 lanes at a time, and one by one those behind the last 64.
+/// Packs an input into its pairs, one for each bit, 64 lanes at a time.
 fn feed_input<W: Lanes>(stimuli: &[Stimulus], input: usize, pairs: &mut [Pair<W>])
     requires input { IsWide input (length pairs.old) stimuli.now }
     requires most { length pairs.old ≤ 64 }
     ensures count { length pairs.new ≡ length pairs.old }
     ensures packed { (i : ℕ) → i < W.LANES → map (λ p. pair_lane W.lane p i) pairs.new ≡ driven_value (length pairs.old) (lane_at stimuli.now i) input }
 {
-    let whole = W::LANES / 64;
-    for k in 0..whole {
+    for k in 0..W::LANES / 64 {
         Pair::pack(pairs, k, &columns_of(stimuli, input, k));
-    }
-    for lane in 64 * whole..W::LANES {
-        feed_lane(stimuli, input, lane, pairs);
     }
 }
 

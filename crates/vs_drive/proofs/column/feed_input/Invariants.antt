@@ -4,6 +4,3 @@ use Rattle.vs_drive.proofs.column.feed_input.Given as goal
 
 abbrev pub invariant-loop-k : goal.invariant-loop-k
 invariant-loop-k g l = ArePacked g.W.Word.lane g.W.Word.LANES (64 * l.k) l.stimuli l.input (length l.fn.pairs) l.pairs
-
-abbrev pub invariant-loop-lane : goal.invariant-loop-lane
-invariant-loop-lane g l = ArePacked g.W.Word.lane g.W.Word.LANES l.lane l.stimuli l.input (length l.fn.pairs) l.pairs
