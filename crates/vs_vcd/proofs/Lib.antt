@@ -7,5 +7,6 @@ pub mod Known
 pub mod LineLemmas
 pub mod NumeralLemmas
 pub mod Outline
+pub mod Shown
 pub mod Unchanged
 pub mod ValueLemmas

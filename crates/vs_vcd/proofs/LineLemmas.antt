@@ -1,10 +1,9 @@
 -- The lines of values, from their parts.
-use Rattle.std.proofs.Common.{◌≡◌, ℕ, ◌+◌, ◌%◌, ◌^◌, ◌<◌, ◌≤◌, List, [], ◌∷◌, ◌++◌, length, map, reverse, take, set, refl, subst, sym, ap, ◌∙◌, append_assoc, length-append, arith}
+use Rattle.std.proofs.Common.{◌≡◌, ℕ, ◌+◌, ◌<◌, ◌≤◌, List, [], ◌∷◌, ◌++◌, length, map, reverse, take, set, slice_get, Some, refl, sym, ap, ◌∙◌, append_assoc, length-append, arith}
 use Rattle.std.proofs.Math.Seq.{take-append_seam, take-set-lt, set-append_seam}
 use Rattle.std.proofs.lemmas.List.{length-take, length-take-le, take_more_set}
 use Rattle.vs_four.specs.declared.Bit4.{Bit4}
 use Rattle.vs_four.specs.Logic.{BitList}
-use Rattle.vs_four.specs.Planes.{decode, bits_of_planes}
 use Rattle.vs_vcd.specs.Numerals.{identifier}
 use Rattle.vs_vcd.specs.Values.{line, digit_code, shortest, value_line, tail_text}
 
@@ -16,14 +15,6 @@ one_digit : (n : ℕ) (b : Bit4) → value_line n (b ∷ []) ≡ digit_code b �
 unfolding value_line
 one_digit n b = refl
 
--- the planes of a lone bit
-one_bit : (v u len : ℕ) (bits : BitList) → len ≡ 1 → bits_of_planes len v u ≡ bits → v < 2 ^ len → u < 2 ^ len → bits ≡ decode v u ∷ []
-unfolding bits_of_planes
-one_bit v u len bits one is low_v low_u =
-    let below_v : v % 2 ≡ v = omega (arith, subst (λ n. v < 2 ^ n) one low_v) in
-    let below_u : u % 2 ≡ u = omega (arith, subst (λ n. u < 2 ^ n) one low_u) in
-    sym is ∙ ap (λ n. bits_of_planes n v u) one ∙ ap (λ n. decode n (u % 2) ∷ []) below_v ∙ ap (λ n. decode v n ∷ []) below_u
-
 more_digits : (n : ℕ) (bits : BitList) → 2 ≤ length bits → value_line n bits ≡ 98 ∷ (map digit_code (shortest (reverse bits)) ++ tail_text n)
 unfolding value_line tail_text
 more_digits n [] long = absurd (omega arith)
@@ -33,10 +24,9 @@ more_digits n (a ∷ b ∷ bits) long =
     ap (λ t. 98 ∷ (t ++ 10 ∷ [])) (append_assoc digits (32 ∷ []) (identifier n)) ∙ ap (λ t. 98 ∷ t) (append_assoc digits (32 ∷ identifier n) (10 ∷ []))
 
 -- the digit is written over the blank
-pub line_of_one : (at end n v u : ℕ) (bits : BitList) (old middle tail : List ℕ) → length bits ≡ 1 → bits_of_planes (length bits) v u ≡ bits → v < 2 ^ length bits → u < 2 ^ length bits → at ≤ length old → tail ≡ tail_text n
-    → take end middle ≡ take at old ++ tail → take end (set middle at (digit_code (decode v u))) ≡ take at old ++ value_line n bits
-line_of_one at end n v u bits old middle tail one planes low_v low_u within ends before =
-    let b = decode v u in
+pub line_of_one : (at end n : ℕ) (b : Bit4) (old middle tail : List ℕ) → at ≤ length old → tail ≡ tail_text n
+    → take end middle ≡ take at old ++ tail → take end (set middle at (digit_code b)) ≡ take at old ++ value_line n (b ∷ [])
+line_of_one at end n b old middle tail within ends before =
     let rest = line (identifier n) in
     let text : take end middle ≡ take at old ++ 32 ∷ line (identifier n) = before ∙ ap (λ t. take at old ++ t) (ends ∙ blank_first n) in
     let start : length (take at old) ≡ at = length-take-le at old within in
@@ -45,7 +35,13 @@ line_of_one at end n v u bits old middle tail one planes low_v low_u within ends
     ∙ ap (λ xs. set xs at (digit_code b)) text
     ∙ ap (λ k. set (take at old ++ 32 ∷ rest) k (digit_code b)) (sym start)
     ∙ set-append_seam (take at old) 32 rest (digit_code b)
-    ∙ ap (λ t. take at old ++ t) (sym (ap (value_line n) (one_bit v u (length bits) bits one planes low_v low_u) ∙ one_digit n b))
+    ∙ ap (λ t. take at old ++ t) (sym (one_digit n b))
+
+-- a vector of one bit
+pub lone_bit : (bits : BitList) (b : Bit4) → length bits ≡ 1 → slice_get bits 0 ≡ Some b → b ∷ [] ≡ bits
+lone_bit [] b one first = absurd (omega arith)
+lone_bit (a ∷ []) b one first = cc
+lone_bit (a ∷ c ∷ bits) b one first = absurd (omega arith)
 
 -- `b`, the digits and the tail
 pub line_of_more : (at middle_end end n : ℕ) (bits : BitList) (old middle new tail : List ℕ) → 2 ≤ length bits → at < length old → tail ≡ tail_text n

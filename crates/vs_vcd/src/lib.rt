@@ -3,6 +3,7 @@
 
 mod declarations;
 mod eights;
+mod first;
 mod fours;
 mod groups;
 mod laws;
@@ -13,7 +14,8 @@ mod time;
 mod values;
 
 pub use declarations::head;
+pub use first::{dump_line, end_line};
 pub use laws::{parts_law, texts_law, unchanged_law};
 pub use tail::Tail;
 pub use time::put_time;
-pub use values::put_value;
+pub use values::{LINE_ROOM, put_bit, put_value};

@@ -1,6 +1,6 @@
 //! What ends the line of a value.
 
-ghost use Rattle.std.specs.Prelude.{◌≡◌, ◌≤◌, take};
+ghost use Rattle.std.specs.Prelude.{◌≡◌, take};
 ghost use Rattle.vs_vcd.specs.Values.{tail_text};
 
 use crate::line::Line;
