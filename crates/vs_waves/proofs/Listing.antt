@@ -1,17 +1,24 @@
 -- The lines of changes, one after the other.
-use Rattle.std.proofs.Common.{◌≡◌, ℕ, zero, suc, ◌+◌, ◌*◌, ◌<◌, ◌≤◌, Bool, List, [], ◌∷◌, ◌++◌, append-nil, length, get_or, slice_get, Some, refl, sym, ap, ap₂, ◌∙◌, subst, arith}
+use Rattle.std.proofs.Common.{◌≡◌, ℕ, zero, suc, ◌+◌, ◌*◌, ◌<◌, ◌≤◌, Bool, if◌then◌else◌, List, [], ◌∷◌, ◌++◌, append-nil, length, map, get_or, slice_get, Some, refl, sym, ap, ap₂, ◌∙◌, subst, arith}
 use Rattle.std.proofs.Math.Nat.{mul-le-mul_right, suc-mul}
 use Rattle.std.proofs.lemmas.Grind.{flat_map-append}
 use Rattle.std.proofs.lemmas.List.{length-append}
 use Rattle.std.proofs.lemmas.Option.{unwrap_or-slice_get}
 use Rattle.std.specs.List.{flat_map}
 use Rattle.std.specs.Prelude.{unwrap_or, Option, None}
+use Rattle.vs_four.specs.declared.Bit4.{Bit4}
 use Rattle.vs_four.specs.Logic.{BitList}
-use Rattle.vs_design.specs.Values.{count_from}
+use Rattle.vs_net.specs.Network.{State}
+use Rattle.vs_design.specs.Values.{count_from, read}
 use Rattle.vs_engine.proofs.Spans.{count_from-more}
+use Rattle.vs_plane.specs.declared.pairs.Pair.{Pair}
+use Rattle.vs_plane.specs.Lanes.{lane_or_x, pair_lane, slot_lane}
+use Rattle.vs_program.specs.declared.compiled.Span.{Span}
+use Rattle.vs_program.specs.Compiled.{span_bits}
+use Rattle.vs_vcd.specs.Values.{value_line}
 use Rattle.vs_waves.specs.declared.changes.Change.{Change}
 use Rattle.vs_waves.specs.declared.changes.Changes.{Changes}
-use Rattle.vs_waves.specs.Changes.{change_line, changes_text, line_at}
+use Rattle.vs_waves.specs.Changes.{change_line, change_value, changes_text, line_at}
 
 -- where there is no change there is no line
 pub no_lines : {W : Type 0} (lane : W → ℕ → Bool) (lanes : ℕ) (c : Changes W) (i : ℕ) → c.changed.items ≡ [] → changes_text lane lanes c i ≡ []
@@ -41,12 +48,12 @@ pub slice_get-last : {A : Type 0} (xs : List A) (y : A) → slice_get (xs ++ y �
 slice_get-last [] y = refl
 slice_get-last (x ∷ xs) y = slice_get-last xs y
 
--- one change more, behind the values of the others
+-- one change more, behind the rows of the others
 pub one_more : {W : Type 0} (lane : W → ℕ → Bool) (lanes i : ℕ) (old new : Changes W) (change : Change W) (value : BitList) → i < lanes
     → new.changed.items ≡ old.changed.items ++ change ∷ []
     → ((n : ℕ) → n < length old.changed.items * lanes → slice_get new.values.items n ≡ slice_get old.values.items n)
-    → slice_get new.values.items (length old.changed.items * lanes + i) ≡ Some value
-    → changes_text lane lanes new i ≡ changes_text lane lanes old i ++ change_line lane i value change
+    → change_value lane i (get_or new.values.items (length old.changed.items * lanes + i) []) change.bit ≡ value
+    → changes_text lane lanes new i ≡ changes_text lane lanes old i ++ (if lane change.lanes i then value_line change.signal value else [])
 unfolding changes_text
 one_more lane lanes i old new change value in_lanes added before is =
     let n : ℕ = length old.changed.items in
@@ -59,10 +66,10 @@ one_more lane lanes i old new change value in_lanes added before is =
     (ap₂ (λ (x : Option (Change _)) (v : BitList). elim x [ None ↦ [] | Some it ↦ change_line lane i v it ])
     (ap (λ (l : List (Change _)). slice_get l k) added ∙ slice_get-before old.changed.items (change ∷ []) k h)
     (value_is (k * lanes + i) (before (k * lanes + i) (place_below k n lanes i h in_lanes)))) in
-    let last : g n ≡ change_line lane i value change =
-    ap₂ (λ (x : Option (Change _)) (v : BitList). elim x [ None ↦ [] | Some it ↦ change_line lane i v it ])
+    let last : g n ≡ (if lane change.lanes i then value_line change.signal value else []) =
+    ap (λ (x : Option (Change _)). elim x [ None ↦ [] | Some it ↦ change_line lane i (get_or new.values.items (n * lanes + i) []) it ])
     (ap (λ (l : List (Change _)). slice_get l n) added ∙ slice_get-last old.changed.items change)
-    (sym (unwrap_or-slice_get new.values.items (n * lanes + i) []) ∙ ap (λ (x : Option BitList). unwrap_or x []) is) in
+    ∙ ap (λ (v : BitList). if lane change.lanes i then value_line change.signal v else []) is in
     ap (λ (k : ℕ). flat_map g (count_from 0 k)) long
     ∙ ap (flat_map g) (count_from-more 0 n)
     ∙ flat_map-append g (count_from 0 n) ((0 + n) ∷ [])
@@ -71,3 +78,11 @@ one_more lane lanes i old new change value in_lanes added before is =
   where
     value_is : (k : ℕ) → slice_get new.values.items k ≡ slice_get old.values.items k → get_or new.values.items k [] ≡ get_or old.values.items k []
     value_is k e = sym (unwrap_or-slice_get new.values.items k []) ∙ ap (λ (x : Option BitList). unwrap_or x []) e ∙ unwrap_or-slice_get old.values.items k []
+
+-- a signal of one bit has the value that the bit has
+pub lone_value : {W : Type 0} (lane : W → ℕ → Bool) (i : ℕ) (planes : List (Pair W)) (pair : Pair W) (f : State) (s : Span) → slice_get planes 0 ≡ Some pair → length planes ≡ 1 → length planes ≡ s.length
+    → ((k : ℕ) → k < s.length → slot_lane lane planes k i ≡ f (s.first + k)) → pair_lane lane pair i ∷ [] ≡ read f (span_bits s)
+lone_value lane i planes pair f s is one long each =
+    ap (λ (b : Bit4). b ∷ [])
+    (sym (ap (λ o. lane_or_x lane o i) is) ∙ each 0 (omega (arith, one, long)) ∙ ap f (let e : s.first + 0 ≡ s.first = omega arith in e))
+    ∙ ap (λ (n : ℕ). map f (count_from s.first n)) (sym one ∙ long)

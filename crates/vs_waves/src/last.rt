@@ -1,7 +1,7 @@
 //! The planes of all signals, as they were at the end of a slot.
 
-ghost use Rattle.std.specs.Prelude.{◌≡◌, ℕ, ◌<◌, ◌≤◌, ◌^◌, ◌+◌, ◌||◌, length, map, slice_get, Some, true, false, IfOk, if◌then◌else◌};
-ghost use Rattle.vs_design.specs.Expressions.{range_or_one, signal_length};
+ghost use Rattle.std.specs.Prelude.{◌≡◌, ℕ, ◌<◌, ◌+◌, ◌||◌, length, map, slice_get, Some, IfOk, if◌then◌else◌};
+ghost use Rattle.vs_design.specs.Expressions.{signal_length};
 ghost use Rattle.vs_design.specs.Values.{count_from};
 ghost use Rattle.vs_engine.specs.Lanes.{differ_below, state};
 ghost use Rattle.vs_flat.specs.DesignOf.{design_of};
@@ -16,8 +16,8 @@ use crate::changes::Changes;
 use std::alloc::{AllocError, Global};
 use std::marker::Model;
 use vs_engine::Engine;
-use vs_flat::Flat;
-use vs_four::{Bit4, Range};
+use vs_flat::{Flat, length_of};
+use vs_four::Bit4;
 use vs_plane::{Lanes, Pair, Word};
 use vs_program::Span;
 
@@ -76,7 +76,7 @@ impl<W: Lanes> Last<W> {
             let lanes = lanes_to_write(engine, n as u32, planes, all);
             if lanes.any() {
                 engine.copy(n as u32, planes);
-                changes.add(engine, n as u32, lanes);
+                changes.add(engine, n as u32, lanes, planes);
             }
         }
     }
@@ -93,16 +93,5 @@ fn lanes_to_write<W: Lanes>(engine: &Engine<W>, signal: u32, old: &[Pair<W>], al
         W::all()
     } else {
         engine.changed(signal, old)
-    }
-}
-
-/// How many bits a signal has (IEEE 1364-2005, 3.3).
-fn length_of(range: Option<Range>) -> u32
-    requires { range_or_one range ≤ 2 ^ 20 }
-    ensures { result ≡ range_or_one range }
-{
-    match range {
-        None => 1,
-        Some(range) => range.left.abs_diff(range.right) + 1,
     }
 }

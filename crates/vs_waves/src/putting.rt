@@ -5,9 +5,7 @@ ghost use Rattle.vs_desk.specs.Desk.{Fails, IsWritable, PutsPart};
 ghost use Rattle.vs_waves.specs.Puts.{PutsFront};
 
 use vs_desk::{Desk, Failed, put_all, put_law};
-
-/// How many bytes are kept free for a line.
-const LINE_ROOM: usize = 80;
+use vs_vcd::LINE_ROOM;
 
 /// Puts the first bytes of the block, so many, where there would be no room for a line behind them. Answers how many bytes stand in it
 /// then.
@@ -19,9 +17,9 @@ pub(crate) fn make_room<D: Desk>(
     place: u32,
 ) -> Result<usize, Failed>
     requires writable { IsWritable (D.register desk.old) place }
-    requires block { 80 ≤ length block.now }
+    requires block { LINE_ROOM ≤ length block.now }
     requires filled { filled ≤ length block.now }
-    ensures room { IfOk result (λ n. n + 80 ≤ length block.now) }
+    ensures room { IfOk result (λ n. n + LINE_ROOM ≤ length block.now) }
     ensures same { OnOk result (D.register desk.new ≡ D.register desk.old) }
     ensures bytes { IsTrue D.tells → IfOk result (λ n. PutsFront (D.register desk.old) (D.contents desk.old) (D.contents desk.new)
         place (take filled block.now) (take n block.now)) }

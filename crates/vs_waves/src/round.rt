@@ -1,12 +1,11 @@
 //! The text that a round gives, lane by lane.
 
-ghost use Rattle.std.specs.Prelude.{◌≡◌, ℕ, ◌+◌, ◌<◌, ◌≤◌, [], if◌then◌else◌, length, take, IsTrue, IfOk, OnOk, OnErr};
+ghost use Rattle.std.specs.Prelude.{◌≡◌, ◌<◌, ◌≤◌, [], if◌then◌else◌, length, take, IsTrue, IfOk, OnOk, OnErr};
 ghost use Rattle.vs_desk.specs.Desk.{Fails, IsWritable, PutsPart, with_put};
 ghost use Rattle.vs_flat.specs.DesignOf.{design_of};
 ghost use Rattle.vs_vcd.specs.Scopes.{head_text};
-ghost use Rattle.vs_waves.specs.Changes.{AreOf};
 ghost use Rattle.vs_waves.specs.Puts.{PutsFront};
-ghost use Rattle.vs_waves.specs.Slots.{AreTails, IsRound, lane_text, noted_text};
+ghost use Rattle.vs_waves.specs.Slots.{IsRound, lane_text, noted_text};
 
 use crate::putting::put_text;
 use crate::slot::Slot;
@@ -14,7 +13,7 @@ use std::alloc::{AllocError, Global};
 use vs_desk::{Desk, Failed, put_all, put_law};
 use vs_flat::{Flat, trees_law};
 use vs_plane::{Lanes, Word};
-use vs_vcd::{Tail, head, put_time};
+use vs_vcd::{LINE_ROOM, Tail, head, put_time};
 
 /// How a lane's wave stands: open until its last line is put, and whether the fall of a round was noted and isn't put yet.
 #[derive(Clone, Copy)]
@@ -67,7 +66,7 @@ impl<W: Lanes> Round<W> {
         requires round { IsRound W.LANES self.now }
         requires lane { lane < W.LANES }
         requires writable { IsWritable (D.register desk.old) place }
-        requires block { 80 ≤ length block.old }
+        requires block { LINE_ROOM ≤ length block.old }
         ensures long { length block.new ≡ length block.old }
         ensures same { OnOk result (D.register desk.new ≡ D.register desk.old) }
         ensures bytes { IsTrue D.tells → OnOk result (D.contents desk.new
@@ -103,7 +102,7 @@ impl<W: Lanes> Round<W> {
         requires round { IsRound W.LANES self.now }
         requires lane { lane < W.LANES }
         requires writable { IsWritable (D.register desk.old) place }
-        requires block { 80 ≤ length block.old }
+        requires block { LINE_ROOM ≤ length block.old }
         ensures filled { IfOk result (λ n. n ≤ length block.new) }
         ensures long { length block.new ≡ length block.old }
         ensures same { OnOk result (D.register desk.new ≡ D.register desk.old) }

@@ -1,6 +1,6 @@
 //! A slot's text, lane by lane.
 
-ghost use Rattle.std.specs.Prelude.{◌≡◌, ℕ, ◌<◌, ◌≤◌, ◌^◌, ◌++◌, length, map, take, false, IsTrue, IfOk, OnOk, OnErr};
+ghost use Rattle.std.specs.Prelude.{◌≡◌, ℕ, ◌<◌, ◌≤◌, ◌++◌, length, map, take, false, IsTrue, IfOk, OnOk, OnErr};
 ghost use Rattle.vs_desk.specs.Desk.{Fails, IsWritable, PutsPart};
 ghost use Rattle.vs_program.specs.declared.compiled.Span.{Span};
 ghost use Rattle.vs_vcd.specs.Texts.{first_text, slot_text};
@@ -17,12 +17,7 @@ use std::alloc::{AllocError, Global};
 use vs_desk::{Desk, Failed, put_law};
 use vs_engine::Engine;
 use vs_plane::{Lanes, Word};
-use vs_vcd::{Tail, put_time, put_value};
-
-/// What opens the first slot behind the line of its time (IEEE 1364-2005, 18.2.3.9), and what closes it.
-const DUMP: &[u8] = b"$dumpvars\n";
-
-const END: &[u8] = b"$end\n";
+use vs_vcd::{LINE_ROOM, Tail, dump_line, end_line, put_bit, put_time, put_value};
 
 /// The text of a slot for all lanes: the lines that open it, and what changed.
 #[derive(Drop)]
@@ -64,8 +59,9 @@ impl<W: Lanes> Slot<W> {
         ensures slot { IsSlot W.LANES (length last.old.spans) self.new }
     {
         let time = put_time(&mut self.opening, 0, 0);
-        self.opened = time + DUMP.len();
-        self.opening[time..self.opened].copy_from_slice(DUMP);
+        let dump = dump_line();
+        self.opened = time + dump.len();
+        self.opening[time..self.opened].copy_from_slice(dump);
         self.is_first = true;
         last.take_over(engine, true, &mut self.changes);
     }
@@ -100,7 +96,7 @@ impl<W: Lanes> Slot<W> {
         requires tails { AreTails tails.now }
         requires slot { IsSlot W.LANES (length tails.now) self.now }
         requires writable { IsWritable (D.register desk.old) place }
-        requires block { 80 ≤ length block.old }
+        requires block { LINE_ROOM ≤ length block.old }
         requires filled { filled ≤ length block.old }
         ensures filled { IfOk result (λ n. n ≤ length block.new) }
         ensures long { length block.new ≡ length block.old }
@@ -125,7 +121,7 @@ impl<W: Lanes> Slot<W> {
 fn closing(is_first: bool) -> &'static [u8]
     ensures { result.now ≡ closing is_first }
 {
-    if is_first { END } else { b"" }
+    if is_first { end_line() } else { b"" }
 }
 
 /// Moves the lines of the changes in a lane behind the first bytes of the block, so many, and puts the block each time that there
@@ -143,7 +139,7 @@ fn put_changes<W: Lanes, D: Desk>(
     requires tails { AreTails tails.now }
     requires changes { AreOf W.LANES (length tails.now) changes.now }
     requires writable { IsWritable (D.register desk.old) place }
-    requires block { 80 ≤ length block.old }
+    requires block { LINE_ROOM ≤ length block.old }
     requires filled { filled ≤ length block.old }
     ensures filled { IfOk result (λ n. n ≤ length block.new) }
     ensures long { length block.new ≡ length block.old }
@@ -181,7 +177,7 @@ fn put_change<W: Lanes, D: Desk>(
     requires tails { AreTails tails.now }
     requires changes { AreOf W.LANES (length tails.now) changes.now }
     requires writable { IsWritable (D.register desk.old) place }
-    requires block { 80 ≤ length block.old }
+    requires block { LINE_ROOM ≤ length block.old }
     requires filled { filled ≤ length block.old }
     ensures filled { IfOk result (λ n. n ≤ length block.new) }
     ensures long { length block.new ≡ length block.old }
@@ -199,6 +195,9 @@ fn put_change<W: Lanes, D: Desk>(
         return Ok(filled);
     }
     let at = make_room(block, filled, desk, place)?;
-    let value = changes.value(n, lane);
-    Ok(put_value(block, at, value, &tails[change.signal as usize]))
+    let tail = &tails[change.signal as usize];
+    match &change.bit {
+        Some(pair) => Ok(put_bit(block, at, pair.lane(lane), tail)),
+        None => Ok(put_value(block, at, changes.value(n, lane), tail)),
+    }
 }

@@ -70,6 +70,12 @@ add-requires-clause-signal g c =
     let t = has_span c.self.inside.spans.items c.args.engine.now.program.signals c.loop-n.n c.index-span.result.now (lengths_are g d) (span_is g d) in
     slice_get_within c.args.engine.now.program.signals c.loop-n.n t.span t.is
 
+pub add-requires-clause-bits : goal.add-requires-clause-bits
+add-requires-clause-bits g c = λ s e. c.copy.ensures.count ∙ part_long g (goal.at.add-requires-clause-bits g c).After-deref_mut s e
+
+pub add-requires-clause-planes : goal.add-requires-clause-planes
+add-requires-clause-planes g c = λ s k i e h l. c.copy.ensures.planes s k i e h
+
 pub loop-n-preserved : goal.loop-n-preserved
 loop-n-preserved g c =
     let d = (goal.at.loop-n-preserved g c).After-deref_mut in

@@ -1,4 +1,4 @@
-use Rattle.std.proofs.Common.{◌≡◌, ◌+◌, ◌-◌, ◌++◌, ◌≤◌, ℕ, List, length, take, sym, ap, ◌∙◌, refl, append_assoc, arith}
+use Rattle.std.proofs.Common.{◌≡◌, ◌+◌, ◌-◌, ◌++◌, ◌≤◌, ℕ, List, length, take, sym, ap, ◌∙◌, append_assoc, arith}
 use Rattle.std.specs.Prelude.{codes}
 use Rattle.std.proofs.lemmas.List.{length-map}
 use Rattle.vs_design.specs.Values.{count_from, read}
@@ -24,7 +24,8 @@ returns-clause-text g c = λ i h.
     let signals = c.args.engine.now.program.signals in
     let time : take t block ≡ time_line 0 = c.put_time-time.ensures.text in
     let inside : t ≤ length block = omega (arith, c.put_time-time.ensures.within, c.put_time-time.ensures.long) in
-    let front = ended_front t 10 (t + 10 - t) 0 block dump c.copy_from_slice.new.self inside refl c.copy_from_slice.ensures.after in
+    let size : length c.dump_line-dump.result.now ≡ 10 = ap length c.dump_line-dump.ensures in
+    let front = ended_front t (length c.dump_line-dump.result.now) (t + length c.dump_line-dump.result.now - t) 0 block dump c.copy_from_slice.new.self inside size (c.copy_from_slice.ensures.after ∙ c.dump_line-dump.ensures ∙ ap (λ (m : ℕ). take m dump) (sym size)) in
     let count : length spans ≡ length now = sym (length-map spans (λ (s : Span). s.length)) ∙ sym (ap length c.requires.lengths) ∙ length-map signals (λ (s : Span). s.length) ∙ sym (length-map signals (λ (s : Span). read (state g.W.Word.lane c.args.engine.now i) (span_bits s))) in
     let text : lines ≡ value_lines now (count_from 0 (length now)) = c.take_over.ensures.text i h ∙ ap (λ (n : ℕ). value_lines now (count_from 0 n)) count in
     ap (λ (xs : List ℕ). xs ++ (lines ++ end)) (front ∙ ap (λ (xs : List ℕ). xs ++ dump) time)
