@@ -1,20 +1,18 @@
 -- Lanes that are about to begin.
-use Rattle.std.proofs.Common.{◌≡◌, ◌≤◌, ◌<◌, ◌∙◌, ℕ, Bool, true, false, not, List, [], ◌∷◌, length, map, refl, sym, ap, subst, arith}
+use Rattle.std.proofs.Common.{◌≡◌, ◌≤◌, ◌<◌, ◌∙◌, ℕ, Bool, true, false, not, List, [], length, sym, ap, subst, arith}
 use Rattle.vs_desk.specs.Desk.{Contents}
 use Rattle.vs_net.specs.Network.{State}
 use Rattle.vs_engine.specs.Lanes.{Running, state}
-use Rattle.vs_design.specs.Expressions.{Signal, signal_length}
 use Rattle.vs_design.specs.Designs.{Design}
-use Rattle.vs_program.specs.declared.compiled.Span.{Span}
-use Rattle.vs_program.specs.Program.{Program}
-use Rattle.vs_program.specs.Compiled.{IsProgramOf, span_of}
+use Rattle.vs_program.specs.Compiled.{IsProgramOf}
+use Rattle.vs_program.proofs.Lengths.{lengths_of_spans}
 use Rattle.vs_stim.specs.Known.{Known, remaining}
 use Rattle.vs_stim.specs.Reading.{Reading}
 use Rattle.vs_drive.specs.Lanes.{lane_at}
 use Rattle.vs_waves.specs.Wave.{Wave, IsNewWave}
 use Rattle.vs_waves.specs.Puts.{wave_place}
 use Rattle.vs_rounds.specs.Lanes.{Run, reading_of, network, Simulation, wave_at, closed, IsRead, IsUnread, IsWaveAt, HaveNext, HaveVectors, AreOpened, AreBegun}
-use Rattle.vs_rounds.specs.Ready.{AreParts, IsReady, signal_lengths}
+use Rattle.vs_rounds.specs.Ready.{AreParts, IsReady}
 use Rattle.vs_rounds.proofs.Settled.{in_time}
 use Rattle.vs_rounds.proofs.Waves.{not_ended}
 use Rattle.vs_rounds.proofs.Rounded.{remaining_left, still_taken}
@@ -60,14 +58,6 @@ opened_begun lane run m new before after h long waves engine read = record {
   };
 }
 
--- a program's signals have the lengths of the design's
-lengths_of_spans : (signals : List Signal) → map (λ (x : Span). x.length) (map span_of signals) ≡ map signal_length signals
-lengths_of_spans [] = refl
-lengths_of_spans (s ∷ ss) = ap (λ (ns : List ℕ). signal_length s ∷ ns) (lengths_of_spans ss)
-
-pub program_lengths : (d : Design) (clock : ℕ) (p : Program) → IsProgramOf d clock p → signal_lengths p ≡ map signal_length d.signals
-program_lengths d clock p h = ap (map (λ (x : Span). x.length)) h.signals ∙ lengths_of_spans d.signals
-
 -- the first round can be run
 pub parts_ready : {W : Type 0} (d : Design) (clock half : ℕ) (stimuli : List Known) (waves : List Wave) (engine : Running W) → AreParts d clock half stimuli waves engine.program
     → IsReady {W = W} 0 (record { stimuli = stimuli; waves = waves; engine = engine })
@@ -76,5 +66,5 @@ parts_ready d clock half stimuli waves engine h = record {
   waves = λ i lt.
       let w = h.new i closed (omega (arith, h.count)) in
       let small : (wave_at waves i).dump.half ≤ 1000000 = omega (arith, w.half_is, h.small) in
-      record { half = small; in_time = in_time 0 (wave_at waves i).dump.half (omega arith) small; lengths = w.lengths ∙ sym (program_lengths d clock engine.program h.program); handed_out = w.left_is };
+      record { half = small; in_time = in_time 0 (wave_at waves i).dump.half (omega arith) small; lengths = w.lengths ∙ sym (lengths_of_spans d clock engine.program h.program); handed_out = w.left_is };
 }

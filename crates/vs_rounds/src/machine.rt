@@ -20,12 +20,12 @@ use vs_desk::Desk;
 use vs_drive::Drive;
 use vs_engine::Engine;
 use vs_four::Bit4;
-use vs_plane::{Chunked, Lanes, Pair, Steps};
+use vs_plane::{Lanes, Pair, Steps};
 use vs_waves::Waves;
 
 /// What a run needs in its rounds: the stimuli, the waves and the engine of all lanes. Lanes have no part in each other.
 #[derive(Drop)]
-pub struct Machine<W: Lanes + Chunked> {
+pub struct Machine<W: Lanes> {
     drive: Drive,
     waves: Waves<W>,
     engine: Engine<W>,
@@ -33,7 +33,7 @@ pub struct Machine<W: Lanes + Chunked> {
 }
 
 // Clauses see the stimuli, the waves and the engine.
-impl<W: Lanes + Chunked> Model for Machine<W> {
+impl<W: Lanes> Model for Machine<W> {
     ghost use Rattle.std.specs.Prelude.{◌≡◌, length};
     ghost use Rattle.vs_rounds.specs.Lanes.{Simulation};
 
@@ -44,7 +44,7 @@ impl<W: Lanes + Chunked> Model for Machine<W> {
     ghost invariant = { λ m. length m.pairs.items ≡ length m.engine.program.inputs };
 }
 
-impl<W: Lanes + Chunked> Machine<W> {
+impl<W: Lanes> Machine<W> {
     /// A machine of these parts. No other call takes memory, and the only error is that there is none.
     pub fn new(
         alloc: Global,

@@ -16,7 +16,7 @@ use crate::operations::SlotOperations;
 use crate::{Machine, Stop};
 use std::sync::ledger::Ledger;
 use vs_desk::Desk;
-use vs_plane::{Chunked, Lanes, Steps};
+use vs_plane::{Lanes, Steps};
 
 /// A stimulus has at most 16,777,216 vectors, and its end is read in one more round.
 const MOST_ROUNDS: u64 = 16_777_217;
@@ -32,7 +32,7 @@ pub struct Counts {
     pub operations: u64,
 }
 
-impl<W: Lanes + Chunked> Machine<W> {
+impl<W: Lanes> Machine<W> {
     /// Reads the first vector of each lane, by lane.
     ///
     /// It is a step of its own: nothing is put, and the places of the waves need not be attached. It stops at the first lane whose text

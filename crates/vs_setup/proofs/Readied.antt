@@ -1,12 +1,12 @@
 -- A run whose parts were put together.
-use Rattle.std.proofs.Common.{◌≡◌, ℕ, ◌<◌, ◌≤◌, Bool, List, [], ◌∷◌, length, map, arith, IsTrue, All, refl, sym, subst, ap, ◌∙◌}
+use Rattle.std.proofs.Common.{◌≡◌, ℕ, ◌<◌, ◌≤◌, Bool, List, length, map, arith, IsTrue, All, sym, subst, ap, ◌∙◌}
 use Rattle.std.specs.Prelude.{sum}
 use Rattle.vs_desk.specs.Desk.{Contents}
-use Rattle.vs_design.specs.Expressions.{Signal, signal_length}
+use Rattle.vs_design.specs.Expressions.{signal_length}
 use Rattle.vs_design.specs.Designs.{Design}
 use Rattle.vs_flat.specs.DesignOf.{design_of}
-use Rattle.vs_program.specs.declared.compiled.Span.{Span}
-use Rattle.vs_program.specs.Compiled.{IsProgramOf, span_of}
+use Rattle.vs_program.specs.Compiled.{IsProgramOf}
+use Rattle.vs_program.proofs.Lengths.{lengths_of_spans}
 use Rattle.vs_engine.specs.Lanes.{Running, state}
 use Rattle.vs_accept.specs.Lent.{Acceptance}
 use Rattle.vs_stim.specs.declared.input.Input.{Input}
@@ -51,12 +51,8 @@ ready lane lanes tells job old mid new a inputs engine m p = record {
   waves = λ i h. each i (new_wave (design_of a.flat) job.half m.waves p.new_waves i (subst (λ n. i < n) (sym p.waves) h));
 }
   where
-    lengths_of_spans : (signals : List Signal) → map (λ (x : Span). x.length) (map span_of signals) ≡ map signal_length signals
-    lengths_of_spans [] = refl
-    lengths_of_spans (s ∷ ss) = ap (λ (ns : List ℕ). signal_length s ∷ ns) (lengths_of_spans ss)
-
     signals : map signal_length (design_of a.flat).signals ≡ signal_lengths m.engine.program
-    signals = sym (lengths_of_spans (design_of a.flat).signals) ∙ ap (map (λ (x : Span). x.length)) (sym (program_is lane lanes tells job old mid new a inputs engine m p).signals)
+    signals = sym (lengths_of_spans (design_of a.flat) _ m.engine.program (program_is lane lanes tells job old mid new a inputs engine m p))
 
     small : {w : Wave} → IsNewWave (design_of a.flat) job.half w → w.dump.half ≤ 1000000
     small w = subst (λ n. n ≤ 1000000) (sym w.half_is) p.half

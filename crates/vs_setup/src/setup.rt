@@ -25,14 +25,14 @@ use std::alloc::{AllocError, Global};
 use vs_desk::{Desk, FIRST_STIMULUS};
 use vs_drive::{Drive, Stopped, open};
 use vs_job::{Job, stimulus_paths, vcd_paths};
-use vs_plane::{Chunked, Lanes};
+use vs_plane::Lanes;
 use vs_rounds::Machine;
 use vs_stim::{Input, StimError};
 use vs_waves::Waves;
 
 /// A run that can begin.
 #[derive(Drop)]
-pub struct Prepared<W: Lanes + Chunked> {
+pub struct Prepared<W: Lanes> {
     /// The stimuli, the waveforms and the engine.
     pub machine: Machine<W>,
     /// The size of the design.
@@ -43,7 +43,7 @@ pub struct Prepared<W: Lanes + Chunked> {
 
 /// Prepares a run: reads the design at place 1 and loads it, opens the stimulus of lane i at place 1000 + i by lane, and takes all the
 /// memory that the run needs.
-pub fn prepare<W: Lanes + Chunked, D: Desk>(
+pub fn prepare<W: Lanes, D: Desk>(
     alloc: Global,
     job: &Job,
     desk: &mut D,
@@ -132,7 +132,7 @@ fn stopped_at(stopped: Stopped) -> SetupError
 }
 
 /// Puts the parts of a run together.
-fn assemble<W: Lanes + Chunked>(
+fn assemble<W: Lanes>(
     alloc: Global,
     job: &Job,
     loaded: Loaded<W>,

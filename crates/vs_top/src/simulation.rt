@@ -13,7 +13,7 @@ use std::alloc::Global;
 use std::sync::ledger::Ledger;
 use vs_desk::{Desk, FIRST_WAVEFORM, attach_law};
 use vs_job::{Job, same_paths};
-use vs_plane::{Chunked, Lanes, Steps, Words};
+use vs_plane::{Lanes, Steps, Words};
 use vs_refusal::Refusal;
 use vs_rounds::headline_law;
 use vs_setup::{Prepared, prepare};
@@ -50,7 +50,7 @@ pub(crate) fn run_job<D: Desk, L: Ledger>(
 }
 
 /// Runs a job to the end of its rounds, in words of so many lanes.
-fn run_lanes<W: Lanes + Chunked, D: Desk, L: Ledger>(
+fn run_lanes<W: Lanes, D: Desk, L: Ledger>(
     alloc: Global,
     job: &Job,
     desk: &mut D,

@@ -117,7 +117,7 @@ rounds-requires-clause-writable g c = λ i lt _.
     let below : i < length (map (string_bytes {Z = Global}) items) = subst (λ n. i < n) (waves ∙ lanes ∙ sym paths) lt in
     subst (λ (r : Register). IsAttached r (wave_place i) Write) (sym c.in_default-attach.ensures.attached) (with_places-at c.attach_law.ensures.each (g.D.Desk.register c.begin.new.desk) (waveform_place 0) Write (map (string_bytes {Z = Global}) items) i below)
 
-all_written : (g : Over) (c : goal.After-drop-machine-inside-in-Ok-rounds-22 g) → IsWholeEnd g.D.Desk.tells c.args.job.now (g.D.Desk.register c.args.desk.now) (g.D.Desk.contents c.args.desk.now) (g.D.Desk.register c.rounds.new.desk) (g.D.Desk.contents c.rounds.new.desk)
+all_written : (g : Over) (c : goal.After-drop-machine-inside-in-Ok-rounds-23 g) → IsWholeEnd g.D.Desk.tells c.args.job.now (g.D.Desk.register c.args.desk.now) (g.D.Desk.contents c.args.desk.now) (g.D.Desk.register c.rounds.new.desk) (g.D.Desk.contents c.rounds.new.desk)
     (Done (record { lanes = c.len.result; vectors = c.in-Ok-rounds.counts.vectors; settlings = c.in-Ok-rounds.counts.settlings; size = c.in-Ok.prepared.size; operations = c.in-Ok-rounds.counts.operations }))
 all_written g c =
     let job = c.args.job.now in
