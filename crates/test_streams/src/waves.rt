@@ -20,7 +20,7 @@ use vs_desk::MemoryDesk;
 use vs_engine::Engine;
 use vs_flat::Flat;
 use vs_four::Bit4;
-use vs_plane::{Chunked, Lanes, Pair, Steps, Words};
+use vs_plane::{Lanes, Pair, Steps, Words};
 use vs_setup::{Loaded, load};
 use vs_waves::{LaneFault, Waves, attach, rounds_law};
 
@@ -47,7 +47,7 @@ fn pair(first: Bit4, second: Bit4) -> Pair<Words<1>> {
 }
 
 /// One round of both lanes.
-fn run_round<W: Lanes + Chunked, L: Ledger>(
+fn run_round<W: Lanes, L: Ledger>(
     engine: &mut Engine<W>,
     waves: &mut Waves<W>,
     round: u64,
@@ -76,7 +76,7 @@ fn run_round<W: Lanes + Chunked, L: Ledger>(
 }
 
 /// The first lane has two vectors, and the second one has one. A round more puts nothing.
-fn run_all<W: Lanes + Chunked, L: Ledger>(
+fn run_all<W: Lanes, L: Ledger>(
     engine: &mut Engine<W>,
     waves: &mut Waves<W>,
     first: &[Pair<W>],

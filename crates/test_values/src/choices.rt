@@ -14,7 +14,7 @@ use std::test::Fail;
 use vs_code::AnyKernel;
 use vs_four::{self as four, Bit4, Bits, Range};
 use vs_kern_select::{Kernel, Selection, run_three, run_two};
-use vs_plane::{Chunked, Lanes, PlaneFile, Steps, Words};
+use vs_plane::{Lanes, PlaneFile, Steps, Words};
 
 /// What the operators of two vectors give, in so many bits.
 fn value_of_two(kernel: Kernel, a: Bits, b: Bits, width: u32) -> Bits
@@ -31,7 +31,7 @@ fn value_of_two(kernel: Kernel, a: Bits, b: Bits, width: u32) -> Bits
 }
 
 /// Each lane of a shift or a select against the operator.
-fn check_two<W: Chunked + Lanes, L: Ledger>(
+fn check_two<W: Lanes, L: Ledger>(
     rt: &impl Abort,
     kernel: Kernel,
     file: &mut PlaneFile<W>,
@@ -89,7 +89,7 @@ fn value_of_three(kernel: Kernel, a: Bits, b: Bits, c: Bits, width: u32) -> Bits
 }
 
 /// Each lane of a write or a choice against the operator.
-fn check_three<W: Chunked + Lanes, L: Ledger>(
+fn check_three<W: Lanes, L: Ledger>(
     rt: &impl Abort,
     kernel: Kernel,
     file: &mut PlaneFile<W>,
@@ -131,7 +131,7 @@ fn check_three<W: Chunked + Lanes, L: Ledger>(
 }
 
 /// Shifts of a vector, and choices between it and another one.
-fn check_shifts<W: Chunked + Lanes, L: Ledger>(
+fn check_shifts<W: Lanes, L: Ledger>(
     rt: &impl Abort,
     file: &mut PlaneFile<W>,
     a: &[u32],
@@ -160,7 +160,7 @@ fn check_shifts<W: Chunked + Lanes, L: Ledger>(
 }
 
 /// Selects of a vector, and writes to it, by bases of either sign and in both directions.
-fn check_selects<W: Chunked + Lanes, L: Ledger>(
+fn check_selects<W: Lanes, L: Ledger>(
     rt: &impl Abort,
     range: Range,
     file: &mut PlaneFile<W>,
@@ -214,7 +214,7 @@ fn check_selects<W: Chunked + Lanes, L: Ledger>(
 }
 
 /// All of these, where two vectors, the base, a value and what is written lie one after the other.
-fn check_runs<W: Chunked + Lanes, L: Ledger>(
+fn check_runs<W: Lanes, L: Ledger>(
     rt: &impl Abort,
     range: Range,
     file: &mut PlaneFile<W>,
@@ -276,7 +276,7 @@ fn ranges(length: u32) -> [Range; 4]
 }
 
 /// Vectors of this length, bases of so many bits, and values of this width.
-fn check_length<W: Chunked + Lanes, L: Ledger>(
+fn check_length<W: Lanes, L: Ledger>(
     rt: &impl Abort,
     alloc: Global,
     length: u32,
@@ -313,7 +313,7 @@ fn check_length<W: Chunked + Lanes, L: Ledger>(
     Ok(())
 }
 
-fn check_lengths<W: Chunked + Lanes, L: Ledger>(
+fn check_lengths<W: Lanes, L: Ledger>(
     rt: &impl Abort,
     alloc: Global,
     blank: Blank,

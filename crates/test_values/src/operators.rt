@@ -14,7 +14,7 @@ use vs_code::AnyKernel;
 use vs_four::{self as four, Bit4, Bits};
 use vs_kern_arith::Kernel as Number;
 use vs_kern_logic::Kernel as Gate;
-use vs_plane::{Chunked, Lanes, PlaneFile, Steps, Words};
+use vs_plane::{Lanes, PlaneFile, Steps, Word, Words};
 
 const KERNELS: [AnyKernel; 33] = [
     Logic(Gate::Copy),
@@ -62,7 +62,7 @@ fn gives_vector(kernel: AnyKernel) -> bool {
 }
 
 /// Runs a kernel of logic operators whose value is as long as `to`.
-fn apply_gate<W: Chunked, L: Ledger>(
+fn apply_gate<W: Word, L: Ledger>(
     gate: Gate,
     file: &mut PlaneFile<W>,
     a: &[u32],
@@ -108,7 +108,7 @@ fn apply_gate<W: Chunked, L: Ledger>(
 }
 
 /// Runs a kernel of numbers whose value is as long as `to`.
-fn apply_number<W: Chunked, L: Ledger>(
+fn apply_number<W: Word, L: Ledger>(
     number: Number,
     file: &mut PlaneFile<W>,
     a: &[u32],
@@ -137,7 +137,7 @@ fn apply_number<W: Chunked, L: Ledger>(
     }
 }
 
-fn apply<W: Chunked, L: Ledger>(
+fn apply<W: Word, L: Ledger>(
     kernel: AnyKernel,
     file: &mut PlaneFile<W>,
     a: &[u32],
@@ -240,7 +240,7 @@ fn check<W: Lanes>(
 }
 
 /// Every kernel whose value is a vector, or every other one.
-fn check_kernels<W: Lanes + Chunked, L: Ledger>(
+fn check_kernels<W: Lanes, L: Ledger>(
     rt: &impl Abort,
     vector: bool,
     file: &mut PlaneFile<W>,
@@ -269,7 +269,7 @@ fn check_kernels<W: Lanes + Chunked, L: Ledger>(
 }
 
 /// The same, where the arguments, the value and the slots on the way lie one after the other.
-fn check_runs<W: Lanes + Chunked, L: Ledger>(
+fn check_runs<W: Lanes, L: Ledger>(
     rt: &impl Abort,
     vector: bool,
     file: &mut PlaneFile<W>,
@@ -296,7 +296,7 @@ fn check_runs<W: Lanes + Chunked, L: Ledger>(
 }
 
 /// Every kernel on vectors of this length.
-fn check_length<W: Lanes + Chunked, L: Ledger>(
+fn check_length<W: Lanes, L: Ledger>(
     rt: &impl Abort,
     alloc: Global,
     length: u32,
@@ -320,8 +320,8 @@ fn check_length<W: Lanes + Chunked, L: Ledger>(
     Ok(())
 }
 
-/// Lengths on either side of eight slots, and the longest.
-fn check_lengths<W: Lanes + Chunked, L: Ledger>(
+/// Lengths from 1 to the longest.
+fn check_lengths<W: Lanes, L: Ledger>(
     rt: &impl Abort,
     alloc: Global,
     blank: Blank,

@@ -1,6 +1,6 @@
 //! Words of lanes, pairs of them, and files of pairs.
 
-ghost use Rattle.std.specs.Prelude.{◌≡◌, ℕ, ◌+◌, ◌<◌, slice_index};
+ghost use Rattle.std.specs.Prelude.{◌≡◌, ◌<◌};
 
 use std::alloc::Global;
 use std::marker::Brand;
@@ -8,7 +8,7 @@ use std::process::Abort;
 use std::sync::ledger::{Blank, Ledger};
 use std::test::Fail;
 use vs_four::Bit4;
-use vs_plane::{Chunked, Lanes, Pair, PlaneFile, Steps, Words};
+use vs_plane::{Lanes, Pair, PlaneFile, Steps, Words};
 
 /// Sets and clears a few lanes, and reads all.
 fn check_lanes<W: Lanes>(rt: &impl Abort, lanes: u32)
@@ -47,42 +47,22 @@ fn each_lane_has_a_bit_of_its_own(rt: HostRuntime) {
     }
 }
 
-/// Eight slots from this one on.
-fn eight_from(first: u32) -> [u32; 8]
-    requires { first < 100 }
-    ensures { (k : ℕ) → k < 8 → slice_index result k ≡ first + k }
-{
-    let mut slots = [0; 8];
-    for k in 0..8 {
-        slots[k as usize] = first + k;
-    }
-    slots
-}
-
-/// The conjunction of two slots goes to a third one, and then the `~` of eight slots to the next eight.
-fn check_file<W: Lanes + Chunked, L: Ledger>(
-    rt: &impl Abort,
-    alloc: Global,
-    blank: Blank,
-) -> Result<(), Fail>
+/// The conjunction of two slots goes to a third one.
+fn check_file<W: Lanes, L: Ledger>(rt: &impl Abort, alloc: Global, blank: Blank) -> Result<(), Fail>
     requires name { blank.name ≡ L.name }
     requires parts { blank.parts ≡ L.parts }
     requires some { 0 < blank.parts }
     requires lanes { 0 < W.LANES }
 {
     let (zero, one, x, z) = (Bit4::Zero, Bit4::One, Bit4::X, Bit4::Z);
-    let initial = [one, z, zero, x, zero, one, x, z, z, z, z, z, z, z, z, z];
-    let expected = [
-        one, z, x, x, zero, one, x, z, zero, x, x, x, one, zero, x, x,
-    ];
+    let initial = [one, z, zero, one];
+    let expected = [one, z, x, one];
     let mut file: PlaneFile<W> = PlaneFile::new(alloc, &initial)?;
     let mut steps: Steps<L> = Steps::new(blank);
-    assert_eq!(rt; file.slots(), 16);
+    assert_eq!(rt; file.slots(), 4);
     let both = file.load(0).and(file.load(1));
     file.store(2, both, &mut steps);
-    let eight = file.load_chunk(&eight_from(0));
-    file.store_chunk(&eight_from(8), eight.not(), &mut steps);
-    for slot in 0..16 {
+    for slot in 0..4 {
         for lane in [0, W::LANES - 1] {
             assert_eq!(rt; file.lane(slot, lane), expected[slot as usize]);
         }

@@ -16,7 +16,7 @@ use vs_four::{self as four, Bit4, Bits, Range};
 use vs_kern_arith::Kernel as Arith;
 use vs_kern_logic::Kernel as Logic;
 use vs_kern_select::{Kernel as Select, Selection};
-use vs_plane::{Chunked, Lanes, PlaneFile, Steps, Words};
+use vs_plane::{Lanes, PlaneFile, Steps, Words};
 
 // The slots of a vector: the first one, and how many there are.
 type Run = (u32, u32);
@@ -283,7 +283,7 @@ fn program(rt: &impl Abort, alloc: Global) -> Result<Program, AllocError> {
 }
 
 // A program executed twice: the second time it finds what the first one left, and comes to the same.
-fn check_program<W: Lanes + Chunked, L: Ledger>(
+fn check_program<W: Lanes, L: Ledger>(
     rt: &impl Abort,
     alloc: Global,
     blank: Blank,
