@@ -22,7 +22,7 @@ use std::sync::ledger::{Blank, Ledger};
 use vs_accept::{MAX_BYTES, accept};
 use vs_engine::Engine;
 use vs_four::Bit4;
-use vs_plane::{Chunked, Lanes, Pair, Steps, Word, Words};
+use vs_plane::{Lanes, Pair, Steps, Word, Words};
 use vs_setup::load;
 
 /// How many rounds are timed.
@@ -41,7 +41,7 @@ fn pairs<W: Word>(alloc: Global, count: usize, first: bool) -> Result<Vec<Pair<W
 }
 
 /// A fall and a rise of the clock.
-fn round<W: Chunked + Lanes, L: Ledger>(
+fn round<W: Lanes, L: Ledger>(
     engine: &mut Engine<W>,
     inputs: &[Pair<W>],
     steps: &mut Steps<L>,
@@ -53,7 +53,7 @@ fn round<W: Chunked + Lanes, L: Ledger>(
 }
 
 /// Times the rounds of an engine.
-fn time<W: Chunked + Lanes, L: Ledger>(
+fn time<W: Lanes, L: Ledger>(
     rt: &(impl CpuClock + Print + Alloc<A = Global>),
     engine: &mut Engine<W>,
     blank: Blank,
@@ -80,7 +80,7 @@ fn time<W: Chunked + Lanes, L: Ledger>(
 }
 
 /// Loads a design, and times its rounds over these lanes.
-fn times<W: Chunked + Lanes>(
+fn times<W: Lanes>(
     rt: &(impl CpuClock + Print + Alloc<A = Global>),
     text: &[u8],
 ) -> Result<()>

@@ -1,30 +1,13 @@
 #!/usr/bin/env bash
-# Prints how many millions of stores a second each kernel makes in the built program, at 1, 8, 32 and 64 bits and slots of 1, 2 and 4 words,
-# and in parentheses what its plain body makes, where it has one. A kernel whose value is one bit makes one store a call, so there the
-# rate is that of whole calls. Amounts and bases have 6 bits, conditions 1. The time is the processor's, so that other work on the machine
-# counts for little. It is no part of the gate. It proves and builds everything first, since the plain bodies are made public in a copy,
-# which begins with what the checks here kept.
+# Prints how many millions of stores a second each kernel makes in the built program, at 1, 8, 32 and 64 bits and slots of 1, 2 and 4 words.
+# A kernel whose value is one bit makes one store a call, so there the rate is that of whole calls. Amounts and bases have 6 bits, conditions
+# 1. The time is the processor's, so that other work on the machine counts for little. It is no part of the gate. It proves and builds in a
+# copy, which begins with what the checks here kept.
 #
-# A further kernel is a line of LOGIC, ARITH or SELECT in the program below. A further crate is a name in `crates`, and in the program a
-# table of its kernels, two variants of Body, an arm of each match of one, and a loop in `bench`.
+# A further kernel is a line of LOGIC, ARITH or SELECT in the program below.
 set -eu
-top=$(cd "$(dirname "$0")/.." && pwd)
-crates='vs_kern_logic vs_kern_arith vs_kern_select'
-work=$(mktemp -d)
-trap 'rm -rf "$work"' EXIT
-mkdir "$work/crates"
-cd "$work"
-for crate in vs_four vs_plane $crates; do
-    cp -a "$top/crates/$crate" crates/
-done
-printf 'vs_four:\nvs_plane: vs_four\n' > crates.txt
-for crate in $crates; do
-    grep "^$crate:" "$top/crates.txt" >> crates.txt
-    sed -i 's/pub(crate)/pub/' "crates/$crate"/src/*.rt
-    sed -i 's/^mod /pub mod /' "crates/$crate/src/lib.rt"
-done
-echo "bench_kernels: vs_four vs_plane $crates anyhow" >> crates.txt
-mkdir -p crates/bench_kernels/src crates/bench_kernels/specs
+. "$(dirname "$0")/scratch.sh"
+scratch bench_kernels vs_code
 cd crates/bench_kernels
 for function in main rate slots time; do mkdir -p "proofs/$function"; done
 
@@ -42,14 +25,9 @@ use std::sync::ledger::{Blank, Ledger};
 use std::time::CpuClock;
 use vs_four::{Bit4, Range};
 use vs_kern_arith as arith;
-use vs_kern_arith::laws::{sum_places, unknown_places};
 use vs_kern_logic as logic;
-use vs_kern_logic::gates::{Fold, Gate, output};
-use vs_kern_logic::laws::{fold_places, gate_places, match_places, output_places};
-use vs_kern_logic::truth;
 use vs_kern_select as select;
-use vs_kern_select::laws::choose_places;
-use vs_plane::{Chunked, Pair, PlaneFile, Steps, Word, Words};
+use vs_plane::{PlaneFile, Steps, Word, Words};
 
 // How many slots a measurement stores or reads, and how many measurements the best is taken of.
 const WORK: u64 = 300_000;
@@ -112,23 +90,20 @@ const SELECT: [Select; 8] = [
     Select::Branch,
 ];
 
-// What is timed: a kernel, or its plain body.
+// What is timed.
 #[derive(Clone, Copy)]
 enum Body {
     Logic(logic::Kernel),
-    PlainLogic(logic::Kernel),
     Arith(arith::Kernel),
-    PlainArith(arith::Kernel),
     Select(Select),
-    PlainSelect(Select),
 }
 
 impl Body {
     fn label(self, alloc: Global) -> Result<String, AllocError> {
         match self {
-            Body::Logic(kernel) | Body::PlainLogic(kernel) => format!(in alloc; "{kernel:?}"),
-            Body::Arith(kernel) | Body::PlainArith(kernel) => format!(in alloc; "{kernel:?}"),
-            Body::Select(kernel) | Body::PlainSelect(kernel) => format!(in alloc; "{kernel:?}"),
+            Body::Logic(kernel) => format!(in alloc; "{kernel:?}"),
+            Body::Arith(kernel) => format!(in alloc; "{kernel:?}"),
+            Body::Select(kernel) => format!(in alloc; "{kernel:?}"),
         }
     }
 
@@ -153,8 +128,8 @@ impl Body {
         ensures most { result ≤ width }
     {
         match self {
-            Body::Logic(kernel) | Body::PlainLogic(kernel) if !kernel.gives_vector() => 1,
-            Body::Arith(kernel) | Body::PlainArith(kernel) if !kernel.gives_vector() => 1,
+            Body::Logic(kernel) if !kernel.gives_vector() => 1,
+            Body::Arith(kernel) if !kernel.gives_vector() => 1,
             Body::Select(Select::Part(most)) => most.max(1).min(width),
             _ => width,
         }
@@ -167,7 +142,7 @@ impl Body {
     {
         let length = u64::from(self.value_length(width));
         match self {
-            Body::Arith(arith::Kernel::Mul) => length + 3 * length * length,
+            Body::Arith(arith::Kernel::Mul) => length + length * (length + 1) / 2,
             Body::Select(Select::ShiftLeft | Select::ShiftRight | Select::ShiftArith) => {
                 length * (1 + moves(width))
             }
@@ -191,31 +166,8 @@ fn moves(width: u32) -> u64
     }
 }
 
-// The gate of a kernel that takes two vectors place by place.
-fn gate_of(kernel: logic::Kernel) -> Option<Gate> {
-    match kernel {
-        logic::Kernel::And => Some(Gate::And),
-        logic::Kernel::Or => Some(Gate::Or),
-        logic::Kernel::Xor => Some(Gate::Xor),
-        logic::Kernel::Xnor | logic::Kernel::Equal | logic::Kernel::NotEqual => Some(Gate::Xnor),
-        logic::Kernel::CaseEqual | logic::Kernel::CaseNotEqual => Some(Gate::Same),
-        logic::Kernel::MatchesZ => Some(Gate::MatchesZ),
-        logic::Kernel::MatchesX => Some(Gate::MatchesX),
-        _ => None,
-    }
-}
-
-// The fold of a kernel that folds one vector.
-fn fold_of(kernel: logic::Kernel) -> Fold {
-    match kernel {
-        logic::Kernel::ReduceAnd | logic::Kernel::ReduceNand => Fold::All,
-        logic::Kernel::ReduceXor | logic::Kernel::ReduceXnor => Fold::Parity,
-        _ => Fold::Any,
-    }
-}
-
 // Runs a kernel of vs_kern_logic.
-fn run_logic<W: Chunked, L: Ledger>(
+fn run_logic<W: Word, L: Ledger>(
     kernel: logic::Kernel,
     file: &mut PlaneFile<W>,
     a: &[u32],
@@ -260,43 +212,8 @@ fn run_logic<W: Chunked, L: Ledger>(
     true
 }
 
-// Runs the plain body of a kernel of vs_kern_logic.
-fn run_plain_logic<W: Word, L: Ledger>(
-    kernel: logic::Kernel,
-    file: &mut PlaneFile<W>,
-    a: &[u32],
-    b: &[u32],
-    to: &[u32],
-    steps: &mut Steps<L>,
-) -> bool
-    requires targets { AreTargets (length file.old) to.now [] }
-    requires a { IsArgument (length file.old) a.now to.now [] }
-    requires b { IsArgument (length file.old) b.now to.now [] }
-    requires same_length { length b.now ≡ length a.now }
-    ensures { length file.new ≡ length file.old }
-{
-    if kernel.gives_vector() {
-        if to.len() != a.len() {
-            return false;
-        }
-        match gate_of(kernel) {
-            Some(gate) => gate_places(gate, file, a, b, to, steps),
-            None => output_places(false, file, a, to, steps),
-        }
-    } else if 0 < to.len() {
-        let fold = fold_of(kernel);
-        let first = Pair::of_bit(fold.first());
-        let pair = match gate_of(kernel) {
-            Some(gate) => match_places(gate, Pair::of_bit(Bit4::One), file, a, b),
-            None => fold_places(fold, first, file, a),
-        };
-        file.store(to[0], output(false, pair), steps);
-    }
-    true
-}
-
 // Runs a kernel of vs_kern_arith.
-fn run_arith<W: Chunked, L: Ledger>(
+fn run_arith<W: Word, L: Ledger>(
     kernel: arith::Kernel,
     file: &mut PlaneFile<W>,
     a: &[u32],
@@ -328,41 +245,8 @@ fn run_arith<W: Chunked, L: Ledger>(
     true
 }
 
-// Runs the plain body of a kernel of vs_kern_arith.
-fn run_plain_arith<W: Word, L: Ledger>(
-    kernel: arith::Kernel,
-    file: &mut PlaneFile<W>,
-    a: &[u32],
-    b: &[u32],
-    to: &[u32],
-    steps: &mut Steps<L>,
-) -> bool
-    requires targets { AreTargets (length file.old) to.now [] }
-    requires a { IsArgument (length file.old) a.now to.now [] }
-    requires b { IsArgument (length file.old) b.now to.now [] }
-    ensures { length file.new ≡ length file.old }
-{
-    let none = W::none();
-    match kernel {
-        arith::Kernel::Add => {
-            let unknown = unknown_places(unknown_places(none, file, a), file, b);
-            sum_places(false, unknown, none, file, a, b, 0, to, steps);
-        }
-        arith::Kernel::Sub => {
-            let unknown = unknown_places(unknown_places(none, file, a), file, b);
-            sum_places(true, unknown, none.not(), file, a, b, 0, to, steps);
-        }
-        arith::Kernel::Neg => {
-            let unknown = unknown_places(none, file, a);
-            sum_places(true, unknown, none.not(), file, &[], a, 0, to, steps);
-        }
-        _ => return false,
-    }
-    true
-}
-
 // Runs a kernel of vs_kern_select.
-fn run_select<W: Chunked, L: Ledger>(
+fn run_select<W: Word, L: Ledger>(
     kernel: Select,
     file: &mut PlaneFile<W>,
     a: &[u32],
@@ -398,39 +282,8 @@ fn run_select<W: Chunked, L: Ledger>(
     true
 }
 
-// Runs the plain body of a kernel of vs_kern_select.
-fn run_plain_select<W: Chunked, L: Ledger>(
-    kernel: Select,
-    file: &mut PlaneFile<W>,
-    a: &[u32],
-    b: &[u32],
-    c: &[u32],
-    to: &[u32],
-    steps: &mut Steps<L>,
-) -> bool
-    requires targets { AreTargets (length file.old) to.now [] }
-    requires a { IsArgument (length file.old) a.now to.now [] }
-    requires b { IsArgument (length file.old) b.now to.now [] }
-    requires c { IsArgument (length file.old) c.now to.now [] }
-    requires same_length { length b.now ≡ length a.now }
-    ensures { length file.new ≡ length file.old }
-{
-    let condition = truth(file, c);
-    let one = condition.one();
-    let rest = match kernel {
-        Select::Choose => condition.not().one(),
-        Select::Branch => one.not(),
-        _ => return false,
-    };
-    if to.len() != a.len() {
-        return false;
-    }
-    choose_places(one, rest, file, a, b, to, steps);
-    true
-}
-
 // Runs a body, and says whether there is one.
-fn run<W: Chunked, L: Ledger>(
+fn run<W: Word, L: Ledger>(
     body: Body,
     file: &mut PlaneFile<W>,
     a: &[u32],
@@ -455,17 +308,14 @@ fn run<W: Chunked, L: Ledger>(
     let same = b.len() == a.len();
     match body {
         Body::Logic(kernel) if same => run_logic(kernel, file, a, b, to, steps),
-        Body::PlainLogic(kernel) if same => run_plain_logic(kernel, file, a, b, to, steps),
         Body::Arith(kernel) if same => run_arith(kernel, file, a, b, to, scratch, steps),
-        Body::PlainArith(kernel) if same => run_plain_arith(kernel, file, a, b, to, steps),
         Body::Select(kernel) => run_select(kernel, file, a, b, c, to, steps),
-        Body::PlainSelect(kernel) if same => run_plain_select(kernel, file, a, b, c, to, steps),
         _ => false,
     }
 }
 
 // The nanoseconds of the processor that so many calls take, or none where there is no such body. The slots lie one after the other.
-fn time<W: Chunked, L: Ledger>(
+fn time<W: Word, L: Ledger>(
     rt: &impl CpuClock,
     body: Body,
     calls: u64,
@@ -523,7 +373,7 @@ fn pattern(place: usize) -> Bit4 {
 }
 
 // How many millions of stores a second a body makes on vectors of this width, or none where there is no such body.
-fn rate<W: Chunked, L: Ledger>(
+fn rate<W: Word, L: Ledger>(
     rt: &impl CpuClock,
     alloc: Global,
     body: Body,
@@ -562,30 +412,26 @@ fn rate<W: Chunked, L: Ledger>(
     Ok(best.map(|spent| calls.saturating_mul(stores).saturating_mul(1000) / spent.max(1)))
 }
 
-// A line for a kernel: the rates at each width, with those of its plain body in parentheses.
-fn line<W: Chunked, L: Ledger>(
+// A line for a kernel: the rates at each width.
+fn line<W: Word, L: Ledger>(
     rt: &(impl CpuClock + Print),
     alloc: Global,
     words: u32,
     body: Body,
-    plain: Body,
     steps: &mut Steps<L>,
 ) -> Result<()> {
     let label = body.label(alloc)?;
     print!(rt; "{words} {label:<14}")?;
     for width in [1, 8, 32, 64] {
-        let rate_here = rate::<W, L>(rt, alloc, body, width, steps)?.unwrap_or(0);
-        match rate::<W, L>(rt, alloc, plain, width, steps)? {
-            Some(plain_rate) => print!(rt; "{rate_here:>7} ({plain_rate:>4})")?,
-            None => print!(rt; "{rate_here:>7}       ")?,
-        }
+        let rate = rate::<W, L>(rt, alloc, body, width, steps)?.unwrap_or(0);
+        print!(rt; "{rate:>8}")?;
     }
     println!(rt; "")?;
     Ok(())
 }
 
 // All kernels, on slots of so many words.
-fn bench<W: Chunked, L: Ledger>(
+fn bench<W: Word, L: Ledger>(
     rt: &(impl CpuClock + Print),
     alloc: Global,
     words: u32,
@@ -597,22 +443,19 @@ fn bench<W: Chunked, L: Ledger>(
 {
     let mut steps: Steps<L> = Steps::new(blank);
     for kernel in LOGIC {
-        let plain = Body::PlainLogic(kernel);
-        line::<W, L>(rt, alloc, words, Body::Logic(kernel), plain, &mut steps)?;
+        line::<W, L>(rt, alloc, words, Body::Logic(kernel), &mut steps)?;
     }
     for kernel in ARITH {
-        let plain = Body::PlainArith(kernel);
-        line::<W, L>(rt, alloc, words, Body::Arith(kernel), plain, &mut steps)?;
+        line::<W, L>(rt, alloc, words, Body::Arith(kernel), &mut steps)?;
     }
     for kernel in SELECT {
-        let plain = Body::PlainSelect(kernel);
-        line::<W, L>(rt, alloc, words, Body::Select(kernel), plain, &mut steps)?;
+        line::<W, L>(rt, alloc, words, Body::Select(kernel), &mut steps)?;
     }
     Ok(())
 }
 
 fn main(rt: HostRuntime) -> Result<()> {
-    println!(rt; "K kernel        1 bit         8 bits        32 bits       64 bits")?;
+    println!(rt; "K kernel           1 bit  8 bits 32 bits 64 bits")?;
     bench::<Words<1>, Brand>(&rt, rt.alloc(), 1, Blank::new(1))?;
     bench::<Words<2>, Brand>(&rt, rt.alloc(), 2, Blank::new(1))?;
     bench::<Words<4>, Brand>(&rt, rt.alloc(), 4, Blank::new(1))

@@ -39,7 +39,7 @@ use vs_desk::{MemoryDesk, attach_law};
 use vs_engine::Engine;
 use vs_flat::Flat;
 use vs_four::Bit4;
-use vs_plane::{Chunked, Lanes, Pair, Steps, Word, Words};
+use vs_plane::{Lanes, Pair, Steps, Word, Words};
 use vs_setup::{Loaded, load};
 use vs_waves::{LaneFault, Waves, attach, rounds_law};
 
@@ -52,7 +52,7 @@ fn inputs_of<W: Word>(alloc: Global, engine: &Engine<W>) -> Result<Vec<Pair<W>>,
 }
 
 /// So many rounds without waves.
-fn settle<W: Chunked + Lanes, L: Ledger>(
+fn settle<W: Lanes, L: Ledger>(
     engine: &mut Engine<W>,
     inputs: &[Pair<W>],
     rounds: u32,
@@ -67,7 +67,7 @@ fn settle<W: Chunked + Lanes, L: Ledger>(
 }
 
 /// The processor time, in microseconds, of so many rounds without waves.
-fn time<W: Chunked + Lanes, L: Ledger>(
+fn time<W: Lanes, L: Ledger>(
     rt: &(impl CpuClock + Alloc<A = Global>),
     engine: &mut Engine<W>,
     rounds: u32,
@@ -85,7 +85,7 @@ fn time<W: Chunked + Lanes, L: Ledger>(
 }
 
 /// Times the loading, and so many rounds without waves.
-fn times<W: Chunked + Lanes>(
+fn times<W: Lanes>(
     rt: &(impl CpuClock + Print + Alloc<A = Global>),
     text: &[u8],
     rounds: u32,
@@ -128,7 +128,7 @@ fn loaded(alloc: Global, text: &[u8]) -> Result<Loaded<Words<1>>, AcceptError>
 }
 
 /// One round of all lanes.
-fn run_round<W: Lanes + Chunked, L: Ledger>(
+fn run_round<W: Lanes, L: Ledger>(
     engine: &mut Engine<W>,
     waves: &mut Waves<W>,
     round: u64,
