@@ -129,3 +129,22 @@ fn faults_at_late_places(rt: HostRuntime) -> Result<(), Fail> {
     assert!(rt; first_put);
     Ok(())
 }
+
+/// A waveform gets its head and first round by one put, each later round by one, and its last line by one. With the attach these are
+/// the calls that fail at its place, if they do.
+#[test]
+fn a_put_for_each_round(rt: HostRuntime) -> Result<(), Fail> {
+    let (_, whole) = run_failing(rt.alloc(), 4096, TWO_LANES, &[])?;
+    let mut first = 0u32;
+    let mut second = 0u32;
+    for n in 0..whole.calls() {
+        let (_, desk) = run_failing(rt.alloc(), 4096, TWO_LANES, &[n])?;
+        match desk.written(0) {
+            b"refused 5 WriteFault place=2000\n" => first = first.saturating_add(1),
+            b"refused 5 WriteFault place=2001\n" => second = second.saturating_add(1),
+            _ => {}
+        }
+    }
+    assert_eq!(rt; (first, second), (3, 5));
+    Ok(())
+}

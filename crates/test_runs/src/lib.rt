@@ -1,25 +1,9 @@
-//! Tests of whole runs, of designs and stimuli given as texts, against reports and waveforms written by hand.
+//! Tests of whole runs over a desk in memory on which calls fail, and of the lines of outcomes.
 #![tactic(auto)]
 
 #[cfg(test)]
-mod benches;
-#[cfg(test)]
-mod blocks;
-#[cfg(test)]
-mod designs;
-#[cfg(test)]
 mod faults;
-#[cfg(test)]
-mod lanes;
-#[cfg(test)]
-mod nets;
-#[cfg(test)]
-mod refused;
-#[cfg(test)]
-mod registers;
 #[cfg(test)]
 mod reports;
 #[cfg(test)]
 mod runs;
-#[cfg(test)]
-mod vectors;

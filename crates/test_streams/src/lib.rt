@@ -1,19 +1,7 @@
-//! Tests of streams: desks, the words of a job, the lines of refusals, stimuli, waveforms, and the engine that feeds them.
+//! Tests of streams: desks in memory and over the host's files, and the lines of refusals.
 #![tactic(auto)]
 
 #[cfg(test)]
 mod desks;
 #[cfg(test)]
-mod dumps;
-#[cfg(test)]
-mod engines;
-#[cfg(test)]
-mod jobs;
-#[cfg(test)]
-mod lanes;
-#[cfg(test)]
 mod refusals;
-#[cfg(test)]
-mod stimuli;
-#[cfg(test)]
-mod waves;

@@ -7,7 +7,7 @@ use Rattle.vs_grammar.specs.Trees.{Source}
 use Rattle.vs_grammar.specs.Spelled.{Spells, SpelledBy}
 use Rattle.vs_grammar.specs.SpelledLaws.{OneSource, SpelledHasNoFault}
 use Rattle.vs_const.specs.declared.faults.Fault.{Fault}
-use Rattle.vs_hierarchy.specs.Elaborated.{elaborated}
+use Rattle.vs_elaborated.specs.Elaborated.{elaborated}
 use Rattle.vs_design.specs.Designs.{Design}
 use Rattle.vs_design.specs.Answers as D
 use Rattle.vs_design.specs.Answers.{IsRefusedBy}

@@ -8,7 +8,7 @@ use Rattle.vs_lexer.specs.Cuts.{cut_text}
 use Rattle.vs_grammar.specs.Trees.{Source}
 use Rattle.vs_grammar.specs.Spelled.{Spells, SpelledBy}
 use Rattle.vs_const.specs.declared.faults.Fault.{Fault}
-use Rattle.vs_hierarchy.specs.Elaborated.{elaborated}
+use Rattle.vs_elaborated.specs.Elaborated.{elaborated}
 use Rattle.vs_design.specs.Designs.{Design}
 use Rattle.vs_design.specs.Answers.{DesignRefusal, IsRefusedBy}
 use Rattle.vs_accept.specs.declared.error.AcceptError.{AcceptError}

@@ -1,10 +1,12 @@
 -- Which refusal tells that a rule is broken. The stages tell a place by the number of its token; a refusal tells the byte at which that token begins.
-use Rattle.std.specs.Prelude.{ℕ, List, [], ◌∷◌, length, ◌==◌, if◌then◌else◌, slice_get, Option, Some, None}
+use Rattle.std.specs.Prelude.{ℕ, List, length, slice_get, Option, Some, None}
 use Rattle.vs_lexer.specs.declared.token.Token.{Token}
 use Rattle.vs_lexer.specs.declared.token.LexError.{LexError}
 use Rattle.vs_lexer.specs.declared.token.LexError.TheVariants as lexer
 use Rattle.vs_grammar.specs.Spelled.{LeftOutAt, HasSyntaxFault, IsTooDeep}
 use Rattle.vs_const.specs.declared.faults.Fault.{Fault}
+use Rattle.vs_const.specs.declared.rules.Rule.{Rule}
+use Rattle.vs_const.specs.declared.rules.Rule.TheVariants as broken
 use Rattle.vs_design.specs.Answers.{DesignRefusal, OfWidth, OfBlock, OfDriver, OfClock, Cycle, OfZero}
 use Rattle.vs_design.specs.Refusals as rule
 use Rattle.vs_refusal.specs.declared.names.BareName.TheVariants.{NoTop, NoClock}
@@ -41,24 +43,31 @@ tree_refusal byte (OutOfLanguage k) = refusal.At name.LeftOut (byte k)
 tree_refusal byte (OutOfGrammar k) = refusal.At name.Syntax (byte k)
 tree_refusal byte (OutOfDepth k) = refusal.At name.TooDeep (byte k)
 
--- the rules of elaboration that have a place (clause 12), by their numbers
-abbrev pub rule_names : List (ℕ × AtName)
-rule_names =
-    (30, name.NotConstant) ∷ (31, name.UnknownConstant) ∷ (33, name.DuplicateModule) ∷ (34, name.UnknownModule) ∷ (35, name.UnknownName) ∷ (36, name.DuplicateName)
-    ∷ (37, name.BadRange) ∷ (38, name.PortCount) ∷ (39, name.UnknownPort) ∷ (40, name.InstanceDepth) ∷ (41, name.TooManyInstances) ∷ (42, name.GenerateTurns)
-    ∷ (44, name.TooManyBits) ∷ (45, name.TooManyProcesses) ∷ []
+-- the name of a rule of elaboration (clause 12); that there is no top is told without a place, by a name of another kind
+abbrev pub rule_name : Rule → Option AtName
+rule_name broken.NotConstant = Some name.NotConstant
+rule_name broken.UnknownConstant = Some name.UnknownConstant
+rule_name broken.NoTop = None
+rule_name broken.DuplicateModule = Some name.DuplicateModule
+rule_name broken.UnknownModule = Some name.UnknownModule
+rule_name broken.UnknownName = Some name.UnknownName
+rule_name broken.DuplicateName = Some name.DuplicateName
+rule_name broken.BadRange = Some name.BadRange
+rule_name broken.PortCount = Some name.PortCount
+rule_name broken.UnknownPort = Some name.UnknownPort
+rule_name broken.InstanceDepth = Some name.InstanceDepth
+rule_name broken.TooManyInstances = Some name.TooManyInstances
+rule_name broken.GenerateTurns = Some name.GenerateTurns
+rule_name broken.WrongKind = Some name.WrongKind
+rule_name broken.TooManyBits = Some name.TooManyBits
+rule_name broken.TooManyProcesses = Some name.TooManyProcesses
 
--- the name of this number, and else of 43
-abbrev pub name_among : List (ℕ × AtName) → ℕ → AtName
-name_among [] n = name.WrongKind
-name_among ((m, a) ∷ rest) n = if n == m then a else name_among rest n
+abbrev pub told_by : Option AtName → (at : ℕ) → Refusal
+told_by None at = refusal.Bare NoTop
+told_by (Some a) at = refusal.At a at
 
-abbrev pub rule_name : ℕ → AtName
-rule_name n = name_among rule_names n
-
--- that there is no top is told without a place
 abbrev pub fault_refusal : (byte : ℕ → ℕ) → Fault → Refusal
-fault_refusal byte f = if f.number == 32 then refusal.Bare NoTop else refusal.At (rule_name f.number) (byte f.place)
+fault_refusal byte f = told_by (rule_name f.rule) (byte f.place)
 
 -- ---- of the elaborated design
 

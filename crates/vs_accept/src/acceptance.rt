@@ -3,7 +3,7 @@
 ghost use Rattle.std.specs.Prelude.{◌≡◌, ◌≤◌, ℕ, List, Ok, IfOk, IfErr, IsErrAnd, MatchResult, length};
 ghost use Rattle.vs_lexer.specs.Cuts.{cut_text};
 ghost use Rattle.vs_ast.specs.Views as view;
-ghost use Rattle.vs_hierarchy.specs.Elaborated.{elaborated};
+ghost use Rattle.vs_elaborated.specs.Elaborated.{elaborated};
 ghost use Rattle.vs_design.specs.Designs.{Design};
 ghost use Rattle.vs_flat.specs.DesignOf.{design_of};
 ghost use Rattle.vs_flat.specs.Lawful.{IsLawful};

@@ -6,7 +6,7 @@ use std::marker::Model;
 use vs_clock::Clocks;
 use vs_level::Order;
 use vs_reads::Footprints;
-use vs_width::Typed;
+use vs_typed::Typed;
 
 /// The design of an accepted text, and what was found out of it.
 #[derive(Drop)]

@@ -16,7 +16,7 @@ use vs_block::block_forms;
 use vs_design::accepted_law;
 use vs_flat::Flat;
 use vs_reads::{Footprints, footprints};
-use vs_width::{Typed, fits_law, type_design};
+use vs_typed::{Typed, fits_law, type_design};
 
 /// What each process of a design reads, writes and waits on.
 fn prints_of(alloc: Global, typed: &Typed) -> Result<Footprints, AllocError>

@@ -3,11 +3,11 @@
 ghost use Rattle.std.specs.Prelude.{◌≡◌, ℕ, true, List, Ok, None};
 ghost use Rattle.vs_lexer.specs.Cuts.{cut_text};
 ghost use Rattle.vs_grammar.specs.Trees.{Source};
-ghost use Rattle.vs_hierarchy.specs.Elaborated.{elaborated};
+ghost use Rattle.vs_elaborated.specs.Elaborated.{elaborated};
 ghost use Rattle.vs_parser.specs.Faults.{Fault as TreeFault};
 ghost use Rattle.vs_design.specs.Designs.{Design};
 ghost use Rattle.vs_design.specs.Refusals.{width_refusal};
-ghost use Rattle.vs_width.specs.Refused.{IsWidthError};
+ghost use Rattle.vs_typed.specs.Refused.{IsWidthError};
 ghost use Rattle.vs_block.specs.Refused.{IsBlockError};
 ghost use Rattle.vs_driver.specs.Refused.{IsDriverError};
 ghost use Rattle.vs_clock.specs.Refused.{IsClockError};
@@ -24,35 +24,36 @@ use crate::AcceptError;
 use crate::places::Places;
 use vs_block::BlockError;
 use vs_clock::ClockError;
-use vs_const::Fault;
+use vs_const::{Fault, Rule};
 use vs_driver::DriverError;
 use vs_elab::ElabError;
 use vs_level::LevelError;
 use vs_parser::ParseError;
 use vs_refusal::{AtName, BareName, ProcessName, Processes, Refusal};
-use vs_width::WidthError;
+use vs_typed::WidthError;
 use vs_zero::ZeroError;
 
-/// The name of a rule of elaboration that has a place, by its number.
-fn rule_name(number: u32) -> AtName
-    ensures { result ≡ spec.rule_name number }
+/// The name of a rule of elaboration; that there is no top is told without a place.
+fn rule_name(rule: Rule) -> Option<AtName>
+    ensures { result ≡ spec.rule_name rule }
 {
-    match number {
-        30 => AtName::NotConstant,
-        31 => AtName::UnknownConstant,
-        33 => AtName::DuplicateModule,
-        34 => AtName::UnknownModule,
-        35 => AtName::UnknownName,
-        36 => AtName::DuplicateName,
-        37 => AtName::BadRange,
-        38 => AtName::PortCount,
-        39 => AtName::UnknownPort,
-        40 => AtName::InstanceDepth,
-        41 => AtName::TooManyInstances,
-        42 => AtName::GenerateTurns,
-        44 => AtName::TooManyBits,
-        45 => AtName::TooManyProcesses,
-        _ => AtName::WrongKind,
+    match rule {
+        Rule::NotConstant => Some(AtName::NotConstant),
+        Rule::UnknownConstant => Some(AtName::UnknownConstant),
+        Rule::NoTop => None,
+        Rule::DuplicateModule => Some(AtName::DuplicateModule),
+        Rule::UnknownModule => Some(AtName::UnknownModule),
+        Rule::UnknownName => Some(AtName::UnknownName),
+        Rule::DuplicateName => Some(AtName::DuplicateName),
+        Rule::BadRange => Some(AtName::BadRange),
+        Rule::PortCount => Some(AtName::PortCount),
+        Rule::UnknownPort => Some(AtName::UnknownPort),
+        Rule::InstanceDepth => Some(AtName::InstanceDepth),
+        Rule::TooManyInstances => Some(AtName::TooManyInstances),
+        Rule::GenerateTurns => Some(AtName::GenerateTurns),
+        Rule::WrongKind => Some(AtName::WrongKind),
+        Rule::TooManyBits => Some(AtName::TooManyBits),
+        Rule::TooManyProcesses => Some(AtName::TooManyProcesses),
     }
 }
 
@@ -84,10 +85,10 @@ impl Places<'_> {
     fn fault_error(&self, fault: Fault) -> AcceptError
         ensures { result ≡ Refused (fault_refusal (byte_of self.now.text.now self.now.tokens.now) fault) }
     {
-        if fault.number == 32 {
-            return AcceptError::Refused(Refusal::Bare(BareName::NoTop));
+        match rule_name(fault.rule) {
+            None => AcceptError::Refused(Refusal::Bare(BareName::NoTop)),
+            Some(name) => self.refused_at(name, fault.place),
         }
-        self.refused_at(rule_name(fault.number), fault.place)
     }
 
     /// A length or a division is refused, or the size.

@@ -21,11 +21,12 @@ use crate::planning::{Plan, make_plan};
 use crate::runs::joined;
 use crate::{Lowering, copy_law};
 use std::alloc::{AllocError, Global};
-use vs_code::{AnyKernel, List as Items, Op, Program};
+use vs_base::List as Items;
+use vs_code::{AnyKernel, Op, Program};
 use vs_cone::{list_law, stores_law};
 use vs_design::cycle_law;
 use vs_four::Bit4;
-use vs_program::{Compiled, Parts, Phases, Run, Span, program_law};
+use vs_program::{Compiled, Parts, Phases, Run, Span, home, program_law};
 
 /// What a program has besides its calls.
 #[derive(Drop)]
@@ -296,7 +297,7 @@ fn lower_copy<T: Lowering>(
         let mut homes = Vec::with_capacity(alloc, registers.len())?;
         for bit in registers {
             shadows.push(lowering.shadow(*bit))?;
-            homes.push(4 + *bit)?;
+            homes.push(home(*bit))?;
         }
         program.push(copy(alloc, shadows, homes)?)?;
     }

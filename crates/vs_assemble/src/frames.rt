@@ -1,7 +1,6 @@
 //! What a program has besides its calls, read off a flat design.
 
 ghost use Rattle.std.specs.Prelude.{◌≡◌, ℕ, ◌+◌, ◌<◌, ◌≤◌, ◌^◌, ◌∷◌, [], ◌++◌, ◌&&◌, not, if◌then◌else◌, length, map, replicate, IfOk, OnOk};
-ghost use Rattle.vs_design.specs.Expressions.{range_or_one};
 ghost use Rattle.vs_design.specs.Footprints.{without};
 ghost use Rattle.vs_design.specs.Values.{count_from};
 ghost use Rattle.vs_cone.specs.Given.{data_bits};
@@ -13,8 +12,8 @@ ghost use Rattle.vs_assemble.specs.Plans.{IsFrameOf, begin_bits};
 
 use crate::Frame;
 use std::alloc::{AllocError, Global};
-use vs_flat::{Flat, Signal, lawful_law};
-use vs_four::{Bit4, Range};
+use vs_flat::{Flat, Signal, lawful_law, length_of};
+use vs_four::Bit4;
 use vs_program::Span;
 
 /// What a program of a flat design has besides its calls, where its clock is this bit and these are the clock nets. The only error is that there is no memory.
@@ -44,24 +43,13 @@ fn spans(alloc: Global, flat: &Flat) -> Result<Vec<Span>, AllocError>
     let mut spans = Vec::new(alloc);
     for n in 0..flat.signal_count() {
         let signal = flat.signal(n);
-        let length = range_length(signal.range) as u32;
+        let length = length_of(signal.range);
         spans.push(Span {
             first: signal.first_bit,
             length,
         })?;
     }
     Ok(spans)
-}
-
-/// How many bits a signal has.
-fn range_length(range: Option<Range>) -> u64
-    ensures { result ≡ range_or_one range }
-{
-    match range {
-        None => 1,
-        Some(r) if r.right <= r.left => u64::from(r.left - r.right) + 1,
-        Some(r) => u64::from(r.right - r.left) + 1,
-    }
 }
 
 /// The bits of the inputs of the top but the clock's, where these are the bits of all signals.

@@ -1,7 +1,7 @@
 -- The rows of a tree as lists.
-use Rattle.std.proofs.Common.{◌≡◌, ℕ, List, [], ◌∷◌, refl, ap, sym, map}
+use Rattle.std.proofs.Common.{◌≡◌, refl, ap, map}
 use Rattle.vs_grammar.specs.Trees as tree
-use Rattle.vs_ast.specs.declared.expressions.Expr.{Expr, Row_of-Expr, end_of-Expr, more_of-Expr, items-the_row-Expr}
+use Rattle.vs_ast.specs.declared.expressions.Expr.{Row_of-Expr, end_of-Expr, more_of-Expr, items-the_row-Expr}
 use Rattle.vs_ast.specs.declared.statements.Target.{Row_of-Target, end_of-Target, more_of-Target, items-the_row-Target}
 use Rattle.vs_ast.specs.declared.statements.Statement.{Row_of-Statement, end_of-Statement, more_of-Statement, items-the_row-Statement, Row_of-CaseArm, end_of-CaseArm, more_of-CaseArm, items-the_row-CaseArm}
 use Rattle.vs_ast.specs.declared.items.Item.{Row_of-GenerateArm, end_of-GenerateArm, more_of-GenerateArm, items-the_row-GenerateArm}

@@ -1,14 +1,9 @@
 -- What a syntax tree is, without where it lies in memory.
-use Rattle.std.specs.Prelude.{ℕ, List, [], ◌∷◌, Option, Some, None, map}
+use Rattle.std.specs.Prelude.{List, [], ◌∷◌, Option, Some, None, map}
 use Rattle.vs_four.specs.Planes.{bits_of_planes}
 use Rattle.vs_grammar.specs.Trees as tree
-use Rattle.vs_grammar.specs.Trees.{UnaryOp as plain_unary, BinaryOp as plain_binary}
 use Rattle.vs_ast.specs.declared.names.Name.{Name}
 use Rattle.vs_ast.specs.declared.names.Literal.{Literal}
-use Rattle.vs_ast.specs.declared.expressions.UnaryOp.{UnaryOp}
-use Rattle.vs_ast.specs.declared.expressions.UnaryOp.TheVariants as unary
-use Rattle.vs_ast.specs.declared.expressions.BinaryOp.{BinaryOp}
-use Rattle.vs_ast.specs.declared.expressions.BinaryOp.TheVariants as binary
 use Rattle.vs_ast.specs.declared.expressions.SystemFunction.{SystemFunction}
 use Rattle.vs_ast.specs.declared.expressions.SystemFunction.TheVariants as system
 use Rattle.vs_ast.specs.declared.expressions.SliceKind.{SliceKind}
@@ -16,8 +11,6 @@ use Rattle.vs_ast.specs.declared.expressions.SliceKind.TheVariants as slice
 use Rattle.vs_ast.specs.declared.expressions.Expr.{Expr, Number, Named, Unary', Binary', Choice', Concatenation', Replication', Call', Brackets', Row_of-Expr, end_of-Expr, more_of-Expr}
 use Rattle.vs_ast.specs.declared.expressions.Select.{Select, Whole, Bit', Slice'}
 use Rattle.vs_ast.specs.declared.statements.Target.{Target, Named as NamedTarget, Concatenation' as Targeted', Row_of-Target, end_of-Target, more_of-Target}
-use Rattle.vs_ast.specs.declared.statements.CaseKind.{CaseKind}
-use Rattle.vs_ast.specs.declared.statements.CaseKind.TheVariants as case
 use Rattle.vs_ast.specs.declared.statements.Statement.{Statement, Empty, Assignment, If', Case', Sequence', Held-Statement-If-3, None' as NoOther, Some' as Other', Row_of-CaseArm, end_of-CaseArm, more_of-CaseArm, Row_of-Statement, end_of-Statement, more_of-Statement}
 use Rattle.vs_ast.specs.declared.statements.CaseArm.{CaseArm}
 use Rattle.vs_ast.specs.declared.items.Range.{Range}
@@ -28,8 +21,6 @@ use Rattle.vs_ast.specs.declared.items.Signals.{Signals}
 use Rattle.vs_ast.specs.declared.items.Setting.{Setting}
 use Rattle.vs_ast.specs.declared.items.Parameters.{Parameters}
 use Rattle.vs_ast.specs.declared.items.Assign.{Assign}
-use Rattle.vs_ast.specs.declared.items.Edge.{Edge}
-use Rattle.vs_ast.specs.declared.items.Edge.TheVariants as edges
 use Rattle.vs_ast.specs.declared.items.Event.{Event}
 use Rattle.vs_ast.specs.declared.items.EventControl.{EventControl}
 use Rattle.vs_ast.specs.declared.items.EventControl.TheVariants.{Star, Listed}
@@ -58,43 +49,6 @@ literal n = record { place = n.place; bits = bits_of_planes n.size n.value n.unk
 
 -- ---- expressions
 
-abbrev pub unary_op : UnaryOp → tree.UnaryOp
-unary_op unary.Plus = plain_unary.Plus
-unary_op unary.Minus = plain_unary.Minus
-unary_op unary.BitNot = plain_unary.BitNot
-unary_op unary.LogicalNot = plain_unary.LogicalNot
-unary_op unary.ReduceAnd = plain_unary.ReduceAnd
-unary_op unary.ReduceNand = plain_unary.ReduceNand
-unary_op unary.ReduceOr = plain_unary.ReduceOr
-unary_op unary.ReduceNor = plain_unary.ReduceNor
-unary_op unary.ReduceXor = plain_unary.ReduceXor
-unary_op unary.ReduceXnor = plain_unary.ReduceXnor
-
-abbrev pub binary_op : BinaryOp → tree.BinaryOp
-binary_op binary.Add = plain_binary.Add
-binary_op binary.Subtract = plain_binary.Subtract
-binary_op binary.Multiply = plain_binary.Multiply
-binary_op binary.Divide = plain_binary.Divide
-binary_op binary.Remainder = plain_binary.Remainder
-binary_op binary.BitAnd = plain_binary.BitAnd
-binary_op binary.BitOr = plain_binary.BitOr
-binary_op binary.BitXor = plain_binary.BitXor
-binary_op binary.BitXnor = plain_binary.BitXnor
-binary_op binary.Less = plain_binary.Less
-binary_op binary.LessEqual = plain_binary.LessEqual
-binary_op binary.Greater = plain_binary.Greater
-binary_op binary.GreaterEqual = plain_binary.GreaterEqual
-binary_op binary.Equal = plain_binary.Equal
-binary_op binary.NotEqual = plain_binary.NotEqual
-binary_op binary.CaseEqual = plain_binary.CaseEqual
-binary_op binary.CaseNotEqual = plain_binary.CaseNotEqual
-binary_op binary.LogicalAnd = plain_binary.LogicalAnd
-binary_op binary.LogicalOr = plain_binary.LogicalOr
-binary_op binary.ShiftLeft = plain_binary.ShiftLeft
-binary_op binary.ShiftRight = plain_binary.ShiftRight
-binary_op binary.ShiftLeftArith = plain_binary.ShiftLeftArith
-binary_op binary.ShiftRightArith = plain_binary.ShiftRightArith
-
 abbrev pub system_function : SystemFunction → tree.SystemFunction
 system_function system.AsSigned = tree.AsSigned
 system_function system.AsUnsigned = tree.AsUnsigned
@@ -109,8 +63,8 @@ abbrev mutual
   pub expr : Expr → tree.Expr
   expr (Number n) = tree.Number (literal n)
   expr (Named n s) = tree.Named (name n) (select s)
-  expr (Unary' place op p a) = tree.Unary place (unary_op op) (expr a)
-  expr (Binary' op p a q b) = tree.Binary (binary_op op) (expr a) (expr b)
+  expr (Unary' place op p a) = tree.Unary place op (expr a)
+  expr (Binary' op p a q b) = tree.Binary op (expr a) (expr b)
   expr (Choice' o c p a q b) = tree.Choice (expr c) (expr a) (expr b)
   expr (Concatenation' place shape all) = tree.Concatenation place (expr_row all)
   expr (Replication' place p c shape all) = tree.Replication place (expr c) (expr_row all)
@@ -147,17 +101,12 @@ abbrev pub targets : List Target → tree.Targets
 targets [] = tree.NoTarget
 targets (x ∷ xs) = tree.AndTarget (target x) (targets xs)
 
-abbrev pub case_kind : CaseKind → tree.CaseKind
-case_kind case.Exact = tree.Exact
-case_kind case.CaseZ = tree.CaseZ
-case_kind case.CaseX = tree.CaseX
-
 abbrev mutual
   pub statement : Statement → tree.Statement
   statement (Empty place) = tree.Empty place
   statement (Assignment x e b) = tree.Assignment (target x) (expr e) b
   statement (If' place c p s other) = tree.If place (expr c) (statement s) (other_statement other)
-  statement (Case' place k e shape all other) = tree.Case place (case_kind k) (expr e) (arm_row all) (other_statement other)
+  statement (Case' place k e shape all other) = tree.Case place k (expr e) (arm_row all) (other_statement other)
   statement (Sequence' place shape all) = tree.Sequence place (statement_row all)
 
   pub other_statement : Held-Statement-If-3 → tree.Fallback
@@ -222,13 +171,8 @@ parameters p = record { place = p.place; is_local = p.is_local; signed = p.signe
 abbrev pub assign : Assign → tree.Assign
 assign a = record { target = target a.target; e = expr a.value }
 
-abbrev pub edge : Edge → tree.Edge
-edge edges.Any = tree.Any
-edge edges.Posedge = tree.Posedge
-edge edges.Negedge = tree.Negedge
-
 abbrev pub event : Event → tree.Event
-event e = record { edge = edge e.edge; name = name e.name }
+event e = record { edge = e.edge; name = name e.name }
 
 abbrev pub event_control : EventControl → tree.EventControl
 event_control Star = tree.Star

@@ -2,53 +2,11 @@
 
 ghost use Rattle.std.specs.Prelude.{◌≡◌, IfOk};
 ghost use Rattle.vs_grammar.specs.Trees as tree;
-ghost use Rattle.vs_ast.specs.Views.{binary_op, expr, exprs, select, slice_kind, system_function, unary_op};
+ghost use Rattle.vs_ast.specs.Views.{expr, exprs, select, slice_kind, system_function};
 
 use crate::names::{Literal, Name};
 use std::alloc::{AllocError, Global};
-
-/// The operators before an operand (5.1). `ReduceXnor` is `~^` and `^~`.
-#[derive(Clone, Copy, Debug)]
-pub enum UnaryOp {
-    Plus,
-    Minus,
-    BitNot,
-    LogicalNot,
-    ReduceAnd,
-    ReduceNand,
-    ReduceOr,
-    ReduceNor,
-    ReduceXor,
-    ReduceXnor,
-}
-
-/// The operators between two operands (5.1). `BitXnor` is `~^` and `^~`.
-#[derive(Clone, Copy, Debug)]
-pub enum BinaryOp {
-    Add,
-    Subtract,
-    Multiply,
-    Divide,
-    Remainder,
-    BitAnd,
-    BitOr,
-    BitXor,
-    BitXnor,
-    Less,
-    LessEqual,
-    Greater,
-    GreaterEqual,
-    Equal,
-    NotEqual,
-    CaseEqual,
-    CaseNotEqual,
-    LogicalAnd,
-    LogicalOr,
-    ShiftLeft,
-    ShiftRight,
-    ShiftLeftArith,
-    ShiftRightArith,
-}
+use vs_base::{BinaryOp, UnaryOp};
 
 /// `$signed`, `$unsigned` (5.5) and `$clog2` (17.11).
 #[derive(Clone, Copy, Debug)]
@@ -137,7 +95,7 @@ impl Expr {
         op: UnaryOp,
         operand: Expr,
     ) -> Result<Expr, AllocError>
-        ensures { IfOk result (λ e. expr e ≡ tree.Unary place (unary_op op) (expr operand)) }
+        ensures { IfOk result (λ e. expr e ≡ tree.Unary place op (expr operand)) }
     {
         let operand = Box::new(alloc, operand)?;
         Ok(Expr::Unary { place, op, operand })
@@ -150,7 +108,7 @@ impl Expr {
         left: Expr,
         right: Expr,
     ) -> Result<Expr, AllocError>
-        ensures { IfOk result (λ e. expr e ≡ tree.Binary (binary_op op) (expr left) (expr right)) }
+        ensures { IfOk result (λ e. expr e ≡ tree.Binary op (expr left) (expr right)) }
     {
         let left = Box::new(alloc, left)?;
         let right = Box::new(alloc, right)?;

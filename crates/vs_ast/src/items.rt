@@ -8,6 +8,7 @@ use crate::expressions::Expr;
 use crate::names::Name;
 use crate::statements::{Statement, Target};
 use std::alloc::{AllocError, Global};
+use vs_base::Edge;
 
 /// `[left:right]`, from its `[` on.
 #[derive(Drop)]
@@ -70,15 +71,7 @@ pub struct Assign {
     pub value: Expr,
 }
 
-/// Which changes of a signal are an event (9.7.2).
-#[derive(Clone, Copy, Debug)]
-pub enum Edge {
-    Any,
-    Posedge,
-    Negedge,
-}
-
-/// An event of a block's list.
+/// An event of a block's list (9.7.2).
 #[derive(Drop)]
 pub struct Event {
     pub edge: Edge,

@@ -7,12 +7,12 @@ mod modules;
 mod names;
 mod statements;
 
-pub use expressions::{BinaryOp, Expr, Select, SliceKind, SystemFunction, UnaryOp};
+pub use expressions::{Expr, Select, SliceKind, SystemFunction};
 pub use items::{
-    AlwaysBlock, Assign, Connections, Declarator, Edge, Event, EventControl, GenerateArm,
-    GenerateBlock, GenerateHead, Instance, Instances, Item, NamedConnection, Parameters, Range,
-    Setting, SignalKind, Signals,
+    AlwaysBlock, Assign, Connections, Declarator, Event, EventControl, GenerateArm, GenerateBlock,
+    GenerateHead, Instance, Instances, Item, NamedConnection, Parameters, Range, Setting,
+    SignalKind, Signals,
 };
 pub use modules::{Header, Module, Source};
-pub use names::{Literal, Name, Text};
-pub use statements::{CaseArm, CaseKind, Statement, Target};
+pub use names::{Literal, Name};
+pub use statements::{CaseArm, Statement, Target};

@@ -1,38 +1,11 @@
 //! Names and numbers.
 
 ghost use Rattle.std.specs.Prelude.{◌≡◌};
+ghost use Rattle.vs_grammar.specs.Shapes.{IsLiteral};
+ghost use Rattle.vs_ast.specs.Views.{literal};
 
-use std::marker::Model;
-
-/// A text, seen as the list of its bytes.
-#[derive(Drop)]
-pub struct Text {
-    bytes: Vec<u8>,
-}
-
-impl Model for Text {
-    ghost use Rattle.std.specs.Prelude.{List, ℕ};
-
-    ghost Value = { List ℕ };
-
-    ghost view = { λ t. t.bytes.items };
-}
-
-impl Text {
-    /// The text of these bytes.
-    pub fn of(bytes: Vec<u8>) -> Text
-        ensures { result ≡ bytes.items }
-    {
-        Text { bytes }
-    }
-
-    /// The bytes.
-    pub fn as_bytes(&self) -> &[u8]
-        ensures { result.now ≡ self.now }
-    {
-        self.bytes.as_slice()
-    }
-}
+use vs_base::Text;
+use vs_four::Bits;
 
 /// An identifier (IEEE 1364-2005, 3.7), and where it stands.
 #[derive(Drop)]
@@ -53,4 +26,14 @@ pub struct Literal {
     pub signed: bool,
     /// Whether a size was written.
     pub sized: bool,
+}
+
+impl Literal {
+    /// Its bits.
+    pub fn bits(&self) -> Bits
+        requires { IsLiteral (literal self.now) }
+        ensures { result ≡ (literal self.now).bits }
+    {
+        Bits::of_planes(self.size, self.value, self.unknown)
+    }
 }

@@ -2,11 +2,12 @@
 
 ghost use Rattle.std.specs.Prelude.{◌≡◌, IfOk};
 ghost use Rattle.vs_grammar.specs.Trees as tree;
-ghost use Rattle.vs_ast.specs.Views.{arms, case_kind, expr, fallback, statement, statements, target, targets};
+ghost use Rattle.vs_ast.specs.Views.{arms, expr, fallback, statement, statements, target, targets};
 
 use crate::expressions::{Expr, Select};
 use crate::names::Name;
 use std::alloc::{AllocError, Global};
+use vs_base::CaseKind;
 
 /// What is assigned to (A.8.5).
 #[derive(Drop)]
@@ -14,14 +15,6 @@ pub enum Target {
     Named(Name, Select),
     /// `{a, b, ..}`, from its `{` on.
     Concatenation { place: u32, parts: Vec<Target> },
-}
-
-/// `case`, `casez` and `casex` (9.5).
-#[derive(Clone, Copy, Debug)]
-pub enum CaseKind {
-    Exact,
-    CaseZ,
-    CaseX,
 }
 
 /// A statement. `place` is the place of its first token.
@@ -117,7 +110,7 @@ impl Statement {
         list: Vec<CaseArm>,
         other: Option<Statement>,
     ) -> Result<Statement, AllocError>
-        ensures { IfOk result (λ s. statement s ≡ tree.Case place (case_kind kind) (expr subject) (arms list.items) (fallback other)) }
+        ensures { IfOk result (λ s. statement s ≡ tree.Case place kind (expr subject) (arms list.items) (fallback other)) }
     {
         match other {
             None => Ok(Statement::Case {

@@ -7,7 +7,7 @@ use Rattle.std.specs.List.{list_any, list_all}
 use Rattle.std.proofs.lemmas.Bool.{ltb-true}
 use Rattle.vs_design.specs.Expressions.{Signal}
 use Rattle.vs_design.specs.Designs as D
-use Rattle.vs_design.specs.Designs.{Always, Continuous, Design, is_clocked, is_combinational}
+use Rattle.vs_design.specs.Designs.{Always, Design, is_clocked, is_combinational}
 use Rattle.vs_design.specs.Statements as T
 use Rattle.vs_design.specs.Fits.{fits_process}
 use Rattle.vs_design.specs.Footprints.{contains, without, all_reads, reads_of, writes_of, waits_of, wait_signals, signals_bits, statement_bits}
@@ -16,7 +16,6 @@ use Rattle.vs_design.specs.Rules.{mixed_in, mixed_assigns, missing_bits, latches
 use Rattle.vs_design.specs.Refusals.{least, otherwise, first_found, signal_of, block_refusal_of, block_refusal, width_refusal}
 use Rattle.vs_design.specs.Refusals as R
 use Rattle.vs_flat.specs.declared.processes.Event.{Event}
-use Rattle.vs_flat.specs.Operators.{edge_of}
 use Rattle.vs_flat.specs.DesignOf.{event_of, kind_of, arena_signals, design_of}
 use Rattle.vs_flat.specs.declared.processes.Process.{Process}
 use Rattle.vs_flat.specs.declared.processes.Port.{Port}
@@ -27,9 +26,9 @@ use Rattle.vs_flat.specs.Lawful.{IsLawful}
 use Rattle.vs_flat.specs.Laws.{EachProcess, ProcessNames}
 use Rattle.vs_flat.specs.Named.{all_below, kind_names_below}
 use Rattle.vs_flat.specs.Trees.{signal_at}
-use Rattle.vs_length.specs.Nodes.{tree_of}
-use Rattle.vs_length.specs.Bodies.{body_of}
-use Rattle.vs_width.specs.Laws.{EachProcessFits}
+use Rattle.vs_shape.specs.Nodes.{tree_of}
+use Rattle.vs_shape.specs.Bodies.{body_of}
+use Rattle.vs_typed.specs.Laws.{EachProcessFits}
 use Rattle.vs_block.specs.declared.error.BlockError.{BlockError}
 use Rattle.vs_block.specs.declared.error.BlockError.TheVariants.{MixedAssign, Sensitivity, Latch, Memory}
 use Rattle.vs_block.specs.Blocks.{IsBlock}
@@ -37,7 +36,8 @@ use Rattle.vs_block.specs.Refused.{IsErrorOf, IsBlockError}
 use Rattle.vs_reads.specs.Laws.{HasBitsOf}
 use Rattle.vs_block.specs.Flags.{bit_at, is_set, AreUnset, AreSet}
 use Rattle.vs_block.specs.Walked.{IsWalked}
-use Rattle.vs_block.proofs.Truth.{and_both, contains_without, contains_filter}
+use Rattle.vs_block.proofs.Truth.{contains_without, contains_filter}
+use Rattle.vs_reads.proofs.Tests.{and_both}
 use Rattle.vs_block.proofs.Least.{least_same}
 
 -- ---- latches
@@ -92,9 +92,9 @@ missing_is count x reads waits e r w =
 
 -- ---- the refusal of one block
 
-pub edges_are : (s : ℕ → Signal) (es : List Event) → list_any D.has_edge (map (event_of s) es) ≡ list_any (λ (e : Event). D.is_edge (edge_of e.edge)) es
+pub edges_are : (s : ℕ → Signal) (es : List Event) → list_any D.has_edge (map (event_of s) es) ≡ list_any (λ (e : Event). D.is_edge e.edge) es
 edges_are s [] = refl
-edges_are s (e ∷ es) = ap (λ b. D.is_edge (edge_of e.edge) || b) (edges_are s es)
+edges_are s (e ∷ es) = ap (λ b. D.is_edge e.edge || b) (edges_are s es)
 
 module _ (d : Design) (p place : ℕ) (star : Bool) (events : List D.Event) (st : T.Statement) where
   pub mixed_refused : (at : ℕ) → least (mixed_assigns (Always place star events st)) ≡ Some at → block_refusal_of d p (Always place star events st) ≡ Some (R.MixedAssign at)
@@ -133,19 +133,16 @@ one_process ps p x y h k = inner x y (sym h ∙ k)
     inner : (x y : D.Process) → Some x ≡ Some y → x ≡ y
     inner x y h = cc
 
-pub is_clocked_as : (a : Arena) (place : ℕ) (star : Bool) (events : List Event) (statement : ℕ) (clocked b : Bool) → clocked ≡ list_any (λ (e : Event). D.is_edge (edge_of e.edge)) events → clocked ≡ b → is_clocked (block_in a place star events statement) ≡ b
+pub is_clocked_as : (a : Arena) (place : ℕ) (star : Bool) (events : List Event) (statement : ℕ) (clocked b : Bool) → clocked ≡ list_any (λ (e : Event). D.is_edge e.edge) events → clocked ≡ b → is_clocked (block_in a place star events statement) ≡ b
 is_clocked_as a place star events statement clocked b is h = edges_are (signal_at (arena_signals a)) events ∙ sym is ∙ h
 
-pub mixed_as : (a kept : Arena) (place : ℕ) (star : Bool) (events : List Event) (statement : ℕ) (clocked : Bool) (found o : Option ℕ) → kept ≡ a → clocked ≡ list_any (λ (e : Event). D.is_edge (edge_of e.edge)) events
+pub mixed_as : (a kept : Arena) (place : ℕ) (star : Bool) (events : List Event) (statement : ℕ) (clocked : Bool) (found o : Option ℕ) → kept ≡ a → clocked ≡ list_any (λ (e : Event). D.is_edge e.edge) events
     → found ≡ least (mixed_in clocked (body_of kept statement)) → found ≡ o → least (mixed_assigns (block_in a place star events statement)) ≡ o
 mixed_as a kept place star events statement clocked found o same is least_is h =
     ap (λ t. least (mixed_in t (body_of a statement))) (is_clocked_as a place star events statement clocked clocked is refl)
     ∙ ap (λ (x : Arena). least (mixed_in clocked (body_of x statement))) (sym same) ∙ sym least_is ∙ h
 
 -- a list that is told as that of a footprint
-pub told : (count : ℕ) (bits read all : List ℕ) → read ≡ bits → HasBitsOf count bits all → HasBitsOf count read all
-told count bits read all e h = subst (λ (zs : List ℕ). HasBitsOf count zs all) (sym e) h
-
 all_at : (f : D.Process → Bool) (ps : List D.Process) (p : ℕ) (x : D.Process) → list_all f ps ≡ true → slice_get ps p ≡ Some x → f x ≡ true
 all_at f [] p x h e = cc
 all_at f (y ∷ ps) zero x h e = let same : y ≡ x = cc in subst (λ z. f z ≡ true) same (and_both (f y) (list_all f ps) h).0

@@ -1,7 +1,6 @@
 -- What is assigned and read on the paths of a statement, by its parts.
-use Rattle.std.proofs.Common.{◌≡◌, ℕ, ◌+◌, ◌<◌, Bool, true, false, not, ◌||◌, ◌&&◌, List, [], ◌∷◌, ◌++◌, map, take, length, get_or, refl, sym, ap, ap₂, ◌∙◌, subst, append_assoc, append-nil, Option, Some}
-use Rattle.std.specs.Prelude.{if◌then◌else◌, Result, Ok, Err, IfOk, slice_get}
-use Rattle.std.proofs.lemmas.Option.{slice_get-get_or}
+use Rattle.std.proofs.Common.{◌≡◌, ℕ, ◌+◌, ◌<◌, Bool, true, false, not, ◌||◌, ◌&&◌, List, [], ◌∷◌, ◌++◌, map, take, length, get_or, refl, sym, ap, ap₂, ◌∙◌, subst, append_assoc, append-nil, Option}
+use Rattle.std.specs.Prelude.{if◌then◌else◌, Result, Ok, Err, IfOk}
 use Rattle.std.proofs.lemmas.List.{take_more}
 use Rattle.std.proofs.lemmas.Grind.{get_or_default_zero}
 use Rattle.vs_design.specs.Expressions as E
@@ -12,7 +11,8 @@ use Rattle.vs_flat.specs.declared.statements.Arm.{Arm}
 use Rattle.vs_flat.specs.Trees.{branch, sequence, arms_tree}
 use Rattle.vs_block.specs.Flags.{bit_at, is_set, AreSet, AreNoted, AreFlagged, AreShared, AreFresh}
 use Rattle.vs_block.specs.Walked.{IsWalked, IsArmWalked}
-use Rattle.vs_block.proofs.Truth.{and_both, contains-append, contains_without, contains_common, map_more}
+use Rattle.vs_block.proofs.Truth.{contains_without, contains_common, map_more}
+use Rattle.vs_reads.proofs.Tests.{and_both, contains-append}
 
 -- ---- truth values
 
@@ -264,9 +264,6 @@ items_more tree items i h =
 pub if_ok : {V W : Type 0} {P Q : V → Type 0} (r : Result V W) → IfOk r P → ((v : V) → P v → Q v) → IfOk r Q
 if_ok (Ok v) h k = k v h
 if_ok (Err e) h k = h
-
-pub arm_at : (arms : List Arm) (k : ℕ) (arm : Arm) → arm ≡ get_or arms k arm → k < length arms → slice_get arms k ≡ Some arm
-arm_at arms k arm is h = slice_get-get_or arms k arm h ∙ ap Some (sym is)
 
 pub shared_as : (own xs us ys vs : List ℕ) (f g : List Bool) (found : List ℕ) → xs ≡ us → ys ≡ vs → f ≡ g → AreShared own xs ys f found → AreShared own us vs g found
 shared_as own xs us ys vs f g found e h i s = subst (λ (zs : List ℕ). AreShared own zs vs g found) e (subst (λ (zs : List ℕ). AreShared own xs zs g found) h (subst (λ (z : List Bool). AreShared own xs ys z found) i s))

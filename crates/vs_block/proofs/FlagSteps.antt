@@ -1,6 +1,6 @@
 -- Flags that are set one after the other.
-use Rattle.std.proofs.Common.{◌≡◌, ℕ, zero, suc, ◌+◌, ◌-◌, ◌<◌, ◌≤◌, Bool, true, false, not, ◌||◌, ◌&&◌, ◌==◌, nat_lt, List, [], ◌∷◌, ◌++◌, refl, sym, ap, ◌∙◌, subst, eqb-true, eq-eqb, get_or, length, take, arith, Some}
-use Rattle.std.specs.Prelude.{if◌then◌else◌, Result, Ok, Err, MatchResult, is_ok}
+use Rattle.std.proofs.Common.{◌≡◌, ℕ, ◌+◌, ◌-◌, ◌<◌, ◌≤◌, Bool, true, false, not, ◌||◌, ◌&&◌, ◌==◌, nat_lt, List, [], ◌∷◌, ◌++◌, refl, sym, ap, ◌∙◌, eqb-true, eq-eqb, get_or, length, take, arith, Some}
+use Rattle.std.specs.Prelude.{if◌then◌else◌, Result, Ok, Err, MatchResult}
 use Rattle.std.specs.List.Sorted.{IsStrictlyIncreasing, IsBinarySearchResult}
 use Rattle.std.specs.Ordering.{nat_cmp}
 use Rattle.std.specs.Result.{result_ok}
@@ -9,24 +9,11 @@ use Rattle.std.proofs.lemmas.Bool.{ltb-true, ltb-false}
 use Rattle.std.proofs.lemmas.List.Sorted.{searched}
 use Rattle.vs_design.specs.Footprints.{contains}
 use Rattle.vs_block.specs.Flags.{bit_at, is_set, IsThere, IsIndexOf, AreSet, AreFlagged, AreFresh}
-use Rattle.vs_block.proofs.Truth.{by_test, either_way, same_flags, same_test, contains_more, contains-append, place_in, member_at}
+use Rattle.vs_block.proofs.Truth.{same_flags, contains_more}
+use Rattle.vs_reads.proofs.Tests.{by_test, either_way, same_test, contains-append}
+use Rattle.vs_shape.proofs.Among.{rises_to}
 
 -- ---- rising lists
-
-rises_by : (xs : List ℕ) → IsStrictlyIncreasing xs → (i d : ℕ) → i + d < length xs → get_or xs i 0 ≤ get_or xs (i + d) 0
-rises_by xs r i zero h = let P : ℕ → Type 0 = λ n. get_or xs i 0 ≤ get_or xs n 0 in let same : i ≡ i + zero = omega arith in subst P same (omega arith)
-rises_by xs r i (suc d) h =
-    let before = rises_by xs r i d (omega arith) in
-    let step = r (i + d) (omega arith) in
-    let P : ℕ → Type 0 = λ n. get_or xs i 0 ≤ get_or xs n 0 in
-    let same : (i + d) + 1 ≡ i + suc d = omega arith in
-    subst P same (omega (arith, before, step))
-
-pub rises_to : (xs : List ℕ) → IsStrictlyIncreasing xs → (i j : ℕ) → i ≤ j → j < length xs → get_or xs i 0 ≤ get_or xs j 0
-rises_to xs r i j h k =
-    let P : ℕ → Type 0 = λ n. get_or xs i 0 ≤ get_or xs n 0 in
-    let same : i + (j - i) ≡ j = omega arith in
-    subst P same (rises_by xs r i (j - i) (omega arith))
 
 -- a number before another is below it
 pub rises_below : (xs : List ℕ) → IsStrictlyIncreasing xs → (i j : ℕ) → i < j → j < length xs → get_or xs i 0 < get_or xs j 0
@@ -131,14 +118,3 @@ back_law false x y z fresh h g = g ∙ h
 pub put_back : (own bits : List ℕ) (first second third : List Bool) → length first ≡ length own → length third ≡ length own → AreFresh own first bits → AreSet own bits true first second → AreSet own bits false second third → third ≡ first
 put_back own bits first second third n m fresh f g =
     same_flags third first (m ∙ sym n) (λ k l. let inside : k < length own = omega (arith, l, m) in back_law (contains bits (bit_at own k)) (is_set first k) (is_set second k) (is_set third k) (fresh k inside) (f k inside) (g k inside))
-
--- a bit is found where it is among the others
-pub among_is : (xs : List ℕ) (b : ℕ) (r : Result ℕ ℕ) (ok : Bool) → IsStrictlyIncreasing xs → IsBinarySearchResult (λ y. nat_cmp y b) xs r → ok ≡ is_ok r → ok ≡ contains xs b
-among_is xs b r ok rises is same = same ∙ go r (index_is xs b r rises is)
-  where
-    none : ((k : ℕ) → k < length xs → (get_or xs k 0 == b) ≡ false) → contains xs b ≡ false
-    none h = by_test (contains xs b) (λ e. let p = place_in xs b e in either_way (get_or xs p.0 0 == b) (eq-eqb (get_or xs p.0 0) b p.2) (h p.0 p.1)) (λ e. e)
-
-    go : (r : Result ℕ ℕ) → IsThere (length xs) (result_ok r) × IsIndexOf xs b (result_ok r) → is_ok r ≡ contains xs b
-    go (Ok i) h = sym (subst (λ z. contains xs z ≡ true) (eqb-true (get_or xs i 0) b (h.1 i h.0 ∙ eq-eqb i i refl)) (member_at xs i h.0))
-    go (Err i) h = sym (none h.1)

@@ -5,8 +5,9 @@ use Rattle.std.specs.List.Sorted.{IsStrictlyIncreasing}
 use Rattle.std.proofs.lemmas.Bool.{ltb-true, ltb-false}
 use Rattle.vs_design.specs.Footprints.{contains}
 use Rattle.vs_design.specs.Refusals.{least_with, least}
-use Rattle.vs_block.proofs.Truth.{by_test, either_way, and_both, contains_head, contains_tail, contains_filter, place_in, member_at}
-use Rattle.vs_block.proofs.FlagSteps.{rises_to}
+use Rattle.vs_block.proofs.Truth.{contains_filter, place_in}
+use Rattle.vs_reads.proofs.Tests.{by_test, either_way, and_both, contains_head, contains_tail, member_at}
+use Rattle.vs_shape.proofs.Among.{rises_to}
 
 -- one of the two, and no greater than either
 abbrev IsSmaller : ℕ → ℕ → ℕ → Type 0

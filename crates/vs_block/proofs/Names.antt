@@ -2,7 +2,6 @@
 use Rattle.std.proofs.Common.{◌≡◌, ℕ, zero, suc, ◌<◌, true, ◌&&◌, nat_lt, List, [], ◌∷◌, ◌++◌, length, map, refl, sym, ap, ◌∙◌, subst, Option, Some, None, arith}
 use Rattle.std.specs.Prelude.{option_map, slice_get, option_to_list, is_some}
 use Rattle.std.specs.List.{list_all, flat_map}
-use Rattle.std.proofs.lemmas.Bool.{ltb-true}
 use Rattle.std.proofs.lemmas.List.Folds.{list_all-append}
 use Rattle.vs_design.specs.Fits.{fits, divides_constants, is_fit, fits_target, fits_statement, fits_arms}
 use Rattle.vs_flat.specs.declared.placed.Placed.{Placed}
@@ -17,21 +16,11 @@ use Rattle.vs_flat.specs.Laws.{NodeNames, StatementNames, EachStatement, Stateme
 use Rattle.vs_flat.specs.Named.{all_below, node_names_below, statement_names_below}
 use Rattle.vs_flat.specs.Targets.{target_of}
 use Rattle.vs_flat.specs.Trees.{branch, sequence, arms_tree, target_tree}
-use Rattle.vs_length.specs.Nodes.{HasNames, EachBelow, tree_of}
-use Rattle.vs_length.specs.Bodies.{body_of, body_of_statement}
+use Rattle.vs_shape.specs.Nodes.{HasNames, tree_of}
+use Rattle.vs_shape.specs.Bodies.{body_of, body_of_statement}
 use Rattle.vs_block.specs.Parts.{IsValue, IsPart, IsBranch, AreValues, AreParts, IsArm, AreArms, HasParts}
-use Rattle.vs_block.proofs.Truth.{and_both}
-
-first_below : (n m : ℕ) (ms : List ℕ) → all_below n (m ∷ ms) ≡ true → m < n
-first_below n m ms h = ltb-true m n (and_both (nat_lt m n) (all_below n ms) h).0
-
-rest_below : (n m : ℕ) (ms : List ℕ) → all_below n (m ∷ ms) ≡ true → all_below n ms ≡ true
-rest_below n m ms h = (and_both (nat_lt m n) (all_below n ms) h).1
-
-each_below : (n : ℕ) (ms : List ℕ) → all_below n ms ≡ true → EachBelow n ms
-each_below n [] h k l = absurd (omega arith)
-each_below n (m ∷ ms) h zero l = first_below n m ms h
-each_below n (m ∷ ms) h (suc k) l = each_below n ms (rest_below n m ms h) k (omega arith)
+use Rattle.vs_reads.proofs.Tests.{and_both}
+use Rattle.vs_shape.proofs.Names.{first_below, rest_below, each_below}
 
 both_below : (n : ℕ) (xs ys : List ℕ) → all_below n (xs ++ ys) ≡ true → (all_below n xs ≡ true) × (all_below n ys ≡ true)
 both_below n xs ys h = and_both (all_below n xs) (all_below n ys) (sym (list_all-append (λ m. nat_lt m n) xs ys) ∙ h)

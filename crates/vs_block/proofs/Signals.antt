@@ -5,7 +5,7 @@ use Rattle.vs_design.specs.Expressions.{Signal}
 use Rattle.vs_design.specs.Footprints.{contains}
 use Rattle.vs_design.specs.Values.{count_from, bits_of_signal}
 use Rattle.vs_design.specs.Refusals.{signal_of}
-use Rattle.vs_block.proofs.Truth.{by_test, either_way, same_test, or_right}
+use Rattle.vs_reads.proofs.Tests.{by_test, either_way, same_test, or_right}
 
 -- a number is among those from the first on where it is no smaller, and smaller than the end
 counted : (first count b : ℕ) → contains (count_from first count) b ≡ true → (first ≤ b) × (b < first + count)

@@ -1,5 +1,5 @@
 -- The bits that a target surely assigns, by its parts.
-use Rattle.std.proofs.Common.{◌≡◌, ℕ, zero, suc, ◌+◌, ◌<◌, ◌==◌, Bool, true, false, not, ◌&&◌, cond, if◌then◌else◌, List, [], ◌∷◌, ◌++◌, map, take, length, get_or, unwrap_or, refl, sym, ap, ◌∙◌, subst, arith, eqb-true, append_assoc, append-nil}
+use Rattle.std.proofs.Common.{◌≡◌, ℕ, ◌+◌, ◌<◌, ◌==◌, Bool, true, false, not, ◌&&◌, cond, if◌then◌else◌, List, [], ◌∷◌, ◌++◌, map, take, length, get_or, unwrap_or, refl, sym, ap, ◌∙◌, subst, arith, eqb-true, append_assoc, append-nil}
 use Rattle.std.specs.Prelude.{Option, None, Some, is_some, count_by, take_while}
 use Rattle.std.proofs.lemmas.List.{take_more}
 use Rattle.std.proofs.lemmas.List.Sums.{sum_by-cons, take_while-cons}
@@ -9,8 +9,9 @@ use Rattle.vs_design.specs.Fits.{fits_64, fits_target}
 use Rattle.vs_design.specs.Latches.{assigns}
 use Rattle.vs_flat.specs.Targets.{target_of, both_of}
 use Rattle.vs_flat.specs.Trees.{no_signal, joined, first_copy, copy_count, target_tree}
-use Rattle.vs_length.specs.Walked.{IsTarget}
-use Rattle.vs_block.proofs.Truth.{and_both}
+use Rattle.vs_shape.specs.Walked.{IsTarget}
+use Rattle.vs_reads.proofs.Tests.{and_both}
+use Rattle.vs_shape.proofs.TargetParts.{part_target}
 
 both_some : (s t : Option Target) → is_some (both_of s t) ≡ true → (is_some s ≡ true) × (is_some t ≡ true) × (unwrap_or (both_of s t) (Whole no_signal) ≡ Both (unwrap_or s (Whole no_signal)) (unwrap_or t (Whole no_signal)))
 both_some None t h = cc
@@ -41,13 +42,6 @@ pub each_more : (tree : ℕ → E.Expression) (ps before : List ℕ) (k : ℕ) �
 each_more tree ps before k h =
     append_assoc before (each_assigns tree (take k ps)) (assigns (target_tree (tree (get_or ps k 0))))
     ∙ ap (λ bs. before ++ bs) (sym (each_end tree (take k ps) (get_or ps k 0)) ∙ ap (each_assigns tree) (sym (take_more ps k 0 h)))
-
-part_target : (tree : ℕ → E.Expression) (ps : List ℕ) (k : ℕ) → IsTarget (joined (map tree ps)) → k < length ps → IsTarget (tree (get_or ps k 0))
-part_target tree [] k t h = absurd (omega arith)
-part_target tree (p ∷ []) zero t h = t
-part_target tree (p ∷ []) (suc k) t h = absurd (omega arith)
-part_target tree (p ∷ q ∷ ps) zero t h = (target_join (tree p) (joined (map tree (q ∷ ps))) t).0
-part_target tree (p ∷ q ∷ ps) (suc k) t h = part_target tree (q ∷ ps) k (target_join (tree p) (joined (map tree (q ∷ ps))) t).1 (omega arith)
 
 each_joined : (tree : ℕ → E.Expression) (ps : List ℕ) → IsTarget (joined (map tree ps)) → assigns (target_tree (joined (map tree ps))) ≡ each_assigns tree ps
 each_joined tree [] t = never t.target

@@ -1,27 +1,10 @@
 -- Laws of truth values, and tests of lists.
-use Rattle.std.proofs.Common.{◌≡◌, ℕ, zero, suc, ◌+◌, ◌<◌, Bool, true, false, not, ◌||◌, ◌&&◌, ◌==◌, List, [], ◌∷◌, ◌++◌, refl, sym, ap, ◌∙◌, subst, eqb-true, eq-eqb, get_or, length, map, take, arith}
+use Rattle.std.proofs.Common.{◌≡◌, ℕ, zero, suc, ◌+◌, ◌<◌, Bool, true, false, not, ◌||◌, ◌&&◌, ◌==◌, List, [], ◌∷◌, ◌++◌, refl, sym, ap, ◌∙◌, subst, eqb-true, get_or, length, map, take, arith}
 use Rattle.std.specs.Prelude.{filter}
 use Rattle.std.proofs.lemmas.List.{take_more}
-use Rattle.std.proofs.lemmas.List.Folds.{list_any-append}
 use Rattle.vs_design.specs.Footprints.{contains, without}
 use Rattle.vs_design.specs.Latches.{common}
-
-pub by_test : {P : Type 0} (b : Bool) → (b ≡ true → P) → (b ≡ false → P) → P
-by_test true f g = f refl
-by_test false f g = g refl
-
-pub either_way : {P : Type 0} (b : Bool) → b ≡ true → b ≡ false → P
-either_way true h k = cc
-either_way false h k = cc
-
-pub and_both : (a b : Bool) → (a && b) ≡ true → (a ≡ true) × (b ≡ true)
-and_both true b h = (refl, h)
-and_both false b h = cc
-
-pub same_test : (a b : Bool) → (a ≡ true → b ≡ true) → (b ≡ true → a ≡ true) → a ≡ b
-same_test true b f g = sym (f refl)
-same_test false true f g = g refl
-same_test false false f g = refl
+use Rattle.vs_reads.proofs.Tests.{by_test, contains-append}
 
 pub or_false : (a : Bool) → (a || false) ≡ a
 or_false true = refl
@@ -31,29 +14,12 @@ pub and_false : (a : Bool) → (a && false) ≡ false
 and_false true = refl
 and_false false = refl
 
-pub or_left : (a b : Bool) → a ≡ true → (a || b) ≡ true
-or_left true b h = refl
-or_left false b h = cc
-
-pub or_right : (a b : Bool) → b ≡ true → (a || b) ≡ true
-or_right true b h = refl
-or_right false b h = h
-
-pub contains-append : (xs ys : List ℕ) (b : ℕ) → contains (xs ++ ys) b ≡ (contains xs b || contains ys b)
-contains-append xs ys b = list_any-append (λ c. b == c) xs ys
-
 pub contains_one : (x b : ℕ) → contains (x ∷ []) b ≡ (b == x)
 contains_one x b = or_false (b == x)
 
 pub contains_more : (bits : List ℕ) (i b : ℕ) → i < length bits → contains (take (i + 1) bits) b ≡ (contains (take i bits) b || (b == get_or bits i 0))
 contains_more bits i b h =
     ap {B = Bool} (λ zs. contains zs b) (take_more bits i 0 h) ∙ contains-append (take i bits) (get_or bits i 0 ∷ []) b ∙ ap {B = Bool} (λ t. contains (take i bits) b || t) (contains_one (get_or bits i 0) b)
-
-pub contains_head : (b : ℕ) (bs : List ℕ) → contains (b ∷ bs) b ≡ true
-contains_head b bs = or_left (b == b) (contains bs b) (eq-eqb b b refl)
-
-pub contains_tail : (b c : ℕ) (bs : List ℕ) → contains bs b ≡ true → contains (c ∷ bs) b ≡ true
-contains_tail b c bs h = or_right (b == c) (contains bs b) h
 
 pub contains_filter : (f : ℕ → Bool) (xs : List ℕ) (b : ℕ) → contains (filter f xs) b ≡ (contains xs b && f b)
 contains_filter f [] b = refl
@@ -85,11 +51,6 @@ place_in (c ∷ bs) b h =
     (λ e. let r = place_in bs b (subst (λ t. (t || contains bs b) ≡ true) e h) in (suc r.0, omega (arith, r.1), r.2))
 
 -- and what has a place is a member
-pub member_at : (bs : List ℕ) (k : ℕ) → k < length bs → contains bs (get_or bs k 0) ≡ true
-member_at [] k h = absurd (omega (arith, h))
-member_at (c ∷ bs) zero h = contains_head c bs
-member_at (c ∷ bs) (suc k) h = contains_tail (get_or bs k 0) c bs (member_at bs k (omega (arith, h)))
-
 -- lists of equal lengths with the same flags
 pub same_flags : (xs ys : List Bool) → length xs ≡ length ys → ((k : ℕ) → k < length xs → get_or xs k false ≡ get_or ys k false) → xs ≡ ys
 same_flags [] [] n h = refl

@@ -6,7 +6,7 @@ use Rattle.vs_flat.specs.declared.processes.Event.{Event}
 use Rattle.vs_flat.specs.Arena.{Arena}
 use Rattle.vs_flat.specs.Trees.{signal_at}
 use Rattle.vs_flat.specs.DesignOf.{arena_signals, event_of, design_of}
-use Rattle.vs_length.specs.Bodies.{body_of}
+use Rattle.vs_shape.specs.Bodies.{body_of}
 
 -- process p begins at this place, with these events and this statement, of which nothing is over 64 bits
 pub record IsBlock (a : Arena) (p place : ℕ) (events : List Event) (statement : ℕ) : Type 0 where

@@ -5,9 +5,9 @@ use Rattle.vs_flat.specs.declared.statements.Arm.{Arm}
 use Rattle.vs_flat.specs.declared.statements.Statement.{Statement}
 use Rattle.vs_flat.specs.declared.statements.Statement.TheVariants as S
 use Rattle.vs_flat.specs.Arena.{Arena}
-use Rattle.vs_length.specs.Nodes.{tree_of}
-use Rattle.vs_length.specs.Bodies.{body_of}
-use Rattle.vs_length.specs.Walked.{IsTarget}
+use Rattle.vs_shape.specs.Nodes.{tree_of}
+use Rattle.vs_shape.specs.Bodies.{body_of}
+use Rattle.vs_shape.specs.Walked.{IsTarget}
 
 -- an expression of 1 to 64 bits
 pub record IsValue (a : Arena) (e : ℕ) : Type 0 where

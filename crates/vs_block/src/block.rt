@@ -1,12 +1,9 @@
 //! The rules on blocks.
 
 ghost use Rattle.std.specs.Prelude.{◌≡◌, ◌<◌, length, slice_get, IfErr, OnOk};
-ghost use Rattle.std.specs.List.{list_any};
 ghost use Rattle.vs_design.specs.Designs as D;
 ghost use Rattle.vs_design.specs.Refusals.{block_refusal_of, block_refusal};
 ghost use Rattle.vs_flat.specs.DesignOf.{design_of};
-ghost use Rattle.vs_flat.specs.Operators.{edge_of};
-ghost use Rattle.vs_flat.specs.declared.processes.Event.{Event as FlatEvent};
 ghost use Rattle.vs_reads.specs.Footprint.{footprints_of};
 ghost use Rattle.vs_block.specs.Blocks.{IsBlock};
 ghost use Rattle.vs_block.specs.Refused.{IsBlockError, IsErrorOf};
@@ -16,26 +13,9 @@ use crate::latches::first_latch;
 use crate::missing::{first_missing, signal_with};
 use crate::mixed::least_mixed;
 use std::alloc::Global;
-use vs_flat::{Edge, Event, Kind, names_law, trees_law};
+use vs_flat::{Event, Kind, has_edge, names_law, trees_law};
 use vs_reads::{Footprints, footprint_law};
-use vs_width::{Typed, fits_law};
-
-/// Whether an event is `posedge` or `negedge`.
-fn is_edge(edge: Edge) -> bool
-    ensures { result ≡ D.is_edge (edge_of edge) }
-{
-    match edge {
-        Edge::Any => false,
-        Edge::Pos | Edge::Neg => true,
-    }
-}
-
-/// Whether one of these events is an edge, so that the block is clocked.
-fn has_edge(events: &[Event]) -> bool
-    ensures { result ≡ list_any (λ (e : FlatEvent). D.is_edge (edge_of e.edge)) events.now }
-{
-    events.iter().any(|e| is_edge(e.edge))
-}
+use vs_typed::{Typed, fits_law};
 
 /// Whether block p, which begins at token `at`, keeps the rules.
 fn check_block(

@@ -2,8 +2,7 @@
 
 ghost use Rattle.std.specs.Prelude.{◌≡◌, ◌<◌, ◌==◌, ◌∷◌, [], ℕ, length, IfOk, OnOk, true};
 ghost use Rattle.std.specs.List.Sorted.{IsStrictlyIncreasing};
-ghost use Rattle.vs_design.specs.Footprints.{contains};
-ghost use Rattle.vs_block.specs.Flags.{bit_at, is_set, is_at, IsThere, IsIndexOf, AreSet, AreNoted, AreFlagged, AreShared, AreFresh};
+ghost use Rattle.vs_block.specs.Flags.{bit_at, is_set, IsThere, IsIndexOf, AreSet, AreNoted, AreFlagged, AreShared, AreFresh};
 
 use std::alloc::{AllocError, Global};
 

@@ -6,13 +6,13 @@ ghost use Rattle.vs_design.specs.Fits.{fits_statement};
 ghost use Rattle.vs_design.specs.Footprints.{contains, statement_bits};
 ghost use Rattle.vs_design.specs.Latches.{latch_bits};
 ghost use Rattle.vs_design.specs.Refusals.{least};
-ghost use Rattle.vs_length.specs.Bodies.{body_of};
+ghost use Rattle.vs_shape.specs.Bodies.{body_of};
 ghost use Rattle.vs_block.specs.Flags.{bit_at, is_set, AreUnset};
 
 use crate::flags::set_flags;
 use crate::paths::walk;
 use std::alloc::{AllocError, Global};
-use vs_length::Shapes;
+use vs_shape::Shapes;
 
 /// The least of the bits that is read before it is assigned, or that isn't assigned.
 fn first_kept(own: &[u32], assigned: &[bool], early: &[bool]) -> Option<u32>

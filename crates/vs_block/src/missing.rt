@@ -9,14 +9,7 @@ ghost use Rattle.vs_design.specs.Values.{count_from};
 ghost use Rattle.vs_flat.specs.DesignOf.{arena_signals};
 
 use vs_flat::{Flat, Signal, length_of, trees_law};
-
-/// Whether a bit is among these, which rise.
-fn is_among(bits: &[u32], bit: u32) -> bool
-    requires { IsStrictlyIncreasing bits.now }
-    ensures { result ≡ contains bits.now bit }
-{
-    bits.binary_search(&bit).is_ok()
-}
+use vs_shape::is_among;
 
 /// The least of the bits that isn't among the others. Both rise.
 pub(crate) fn first_missing(reads: &[u32], waits: &[u32]) -> Option<u32>

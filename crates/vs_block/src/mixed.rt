@@ -6,13 +6,13 @@ ghost use Rattle.vs_design.specs.Refusals.{least};
 ghost use Rattle.vs_design.specs.Rules.{mixed_in};
 ghost use Rattle.vs_flat.specs.Trees.{branch};
 ghost use Rattle.vs_flat.specs.declared.statements.Arm.{Arm as FlatArm};
-ghost use Rattle.vs_length.specs.Bodies.{body_of};
+ghost use Rattle.vs_shape.specs.Bodies.{body_of};
 ghost use Rattle.vs_block.specs.Parts.{IsBranch, AreParts, AreArms};
 ghost use Rattle.vs_block.specs.Mixed.{mixed_of};
 
 use crate::nodes::statement_of;
 use vs_flat::{Arm, Statement};
-use vs_length::Shapes;
+use vs_shape::Shapes;
 
 /// The least of the places so far and this one.
 fn with_place(first: Option<u32>, place: u32) -> Option<u32>

@@ -8,9 +8,9 @@ ghost use Rattle.vs_design.specs.Fits.{fits_statement};
 ghost use Rattle.vs_design.specs.Footprints.{read_bits, target_reads, items_reads};
 ghost use Rattle.vs_design.specs.Latches.{assigned_after, early_reads, assigned_in_arms, early_in_arms, assigns};
 ghost use Rattle.vs_flat.specs.Trees.{branch, sequence, arms_tree, target_tree};
-ghost use Rattle.vs_length.specs.Bodies.{body_of};
-ghost use Rattle.vs_length.specs.Nodes.{tree_of};
-ghost use Rattle.vs_length.specs.Walked.{IsTarget};
+ghost use Rattle.vs_shape.specs.Bodies.{body_of};
+ghost use Rattle.vs_shape.specs.Nodes.{tree_of};
+ghost use Rattle.vs_shape.specs.Walked.{IsTarget};
 ghost use Rattle.vs_block.specs.Flags.{AreNoted, AreFlagged, AreFresh};
 ghost use Rattle.vs_block.specs.Parts.{IsValue, IsBranch, AreValues, AreParts, IsArm, AreArms};
 ghost use Rattle.vs_block.specs.Walked.{IsWalked, IsArmWalked};
@@ -20,7 +20,7 @@ use crate::nodes::statement_of;
 use crate::targets::push_assigned;
 use std::alloc::{AllocError, Global};
 use vs_flat::{Arm, Statement};
-use vs_length::Shapes;
+use vs_shape::Shapes;
 
 /// Notes what these expressions read.
 fn note_values(

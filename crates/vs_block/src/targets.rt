@@ -3,13 +3,12 @@
 ghost use Rattle.std.specs.Prelude.{◌≡◌, ◌<◌, ◌++◌, length, OnOk};
 ghost use Rattle.vs_design.specs.Latches.{assigns};
 ghost use Rattle.vs_flat.specs.Trees.{target_tree};
-ghost use Rattle.vs_length.specs.Nodes.{tree_of};
-ghost use Rattle.vs_length.specs.Walked.{IsTarget};
+ghost use Rattle.vs_shape.specs.Nodes.{tree_of};
+ghost use Rattle.vs_shape.specs.Walked.{IsTarget};
 
-use crate::nodes::node_of;
 use std::alloc::AllocError;
 use vs_flat::Node;
-use vs_length::Shapes;
+use vs_shape::Shapes;
 
 /// Adds the bits of target e that are surely assigned: those of a name or of a select by a constant index. A select by any other index assigns none for sure.
 pub(crate) fn push_assigned(shapes: &Shapes, e: u32, out: &mut Vec<u32>) -> Result<(), AllocError>
@@ -17,7 +16,7 @@ pub(crate) fn push_assigned(shapes: &Shapes, e: u32, out: &mut Vec<u32>) -> Resu
     requires target { IsTarget (tree_of shapes.now e) }
     ensures { OnOk result (out.new.items ≡ out.old.items ++ assigns (target_tree (tree_of shapes.now e))) }
 {
-    match node_of(shapes, e) {
+    match shapes.node(e) {
         Node::Bit { index, .. } => {
             if shapes.shape(*index).constant {
                 shapes.push_target(e, out)

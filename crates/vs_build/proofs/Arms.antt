@@ -5,14 +5,12 @@ use Rattle.vs_design.specs.Expressions.{Expression}
 use Rattle.vs_design.specs.Designs.{Design}
 use Rattle.vs_ast.specs.declared.expressions.Expr.{Expr}
 use Rattle.vs_ast.specs.Views as view
-use Rattle.vs_flat.specs.declared.expressions.UnaryOp.{UnaryOp}
-use Rattle.vs_flat.specs.declared.expressions.BinaryOp.{BinaryOp}
-use Rattle.vs_flat.specs.Operators.{unary_of, binary_of}
+use Rattle.vs_base.specs.declared.operators.UnaryOp.{UnaryOp}
+use Rattle.vs_base.specs.declared.operators.BinaryOp.{BinaryOp}
 use Rattle.vs_grammar.specs.Depths.{expr_depth}
 use Rattle.vs_grammar.specs.Trees as tree
 use Rattle.vs_grammar.specs.Trees.{expr_place}
 use Rattle.vs_const.specs.Meanings.{Find}
-use Rattle.vs_const.specs.Operators.{unary_op, binary_op}
 use Rattle.vs_const.specs.Typed.{Typed, begins_at, noted, unary_typed, binary_typed, choice_typed}
 use Rattle.vs_const.specs.Expressions.{typed, selected, typed_parts, replication_typed, call_typed, argument_needed}
 use Rattle.vs_const.proofs.Formed.{both_nil}
@@ -79,16 +77,16 @@ pub noted_clean : (needed : Bool) (place : ℕ) (t : Typed) → (noted needed pl
 noted_clean needed place t h = (both_nil t.faults _ h).0
 
 pub unary_operand : (d : Design) (find : Find) (needed : Bool) (place : ℕ) (op : tree.UnaryOp) (a : tree.Expr) → IsBuildable d find needed (tree.Unary place op a) → IsBuildable d find needed a
-unary_operand d find needed place op a b = record { shaped = b.shaped; sound = b.sound; clean = noted_clean needed place (unary_typed (unary_op op) (typed a find needed)) b.clean; shallow = omega (arith, b.shallow) }
+unary_operand d find needed place op a b = record { shaped = b.shaped; sound = b.sound; clean = noted_clean needed place (unary_typed op (typed a find needed)) b.clean; shallow = omega (arith, b.shallow) }
 
 pub brackets_inner : (d : Design) (find : Find) (needed : Bool) (place : ℕ) (e : tree.Expr) → IsBuildable d find needed (tree.Brackets place e) → IsBuildable d find needed e
 brackets_inner d find needed place e b = record { shaped = b.shaped; sound = b.sound; clean = noted_clean needed place (typed e find needed) b.clean; shallow = omega (arith, b.shallow) }
 
 pub binary_left : (d : Design) (find : Find) (needed : Bool) (op : tree.BinaryOp) (a b : tree.Expr) → IsBuildable d find needed (tree.Binary op a b) → IsBuildable d find needed a
-binary_left d find needed op a b h = record { shaped = h.shaped.0; sound = h.sound; clean = (both_nil _ _ (noted_clean needed (expr_place a) (binary_typed (binary_op op) (typed a find needed) (typed b find needed)) h.clean)).0; shallow = omega (arith, h.shallow) }
+binary_left d find needed op a b h = record { shaped = h.shaped.0; sound = h.sound; clean = (both_nil _ _ (noted_clean needed (expr_place a) (binary_typed op (typed a find needed) (typed b find needed)) h.clean)).0; shallow = omega (arith, h.shallow) }
 
 pub binary_right : (d : Design) (find : Find) (needed : Bool) (op : tree.BinaryOp) (a b : tree.Expr) → IsBuildable d find needed (tree.Binary op a b) → IsBuildable d find needed b
-binary_right d find needed op a b h = record { shaped = h.shaped.1; sound = h.sound; clean = (both_nil (typed a find needed).faults _ (noted_clean needed (expr_place a) (binary_typed (binary_op op) (typed a find needed) (typed b find needed)) h.clean)).1; shallow = omega (arith, h.shallow) }
+binary_right d find needed op a b h = record { shaped = h.shaped.1; sound = h.sound; clean = (both_nil (typed a find needed).faults _ (noted_clean needed (expr_place a) (binary_typed op (typed a find needed) (typed b find needed)) h.clean)).1; shallow = omega (arith, h.shallow) }
 
 pub choice_condition : (d : Design) (find : Find) (needed : Bool) (c p q : tree.Expr) → IsBuildable d find needed (tree.Choice c p q) → IsBuildable d find needed c
 choice_condition d find needed c p q h = record { shaped = h.shaped.0; sound = h.sound; clean = (both_nil _ _ (noted_clean needed (expr_place c) (choice_typed (typed c find needed) (typed p find needed) (typed q find needed)) h.clean)).0; shallow = omega (arith, h.shallow) }
@@ -125,30 +123,21 @@ pub children_end : (d : Design) (find : Find) (needed : Bool) (e f : tree.Expr) 
     → AddsExpression r v (typed f find needed).expression (1 + expr_depth f) → EndsWith 2 v
 children_end d find needed e f s r v b c h k = ends_two s r v (typed e find needed).expression (typed f find needed).expression (1 + expr_depth e) (1 + expr_depth f) h k (omega (arith, b.shallow)) (omega (arith, c.shallow))
 
-pub unary_arm : {U F : Type 0} (r : Result U F) (s v new : Draft) (find : Find) (needed : Bool) (at : ℕ) (op : tree.UnaryOp) (o : UnaryOp) (a x : Expr) → x ≡ a → unary_of o ≡ unary_op op
-    → AddsExpression s v (typed (view.expr x) find needed).expression (1 + expr_depth (view.expr x))
-    → ((q : Draft) (t : Expression) (m : ℕ) → AddsExpression q v t m → OnOk r (AddsExpression q new (E.At at (E.Unary (unary_of o) t)) (1 + m)))
-    → OnOk r (AddsExpression s new (E.At at (E.Unary (unary_op op) (typed (view.expr a) find needed).expression)) (1 + (1 + expr_depth (view.expr a))))
-unary_arm r s v new find needed at op o a x e p h f =
-    subst (λ y. OnOk r (AddsExpression s new (E.At at (E.Unary (unary_op op) (typed (view.expr y) find needed).expression)) (1 + (1 + expr_depth (view.expr y))))) e
-    (subst (λ u. OnOk r (AddsExpression s new (E.At at (E.Unary u (typed (view.expr x) find needed).expression)) (1 + (1 + expr_depth (view.expr x))))) p (f s (typed (view.expr x) find needed).expression (1 + expr_depth (view.expr x)) h))
-
-pub cast_arm : {U F : Type 0} (r : Result U F) (s v new : Draft) (find : Find) (needed : Bool) (at : ℕ) (op : E.UnaryOp) (a x : Expr) → x ≡ a
+pub unary_arm : {U F : Type 0} (r : Result U F) (s v new : Draft) (find : Find) (needed : Bool) (at : ℕ) (op : E.UnaryOp) (a x : Expr) → x ≡ a
     → AddsExpression s v (typed (view.expr x) find needed).expression (1 + expr_depth (view.expr x))
     → ((q : Draft) (t : Expression) (m : ℕ) → AddsExpression q v t m → OnOk r (AddsExpression q new (E.At at (E.Unary op t)) (1 + m)))
     → OnOk r (AddsExpression s new (E.At at (E.Unary op (typed (view.expr a) find needed).expression)) (1 + (1 + expr_depth (view.expr a))))
-cast_arm r s v new find needed at op a x e h f =
+unary_arm r s v new find needed at op a x e h f =
     subst (λ y. OnOk r (AddsExpression s new (E.At at (E.Unary op (typed (view.expr y) find needed).expression)) (1 + (1 + expr_depth (view.expr y))))) e
     (f s (typed (view.expr x) find needed).expression (1 + expr_depth (view.expr x)) h)
 
-pub binary_arm : {U F : Type 0} (r : Result U F) (s q v new : Draft) (find : Find) (needed : Bool) (at : ℕ) (op : tree.BinaryOp) (o : BinaryOp) (a b x y : Expr) → x ≡ a → y ≡ b → binary_of o ≡ binary_op op
+pub binary_arm : {U F : Type 0} (r : Result U F) (s q v new : Draft) (find : Find) (needed : Bool) (at : ℕ) (op : BinaryOp) (a b x y : Expr) → x ≡ a → y ≡ b
     → AddsExpression s q (typed (view.expr x) find needed).expression (1 + expr_depth (view.expr x)) → AddsExpression q v (typed (view.expr y) find needed).expression (1 + expr_depth (view.expr y))
-    → ((p k : Draft) (t u : Expression) (m n : ℕ) → AddsExpression p k t m → AddsExpression k v u n → OnOk r (AddsExpression p new (E.At at (E.Binary (binary_of o) t u)) (1 + max m n)))
-    → OnOk r (AddsExpression s new (E.At at (E.Binary (binary_op op) (typed (view.expr a) find needed).expression (typed (view.expr b) find needed).expression)) (1 + (1 + max (expr_depth (view.expr a)) (expr_depth (view.expr b)))))
-binary_arm r s q v new find needed at op o a b x y e f p h k g =
-    let P = λ (c d : Expr). OnOk r (AddsExpression s new (E.At at (E.Binary (binary_op op) (typed (view.expr c) find needed).expression (typed (view.expr d) find needed).expression)) (1 + (1 + max (expr_depth (view.expr c)) (expr_depth (view.expr d))))) in
+    → ((p k : Draft) (t u : Expression) (m n : ℕ) → AddsExpression p k t m → AddsExpression k v u n → OnOk r (AddsExpression p new (E.At at (E.Binary op t u)) (1 + max m n)))
+    → OnOk r (AddsExpression s new (E.At at (E.Binary op (typed (view.expr a) find needed).expression (typed (view.expr b) find needed).expression)) (1 + (1 + max (expr_depth (view.expr a)) (expr_depth (view.expr b)))))
+binary_arm r s q v new find needed at op a b x y e f h k g =
+    let P = λ (c d : Expr). OnOk r (AddsExpression s new (E.At at (E.Binary op (typed (view.expr c) find needed).expression (typed (view.expr d) find needed).expression)) (1 + (1 + max (expr_depth (view.expr c)) (expr_depth (view.expr d))))) in
     let here : P x y =
-    subst (λ w. OnOk r (AddsExpression s new (E.At at (E.Binary w (typed (view.expr x) find needed).expression (typed (view.expr y) find needed).expression)) (1 + (1 + max (expr_depth (view.expr x)) (expr_depth (view.expr y)))))) p
     (ok_up_to r s new _ (1 + max (1 + expr_depth (view.expr x)) (1 + expr_depth (view.expr y))) (1 + (1 + max (expr_depth (view.expr x)) (expr_depth (view.expr y))))
     (g s q (typed (view.expr x) find needed).expression (typed (view.expr y) find needed).expression (1 + expr_depth (view.expr x)) (1 + expr_depth (view.expr y)) h k) (omega arith))
     in

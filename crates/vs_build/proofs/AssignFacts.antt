@@ -13,7 +13,7 @@ use Rattle.vs_const.proofs.Formed.{both_nil}
 use Rattle.vs_flat.specs.declared.processes.Port.TheVariants as P
 use Rattle.vs_flat.specs.Targets.{place_of}
 use Rattle.vs_flat.specs.Trees.{target_tree}
-use Rattle.vs_hierarchy.specs.Targets.{typed_target}
+use Rattle.vs_elaborated.specs.Targets.{typed_target}
 use Rattle.vs_build.specs.Drafts.{Draft, and_process, EndsInAssign, AddsExpression}
 use Rattle.vs_build.specs.Buildable.{IsBuildable, IsNameable}
 use Rattle.vs_build.specs.Writable.{target_expression, IsWritable, IsAssignable, wire_assign, assign_process}

@@ -18,8 +18,8 @@ use Rattle.vs_flat.specs.declared.processes.Event.{Event}
 use Rattle.vs_flat.specs.Named.{all_below}
 use Rattle.vs_flat.specs.Trees.{signal_at}
 use Rattle.vs_flat.specs.DesignOf.{event_of}
-use Rattle.vs_hierarchy.specs.Targets.{meant_signal}
-use Rattle.vs_hierarchy.specs.Statements.{edge_of, event_faults, typed_events, typed_control, typed_statement}
+use Rattle.vs_elaborated.specs.Targets.{meant_signal}
+use Rattle.vs_elaborated.specs.Statements.{event_faults, typed_events, typed_control, typed_statement}
 use Rattle.vs_build.specs.Drafts.{Draft, and_process, AddsStatement, EndsInParts}
 use Rattle.vs_build.specs.Executable.{IsExecutable, IsRunnable, Awaited, awaited_of, awaited, block_process}
 use Rattle.vs_build.proofs.SignalNames.{signal_is, signal_within}
@@ -42,13 +42,13 @@ nothing_else n place edge Unknown h f = cc
 -- ---- several
 
 event_clean : (find : Find) (es : List TextEvent) (i : ℕ) (x : TextEvent) → (typed_events (map view.event es) find).faults ≡ [] → i < length es
-    → event_faults (get_or es i x).name.place (edge_of (view.edge (get_or es i x).edge)) (find (get_or es i x).name.text) ≡ []
+    → event_faults (get_or es i x).name.place (get_or es i x).edge (find (get_or es i x).name.text) ≡ []
 event_clean find [] i x h k = absurd (let no : ⊥ = omega (arith, k) in no)
-event_clean find (e ∷ es) zero x h k = (both_nil (event_faults e.name.place (edge_of (view.edge e.edge)) (find e.name.text)) (typed_events (map view.event es) find).faults h).0
-event_clean find (e ∷ es) (suc i) x h k = event_clean find es i x (both_nil (event_faults e.name.place (edge_of (view.edge e.edge)) (find e.name.text)) (typed_events (map view.event es) find).faults h).1 (omega (arith, k))
+event_clean find (e ∷ es) zero x h k = (both_nil (event_faults e.name.place e.edge (find e.name.text)) (typed_events (map view.event es) find).faults h).0
+event_clean find (e ∷ es) (suc i) x h k = event_clean find es i x (both_nil (event_faults e.name.place e.edge (find e.name.text)) (typed_events (map view.event es) find).faults h).1 (omega (arith, k))
 
-pub event_at : (find : Find) (es : List TextEvent) (i : ℕ) (x : TextEvent) → (typed_events (map view.event es) find).faults ≡ [] → i < length es → x ≡ get_or es i x → event_faults x.name.place (edge_of (view.edge x.edge)) (find x.name.text) ≡ []
-event_at find es i x h k e = subst (λ y. event_faults y.name.place (edge_of (view.edge y.edge)) (find y.name.text) ≡ []) (sym e) (event_clean find es i x h k)
+pub event_at : (find : Find) (es : List TextEvent) (i : ℕ) (x : TextEvent) → (typed_events (map view.event es) find).faults ≡ [] → i < length es → x ≡ get_or es i x → event_faults x.name.place x.edge (find x.name.text) ≡ []
+event_at find es i x h k e = subst (λ y. event_faults y.name.place y.edge (find y.name.text) ≡ []) (sym e) (event_clean find es i x h k)
 
 pub events_more : (find : Find) (es : List TextEvent) (i : ℕ) (x : TextEvent) (made more : List Event) (new : Event) → i < length es → x ≡ get_or es i x → map awaited_of made ≡ map (awaited find) (map view.event (take i es)) → awaited_of new ≡ awaited find (view.event x)
     → more ≡ made ++ new ∷ [] → map awaited_of more ≡ map (awaited find) (map view.event (take (i + 1) es))
@@ -80,9 +80,9 @@ numbers_below : (d : Design) (find : Find) (es : List tree.Event) → AreSound d
 numbers_below d find [] s h = refl
 numbers_below d find (e ∷ es) s h =
     let m = find e.name.bytes in
-    let n = both_nil (event_faults e.name.place (edge_of e.edge) m) (typed_events es find).faults h in
+    let n = both_nil (event_faults e.name.place e.edge m) (typed_events es find).faults h in
     both (nat_lt (meant_signal m).number (length d.signals)) (all_below (length d.signals) (map (λ (a : Awaited). a.number) (map (awaited find) es)))
-    (lt-ltb (meant_signal m).number (length d.signals) (signal_within d (meant_signal m) (sound_signal d e.name.place (edge_of e.edge) m (s e.name.bytes) n.0))) (numbers_below d find es s n.1)
+    (lt-ltb (meant_signal m).number (length d.signals) (signal_within d (meant_signal m) (sound_signal d e.name.place e.edge m (s e.name.bytes) n.0))) (numbers_below d find es s n.1)
   where
     both : (a b : Bool) → a ≡ true → b ≡ true → (a && b) ≡ true
     both true true h k = refl
@@ -101,10 +101,10 @@ text_events : (d : Design) (find : Find) (es : List tree.Event) → AreSound d f
 text_events d find [] s h = refl
 text_events d find (x ∷ es) s h =
     let m = find x.name.bytes in
-    let n = both_nil (event_faults x.name.place (edge_of x.edge) m) (typed_events es find).faults h in
-    ap (λ y. (let e : D.Event = record { signal = y; edge = edge_of x.edge } in e) ∷ map (λ (a : Awaited). (let e : D.Event = record { signal = signal_at d.signals a.number; edge = a.edge } in e)) (map (awaited find) es))
-    (signal_is d (meant_signal m) (sound_signal d x.name.place (edge_of x.edge) m (s x.name.bytes) n.0))
-    ∙ ap (λ ys. (let e : D.Event = record { signal = meant_signal m; edge = edge_of x.edge } in e) ∷ ys) (text_events d find es s n.1)
+    let n = both_nil (event_faults x.name.place x.edge m) (typed_events es find).faults h in
+    ap (λ y. (let e : D.Event = record { signal = y; edge = x.edge } in e) ∷ map (λ (a : Awaited). (let e : D.Event = record { signal = signal_at d.signals a.number; edge = a.edge } in e)) (map (awaited find) es))
+    (signal_is d (meant_signal m) (sound_signal d x.name.place x.edge m (s x.name.bytes) n.0))
+    ∙ ap (λ ys. (let e : D.Event = record { signal = meant_signal m; edge = x.edge } in e) ∷ ys) (text_events d find es s n.1)
 
 pub events_are : (d : Design) (find : Find) (es : List tree.Event) (vs : List Event) → AreSound d false find → (typed_events es find).faults ≡ [] → map awaited_of vs ≡ map (awaited find) es → map (event_of (signal_at d.signals)) vs ≡ (typed_events es find).events
 events_are d find es vs s h e = events_of d vs ∙ ap (map (λ (a : Awaited). (let x : D.Event = record { signal = signal_at d.signals a.number; edge = a.edge } in x))) e ∙ text_events d find es s h

@@ -12,14 +12,13 @@ use Rattle.vs_design.specs.Footprints.{is_variable}
 use Rattle.vs_design.specs.Fits.{fits_64}
 use Rattle.vs_design.specs.Elaborated.{is_signal, is_formed, is_formed_select, is_formed_target, is_formed_statement, are_formed_arms}
 use Rattle.vs_flat.specs.declared.statements.Arm.{Arm}
-use Rattle.vs_flat.specs.declared.statements.CaseKind.{CaseKind}
+use Rattle.vs_base.specs.declared.events.CaseKind.{CaseKind}
 use Rattle.vs_flat.specs.declared.statements.Statement.TheVariants as S
 use Rattle.vs_flat.specs.declared.processes.Event.{Event}
 use Rattle.vs_flat.specs.declared.processes.Process.{Process}
 use Rattle.vs_flat.specs.declared.processes.Kind.TheVariants as K
 use Rattle.vs_flat.specs.Arena.{Arena, with_process}
 use Rattle.vs_flat.specs.Named.{all_below, covers_process}
-use Rattle.vs_flat.specs.Operators.{case_of}
 use Rattle.vs_flat.specs.Targets.{target_of, both_of}
 use Rattle.vs_flat.specs.Trees.{no_signal, tree_at, signal_at, statement_at, statement_tree, target_tree, branch, sequence, arms_tree}
 use Rattle.vs_flat.specs.DesignOf.{arena_signals, arena_trees, arena_statements, design_of, event_of}
@@ -376,7 +375,7 @@ pub case_adds : {U F : Type 0} (r : Result U F) (a b : Arena) (rs after bs bodie
     → IsBodyStep a rs bs (take first rs) (of ∷ drop (first + 1) rs) (take kept bs) (drop kept bs) (S.Case kind of arms other) at
     → IsBodyAdded r a b rs after (take first rs) bs bodies (take kept bs) (S.Case kind of arms other) at → (let w : Growing = record { arena = a; roots = rs; bodies = bs } in w) ≡ v → AreArms a rs bs first kept of counts others arms other
     → Adds s (draft v) (t ∷ flat_map (λ (n : Labelled). n.labels) made) (map (λ (n : Labelled). n.statement) made ++ option_to_list o) m → map (λ (n : Labelled). length n.labels) made ≡ counts → length (option_to_list o) ≡ others
-    → OnOk r (AddsStatement s (draft_of b after bodies) (T.Case (case_of kind) t (arms_with made (unwrap_or o T.Empty))) (1 + m))
+    → OnOk r (AddsStatement s (draft_of b after bodies) (T.Case kind t (arms_with made (unwrap_or o T.Empty))) (1 + m))
 case_adds r a b rs after bs bodies v first kept of others counts arms other kind at s t made o m p d view w h k q =
     let tree = tree_at (arena_trees a) in
     let st = statement_at (arena_statements a) in
@@ -402,8 +401,8 @@ case_adds r a b rs after bs bodies v first kept of others counts arms other kind
     let is : arms_tree tree st other arms ≡ arms_with made (unwrap_or o T.Empty) =
     ap (arms_tree tree st other) w.is ∙ ap (λ ns. arms_tree tree st other (cut ns labels parts)) (sym k) ∙ cut_tree tree st other made labels parts all own ∙ ap (arms_with made) default
     in
-    body_adds r a b rs after (take first rs) (of ∷ labels) bs bodies (take kept bs) parts (S.Case kind of arms other) at s (T.Case (case_of kind) t (arms_with made (unwrap_or o T.Empty))) m p d l.before
-    (ap (λ z. T.Case (case_of kind) z (arms_tree tree st other arms)) subject ∙ ap (λ z. T.Case (case_of kind) t z) is) l.few l.low
+    body_adds r a b rs after (take first rs) (of ∷ labels) bs bodies (take kept bs) parts (S.Case kind of arms other) at s (T.Case kind t (arms_with made (unwrap_or o T.Empty))) m p d l.before
+    (ap (λ z. T.Case kind z (arms_tree tree st other arms)) subject ∙ ap (λ z. T.Case kind t z) is) l.few l.low
   where
     total_of : (ls : List Labelled) → total (map (λ (n : Labelled). length n.labels) ls) ≡ length (flat_map (λ (n : Labelled). n.labels) ls)
     total_of [] = refl

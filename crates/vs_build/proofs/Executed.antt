@@ -18,7 +18,7 @@ use Rattle.vs_grammar.specs.Depths.{deepest, expr_depth, target_depth, statement
 use Rattle.vs_ast.specs.declared.expressions.Expr.{Expr}
 use Rattle.vs_ast.specs.declared.statements.Statement.{Statement, If, Case, Sequence, the_lemmas}
 use Rattle.vs_ast.specs.declared.statements.CaseArm.{CaseArm}
-use Rattle.vs_ast.specs.declared.statements.CaseKind.{CaseKind}
+use Rattle.vs_base.specs.declared.events.CaseKind.{CaseKind}
 use Rattle.vs_ast.proofs.statements.Statement.TheLaws as statement_laws
 use Rattle.vs_ast.proofs.statements.CaseArm.TheLaws as arm_laws
 use Rattle.vs_ast.proofs.Rows.{statement_rows, arm_rows}
@@ -29,8 +29,8 @@ use Rattle.vs_const.specs.Selects.{is_scalar, taken, slice_taken, first_needed}
 use Rattle.vs_const.specs.Expressions.{typed}
 use Rattle.vs_const.proofs.Formed.{both_nil, no_fault}
 use Rattle.vs_flat.specs.Trees.{no_signal, target_tree, sequence}
-use Rattle.vs_hierarchy.specs.Targets.{meant_signal, is_wrong_target, target_base, selected_target, typed_target, typed_targets}
-use Rattle.vs_hierarchy.specs.Statements.{case_kind, TypedStatement, typed_list, typed_fallback, typed_statement, typed_sequence, typed_arms}
+use Rattle.vs_elaborated.specs.Targets.{meant_signal, is_wrong_target, target_base, selected_target, typed_target, typed_targets}
+use Rattle.vs_elaborated.specs.Statements.{TypedStatement, typed_list, typed_fallback, typed_statement, typed_sequence, typed_arms}
 use Rattle.vs_build.specs.Drafts.{Root, Body, Draft, and_roots, and_bodies, most_body_levels, AddsExpression, AddsParts, AddsStatement, Adds, EndsInParts, EndsInAssignment, writes_variables, Labelled, total, arms_with, EndsInCase}
 use Rattle.vs_build.specs.Cut.{label_counts}
 use Rattle.vs_build.specs.Buildable.{IsBuildable, part_expressions}
@@ -38,6 +38,7 @@ use Rattle.vs_build.specs.Writable.{target_expression, IsWritable}
 use Rattle.vs_build.specs.Executable.{IsExecutable, AreExecutable, AreLabels, AreChoosable, part_statements, labelled}
 use Rattle.vs_build.proofs.Lists.{levels-append, taken_more}
 use Rattle.vs_build.proofs.TargetFacts.{written}
+use Rattle.vs_const.specs.declared.rules.Rule.TheVariants.{WrongKind}
 
 -- ---- what was added one after the other
 
@@ -135,7 +136,7 @@ variable_named : (d : Design) (place : ℕ) (selected : Bool) (m : Meaning) → 
 variable_named d place selected (AValue v r) sound h = cc
 variable_named d place selected (Undefined r) sound h = cc
 variable_named d place selected (ASignal s) sound h =
-    let n = either_false (is_wrong_target true s) (selected && is_scalar s) (no_fault (is_wrong_target true s || (selected && is_scalar s)) 43 place h) in
+    let n = either_false (is_wrong_target true s) (selected && is_scalar s) (no_fault (is_wrong_target true s || (selected && is_scalar s)) WrongKind place h) in
     variable_kind s.input s.signal.net s.signal.input n.0 sound.2
 variable_named d place selected Another sound h = cc
 variable_named d place selected Unknown sound h = cc
@@ -258,7 +259,7 @@ if_view place c p None = search (rules, the_lemmas)
 if_view place c p (Some q) = search (rules, the_lemmas)
 
 pub case_view : (place : ℕ) (kind : CaseKind) (e : Expr) (list : Vec CaseArm Global) (o : Option (Box Statement Global))
-    → view.statement (Case place kind e list o) ≡ tree.Case place (view.case_kind kind) (view.expr e) (view.arms list.items) (other_view o)
+    → view.statement (Case place kind e list o) ≡ tree.Case place kind (view.expr e) (view.arms list.items) (other_view o)
 case_view place kind e list None = search (rules, arm_rows, the_lemmas)
 case_view place kind e list (Some q) = search (rules, arm_rows, the_lemmas)
 
@@ -588,21 +589,20 @@ conditional_else r s q u v new find st x y place c p b o is some e d h g j f =
     (f s (typed (view.expr c) find false).expression (typed_statement (view.statement p.value) find).statement (Some (typed_statement (view.statement b.value) find).statement) k
     (one_more s u v ((typed (view.expr c) find false).expression ∷ []) ((typed_statement (view.statement p.value) find).statement ∷ []) find y b.value k d (one_branch s q u find (view.expr c) x p.value k e h g (omega arith) (omega arith)) j (omega arith)) refl)
 
-pub case_arm : {U F : Type 0} (r : Result U F) (s v new : Draft) (find : Find) (st : Statement) (place : ℕ) (kind : CaseKind) (e : Expr) (list : Vec CaseArm Global) (xs : List CaseArm) (o : Option (Box Statement Global)) (other : Option T.Statement) (how : T.CaseKind) (n : ℕ)
-    → st ≡ Case place kind e list o → xs ≡ list.items → how ≡ case_kind (view.case_kind kind) → unwrap_or other T.Empty ≡ (typed_fallback (other_view o) find).statement → length (option_to_list other) ≡ n
+pub case_arm : {U F : Type 0} (r : Result U F) (s v new : Draft) (find : Find) (st : Statement) (place : ℕ) (kind : CaseKind) (e : Expr) (list : Vec CaseArm Global) (xs : List CaseArm) (o : Option (Box Statement Global)) (other : Option T.Statement) (n : ℕ)
+    → st ≡ Case place kind e list o → xs ≡ list.items → unwrap_or other T.Empty ≡ (typed_fallback (other_view o) find).statement → length (option_to_list other) ≡ n
     → Adds s v ((typed (view.expr e) find false).expression ∷ labels_of (labelled find (view.arms list.items))) (statements_of (labelled find (view.arms list.items)) ++ option_to_list other) (1 + max (expr_depth (view.expr e)) (max (arms_depth (view.arms list.items)) (fallback_depth (other_view o))))
     → ((w : Draft) (t : E.Expression) (made : List Labelled) (d : Option T.Statement) (m : ℕ) → Adds w v (t ∷ flat_map (λ (a : Labelled). a.labels) made) (map (λ (a : Labelled). a.statement) made ++ option_to_list d) m
-    → map (λ (a : Labelled). length a.labels) made ≡ label_counts xs → length (option_to_list d) ≡ n → OnOk r (AddsStatement w new (T.Case how t (arms_with made (unwrap_or d T.Empty))) (1 + m)))
+    → map (λ (a : Labelled). length a.labels) made ≡ label_counts xs → length (option_to_list d) ≡ n → OnOk r (AddsStatement w new (T.Case kind t (arms_with made (unwrap_or d T.Empty))) (1 + m)))
     → OnOk r (AddsStatement s new (typed_statement (view.statement st) find).statement (1 + statement_depth (view.statement st)))
-case_arm r s v new find st place kind e list xs o other how n is same kind_is default count h f =
+case_arm r s v new find st place kind e list xs o other n is same default count h f =
     let arms = view.arms list.items in
     let t = (typed (view.expr e) find false).expression in
     let m = 1 + max (expr_depth (view.expr e)) (max (arms_depth arms) (fallback_depth (other_view o))) in
     let made = f s t (labelled find arms) other m h (counts_are find list.items ∙ ap label_counts (sym same)) count in
     let body : arms_with (labelled find arms) (unwrap_or other T.Empty) ≡ (typed_arms arms find (typed_fallback (other_view o) find)).arms = ap (arms_with (labelled find arms)) default ∙ sym (arms_are find arms (typed_fallback (other_view o) find)) in
     subst (λ z. OnOk r (AddsStatement s new (typed_statement z find).statement (1 + statement_depth z))) (sym (ap view.statement is ∙ case_view place kind e list o))
-    (subst (λ z. OnOk r (AddsStatement s new (T.Case z t (typed_arms arms find (typed_fallback (other_view o) find)).arms) (1 + m))) kind_is
-    (subst (λ z. OnOk r (AddsStatement s new (T.Case how t z) (1 + m))) body made))
+    (subst (λ z. OnOk r (AddsStatement s new (T.Case kind t z) (1 + m))) body made)
 
 pub no_default : (find : Find) (o : Option (Box Statement Global)) → o ≡ None → unwrap_or None T.Empty ≡ (typed_fallback (other_view o) find).statement
 no_default find o e = ap (λ z. (typed_fallback (other_view z) find).statement) (sym e)

@@ -10,9 +10,9 @@ use Rattle.vs_grammar.specs.Depths.{option_depth, expr_depth}
 use Rattle.vs_const.specs.Meanings.{Find}
 use Rattle.vs_const.specs.Sound.{AreSound}
 use Rattle.vs_const.proofs.Formed.{both_nil}
-use Rattle.vs_hierarchy.specs.Environments.{Env, named}
-use Rattle.vs_hierarchy.specs.Pieces.{Own, all_said}
-use Rattle.vs_hierarchy.specs.Surveys.{assign_said, wire_said}
+use Rattle.vs_elaborated.specs.Environments.{Env, named}
+use Rattle.vs_elaborated.specs.Pieces.{Own, all_said}
+use Rattle.vs_elaborated.specs.Surveys.{assign_said, wire_said}
 use Rattle.vs_build.specs.Drafts.{Draft}
 use Rattle.vs_build.specs.Writable.{IsAssignable, wire_assign, assign_process}
 use Rattle.vs_build.specs.Items.{and_processes, value_processes, wire_processes, IsAssigned, IsDeclared, AssignsAreFine, WiresAreFine, BlocksAreFine}

@@ -7,11 +7,10 @@ use Rattle.vs_design.specs.Expressions as E
 use Rattle.vs_design.specs.Elaborated.{is_formed, is_formed_select}
 use Rattle.vs_flat.specs.declared.expressions.Node.{Node}
 use Rattle.vs_flat.specs.declared.expressions.Node.TheVariants as N
-use Rattle.vs_flat.specs.declared.expressions.UnaryOp.{UnaryOp}
-use Rattle.vs_flat.specs.declared.expressions.BinaryOp.{BinaryOp}
+use Rattle.vs_base.specs.declared.operators.UnaryOp.{UnaryOp}
+use Rattle.vs_base.specs.declared.operators.BinaryOp.{BinaryOp}
 use Rattle.vs_flat.specs.Arena.{Arena, placed}
 use Rattle.vs_flat.specs.Named.{all_below, node_expressions, covers_node}
-use Rattle.vs_flat.specs.Operators.{unary_of, binary_of}
 use Rattle.vs_flat.specs.Targets.{source_of}
 use Rattle.vs_flat.specs.Trees.{signal_at, tree_at, placed_tree, node_tree}
 use Rattle.vs_flat.specs.DesignOf.{arena_signals, arena_trees, design_of}
@@ -79,13 +78,13 @@ unary_step a rs rest bs op x at g e ends =
 
 pub unary_adds : {U F : Type 0} (r : Result U F) (a b : Arena) (rs after rest bs : List ℕ) (op : UnaryOp) (x at : ℕ) (s : Draft) (t : E.Expression) (m : ℕ)
     → IsStep a rs bs rest (x ∷ []) (N.Unary op x) at → IsAdded r a b rs after rest (N.Unary op x) at → AddsExpression s (draft_of a rs bs) t m
-    → OnOk r (AddsExpression s (draft_of b after bs) (E.At at (E.Unary (unary_of op) t)) (1 + m))
+    → OnOk r (AddsExpression s (draft_of b after bs) (E.At at (E.Unary op t)) (1 + m))
 unary_adds r a b rs after rest bs op x at s t m p d h =
     let root : Root = record { tree = t; levels = h.levels } in
     let q = parts_are a rest (x ∷ []) bs s (root ∷ []) (ap (λ xs. draft_of a xs bs) (sym p.is) ∙ h.is) refl in
     let is : root_at a x ≡ root = head_is (root_at a x) root [] [] q.0 in
-    step_adds r a b rs after bs rest (x ∷ []) (N.Unary op x) at s (E.At at (E.Unary (unary_of op) t)) m p d q.1
-    (ap (λ (z : Root). E.At at (E.Unary (unary_of op) z.tree)) is) (omega (arith, ap (λ (z : Root). z.levels) is, h.few))
+    step_adds r a b rs after bs rest (x ∷ []) (N.Unary op x) at s (E.At at (E.Unary op t)) m p d q.1
+    (ap (λ (z : Root). E.At at (E.Unary op z.tree)) is) (omega (arith, ap (λ (z : Root). z.levels) is, h.few))
 
 pub binary_step : (a : Arena) (rs rest bs : List ℕ) (op : BinaryOp) (x y at : ℕ) → IsGrowing a rs bs → rs ≡ rest ++ x ∷ y ∷ [] → EndsWith 2 (draft_of a rs bs) → IsStep a rs bs rest (x ∷ y ∷ []) (N.Binary op x y) at
 binary_step a rs rest bs op x y at g e ends =
@@ -123,11 +122,11 @@ two_are a rs rest bs x y s r t u m n e h k =
 
 pub binary_adds : {U F : Type 0} (r : Result U F) (a b : Arena) (rs after rest bs : List ℕ) (op : BinaryOp) (x y at : ℕ) (s q : Draft) (t u : E.Expression) (m n : ℕ)
     → IsStep a rs bs rest (x ∷ y ∷ []) (N.Binary op x y) at → IsAdded r a b rs after rest (N.Binary op x y) at → AddsExpression s q t m → AddsExpression q (draft_of a rs bs) u n
-    → OnOk r (AddsExpression s (draft_of b after bs) (E.At at (E.Binary (binary_of op) t u)) (1 + max m n))
+    → OnOk r (AddsExpression s (draft_of b after bs) (E.At at (E.Binary op t u)) (1 + max m n))
 binary_adds r a b rs after rest bs op x y at s q t u m n p d h k =
     let w = two_are a rs rest bs x y s q t u m n p.is h k in
-    step_adds r a b rs after bs rest (x ∷ y ∷ []) (N.Binary op x y) at s (E.At at (E.Binary (binary_of op) t u)) (max m n) p d w.before
-    (ap (λ z. E.At at (E.Binary (binary_of op) z (tree_at (arena_trees a) y))) w.first ∙ ap (λ z. E.At at (E.Binary (binary_of op) t z)) w.second) w.few
+    step_adds r a b rs after bs rest (x ∷ y ∷ []) (N.Binary op x y) at s (E.At at (E.Binary op t u)) (max m n) p d w.before
+    (ap (λ z. E.At at (E.Binary op z (tree_at (arena_trees a) y))) w.first ∙ ap (λ z. E.At at (E.Binary op t z)) w.second) w.few
 
 -- ---- selects: the index, and then what bits are taken of
 

@@ -20,7 +20,7 @@ use Rattle.vs_const.proofs.Formed.{both_nil}
 use Rattle.vs_flat.specs.declared.processes.Port.TheVariants as P
 use Rattle.vs_flat.specs.Targets.{place_of}
 use Rattle.vs_flat.specs.Trees.{joined, target_tree}
-use Rattle.vs_hierarchy.specs.Targets.{typed_target, typed_targets, targeted, and_target, as_target, as_targets}
+use Rattle.vs_elaborated.specs.Targets.{typed_target, typed_targets, targeted, and_target, as_target, as_targets}
 use Rattle.vs_build.specs.Drafts.{Draft, and_process, EndsInAssign, AddsExpression, AddsParts}
 use Rattle.vs_build.specs.Writable.{target_expression, targets_expression, IsWritable}
 use Rattle.vs_build.specs.Outputs.{output_of, outputs_of, output_expression, output_expressions, output_process, IsOutput, AreOutputs}

@@ -13,6 +13,7 @@ use Rattle.vs_grammar.specs.Trees as tree
 use Rattle.vs_grammar.specs.Trees.{expr_place}
 use Rattle.vs_const.specs.declared.faults.Fault.{Fault}
 use Rattle.vs_const.specs.Faults.{fault, fault_if, names_signal}
+use Rattle.vs_const.specs.declared.rules.Rule.TheVariants.{BadRange}
 use Rattle.vs_const.specs.Meanings.{Find}
 use Rattle.vs_const.specs.Sound.{AreSound}
 use Rattle.vs_const.specs.Typed.{Typed, begins_at, noted, natural, is_over, unary_typed}
@@ -158,7 +159,7 @@ between_faults declared bracket place None fs h = h
 between_faults declared bracket place (Some q) fs h = of (is_against declared q) declared h
   where
     of : (b : Bool) (o : Option Range) → (along b o bracket place q fs).faults ≡ [] → fs ≡ []
-    of true o k = (both_nil fs (fault 37 bracket) k).0
+    of true o k = (both_nil fs (fault BadRange bracket) k).0
     of false None k = k
     of false (Some s) k = k
 
@@ -265,7 +266,7 @@ clog2_constant d find needed place a b =
     let short : is_over 64 t.length ≡ false = ap (is_over 64) (clog2_long (expr_place a) (typed a find true) (typed a find true).good) in
     let none : t.faults ≡ [] = noted_clean needed place t b.clean in
     let clean : (noted true place t).faults ≡ [] =
-    ap (λ x. t.faults ++ fault_if (x && not (names_signal t.faults)) 37 place) short ∙ nil_right t.faults ∙ none
+    ap (λ x. t.faults ++ fault_if (x && not (names_signal t.faults)) BadRange place) short ∙ nil_right t.faults ∙ none
     in
     record { shaped = b.shaped; fair = fair_of d needed find b.sound; clean = clean; good = (typed_fine d find (tree.Call place tree.Clog2 a) true sound b.shaped clean).good }
   where

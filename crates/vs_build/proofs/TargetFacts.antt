@@ -18,6 +18,7 @@ use Rattle.vs_ast.specs.declared.statements.Target.{Target, Concatenation, the_l
 use Rattle.vs_ast.specs.Views.{target, targets}
 use Rattle.vs_ast.proofs.Rows.{target_rows}
 use Rattle.vs_const.specs.Faults.{fault_if}
+use Rattle.vs_const.specs.declared.rules.Rule.TheVariants.{WrongKind}
 use Rattle.vs_const.specs.Meanings.{SignalMeaning, Meaning, AValue, Undefined, ASignal, Another, Unknown, Find}
 use Rattle.vs_const.specs.Sound.{IsSound, AreSound}
 use Rattle.vs_const.specs.Typed.{Typed, begins_at, fine}
@@ -26,7 +27,7 @@ use Rattle.vs_const.specs.Expressions.{typed}
 use Rattle.vs_const.proofs.Formed.{both_nil, both, no_fault, sound_needed, first_sound, signal_base_fine, IsFineTaken, bit_fine, slice_fine, taken_faults, typed_fine}
 use Rattle.vs_flat.specs.Targets.{target_of, both_of, place_of}
 use Rattle.vs_flat.specs.Trees.{joined}
-use Rattle.vs_hierarchy.specs.Targets.{meant_signal, TypedTarget, is_wrong_target, target_base, part_target, selected_target, typed_target, typed_targets}
+use Rattle.vs_elaborated.specs.Targets.{meant_signal, TypedTarget, is_wrong_target, target_base, part_target, selected_target, typed_target, typed_targets}
 use Rattle.vs_build.specs.Drafts.{Draft, AddsExpression, AddsParts}
 use Rattle.vs_build.specs.Buildable.{selected_by, IsSelectable}
 use Rattle.vs_build.specs.Writable.{target_expression, targets_expression, IsWritable, AreWritable, target_expressions}
@@ -50,7 +51,7 @@ names_signal : (d : Design) (procedural selected : Bool) (place : ℕ) (m : Mean
 names_signal d procedural selected place (AValue v r) h f = cc
 names_signal d procedural selected place (Undefined r) h f = cc
 names_signal d procedural selected place (ASignal s) h f =
-    record { s = s; is = refl; of_design = h.0; known = h.1; vector = (either_false (is_wrong_target procedural s) (selected && is_scalar s) (no_fault (is_wrong_target procedural s || (selected && is_scalar s)) 43 place f)).1 }
+    record { s = s; is = refl; of_design = h.0; known = h.1; vector = (either_false (is_wrong_target procedural s) (selected && is_scalar s) (no_fault (is_wrong_target procedural s || (selected && is_scalar s)) WrongKind place f)).1 }
 names_signal d procedural selected place Another h f = cc
 names_signal d procedural selected place Unknown h f = cc
 
@@ -88,7 +89,7 @@ part_case d find procedural name select tk sound by_name by_target fine_if h =
     let k = both_nil tb.faults (tk tb.range).faults (sym (ap (λ (t : TypedTarget). t.faults) by_target) ∙ h) in
     let n = names_signal d procedural true name.place m sound k.0 in
     let s = n.s in
-    let none : fault_if (is_scalar s) 43 name.place ≡ [] = ap (λ b. fault_if b 43 name.place) n.vector in
+    let none : fault_if (is_scalar s) WrongKind name.place ≡ [] = ap (λ b. fault_if b WrongKind name.place) n.vector in
     let fb = signal_base_fine d name.place s s.signal.range refl n.of_design n.known none in
     let range_is : tb.range ≡ s.signal.range = ap (λ x. (target_base procedural name.place true x).range) n.is in
     let t = tk s.signal.range in

@@ -10,7 +10,7 @@ use Rattle.vs_flat.specs.declared.processes.Signal.{Signal}
 use Rattle.vs_flat.specs.declared.processes.Kind.TheVariants as K
 use Rattle.vs_flat.specs.Arena.{Arena, with_process, with_scope, with_signal, bit_count}
 use Rattle.vs_flat.specs.Named.{all_below, covers_process}
-use Rattle.vs_flat.specs.Operators.{port_of}
+use Rattle.vs_flat.specs.Ports.{port_of}
 use Rattle.vs_flat.specs.Targets.{place_of}
 use Rattle.vs_flat.specs.Trees.{tree_at, signal_of, target_tree}
 use Rattle.vs_flat.specs.DesignOf.{arena_trees, design_of, scope_of}

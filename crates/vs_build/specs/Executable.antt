@@ -3,7 +3,6 @@ use Rattle.std.specs.Prelude.{◌≡◌, ◌≤◌, ◌++◌, ℕ, false, List, 
 use Rattle.vs_design.specs.Statements.{Statement}
 use Rattle.vs_design.specs.Designs.{Edge, Process, Always, Design}
 use Rattle.vs_flat.specs.declared.processes.Event.{Event as FlatEvent}
-use Rattle.vs_flat.specs.Operators.{edge_of}
 use Rattle.vs_ast.specs.declared.statements.Statement.{Statement as TextStatement}
 use Rattle.vs_ast.specs.Views as view
 use Rattle.vs_grammar.specs.Trees as tree
@@ -11,9 +10,8 @@ use Rattle.vs_grammar.specs.Shapes.{IsExpr, IsStatement, AreStatements, AreArms,
 use Rattle.vs_grammar.specs.Depths.{deepest, expr_depth, statement_depth, statements_depth, arms_depth}
 use Rattle.vs_const.specs.Meanings.{Find}
 use Rattle.vs_const.specs.Sound.{AreSound}
-use Rattle.vs_hierarchy.specs.Targets.{meant_signal}
-use Rattle.vs_hierarchy.specs.Statements as spec
-use Rattle.vs_hierarchy.specs.Statements.{typed_list, typed_fallback, typed_statement, typed_sequence, typed_arms, typed_control}
+use Rattle.vs_elaborated.specs.Targets.{meant_signal}
+use Rattle.vs_elaborated.specs.Statements.{typed_list, typed_fallback, typed_statement, typed_sequence, typed_arms, typed_control}
 use Rattle.vs_build.specs.Drafts.{Labelled}
 
 -- a statement
@@ -71,7 +69,7 @@ pub record Awaited : Type 0 where
 
 -- of a flat design's event, and of one of the text
 abbrev pub awaited_of : FlatEvent → Awaited
-awaited_of e = record { number = e.signal; edge = edge_of e.edge }
+awaited_of e = record { number = e.signal; edge = e.edge }
 
 abbrev pub awaited : Find → tree.Event → Awaited
-awaited find e = record { number = (meant_signal (find e.name.bytes)).number; edge = spec.edge_of e.edge }
+awaited find e = record { number = (meant_signal (find e.name.bytes)).number; edge = e.edge }

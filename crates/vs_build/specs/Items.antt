@@ -6,9 +6,9 @@ use Rattle.vs_grammar.specs.Shapes.{IsAssign, IsDeclarator, Each}
 use Rattle.vs_grammar.specs.Depths.{deepest, assign_depth, declarator_depth, statement_depth}
 use Rattle.vs_const.specs.Meanings.{Find}
 use Rattle.vs_const.specs.Sound.{AreSound}
-use Rattle.vs_hierarchy.specs.Environments.{Env, named}
-use Rattle.vs_hierarchy.specs.Pieces.{Own, all_said}
-use Rattle.vs_hierarchy.specs.Surveys.{assign_said, wire_said, block_said}
+use Rattle.vs_elaborated.specs.Environments.{Env, named}
+use Rattle.vs_elaborated.specs.Pieces.{Own, all_said}
+use Rattle.vs_elaborated.specs.Surveys.{assign_said, wire_said, block_said}
 use Rattle.vs_grammar.specs.Shapes.{IsStatement}
 use Rattle.vs_build.specs.Drafts.{Draft}
 use Rattle.vs_build.specs.Writable.{IsAssignable, wire_assign, assign_process}

@@ -7,7 +7,7 @@ use Rattle.vs_ast.specs.Views.{expr}
 use Rattle.vs_grammar.specs.Trees as tree
 use Rattle.vs_grammar.specs.Trees.{target_place}
 use Rattle.vs_const.specs.Meanings.{Find}
-use Rattle.vs_hierarchy.specs.Targets.{typed_target, as_target, as_targets}
+use Rattle.vs_elaborated.specs.Targets.{typed_target, as_target, as_targets}
 use Rattle.vs_build.specs.Writable.{target_expression, IsWritable, AreWritable}
 
 -- the target that an expression is, where it is one

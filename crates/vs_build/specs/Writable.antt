@@ -14,7 +14,7 @@ use Rattle.vs_const.specs.Sound.{AreSound}
 use Rattle.vs_const.specs.Typed.{begins_at}
 use Rattle.vs_const.specs.Expressions.{typed}
 use Rattle.vs_flat.specs.Trees.{no_expression}
-use Rattle.vs_hierarchy.specs.Targets.{typed_target, typed_targets}
+use Rattle.vs_elaborated.specs.Targets.{typed_target, typed_targets}
 use Rattle.vs_build.specs.Buildable.{selected_by}
 
 -- one part, or the first of several

@@ -2,8 +2,7 @@
 
 ghost use Rattle.std.specs.Prelude.{◌≡◌, ◌<◌, ◌^◌, [], length, map, IfOk, OnOk};
 ghost use Rattle.vs_ast.specs.Views as view;
-ghost use Rattle.vs_hierarchy.specs.Statements.{edge_of, event_faults, typed_events};
-ghost use Rattle.vs_flat.specs.Operators as flat;
+ghost use Rattle.vs_elaborated.specs.Statements.{event_faults, typed_events};
 ghost use Rattle.vs_build.specs.Drafts.{and_process};
 ghost use Rattle.vs_build.specs.Growth.{draft};
 ghost use Rattle.vs_build.specs.Executable.{IsRunnable, awaited_of, awaited, block_process};
@@ -14,28 +13,17 @@ use std::alloc::{AllocError, Global};
 use vs_ast as ast;
 use vs_ast::{AlwaysBlock, EventControl};
 use vs_const::{Env, Named};
-use vs_flat::{Edge, Event};
-
-/// What is waited for of a signal.
-fn flat_edge(edge: ast::Edge) -> Edge
-    ensures { flat.edge_of result ≡ edge_of (view.edge edge) }
-{
-    match edge {
-        ast::Edge::Any => Edge::Any,
-        ast::Edge::Posedge => Edge::Pos,
-        ast::Edge::Negedge => Edge::Neg,
-    }
-}
+use vs_flat::Event;
 
 /// An event that breaks no rule (IEEE 1364-2005, 9.7.2).
 fn event<E: Env>(e: &ast::Event, env: &E) -> Event
-    requires { event_faults e.now.name.place (edge_of (view.edge e.now.edge)) (E.names env.now e.now.name.text) ≡ [] }
+    requires { event_faults e.now.name.place e.now.edge (E.names env.now e.now.name.text) ≡ [] }
     ensures { awaited_of result ≡ awaited (E.names env.now) (view.event e.now) }
 {
-    match env.find(e.name.text.as_bytes()) {
+    match env.find(e.name.text.as_slice()) {
         Named::Signal(s) => Event {
             signal: s.number,
-            edge: flat_edge(e.edge),
+            edge: e.edge,
         },
         _ => unreachable!(),
     }

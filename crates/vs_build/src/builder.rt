@@ -10,10 +10,8 @@ ghost use Rattle.vs_build.specs.Cut.{label_counts, cut};
 use std::alloc::{AllocError, Global};
 use std::marker::Model;
 use vs_ast::CaseArm;
-use vs_flat::{
-    Arm, BinaryOp, CaseKind, Event, Flat, Kind, List, Node, Port, Process, Scope, Signal,
-    Statement, UnaryOp,
-};
+use vs_base::{BinaryOp, CaseKind, List, UnaryOp};
+use vs_flat::{Arm, Event, Flat, Kind, Node, Port, Process, Scope, Signal, Statement};
 use vs_four::{Bits, Range};
 
 /// A flat design that grows, with the expressions and statements that nothing in it names yet, in the order in which they were built.
@@ -41,7 +39,7 @@ impl Builder {
     ghost use Rattle.vs_design.specs.Statements as T;
     ghost use Rattle.vs_design.specs.Designs.{Continuous, Always, bit_count as design_bits};
     ghost use Rattle.vs_design.specs.Elaborated.{is_formed, IsLawfulDesign};
-    ghost use Rattle.vs_flat.specs.Operators.{unary_of, binary_of, case_of, port_of};
+    ghost use Rattle.vs_flat.specs.Ports.{port_of};
     ghost use Rattle.vs_flat.specs.DesignOf.{scope_of, event_of, design_of};
     ghost use Rattle.vs_flat.specs.Lawful.{IsLawful};
     ghost use Rattle.vs_flat.specs.Targets.{source_of, place_of};
@@ -95,7 +93,7 @@ impl Builder {
     pub fn unary(&mut self, op: UnaryOp, at: u32) -> Result<(), AllocError>
         requires { EndsWith 1 (draft self.old) }
         ensures { (s : Draft) (t : E.Expression) (m : ℕ) → AddsExpression s (draft self.old) t m
-            → OnOk result (AddsExpression s (draft self.new) (E.At at (E.Unary (unary_of op) t)) (1 + m)) }
+            → OnOk result (AddsExpression s (draft self.new) (E.At at (E.Unary op t)) (1 + m)) }
     {
         let n = self.roots.len();
         let a = self.roots[n - 1];
@@ -112,7 +110,7 @@ impl Builder {
     pub fn binary(&mut self, op: BinaryOp, at: u32) -> Result<(), AllocError>
         requires { EndsWith 2 (draft self.old) }
         ensures { (s r : Draft) (t u : E.Expression) (m n : ℕ) → AddsExpression s r t m → AddsExpression r (draft self.old) u n
-            → OnOk result (AddsExpression s (draft self.new) (E.At at (E.Binary (binary_of op) t u)) (1 + max m n)) }
+            → OnOk result (AddsExpression s (draft self.new) (E.At at (E.Binary op t u)) (1 + max m n)) }
     {
         let n = self.roots.len();
         let a = self.roots[n - 2];
@@ -306,7 +304,7 @@ impl Builder {
         ensures { (s : Draft) (t : E.Expression) (made : Items Labelled) (other : Option T.Statement) (m : ℕ)
             → Adds s (draft self.old) (t ∷ flat_map (λ (a : Labelled). a.labels) made) (map (λ (a : Labelled). a.statement) made ++ option_to_list other) m
             → map (λ (a : Labelled). length a.labels) made ≡ label_counts arms.now → length (option_to_list other) ≡ others
-            → OnOk result (AddsStatement s (draft self.new) (T.Case (case_of kind) t (arms_with made (unwrap_or other T.Empty))) (1 + m)) }
+            → OnOk result (AddsStatement s (draft self.new) (T.Case kind t (arms_with made (unwrap_or other T.Empty))) (1 + m)) }
     {
         let kept = self.bodies.len() - others - arms.len();
         let made = cut(alloc, arms, &self.roots[first + 1..], &self.bodies[kept..])?;
@@ -458,7 +456,7 @@ fn add_leaf(flat: &mut Flat, roots: &mut Vec<u32>, node: Node, at: u32) -> Resul
 {
     roots.reserve(1)?;
     let number = flat.add_expr(node, at)?;
-    push_reserved(roots, number);
+    roots.push_reserved(number);
     Ok(())
 }
 
@@ -486,14 +484,6 @@ fn add_over(
     Ok(())
 }
 
-/// Adds a number to a list that has room for it.
-fn push_reserved(list: &mut Vec<u32>, number: u32)
-    requires { vec_len list.old < vec_capacity list.old }
-    ensures { list.new.items ≡ list.old.items ++ number ∷ [] }
-{
-    let _ = list.push(number);
-}
-
 /// Adds a statement that names the expressions and statements from these on, in the place of the statements.
 fn add_body(
     flat: &mut Flat,
@@ -516,7 +506,7 @@ fn add_body(
 {
     bodies.reserve(1)?;
     let number = flat.add_statement(statement, at)?;
-    push_reserved(bodies, number);
+    bodies.push_reserved(number);
     bodies[statements] = number;
     bodies.truncate(statements + 1);
     roots.truncate(expressions);

@@ -2,45 +2,24 @@
 
 ghost use Rattle.std.specs.Prelude.{◌≡◌, map};
 ghost use Rattle.vs_ast.specs.Views as view;
-ghost use Rattle.vs_const.specs.Faults.{comes_before, better, least};
-ghost use Rattle.vs_hierarchy.specs.Statements.{edge_of, event_faults, typed_events, typed_control};
+ghost use Rattle.vs_const.specs.Faults.{least};
+ghost use Rattle.vs_elaborated.specs.Statements.{event_faults, typed_events, typed_control};
 
-use vs_ast::{Edge, Event, EventControl};
-use vs_const::{Env, Fault, Named};
-
-/// Whether a fault comes before another.
-fn comes_before(a: Fault, b: Fault) -> bool
-    ensures { result ≡ comes_before a b }
-{
-    a.place < b.place || (a.place == b.place && a.number < b.number)
-}
-
-/// The first of two faults.
-pub fn first_fault(a: Option<Fault>, b: Option<Fault>) -> Option<Fault>
-    ensures { result ≡ better a b }
-{
-    match (a, b) {
-        (None, other) => other,
-        (one, None) => one,
-        (Some(a), Some(b)) => Some(if comes_before(b, a) { b } else { a }),
-    }
-}
+use vs_ast::{Event, EventControl};
+use vs_const::{Env, Fault, Named, Rule, fault_at, fault_if, first_of};
 
 /// The fault of an event (IEEE 1364-2005, 9.7.2): it is a signal, and one with an edge a scalar.
 fn event_fault<E: Env>(e: &Event, env: &E) -> Option<Fault>
-    ensures { result ≡ least (event_faults e.now.name.place (edge_of (view.edge e.now.edge)) (E.names env.now e.now.name.text)) }
+    ensures { result ≡ least (event_faults e.now.name.place e.now.edge (E.names env.now e.now.name.text)) }
 {
     let place = e.name.place;
-    match env.find(e.name.text.as_bytes()) {
-        Named::Signal(s) => match e.edge {
-            Edge::Any => None,
-            Edge::Posedge | Edge::Negedge => match s.range {
-                None => None,
-                Some(_) => Some(Fault { number: 43, place }),
-            },
-        },
-        Named::Unknown => Some(Fault { number: 35, place }),
-        _ => Some(Fault { number: 43, place }),
+    match env.find(e.name.text.as_slice()) {
+        Named::Signal(s) => {
+            let is_edge = e.edge.is_edge();
+            fault_if(is_edge && s.range.is_some(), Rule::WrongKind, place)
+        }
+        Named::Unknown => fault_at(Rule::UnknownName, place),
+        _ => fault_at(Rule::WrongKind, place),
     }
 }
 
@@ -50,7 +29,7 @@ fn check_events<E: Env>(events: &[Event], env: &E) -> Option<Fault>
 {
     let mut first = None;
     for e in events {
-        first = first_fault(first, event_fault(e, env));
+        first = first_of(first, event_fault(e, env));
     }
     first
 }

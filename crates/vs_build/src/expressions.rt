@@ -12,13 +12,12 @@ ghost use Rattle.vs_build.specs.Buildable.{IsBuildable, IsSelectable, AreBuildab
 
 use crate::builder::Builder;
 use crate::names::{
-    bounds_of, constant_bits, lesser, literal_bits, name_alone, number_within, range_length, source,
+    bounds_of, constant_bits, lesser, name_alone, number_within, range_length, source,
 };
-use crate::operators::{flat_binary, flat_unary};
 use std::alloc::{AllocError, Global};
 use vs_ast::{Expr, Name, Select, SliceKind, SystemFunction};
+use vs_base::UnaryOp;
 use vs_const::{Env, place_of};
-use vs_flat::UnaryOp;
 use vs_four::of_number;
 
 /// Builds an expression that breaks no rule.
@@ -51,18 +50,18 @@ pub(crate) fn expression<E: Env>(
     ensures { OnOk result (AddsExpression (draft builder.old) (draft builder.new) (begins_at at (typed (view.expr e.now) (E.names env.now) needed).expression) (1 + expr_depth (view.expr e.now))) }
 {
     match e {
-        Expr::Number(n) => builder.literal(literal_bits(n), n.signed, n.sized, at),
+        Expr::Number(n) => builder.literal(n.bits(), n.signed, n.sized, at),
         Expr::Named(name, select) => {
             selected(builder, alloc, select, name, at, env, needed, needed)
         }
         Expr::Unary { op, operand: a, .. } => {
             operand(builder, alloc, a, env, needed)?;
-            builder.unary(flat_unary(*op), at)
+            builder.unary(*op, at)
         }
         Expr::Binary { op, left, right } => {
             operand(builder, alloc, left, env, needed)?;
             operand(builder, alloc, right, env, needed)?;
-            builder.binary(flat_binary(*op), at)
+            builder.binary(*op, at)
         }
         Expr::Choice { condition, yes, no } => {
             operand(builder, alloc, condition, env, needed)?;

@@ -2,7 +2,6 @@
 
 ghost use Rattle.std.specs.Prelude.{◌≡◌, ◌≤◌, ◌+◌, ◌-◌, ℕ, Bool, true, Some, IfOk, OnOk, min};
 ghost use Rattle.vs_four.specs.Selects as four;
-ghost use Rattle.vs_grammar.specs.Shapes.{IsLiteral};
 ghost use Rattle.vs_grammar.specs.Trees.{expr_place};
 ghost use Rattle.vs_ast.specs.Views as view;
 ghost use Rattle.vs_const.specs.Typed.{begins_at, natural};
@@ -15,7 +14,7 @@ ghost use Rattle.vs_build.specs.Buildable.{IsNameable, HasBits, AddsSource, IsNu
 
 use crate::builder::Builder;
 use std::alloc::{AllocError, Global};
-use vs_ast::{Expr, Literal, Name};
+use vs_ast::{Expr, Name};
 use vs_const::{ConstError, Env, Named, constant, number};
 use vs_four::{Bits, Range};
 
@@ -30,7 +29,7 @@ pub(crate) fn name_alone<E: Env>(
     requires { IsNameable (draft builder.old).design needed name.now.place (E.names env.now name.now.text) }
     ensures { OnOk result (AddsExpression (draft builder.old) (draft builder.new) (begins_at at (name_typed needed name.now.place (E.names env.now name.now.text)).expression) 1) }
 {
-    match env.find(name.text.as_bytes()) {
+    match env.find(name.text.as_slice()) {
         Named::Value { value, .. } => builder.literal(value.bits, value.signed, true, at),
         Named::Signal(s) => builder.name(s.number, at),
         _ => unreachable!(),
@@ -47,7 +46,7 @@ pub(crate) fn source<E: Env>(
     requires { HasBits (draft builder.old).design needed name.now.place (E.names env.now name.now.text) }
     ensures { IfOk result (λ r. AddsSource (draft builder.old) (draft builder.new) (base_of needed name.now.place (E.names env.now name.now.text)) r) }
 {
-    match env.find(name.text.as_bytes()) {
+    match env.find(name.text.as_slice()) {
         Named::Value { value, range } => {
             builder.literal(value.bits, value.signed, true, name.place)?;
             Ok(range)
@@ -82,14 +81,6 @@ pub(crate) fn number_within<E: Env>(
         Err(ConstError::Memory) => Err(AllocError),
         _ => unreachable!(),
     }
-}
-
-/// The bits of a literal.
-pub(crate) fn literal_bits(n: &Literal) -> Bits
-    requires { IsLiteral (view.literal n.now) }
-    ensures { result ≡ (view.literal n.now).bits }
-{
-    Bits::of_planes(n.size, n.value, n.unknown)
 }
 
 /// The bits of a constant without a fault.
@@ -132,9 +123,5 @@ pub(crate) fn range_length(r: Range) -> u32
     requires { four.range_length r ≤ 64 }
     ensures { result ≡ four.range_length r }
 {
-    if r.right <= r.left {
-        r.left - r.right + 1
-    } else {
-        r.right - r.left + 1
-    }
+    r.length() as u32
 }

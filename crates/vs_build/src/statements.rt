@@ -5,9 +5,7 @@ ghost use Rattle.vs_grammar.specs.Depths.{deepest, expr_depth, target_depth, sta
 ghost use Rattle.vs_grammar.specs.Trees as tree;
 ghost use Rattle.vs_grammar.specs.Trees.{target_place};
 ghost use Rattle.vs_ast.specs.Views as view;
-ghost use Rattle.vs_flat.specs.Operators.{case_of};
-ghost use Rattle.vs_hierarchy.specs.Statements as spec;
-ghost use Rattle.vs_hierarchy.specs.Statements.{typed_list, typed_statement};
+ghost use Rattle.vs_elaborated.specs.Statements.{typed_list, typed_statement};
 ghost use Rattle.vs_build.specs.Drafts.{AddsParts, AddsStatement, Adds, Labelled};
 ghost use Rattle.vs_build.specs.Growth.{draft};
 ghost use Rattle.vs_build.specs.Executable.{IsExecutable, AreExecutable, AreLabels, AreChoosable, part_statements, labelled};
@@ -16,21 +14,8 @@ use crate::builder::Builder;
 use crate::expressions::operand;
 use crate::targets::target;
 use std::alloc::{AllocError, Global};
-use vs_ast as ast;
 use vs_ast::{CaseArm, Expr, Statement, Target};
 use vs_const::Env;
-use vs_flat::CaseKind;
-
-/// How a case compares.
-fn flat_case(kind: ast::CaseKind) -> CaseKind
-    ensures { case_of result ≡ spec.case_kind (view.case_kind kind) }
-{
-    match kind {
-        ast::CaseKind::Exact => CaseKind::Exact,
-        ast::CaseKind::CaseZ => CaseKind::CaseZ,
-        ast::CaseKind::CaseX => CaseKind::CaseX,
-    }
-}
 
 /// Where a target begins in the text.
 fn target_at(t: &Target) -> u32
@@ -120,10 +105,10 @@ pub fn statement<E: Env>(
             operand(builder, alloc, subject, env, false)?;
             arms(builder, alloc, list, env)?;
             match other {
-                None => builder.case(alloc, flat_case(*kind), first, list, 0, *place),
+                None => builder.case(alloc, *kind, first, list, 0, *place),
                 Some(other) => {
                     statement(builder, alloc, other, env)?;
-                    builder.case(alloc, flat_case(*kind), first, list, 1, *place)
+                    builder.case(alloc, *kind, first, list, 1, *place)
                 }
             }
         }

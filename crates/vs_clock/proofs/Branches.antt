@@ -18,7 +18,7 @@ use Rattle.vs_flat.specs.Named.{all_below, statement_expressions, statement_stat
 use Rattle.vs_flat.specs.Trees.{statement_at, statement_tree, tree_at, sequence}
 use Rattle.vs_flat.specs.DesignOf.{arena_statements, arena_trees}
 use Rattle.vs_clock.specs.Forms.{if_branch}
-use Rattle.vs_clock.proofs.Tests.{by_test, and_both}
+use Rattle.vs_reads.proofs.Tests.{by_test, and_both}
 
 abbrev pub body_of : Arena → ℕ → T.Statement
 body_of a s = statement_at (arena_statements a) s

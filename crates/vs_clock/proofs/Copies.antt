@@ -21,7 +21,7 @@ use Rattle.vs_flat.specs.Targets.{target_of}
 use Rattle.vs_flat.specs.Trees.{no_signal, placed_tree, target_tree}
 use Rattle.vs_clock.specs.Spread.{targets_at}
 use Rattle.vs_clock.specs.Ports.{one_bit, bit_of, both_bits, port_bits, is_copy, copies, AreTargets}
-use Rattle.vs_clock.proofs.Tests.{by_test, either_way, or_left, or_right, contains-append, contains_head}
+use Rattle.vs_reads.proofs.Tests.{by_test, either_way, or_left, or_right, contains-append, contains_head}
 
 same_other : (q p : ℕ) → (q == p) ≡ false → q ≡ p → ⊥
 same_other q p h e = either_way (q == p) (subst (λ m. (q == m) ≡ true) e (eq-eqb q q refl)) h

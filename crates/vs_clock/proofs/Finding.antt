@@ -19,7 +19,7 @@ use Rattle.vs_flat.specs.Trees.{no_signal, signal_at}
 use Rattle.vs_flat.specs.DesignOf.{arena_signals, design_of}
 use Rattle.vs_clock.specs.Inputs.{is_named_input, reset_bit}
 use Rattle.vs_clock.specs.Ports.{one_bit}
-use Rattle.vs_clock.proofs.Tests.{by_test, and_both}
+use Rattle.vs_reads.proofs.Tests.{by_test, and_both}
 
 -- ---- names
 

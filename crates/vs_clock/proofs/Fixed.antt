@@ -8,7 +8,7 @@ use Rattle.vs_design.specs.Statements.{Target, Whole, PartOf, Both, Statement, E
 use Rattle.vs_design.specs.Footprints.{read_signals, target_signals, items_signals, statement_signals, arms_signals, signals_bits}
 use Rattle.vs_design.specs.Elaborated.{has_constant_selects}
 use Rattle.vs_design.specs.Resets.{has_none, are_constant, arms_constant, is_fixed}
-use Rattle.vs_clock.proofs.Tests.{by_test, and_true}
+use Rattle.vs_reads.proofs.Tests.{by_test, and_true}
 
 -- neither part names one
 neither : (xs ys : List Signal) → xs ++ ys ≡ [] → (xs ≡ []) × (ys ≡ [])

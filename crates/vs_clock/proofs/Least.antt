@@ -16,7 +16,7 @@ use Rattle.vs_design.specs.Laws.{BitsOfDesign, ClockNetsAre}
 use Rattle.vs_clock.specs.Ports.{bit_of, both_bits, port_bits, is_copy, copies, AreTargets}
 use Rattle.vs_clock.specs.Roots.{AreAllTargets, root_among, AreRoots}
 use Rattle.vs_clock.specs.Spread.{targets_at, label_at, has_label, IsClosedSet, Spreads}
-use Rattle.vs_clock.proofs.Tests.{by_test, either_way, or_left, or_right, and_both, and_true, contains-append}
+use Rattle.vs_reads.proofs.Tests.{by_test, either_way, or_left, or_right, and_both, and_true, contains-append}
 use Rattle.vs_clock.proofs.Copies.{copy_below}
 
 or_nothing : (a : Bool) → (a || false) ≡ a

@@ -1,7 +1,3 @@
-pub mod Tests
-pub mod Numbered
-pub mod Told
-pub mod Table
 pub mod Copies
 pub mod Spreading
 pub mod ByKind

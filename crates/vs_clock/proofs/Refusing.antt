@@ -14,8 +14,8 @@ use Rattle.vs_flat.specs.Laws.{EachSignal, CountsStay}
 use Rattle.vs_flat.specs.Trees.{no_signal, signal_at}
 use Rattle.vs_flat.specs.DesignOf.{arena_signals, design_of}
 use Rattle.vs_clock.specs.Tests.{IsFirst}
-use Rattle.vs_clock.proofs.Tests.{by_test, and_both}
-use Rattle.vs_clock.proofs.Numbered.{place_is}
+use Rattle.vs_reads.proofs.Tests.{by_test, and_both}
+use Rattle.vs_reads.proofs.Numbered.{place_is}
 use Rattle.vs_clock.proofs.Finding.{bit_below}
 use Rattle.vs_clock.proofs.Ruled.{first_bit_is}
 

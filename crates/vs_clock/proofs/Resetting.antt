@@ -1,5 +1,5 @@
 -- The resets of processes.
-use Rattle.std.proofs.Common.{◌≡◌, ℕ, zero, suc, ◌+◌, ◌≤◌, ◌<◌, Bool, true, false, not, List, [], ◌∷◌, ◌++◌, ◌||◌, ◌&&◌, ◌==◌, refl, sym, ap, ◌∙◌, subst, eqb-true, eq-eqb, get_or, map, filter, length, take, set, arith, get_or-set_other, get_or-set_same, inl, inr, Some, None, Option, is_some, option_map, if◌then◌else◌, find, ◌≢◌}
+use Rattle.std.proofs.Common.{◌≡◌, ℕ, suc, ◌+◌, ◌≤◌, ◌<◌, Bool, true, false, not, List, [], ◌∷◌, ◌++◌, ◌||◌, ◌==◌, refl, sym, ap, ◌∙◌, subst, eqb-true, eq-eqb, get_or, map, filter, length, take, set, arith, get_or-set_other, get_or-set_same, inl, inr, Some, None, Option, is_some, if◌then◌else◌, find, ◌≢◌}
 use Rattle.std.specs.Prelude.{slice_get, replicate}
 use Rattle.std.specs.List.{list_any}
 use Rattle.std.proofs.lemmas.Option.{slice_get_within, get_or_from_slice_get, slice_get-get_or}
@@ -9,13 +9,12 @@ use Rattle.std.proofs.lemmas.List.{take_more, get_or_past, get_or-replicate, len
 use Rattle.std.proofs.lemmas.List.Folds.{list_any-append}
 use Rattle.std.proofs.Math.Seq.{get_or-append_seam}
 use Rattle.vs_net.specs.Network as N
-use Rattle.vs_design.specs.Expressions.{Signal}
-use Rattle.vs_design.specs.Statements.{Statement, Empty, Assignment, Then, If, Case}
-use Rattle.vs_design.specs.Designs.{Edge, Any, Posedge, Negedge, is_edge, Process, Design, bit_count}
+use Rattle.vs_design.specs.Statements.{Statement}
+use Rattle.vs_design.specs.Designs.{Process, Design, bit_count}
 use Rattle.vs_design.specs.Designs as D
 use Rattle.vs_design.specs.Footprints.{contains}
 use Rattle.vs_design.specs.Clocks.{clock_nets, root_of, one_bit_inputs, Events, ByClock, ByBoth, events_of}
-use Rattle.vs_design.specs.Resets.{net_edge, branch_updates, reset_branch, reset_with, reset_by, reset_of, has_form, has_root, reset_inputs}
+use Rattle.vs_design.specs.Resets.{reset_branch, reset_with, reset_by, reset_of, has_form, has_root, reset_inputs}
 use Rattle.vs_design.specs.Elaborated.{IsLawfulDesign}
 use Rattle.vs_flat.specs.declared.processes.Event.{Event}
 use Rattle.vs_flat.specs.declared.processes.Process.{Process as Flat}
@@ -23,21 +22,19 @@ use Rattle.vs_flat.specs.declared.processes.Kind.TheVariants as K
 use Rattle.vs_flat.specs.declared.processes.Port.{Port}
 use Rattle.vs_flat.specs.Arena.{Arena}
 use Rattle.vs_flat.specs.Laws.{EachProcess}
-use Rattle.vs_flat.specs.Operators.{edge_of}
 use Rattle.vs_flat.specs.Trees.{signal_at, statement_at}
 use Rattle.vs_flat.specs.DesignOf.{event_of, arena_signals, arena_statements, design_of}
 use Rattle.vs_clock.specs.declared.resets.Reset.{Reset}
 use Rattle.vs_clock.specs.declared.resets.BlockReset.{BlockReset}
 use Rattle.vs_clock.specs.declared.resets.BlockReset.TheVariants as B
-use Rattle.vs_clock.specs.Found.{branch_at, IsEventReset, other_form, IsBlockReset}
-use Rattle.vs_clock.specs.Nets.{Labelled, root_at, AreNets}
-use Rattle.vs_clock.specs.Resets.{branch_by, branch_of, plain_branch, plain_reset, IsResetOf, IsReset, reset_at, AreAllResets, is_from, has_input, HasInputs}
+use Rattle.vs_clock.specs.Found.{IsEventReset, other_form, IsBlockReset}
+use Rattle.vs_clock.specs.Resets.{branch_by, branch_of, plain_reset, IsResetOf, IsReset, reset_at, AreAllResets, is_from, has_input, HasInputs}
 use Rattle.vs_clock.specs.Tests.{NoneBefore, IsFirst}
-use Rattle.vs_clock.proofs.Tests.{by_test, either_way, same_test, and_both}
-use Rattle.vs_clock.proofs.ByKind.{kind_in, kind_is, process_same}
-use Rattle.vs_clock.proofs.Ruled.{none_more, first_is, none_is}
+use Rattle.vs_reads.proofs.Tests.{by_test, either_way}
+use Rattle.vs_reads.proofs.ByKind.{kind_in, kind_is, process_same}
+use Rattle.vs_clock.proofs.Ruled.{none_more, none_is}
 use Rattle.vs_clock.proofs.Finding.{reset_below}
-use Rattle.vs_clock.proofs.Numbered.{process_there}
+use Rattle.vs_reads.proofs.Numbered.{process_there}
 
 -- ---- by a process
 

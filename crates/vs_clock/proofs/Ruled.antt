@@ -6,7 +6,7 @@ use Rattle.std.proofs.lemmas.Bool.{ltb-true}
 use Rattle.std.proofs.lemmas.Option.{slice_get_within}
 use Rattle.std.proofs.lemmas.List.Folds.{list_any-append}
 use Rattle.vs_design.specs.Expressions.{Signal}
-use Rattle.vs_design.specs.Designs.{Process, is_clocked, has_edge, Design, bit_count}
+use Rattle.vs_design.specs.Designs.{Process, has_edge, Design}
 use Rattle.vs_design.specs.Designs as D
 use Rattle.vs_design.specs.Footprints.{contains, reads_of, waits_of}
 use Rattle.vs_design.specs.Clocks.{port_target, is_clock_port, reads_clock, clock_nets, root_of, is_clock_event, is_reset_event, both_events, events_of, has_other_clock, Events, ByClock, ByBoth}
@@ -25,14 +25,15 @@ use Rattle.vs_flat.specs.Laws.{EachProcess, EachSignal, ProcessNames}
 use Rattle.vs_flat.specs.Named.{all_below, kind_names_below}
 use Rattle.vs_flat.specs.Trees.{signal_at, statement_at}
 use Rattle.vs_flat.specs.DesignOf.{event_of, arena_signals, arena_statements, design_of}
-use Rattle.vs_width.specs.Laws.{EachProcessFits}
+use Rattle.vs_typed.specs.Laws.{EachProcessFits}
 use Rattle.vs_clock.specs.Nets.{Labelled, is_clock_bit, AreNets}
 use Rattle.vs_clock.specs.declared.events.BlockEvents.{BlockEvents}
 use Rattle.vs_clock.specs.Ports.{port_bits}
-use Rattle.vs_clock.specs.Tests.{IsFirst, NoneBefore, is_edge_event, AreEvents}
-use Rattle.vs_clock.proofs.Tests.{by_test, either_way, and_both, contains_head, any_same, any_test}
+use Rattle.vs_clock.specs.Tests.{IsFirst, NoneBefore, AreEvents}
+use Rattle.vs_flat.specs.Events.{is_edge_event}
+use Rattle.vs_reads.proofs.Tests.{by_test, either_way, and_both, contains_head, any_same, any_test}
 use Rattle.vs_clock.proofs.Least.{hits, target_hits}
-use Rattle.vs_clock.proofs.ByKind.{kind_in, kind_is, process_same}
+use Rattle.vs_reads.proofs.ByKind.{kind_in, kind_is, process_same}
 
 -- ---- both tests
 

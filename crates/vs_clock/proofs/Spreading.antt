@@ -3,7 +3,7 @@ use Rattle.std.proofs.Common.{◌≡◌, ℕ, zero, suc, ◌+◌, ◌≤◌, ◌
 use Rattle.std.proofs.lemmas.List.Sums.{sum_by-set}
 use Rattle.vs_design.specs.Footprints.{contains}
 use Rattle.vs_clock.specs.Spread.{targets_at, label_at, has_label, IsClosedSet, is_free, effort, Labels, Spreads}
-use Rattle.vs_clock.proofs.Tests.{by_test, either_way, or_left, or_right, or_neither, and_both, contains-append, contains_more}
+use Rattle.vs_reads.proofs.Tests.{by_test, either_way, or_left, or_right, or_neither, and_both, contains-append, contains_more}
 
 same_other : (q p : ℕ) → (q == p) ≡ false → q ≡ p → ⊥
 same_other q p h e = either_way (q == p) (subst (λ m. (q == m) ≡ true) e (eq-eqb q q refl)) h

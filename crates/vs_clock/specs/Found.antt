@@ -1,14 +1,12 @@
 -- What is found of the resets of processes.
-use Rattle.std.specs.Prelude.{◌≡◌, ◌<◌, ℕ, Bool, true, false, is_some, List, length, take, Option, Some, None}
+use Rattle.std.specs.Prelude.{◌≡◌, ◌<◌, ℕ, Bool, true, false, is_some, length, Option, Some, None}
 use Rattle.vs_design.specs.Statements.{Statement}
 use Rattle.vs_design.specs.Designs.{is_edge, Process}
 use Rattle.vs_design.specs.Designs as D
 use Rattle.vs_design.specs.Clocks.{clock_nets, root_of}
 use Rattle.vs_design.specs.Resets.{reset_branch, reset_with, reset_of, has_other_form}
 use Rattle.vs_flat.specs.Arena.{Arena}
-use Rattle.vs_flat.specs.Operators.{edge_of}
 use Rattle.vs_flat.specs.DesignOf.{design_of}
-use Rattle.vs_clock.specs.declared.resets.Reset.{Reset}
 use Rattle.vs_clock.specs.declared.resets.BlockReset.{BlockReset}
 use Rattle.vs_clock.specs.declared.resets.BlockReset.TheVariants as B
 use Rattle.vs_clock.specs.declared.resets.Forms.{Forms}
@@ -25,7 +23,7 @@ abbrev pub IsEventReset : Arena → ℕ → D.Event → Statement → BlockReset
 IsEventReset a clock e s B.Formless = branch_at e s ≡ None
 IsEventReset a clock e s B.Absent = (is_some (branch_at e s) ≡ true) × (reset_with e (root_of (design_of a) clock e.signal.first) (branch_at e s) ≡ None)
 IsEventReset a clock e s (B.Present r) =
-    (branch_at e s ≡ Some (plain_branch a r)) × (reset_with e (root_of (design_of a) clock e.signal.first) (branch_at e s) ≡ Some (plain_reset a r)) × (is_edge (edge_of r.edge) ≡ true) × (r.branch < length a.statements)
+    (branch_at e s ≡ Some (plain_branch a r)) × (reset_with e (root_of (design_of a) clock e.signal.first) (branch_at e s) ≡ Some (plain_reset a r)) × (is_edge r.edge ≡ true) × (r.branch < length a.statements)
 
 abbrev pub other_form : Arena → ℕ → Process → Bool
 other_form a clock x = has_other_form (clock_nets (design_of a) clock) (root_of (design_of a) clock) x

@@ -7,7 +7,6 @@ use Rattle.vs_design.specs.Designs.{is_edge, Process, Always, Design}
 use Rattle.vs_design.specs.Clocks.{Events, ByBoth, events_of, clock_nets, root_of}
 use Rattle.vs_design.specs.Resets.{net_edge, branch_updates, reset_branch, reset_of}
 use Rattle.vs_flat.specs.Arena.{Arena}
-use Rattle.vs_flat.specs.Operators.{edge_of}
 use Rattle.vs_flat.specs.Trees.{statement_at}
 use Rattle.vs_flat.specs.DesignOf.{arena_statements, design_of}
 use Rattle.vs_clock.specs.declared.resets.Reset.{Reset}
@@ -26,13 +25,13 @@ abbrev pub plain_branch : Arena → Reset → Statement
 plain_branch a r = statement_at (arena_statements a) r.branch
 
 abbrev pub plain_reset : Arena → Reset → N.Reset
-plain_reset a r = record { net = r.net; edge = net_edge (edge_of r.edge); input = r.input; updates = branch_updates (plain_branch a r) }
+plain_reset a r = record { net = r.net; edge = net_edge r.edge; input = r.input; updates = branch_updates (plain_branch a r) }
 
 -- the reset of a process, in the design that has this clock
 pub record IsResetOf (a : Arena) (clock : ℕ) (x : Process) (r : Reset) : Type 0 where
   pub is : reset_of (design_of a) clock x ≡ Some (plain_reset a r)
   pub branch : branch_of (design_of a) clock x ≡ Some (plain_branch a r)
-  pub edge : is_edge (edge_of r.edge) ≡ true
+  pub edge : is_edge r.edge ≡ true
   pub there : r.branch < length a.statements
 
 -- and there is none exactly where the design has none

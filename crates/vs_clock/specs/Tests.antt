@@ -1,12 +1,10 @@
 -- The tests of processes, one after the other.
 use Rattle.std.specs.Prelude.{◌≡◌, ℕ, ◌<◌, Bool, false, slice_get, Option, Some, None}
 use Rattle.vs_design.specs.Expressions.{Signal}
-use Rattle.vs_design.specs.Designs.{Process, is_edge, Design}
+use Rattle.vs_design.specs.Designs.{Process, Design}
 use Rattle.vs_design.specs.Designs as D
 use Rattle.vs_design.specs.Clocks.{Events, ByClock, ByBoth}
 use Rattle.vs_design.specs.RefusalLaws.{IsFirstOf}
-use Rattle.vs_flat.specs.declared.processes.Event.{Event}
-use Rattle.vs_flat.specs.Operators.{edge_of}
 use Rattle.vs_flat.specs.DesignOf.{event_of}
 use Rattle.vs_clock.specs.declared.events.BlockEvents.{BlockEvents}
 use Rattle.vs_clock.specs.declared.events.BlockEvents.TheVariants.{Clock, Reset, Other}
@@ -19,10 +17,6 @@ IsFirst d breaks (Some p) = (x : Process) × IsFirstOf d breaks p x
 -- no process before p does
 abbrev pub NoneBefore : Design → (Process → Bool) → ℕ → Type 0
 NoneBefore d breaks p = (q : ℕ) (x : Process) → q < p → slice_get d.processes q ≡ Some x → breaks x ≡ false
-
--- an edge
-abbrev pub is_edge_event : Event → Bool
-is_edge_event e = is_edge (edge_of e.edge)
 
 -- the events of a clocked block: its clock, or that and this one
 abbrev pub AreEvents : (ℕ → Signal) → BlockEvents → Option Events → Type 0

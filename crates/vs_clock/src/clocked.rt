@@ -17,7 +17,7 @@ use crate::resets::{Forms, resets_of};
 use std::alloc::Global;
 use vs_flat::trees_law;
 use vs_reads::Footprints;
-use vs_width::Typed;
+use vs_typed::Typed;
 
 /// The clock of a design by the name of its input. The rules are tried in the order of `ClockError`, and each answers its first process.
 pub fn check(

@@ -10,7 +10,8 @@ ghost use Rattle.vs_clock.specs.Tests.{AreEvents, HasSignal};
 
 use crate::nets::Nets;
 use crate::ports::only_bit;
-use vs_flat::{Edge, Event, Flat};
+use vs_base::Edge;
+use vs_flat::{Event, Flat};
 
 /// What a clocked block waits for.
 #[derive(Clone, Copy, PartialEq, Eq, Debug)]
@@ -29,11 +30,11 @@ fn is_clock(flat: &Flat, nets: &Nets, event: Event) -> bool
     ensures { (clock : ℕ) → AreNets (design_of flat.now) clock nets.now → result ≡ is_clock_event (clock_nets (design_of flat.now) clock) (event_of (signal_at (arena_signals flat.now)) event) }
 {
     match event.edge {
-        Edge::Pos => match only_bit(flat, event.signal) {
+        Edge::Posedge => match only_bit(flat, event.signal) {
             Some(bit) => nets.is_clock(bit),
             None => false,
         },
-        Edge::Any | Edge::Neg => false,
+        Edge::Any | Edge::Negedge => false,
     }
 }
 
@@ -43,7 +44,7 @@ fn is_reset(flat: &Flat, nets: &Nets, event: Event) -> bool
     ensures { (clock : ℕ) → AreNets (design_of flat.now) clock nets.now → result ≡ is_reset_event (root_of (design_of flat.now) clock) (event_of (signal_at (arena_signals flat.now)) event) }
 {
     match event.edge {
-        Edge::Pos | Edge::Neg => match only_bit(flat, event.signal) {
+        Edge::Posedge | Edge::Negedge => match only_bit(flat, event.signal) {
             Some(bit) => nets.root(bit).is_some(),
             None => false,
         },

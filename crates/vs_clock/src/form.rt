@@ -5,16 +5,16 @@ ghost use Rattle.vs_design.specs.Fits.{fits_statement};
 ghost use Rattle.vs_design.specs.Resets.{inverted, is_condition, is_fixed, reset_branch};
 ghost use Rattle.vs_flat.specs.DesignOf.{arena_statements, arena_trees};
 ghost use Rattle.vs_flat.specs.Lawful.{IsLawful};
-ghost use Rattle.vs_flat.specs.Operators.{edge_of};
 ghost use Rattle.vs_flat.specs.Trees.{statement_at, tree_at};
 ghost use Rattle.vs_clock.specs.Forms.{if_branch};
 ghost use Rattle.vs_clock.specs.Ports.{bit_of};
 
 use crate::ports::named_bit;
 use std::alloc::{AllocError, Global};
-use vs_flat::{Edge, Flat, Node, Statement, UnaryOp, names_law, trees_law};
-use vs_length::Walk;
-use vs_width::Typed;
+use vs_base::{Edge, UnaryOp};
+use vs_flat::{Flat, Node, Statement, names_law, trees_law};
+use vs_shape::Walk;
+use vs_typed::Typed;
 
 /// The bit whose name stands behind `!` or `~`.
 fn inverted_bit(flat: &Flat, e: u32) -> Option<u32>
@@ -38,11 +38,11 @@ fn inverted_bit(flat: &Flat, e: u32) -> Option<u32>
 fn is_reset_condition(flat: &Flat, edge: Edge, bit: u32, c: u32) -> bool
     requires lawful { IsLawful flat.now }
     requires there { c < length flat.now.nodes }
-    ensures { result ≡ is_condition (edge_of edge) bit (tree_at (arena_trees flat.now) c) }
+    ensures { result ≡ is_condition edge bit (tree_at (arena_trees flat.now) c) }
 {
     match edge {
-        Edge::Pos => named_bit(flat, c) == Some(bit),
-        Edge::Neg => inverted_bit(flat, c) == Some(bit),
+        Edge::Posedge => named_bit(flat, c) == Some(bit),
+        Edge::Negedge => inverted_bit(flat, c) == Some(bit),
         Edge::Any => false,
     }
 }
@@ -62,7 +62,7 @@ fn is_fixed_branch(alloc: Global, typed: &Typed, s: u32) -> Result<bool, AllocEr
 fn branch_of(flat: &Flat, edge: Edge, bit: u32, s: u32) -> Option<u32>
     requires lawful { IsLawful flat.now }
     requires there { s < length flat.now.statements }
-    ensures branch { option_map (statement_at (arena_statements flat.now)) result ≡ if_branch (edge_of edge) bit (statement_at (arena_statements flat.now) s) }
+    ensures branch { option_map (statement_at (arena_statements flat.now)) result ≡ if_branch edge bit (statement_at (arena_statements flat.now) s) }
     ensures there { IfSome result (λ b. b < length flat.now.statements) }
 {
     trees_law();
@@ -96,7 +96,7 @@ pub(crate) fn reset_branch(
 ) -> Result<Option<u32>, AllocError>
     requires there { s < length typed.now.statements }
     requires fits { fits_statement (statement_at (arena_statements typed.now) s) ≡ true }
-    ensures branch { IfOk result (λ r. option_map (statement_at (arena_statements typed.now)) r ≡ reset_branch (edge_of edge) bit (statement_at (arena_statements typed.now) s)) }
+    ensures branch { IfOk result (λ r. option_map (statement_at (arena_statements typed.now)) r ≡ reset_branch edge bit (statement_at (arena_statements typed.now) s)) }
     ensures there { IfOk result (λ r. IfSome r (λ b. b < length typed.now.statements)) }
 {
     match branch_of(typed.flat(), edge, bit, s) {

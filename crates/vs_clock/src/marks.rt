@@ -1,6 +1,6 @@
 //! The inputs of a design that its resets copy.
 
-ghost use Rattle.std.specs.Prelude.{◌≡◌, ℕ, false, length, slice_index_or, filter, IfOk};
+ghost use Rattle.std.specs.Prelude.{◌≡◌, ℕ, false, slice_index_or, filter, IfOk};
 ghost use Rattle.vs_design.specs.Designs.{bit_count};
 ghost use Rattle.vs_design.specs.Resets.{reset_inputs};
 ghost use Rattle.vs_flat.specs.DesignOf.{design_of};

@@ -1,6 +1,6 @@
 //! Input ports that copy a bit (IEEE 1364-2005, 12.3.9).
 
-ghost use Rattle.std.specs.Prelude.{◌≡◌, ◌<◌, length, slice_get, option_map, IfOk, IfSome, Some, true};
+ghost use Rattle.std.specs.Prelude.{◌≡◌, ◌<◌, length, slice_get, option_map, IfOk, IfSome, Some};
 ghost use Rattle.vs_design.specs.Clocks.{name_of};
 ghost use Rattle.vs_design.specs.Designs as D;
 ghost use Rattle.vs_flat.specs.DesignOf.{arena_signals, arena_trees, design_of};

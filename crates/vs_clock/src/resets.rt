@@ -12,8 +12,9 @@ use crate::events::{BlockEvents, events_of};
 use crate::form::reset_branch;
 use crate::nets::Nets;
 use std::alloc::{AllocError, Global};
-use vs_flat::{Edge, Event, Kind, names_law, trees_law};
-use vs_width::{Typed, fits_law};
+use vs_base::Edge;
+use vs_flat::{Event, Kind, names_law, trees_law};
+use vs_typed::{Typed, fits_law};
 
 /// The asynchronous reset of a clocked block: the edge of a net, at which a branch runs that reads no signal.
 #[derive(Clone, Copy, PartialEq, Eq, Debug)]

@@ -1,19 +1,17 @@
 //! The tests of single processes.
 
 ghost use Rattle.std.specs.Prelude.{◌≡◌, ℕ, ◌<◌, length, slice_get, Some};
-ghost use Rattle.std.specs.List.{list_any};
 ghost use Rattle.vs_design.specs.Designs as D;
 ghost use Rattle.vs_design.specs.Clocks.{is_clock_port, reads_clock, has_other_clock, clock_nets, root_of};
 ghost use Rattle.vs_flat.specs.DesignOf.{design_of};
 ghost use Rattle.vs_flat.specs.Lawful.{IsLawful};
 ghost use Rattle.vs_reads.specs.Footprint.{footprints_of};
 ghost use Rattle.vs_clock.specs.Nets.{AreNets};
-ghost use Rattle.vs_clock.specs.Tests.{is_edge_event};
 
 use crate::events::{BlockEvents, events_of};
 use crate::nets::Nets;
 use crate::ports::copied_bits;
-use vs_flat::{Edge, Event, Flat, Kind, names_law, trees_law};
+use vs_flat::{Flat, Kind, has_edge, names_law, trees_law};
 use vs_reads::{Footprints, footprint_law};
 
 /// Whether a process is an input port's assign that hands a clock net on.
@@ -44,13 +42,6 @@ pub(crate) fn is_reading(flat: &Flat, footprints: &Footprints, nets: &Nets, p: u
         return true;
     }
     nets.has_clock(footprints.waits(p))
-}
-
-/// Whether an edge is among the events of a block (IEEE 1364-2005, 9.7.2).
-fn has_edge(events: &[Event]) -> bool
-    ensures { result ≡ list_any is_edge_event events.now }
-{
-    events.iter().any(|e| e.edge != Edge::Any)
 }
 
 /// Whether a process is a clocked block whose events are others than a posedge of a clock net, or that and an edge of a reset net.

@@ -3,13 +3,11 @@
 
 mod kernels;
 mod laws;
-mod lists;
 mod ops;
 mod placed;
 mod program;
 
 pub use kernels::AnyKernel;
 pub use laws::{sequence_law, weight_law};
-pub use lists::List;
 pub use ops::Op;
 pub use program::Program;

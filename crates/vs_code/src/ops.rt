@@ -1,8 +1,8 @@
 //! One call of a kernel.
 
 use crate::kernels::AnyKernel;
-use crate::lists::List;
 use std::marker::Model;
+use vs_base::List;
 
 /// One call of a kernel. A vector is the list of its slots, least significant bit first.
 #[derive(Drop)]

@@ -8,10 +8,10 @@ ghost use Rattle.vs_code.specs.Calls.{IsCall, call_cost, call_slots};
 ghost use Rattle.vs_code.specs.Placed.{IsLonger, IsWithin, call_at, cost_at, lengths_at, lengths_in};
 
 use crate::kernels::{AnyKernel, cost, run_one, run_three, run_two};
-use crate::lists::List;
 use crate::ops::Op;
 use std::alloc::AllocError;
 use std::sync::ledger::Ledger;
+use vs_base::List;
 use vs_plane::{PlaneFile, Steps, Word};
 
 /// How many slots each argument of a call has.

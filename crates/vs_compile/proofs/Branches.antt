@@ -12,7 +12,6 @@ use Rattle.vs_design.specs.TreeLaws.{BodyReads}
 use Rattle.vs_flat.specs.Arena.{Arena}
 use Rattle.vs_flat.specs.Arena as A
 use Rattle.vs_flat.specs.DesignOf.{design_of}
-use Rattle.vs_flat.specs.Operators.{edge_of}
 use Rattle.vs_clock.specs.declared.resets.Reset.{Reset}
 use Rattle.vs_clock.specs.Resets.{branch_of, plain_branch, plain_reset}
 use Rattle.vs_clock.specs.Resets as C
@@ -24,7 +23,7 @@ use Rattle.vs_program.specs.Compiled.{IsAcceptedAt}
 use Rattle.vs_program.specs.Lowered.{Layout, IsLoweredReset}
 use Rattle.vs_program.specs.Made.{IsResetAt, RegistersInOrder}
 use Rattle.vs_assemble.specs.Plans.{may_store}
-use Rattle.vs_lower.specs.Coded.{Coding}
+use Rattle.vs_values.specs.Coded.{Coding}
 use Rattle.vs_lower.specs.Resetting.{AddsReset, HasResetRoom, IsResetOf, IsResetReady}
 use Rattle.vs_lower.specs.Stated.{AreInside}
 use Rattle.vs_compile.specs.Known.{Known}
@@ -96,9 +95,9 @@ edge_falls Posedge = refl
 edge_falls Any = refl
 
 pub resets : BodyReads → AscendingIsOnce → FewAreApart → SourcesOfDesign → (a : Arena) (clock : ℕ) → IsAcceptedAt (design_of a) clock → (p : ℕ) (x : Process) → slice_get (design_of a).processes p ≡ Some x
-    → (r : Reset) → C.IsResetOf a clock x r → CanReset (design_of a) x (falls (edge_of r.edge)) (plain_reset a r) (plain_branch a r)
+    → (r : Reset) → C.IsResetOf a clock x r → CanReset (design_of a) x (falls r.edge) (plain_reset a r) (plain_branch a r)
 resets reads once few sources a clock at p x e r i =
-    can_reset reads once few sources (design_of a) clock at p x e (plain_reset a r) (plain_branch a r) (falls (edge_of r.edge)) i.is i.branch (edge_falls (edge_of r.edge)) refl
+    can_reset reads once few sources (design_of a) clock at p x e (plain_reset a r) (plain_branch a r) (falls r.edge) i.is i.branch (edge_falls r.edge) refl
 
 ready : (d : Design) (x : Process) (low : Bool) (r : N.Reset) (taken : Statement) (count first : ℕ) (calls : List Call) → CanReset d x low r taken → count ≡ bit_count d → 4 + count ≤ first
     → first + Rattle.vs_program.specs.Lowered.process_stores x < 2 ^ 32 → length_of calls + Rattle.vs_program.specs.Lowered.process_stores x ≤ 2 ^ 32 → IsResetReady count (record { calls = calls; next = first }) low r.input taken
@@ -128,21 +127,21 @@ ready_as n code calls next low asked input taken same at is h = subst (λ (b : B
 pub ready_by : BodyReads → AscendingIsOnce → FewAreApart → SourcesOfDesign → RegistersInOrder → (k : Known) → IsAcceptedAt (design_of k.arena) k.clock
     → (count : ℕ) (shadows : List ℕ) (first : ℕ) → IsTable (design_of k.arena) count shadows first → (p : ℕ) (x : Process) → slice_get (design_of k.arena).processes p ≡ Some x
     → (r : Reset) → C.IsResetOf k.arena k.clock x r → (calls : List Call) → length_of calls + may_store (design_of k.arena) p ≤ 2 ^ 32
-    → (a : Arena) → a ≡ k.arena → count ≡ A.bit_count a.signals → IsResetReady (A.bit_count a.signals) (record { calls = calls; next = first }) (falls (edge_of r.edge)) r.input (plain_branch a r)
+    → (a : Arena) → a ≡ k.arena → count ≡ A.bit_count a.signals → IsResetReady (A.bit_count a.signals) (record { calls = calls; next = first }) (falls r.edge) r.input (plain_branch a r)
 ready_by reads once few sources ordered k at count shadows first table p x e r i calls left a same counted =
     let d = design_of k.arena in
     let can = resets reads once few sources k.arena k.clock at p x e r i in
-    subst (λ n. IsResetReady n (record { calls = calls; next = first }) (falls (edge_of r.edge)) r.input (plain_branch a r)) counted
-    (subst (λ (z : Arena). IsResetReady count (record { calls = calls; next = first }) (falls (edge_of r.edge)) r.input (plain_branch z r)) (sym same)
-    (ready d x (falls (edge_of r.edge)) (plain_reset k.arena r) (plain_branch k.arena r) count first calls can table.count_is table.layout.layout.layout.temps_above
+    subst (λ n. IsResetReady n (record { calls = calls; next = first }) (falls r.edge) r.input (plain_branch a r)) counted
+    (subst (λ (z : Arena). IsResetReady count (record { calls = calls; next = first }) (falls r.edge) r.input (plain_branch z r)) (sym same)
+    (ready d x (falls r.edge) (plain_reset k.arena r) (plain_branch k.arena r) count first calls can table.count_is table.layout.layout.layout.temps_above
     (temps_fit few ordered d k.clock at count shadows first table p x e) (stores_left d p x (length_of calls) e left)))
 
 -- ---- what is then added
 
 abbrev pub Adds : Arena → Reset → ℕ → List Call → List Call → Type 0
 Adds a r first old new =
-    (l : Layout) (x : Process) → l.bits ≡ A.bit_count a.signals → l.first_temp ≡ first → IsResetOf (plain_reset a r) (falls (edge_of r.edge)) r.input (plain_branch a r)
-    → HasResetRoom x (falls (edge_of r.edge)) r.input (plain_branch a r) → AddsReset l (Some (plain_reset a r)) x old new
+    (l : Layout) (x : Process) → l.bits ≡ A.bit_count a.signals → l.first_temp ≡ first → IsResetOf (plain_reset a r) (falls r.edge) r.input (plain_branch a r)
+    → HasResetRoom x (falls r.edge) r.input (plain_branch a r) → AddsReset l (Some (plain_reset a r)) x old new
 
 pub added_by : BodyReads → AscendingIsOnce → FewAreApart → SourcesOfDesign → (k : Known) → IsAcceptedAt (design_of k.arena) k.clock → (count : ℕ) (shadows : List ℕ) (first : ℕ)
     → (l : Laid) → record { known = k; count = count; shadows = shadows; first = first } ≡ l → (p : ℕ) → p < length (design_of l.known.arena).processes → (at : ℕ) → at ≡ l.known.clock

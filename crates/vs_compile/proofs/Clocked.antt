@@ -6,7 +6,6 @@ use Rattle.vs_design.specs.Expressions.{Signal}
 use Rattle.vs_flat.specs.Arena.{Arena}
 use Rattle.vs_flat.specs.DesignOf.{arena_signals, arena_statements, arena_trees, design_of, event_of, kind_of}
 use Rattle.vs_flat.specs.Laws.{EachProcess}
-use Rattle.vs_flat.specs.Operators.{edge_of}
 use Rattle.vs_flat.specs.Trees.{signal_at, statement_at, tree_at}
 use Rattle.vs_flat.specs.declared.processes.Event as F
 use Rattle.vs_flat.specs.declared.processes.Process as H
@@ -14,12 +13,12 @@ use Rattle.vs_flat.specs.declared.processes.Kind as G
 use Rattle.vs_flat.specs.declared.processes.Kind.TheVariants as K
 use Rattle.vs_assemble.specs.Plans.{is_clocked_or}
 
-edges_are : (signal : ℕ → Signal) (events : List F.Event) → list_any D.has_edge (map (event_of signal) events) ≡ list_any (λ (e : F.Event). D.is_edge (edge_of e.edge)) events
+edges_are : (signal : ℕ → Signal) (events : List F.Event) → list_any D.has_edge (map (event_of signal) events) ≡ list_any (λ (e : F.Event). D.is_edge e.edge) events
 edges_are signal [] = refl
-edges_are signal (e ∷ events) = ap (λ c. D.is_edge (edge_of e.edge) || c) (edges_are signal events)
+edges_are signal (e ∷ events) = ap (λ c. D.is_edge e.edge || c) (edges_are signal events)
 
 pub block_clocked : EachProcess → (a : Arena) (p : ℕ) (x : H.Process) (star : Bool) (events : List F.Event) (statement : ℕ) → slice_get a.processes p ≡ Some x → x.kind ≡ K.Block star events statement
-    → (result : Bool) → result ≡ list_any (λ (e : F.Event). D.is_edge (edge_of e.edge)) events → result ≡ is_clocked_or (slice_get (design_of a).processes p)
+    → (result : Bool) → result ≡ list_any (λ (e : F.Event). D.is_edge e.edge) events → result ≡ is_clocked_or (slice_get (design_of a).processes p)
 block_clocked each a p x star events statement at is result told =
     let signal = signal_at (arena_signals a) in
     told ∙ sym (edges_are signal events)

@@ -17,7 +17,7 @@ use std::alloc::{AllocError, Global};
 use vs_code::Program;
 use vs_flat::trees_law;
 use vs_lower::{Code, process};
-use vs_width::Typed;
+use vs_typed::Typed;
 
 /// Adds the calls of process p as one that doesn't sleep, in a design of `count` bits that mixes no assignments in a block and has no combinational cycle. `shadows` has the slot of each register bit's next value; the temporaries begin at `first_temp`. The only error is that there is no memory; the program then has some of the calls.
 pub(crate) fn lower_awake(

@@ -17,7 +17,7 @@ use vs_clock::Clocks;
 use vs_level::Order;
 use vs_program::Compiled;
 use vs_reads::Footprints;
-use vs_width::Typed;
+use vs_typed::Typed;
 
 /// The program of an accepted design: straight programs over planes, one for each kind of time slot (IEEE 1364-2005, clause 11). The only error is that there is no memory.
 ///

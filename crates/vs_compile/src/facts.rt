@@ -12,7 +12,7 @@ use vs_clock::{Clocks, Reset};
 use vs_cone::{list_law, sources_law};
 use vs_flat::{count_bits, trees_law};
 use vs_reads::{Footprints, footprint_law};
-use vs_width::Typed;
+use vs_typed::Typed;
 
 /// What is known of the processes of an accepted design, and of its clock.
 #[derive(Drop)]

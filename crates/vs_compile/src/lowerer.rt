@@ -14,7 +14,7 @@ use vs_code::Program;
 use vs_cone::{list_law, sources_law};
 use vs_design::reads_law;
 use vs_flat::trees_law;
-use vs_program::program_law;
+use vs_program::{home, program_law};
 use vs_reset::reset_law;
 
 /// An accepted design with a layout of its slots: those of the constants and of the bits, one for each register bit's next value, one for the mask of each sleeping block, and then the temporaries.
@@ -56,7 +56,7 @@ impl<'a> Lowerer<'a> {
         let count = facts.bit_count();
         let registers = facts.registers(alloc, count)?;
         let shadows = shadows_of(alloc, count, registers.as_slice())?;
-        let first_temp = 4 + count + registers.len() as u32 + sleeper_count(facts.typed());
+        let first_temp = home(count) + registers.len() as u32 + sleeper_count(facts.typed());
         Ok(Lowerer {
             facts,
             count,

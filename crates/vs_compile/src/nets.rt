@@ -13,7 +13,7 @@ use std::alloc::{AllocError, Global};
 use vs_clock::Clocks;
 use vs_cone::{list_law, sources_law};
 use vs_flat::{count_bits, trees_law};
-use vs_width::Typed;
+use vs_typed::Typed;
 
 /// The bits of the clock nets, ascending. The only error is that there is no memory.
 pub(crate) fn nets_of(alloc: Global, typed: &Typed, clocks: &Clocks) -> Result<Vec<u32>, AllocError>

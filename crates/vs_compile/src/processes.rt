@@ -8,34 +8,15 @@ ghost use Rattle.vs_design.specs.Elaborated.{IsLawfulDesign};
 ghost use Rattle.vs_design.specs.Levels.{needs};
 ghost use Rattle.vs_design.specs.Rules.{missing_bits};
 ghost use Rattle.vs_flat.specs.DesignOf.{design_of};
-ghost use Rattle.vs_flat.specs.Operators.{edge_of};
-ghost use Rattle.vs_flat.specs.declared.processes.Event as F;
 ghost use Rattle.vs_reads.specs.Footprint.{footprints_of};
 ghost use Rattle.vs_clock.specs.Nets.{is_clock_bit};
 ghost use Rattle.vs_assemble.specs.Flags.{HasBitsOf};
 ghost use Rattle.vs_assemble.specs.Plans.{is_clocked_or};
 
 use vs_clock::Clocks;
-use vs_flat::{Edge, Event, Kind, trees_law};
+use vs_flat::{Kind, has_edge, trees_law};
 use vs_reads::{Footprints, footprint_law};
-use vs_width::Typed;
-
-/// Whether an event is `posedge` or `negedge`.
-fn is_edge(edge: Edge) -> bool
-    ensures { result ≡ D.is_edge (edge_of edge) }
-{
-    match edge {
-        Edge::Any => false,
-        Edge::Pos | Edge::Neg => true,
-    }
-}
-
-/// Whether one of these events is an edge.
-fn has_edge(events: &[Event]) -> bool
-    ensures { result ≡ list_any (λ (e : F.Event). D.is_edge (edge_of e.edge)) events.now }
-{
-    events.iter().any(|e| is_edge(e.edge))
-}
+use vs_typed::Typed;
 
 /// Whether a process is a clocked block: one of its events is an edge (IEEE 1364-2005, 9.7.2).
 pub(crate) fn is_clocked(typed: &Typed, process: u32) -> bool

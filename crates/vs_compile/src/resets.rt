@@ -17,7 +17,7 @@ use vs_design::write_law;
 use vs_flat::{count_bits, trees_law};
 use vs_four::Bit4;
 use vs_reads::{Footprints, footprint_law};
-use vs_width::Typed;
+use vs_typed::Typed;
 use vs_zero::add_written;
 
 /// For each process of a design the bits that its reset sets, seen as a list of lists.

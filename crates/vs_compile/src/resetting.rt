@@ -3,26 +3,25 @@
 ghost use Rattle.std.specs.Prelude.{◌≡◌, ◌<◌, length, OnOk, Some};
 ghost use Rattle.vs_design.specs.Designs as D;
 ghost use Rattle.vs_flat.specs.Arena.{bit_count};
-ghost use Rattle.vs_flat.specs.Operators.{edge_of};
 ghost use Rattle.vs_clock.specs.Resets.{plain_branch, plain_reset};
 ghost use Rattle.vs_program.specs.Lowered.{Layout};
 ghost use Rattle.vs_lower.specs.Resetting.{AddsReset, HasResetRoom, IsResetOf, IsResetReady};
 ghost use Rattle.vs_compile.specs.Resets.{falls};
 
 use std::alloc::{AllocError, Global};
+use vs_base::Edge;
 use vs_clock::Reset;
 use vs_code::Program;
-use vs_flat::Edge;
 use vs_lower::Code;
-use vs_width::Typed;
+use vs_typed::Typed;
 
 /// Whether a reset by this edge is active at 0.
 fn falls(edge: Edge) -> bool
-    ensures { result ≡ falls (edge_of edge) }
+    ensures { result ≡ falls edge }
 {
     match edge {
-        Edge::Neg => true,
-        Edge::Pos | Edge::Any => false,
+        Edge::Negedge => true,
+        Edge::Posedge | Edge::Any => false,
     }
 }
 
@@ -37,10 +36,10 @@ pub(crate) fn lower_branch(
 ) -> Result<(), AllocError>
     requires count { count ≡ bit_count typed.now.signals }
     requires there { reset.branch < length typed.now.statements }
-    requires ready { IsResetReady (bit_count typed.now.signals) (record { calls = program.old; next = first_temp }) (falls (edge_of reset.edge)) reset.input (plain_branch typed.now reset) }
+    requires ready { IsResetReady (bit_count typed.now.signals) (record { calls = program.old; next = first_temp }) (falls reset.edge) reset.input (plain_branch typed.now reset) }
     ensures { OnOk result ((l : Layout) (x : D.Process) → l.bits ≡ bit_count typed.now.signals → l.first_temp ≡ first_temp
-        → IsResetOf (plain_reset typed.now reset) (falls (edge_of reset.edge)) reset.input (plain_branch typed.now reset)
-        → HasResetRoom x (falls (edge_of reset.edge)) reset.input (plain_branch typed.now reset) → AddsReset l (Some (plain_reset typed.now reset)) x program.old program.new) }
+        → IsResetOf (plain_reset typed.now reset) (falls reset.edge) reset.input (plain_branch typed.now reset)
+        → HasResetRoom x (falls reset.edge) reset.input (plain_branch typed.now reset) → AddsReset l (Some (plain_reset typed.now reset)) x program.old program.new) }
 {
     let calls = std::mem::replace(program, Program::new(alloc));
     let mut code = Code::from(calls, first_temp);

@@ -22,7 +22,7 @@ use vs_flat::trees_law;
 use vs_lower::{Code, sleeper};
 use vs_program::program_law;
 use vs_reset::sleeper_law;
-use vs_width::Typed;
+use vs_typed::Typed;
 
 /// The slot of the mask of process p, which sleeps. The temporaries begin right behind the masks.
 fn mask_slot(typed: &Typed, p: u32, first_temp: u32) -> u32

@@ -8,7 +8,8 @@ ghost use Rattle.vs_compile.specs.Laid.{HasPlaces};
 
 use std::alloc::{AllocError, Global};
 use vs_flat::trees_law;
-use vs_width::Typed;
+use vs_program::home;
+use vs_typed::Typed;
 
 /// For each bit of a design with so many the slot of its next value, where it is one of these registers: their slots stand behind those of the bits, in the order of the list.
 pub(crate) fn shadows_of(
@@ -24,7 +25,7 @@ pub(crate) fn shadows_of(
 {
     let mut shadows = vec![in alloc; 0; count as usize]?;
     for (place, bit) in registers.iter().enumerate() {
-        shadows[*bit as usize] = 4 + count + place as u32;
+        shadows[*bit as usize] = home(count) + place as u32;
     }
     Ok(shadows)
 }

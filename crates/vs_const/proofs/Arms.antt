@@ -5,11 +5,10 @@ use Rattle.vs_grammar.specs.Trees as tree
 use Rattle.vs_grammar.specs.Trees.{expr_place}
 use Rattle.vs_ast.specs.Views as view
 use Rattle.vs_ast.specs.declared.expressions.Expr.{Expr}
-use Rattle.vs_ast.specs.declared.expressions.BinaryOp.{BinaryOp}
+use Rattle.vs_base.specs.declared.operators.BinaryOp.{BinaryOp}
 use Rattle.vs_const.specs.declared.found.Found.{Found}
 use Rattle.vs_const.specs.declared.names.Named.{Named}
 use Rattle.vs_const.specs.declared.ranges.Numbered.{Numbered as NumberedOf}
-use Rattle.vs_const.specs.Operators.{binary_op}
 use Rattle.vs_const.specs.Meanings.{Meaning, Means, Find, IsFair, IsFairMeaning}
 use Rattle.vs_const.specs.Typed.{Typed, noted, binary_typed, number_of}
 use Rattle.vs_const.specs.Selects.{base_of, select_typed, slice_taken, moving}
@@ -20,13 +19,13 @@ use Rattle.vs_const.specs.Found.{Finds, Says}
 pub binary_arm : (needed : Bool) (find : Find) (op : BinaryOp) (a b x y z : Expr) (place : ℕ) (p q : Found) (r : Result Found AllocError)
     → x ≡ a → y ≡ b → z ≡ a → place ≡ expr_place (view.expr z)
     → Says needed p (typed (view.expr x) find needed) → Says needed q (typed (view.expr y) find needed)
-    → ((t u : Typed) → Says needed p t → Says needed q u → IfOk r (λ s. Finds needed s (noted needed place (binary_typed (binary_op (view.binary_op op)) t u))))
-    → IfOk r (λ s. Finds needed s (typed (tree.Binary (view.binary_op op) (view.expr a) (view.expr b)) find needed))
+    → ((t u : Typed) → Says needed p t → Says needed q u → IfOk r (λ s. Finds needed s (noted needed place (binary_typed op t u))))
+    → IfOk r (λ s. Finds needed s (typed (tree.Binary op (view.expr a) (view.expr b)) find needed))
 binary_arm needed find op a b x y z place p q r i j k l h m f =
     let h2 = subst (λ v. Says needed p (typed (view.expr v) find needed)) i h in
     let m2 = subst (λ v. Says needed q (typed (view.expr v) find needed)) j m in
     let l2 = subst (λ v. place ≡ expr_place (view.expr v)) k l in
-    subst (λ v. IfOk r (λ s. Finds needed s (noted needed v (binary_typed (binary_op (view.binary_op op)) (typed (view.expr a) find needed) (typed (view.expr b) find needed))))) l2
+    subst (λ v. IfOk r (λ s. Finds needed s (noted needed v (binary_typed op (typed (view.expr a) find needed) (typed (view.expr b) find needed))))) l2
     (f (typed (view.expr a) find needed) (typed (view.expr b) find needed) h2 m2)
 
 pub clog2_arm : (needed : Bool) (find : Find) (a : Expr) (place : ℕ) (p s : Found) → place ≡ expr_place (view.expr a)

@@ -14,8 +14,7 @@ use Rattle.vs_grammar.specs.Trees as tree
 use Rattle.vs_grammar.specs.Trees.{expr_place}
 use Rattle.vs_grammar.specs.Shapes.{IsExpr, AreParts, IsSelect, IsLiteral}
 use Rattle.vs_const.specs.declared.faults.Fault.{Fault}
-use Rattle.vs_const.specs.Faults.{fault, fault_if, names_signal}
-use Rattle.vs_const.specs.Operators.{unary_op, binary_op}
+use Rattle.vs_const.specs.Faults.{Rule, fault, fault_if, names_signal, BadRange, UnknownConstant, WrongKind}
 use Rattle.vs_const.specs.Meanings.{SignalMeaning, Meaning, AValue, Undefined, ASignal, Another, Unknown, Find, ConstantValue, IsFairValue}
 use Rattle.vs_const.specs.Sound.{IsSound, AreSound, IsFine}
 use Rattle.vs_const.specs.Typed.{Typed, begins_at, is_over, noted, known_number, number_known, number_if, number_of, natural_if, natural_within, natural, both_lengths, length_map, unary_op_length, unary_typed, binary_way_length, binary_typed, choice_typed, join_typed, copies_typed, fine}
@@ -45,7 +44,7 @@ pub both_nil : {A : Type 0} (xs ys : List A) → xs ++ ys ≡ [] → (xs ≡ [])
 both_nil [] ys h = (refl, h)
 both_nil (x ∷ xs) ys h = cc
 
-pub no_fault : (b : Bool) (n p : ℕ) → fault_if b n p ≡ [] → b ≡ false
+pub no_fault : (b : Bool) (r : Rule) (p : ℕ) → fault_if b r p ≡ [] → b ≡ false
 no_fault true n p h = cc
 no_fault false n p h = refl
 
@@ -83,9 +82,9 @@ begins_same f h p (At q e) = h p e ∙ sym (h q e)
 
 noted_fine : (d : Design) (needed : Bool) (place : ℕ) (t : Typed) → (t.faults ≡ [] → IsFine d needed t) → (noted needed place t).faults ≡ [] → IsFine d needed (noted needed place t)
 noted_fine d needed place t fine_if h =
-    let n = both_nil t.faults (fault_if ((needed && is_over 64 t.length) && not (names_signal t.faults)) 37 place) h in
+    let n = both_nil t.faults (fault_if ((needed && is_over 64 t.length) && not (names_signal t.faults)) BadRange place) h in
     let f = fine_if n.0 in
-    let short : ((needed && is_over 64 t.length) && not (names_signal t.faults)) ≡ false = no_fault ((needed && is_over 64 t.length) && not (names_signal t.faults)) 37 place n.1 in
+    let short : ((needed && is_over 64 t.length) && not (names_signal t.faults)) ≡ false = no_fault ((needed && is_over 64 t.length) && not (names_signal t.faults)) BadRange place n.1 in
     record {
       good = unless_long t.good (needed && is_over 64 t.length) f.good (not_long (needed && is_over 64 t.length) (subst (λ fs. ((needed && is_over 64 t.length) && not (names_signal fs)) ≡ false) n.0 short));
       formed = begins_same (is_formed d) (λ p e. refl) place t.expression ∙ f.formed;
@@ -186,9 +185,9 @@ natural_fine d needed low high place t fine_if h =
 -- ---- calls
 
 clog2_fine : (d : Design) (needed : Bool) (place : ℕ) (n : Option ℕ) (fs : List Fault) → (clog2_of n place fs).faults ≡ [] → IsFine d needed (clog2_of n place fs)
-clog2_fine d needed place None fs h = absurd (cons_nil (both_nil fs (fault 31 place) h).1)
+clog2_fine d needed place None fs h = absurd (cons_nil (both_nil fs (fault UnknownConstant place) h).1)
   where
-    cons_nil : fault 31 place ≡ [] → ⊥
+    cons_nil : fault UnknownConstant place ≡ [] → ⊥
     cons_nil k = cc
 clog2_fine d needed place (Some n) fs h = record { good = refl; formed = refl; length = refl; constant = λ k. refl }
 
@@ -201,7 +200,7 @@ clog2_faults place t false h = h
 clog2_faults place t true h = of (clog2 (constant_value t.expression)) h
   where
     of : (n : Option ℕ) → (clog2_of n place t.faults).faults ≡ [] → t.faults ≡ []
-    of None k = (both_nil t.faults (fault 31 place) k).0
+    of None k = (both_nil t.faults (fault UnknownConstant place) k).0
     of (Some n) k = k
 
 call_fine : (d : Design) (needed : Bool) (function : tree.SystemFunction) (place : ℕ) (t : Typed) → (t.faults ≡ [] → IsFine d (argument_needed function needed) t) → (call_typed function place t).faults ≡ [] → IsFine d needed (call_typed function place t)
@@ -336,8 +335,8 @@ value_base_fine d needed v r f l = record { good = refl; r = r; range = refl; fo
         (eq-eqb (range_length part.range) (length v.bits) (ap range_length e ∙ f.range))
         w
 
-pub signal_base_fine : (d : Design) (place : ℕ) (s : SignalMeaning) (range : Option Range) → s.signal.range ≡ range → is_signal d s.signal ≡ true → s.known ≡ true → fault_if (is_scalar s) 43 place ≡ [] → IsFineBase d false (signal_base (fault_if (is_scalar s) 43 place) s)
-signal_base_fine d place s None e h k f = absurd (no (scalar s.known s.signal.range k e) (no_fault (is_scalar s) 43 place f))
+pub signal_base_fine : (d : Design) (place : ℕ) (s : SignalMeaning) (range : Option Range) → s.signal.range ≡ range → is_signal d s.signal ≡ true → s.known ≡ true → fault_if (is_scalar s) WrongKind place ≡ [] → IsFineBase d false (signal_base (fault_if (is_scalar s) WrongKind place) s)
+signal_base_fine d place s None e h k f = absurd (no (scalar s.known s.signal.range k e) (no_fault (is_scalar s) WrongKind place f))
   where
     scalar : (b : Bool) (r : Option Range) → b ≡ true → r ≡ None → (b && is_none r) ≡ true
     scalar true None g i = refl
@@ -418,9 +417,9 @@ moving_fine d needed declared r up a place w e a_if w_if h =
     width_fine d needed declared r up n.number a (a.faults ++ n.faults) e (natural_fine d true 1 64 place w w_if k.1) (a_if k.0)
 
 along_fine : (d : Design) (needed : Bool) (declared : Option Range) (r q : Range) (bracket place : ℕ) (fs : List Fault) (against : Bool) → declared ≡ Some r → fits_64 (range_length q) ≡ true → (along against declared bracket place q fs).faults ≡ [] → IsFineTaken d needed r (along against declared bracket place q fs)
-along_fine d needed declared r q bracket place fs true e w h = absurd (no (both_nil fs (fault 37 bracket) h).1)
+along_fine d needed declared r q bracket place fs true e w h = absurd (no (both_nil fs (fault BadRange bracket) h).1)
   where
-    no : fault 37 bracket ≡ [] → ⊥
+    no : fault BadRange bracket ≡ [] → ⊥
     no k = cc
 along_fine d needed declared r q bracket place fs false e w h = taken_fine d needed declared r true (range_length q) (lesser_bound place q) fs e w (record { good = refl; formed = refl; length = refl; constant = λ k. refl })
 
@@ -439,7 +438,7 @@ between_faults declared bracket place None fs h = h
 between_faults declared bracket place (Some q) fs h = of (is_against declared q) declared h
   where
     of : (b : Bool) (declared : Option Range) → (along b declared bracket place q fs).faults ≡ [] → fs ≡ []
-    of true declared k = (both_nil fs (fault 37 bracket) k).0
+    of true declared k = (both_nil fs (fault BadRange bracket) k).0
     of false None k = k
     of false (Some s) k = k
 
@@ -489,10 +488,10 @@ module _ (d : Design) (find : Find) where
     pub typed_fine : (e : tree.Expr) (needed : Bool) → AreSound d needed find → IsExpr e → (typed e find needed).faults ≡ [] → IsFine d needed (typed e find needed)
     typed_fine (tree.Number n) needed s x h = noted_fine d needed n.place (fine (Literal n.bits n.signed n.sized) []) (λ k. record { good = refl; formed = literal_formed d n x; length = refl; constant = λ m. refl }) h
     typed_fine (tree.Named name select) needed s x h = noted_fine d needed name.place (selected select name find needed) (λ k. selected_fine select name needed s x.1 k) h
-    typed_fine (tree.Unary place op a) needed s x h = noted_fine d needed place (unary_typed (unary_op op) (typed a find needed)) (λ k. unary_fine d needed (unary_op op) (typed a find needed) (typed_fine a needed s x k)) h
+    typed_fine (tree.Unary place op a) needed s x h = noted_fine d needed place (unary_typed op (typed a find needed)) (λ k. unary_fine d needed op (typed a find needed) (typed_fine a needed s x k)) h
     typed_fine (tree.Binary op a b) needed s x h =
-        noted_fine d needed (expr_place a) (binary_typed (binary_op op) (typed a find needed) (typed b find needed))
-        (λ k. let n = both_nil (typed a find needed).faults (typed b find needed).faults k in binary_fine d needed (binary_op op) (typed a find needed) (typed b find needed) (typed_fine a needed s x.0 n.0) (typed_fine b needed s x.1 n.1)) h
+        noted_fine d needed (expr_place a) (binary_typed op (typed a find needed) (typed b find needed))
+        (λ k. let n = both_nil (typed a find needed).faults (typed b find needed).faults k in binary_fine d needed op (typed a find needed) (typed b find needed) (typed_fine a needed s x.0 n.0) (typed_fine b needed s x.1 n.1)) h
     typed_fine (tree.Choice c p q) needed s x h =
         noted_fine d needed (expr_place c) (choice_typed (typed c find needed) (typed p find needed) (typed q find needed))
         (λ k.

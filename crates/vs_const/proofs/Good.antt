@@ -11,7 +11,6 @@ use Rattle.vs_grammar.specs.Trees as tree
 use Rattle.vs_grammar.specs.Trees.{expr_place}
 use Rattle.vs_grammar.specs.Shapes.{IsExpr, AreParts, IsSelect}
 use Rattle.vs_const.specs.declared.faults.Fault.{Fault}
-use Rattle.vs_const.specs.Operators.{unary_op, binary_op}
 use Rattle.vs_const.specs.Meanings.{Meaning, AValue, Undefined, ASignal, Another, Unknown, Find, IsFairMeaning, IsFair}
 use Rattle.vs_const.specs.Typed.{Typed, is_over, noted, number_of, natural_if, natural_within, natural, both_lengths, length_map, unary_op_length, unary_typed, binary_way_length, binary_typed, choice_typed, join_typed, copies_typed, fine}
 use Rattle.vs_const.specs.Selects.{bounds, name_typed, Base, base_of, Taken, taken, if_width, is_against, along, between, slice_taken, first_needed, select_if, select_typed}
@@ -150,10 +149,10 @@ module _ (find : Find) (fair : IsFair find) where
     pub typed_long : (e : tree.Expr) → IsExpr e → (typed e find true).good ≡ true → IsLong (typed e find true)
     typed_long (tree.Number n) x h = noted_long n.place (fine (Literal n.bits n.signed n.sized) []) (λ k. record { length = refl; some = x.some }) h
     typed_long (tree.Named name select) x h = noted_long name.place (selected select name find true) (λ k. selected_long select name x.1 k) h
-    typed_long (tree.Unary place op a) x h = noted_long place (unary_typed (unary_op op) (typed a find true)) (λ k. unary_long (unary_op op) (typed a find true) (typed_long a x k)) h
+    typed_long (tree.Unary place op a) x h = noted_long place (unary_typed op (typed a find true)) (λ k. unary_long op (typed a find true) (typed_long a x k)) h
     typed_long (tree.Binary op a b) x h =
-        noted_long (expr_place a) (binary_typed (binary_op op) (typed a find true) (typed b find true))
-        (λ k. let g = split (typed a find true).good (typed b find true).good k in binary_long (binary_op op) (typed a find true) (typed b find true) (typed_long a x.0 g.0) (typed_long b x.1 g.1)) h
+        noted_long (expr_place a) (binary_typed op (typed a find true) (typed b find true))
+        (λ k. let g = split (typed a find true).good (typed b find true).good k in binary_long op (typed a find true) (typed b find true) (typed_long a x.0 g.0) (typed_long b x.1 g.1)) h
     typed_long (tree.Choice c p q) x h =
         noted_long (expr_place c) (choice_typed (typed c find true) (typed p find true) (typed q find true))
         (λ k.

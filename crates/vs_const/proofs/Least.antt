@@ -1,28 +1,29 @@
 -- The least fault of two lists is the lesser of their least faults, so faults may be met in any grouping.
 use Rattle.std.proofs.Common.{◌≡◌, ◌<◌, ◌≤◌, ◌==◌, ◌⊎◌, inl, inr, Bool, true, false, ◌&&◌, ◌||◌, List, [], ◌∷◌, ◌++◌, Option, Some, None, ◌≢◌, if◌then◌else◌, nat_lt, refl, sym, ap, ◌∙◌, arith}
 use Rattle.std.proofs.lemmas.Bool.{ltb-true, ltb-false, eqb-true, eqb-false}
+use Rattle.vs_const.specs.Rules.{rule_number, is_of_signal}
 use Rattle.vs_const.specs.declared.faults.Fault.{Fault}
 use Rattle.vs_const.specs.declared.faults.Flaws.{Flaws}
 use Rattle.vs_const.specs.Faults.{comes_before, lesser, least, better, names_signal, flaws_of, merged}
 
 abbrev Before : Fault → Fault → Type 0
-Before a b = (a.place < b.place) ⊎ ((a.place ≡ b.place) × (a.number < b.number))
+Before a b = (a.place < b.place) ⊎ ((a.place ≡ b.place) × (rule_number a.rule < rule_number b.rule))
 
 abbrev NotBefore : Fault → Fault → Type 0
-NotBefore a b = (b.place < a.place) ⊎ ((b.place ≡ a.place) × (b.number ≤ a.number))
+NotBefore a b = (b.place < a.place) ⊎ ((b.place ≡ a.place) × (rule_number b.rule ≤ rule_number a.rule))
 
 abbrev Decided : Fault → Fault → Bool → Type 0
 Decided a b true = Before a b
 Decided a b false = NotBefore a b
 
-decide : (a b : Fault) → (p q r : Bool) → nat_lt a.place b.place ≡ p → (a.place == b.place) ≡ q → nat_lt a.number b.number ≡ r → Decided a b (p || (q && r))
+decide : (a b : Fault) → (p q r : Bool) → nat_lt a.place b.place ≡ p → (a.place == b.place) ≡ q → nat_lt (rule_number a.rule) (rule_number b.rule) ≡ r → Decided a b (p || (q && r))
 decide a b true q r e f g = inl (ltb-true a.place b.place e)
-decide a b false true true e f g = inr (eqb-true a.place b.place f, ltb-true a.number b.number g)
-decide a b false true false e f g = inr (sym (eqb-true a.place b.place f), ltb-false a.number b.number g)
+decide a b false true true e f g = inr (eqb-true a.place b.place f, ltb-true (rule_number a.rule) (rule_number b.rule) g)
+decide a b false true false e f g = inr (sym (eqb-true a.place b.place f), ltb-false (rule_number a.rule) (rule_number b.rule) g)
 decide a b false false r e f g = let h : a.place ≢ b.place = eqb-false a.place b.place f in let k = ltb-false a.place b.place e in inl (omega (arith, h, k))
 
 decided : (a b : Fault) → Decided a b (comes_before a b)
-decided a b = decide a b (nat_lt a.place b.place) (a.place == b.place) (nat_lt a.number b.number) refl refl refl
+decided a b = decide a b (nat_lt a.place b.place) (a.place == b.place) (nat_lt (rule_number a.rule) (rule_number b.rule)) refl refl refl
 
 through : (a b c : Fault) → Before b a → Before c b → NotBefore c a → ⊥
 through a b c (inl p) (inl q) (inl r) = omega arith
@@ -78,7 +79,7 @@ or_append false b c = refl
 
 names_append : (fs gs : List Fault) → names_signal (fs ++ gs) ≡ (names_signal fs || names_signal gs)
 names_append [] gs = refl
-names_append (f ∷ fs) gs = ap (λ t. (f.number == 30) || t) (names_append fs gs) ∙ or_append (f.number == 30) (names_signal fs) (names_signal gs)
+names_append (f ∷ fs) gs = ap (λ t. is_of_signal f.rule || t) (names_append fs gs) ∙ or_append (is_of_signal f.rule) (names_signal fs) (names_signal gs)
 
 both_kept : (a b : Option Fault) (c d : Bool) → a ≡ b → c ≡ d → (let f : Flaws = record { first = a; signal = c } in f) ≡ (let f : Flaws = record { first = b; signal = d } in f)
 both_kept a b c d h k = cc

@@ -5,7 +5,6 @@ use Rattle.vs_design.specs.Expressions.{Literal, width}
 use Rattle.vs_grammar.specs.Trees as tree
 use Rattle.vs_grammar.specs.Trees.{expr_place}
 use Rattle.vs_grammar.specs.Shapes.{IsExpr}
-use Rattle.vs_const.specs.Operators.{unary_op, binary_op}
 use Rattle.vs_const.specs.Meanings.{Find, IsFair}
 use Rattle.vs_const.specs.Typed.{Typed, is_over, noted, unary_typed, binary_typed, choice_typed, copies_typed, fine}
 use Rattle.vs_const.specs.Expressions.{replication_typed, call_typed, argument_needed, typed, selected, typed_parts}
@@ -25,8 +24,8 @@ short_noted place t h = of t.good (is_over 64 t.length) h
 pub short : (e : tree.Expr) (find : Find) → (typed e find true).good ≡ true → is_over 64 (typed e find true).length ≡ false
 short (tree.Number n) find h = short_noted n.place (fine (Literal n.bits n.signed n.sized) []) h
 short (tree.Named name select) find h = short_noted name.place (selected select name find true) h
-short (tree.Unary place op a) find h = short_noted place (unary_typed (unary_op op) (typed a find true)) h
-short (tree.Binary op a b) find h = short_noted (expr_place a) (binary_typed (binary_op op) (typed a find true) (typed b find true)) h
+short (tree.Unary place op a) find h = short_noted place (unary_typed op (typed a find true)) h
+short (tree.Binary op a b) find h = short_noted (expr_place a) (binary_typed op (typed a find true) (typed b find true)) h
 short (tree.Choice c p q) find h = short_noted (expr_place c) (choice_typed (typed c find true) (typed p find true) (typed q find true)) h
 short (tree.Concatenation place parts) find h = short_noted place (copies_typed 1 (typed_parts parts find true)) h
 short (tree.Replication place count parts) find h = short_noted place (replication_typed (expr_place count) (typed count find true) (typed_parts parts find true)) h

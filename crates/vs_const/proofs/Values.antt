@@ -1,17 +1,13 @@
 -- Lengths of values before they are extended to their context.
-use Rattle.std.proofs.Common.{◌≡◌, ℕ, suc, ◌+◌, ◌*◌, ◌-◌, ◌^◌, ◌≤◌, Bool, List, length, replicate, map, arith, sym, ◌∙◌, subst}
-use Rattle.std.proofs.lemmas.List.{length-append, length-map}
-use Rattle.std.proofs.Math.Nat.{mul-le-mul_right}
+use Rattle.std.proofs.Common.{◌≡◌, ℕ, ◌-◌, ◌≤◌, Bool, false, List, length, replicate, min, arith, ap, sym, ◌∙◌, subst}
+use Rattle.std.proofs.lemmas.List.{length-append}
 use Rattle.vs_four.specs.declared.Bit4.TheVariants.{X}
-use Rattle.vs_four.specs.Logic.{BitList, all_known, map2}
-use Rattle.vs_four.specs.Lengths.{extend, extend_with, repeat}
-use Rattle.vs_four.specs.Numbers.{neg, number, bits_of}
-use Rattle.vs_four.specs.Tables.{not_bit, merge_bit}
-use Rattle.vs_four.specs.Selects.{Part, select, places, at_place}
-use Rattle.vs_design.specs.Expressions.{Expression, Binary, BinaryOp, Way, InContext, Own, Compared, Shifted, way, width, sign}
-use Rattle.vs_design.specs.Values.{value, apply_binary, left_width, right_width, left_sign, right_sign}
-use Rattle.vs_design.proofs.Lengths.{length_value, length_repeat, length_extend, length_if_known, length_bits_of, length_places, length_map2}
-use Rattle.vs_const.specs.Checks.{HasLengths}
+use Rattle.vs_four.specs.Logic.{BitList}
+use Rattle.vs_four.specs.Lengths.{extend_with}
+use Rattle.vs_design.specs.Expressions.{Expression, Unary, Binary, UnaryOp, BinaryOp, Way, InContext, Own, Compared, Shifted, unary_way, way, width, sign}
+use Rattle.vs_design.specs.Values.{value, apply_unary, apply_binary, left_width, right_width, left_sign, right_sign}
+use Rattle.vs_design.proofs.Lengths.{length_value, unary_fits}
+use Rattle.vs_base.specs.Applied.{HasLengths}
 
 -- what is extended to a length was no longer
 pub extend_fits : {A : Type 0} (fill : A) (w : ℕ) (xs : List A) → length (extend_with fill w xs) ≡ w → length xs ≤ w
@@ -27,30 +23,32 @@ binary_within op e f w g a b h p q k =
     let l : P (way op) = extend_fits _ w _ (length_value (Binary op e f) w g (λ b. X) k) in
     subst (λ y. length (apply_binary op g y b) ≤ w) (sym p) (subst (λ y. length (apply_binary op g (value e w g (λ b. X)) y) ≤ w) (sym q) (subst P h l))
 
-pub extend_length : (w : ℕ) (g : Bool) (a : BitList) → length a ≤ w → length (extend w g a) ≡ w
-extend_length w g a h = length_extend _ w a h
+-- what is no longer than 65 bits is told in full
+told : (n : ℕ) → n ≤ 64 → min 65 n ≡ n
+told n h = omega arith
 
-pub neg_length : (a : BitList) → length (neg a) ≡ length a
-neg_length a = length_if_known (all_known a) (length a) (bits_of (length a) (2 ^ length a - number a)) (length_bits_of (length a) (2 ^ length a - number a))
+-- the context of an operand is no shorter than it, and as short as that of the operator and the operand itself
+pub operand_fits : (op : UnaryOp) (e : Expression) (w c : ℕ) → width e ≤ 64 → width (Unary op e) ≤ w → c ≡ left_width (unary_way op) w (min 65 (width e)) 0 → width e ≤ c
+operand_fits op e w c short h k = subst (λ x. width e ≤ x) (sym (k ∙ ap (λ n. left_width (unary_way op) w n 0) (told (width e) short))) (unary_fits op w (width e) h)
 
-pub not_length : (a : BitList) → length (map not_bit a) ≡ length a
-not_length a = length-map a not_bit
+pub operand_short : (op : UnaryOp) (n w c : ℕ) → n ≤ 64 → w ≤ 64 → c ≡ left_width (unary_way op) w (min 65 n) 0 → c ≤ 64
+operand_short op n w c short most k = by (unary_way op) k
+  where
+    by : (y : Way) → c ≡ left_width y w (min 65 n) 0 → c ≤ 64
+    by InContext e = omega (arith, e)
+    by Own e = omega (arith, e)
+    by Compared e = omega (arith, e)
+    by Shifted e = omega (arith, e)
 
-pub select_length : (p : Part) (g : Bool) (a index : BitList) → length (select p g a index) ≡ p.width
-select_length p g a index = length-map (places p g index) (at_place X a) ∙ length_places p g index
+-- the operand in its context
+pub operand_is : (op : UnaryOp) (e : Expression) (w c : ℕ) (g s : Bool) (a : BitList) → width e ≤ 64 → c ≡ left_width (unary_way op) w (min 65 (width e)) 0 → s ≡ left_sign (unary_way op) g (sign e) false
+    → a ≡ value e c s (λ b. X) → a ≡ value e (left_width (unary_way op) w (width e) 0) (left_sign (unary_way op) g (sign e) false) (λ b. X)
+operand_is op e w c g s a short k l m = m ∙ ap (λ n. value e n s (λ b. X)) (k ∙ ap (λ n. left_width (unary_way op) w n 0) (told (width e) short)) ∙ ap (λ x. value e (left_width (unary_way op) w (width e) 0) x (λ b. X)) l
 
-pub merge_length : (p q : BitList) → length p ≡ length q → length (map2 merge_bit p q) ≡ length p
-merge_length p q h = length_map2 merge_bit p q h
-
-pub repeat_length : (n : ℕ) (a : BitList) → length (repeat n a) ≡ n * length a
-repeat_length n a = length_repeat n a
-
--- room for one more copy
-pub more_copies : (made count : ℕ) (a : BitList) → suc made ≤ count → count * length a ≤ 64 → length (repeat made a) + length a ≤ 64
-more_copies made count a h k =
-    let m : suc made * length a ≤ count * length a = mul-le-mul_right (length a) h in
-    let r = length_repeat made a in
-    omega (arith, m, r, k)
+-- and what the operator makes of it
+pub unary_within : (op : UnaryOp) (e : Expression) (w : ℕ) (g : Bool) (a : BitList)
+    → a ≡ value e (left_width (unary_way op) w (width e) 0) (left_sign (unary_way op) g (sign e) false) (λ b. X) → width (Unary op e) ≤ w → length (apply_unary op a) ≤ w
+unary_within op e w g a p k = subst (λ x. length (apply_unary op x) ≤ w) (sym p) (extend_fits _ w _ (length_value (Unary op e) w g (λ b. X) k))
 
 -- operands of one length may be taken by any operator
 pub equal_lengths : (op : BinaryOp) (a b : BitList) → length a ≡ length b → HasLengths op a b

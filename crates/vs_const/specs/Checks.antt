@@ -1,8 +1,7 @@
 -- What the check of an expression tells: of what the definitions say, all but the expression itself.
-use Rattle.std.specs.Prelude.{◌≡◌, ℕ, length, min, List, [], Option, Some, None, option_map}
-use Rattle.vs_design.specs.Expressions.{BinaryOp, Way, InContext, Own, Compared, Shifted, way as way_of, sign}
-use Rattle.vs_four.specs.Logic.{BitList}
-use Rattle.vs_const.specs.Faults.{fault, flaws_of}
+use Rattle.std.specs.Prelude.{◌≡◌, ℕ, min, List, [], Option, Some, None, option_map}
+use Rattle.vs_design.specs.Expressions.{sign}
+use Rattle.vs_const.specs.Faults.{fault, flaws_of, WrongKind}
 use Rattle.vs_const.specs.declared.faults.Fault.{Fault}
 use Rattle.vs_const.specs.Typed.{Typed, Numbered, Natural}
 use Rattle.vs_const.specs.Selects.{Bounds, Base, Taken}
@@ -12,8 +11,6 @@ use Rattle.vs_const.specs.declared.ranges.Natural.{Natural as NaturalOf}
 use Rattle.vs_const.specs.declared.ranges.Bounds.{Bounds as BoundsOf}
 use Rattle.vs_const.specs.declared.selects.Base.{Base as BaseOf}
 use Rattle.vs_const.specs.declared.selects.Taken.{Taken as TakenOf}
-use Rattle.vs_const.specs.declared.operators.Way.{Way as WayOf}
-use Rattle.vs_const.specs.declared.operators.Way.TheVariants as way
 
 -- a length, of which no more is told than that it is over 64
 abbrev pub capped : Option ℕ → Option ℕ
@@ -53,23 +50,7 @@ pub record ChecksTaken (c : TakenOf) (t : Taken) : Type 0 where
   pub good : c.good ≡ t.good
   pub flaws : c.flaws ≡ flaws_of t.faults
 
--- the code's names for how an operator takes its operands
-abbrev pub IsWay : WayOf → Way → Type 0
-IsWay way.InContext w = w ≡ InContext
-IsWay way.Own w = w ≡ Own
-IsWay way.Compared w = w ≡ Compared
-IsWay way.Shifted w = w ≡ Shifted
-
 -- where a part of a concatenation begins that is a literal without a size
 abbrev pub IsUnsizedAt : Option ℕ → List Fault → Type 0
 IsUnsizedAt None fs = fs ≡ []
-IsUnsizedAt (Some place) fs = fs ≡ fault 43 place
-
--- the lengths that an operator's operands have: equal, but for `&&`, `||` and shifts
-abbrev pub HasLengths : BinaryOp → BitList → BitList → Type 0
-HasLengths op a b = of_way (way_of op)
-  where
-    of_way : Way → Type 0
-    of_way Own = Unit {0}
-    of_way Shifted = Unit {0}
-    of_way _ = length a ≡ length b
+IsUnsizedAt (Some place) fs = fs ≡ fault WrongKind place

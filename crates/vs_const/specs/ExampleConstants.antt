@@ -10,6 +10,7 @@ use Rattle.vs_grammar.specs.Trees.{Expr, NoExpr, AndExpr, Whole, BitAt, Slice, B
 use Rattle.vs_const.specs.declared.faults.Fault.{Fault}
 use Rattle.vs_const.specs.Meanings.{ConstantValue, Meaning, AValue, Undefined, ASignal, Another, Unknown, Find}
 use Rattle.vs_const.specs.Constants.{constant_answer, number_answer}
+use Rattle.vs_const.specs.Faults.{Rule, BadRange, NotConstant, UnknownConstant, UnknownName, WrongKind}
 
 -- ---- what names mean
 
@@ -72,8 +73,8 @@ long place = two place (dec place 64 0) (dec place 1 0)
 
 -- ---- answers
 
-abbrev pub breaks : {A : Type 0} → ℕ → ℕ → Result A Fault
-breaks number place = Err (record { number = number; place = place })
+abbrev pub breaks : {A : Type 0} → Rule → ℕ → Result A Fault
+breaks rule place = Err (record { rule = rule; place = place })
 
 abbrev pub gives : BitList → Result (Option ConstantValue) Fault
 gives bits = Ok (Some (record { bits = bits; signed = false }))
@@ -88,7 +89,7 @@ pub record ConstantsComputed : Type 0 where
   pub wider : constant_answer (tree.Binary tree.Add (dec 0 8 255) (dec 2 8 1)) names (Some (record { width = 9; signed = false })) ≡ gives (bits_of 9 256)
   -- `4 / 0` is all x, and no number
   pub by_zero : constant_answer (tree.Binary tree.Divide (plain 0 4) (plain 2 0)) names None ≡ Ok (Some (record { bits = replicate 32 X; signed = true }))
-  pub no_number : number_answer (tree.Binary tree.Divide (plain 0 4) (plain 2 0)) names ≡ breaks 31 0
+  pub no_number : number_answer (tree.Binary tree.Divide (plain 0 4) (plain 2 0)) names ≡ breaks UnknownConstant 0
   -- `-7 / 2` is -3, and `-7 % 2` is -1
   pub quotient : number_answer (tree.Binary tree.Divide (tree.Unary 0 tree.Minus (plain 1 7)) (plain 3 2)) names ≡ Ok (Some (negsuc 2))
   pub remainder : number_answer (tree.Binary tree.Remainder (tree.Unary 0 tree.Minus (plain 1 7)) (plain 3 2)) names ≡ Ok (Some (negsuc 0))
@@ -103,54 +104,54 @@ pub record ConstantsComputed : Type 0 where
   -- `d + 1`: no rule is broken here, and there is no value
   pub undefined : constant_answer (tree.Binary tree.Add (tree.Named (a_name 0 100) Whole) (plain 2 1)) names None ≡ Ok None
   pub undefined_number : number_answer (tree.Binary tree.Add (tree.Named (a_name 0 100) Whole) (plain 2 1)) names ≡ Ok None
-  -- ---- 30: a signal is named
+  -- ---- a signal is named
 
-  pub signal : constant_answer (v 0) names None ≡ breaks 30 0
+  pub signal : constant_answer (v 0) names None ≡ breaks NotConstant 0
   -- `{64'd0, v[1]}`, `{64'd0, $clog2(v)}` and `{64'd0, v == p}`, whatever the length
-  pub signal_of_long : constant_answer (two 0 (dec 1 64 0) (tree.Named (a_name 3 118) (BitAt 4 (plain 5 1)))) names None ≡ breaks 30 3
-  pub signal_in_logarithm : constant_answer (two 0 (dec 1 64 0) (tree.Call 3 Clog2 (v 5))) names None ≡ breaks 30 5
-  pub signal_compared : constant_answer (two 0 (dec 1 64 0) (tree.Binary tree.Equal (v 3) (p 5))) names None ≡ breaks 30 3
-  -- ---- 31: bits of a number are unknown
+  pub signal_of_long : constant_answer (two 0 (dec 1 64 0) (tree.Named (a_name 3 118) (BitAt 4 (plain 5 1)))) names None ≡ breaks NotConstant 3
+  pub signal_in_logarithm : constant_answer (two 0 (dec 1 64 0) (tree.Call 3 Clog2 (v 5))) names None ≡ breaks NotConstant 5
+  pub signal_compared : constant_answer (two 0 (dec 1 64 0) (tree.Binary tree.Equal (v 3) (p 5))) names None ≡ breaks NotConstant 3
+  -- ---- bits of a number are unknown
 
   -- `$clog2(1'bx)` and `$clog2((1'bx))`
-  pub unknown_logarithm : constant_answer (tree.Call 0 Clog2 (lit 2 (X ∷ []))) names None ≡ breaks 31 2
-  pub unknown_in_brackets : constant_answer (tree.Call 0 Clog2 (tree.Brackets 2 (lit 3 (X ∷ [])))) names None ≡ breaks 31 2
+  pub unknown_logarithm : constant_answer (tree.Call 0 Clog2 (lit 2 (X ∷ []))) names None ≡ breaks UnknownConstant 2
+  pub unknown_in_brackets : constant_answer (tree.Call 0 Clog2 (tree.Brackets 2 (lit 3 (X ∷ [])))) names None ≡ breaks UnknownConstant 2
   -- `p[1'bx:0]`
-  pub unknown_bound : constant_answer (p_between 0 (lit 2 (X ∷ [])) (plain 4 0)) names None ≡ breaks 31 2
+  pub unknown_bound : constant_answer (p_between 0 (lit 2 (X ∷ [])) (plain 4 0)) names None ≡ breaks UnknownConstant 2
   -- `{1'bx{p}}`
-  pub unknown_count : constant_answer (tree.Replication 0 (lit 1 (X ∷ [])) (AndExpr (p 3) NoExpr)) names None ≡ breaks 31 1
+  pub unknown_count : constant_answer (tree.Replication 0 (lit 1 (X ∷ [])) (AndExpr (p 3) NoExpr)) names None ≡ breaks UnknownConstant 1
   -- but `p[1'bx]` is x
   pub unknown_index : constant_answer (tree.Named (a_name 0 112) (BitAt 1 (lit 2 (X ∷ [])))) names None ≡ gives (X ∷ [])
-  -- ---- 35: a name has no declaration
+  -- ---- a name has no declaration
 
-  pub no_declaration : constant_answer (u 0) names None ≡ breaks 35 0
-  -- ---- 37: a number isn't within its bounds, or an expression is too long
+  pub no_declaration : constant_answer (u 0) names None ≡ breaks UnknownName 0
+  -- ---- a number isn't within its bounds, or an expression is too long
 
   -- `{0{p}}` and `{65{p}}`, at the count
-  pub no_copies : constant_answer (tree.Replication 0 (plain 1 0) (AndExpr (p 3) NoExpr)) names None ≡ breaks 37 1
-  pub copies_65 : constant_answer (tree.Replication 0 (plain 1 65) (AndExpr (p 3) NoExpr)) names None ≡ breaks 37 1
+  pub no_copies : constant_answer (tree.Replication 0 (plain 1 0) (AndExpr (p 3) NoExpr)) names None ≡ breaks BadRange 1
+  pub copies_65 : constant_answer (tree.Replication 0 (plain 1 65) (AndExpr (p 3) NoExpr)) names None ≡ breaks BadRange 1
   -- `p[65536:0]` at the bound, `p[0 +: 65]` at the width
-  pub bound : constant_answer (p_between 0 (plain 2 65536) (plain 4 0)) names None ≡ breaks 37 2
-  pub part_of_65 : constant_answer (tree.Named (a_name 0 112) (Slice 1 Upward (plain 2 0) (plain 4 65))) names None ≡ breaks 37 4
+  pub bound : constant_answer (p_between 0 (plain 2 65536) (plain 4 0)) names None ≡ breaks BadRange 2
+  pub part_of_65 : constant_answer (tree.Named (a_name 0 112) (Slice 1 Upward (plain 2 0) (plain 4 65))) names None ≡ breaks BadRange 4
   -- `p[0:3]`, against the direction of `[3:0]`, and `p[64:0]`, at the bracket
-  pub against : constant_answer (p_between 0 (plain 2 0) (plain 4 3)) names None ≡ breaks 37 1
-  pub slice_of_65 : constant_answer (p_between 0 (plain 2 64) (plain 4 0)) names None ≡ breaks 37 1
+  pub against : constant_answer (p_between 0 (plain 2 0) (plain 4 3)) names None ≡ breaks BadRange 1
+  pub slice_of_65 : constant_answer (p_between 0 (plain 2 64) (plain 4 0)) names None ≡ breaks BadRange 1
   -- `{64'd0, 1'd0}`; as an operand, `1 == {64'd0, 1'd0}`; before a signal, `{64'd0, 1'd0} + v`
-  pub length_65 : constant_answer (long 0) names None ≡ breaks 37 0
-  pub operand_of_65 : constant_answer (tree.Binary tree.Equal (plain 0 1) (long 2)) names None ≡ breaks 37 2
-  pub long_and_signal : constant_answer (tree.Binary tree.Add (long 0) (v 6)) names None ≡ breaks 37 0
-  -- ---- 43: a name of another kind, or a literal without size in a concatenation
+  pub length_65 : constant_answer (long 0) names None ≡ breaks BadRange 0
+  pub operand_of_65 : constant_answer (tree.Binary tree.Equal (plain 0 1) (long 2)) names None ≡ breaks BadRange 2
+  pub long_and_signal : constant_answer (tree.Binary tree.Add (long 0) (v 6)) names None ≡ breaks BadRange 0
+  -- ---- a name of another kind, or a literal without size in a concatenation
 
-  pub another_kind : constant_answer (tree.Named (a_name 0 103) Whole) names None ≡ breaks 43 0
+  pub another_kind : constant_answer (tree.Named (a_name 0 103) Whole) names None ≡ breaks WrongKind 0
   -- `{p, 1}`, and `{p, (1)}` at the bracket
-  pub no_size : constant_answer (two 0 (p 1) (plain 3 1)) names None ≡ breaks 43 3
-  pub no_size_in_brackets : constant_answer (two 0 (p 1) (tree.Brackets 3 (plain 4 1))) names None ≡ breaks 43 4
+  pub no_size : constant_answer (two 0 (p 1) (plain 3 1)) names None ≡ breaks WrongKind 3
+  pub no_size_in_brackets : constant_answer (two 0 (p 1) (tree.Brackets 3 (plain 4 1))) names None ≡ breaks WrongKind 4
   -- ---- of several the one at the least place, there the one with the least number
 
   -- `u + v` and `v + u`
-  pub first_unknown : constant_answer (tree.Binary tree.Add (u 0) (v 2)) names None ≡ breaks 35 0
-  pub first_signal : constant_answer (tree.Binary tree.Add (v 0) (u 2)) names None ≡ breaks 30 0
-  -- `{65{1}}`: 37 at the count, and 43 behind it
-  pub first_count : constant_answer (tree.Replication 0 (plain 1 65) (AndExpr (plain 3 1) NoExpr)) names None ≡ breaks 37 1
-  -- `u ? {64'd0, 1'd0} : {64'd0, 1'd0}`: 35 and 37 at the `u`
-  pub least_number : constant_answer (tree.Choice (u 0) (long 2) (long 8)) names None ≡ breaks 35 0
+  pub first_unknown : constant_answer (tree.Binary tree.Add (u 0) (v 2)) names None ≡ breaks UnknownName 0
+  pub first_signal : constant_answer (tree.Binary tree.Add (v 0) (u 2)) names None ≡ breaks NotConstant 0
+  -- `{65{1}}`: `BadRange` at the count, and `WrongKind` behind it
+  pub first_count : constant_answer (tree.Replication 0 (plain 1 65) (AndExpr (plain 3 1) NoExpr)) names None ≡ breaks BadRange 1
+  -- `u ? {64'd0, 1'd0} : {64'd0, 1'd0}`: `UnknownName` and `BadRange` at the `u`
+  pub least_number : constant_answer (tree.Choice (u 0) (long 2) (long 8)) names None ≡ breaks UnknownName 0

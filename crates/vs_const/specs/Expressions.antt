@@ -6,15 +6,14 @@ use Rattle.vs_design.specs.Values.{constant_value}
 use Rattle.vs_grammar.specs.Trees as tree
 use Rattle.vs_grammar.specs.Trees.{expr_place}
 use Rattle.vs_const.specs.declared.faults.Fault.{Fault}
-use Rattle.vs_const.specs.Faults.{fault, fault_if}
-use Rattle.vs_const.specs.Operators.{unary_op, binary_op}
+use Rattle.vs_const.specs.Faults.{fault, fault_if, UnknownConstant, WrongKind}
 use Rattle.vs_const.specs.Meanings.{Find}
 use Rattle.vs_const.specs.Typed.{Typed, broken, fine, noted, Numbered, number_of, natural, unary_typed, binary_typed, choice_typed, join_typed, copies_typed}
 use Rattle.vs_const.specs.Selects.{base_of, name_typed, taken, slice_taken, first_needed, select_typed}
 
 -- a literal without a size has no place in a concatenation (5.1.14); brackets round it are no matter
 abbrev pub unsized_faults : tree.Expr → List Fault
-unsized_faults (tree.Number n) = fault_if (not n.sized) 43 n.place
+unsized_faults (tree.Number n) = fault_if (not n.sized) WrongKind n.place
 unsized_faults (tree.Brackets place e) = unsized_faults e
 unsized_faults _ = []
 
@@ -43,7 +42,7 @@ replication_typed place count t = let n = natural 1 64 place count in replicated
 
 -- `$clog2` is a number of 32 bits, signed; its argument is a constant (17.11)
 abbrev pub clog2_of : Option ℕ → (place : ℕ) → List Fault → Typed
-clog2_of None place faults = broken (Some 32) (faults ++ fault 31 place)
+clog2_of None place faults = broken (Some 32) (faults ++ fault UnknownConstant place)
 clog2_of (Some n) place faults = fine (Literal (bits_of 32 n) true true) faults
 
 -- of an argument with a value
@@ -68,8 +67,8 @@ abbrev mutual
   pub typed : tree.Expr → Find → Bool → Typed
   typed (tree.Number n) find needed = noted needed n.place (fine (Literal n.bits n.signed n.sized) [])
   typed (tree.Named name select) find needed = noted needed name.place (selected select name find needed)
-  typed (tree.Unary place op a) find needed = noted needed place (unary_typed (unary_op op) (typed a find needed))
-  typed (tree.Binary op a b) find needed = noted needed (expr_place a) (binary_typed (binary_op op) (typed a find needed) (typed b find needed))
+  typed (tree.Unary place op a) find needed = noted needed place (unary_typed op (typed a find needed))
+  typed (tree.Binary op a b) find needed = noted needed (expr_place a) (binary_typed op (typed a find needed) (typed b find needed))
   typed (tree.Choice c p q) find needed = noted needed (expr_place c) (choice_typed (typed c find needed) (typed p find needed) (typed q find needed))
   typed (tree.Concatenation place parts) find needed = noted needed place (copies_typed 1 (typed_parts parts find needed))
   typed (tree.Replication place count parts) find needed = noted needed place (replication_typed (expr_place count) (typed count find true) (typed_parts parts find needed))

@@ -1,19 +1,22 @@
 -- Broken rules, and the first of them.
 use Rattle.std.specs.Prelude.{ℕ, Bool, false, ◌&&◌, ◌||◌, List, [], ◌∷◌, if◌then◌else◌, ◌==◌, nat_lt, Option, Some, None}
+use Rattle.vs_const.specs.Rules.{rule_number, is_of_signal}
+pub use Rattle.vs_const.specs.declared.rules.Rule.{Rule}
+pub use Rattle.vs_const.specs.declared.rules.Rule.TheVariants.{NotConstant, UnknownConstant, NoTop, DuplicateModule, UnknownModule, UnknownName, DuplicateName, BadRange, PortCount, UnknownPort, InstanceDepth, TooManyInstances, GenerateTurns, WrongKind, TooManyBits, TooManyProcesses}
 use Rattle.vs_const.specs.declared.faults.Fault.{Fault}
 use Rattle.vs_const.specs.declared.faults.Flaws.{Flaws}
 
 -- a broken rule at a place
-abbrev pub fault : ℕ → ℕ → List Fault
-fault number place = record { number = number; place = place } ∷ []
+abbrev pub fault : Rule → ℕ → List Fault
+fault rule place = record { rule = rule; place = place } ∷ []
 
 -- the fault where the rule is broken
-abbrev pub fault_if : Bool → ℕ → ℕ → List Fault
-fault_if broken number place = if broken then fault number place else []
+abbrev pub fault_if : Bool → Rule → ℕ → List Fault
+fault_if broken rule place = if broken then fault rule place else []
 
 -- at a lesser place, or there with a lesser number
 abbrev pub comes_before : Fault → Fault → Bool
-comes_before a b = nat_lt a.place b.place || ((a.place == b.place) && nat_lt a.number b.number)
+comes_before a b = nat_lt a.place b.place || ((a.place == b.place) && nat_lt (rule_number a.rule) (rule_number b.rule))
 
 -- the first of one and another, if there is another
 abbrev pub lesser : Fault → Option Fault → Fault
@@ -33,7 +36,7 @@ better (Some a) b = Some (lesser a b)
 -- whether a signal is named where a constant is needed
 abbrev pub names_signal : List Fault → Bool
 names_signal [] = false
-names_signal (a ∷ fs) = (a.number == 30) || names_signal fs
+names_signal (a ∷ fs) = is_of_signal a.rule || names_signal fs
 
 -- what is kept of faults
 abbrev pub flaws_of : List Fault → Flaws

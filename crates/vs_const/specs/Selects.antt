@@ -6,7 +6,7 @@ use Rattle.vs_four.specs.Selects.{Part, range_length, is_descending}
 use Rattle.vs_design.specs.Expressions.{Signal, Source, OfSignal, OfConstant, Expression, Literal, Name, Select, At}
 use Rattle.vs_grammar.specs.Trees.{SliceKind, Between, Upward, Downward}
 use Rattle.vs_const.specs.declared.faults.Fault.{Fault}
-use Rattle.vs_const.specs.Faults.{fault, fault_if}
+use Rattle.vs_const.specs.Faults.{fault, fault_if, BadRange, NotConstant, UnknownName, WrongKind}
 use Rattle.vs_const.specs.Meanings.{SignalMeaning, Meaning, AValue, Undefined, ASignal, Another, Unknown}
 use Rattle.vs_const.specs.Typed.{Typed, nothing, broken, fine, natural}
 
@@ -20,7 +20,7 @@ pub record Bounds : Type 0 where
 -- the range, unless it is too long
 abbrev pub range_if : (short : Bool) → ℕ → Range → Bounds
 range_if true bracket r = record { range = Some r; faults = [] }
-range_if false bracket r = record { range = None; faults = fault 37 bracket }
+range_if false bracket r = record { range = None; faults = fault BadRange bracket }
 
 -- at most 64 bits
 abbrev pub up_to_64 : ℕ → Range → Bounds
@@ -48,7 +48,7 @@ known_signal false signal = broken None []
 
 -- a signal is no constant
 abbrev pub signal_typed : Bool → ℕ → SignalMeaning → Typed
-signal_typed true place s = broken None (fault 30 place)
+signal_typed true place s = broken None (fault NotConstant place)
 signal_typed false place s = known_signal s.known s.signal
 
 -- a name alone
@@ -56,8 +56,8 @@ abbrev pub name_typed : Bool → ℕ → Meaning → Typed
 name_typed needed place (AValue v range) = fine (Literal v.bits v.signed true) []
 name_typed needed place (Undefined range) = broken None []
 name_typed needed place (ASignal s) = signal_typed needed place s
-name_typed needed place Another = broken None (fault 43 place)
-name_typed needed place Unknown = broken None (fault 35 place)
+name_typed needed place Another = broken None (fault WrongKind place)
+name_typed needed place Unknown = broken None (fault UnknownName place)
 
 -- what a select takes bits of; no range where a select has no meaning
 pub record Base : Type 0 where
@@ -80,16 +80,16 @@ signal_base faults s = record { source = OfSignal s.signal; range = s.signal.ran
 
 -- which is no constant
 abbrev pub signal_base_of : Bool → ℕ → SignalMeaning → Base
-signal_base_of true place s = no_base None (fault 30 place)
-signal_base_of false place s = signal_base (fault_if (is_scalar s) 43 place) s
+signal_base_of true place s = no_base None (fault NotConstant place)
+signal_base_of false place s = signal_base (fault_if (is_scalar s) WrongKind place) s
 
 -- by what the name means
 abbrev pub base_of : Bool → ℕ → Meaning → Base
 base_of needed place (AValue v range) = record { source = OfConstant v.bits; range = Some range; good = true; faults = [] }
 base_of needed place (Undefined range) = no_base range []
 base_of needed place (ASignal s) = signal_base_of needed place s
-base_of needed place Another = no_base None (fault 43 place)
-base_of needed place Unknown = no_base None (fault 35 place)
+base_of needed place Another = no_base None (fault WrongKind place)
+base_of needed place Unknown = no_base None (fault UnknownName place)
 
 -- ---- selects
 
@@ -138,7 +138,7 @@ lesser_bound place r = fine (At place (Literal (bits_of 32 (min r.left r.right))
 
 -- the bits of a range, unless it goes against the declared direction
 abbrev pub along : (against : Bool) → Option Range → ℕ → ℕ → Range → List Fault → Taken
-along true declared bracket place r faults = not_taken (Some (range_length r)) (faults ++ fault 37 bracket)
+along true declared bracket place r faults = not_taken (Some (range_length r)) (faults ++ fault BadRange bracket)
 along false declared bracket place r faults = taken declared true (range_length r) (lesser_bound place r) faults
 
 -- the bits of a range, unless a fault leaves it undefined

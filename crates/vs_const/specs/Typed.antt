@@ -5,7 +5,7 @@ use Rattle.vs_four.specs.Numbers.{integer}
 use Rattle.vs_design.specs.Expressions.{Expression, Literal, Unary, Binary, Choice, Join, Repeat, At, UnaryOp, unary_length, BinaryOp, Way, InContext, Shifted, way, width, sign}
 use Rattle.vs_design.specs.Values.{constant_value}
 use Rattle.vs_const.specs.declared.faults.Fault.{Fault}
-use Rattle.vs_const.specs.Faults.{fault, fault_if, names_signal}
+use Rattle.vs_const.specs.Faults.{fault, fault_if, names_signal, BadRange, UnknownConstant}
 
 -- a fault may leave the length or the value undefined; `good` says that the value isn't
 pub record Typed : Type 0 where
@@ -42,7 +42,7 @@ is_over most (Some n) = nat_lt most n
 abbrev pub noted : Bool → ℕ → Typed → Typed
 noted needed place t =
     let long = needed && is_over 64 t.length in
-    record { expression = begins_at place t.expression; length = t.length; good = t.good && not long; faults = t.faults ++ fault_if (long && not (names_signal t.faults)) 37 place }
+    record { expression = begins_at place t.expression; length = t.length; good = t.good && not long; faults = t.faults ++ fault_if (long && not (names_signal t.faults)) BadRange place }
 
 -- ---- numbers
 
@@ -54,7 +54,7 @@ pub record Numbered : Type 0 where
 -- the number of bits that are known, or a fault
 abbrev pub number_known : (known : Bool) → BitList → Bool → ℕ → Numbered
 number_known true bits signed place = record { number = Some (integer signed bits); faults = [] }
-number_known false bits signed place = record { number = None; faults = fault 31 place }
+number_known false bits signed place = record { number = None; faults = fault UnknownConstant place }
 
 -- of bits
 abbrev pub known_number : BitList → Bool → ℕ → Numbered
@@ -77,13 +77,13 @@ pub record Natural : Type 0 where
 -- the number, if it is within the bounds
 abbrev pub natural_if : (within : Bool) → ℕ → ℕ → Natural
 natural_if true place n = record { number = Some n; faults = [] }
-natural_if false place n = record { number = None; faults = fault 37 place }
+natural_if false place n = record { number = None; faults = fault BadRange place }
 
 -- of a number that may be undefined
 abbrev pub natural_within : (low high place : ℕ) → Option ℤ → Natural
 natural_within low high place None = record { number = None; faults = [] }
 natural_within low high place (Some (pos n)) = natural_if (nat_le low n && nat_le n high) place n
-natural_within low high place (Some (negsuc n)) = record { number = None; faults = fault 37 place }
+natural_within low high place (Some (negsuc n)) = record { number = None; faults = fault BadRange place }
 
 -- of an expression at this place
 abbrev pub natural : (low high place : ℕ) → Typed → Natural

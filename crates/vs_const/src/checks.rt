@@ -1,23 +1,27 @@
 //! Whether an expression breaks a rule, and the value of a constant (IEEE 1364-2005, 4.10 and clause 5).
 
-ghost use Rattle.std.specs.Prelude.{◌≡◌, true, IfOk, ℤ, Option};
+ghost use Rattle.std.specs.Prelude.{◌≡◌, ◌≤◌, true, IfOk, IfSome, ℤ, Option};
+ghost use Rattle.vs_four.specs.Selects.{range_length};
 ghost use Rattle.vs_grammar.specs.Trees.{expr_place};
 ghost use Rattle.vs_grammar.specs.Shapes.{IsExpr, IsSelect, AreParts};
 ghost use Rattle.vs_ast.specs.Views as view;
 ghost use Rattle.vs_const.specs.Meanings.{IsFair};
 ghost use Rattle.vs_const.specs.Expressions as expr;
-ghost use Rattle.vs_const.specs.Checks.{ChecksNumber, IsUnsizedAt};
+ghost use Rattle.vs_const.specs.Selects.{bounds};
+ghost use Rattle.vs_const.specs.Typed.{natural};
+ghost use Rattle.vs_const.specs.Checks.{ChecksBounds, ChecksNatural, ChecksNumber, IsUnsizedAt};
 ghost use Rattle.vs_const.specs.Found.{Finds, Says};
 
 use crate::found::{
-    Found, find_between, find_binary, find_bit, find_brackets, find_cast, find_choice, find_clog2,
+    Found, find_between, find_binary, find_bit, find_brackets, find_choice, find_clog2,
     find_concatenation, find_last, find_literal, find_more, find_moving, find_name, find_number,
     find_replication, find_unary,
 };
 use crate::names::Env;
-use crate::ranges::Numbered;
+use crate::ranges::{Bounds, Natural, Numbered, natural_of, range_of_bounds};
 use std::alloc::{AllocError, Global};
 use vs_ast::{Expr, Name, Select, SliceKind, SystemFunction};
+use vs_base::UnaryOp;
 
 /// Where an expression begins.
 pub fn place_of(e: &Expr) -> u32
@@ -81,7 +85,8 @@ fn find<E: Env>(alloc: Global, e: &Expr, env: &E, needed: bool) -> Result<Found,
         }
         Expr::Unary { place, op, operand } => {
             let a = check(alloc, operand, env, needed)?;
-            find_unary(alloc, needed, *place, *op, a)
+            let c = find_unary(alloc, *op, a)?;
+            find_brackets(alloc, needed, *place, c)
         }
         Expr::Binary { op, left, right } => {
             let a = check(alloc, left, env, needed)?;
@@ -139,11 +144,11 @@ fn find_call<E: Env>(
     match function {
         SystemFunction::AsSigned => {
             let a = check(alloc, operand, env, needed)?;
-            find_cast(alloc, true, a)
+            find_unary(alloc, UnaryOp::Signed, a)
         }
         SystemFunction::AsUnsigned => {
             let a = check(alloc, operand, env, needed)?;
-            find_cast(alloc, false, a)
+            find_unary(alloc, UnaryOp::Unsigned, a)
         }
         SystemFunction::Clog2 => {
             let a = check(alloc, operand, env, true)?;
@@ -165,7 +170,7 @@ fn find_selected<E: Env>(
     requires fair { IsFair (E.names env.now) }
     ensures { IfOk result (λ c. Finds needed c (expr.selected (view.select select.now) (view.name name.now) (E.names env.now) needed)) }
 {
-    let named = env.find(name.text.as_bytes());
+    let named = env.find(name.text.as_slice());
     match select {
         Select::Whole => Ok(find_name(needed, name.place, &named)),
         Select::Bit { index, .. } => {
@@ -250,11 +255,48 @@ fn find_parts<E: Env>(
 
 /// The number of a needed constant.
 #[cycle(evaluation)]
-pub(crate) fn numbered<E: Env>(alloc: Global, e: &Expr, env: &E) -> Result<Numbered, AllocError>
+pub fn numbered<E: Env>(alloc: Global, e: &Expr, env: &E) -> Result<Numbered, AllocError>
     requires shaped { IsExpr (view.expr e.now) }
     requires fair { IsFair (E.names env.now) }
     ensures { IfOk result (λ n. ChecksNumber n (expr.number (view.expr e.now) (E.names env.now))) }
 {
     let c = check(alloc, e, env, true)?;
     Ok(find_number(place_of(e), c))
+}
+
+/// The number of a needed constant, if it is from `low` to `high`.
+pub fn natural<E: Env>(
+    alloc: Global,
+    low: u32,
+    high: u32,
+    e: &Expr,
+    env: &E,
+) -> Result<Natural, AllocError>
+    requires shaped { IsExpr (view.expr e.now) }
+    requires fair { IsFair (E.names env.now) }
+    ensures is { IfOk result (λ n. ChecksNatural n (natural low high (expr_place (view.expr e.now)) (expr.constant (view.expr e.now) (E.names env.now)))) }
+    ensures within { IfOk result (λ n. IfSome n.number (λ k. (low ≤ k) × (k ≤ high))) }
+{
+    let n = numbered(alloc, e, env)?;
+    Ok(natural_of(low, high, place_of(e), n))
+}
+
+/// The range with these bounds, which are needed constants.
+pub fn bounds<E: Env>(
+    alloc: Global,
+    bracket: u32,
+    left: &Expr,
+    right: &Expr,
+    env: &E,
+) -> Result<Bounds, AllocError>
+    requires left { IsExpr (view.expr left.now) }
+    requires right { IsExpr (view.expr right.now) }
+    requires fair { IsFair (E.names env.now) }
+    ensures is { IfOk result (λ b. ChecksBounds b (bounds bracket (expr_place (view.expr left.now)) (expr.constant (view.expr left.now) (E.names env.now))
+        (expr_place (view.expr right.now)) (expr.constant (view.expr right.now) (E.names env.now)))) }
+    ensures short { IfOk result (λ b. IfSome b.range (λ r. range_length r ≤ 64)) }
+{
+    let m = numbered(alloc, left, env)?;
+    let n = numbered(alloc, right, env)?;
+    Ok(range_of_bounds(bracket, place_of(left), m, place_of(right), n))
 }

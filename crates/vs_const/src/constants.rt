@@ -9,7 +9,6 @@ ghost use Rattle.vs_const.specs.Expressions as expr;
 ghost use Rattle.vs_const.specs.Constants.{HasRoom, width_in, value_in, value_of, constant_answer, number_answer, IsErrorOf};
 ghost use Rattle.vs_const.specs.Forms.{expression, IsValued};
 
-use crate::apply::Shape;
 use crate::checks::{check, numbered};
 use crate::error::ConstError;
 use crate::forms::{Form, own, shape, value};
@@ -17,9 +16,10 @@ use crate::found::Found;
 use crate::names::{Constant, Env};
 use std::alloc::Global;
 use vs_ast::Expr;
+use vs_base::Context;
 
 /// The value of an expression, by itself or in a context.
-fn valued(f: &Form, context: Option<Shape>) -> Constant
+fn valued(f: &Form, context: Option<Context>) -> Constant
     requires valued { IsValued f.now }
     requires most { IfSome context (λ s. s.width ≤ 64) }
     requires fits { IfSome context (λ s. E.width (expression f.now) ≤ s.width) }
@@ -45,19 +45,19 @@ fn valued(f: &Form, context: Option<Shape>) -> Constant
 ///
 /// An error is the first rule that is broken, at a token of the text. Where several are, it is the one at the least token, and there the one
 /// with the least number:
-/// - 30: a signal is named (4.10).
-/// - 31: a count, a bound, a width or the argument of `$clog2` has unknown bits.
-/// - 35: a name has no declaration.
-/// - 37: a bound isn't from 0 to 65,535, a width or a count isn't from 1 to 64, `[a:b]` has over 64 bits or goes against the declared direction
+/// - `NotConstant`: a signal is named (4.10).
+/// - `UnknownConstant`: a count, a bound, a width or the argument of `$clog2` has unknown bits.
+/// - `UnknownName`: a name has no declaration.
+/// - `BadRange`: a bound isn't from 0 to 65,535, a width or a count isn't from 1 to 64, `[a:b]` has over 64 bits or goes against the declared direction
 ///   (5.2.1), or an expression that names no signal has over 64 bits.
-/// - 43: a name of another kind, or a literal without a size in a concatenation (5.1.14).
+/// - `WrongKind`: a name of another kind, or a literal without a size in a concatenation (5.1.14).
 ///
 /// `Memory` may be answered in place of anything.
 pub fn constant<E: Env>(
     alloc: Global,
     e: &Expr,
     env: &E,
-    context: Option<Shape>,
+    context: Option<Context>,
 ) -> Result<Option<Constant>, ConstError>
     requires shaped { IsExpr (view.expr e.now) }
     requires fair { IsFair (E.names env.now) }
@@ -81,7 +81,7 @@ pub fn constant<E: Env>(
 /// The number of a constant expression, in two's complement where it is signed. There is none where no rule is broken and a fault elsewhere
 /// leaves the value of a name undefined.
 ///
-/// The errors are those of `constant`, and 31 at the expression's first token where its value has unknown bits.
+/// The errors are those of `constant`, and `UnknownConstant` at the expression's first token where its value has unknown bits.
 pub fn number<E: Env>(alloc: Global, e: &Expr, env: &E) -> Result<Option<i128>, ConstError>
     requires shaped { IsExpr (view.expr e.now) }
     requires fair { IsFair (E.names env.now) }

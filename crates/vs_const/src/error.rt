@@ -8,7 +8,7 @@ use thiserror::Error;
 #[derive(Clone, Copy, Debug, PartialEq, Eq, Error)]
 pub enum ConstError {
     /// The first rule that is broken: of several the one at the least token, and there the one with the least number.
-    #[error("rule {} is broken at token {}", .0.number, .0.place)]
+    #[error("rule {} is broken at token {}", .0.rule.number(), .0.place)]
     Broken(Fault),
     /// There was not enough memory.
     #[error("out of memory")]

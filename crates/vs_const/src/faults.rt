@@ -1,12 +1,14 @@
 //! Broken rules, and the first of them.
 
 ghost use Rattle.std.specs.Prelude.{◌≡◌, []};
-ghost use Rattle.vs_const.specs.Faults.{comes_before, better, fault, fault_if, flaws_of, merged};
+ghost use Rattle.vs_const.specs.Faults.{comes_before, better, fault, fault_if, flaws_of, least, merged};
 
-/// A rule that is broken: its number, and the token where it is broken.
+use crate::rules::Rule;
+
+/// A rule that is broken, and the token where it is broken.
 #[derive(Clone, Copy, PartialEq, Eq, Debug)]
 pub struct Fault {
-    pub number: u32,
+    pub rule: Rule,
     pub place: u32,
 }
 
@@ -17,15 +19,17 @@ pub struct Flaws {
     pub signal: bool,
 }
 
-/// Whether a fault comes before another: at a lesser place, or there with a lesser number.
-fn comes_before(a: Fault, b: Fault) -> bool
+/// Whether a fault comes before another: at a lesser place, or there of a rule with a lesser number.
+pub fn comes_before(a: Fault, b: Fault) -> bool
     ensures { result ≡ comes_before a b }
 {
-    a.place < b.place || (a.place == b.place && a.number < b.number)
+    let first = a.rule.number();
+    let second = b.rule.number();
+    a.place < b.place || (a.place == b.place && first < second)
 }
 
-/// The first of two faults.
-fn first(a: Option<Fault>, b: Option<Fault>) -> Option<Fault>
+/// The first of two faults: the one at the lesser place, and there the one whose rule has the lesser number.
+pub fn first_of(a: Option<Fault>, b: Option<Fault>) -> Option<Fault>
     ensures { result ≡ better a b }
 {
     match (a, b) {
@@ -36,17 +40,17 @@ fn first(a: Option<Fault>, b: Option<Fault>) -> Option<Fault>
 }
 
 /// What is wrong with a whole, by what is wrong with its two parts.
-pub(crate) fn both(a: Flaws, b: Flaws) -> Flaws
+pub fn both(a: Flaws, b: Flaws) -> Flaws
     ensures { result ≡ merged a b }
 {
     Flaws {
-        first: first(a.first, b.first),
+        first: first_of(a.first, b.first),
         signal: a.signal || b.signal,
     }
 }
 
 /// Nothing is wrong.
-pub(crate) fn flawless() -> Flaws
+pub fn flawless() -> Flaws
     ensures { result ≡ flaws_of [] }
 {
     Flaws {
@@ -55,22 +59,36 @@ pub(crate) fn flawless() -> Flaws
     }
 }
 
+/// A rule is broken at a place.
+pub fn fault_at(rule: Rule, place: u32) -> Option<Fault>
+    ensures { result ≡ least (fault rule place) }
+{
+    Some(Fault { rule, place })
+}
+
+/// A rule is broken at a place, if it is.
+pub fn fault_if(broken: bool, rule: Rule, place: u32) -> Option<Fault>
+    ensures { result ≡ least (fault_if broken rule place) }
+{
+    if broken { fault_at(rule, place) } else { None }
+}
+
 /// A rule is broken.
-pub(crate) fn flaw(number: u32, place: u32) -> Flaws
-    ensures { result ≡ flaws_of (fault number place) }
+pub fn flaw(rule: Rule, place: u32) -> Flaws
+    ensures { result ≡ flaws_of (fault rule place) }
 {
     Flaws {
-        first: Some(Fault { number, place }),
-        signal: number == 30,
+        first: fault_at(rule, place),
+        signal: rule.is_of_signal(),
     }
 }
 
 /// The rule is broken, or nothing is wrong.
-pub(crate) fn flaw_if(broken: bool, number: u32, place: u32) -> Flaws
-    ensures { result ≡ flaws_of (fault_if broken number place) }
+pub fn flaw_if(broken: bool, rule: Rule, place: u32) -> Flaws
+    ensures { result ≡ flaws_of (fault_if broken rule place) }
 {
     if broken {
-        flaw(number, place)
+        flaw(rule, place)
     } else {
         flawless()
     }

@@ -5,15 +5,13 @@ ghost use Rattle.vs_four.specs.declared.Bit4.TheVariants.{X};
 ghost use Rattle.vs_design.specs.Expressions as E;
 ghost use Rattle.vs_design.specs.Values as V;
 ghost use Rattle.vs_ast.specs.Views as view;
-ghost use Rattle.vs_const.specs.Operators as spec_op;
 ghost use Rattle.vs_const.specs.Typed.{begins_at};
 ghost use Rattle.vs_const.specs.Forms.{expression, IsForm};
 
-use crate::apply::{Shape, apply_binary, apply_unary, choose, together};
-use crate::bits::{extend_literal, extended, inverted, negated, repeated, taken};
-use crate::operators::{Way, way_of};
 use std::alloc::{AllocError, Global};
-use vs_ast::{BinaryOp, UnaryOp};
+use vs_base::{
+    BinaryOp, Context, UnaryOp, Way, choose, copies, extended, extended_literal, selected,
+};
 use vs_four::{Bits, Range, join, truth};
 
 /// An expression that names no signal. What a literal stands for is a number of the text, or the value of a parameter.
@@ -34,11 +32,6 @@ pub enum Form {
     },
     Unary {
         op: UnaryOp,
-        operand: Box<Form>,
-    },
-    /// `$signed` or `$unsigned`.
-    Cast {
-        signed: bool,
         operand: Box<Form>,
     },
     Binary {
@@ -62,7 +55,7 @@ pub enum Form {
     /// An expression with the place where it begins, its length (65 where it is over 64) and its sign.
     At {
         place: u32,
-        shape: Shape,
+        shape: Context,
         inner: Box<Form>,
     },
 }
@@ -85,7 +78,6 @@ impl Drop for Form {
                     index,
                 } => self = Box::into_inner(index),
                 Form::Unary { op: _, operand } => self = Box::into_inner(operand),
-                Form::Cast { signed: _, operand } => self = Box::into_inner(operand),
                 Form::Binary {
                     op: _,
                     left: _,
@@ -138,50 +130,33 @@ impl Form {
 }
 
 /// The length and the sign of an expression by itself. A length over 64 is told as 65.
-#[tactic(auto, using(crate::proofs::Copies::min_times))]
-pub fn shape(f: &Form) -> Shape
+#[tactic(auto, using(crate::proofs::Copies::min_times, crate::proofs::Copies::capped_unary, crate::proofs::Copies::capped_binary))]
+pub fn shape(f: &Form) -> Context
     ensures width { IsForm f.now → result.width ≡ min 65 (E.width (expression f.now)) }
     ensures signed { IsForm f.now → result.signed ≡ E.sign (expression f.now) }
     ensures most { result.width ≤ 65 }
 {
     match f {
-        Form::Literal { bits, signed, .. } => Shape {
+        Form::Literal { bits, signed, .. } => Context {
             width: bits.len(),
             signed: *signed,
         },
-        Form::Select { width, .. } => Shape {
+        Form::Select { width, .. } => Context {
             width: (*width).min(65),
             signed: false,
         },
-        Form::Unary { op, operand } => match op {
-            UnaryOp::Plus | UnaryOp::Minus | UnaryOp::BitNot => shape(operand),
-            _ => Shape {
-                width: 1,
-                signed: false,
-            },
-        },
-        Form::Cast { signed, operand } => Shape {
-            width: shape(operand).width,
-            signed: *signed,
-        },
-        Form::Binary { op, left, right } => match way_of(*op) {
-            Way::InContext => together(shape(left), shape(right)),
-            Way::Shifted => shape(left),
-            Way::Own | Way::Compared => Shape {
-                width: 1,
-                signed: false,
-            },
-        },
-        Form::Choice { yes, no, .. } => together(shape(yes), shape(no)),
-        Form::Join { high, low } => Shape {
+        Form::Unary { op, operand } => op.result(shape(operand)),
+        Form::Binary { op, left, right } => op.way().result(shape(left), shape(right)),
+        Form::Choice { yes, no, .. } => shape(yes).shared(shape(no)),
+        Form::Join { high, low } => Context {
             width: (shape(high).width + shape(low).width).min(65),
             signed: false,
         },
-        Form::Repeat { count, inner } => Shape {
+        Form::Repeat { count, inner } => Context {
             width: ((*count).min(65) * shape(inner).width).min(65),
             signed: false,
         },
-        Form::At { shape, .. } => Shape {
+        Form::At { shape, .. } => Context {
             width: shape.width.min(65),
             signed: shape.signed,
         },
@@ -210,7 +185,7 @@ pub fn value(f: &Form, w: u32, signed: bool) -> Bits
     ensures length { length result ≡ w }
 {
     match f {
-        Form::Literal { bits, sized, .. } => extend_literal(*bits, w, signed, *sized),
+        Form::Literal { bits, sized, .. } => extended_literal(*bits, w, signed, *sized),
         Form::Select {
             bits,
             range,
@@ -219,39 +194,35 @@ pub fn value(f: &Form, w: u32, signed: bool) -> Bits
             index,
         } => {
             extended(
-                taken(*bits, *range, own(index), shape(index).signed, *up, *width),
+                selected(*bits, *range, own(index), shape(index).signed, *up, *width),
                 w,
                 signed,
             )
         }
-        Form::Unary { op, operand } => match op {
-            UnaryOp::Plus => extended(value(operand, w, signed), w, signed),
-            UnaryOp::Minus => extended(negated(value(operand, w, signed)), w, signed),
-            UnaryOp::BitNot => extended(inverted(value(operand, w, signed)), w, signed),
-            _ => extended(apply_unary(*op, own(operand)), w, signed),
-        },
-        Form::Cast { operand, .. } => extended(own(operand), w, signed),
-        Form::Binary { op, left, right } => match way_of(*op) {
+        Form::Unary { op, operand } => {
+            let c = op.operand(Context { width: w, signed }, shape(operand));
+            extended(op.apply(value(operand, c.width, c.signed)), w, signed)
+        }
+        Form::Binary { op, left, right } => match op.way() {
             Way::InContext => extended(
-                apply_binary(*op, signed, value(left, w, signed), value(right, w, signed)),
+                op.apply(signed, value(left, w, signed), value(right, w, signed)),
                 w,
                 signed,
             ),
             Way::Shifted => extended(
-                apply_binary(*op, signed, value(left, w, signed), own(right)),
+                op.apply(signed, value(left, w, signed), own(right)),
                 w,
                 signed,
             ),
             Way::Own => extended(
-                apply_binary(*op, shape(left).signed, own(left), own(right)),
+                op.apply(shape(left).signed, own(left), own(right)),
                 w,
                 signed,
             ),
             Way::Compared => {
-                let s = together(shape(left), shape(right));
+                let s = shape(left).shared(shape(right));
                 extended(
-                    apply_binary(
-                        *op,
+                    op.apply(
                         s.signed,
                         value(left, s.width, s.signed),
                         value(right, s.width, s.signed),
@@ -267,7 +238,7 @@ pub fn value(f: &Form, w: u32, signed: bool) -> Bits
             value(no, w, signed),
         ),
         Form::Join { high, low } => extended(join(own(high), own(low)), w, signed),
-        Form::Repeat { count, inner } => extended(repeated(*count, own(inner)), w, signed),
+        Form::Repeat { count, inner } => extended(copies(*count, own(inner)), w, signed),
         Form::At { inner, .. } => value(inner, w, signed),
     }
 }

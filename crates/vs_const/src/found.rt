@@ -9,7 +9,6 @@ ghost use Rattle.vs_grammar.specs.Shapes.{IsLiteral};
 ghost use Rattle.vs_ast.specs.Views as view;
 ghost use Rattle.vs_const.specs.Faults.{flaws_of};
 ghost use Rattle.vs_const.specs.Meanings.{Meaning, Means, IsFairMeaning};
-ghost use Rattle.vs_const.specs.Operators as spec_op;
 ghost use Rattle.vs_const.specs.Typed as typed;
 ghost use Rattle.vs_const.specs.Selects as spec;
 ghost use Rattle.vs_const.specs.Expressions as expr;
@@ -17,19 +16,18 @@ ghost use Rattle.vs_const.specs.Checks.{Checks, ChecksNumber, ChecksNatural, IsU
 ghost use Rattle.vs_const.specs.Forms.{expression, IsForm};
 ghost use Rattle.vs_const.specs.Found.{IsOf, Keeps, Finds, Says, AreValued};
 
-use crate::apply::Shape;
-use crate::bits::literal_bits;
 use crate::faults::{Fault, Flaws, both, flaw};
 use crate::forms::{Form, own, shape};
 use crate::names::Named;
 use crate::operators::{
-    binary, cast, choice, clog2_broken, clog2_of, copies, join, literal, noted, part, replicated,
-    unary,
+    binary, choice, clog2_broken, clog2_of, copies, join, literal, noted, part, replicated, unary,
 };
-use crate::ranges::{Numbered, natural_of, range_length, range_of_bounds};
+use crate::ranges::{Numbered, natural_of, range_of_bounds};
+use crate::rules::Rule;
 use crate::selects::{base_of, between, bits_from, moving, name_alone, taken_of};
 use std::alloc::{AllocError, Global};
-use vs_ast::{BinaryOp, Literal, UnaryOp};
+use vs_ast::Literal;
+use vs_base::{BinaryOp, Context, UnaryOp};
 use vs_four::{Bits, Range, clog2, integer, is_known, of_number};
 
 /// What an expression says, but for its value. Lengths over 64 bits are told as 65.
@@ -77,32 +75,16 @@ fn kept(
     }
 }
 
-/// An operator of one operand.
+/// An operator of one operand, or a cast.
 fn unary_form(alloc: Global, op: UnaryOp, a: Option<Form>) -> Result<Option<Form>, AllocError>
     ensures { (needed : Bool) (t : typed.Typed) → Keeps needed a t → AreValued a
-        → IfOk result (λ r. Keeps needed r (typed.unary_typed (spec_op.unary_op (view.unary_op op)) t)) }
+        → IfOk result (λ r. Keeps needed r (typed.unary_typed op t)) }
 {
     match a {
         None => Ok(None),
         Some(a) => {
             let operand = Box::new(alloc, a)?;
             Ok(Some(Form::Unary { op, operand }))
-        }
-    }
-}
-
-/// `$signed` and `$unsigned`.
-fn cast_form(alloc: Global, signed: bool, a: Option<Form>) -> Result<Option<Form>, AllocError>
-    ensures yes { (needed : Bool) (t : typed.Typed) → signed ≡ true → Keeps needed a t → AreValued a
-        → IfOk result (λ r. Keeps needed r (typed.unary_typed E.Signed t)) }
-    ensures no { (needed : Bool) (t : typed.Typed) → signed ≡ false → Keeps needed a t → AreValued a
-        → IfOk result (λ r. Keeps needed r (typed.unary_typed E.Unsigned t)) }
-{
-    match a {
-        None => Ok(None),
-        Some(a) => {
-            let operand = Box::new(alloc, a)?;
-            Ok(Some(Form::Cast { signed, operand }))
         }
     }
 }
@@ -115,7 +97,7 @@ fn binary_form(
     b: Option<Form>,
 ) -> Result<Option<Form>, AllocError>
     ensures { (needed : Bool) (t u : typed.Typed) → Keeps needed a t → AreValued a → Keeps needed b u → AreValued b
-        → IfOk result (λ r. Keeps needed r (typed.binary_typed (spec_op.binary_op (view.binary_op op)) t u)) }
+        → IfOk result (λ r. Keeps needed r (typed.binary_typed op t u)) }
 {
     match a {
         None => Ok(None),
@@ -242,7 +224,7 @@ fn literal_form(n: &Literal) -> Option<Form>
     ensures { (needed : Bool) → Keeps needed result (typed.fine (E.Literal (view.literal n.now).bits n.now.signed n.now.sized) []) }
 {
     Some(Form::Literal {
-        bits: literal_bits(n),
+        bits: n.bits(),
         signed: n.signed,
         sized: n.sized,
     })
@@ -348,7 +330,7 @@ fn between_form(
                         alloc,
                         Form::At {
                             place: left_place,
-                            shape: Shape {
+                            shape: Context {
                                 width: 32,
                                 signed: true,
                             },
@@ -359,7 +341,7 @@ fn between_form(
                         bits: value.bits,
                         range: *range,
                         up: true,
-                        width: range_length(r) as u32,
+                        width: r.length() as u32,
                         index,
                     }))
                 } else {
@@ -396,31 +378,14 @@ pub(crate) fn find_literal(alloc: Global, needed: bool, n: &Literal) -> Result<F
     begun_at(alloc, needed, n.place, literal(n), literal_form(n))
 }
 
-/// An operator of one operand.
-pub(crate) fn find_unary(
-    alloc: Global,
-    needed: bool,
-    place: u32,
-    op: UnaryOp,
-    a: Found,
-) -> Result<Found, AllocError>
-    ensures { (t : typed.Typed) → Says needed a t
-        → IfOk result (λ r. Finds needed r (typed.noted needed place (typed.unary_typed (spec_op.unary_op (view.unary_op op)) t))) }
+/// An operator of one operand, or a cast.
+pub(crate) fn find_unary(alloc: Global, op: UnaryOp, a: Found) -> Result<Found, AllocError>
+    ensures { (needed : Bool) (t : typed.Typed) → Says needed a t
+        → IfOk result (λ r. Finds needed r (typed.unary_typed op t)) }
 {
     let form = unary_form(alloc, op, a.form)?;
-    begun_at(alloc, needed, place, unary(op, a.said), form)
-}
-
-/// `$signed` and `$unsigned`.
-pub(crate) fn find_cast(alloc: Global, signed: bool, a: Found) -> Result<Found, AllocError>
-    ensures yes { (needed : Bool) (t : typed.Typed) → signed ≡ true → Says needed a t
-        → IfOk result (λ r. Finds needed r (typed.unary_typed E.Signed t)) }
-    ensures no { (needed : Bool) (t : typed.Typed) → signed ≡ false → Says needed a t
-        → IfOk result (λ r. Finds needed r (typed.unary_typed E.Unsigned t)) }
-{
-    let form = cast_form(alloc, signed, a.form)?;
     Ok(Found {
-        said: cast(signed, a.said),
+        said: unary(op, a.said),
         form,
     })
 }
@@ -477,7 +442,7 @@ fn known_number(place: u32, flaws: Flaws, bits: Bits, signed: bool) -> Numbered
     } else {
         Numbered {
             number: None,
-            flaws: both(flaws, flaw(31, place)),
+            flaws: both(flaws, flaw(Rule::UnknownConstant, place)),
         }
     }
 }
@@ -564,7 +529,7 @@ pub(crate) fn find_binary(
     b: Found,
 ) -> Result<Found, AllocError>
     ensures { (t u : typed.Typed) → Says needed a t → Says needed b u
-        → IfOk result (λ r. Finds needed r (typed.noted needed place (typed.binary_typed (spec_op.binary_op (view.binary_op op)) t u))) }
+        → IfOk result (λ r. Finds needed r (typed.noted needed place (typed.binary_typed op t u))) }
 {
     let form = binary_form(alloc, op, a.form, b.form)?;
     begun_at(alloc, needed, place, binary(op, a.said, b.said), form)

@@ -2,8 +2,6 @@
 //! needed for.
 #![tactic(auto)]
 
-mod apply;
-mod bits;
 mod checks;
 mod constants;
 mod error;
@@ -14,14 +12,19 @@ mod laws;
 mod names;
 mod operators;
 mod ranges;
+mod rules;
 mod selects;
 
-pub use apply::Shape;
-pub use checks::{check, place_of};
+pub use checks::{bounds, check, natural, numbered, place_of};
 pub use constants::{constant, number};
 pub use error::ConstError;
-pub use faults::{Fault, Flaws};
+pub use faults::{
+    Fault, Flaws, both, comes_before, fault_at, fault_if, first_of, flaw, flaw_if, flawless,
+};
 pub use forms::{Form, own, shape, value};
 pub use found::{Checked, Found};
 pub use laws::{constant_examples, sound_law};
 pub use names::{Constant, Env, Named, SignalShape};
+pub use ranges::{Bounds, Natural, Numbered, within};
+pub use rules::Rule;
+pub use selects::is_against;

@@ -6,15 +6,16 @@ ghost use Rattle.vs_grammar.specs.Trees as tree;
 ghost use Rattle.vs_grammar.specs.Shapes.{IsLiteral};
 ghost use Rattle.vs_ast.specs.Views as view;
 ghost use Rattle.vs_const.specs.Faults.{fault, flaws_of};
-ghost use Rattle.vs_const.specs.Operators as spec_op;
 ghost use Rattle.vs_const.specs.Typed as typed;
 ghost use Rattle.vs_const.specs.Expressions as expr;
-ghost use Rattle.vs_const.specs.Checks.{capped, Checks, ChecksNatural, IsWay, IsUnsizedAt};
+ghost use Rattle.vs_const.specs.Checks.{capped, Checks, ChecksNatural, IsUnsizedAt};
 
 use crate::faults::{Fault, Flaws, both, flaw, flaw_if, flawless};
 use crate::found::Checked;
 use crate::ranges::Natural;
-use vs_ast::{BinaryOp, Literal, UnaryOp};
+use crate::rules::Rule;
+use vs_ast::Literal;
+use vs_base::{BinaryOp, UnaryOp, Way};
 
 /// An expression whose value another fault leaves undefined.
 pub(crate) fn undefined() -> Checked
@@ -29,11 +30,11 @@ pub(crate) fn undefined() -> Checked
 }
 
 /// An expression that breaks a rule at this place, and has no length.
-pub(crate) fn faulty(number: u32, place: u32) -> Checked
-    ensures { Checks result (typed.broken None (fault number place)) }
+pub(crate) fn faulty(rule: Rule, place: u32) -> Checked
+    ensures { Checks result (typed.broken None (fault rule place)) }
 {
     Checked {
-        flaws: flaw(number, place),
+        flaws: flaw(rule, place),
         length: None,
         good: false,
         signed: false,
@@ -47,38 +48,35 @@ pub(crate) fn noted(needed: bool, place: u32, c: Checked) -> Checked
 {
     let long = needed && c.length.is_some_and(|n| n > 64);
     Checked {
-        flaws: both(c.flaws, flaw_if(long && !c.flaws.signal, 37, place)),
+        flaws: both(
+            c.flaws,
+            flaw_if(long && !c.flaws.signal, Rule::BadRange, place),
+        ),
         length: c.length,
         good: c.good && !long,
         signed: c.signed,
     }
 }
 
-/// An operator of one operand.
+/// An operator of one operand, or a cast.
 pub(crate) fn unary(op: UnaryOp, a: Checked) -> Checked
-    ensures { (t : typed.Typed) → Checks a t → Checks result (typed.unary_typed (spec_op.unary_op (view.unary_op op)) t) }
+    ensures { (t : typed.Typed) → Checks a t → Checks result (typed.unary_typed op t) }
 {
     match op {
         UnaryOp::Plus | UnaryOp::Minus | UnaryOp::BitNot => a,
-        _ => Checked {
-            flaws: a.flaws,
+        UnaryOp::Signed => Checked { signed: true, ..a },
+        UnaryOp::Unsigned => Checked { signed: false, ..a },
+        UnaryOp::LogicalNot
+        | UnaryOp::ReduceAnd
+        | UnaryOp::ReduceNand
+        | UnaryOp::ReduceOr
+        | UnaryOp::ReduceNor
+        | UnaryOp::ReduceXor
+        | UnaryOp::ReduceXnor => Checked {
             length: Some(1),
-            good: a.good,
             signed: false,
+            ..a
         },
-    }
-}
-
-/// `$signed` and `$unsigned`.
-pub(crate) fn cast(signed: bool, a: Checked) -> Checked
-    ensures yes { (t : typed.Typed) → signed ≡ true → Checks a t → Checks result (typed.unary_typed E.Signed t) }
-    ensures no { (t : typed.Typed) → signed ≡ false → Checks a t → Checks result (typed.unary_typed E.Unsigned t) }
-{
-    Checked {
-        flaws: a.flaws,
-        length: a.length,
-        good: a.good,
-        signed,
     }
 }
 
@@ -102,46 +100,15 @@ fn sum(a: Option<u32>, b: Option<u32>) -> Option<u32>
     }
 }
 
-/// How an operator takes its operands (IEEE 1364-2005, table 5-22).
-#[derive(Clone, Copy, PartialEq, Eq, Debug)]
-pub(crate) enum Way {
-    InContext,
-    Own,
-    Compared,
-    Shifted,
-}
-
-/// How an operator of two operands takes them.
-pub(crate) fn way_of(op: BinaryOp) -> Way
-    ensures { IsWay result (E.way (spec_op.binary_op (view.binary_op op))) }
-{
-    match op {
-        BinaryOp::Less
-        | BinaryOp::LessEqual
-        | BinaryOp::Greater
-        | BinaryOp::GreaterEqual
-        | BinaryOp::Equal
-        | BinaryOp::NotEqual
-        | BinaryOp::CaseEqual
-        | BinaryOp::CaseNotEqual => Way::Compared,
-        BinaryOp::LogicalAnd | BinaryOp::LogicalOr => Way::Own,
-        BinaryOp::ShiftLeft
-        | BinaryOp::ShiftRight
-        | BinaryOp::ShiftLeftArith
-        | BinaryOp::ShiftRightArith => Way::Shifted,
-        _ => Way::InContext,
-    }
-}
-
 /// An operator of two operands.
 #[tactic(auto, using(crate::proofs::Least::flaws_append))]
 pub(crate) fn binary(op: BinaryOp, a: Checked, b: Checked) -> Checked
     ensures { (t u : typed.Typed) → Checks a t → Checks b u
-        → Checks result (typed.binary_typed (spec_op.binary_op (view.binary_op op)) t u) }
+        → Checks result (typed.binary_typed op t u) }
 {
     let flaws = both(a.flaws, b.flaws);
     let good = a.good && b.good;
-    match way_of(op) {
+    match op.way() {
         Way::InContext => Checked {
             flaws,
             length: greater(a.length, b.length),
@@ -258,7 +225,7 @@ pub(crate) fn part(c: Checked, unsized_at: Option<u32>) -> Checked
     match unsized_at {
         None => c,
         Some(place) => Checked {
-            flaws: both(c.flaws, flaw(43, place)),
+            flaws: both(c.flaws, flaw(Rule::WrongKind, place)),
             length: c.length,
             good: false,
             signed: c.signed,
@@ -279,7 +246,7 @@ pub(crate) fn clog2_of(place: u32, flaws: Flaws, n: Option<u32>) -> Checked
             signed: true,
         },
         None => Checked {
-            flaws: both(flaws, flaw(31, place)),
+            flaws: both(flaws, flaw(Rule::UnknownConstant, place)),
             length: Some(32),
             good: false,
             signed: false,

@@ -8,31 +8,32 @@ ghost use Rattle.vs_const.specs.Selects as spec;
 ghost use Rattle.vs_const.specs.Checks.{ChecksNumber, ChecksNatural, ChecksBounds};
 
 use crate::faults::{Flaws, both, flaw, flawless};
+use crate::rules::Rule;
 use vs_four::Range;
 
 /// The number of a needed constant; none where a fault leaves it undefined.
 #[derive(Clone, Copy, Debug)]
-pub(crate) struct Numbered {
-    pub(crate) number: Option<i128>,
-    pub(crate) flaws: Flaws,
+pub struct Numbered {
+    pub number: Option<i128>,
+    pub flaws: Flaws,
 }
 
 /// A number within bounds.
 #[derive(Clone, Copy, Debug)]
-pub(crate) struct Natural {
-    pub(crate) number: Option<u32>,
-    pub(crate) flaws: Flaws,
+pub struct Natural {
+    pub number: Option<u32>,
+    pub flaws: Flaws,
 }
 
 /// A range of at most 64 bits.
 #[derive(Clone, Copy, Debug)]
-pub(crate) struct Bounds {
-    pub(crate) range: Option<Range>,
-    pub(crate) flaws: Flaws,
+pub struct Bounds {
+    pub range: Option<Range>,
+    pub flaws: Flaws,
 }
 
 /// The number, if it is from `low` to `high`.
-fn within(low: u32, high: u32, place: u32, number: Option<i128>) -> Natural
+pub fn within(low: u32, high: u32, place: u32, number: Option<i128>) -> Natural
     ensures is { ChecksNatural result (typed.natural_within low high place number) }
     ensures within { IfSome result.number (λ n. (low ≤ n) × (n ≤ high)) }
 {
@@ -47,7 +48,7 @@ fn within(low: u32, high: u32, place: u32, number: Option<i128>) -> Natural
         },
         Some(_) => Natural {
             number: None,
-            flaws: flaw(37, place),
+            flaws: flaw(Rule::BadRange, place),
         },
     }
 }
@@ -65,33 +66,15 @@ pub(crate) fn natural_of(low: u32, high: u32, place: u32, n: Numbered) -> Natura
     }
 }
 
-/// Whether the range is descending, as `[7:0]` is, or has one bit.
-pub(crate) fn is_descending(range: Range) -> bool
-    ensures { result ≡ four.is_descending range }
-{
-    range.right <= range.left
-}
-
-/// How many bits a range has, where it isn't the greatest range of all.
-pub(crate) fn range_length(range: Range) -> u64
-    ensures { result ≡ four.range_length range }
-{
-    if is_descending(range) {
-        (range.left - range.right) as u64 + 1
-    } else {
-        (range.right - range.left) as u64 + 1
-    }
-}
-
 /// The range, if it has at most 64 bits.
 fn up_to_64(bracket: u32, range: Range) -> Bounds
     ensures short { IfSome result.range (λ r. four.range_length r ≤ 64) }
     ensures is { ChecksBounds result (spec.up_to_64 bracket range) }
 {
-    if range_length(range) > 64 {
+    if range.length() > 64 {
         Bounds {
             range: None,
-            flaws: flaw(37, bracket),
+            flaws: flaw(Rule::BadRange, bracket),
         }
     } else {
         Bounds {

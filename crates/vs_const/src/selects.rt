@@ -14,7 +14,8 @@ use crate::faults::{Fault, Flaws, both, flaw, flaw_if, flawless};
 use crate::found::Checked;
 use crate::names::{Named, SignalShape};
 use crate::operators::{faulty, undefined};
-use crate::ranges::{Bounds, Natural, Numbered, is_descending, natural_of, range_length};
+use crate::ranges::{Bounds, Natural, Numbered, natural_of};
+use crate::rules::Rule;
 use vs_ast::SliceKind;
 use vs_four::Range;
 
@@ -38,7 +39,7 @@ pub(crate) struct Taken {
 fn short_length(range: Range) -> u32
     ensures { result ≡ min 65 (four.range_length range) }
 {
-    let length = range_length(range);
+    let length = range.length();
     if length < 65 { length as u32 } else { 65 }
 }
 
@@ -58,7 +59,7 @@ fn signal_name(needed: bool, place: u32, s: SignalShape) -> Checked
         → Checks result (spec.signal_typed needed place m) }
 {
     if needed {
-        return faulty(30, place);
+        return faulty(Rule::NotConstant, place);
     }
     if !s.known {
         return undefined();
@@ -84,8 +85,8 @@ pub(crate) fn name_alone(needed: bool, place: u32, named: &Named) -> Checked
         },
         Named::Undefined { range: _ } => undefined(),
         Named::Signal(s) => signal_name(needed, place, *s),
-        Named::Other => faulty(43, place),
-        Named::Unknown => faulty(35, place),
+        Named::Other => faulty(Rule::WrongKind, place),
+        Named::Unknown => faulty(Rule::UnknownName, place),
     }
 }
 
@@ -101,13 +102,13 @@ fn undefined_base(range: Option<Range>) -> Base
 }
 
 /// A name that breaks a rule.
-fn faulty_base(number: u32, place: u32) -> Base
-    ensures { ChecksBase result (spec.no_base None (fault number place)) }
+fn faulty_base(rule: Rule, place: u32) -> Base
+    ensures { ChecksBase result (spec.no_base None (fault rule place)) }
 {
     Base {
         range: None,
         good: false,
-        flaws: flaw(number, place),
+        flaws: flaw(rule, place),
     }
 }
 
@@ -116,12 +117,12 @@ fn signal_base(needed: bool, place: u32, s: SignalShape) -> Base
     ensures { (m : SignalMeaning) → s.range ≡ m.signal.range → s.known ≡ m.known → ChecksBase result (spec.signal_base_of needed place m) }
 {
     if needed {
-        return faulty_base(30, place);
+        return faulty_base(Rule::NotConstant, place);
     }
     Base {
         range: s.range,
         good: s.known,
-        flaws: flaw_if(s.known && s.range.is_none(), 43, place),
+        flaws: flaw_if(s.known && s.range.is_none(), Rule::WrongKind, place),
     }
 }
 
@@ -137,8 +138,8 @@ pub(crate) fn base_of(needed: bool, place: u32, named: &Named) -> Base
         },
         Named::Undefined { range } => undefined_base(*range),
         Named::Signal(s) => signal_base(needed, place, *s),
-        Named::Other => faulty_base(43, place),
-        Named::Unknown => faulty_base(35, place),
+        Named::Other => faulty_base(Rule::WrongKind, place),
+        Named::Unknown => faulty_base(Rule::UnknownName, place),
     }
 }
 
@@ -179,13 +180,13 @@ pub(crate) fn moving(declared: Option<Range>, a: Checked, place: u32, w: Numbere
 }
 
 /// Whether a range goes against the declared direction.
-fn is_against(declared: Option<Range>, range: Range) -> bool
+pub fn is_against(declared: Option<Range>, range: Range) -> bool
     ensures { result ≡ spec.is_against declared range }
 {
     match declared {
         None => false,
         Some(declared) => range.left != range.right
-            && is_descending(declared) != is_descending(range),
+            && declared.is_descending() != range.is_descending(),
     }
 }
 
@@ -203,7 +204,7 @@ pub(crate) fn between(declared: Option<Range>, bracket: u32, r: Bounds) -> Taken
         Some(range) if is_against(declared, range) => Taken {
             length: Some(short_length(range)),
             good: false,
-            flaws: both(r.flaws, flaw(37, bracket)),
+            flaws: both(r.flaws, flaw(Rule::BadRange, bracket)),
         },
         Some(range) => bits_from(declared, short_length(range), true, r.flaws),
     }

@@ -1,6 +1,9 @@
 -- An elaborated design: scopes, signals and processes, each by number (IEEE 1364-2005, clause 12).
 use Rattle.std.specs.Prelude.{ℕ, Bool, true, false, not, ◌&&◌, List, filter, sum_by, Option}
 use Rattle.std.specs.List.{list_any}
+pub use Rattle.vs_base.specs.declared.events.Edge.{Edge}
+pub use Rattle.vs_base.specs.declared.events.Edge.TheVariants.{Any, Posedge, Negedge}
+pub use Rattle.vs_base.specs.Events.{is_edge}
 use Rattle.vs_design.specs.Expressions.{Signal, signal_length, Expression}
 use Rattle.vs_design.specs.Statements.{Target, Statement}
 
@@ -11,9 +14,6 @@ pub record Scope : Type 0 where
   pub instance : Bool
 
 -- 9.7.2
-pub data Edge : Type 0 where
-  Any Posedge Negedge : Edge
-
 pub record Event : Type 0 where
   pub signal : Signal
   pub edge : Edge
@@ -32,10 +32,6 @@ pub record Design : Type 0 where
   pub scopes : List Scope
   pub signals : List Signal
   pub processes : List Process
-
-abbrev pub is_edge : Edge → Bool
-is_edge Any = false
-is_edge _ = true
 
 abbrev pub has_edge : Event → Bool
 has_edge e = is_edge e.edge

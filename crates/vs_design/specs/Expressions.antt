@@ -3,6 +3,13 @@ use Rattle.std.specs.Prelude.{ℕ, ◌+◌, ◌*◌, Bool, true, false, ◌&&◌
 use Rattle.vs_four.specs.Logic.{BitList}
 use Rattle.vs_four.specs.declared.Range.{Range}
 use Rattle.vs_four.specs.Selects.{range_length, Part}
+pub use Rattle.vs_base.specs.declared.operators.UnaryOp.{UnaryOp}
+pub use Rattle.vs_base.specs.declared.operators.UnaryOp.TheVariants.{Plus, Minus, BitNot, LogicalNot, ReduceAnd, ReduceNand, ReduceOr, ReduceNor, ReduceXor, ReduceXnor, Signed, Unsigned}
+pub use Rattle.vs_base.specs.declared.operators.BinaryOp.{BinaryOp}
+pub use Rattle.vs_base.specs.declared.operators.BinaryOp.TheVariants.{Add, Subtract, Multiply, Divide, Remainder, BitAnd, BitOr, BitXor, BitXnor, Less, LessEqual, Greater, GreaterEqual, Equal, NotEqual, CaseEqual, CaseNotEqual, LogicalAnd, LogicalOr, ShiftLeft, ShiftRight, ShiftLeftArith, ShiftRightArith}
+pub use Rattle.vs_base.specs.declared.operators.Way.{Way}
+pub use Rattle.vs_base.specs.declared.operators.Way.TheVariants.{InContext, Own, Compared, Shifted}
+pub use Rattle.vs_base.specs.Operators.{unary_way, way, unary_length, unary_sign, binary_length, binary_sign}
 
 -- a declared signal (4.2), a net or a variable; `input` is an input of the top. Its bits have the numbers from `first` on, least significant first
 pub record Signal : Type 0 where
@@ -27,18 +34,6 @@ pub data Source : Type 0 where
   OfSignal : (signal : Signal) → Source
   OfConstant : (bits : BitList) → Source
 
--- `+ - ~ !`, the reductions `& ~& | ~| ^ ~^`, and `$signed` and `$unsigned` (5.1, 5.5)
-pub data UnaryOp : Type 0 where
-  Plus Minus BitNot LogicalNot : UnaryOp
-  ReduceAnd ReduceNand ReduceOr ReduceNor ReduceXor ReduceXnor : UnaryOp
-  Signed Unsigned : UnaryOp
-
--- `+ - * / % & | ^ ~^`, `< <= > >= == != === !==`, `&& || << >> <<< >>>` (5.1)
-pub data BinaryOp : Type 0 where
-  Add Subtract Multiply Divide Remainder BitAnd BitOr BitXor BitXnor : BinaryOp
-  Less LessEqual Greater GreaterEqual Equal NotEqual CaseEqual CaseNotEqual : BinaryOp
-  LogicalAnd LogicalOr ShiftLeft ShiftRight ShiftLeftArith ShiftRightArith : BinaryOp
-
 pub data Expression : Type 0 where
   -- a number (3.5.1), or the value of a parameter; `sized` says whether a size was given, as of a parameter it always is
   Literal : (bits : BitList) (signed sized : Bool) → Expression
@@ -54,60 +49,6 @@ pub data Expression : Type 0 where
   Repeat : (count : ℕ) (a : Expression) → Expression
   -- an expression with the place at which it begins in the text, the brackets round it included
   At : (place : ℕ) (e : Expression) → Expression
-
--- how an operator takes its operands (table 5-22): in its own context, each self-determined, both in a context of their own, or the first in its context and the second self-determined
-pub data Way : Type 0 where
-  InContext Own Compared Shifted : Way
-
-abbrev pub unary_way : UnaryOp → Way
-unary_way Plus = InContext
-unary_way Minus = InContext
-unary_way BitNot = InContext
-unary_way _ = Own
-
-abbrev pub way : BinaryOp → Way
-way Less = Compared
-way LessEqual = Compared
-way Greater = Compared
-way GreaterEqual = Compared
-way Equal = Compared
-way NotEqual = Compared
-way CaseEqual = Compared
-way CaseNotEqual = Compared
-way LogicalAnd = Own
-way LogicalOr = Own
-way ShiftLeft = Shifted
-way ShiftRight = Shifted
-way ShiftLeftArith = Shifted
-way ShiftRightArith = Shifted
-way _ = InContext
-
--- the length of an operator's result, by those of its operands (table 5-22)
-abbrev pub unary_length : UnaryOp → ℕ → ℕ
-unary_length Plus n = n
-unary_length Minus n = n
-unary_length BitNot n = n
-unary_length Signed n = n
-unary_length Unsigned n = n
-unary_length _ n = 1
-
--- and its sign: signed only if all operands of its context are (5.5.1)
-abbrev pub unary_sign : UnaryOp → Bool → Bool
-unary_sign Plus s = s
-unary_sign Minus s = s
-unary_sign BitNot s = s
-unary_sign Signed s = true
-unary_sign _ s = false
-
-abbrev pub binary_length : Way → ℕ → ℕ → ℕ
-binary_length InContext m n = max m n
-binary_length Shifted m n = m
-binary_length _ m n = 1
-
-abbrev pub binary_sign : Way → Bool → Bool → Bool
-binary_sign InContext s t = s && t
-binary_sign Shifted s t = s
-binary_sign _ s t = false
 
 -- the length of an expression by itself (table 5-22)
 abbrev pub width : Expression → ℕ

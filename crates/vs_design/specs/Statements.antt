@@ -3,6 +3,8 @@ use Rattle.std.specs.Prelude.{ℕ, ◌+◌, Bool, ◌&&◌, List, [], ◌∷◌,
 use Rattle.vs_four.specs.declared.Bit4.{Bit4}
 use Rattle.vs_four.specs.Logic.{BitList, identical, matches_z, matches_x}
 use Rattle.vs_four.specs.Selects.{Part}
+pub use Rattle.vs_base.specs.declared.events.CaseKind.{CaseKind}
+pub use Rattle.vs_base.specs.declared.events.CaseKind.TheVariants.{Exact, CaseZ, CaseX}
 use Rattle.vs_design.specs.Expressions.{Signal, signal_length, Expression, width, sign}
 
 -- the left side of an assignment: a signal, a select of one, or a concatenation (table 6-1)
@@ -17,10 +19,6 @@ abbrev pub target_width : Target → ℕ
 target_width (Whole signal) = signal_length signal
 target_width (PartOf signal part index) = part.width
 target_width (Both high low) = target_width high + target_width low
-
--- `case`, `casez` and `casex`
-pub data CaseKind : Type 0 where
-  Exact CaseZ CaseX : CaseKind
 
 -- how an item is compared (9.5, 9.5.1)
 abbrev pub case_match : CaseKind → BitList → BitList → Bit4

@@ -8,6 +8,8 @@ use Rattle.vs_four.specs.Tables.{not_bit, and_bit, or_bit, xor_bit, xnor_bit}
 use Rattle.vs_four.specs.Numbers.{all_x, add, sub, mul, neg, less, div, rem}
 use Rattle.vs_four.specs.Shifts.{shift_left, shift_right, shift_arith}
 use Rattle.vs_four.specs.Selects.{select}
+pub use Rattle.vs_base.specs.Operators.{left_width, right_width, left_sign, right_sign}
+pub use Rattle.vs_base.specs.Applied.{apply_unary, or_all_x, apply_binary}
 use Rattle.vs_design.specs.Expressions.{Signal, signal_length, Source, OfSignal, OfConstant, UnaryOp, Minus, BitNot, LogicalNot, ReduceAnd, ReduceNand, ReduceOr, ReduceNor, ReduceXor, ReduceXnor, BinaryOp, Add, Subtract, Multiply, Divide, Remainder, BitAnd, BitOr, BitXor, BitXnor, Less, LessEqual, Greater, GreaterEqual, Equal, NotEqual, CaseEqual, CaseNotEqual, LogicalAnd, LogicalOr, ShiftLeft, ShiftRight, ShiftLeftArith, ShiftRightArith, Expression, Literal, Name, Select, Unary, Binary, Choice, Join, Repeat, At, Way, InContext, Own, Compared, unary_way, way, width, sign}
 
 -- first, first + 1, .. count numbers
@@ -26,71 +28,6 @@ read state bits = map state bits
 abbrev pub source_value : State → Source → BitList
 source_value state (OfSignal signal) = read state (bits_of_signal signal)
 source_value state (OfConstant bits) = bits
-
--- an operator on one operand; unary `+`, `$signed` and `$unsigned` keep its bits, x and z too
-abbrev pub apply_unary : UnaryOp → BitList → BitList
-apply_unary Minus a = neg a
-apply_unary BitNot a = map not_bit a
-apply_unary LogicalNot a = not_bit (truth a) ∷ []
-apply_unary ReduceAnd a = reduce_and a ∷ []
-apply_unary ReduceNand a = not_bit (reduce_and a) ∷ []
-apply_unary ReduceOr a = reduce_or a ∷ []
-apply_unary ReduceNor a = not_bit (reduce_or a) ∷ []
-apply_unary ReduceXor a = reduce_xor a ∷ []
-apply_unary ReduceXnor a = not_bit (reduce_xor a) ∷ []
-apply_unary _ a = a
-
--- a quotient or remainder that has no value is all x (5.1.5)
-abbrev pub or_all_x : ℕ → Option BitList → BitList
-or_all_x w r = unwrap_or r (all_x w)
-
--- an operator on two operands, signed where both are taken as signed
-abbrev pub apply_binary : BinaryOp → Bool → BitList → BitList → BitList
-apply_binary Add signed a b = add a b
-apply_binary Subtract signed a b = sub a b
-apply_binary Multiply signed a b = mul a b
-apply_binary Divide signed a b = or_all_x (length a) (div signed a b)
-apply_binary Remainder signed a b = or_all_x (length a) (rem signed a b)
-apply_binary BitAnd signed a b = map2 and_bit a b
-apply_binary BitOr signed a b = map2 or_bit a b
-apply_binary BitXor signed a b = map2 xor_bit a b
-apply_binary BitXnor signed a b = map2 xnor_bit a b
-apply_binary Less signed a b = less signed a b ∷ []
-apply_binary LessEqual signed a b = not_bit (less signed b a) ∷ []
-apply_binary Greater signed a b = less signed b a ∷ []
-apply_binary GreaterEqual signed a b = not_bit (less signed a b) ∷ []
-apply_binary Equal signed a b = equal a b ∷ []
-apply_binary NotEqual signed a b = not_bit (equal a b) ∷ []
-apply_binary CaseEqual signed a b = identical a b ∷ []
-apply_binary CaseNotEqual signed a b = not_bit (identical a b) ∷ []
-apply_binary LogicalAnd signed a b = and_bit (truth a) (truth b) ∷ []
-apply_binary LogicalOr signed a b = or_bit (truth a) (truth b) ∷ []
-apply_binary ShiftLeft signed a b = shift_left a b
-apply_binary ShiftLeftArith signed a b = shift_left a b
-apply_binary ShiftRight signed a b = shift_right a b
-apply_binary ShiftRightArith true a b = shift_arith a b
-apply_binary ShiftRightArith false a b = shift_right a b
-
--- the length and the sign in which an operand is evaluated (5.4.1, 5.5.2): w and s are those of the context, m and n the lengths of the operands by themselves, t and u their signs
-abbrev pub left_width : Way → ℕ → ℕ → ℕ → ℕ
-left_width Own w m n = m
-left_width Compared w m n = max m n
-left_width _ w m n = w
-
-abbrev pub right_width : Way → ℕ → ℕ → ℕ → ℕ
-right_width InContext w m n = w
-right_width Compared w m n = max m n
-right_width _ w m n = n
-
-abbrev pub left_sign : Way → Bool → Bool → Bool → Bool
-left_sign Own s t u = t
-left_sign Compared s t u = t && u
-left_sign _ s t u = s
-
-abbrev pub right_sign : Way → Bool → Bool → Bool → Bool
-right_sign InContext s t u = s
-right_sign Compared s t u = t && u
-right_sign _ s t u = u
 
 -- the value in length w and sign s, in these values of the bits. Operands are extended at the leaves (5.5.2); a result that is as long as its context stays as it is
 abbrev pub value : Expression → ℕ → Bool → State → BitList

@@ -1,51 +1,35 @@
--- The process that an item of a flat design stands for, by its kind.
-use Rattle.std.proofs.Common.{◌≡◌, ℕ, zero, suc, ◌<◌, Bool, true, List, [], ◌∷◌, ◌&&◌, map, is_some, None, refl, sym, ap, ◌∙◌, subst, Some, nat_lt, length, take, replicate}
+-- Targets of assigns, and the table of drivers.
+use Rattle.std.proofs.Common.{◌≡◌, ℕ, zero, suc, ◌<◌, Bool, true, List, [], ◌∷◌, map, is_some, None, refl, ap, ◌∙◌, subst, Some, length, take, replicate}
 use Rattle.std.specs.Prelude.{slice_get}
 use Rattle.std.specs.List.Sorted.{IsStrictlyIncreasing}
-use Rattle.std.proofs.lemmas.Bool.{ltb-true}
 use Rattle.std.proofs.lemmas.Option.{slice_get_within}
 use Rattle.std.proofs.lemmas.List.{take_all}
 use Rattle.std.proofs.Math.Nat.{le_refl}
-use Rattle.vs_design.specs.Designs.{Continuous, Always, process_place, Design, bit_count}
+use Rattle.vs_design.specs.Designs.{Design, bit_count}
 use Rattle.vs_design.specs.Designs as D
 use Rattle.vs_design.specs.Footprints.{contains, writes_of}
 use Rattle.std.specs.List.{list_all}
 use Rattle.vs_design.specs.Fits.{is_fit, fits_target, fits_process}
-use Rattle.vs_width.specs.Laws.{EachProcessFits}
-use Rattle.vs_length.specs.Walked.{IsTarget}
-use Rattle.vs_design.specs.Refusals.{place_at, width_refusal}
+use Rattle.vs_typed.specs.Laws.{EachProcessFits}
+use Rattle.vs_shape.specs.Walked.{IsTarget}
+use Rattle.vs_design.specs.Refusals.{width_refusal}
 use Rattle.vs_design.specs.RefusalLaws.{DriversAre}
 use Rattle.vs_design.specs.Rules.{times, driver, drivers, drivers_from}
 use Rattle.vs_flat.specs.declared.processes.Event.{Event}
 use Rattle.vs_flat.specs.declared.processes.Process.{Process}
-use Rattle.vs_flat.specs.declared.processes.Kind.{Kind}
 use Rattle.vs_flat.specs.declared.processes.Kind.TheVariants as K
 use Rattle.vs_flat.specs.declared.processes.Port.{Port}
 use Rattle.vs_flat.specs.Arena.{Arena}
-use Rattle.vs_flat.specs.Lawful.{NamesEarlier, IsLawful}
-use Rattle.vs_flat.specs.Laws.{EachProcess, ProcessNames, AssignTargets}
-use Rattle.vs_flat.specs.Named.{kind_names_below}
+use Rattle.vs_flat.specs.Lawful.{IsLawful}
+use Rattle.vs_flat.specs.Laws.{EachProcess, AssignTargets}
 use Rattle.vs_flat.specs.Trees.{signal_at, tree_at, statement_at, target_tree}
-use Rattle.vs_flat.specs.DesignOf.{event_of, kind_of, arena_signals, arena_trees, arena_statements, design_of}
+use Rattle.vs_flat.specs.DesignOf.{event_of, arena_signals, arena_trees, arena_statements, design_of}
 use Rattle.vs_driver.specs.declared.drivers.Drivers.{Drivers}
 use Rattle.vs_driver.specs.declared.drivers.Drivers.TheVariants.{Nobody, Two}
 use Rattle.vs_driver.specs.Drivers.{first_two, drivers_at, AreDrivers, IsTableOf}
-use Rattle.vs_driver.proofs.Tests.{and_both, contains_head, contains_tail}
+use Rattle.vs_reads.proofs.Tests.{and_both, contains_head, contains_tail}
 use Rattle.vs_driver.proofs.Counting.{block_driver}
-use Rattle.vs_driver.proofs.Numbered.{place_is}
-
--- an arena's kind as a process
-abbrev pub kind_in : Arena → ℕ → Kind → D.Process
-kind_in a place k = kind_of (signal_at (arena_signals a)) (tree_at (arena_trees a)) (statement_at (arena_statements a)) place k
-
-pub kind_is : EachProcess → (a : Arena) (p : ℕ) (r : Process) (k : Kind) → slice_get a.processes p ≡ Some r → r.kind ≡ k → slice_get (design_of a).processes p ≡ Some (kind_in a r.at k)
-kind_is each a p r k e h = each a p r e ∙ ap (λ k. Some (kind_in a r.at k)) h
-
-pub target_there : ProcessNames → (a : Arena) → NamesEarlier a → (p : ℕ) (r : Process) (target e : ℕ) (port : Port) → slice_get a.processes p ≡ Some r → r.kind ≡ K.Assign target e port → target < length a.nodes
-target_there law a n p r target e port i h =
-    let c : kind_names_below (length a.signals) (length a.nodes) (length a.statements) (K.Assign target e port) ≡ true = sym (ap (kind_names_below (length a.signals) (length a.nodes) (length a.statements)) h) ∙ law a n p r i in
-    let b : (nat_lt target (length a.nodes) && (nat_lt e (length a.nodes) && true)) ≡ true = (and_both true _ (and_both (true && (nat_lt target (length a.nodes) && (nat_lt e (length a.nodes) && true))) true c).0).1 in
-    ltb-true target (length a.nodes) (and_both (nat_lt target (length a.nodes)) (nat_lt e (length a.nodes) && true) b).0
+use Rattle.vs_reads.proofs.ByKind.{kind_in, kind_is}
 
 -- what holds of all processes
 all_at : (f : D.Process → Bool) (ps : List D.Process) (p : ℕ) (x : D.Process) → list_all f ps ≡ true → slice_get ps p ≡ Some x → f x ≡ true
@@ -62,13 +46,6 @@ target_is targets fits each a l w p r target e port i h = record {
   target = ap is_some (targets a l p r.at target e port (i ∙ ap (λ k. Some (record { at = r.at; kind = k })) h));
   fits = (and_both (fits_target (target_tree (tree_at (arena_trees a) target))) (is_fit (tree_at (arena_trees a) e)) (all_at fits_process (design_of a).processes p (kind_in a r.at (K.Assign target e port)) (fits (design_of a) l.design w) (kind_is each a p r (K.Assign target e port) i h))).0;
 }
-
-place_same : (a : Arena) (place : ℕ) (k : Kind) → process_place (kind_in a place k) ≡ place
-place_same a place (K.Assign target e port) = refl
-place_same a place (K.Block star events body) = refl
-
-pub place_at_is : EachProcess → (a : Arena) (p : ℕ) (r : Process) → slice_get a.processes p ≡ Some r → r.at ≡ place_at (design_of a).processes p
-place_at_is each a p r e = sym (place_same a r.at r.kind) ∙ sym (place_is (design_of a).processes p (kind_in a r.at r.kind) (each a p r e))
 
 -- a block drives each of its bits once
 pub block_noted : (a : Arena) (p place : ℕ) (star : Bool) (events : List Event) (statement : ℕ) (bits : List ℕ) → IsStrictlyIncreasing bits → ((b : ℕ) → contains bits b ≡ contains (writes_of (kind_in a place (K.Block star events statement))) b) → (b : ℕ) → driver p (kind_in a place (K.Block star events statement)) b ≡ replicate (times b bits) p

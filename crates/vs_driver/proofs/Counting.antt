@@ -9,7 +9,7 @@ use Rattle.vs_design.specs.Footprints.{contains, statement_bits}
 use Rattle.vs_design.specs.Rules.{times, driver, drivers_from}
 use Rattle.vs_driver.specs.declared.drivers.Drivers.{Drivers}
 use Rattle.vs_driver.specs.Drivers.{first_two, drivers_at, AreDrivers}
-use Rattle.vs_driver.proofs.Tests.{by_test, either_way, place_of}
+use Rattle.vs_reads.proofs.Tests.{by_test, either_way, place_of}
 
 same_other : (q p : ℕ) → (q == p) ≡ false → q ≡ p → ⊥
 same_other q p h e = either_way (q == p) (subst (λ m. (q == m) ≡ true) e (eq-eqb q q refl)) h

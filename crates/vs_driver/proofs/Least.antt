@@ -13,7 +13,7 @@ use Rattle.vs_design.specs.RefusalLaws.{DriversAre}
 use Rattle.vs_driver.specs.declared.drivers.Drivers.{Drivers}
 use Rattle.vs_driver.specs.declared.drivers.Drivers.TheVariants.{Nobody, One, Two}
 use Rattle.vs_driver.specs.Drivers.{first_two}
-use Rattle.vs_driver.proofs.Tests.{by_test, either_way, same_test, or_left, or_right, and_both, and_true, contains-append, contains_head, contains_tail}
+use Rattle.vs_reads.proofs.Tests.{by_test, either_way, same_test, or_left, or_right, and_both, and_true, contains-append, contains_head, contains_tail}
 
 abbrev pub is_two : Drivers → Bool
 is_two Nobody = false

@@ -1,6 +1,3 @@
-pub mod Tests
-pub mod Numbered
-pub mod Told
 pub mod Counting
 pub mod Least
 pub mod ByKind

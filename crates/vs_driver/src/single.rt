@@ -13,7 +13,7 @@ use std::alloc::Global;
 use vs_design::{footprint_law, refusal_law};
 use vs_flat::trees_law;
 use vs_reads::Footprints;
-use vs_width::Typed;
+use vs_typed::Typed;
 
 /// Whether each bit of a design has one driver at most: it is written by one process, and if that is an assign, its target has the bit once. TwoDrivers: the least bit that isn't so, and its two least writers.
 pub fn check(alloc: Global, typed: &Typed, footprints: &Footprints) -> Result<(), DriverError>

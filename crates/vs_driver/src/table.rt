@@ -1,20 +1,20 @@
 //! The table of the drivers of all bits.
 
-ghost use Rattle.std.specs.Prelude.{◌≡◌, ℕ, ◌+◌, ◌<◌, ◌++◌, List, true, length, replicate, slice_index_or, IfOk, OnOk};
+ghost use Rattle.std.specs.Prelude.{◌≡◌, ℕ, ◌+◌, ◌<◌, ◌++◌, List, true, length, replicate, IfOk, OnOk};
 ghost use Rattle.vs_design.specs.Designs.{bit_count};
 ghost use Rattle.vs_design.specs.Footprints.{contains, target_bits};
 ghost use Rattle.vs_design.specs.Rules.{times};
 ghost use Rattle.vs_flat.specs.DesignOf.{arena_trees, design_of};
 ghost use Rattle.vs_flat.specs.Trees.{target_tree, tree_at};
 ghost use Rattle.vs_reads.specs.Footprint.{footprints_of};
-ghost use Rattle.vs_length.specs.Walked.{IsTarget};
+ghost use Rattle.vs_shape.specs.Walked.{IsTarget};
 ghost use Rattle.vs_driver.specs.Drivers.{first_two, drivers_at, AreDrivers, IsTableOf};
 
 use crate::drivers::Drivers;
 use std::alloc::{AllocError, Global};
 use vs_flat::{Kind, count_bits, lawful_law, names_law, trees_law};
 use vs_reads::{Footprints, footprint_law};
-use vs_width::{Typed, fits_law};
+use vs_typed::{Typed, fits_law};
 
 /// Notes that process p drives these bits, a bit as often as it is there.
 fn note(table: &mut [Drivers], bits: &[u32], p: u32)

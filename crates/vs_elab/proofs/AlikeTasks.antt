@@ -4,12 +4,12 @@ use Rattle.std.specs.Prelude.{Result, Ok, length}
 use Rattle.vs_grammar.specs.Trees.{Module, Source}
 use Rattle.vs_const.specs.declared.faults.Fault.{Fault}
 use Rattle.vs_const.specs.Faults.{least}
-use Rattle.vs_hierarchy.specs.Limits.{the_limits}
-use Rattle.vs_hierarchy.specs.Environments.{Env, within}
-use Rattle.vs_hierarchy.specs.Parameters.{Override}
-use Rattle.vs_hierarchy.specs.Pieces.{OfModule, Task}
-use Rattle.vs_hierarchy.specs.Surveys.{Totals, Survey, survey}
-use Rattle.vs_hierarchy.specs.Elaborated.{both_designs, then_do, unless_fault, Read, read_pieces, counted, limit_faults, scope_design, read_scope}
+use Rattle.vs_elaborated.specs.Limits.{the_limits}
+use Rattle.vs_elaborated.specs.Environments.{Env, within}
+use Rattle.vs_elaborated.specs.Parameters.{Override}
+use Rattle.vs_elaborated.specs.Pieces.{OfModule, Task}
+use Rattle.vs_elaborated.specs.Surveys.{Totals, Survey, survey}
+use Rattle.vs_elaborated.specs.Elaborated.{both_designs, then_do, unless_fault, Read, read_pieces, counted, limit_faults, scope_design, read_scope}
 use Rattle.vs_scope.specs.Frames.{env_at, envs}
 use Rattle.vs_scope.specs.Views.{entries}
 use Rattle.vs_elab.specs.declared.pending.Part.{Part}

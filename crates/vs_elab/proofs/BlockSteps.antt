@@ -7,13 +7,13 @@ use Rattle.vs_design.specs.Designs.{Design}
 use Rattle.vs_grammar.specs.Trees as tree
 use Rattle.vs_ast.specs.Views as view
 use Rattle.vs_const.specs.declared.faults.Fault.{Fault}
-use Rattle.vs_hierarchy.specs.Limits.{the_limits}
-use Rattle.vs_hierarchy.specs.Environments.{Env, Entry}
-use Rattle.vs_hierarchy.specs.Environments as environment
-use Rattle.vs_hierarchy.specs.Pieces.{Task, OfBlock, Within}
-use Rattle.vs_hierarchy.specs.Surveys.{turned}
-use Rattle.vs_hierarchy.specs.Elaborated.{read_scope}
-use Rattle.vs_hierarchy.specs.Sound.{IsSoundTask, AreSoundFrames}
+use Rattle.vs_elaborated.specs.Limits.{the_limits}
+use Rattle.vs_elaborated.specs.Environments.{Env, Entry}
+use Rattle.vs_elaborated.specs.Environments as environment
+use Rattle.vs_elaborated.specs.Pieces.{Task, OfBlock, Within}
+use Rattle.vs_elaborated.specs.Surveys.{turned}
+use Rattle.vs_elaborated.specs.Elaborated.{read_scope}
+use Rattle.vs_elaborated.specs.Sound.{IsSoundTask, AreSoundFrames}
 use Rattle.vs_scope.specs.declared.contents.BlockItems.{BlockItems}
 use Rattle.vs_scope.specs.declared.frames.Frame.{Frame}
 use Rattle.vs_scope.specs.declared.frames.Turn.{Turn}

@@ -9,13 +9,13 @@ use Rattle.vs_const.specs.Faults.{least, better}
 use Rattle.vs_const.specs.Meanings.{Find}
 use Rattle.vs_const.specs.Expressions.{typed}
 use Rattle.vs_const.proofs.Least.{least_append}
-use Rattle.vs_hierarchy.specs.Environments.{Env, named}
-use Rattle.vs_hierarchy.specs.Targets.{target_base, typed_target}
-use Rattle.vs_hierarchy.specs.Statements.{typed_statement, typed_control}
-use Rattle.vs_hierarchy.specs.Generate.{Made}
-use Rattle.vs_hierarchy.specs.Pieces.{all_said}
-use Rattle.vs_hierarchy.specs.Instances.{Around}
-use Rattle.vs_hierarchy.specs.Surveys.{assign_said, wire_said, block_said, item_said, items_said}
+use Rattle.vs_elaborated.specs.Environments.{Env, named}
+use Rattle.vs_elaborated.specs.Targets.{target_base, typed_target}
+use Rattle.vs_elaborated.specs.Statements.{typed_statement, typed_control}
+use Rattle.vs_elaborated.specs.Generate.{Made}
+use Rattle.vs_elaborated.specs.Pieces.{all_said}
+use Rattle.vs_elaborated.specs.Instances.{Around}
+use Rattle.vs_elaborated.specs.Surveys.{assign_said, wire_said, block_said, item_said, items_said}
 use Rattle.vs_elab.specs.declared.counts.Count.{Count}
 use Rattle.vs_elab.specs.Counts.{IsCounted}
 use Rattle.vs_elab.specs.Items.{assign_faults, value_faults, wire_faults}

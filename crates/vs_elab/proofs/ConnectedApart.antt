@@ -7,8 +7,9 @@ use Rattle.vs_grammar.specs.Trees.{Name}
 use Rattle.vs_grammar.specs.Shapes.{Each}
 use Rattle.vs_const.specs.declared.faults.Fault.{Fault}
 use Rattle.vs_const.specs.Faults.{least, fault, fault_if}
-use Rattle.vs_hierarchy.specs.Ports.{is_named}
-use Rattle.vs_hierarchy.specs.Instances.{connected_names}
+use Rattle.vs_const.specs.declared.rules.Rule.TheVariants.{DuplicateName, UnknownPort}
+use Rattle.vs_elaborated.specs.Ports.{is_named}
+use Rattle.vs_elaborated.specs.Instances.{connected_names}
 use Rattle.vs_elab.specs.Connections.{AreApart}
 use Rattle.vs_elab.proofs.OverrideFaults.{same_swapped}
 
@@ -27,15 +28,15 @@ new_still : (seen : List Name) (n : Name) (cs : List tree.NamedConnection) → A
 new_still seen n [] h = tt
 new_still seen n (c ∷ cs) h = ((either_false (same_name n.bytes c.name.bytes) (is_named c.name.bytes seen) h.0).1, new_still seen n cs h.1)
 
-is_new : (b : Bool) (place : ℕ) (others : List Fault) → least (if b then fault 36 place else others) ≡ None → b ≡ false
+is_new : (b : Bool) (place : ℕ) (others : List Fault) → least (if b then fault DuplicateName place else others) ≡ None → b ≡ false
 is_new true place others h = cc
 is_new false place others h = refl
 
 all_new : (known : List ℕ → Bool) (seen : List Name) (cs : List tree.NamedConnection) → least (connected_names known seen cs) ≡ None → AreNew seen cs
 all_new known seen [] h = tt
 all_new known seen (c ∷ cs) h =
-    let both = none_of (if is_named c.name.bytes seen then fault 36 c.name.place else fault_if (not (known c.name.bytes)) 39 c.name.place) (connected_names known (c.name ∷ seen) cs) h in
-    (is_new (is_named c.name.bytes seen) c.name.place (fault_if (not (known c.name.bytes)) 39 c.name.place) both.0, new_still seen c.name cs (all_new known (c.name ∷ seen) cs both.1))
+    let both = none_of (if is_named c.name.bytes seen then fault DuplicateName c.name.place else fault_if (not (known c.name.bytes)) UnknownPort c.name.place) (connected_names known (c.name ∷ seen) cs) h in
+    (is_new (is_named c.name.bytes seen) c.name.place (fault_if (not (known c.name.bytes)) UnknownPort c.name.place) both.0, new_still seen c.name cs (all_new known (c.name ∷ seen) cs both.1))
 
 none_has : (seen : List Name) (n : Name) (cs : List tree.NamedConnection) → AreNew (n ∷ seen) cs → list_any (λ (d : tree.NamedConnection). same_name d.name.bytes n.bytes) cs ≡ false
 none_has seen n [] h = refl
@@ -46,7 +47,7 @@ none_has seen n (c ∷ cs) h =
 apart_after : (known : List ℕ → Bool) (seen : List Name) (cs : List tree.NamedConnection) → least (connected_names known seen cs) ≡ None → AreApart cs
 apart_after known seen [] h = tt
 apart_after known seen (c ∷ cs) h =
-    let both = none_of (if is_named c.name.bytes seen then fault 36 c.name.place else fault_if (not (known c.name.bytes)) 39 c.name.place) (connected_names known (c.name ∷ seen) cs) h in
+    let both = none_of (if is_named c.name.bytes seen then fault DuplicateName c.name.place else fault_if (not (known c.name.bytes)) UnknownPort c.name.place) (connected_names known (c.name ∷ seen) cs) h in
     (none_has seen c.name cs (all_new known (c.name ∷ seen) cs both.1), apart_after known (c.name ∷ seen) cs both.1)
 
 -- where no name is at fault

@@ -5,8 +5,8 @@ use Rattle.std.proofs.lemmas.List.{append-nil}
 use Rattle.vs_design.specs.Clocks.{same_name}
 use Rattle.vs_grammar.specs.Trees as tree
 use Rattle.vs_grammar.specs.Trees.{Name}
-use Rattle.vs_hierarchy.specs.Ports.{is_named}
-use Rattle.vs_hierarchy.specs.Instances.{connected_names}
+use Rattle.vs_elaborated.specs.Ports.{is_named}
+use Rattle.vs_elaborated.specs.Instances.{connected_names}
 use Rattle.vs_scope.specs.Maps.{Pair, value_at}
 use Rattle.vs_elab.specs.Noted.{named}
 use Rattle.vs_elab.specs.Connected.{name_faults}

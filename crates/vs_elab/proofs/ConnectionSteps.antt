@@ -8,10 +8,10 @@ use Rattle.std.proofs.lemmas.Bool.{ltb-true, ltb-false}
 use Rattle.std.proofs.lemmas.Option.{slice_get_read, slice_get_past}
 use Rattle.vs_ast.specs.declared.expressions.Expr.{Expr}
 use Rattle.vs_ast.specs.Views as view
-use Rattle.vs_hierarchy.specs.Environments.{Env}
-use Rattle.vs_hierarchy.specs.Pieces as pieces
-use Rattle.vs_hierarchy.specs.Ports as ports
-use Rattle.vs_hierarchy.specs.Instances.{connected, connected_by_order}
+use Rattle.vs_elaborated.specs.Environments.{Env}
+use Rattle.vs_elaborated.specs.Pieces as pieces
+use Rattle.vs_elaborated.specs.Ports as ports
+use Rattle.vs_elaborated.specs.Instances.{connected, connected_by_order}
 
 -- what a look-up in a slice gives
 pub got_at : {X : Type 0} (r : Option (Bor X)) (xs : List X) (n : ℕ) → is_some r ≡ nat_lt n (length xs) → IfSome r (λ x. x.now ≡ get_or xs n x.now) → option_map (λ (x : Bor X). x.now) r ≡ slice_get xs n

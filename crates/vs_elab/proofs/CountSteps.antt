@@ -8,15 +8,16 @@ use Rattle.std.proofs.lemmas.Bool.{lt-ltb, ltb-true}
 use Rattle.vs_grammar.specs.Trees as tree
 use Rattle.vs_const.specs.declared.faults.Fault.{Fault}
 use Rattle.vs_const.specs.Faults.{least, fault}
+use Rattle.vs_const.specs.declared.rules.Rule.TheVariants.{TooManyProcesses}
 use Rattle.vs_ast.specs.declared.expressions.Expr.{Expr}
 use Rattle.vs_ast.specs.Views as view
 use Rattle.vs_build.specs.Writable.{wire_assign, assign_process}
-use Rattle.vs_hierarchy.specs.Environments.{Env, named}
-use Rattle.vs_hierarchy.specs.Parameters.{Override}
-use Rattle.vs_hierarchy.specs.Ports.{find_module}
-use Rattle.vs_hierarchy.specs.Instances.{Around, instance_said, said_overrides, instances_said}
-use Rattle.vs_hierarchy.specs.Pieces.{Piece, Own, Within, Task, Said, all_said}
-use Rattle.vs_hierarchy.specs.Surveys.{processes_over, piece_processes, piece_place, wire_said}
+use Rattle.vs_elaborated.specs.Environments.{Env, named}
+use Rattle.vs_elaborated.specs.Parameters.{Override}
+use Rattle.vs_elaborated.specs.Ports.{find_module}
+use Rattle.vs_elaborated.specs.Instances.{Around, instance_said, said_overrides, instances_said}
+use Rattle.vs_elaborated.specs.Pieces.{Piece, Own, Within, Task, Said, all_said}
+use Rattle.vs_elaborated.specs.Surveys.{processes_over, piece_processes, piece_place, wire_said}
 use Rattle.vs_elab.specs.declared.counts.Count.{Count}
 use Rattle.vs_elab.specs.declared.interfaces.Interface.{Interface}
 use Rattle.vs_elab.specs.Counts.{IsCounted}
@@ -27,12 +28,12 @@ use Rattle.vs_elab.proofs.Repeats.{one_more}
 
 abbrev if_over : Option Fault → ℕ → ℕ → Piece → Option Fault
 if_over (Some f) most sum p = Some f
-if_over None most sum p = if nat_lt most (sum + piece_processes p) then Some (record { number = 45; place = piece_place p }) else None
+if_over None most sum p = if nat_lt most (sum + piece_processes p) then Some (record { rule = TooManyProcesses; place = piece_place p }) else None
 
 over_more : (most before : ℕ) (ps : List Piece) (p : Piece) → least (processes_over most before (ps ++ p ∷ [])) ≡ if_over (least (processes_over most before ps)) most (before + sum_by piece_processes ps) p
 over_more most before [] p = of (nat_lt most (before + piece_processes p)) ∙ ap (λ n. if_over None most n p) (let e : before ≡ before + 0 = omega arith in e)
   where
-    of : (b : Bool) → least (if b then fault 45 (piece_place p) else []) ≡ (if b then Some (record { number = 45; place = piece_place p }) else None)
+    of : (b : Bool) → least (if b then fault TooManyProcesses (piece_place p) else []) ≡ (if b then Some (record { rule = TooManyProcesses; place = piece_place p }) else None)
     of true = refl
     of false = refl
 over_more most before (q ∷ ps) p =
@@ -40,8 +41,8 @@ over_more most before (q ∷ ps) p =
     ∙ ap (λ n. if_over (least (processes_over most before (q ∷ ps))) most (before + n) p) (sym (sum_by-cons piece_processes q ps))
   where
     of : (b : Bool) → least (processes_over most (before + piece_processes q) (ps ++ p ∷ [])) ≡ if_over (least (processes_over most (before + piece_processes q) ps)) most ((before + piece_processes q) + sum_by piece_processes ps) p
-        → least (if b then fault 45 (piece_place q) else processes_over most (before + piece_processes q) (ps ++ p ∷ []))
-        ≡ if_over (least (if b then fault 45 (piece_place q) else processes_over most (before + piece_processes q) ps)) most (before + (piece_processes q + sum_by piece_processes ps)) p
+        → least (if b then fault TooManyProcesses (piece_place q) else processes_over most (before + piece_processes q) (ps ++ p ∷ []))
+        ≡ if_over (least (if b then fault TooManyProcesses (piece_place q) else processes_over most (before + piece_processes q) ps)) most (before + (piece_processes q + sum_by piece_processes ps)) p
     of true h = refl
     of false h = h ∙ ap (λ n. if_over (least (processes_over most (before + piece_processes q) ps)) most n p) (let e : (before + piece_processes q) + sum_by piece_processes ps ≡ before + (piece_processes q + sum_by piece_processes ps) = omega arith in e)
 
@@ -63,11 +64,11 @@ counted_past c before ps p h k = record { over = of c.over (least (processes_ove
 
 -- there are too many now, or not yet
 pub counted_over : (c : Count) (before : ℕ) (ps : List Piece) (p : Piece) (n place : ℕ) → is_some c.over ≡ false → c.most < c.total + n → piece_processes p ≡ n → piece_place p ≡ place → IsCounted c before ps
-    → IsCounted (record c { over = Some (record { number = 45; place = place }) }) before (ps ++ p ∷ [])
+    → IsCounted (record c { over = Some (record { rule = TooManyProcesses; place = place }) }) before (ps ++ p ∷ [])
 counted_over c before ps p n place h g i j k = record {
   over = sym (over_more c.most before ps p ∙ ap (λ o. if_over o c.most (before + sum_by piece_processes ps) p) (sym k.over ∙ none c.over h)
-      ∙ ap (λ b. if b then Some (record { number = 45; place = piece_place p }) else None) (lt-ltb c.most ((before + sum_by piece_processes ps) + piece_processes p) (let t = k.total (none c.over h) in omega (arith, g, i, t)))
-      ∙ ap (λ x. let o : Option Fault = Some (record { number = 45; place = x }) in o) j);
+      ∙ ap (λ b. if b then Some (record { rule = TooManyProcesses; place = piece_place p }) else None) (lt-ltb c.most ((before + sum_by piece_processes ps) + piece_processes p) (let t = k.total (none c.over h) in omega (arith, g, i, t)))
+      ∙ ap (λ x. let o : Option Fault = Some (record { rule = TooManyProcesses; place = x }) in o) j);
   total = λ e. cc;
   few = k.few;
 }
@@ -80,7 +81,7 @@ pub counted_on : (c : Count) (before : ℕ) (ps : List Piece) (p : Piece) (n tot
     → IsCounted (record c { total = total }) before (ps ++ p ∷ [])
 counted_on c before ps p n total h g e i k = record {
   over = none c.over h ∙ sym (over_more c.most before ps p ∙ ap (λ o. if_over o c.most (before + sum_by piece_processes ps) p) (sym k.over ∙ none c.over h)
-      ∙ ap (λ b. if b then Some (record { number = 45; place = piece_place p }) else None) (not_over (nat_lt c.most ((before + sum_by piece_processes ps) + piece_processes p)) refl));
+      ∙ ap (λ b. if b then Some (record { rule = TooManyProcesses; place = piece_place p }) else None) (not_over (nat_lt c.most ((before + sum_by piece_processes ps) + piece_processes p)) refl));
   total = λ z. e ∙ (let t = k.total z in omega (arith, i, t, sum_more ps p));
   few = omega (arith, e, g);
 }

@@ -7,10 +7,10 @@ use Rattle.vs_design.specs.Clocks.{same_name}
 use Rattle.vs_grammar.specs.Trees as tree
 use Rattle.vs_ast.specs.declared.expressions.Expr.{Expr}
 use Rattle.vs_ast.specs.Views as view
-use Rattle.vs_hierarchy.specs.Environments.{Env}
-use Rattle.vs_hierarchy.specs.Pieces.{Connection}
-use Rattle.vs_hierarchy.specs.Ports.{Port, find_port}
-use Rattle.vs_hierarchy.specs.Instances.{output_target, connected, connected_by_order, connected_by_name, connection_name, connection_of, in_port_order}
+use Rattle.vs_elaborated.specs.Environments.{Env}
+use Rattle.vs_elaborated.specs.Pieces.{Connection}
+use Rattle.vs_elaborated.specs.Ports.{Port, find_port}
+use Rattle.vs_elaborated.specs.Instances.{output_target, connected, connected_by_order, connected_by_name, connection_name, connection_of, in_port_order}
 use Rattle.vs_scope.specs.Maps.{Pair, value_at}
 use Rattle.vs_elab.specs.Noted.{AreFirst, named}
 use Rattle.vs_elab.specs.Counts.{has_name, HasNames}

@@ -6,13 +6,13 @@ use Rattle.vs_ast.specs.declared.items.Declarator.{Declarator}
 use Rattle.vs_ast.specs.declared.items.Signals.{Signals}
 use Rattle.vs_ast.specs.declared.items.Item.{Item}
 use Rattle.vs_ast.specs.Views as view
-use Rattle.vs_hierarchy.specs.Signals as spec
+use Rattle.vs_elaborated.specs.Signals as spec
 use Rattle.std.specs.Prelude.{Option, Some, if◌then◌else◌}
 use Rattle.vs_design.specs.Clocks.{same_name}
 use Rattle.vs_grammar.specs.Trees as tree
 use Rattle.vs_ast.specs.declared.names.Name.{Name}
-use Rattle.vs_hierarchy.specs.Ports as ports
-use Rattle.vs_hierarchy.specs.Ports.{directions_in, item_directions}
+use Rattle.vs_elaborated.specs.Ports as ports
+use Rattle.vs_elaborated.specs.Ports.{directions_in, item_directions}
 use Rattle.vs_scope.specs.Maps.{Pair, value_at}
 use Rattle.vs_elab.specs.Noted.{named}
 use Rattle.vs_elab.specs.Ports.{named_direction, declared_port}

@@ -9,9 +9,9 @@ use Rattle.vs_grammar.specs.Spelled.{depth_limit}
 use Rattle.vs_ast.specs.declared.expressions.Expr.{Expr}
 use Rattle.vs_ast.specs.Views as view
 use Rattle.vs_const.proofs.Formed.{both_nil}
-use Rattle.vs_hierarchy.specs.Environments.{Env}
-use Rattle.vs_hierarchy.specs.Ports.{Port, find_port}
-use Rattle.vs_hierarchy.specs.Instances.{connected, connected_by_order, connected_by_name}
+use Rattle.vs_elaborated.specs.Environments.{Env}
+use Rattle.vs_elaborated.specs.Ports.{Port, find_port}
+use Rattle.vs_elaborated.specs.Instances.{connected, connected_by_order, connected_by_name}
 use Rattle.vs_scope.specs.Maps.{value_at}
 use Rattle.vs_scope.proofs.Entries.{same_is}
 use Rattle.vs_elab.specs.Connections.{named_value}

@@ -8,13 +8,15 @@ use Rattle.vs_ast.specs.declared.items.Item.{Item}
 use Rattle.vs_ast.specs.Views as view
 use Rattle.vs_const.specs.declared.faults.Fault.{Fault}
 use Rattle.vs_const.specs.Faults.{fault}
+use Rattle.vs_const.specs.declared.rules.Rule.{Rule}
+use Rattle.vs_const.specs.declared.rules.Rule.TheVariants.{UnknownModule}
 use Rattle.vs_const.proofs.Formed.{both_nil}
-use Rattle.vs_hierarchy.specs.Environments.{Env}
-use Rattle.vs_hierarchy.specs.Generate.{Made}
-use Rattle.vs_hierarchy.specs.Ports.{find_module}
-use Rattle.vs_hierarchy.specs.Pieces.{Said, all_said}
-use Rattle.vs_hierarchy.specs.Instances.{Around, said_overrides, instance_said, unknown_module}
-use Rattle.vs_hierarchy.specs.Surveys.{wire_said, assign_said, item_said, items_said}
+use Rattle.vs_elaborated.specs.Environments.{Env}
+use Rattle.vs_elaborated.specs.Generate.{Made}
+use Rattle.vs_elaborated.specs.Ports.{find_module}
+use Rattle.vs_elaborated.specs.Pieces.{Said, all_said}
+use Rattle.vs_elaborated.specs.Instances.{Around, said_overrides, instance_said, unknown_module}
+use Rattle.vs_elaborated.specs.Surveys.{wire_said, assign_said, item_said, items_said}
 use Rattle.vs_elab.specs.Fine.{IsFineAssign, IsFineWire, IsFineBlock, IsFineInstance, IsFineItem, AreFineItems}
 use Rattle.vs_elab.proofs.ItemLists.{made_at}
 
@@ -51,7 +53,7 @@ block_fine source around b m f = record { shaped = f.stated; clean = f.clean; sh
 
 -- ---- instances
 
-fault_some : (n place : ℕ) (fs : List Fault) → (let all : List Fault = fault n place ++ fs in all) ≡ [] → ⊥
+fault_some : (n : Rule) (place : ℕ) (fs : List Fault) → (let all : List Fault = fault n place ++ fs in all) ≡ [] → ⊥
 fault_some n place fs h = cc
 
 some_instances : (xs : List tree.Instance) → OneOrMore IsInstance xs → Each IsInstance xs
@@ -62,7 +64,7 @@ instances_of : (source : tree.Source) (around : Around) (t : tree.Instances) (o 
     → (unknown_module o t.of.place ++ (said_overrides t.of o t.overrides around.env).faults) ++ (all_said (instance_said around t.of.place o (said_overrides t.of o t.overrides around.env).overrides) t.instances).faults ≡ []
     → Each (IsFineInstance source around.env t) t.instances
 instances_of source around t None found s h c =
-    absurd (fault_some 34 t.of.place (said_overrides t.of None t.overrides around.env).faults (both_nil (unknown_module None t.of.place ++ (said_overrides t.of None t.overrides around.env).faults) _ c).0)
+    absurd (fault_some UnknownModule t.of.place (said_overrides t.of None t.overrides around.env).faults (both_nil (unknown_module None t.of.place ++ (said_overrides t.of None t.overrides around.env).faults) _ c).0)
 instances_of source around t (Some of) found s h c =
     let both = both_nil (said_overrides t.of (Some of) t.overrides around.env).faults _ c in
     all_fine (instance_said around t.of.place (Some of) (said_overrides t.of (Some of) t.overrides around.env).overrides) IsInstance (IsFineInstance source around.env t) instance_depth

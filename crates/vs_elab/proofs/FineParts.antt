@@ -2,7 +2,7 @@
 use Rattle.std.proofs.Common.{◌≡◌, List, [], ◌∷◌, ◌++◌, Option, Some, sym, subst}
 use Rattle.vs_grammar.specs.Trees as tree
 use Rattle.vs_grammar.specs.Shapes.{Each, Given}
-use Rattle.vs_hierarchy.specs.Environments.{Env}
+use Rattle.vs_elaborated.specs.Environments.{Env}
 use Rattle.vs_build.specs.Writable.{wire_assign}
 use Rattle.vs_elab.specs.declared.pending.Part.{Part}
 use Rattle.vs_elab.specs.Fine.{IsFineAssign, IsFineWire, IsFinePart, AreFineParts}

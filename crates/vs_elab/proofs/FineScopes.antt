@@ -6,13 +6,13 @@ use Rattle.vs_grammar.specs.Depths.{deepest, item_depth}
 use Rattle.vs_grammar.specs.Spelled.{depth_limit}
 use Rattle.vs_const.specs.declared.faults.Fault.{Fault}
 use Rattle.vs_const.specs.Faults.{least, better}
-use Rattle.vs_hierarchy.specs.Limits.{the_limits}
-use Rattle.vs_hierarchy.specs.Environments.{Entry, Env, within}
-use Rattle.vs_hierarchy.specs.Generate.{Nested, Made}
-use Rattle.vs_hierarchy.specs.Pieces.{Task}
-use Rattle.vs_hierarchy.specs.Instances.{Around}
-use Rattle.vs_hierarchy.specs.Surveys.{Totals, Survey, items_of, items_said, processes_over}
-use Rattle.vs_hierarchy.specs.Sound.{BlocksAreLower}
+use Rattle.vs_elaborated.specs.Limits.{the_limits}
+use Rattle.vs_elaborated.specs.Environments.{Entry, Env, within}
+use Rattle.vs_elaborated.specs.Generate.{Nested, Made}
+use Rattle.vs_elaborated.specs.Pieces.{Task}
+use Rattle.vs_elaborated.specs.Instances.{Around}
+use Rattle.vs_elaborated.specs.Surveys.{Totals, Survey, items_of, items_said, processes_over}
+use Rattle.vs_elaborated.specs.Sound.{BlocksAreLower}
 use Rattle.vs_scope.specs.declared.frames.Frame.{Frame}
 use Rattle.vs_scope.specs.declared.made.Nested as blocks
 use Rattle.vs_scope.specs.declared.made.Made as constructs

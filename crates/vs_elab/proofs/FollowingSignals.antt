@@ -3,7 +3,7 @@ use Rattle.std.proofs.Common.{ℕ, ◌+◌, ◌<◌, ◌≤◌, ◌^◌, List, [
 use Rattle.std.specs.Prelude.{sum_by}
 use Rattle.std.proofs.lemmas.List.Sums.{sum_by-cons}
 use Rattle.vs_design.specs.Expressions.{Signal, signal_length}
-use Rattle.vs_hierarchy.specs.Sound.{AreCounted}
+use Rattle.vs_elaborated.specs.Sound.{AreCounted}
 use Rattle.vs_elab.specs.Opening.{Follow}
 
 pub counted_follow : (scopes scope n b : ℕ) (ss : List Signal) → AreCounted scope n b ss → scope < scopes → b + sum_by signal_length ss ≤ 2 ^ 20 → Follow scopes n b ss

@@ -12,12 +12,12 @@ use Rattle.vs_ast.specs.declared.items.Instances.{Instances as CodeInstances}
 use Rattle.vs_ast.specs.Views as view
 use Rattle.vs_const.specs.declared.faults.Fault.{Fault}
 use Rattle.vs_flat.specs.Named.{all_below}
-use Rattle.vs_hierarchy.specs.Environments.{Entry, Env, no_env, named}
-use Rattle.vs_hierarchy.specs.Ports.{find_module}
-use Rattle.vs_hierarchy.specs.Pieces.{Task}
-use Rattle.vs_hierarchy.specs.Instances.{said_overrides, said_connections}
-use Rattle.vs_hierarchy.specs.Elaborated.{port_assign}
-use Rattle.vs_hierarchy.specs.Sound.{InstancesHavePorts, IsSoundTask, NamesAreSound, OverridesAreFine}
+use Rattle.vs_elaborated.specs.Environments.{Entry, Env, no_env, named}
+use Rattle.vs_elaborated.specs.Ports.{find_module}
+use Rattle.vs_elaborated.specs.Pieces.{Task}
+use Rattle.vs_elaborated.specs.Instances.{said_overrides, said_connections}
+use Rattle.vs_elaborated.specs.Elaborated.{port_assign}
+use Rattle.vs_elaborated.specs.Sound.{InstancesHavePorts, IsSoundTask, NamesAreSound, OverridesAreFine}
 use Rattle.vs_scope.specs.declared.frames.Frame.{Frame}
 use Rattle.vs_scope.specs.Frames.{env_at, envs}
 use Rattle.vs_scope.specs.Maps.{Pair, AreDistinct}
@@ -46,6 +46,7 @@ use Rattle.vs_elab.proofs.AlikeTasks.{instance_task}
 use Rattle.vs_elab.proofs.InstanceReads.{told, told_more, IsKnownFine, known_fine, next_pending, others_pending, task_at, ports_at, instance_deepest, broken_at, opened_at, wiring_room, instance_wirable, names_inside, count_more, parts_fine, stack_pending, instance_done}
 use Rattle.vs_elab.proofs.InstanceSteps.{wired, depth_within}
 use Rattle.vs_elab.proofs.SoundInstances.{alike_fine, found_shaped, found_shallow, instance_sound}
+use Rattle.vs_const.specs.declared.rules.Rule.TheVariants.{InstanceDepth}
 
 module _ (text : Text) (whole : IsText text) (old : Reading) (stack : List Pending) (at : Standing) (t : Bor CodeInstances) (i : Bor CodeInstance) (k : Known)
     (reading : IsReading text old (stack ++ pending_at at (part.Instance t i) ∷ [])) (known : IsOf (Some k) (find_module (source_of text) (view.instances t.now).of.bytes)) where
@@ -93,9 +94,9 @@ module _ (text : Text) (whole : IsText text) (old : Reading) (stack : List Pendi
   returned : (r : Result (Unit {0}) ElabError) (y e : ElabError) → r ≡ Err y → y ≡ e → Tells e Fails → IfErr r (λ (x : ElabError). Tells x Fails)
   returned r y e is same h = told r e Fails (is ∙ ap (λ (x : ElabError). let q : Result (Unit {0}) ElabError = Err x in q) same) h
 
-  pub deepest_told : (r : Result (Unit {0}) ElabError) (y e : ElabError) → r ≡ Err y → y ≡ e → at.left ≡ 0 → e ≡ Broken (record { number = 40; place = (view.instances t.now).of.place }) → IfErr r (λ (x : ElabError). Tells x Fails)
+  pub deepest_told : (r : Result (Unit {0}) ElabError) (y e : ElabError) → r ≡ Err y → y ≡ e → at.left ≡ 0 → e ≡ Broken (record { rule = InstanceDepth; place = (view.instances t.now).of.place }) → IfErr r (λ (x : ElabError). Tells x Fails)
   deepest_told r y e is same none said =
-      returned r y (Broken (record { number = 40; place = (view.instances t.now).of.place })) is (same ∙ said) (instance_deepest text old stack at t i m fine.found none)
+      returned r y (Broken (record { rule = InstanceDepth; place = (view.instances t.now).of.place })) is (same ∙ said) (instance_deepest text old stack at t i m fine.found none)
 
   module _ (pairs : List (Pair CodeOverride)) (name : List ℕ)
       (overridden : (m : tree.Module) (of : tree.Name) (frames : List Frame) → IsInterface k.seen m

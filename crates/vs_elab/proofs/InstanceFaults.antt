@@ -9,12 +9,13 @@ use Rattle.vs_ast.specs.declared.expressions.Expr.{Expr}
 use Rattle.vs_ast.specs.Views as view
 use Rattle.vs_const.specs.declared.faults.Fault.{Fault}
 use Rattle.vs_const.specs.Faults.{least, better, fault_if}
+use Rattle.vs_const.specs.declared.rules.Rule.TheVariants.{UnknownModule}
 use Rattle.vs_const.proofs.Least.{least_append}
-use Rattle.vs_hierarchy.specs.Environments.{Env, named}
-use Rattle.vs_hierarchy.specs.Ports.{Port, find_port, ports_of, find_module}
-use Rattle.vs_hierarchy.specs.Instances.{Around, Overrides, Connected, known_instance, instance_said, unknown_module, instances_said, said_overrides, said_connections, directed, connected, connected_by_order, connected_by_name, module_ports, is_port}
-use Rattle.vs_hierarchy.specs.Parameters.{Override}
-use Rattle.vs_hierarchy.specs.Pieces.{all_said}
+use Rattle.vs_elaborated.specs.Environments.{Env, named}
+use Rattle.vs_elaborated.specs.Ports.{Port, find_port, ports_of, find_module}
+use Rattle.vs_elaborated.specs.Instances.{Around, Overrides, Connected, known_instance, instance_said, unknown_module, instances_said, said_overrides, said_connections, directed, connected, connected_by_order, connected_by_name, module_ports, is_port}
+use Rattle.vs_elaborated.specs.Parameters.{Override}
+use Rattle.vs_elaborated.specs.Pieces.{all_said}
 use Rattle.vs_scope.specs.Maps.{value_at}
 use Rattle.vs_scope.specs.MapViews.{pairs}
 use Rattle.vs_elab.specs.declared.interfaces.Interface.{Interface}
@@ -128,7 +129,7 @@ instances_have around place m os (i ∷ is) =
     ap (λ fs. fs ++ (all_said (instance_said around place m os) is).faults) (known_has around place i.name.bytes m os (said_connections m i.name i.connections around.env))
     ∙ ap (λ fs. instance_faults m around.env i ++ fs) (instances_have around place m os is)
 
-missing_is : (k : Option (Bor Interface)) (m : Option tree.Module) (place : ℕ) → IsKnown k m → least (fault_if (is_none k) 34 place) ≡ least (unknown_module m place)
+missing_is : (k : Option (Bor Interface)) (m : Option tree.Module) (place : ℕ) → IsKnown k m → least (fault_if (is_none k) UnknownModule place) ≡ least (unknown_module m place)
 missing_is None None place h = refl
 missing_is None (Some m) place h = absurd h
 missing_is (Some i) None place h = absurd h
@@ -143,7 +144,7 @@ instances_alike e1 e2 h m (i ∷ is) =
 -- what is found of an item, in its parts
 pub item_has : (source : tree.Source) (around : Around) (t : tree.Instances) (env : Env) (k : Option (Bor Interface)) (missing overrides connections one both : Option Fault)
     → IsKnown k (find_module source t.of.bytes) → named around.env ≡ named env
-    → missing ≡ least (fault_if (is_none k) 34 t.of.place)
+    → missing ≡ least (fault_if (is_none k) UnknownModule t.of.place)
     → overrides ≡ least (said_overrides t.of (find_module source t.of.bytes) t.overrides env).faults
     → connections ≡ least (flat_map (instance_faults (find_module source t.of.bytes) env) t.instances)
     → one ≡ better missing overrides → both ≡ better one connections → both ≡ least (instances_said source around t).faults

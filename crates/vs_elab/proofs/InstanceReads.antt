@@ -10,16 +10,16 @@ use Rattle.vs_ast.specs.declared.items.Instance.{Instance as CodeInstance}
 use Rattle.vs_ast.specs.declared.items.Instances.{Instances as CodeInstances}
 use Rattle.vs_ast.specs.Views as view
 use Rattle.vs_const.specs.declared.faults.Fault.{Fault}
-use Rattle.vs_hierarchy.specs.Limits.{the_limits}
-use Rattle.vs_hierarchy.specs.Environments.{Entry, Env, no_env, named}
-use Rattle.vs_hierarchy.specs.Parameters.{Override}
-use Rattle.vs_hierarchy.specs.Ports.{find_module}
-use Rattle.vs_hierarchy.specs.Pieces as pieces
-use Rattle.vs_hierarchy.specs.Pieces.{Task, Piece}
-use Rattle.vs_hierarchy.specs.Instances.{Around, connection_name, said_overrides, said_connections}
-use Rattle.vs_hierarchy.specs.Surveys.{Survey}
-use Rattle.vs_hierarchy.specs.Elaborated.{port_assign, counted}
-use Rattle.vs_hierarchy.specs.Sound.{AreSoundFrames, InstancesHavePorts, NamesAreSound, MeansSignal}
+use Rattle.vs_elaborated.specs.Limits.{the_limits}
+use Rattle.vs_elaborated.specs.Environments.{Entry, Env, no_env, named}
+use Rattle.vs_elaborated.specs.Parameters.{Override}
+use Rattle.vs_elaborated.specs.Ports.{find_module}
+use Rattle.vs_elaborated.specs.Pieces as pieces
+use Rattle.vs_elaborated.specs.Pieces.{Task, Piece}
+use Rattle.vs_elaborated.specs.Instances.{Around, connection_name, said_overrides, said_connections}
+use Rattle.vs_elaborated.specs.Surveys.{Survey}
+use Rattle.vs_elaborated.specs.Elaborated.{port_assign, counted}
+use Rattle.vs_elaborated.specs.Sound.{AreSoundFrames, InstancesHavePorts, NamesAreSound, MeansSignal}
 use Rattle.vs_scope.specs.declared.frames.Frame.{Frame}
 use Rattle.vs_scope.specs.Frames.{env_at, envs}
 use Rattle.vs_scope.specs.Views.{entries}
@@ -50,6 +50,7 @@ use Rattle.vs_elab.proofs.MoreFrames.{env_kept, stack_kept}
 use Rattle.vs_elab.proofs.ReadDesigns.{read_wired}
 use Rattle.vs_elab.proofs.Stacks.{instance_fails}
 use Rattle.vs_elab.proofs.WiredPorts as ports
+use Rattle.vs_const.specs.declared.rules.Rule.TheVariants.{InstanceDepth}
 
 -- ---- errors
 
@@ -146,12 +147,12 @@ module _ (text : Text) (old : Reading) (stack : List Pending) (at : Standing) (t
       ∙ instance_fails the_limits (source_of text) (design_so_far old) (suc left) (ports_at old at i m) (task_at old at t i m) (stack_pieces (source_of text) old.frames.items stack) (totals_of old.counts) f (h left)
 
   -- and so is one that stands too deep
-  pub instance_deepest : at.left ≡ 0 → outcome text old (stack ++ pending_at at (part.Instance t i) ∷ []) ≡ Err (record { number = 40; place = (view.instances t.now).of.place })
+  pub instance_deepest : at.left ≡ 0 → outcome text old (stack ++ pending_at at (part.Instance t i) ∷ []) ≡ Err (record { rule = InstanceDepth; place = (view.instances t.now).of.place })
   instance_deepest e =
       outcome_is
       ∙ ap (λ n. built_then (design_so_far old) (rest_of the_limits (source_of text) (stacks.pending n (pieces.Instance (ports_at old at i m) (task_at old at t i m)) ∷ stack_pieces (source_of text) old.frames.items stack) (totals_of old.counts))) e
       ∙ instance_fails the_limits (source_of text) (design_so_far old) 0 (ports_at old at i m) (task_at old at t i m) (stack_pieces (source_of text) old.frames.items stack) (totals_of old.counts)
-      (record { number = 40; place = (view.instances t.now).of.place }) refl
+      (record { rule = InstanceDepth; place = (view.instances t.now).of.place }) refl
 
   -- its scope as the code has it: its name, and overrides that are alike
   module _ (name : List ℕ) (os : List Override) (name_is : name ≡ (view.instance i.now).name.bytes)

@@ -12,14 +12,16 @@ use Rattle.vs_ast.specs.declared.items.Instances.{Instances as CodeInstances}
 use Rattle.vs_ast.specs.Views as view
 use Rattle.vs_const.specs.declared.faults.Fault.{Fault}
 use Rattle.vs_const.specs.Faults.{fault_if, least}
-use Rattle.vs_hierarchy.specs.Limits.{the_limits}
-use Rattle.vs_hierarchy.specs.Environments.{Env, no_env}
-use Rattle.vs_hierarchy.specs.Ports.{find_module}
-use Rattle.vs_hierarchy.specs.Parameters.{Override}
-use Rattle.vs_hierarchy.specs.Pieces.{Task, Connection, Piece, Instance}
-use Rattle.vs_hierarchy.specs.Instances.{Around, instance_said, said_overrides, said_connections}
-use Rattle.vs_hierarchy.specs.Surveys.{Totals, Survey, survey, piece_processes}
-use Rattle.vs_hierarchy.specs.Elaborated.{both_designs, port_assign, counted, limit_faults}
+use Rattle.vs_const.specs.declared.rules.Rule.{Rule}
+use Rattle.vs_const.specs.declared.rules.Rule.TheVariants.{InstanceDepth, TooManyInstances}
+use Rattle.vs_elaborated.specs.Limits.{the_limits}
+use Rattle.vs_elaborated.specs.Environments.{Env, no_env}
+use Rattle.vs_elaborated.specs.Ports.{find_module}
+use Rattle.vs_elaborated.specs.Parameters.{Override}
+use Rattle.vs_elaborated.specs.Pieces.{Task, Connection, Piece, Instance}
+use Rattle.vs_elaborated.specs.Instances.{Around, instance_said, said_overrides, said_connections}
+use Rattle.vs_elaborated.specs.Surveys.{Totals, Survey, survey, piece_processes}
+use Rattle.vs_elaborated.specs.Elaborated.{both_designs, port_assign, counted, limit_faults}
 use Rattle.vs_scope.specs.declared.frames.Frame.{Frame}
 use Rattle.vs_elab.specs.declared.stack.Pending.{Pending}
 use Rattle.vs_elab.specs.declared.pending.Part.TheVariants as part
@@ -138,12 +140,12 @@ pub faultless : (fs : List Fault) → least fs ≡ None → fs ≡ []
 faultless [] h = refl
 faultless (f ∷ fs) h = cc
 
-lists_none : (b : Bool) (number place : ℕ) (fs : List Fault) → fault_if b number place ++ fs ≡ [] → b ≡ false
-lists_none true number place fs h = cc
-lists_none false number place fs h = refl
+lists_none : (b : Bool) (rule : Rule) (place : ℕ) (fs : List Fault) → fault_if b rule place ++ fs ≡ [] → b ≡ false
+lists_none true rule place fs h = cc
+lists_none false rule place fs h = refl
 
 -- an instance within the limits isn't too deep
 pub depth_within : (name : List ℕ) (parent : Option ℕ) (m : tree.Module) (depth place : ℕ) (env : Env) (os : List Override) (t : Totals)
     → (let k = instance_task name parent m depth place env os in least (limit_faults the_limits k (counted k t)) ≡ None) → depth ≤ 32
 depth_within name parent m depth place env os t h =
-    ltb-false 32 depth (lists_none (nat_lt 32 depth) 40 place (fault_if (nat_lt 4096 (t.instances + 1)) 41 place) (faultless _ h))
+    ltb-false 32 depth (lists_none (nat_lt 32 depth) InstanceDepth place (fault_if (nat_lt 4096 (t.instances + 1)) TooManyInstances place) (faultless _ h))

@@ -2,9 +2,9 @@
 use Rattle.std.proofs.Common.{◌≡◌, ℕ, List, [], ◌∷◌, ◌++◌, flat_map, Option, Some, None, refl, ap, ◌∙◌}
 use Rattle.vs_grammar.specs.Trees as tree
 use Rattle.vs_const.specs.declared.faults.Fault.{Fault}
-use Rattle.vs_hierarchy.specs.Environments.{Env}
-use Rattle.vs_hierarchy.specs.Surveys.{assign_said, wire_said}
-use Rattle.vs_hierarchy.specs.Pieces.{Said, all_said}
+use Rattle.vs_elaborated.specs.Environments.{Env}
+use Rattle.vs_elaborated.specs.Surveys.{assign_said, wire_said}
+use Rattle.vs_elaborated.specs.Pieces.{Said, all_said}
 use Rattle.vs_elab.specs.Items.{assign_faults, value_faults, wire_faults}
 
 -- those of a list are those of each

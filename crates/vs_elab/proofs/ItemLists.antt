@@ -9,10 +9,10 @@ use Rattle.vs_ast.specs.declared.items.Assign.{Assign}
 use Rattle.vs_ast.specs.declared.items.AlwaysBlock.{AlwaysBlock}
 use Rattle.vs_ast.specs.declared.items.Instances.{Instances}
 use Rattle.vs_ast.specs.Views as view
-use Rattle.vs_hierarchy.specs.Generate.{Nested, Made, nothing_made}
-use Rattle.vs_hierarchy.specs.Pieces.{Piece}
-use Rattle.vs_hierarchy.specs.Instances.{Around}
-use Rattle.vs_hierarchy.specs.Surveys.{nested_piece, item_said, items_said}
+use Rattle.vs_elaborated.specs.Generate.{Nested, Made, nothing_made}
+use Rattle.vs_elaborated.specs.Pieces.{Piece}
+use Rattle.vs_elaborated.specs.Instances.{Around}
+use Rattle.vs_elaborated.specs.Surveys.{nested_piece, item_said, items_said}
 use Rattle.vs_elab.specs.declared.counts.Count.{Count}
 use Rattle.vs_elab.specs.Counts.{IsCounted}
 use Rattle.vs_elab.proofs.CountSteps.{counted_nothing, counted_within}

@@ -2,7 +2,7 @@
 use Rattle.std.proofs.Common.{◌≡◌, ℕ, List, Option, Some, None, option_map, sym, ap, ◌∙◌, subst}
 use Rattle.std.specs.Borrow.{Bor}
 use Rattle.vs_grammar.specs.Trees as tree
-use Rattle.vs_hierarchy.specs.Ports.{find_module}
+use Rattle.vs_elaborated.specs.Ports.{find_module}
 use Rattle.vs_scope.specs.declared.maps.NameMap.{NameMap}
 use Rattle.vs_scope.specs.Maps.{value_at}
 use Rattle.vs_scope.specs.MapViews.{pairs}

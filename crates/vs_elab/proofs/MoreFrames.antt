@@ -4,7 +4,7 @@ use Rattle.std.specs.Prelude.{slice_index_or, reverse}
 use Rattle.std.proofs.lemmas.List.{reverse-append}
 use Rattle.vs_grammar.specs.Trees as tree
 use Rattle.vs_grammar.specs.Shapes.{Each}
-use Rattle.vs_hierarchy.specs.Environments.{Env, no_env}
+use Rattle.vs_elaborated.specs.Environments.{Env, no_env}
 use Rattle.vs_scope.specs.declared.frames.Frame.{Frame}
 use Rattle.vs_scope.specs.Frames.{env_at, frame_env, envs_after, envs}
 use Rattle.vs_elab.specs.declared.stack.Pending.{Pending}

@@ -8,11 +8,11 @@ use Rattle.vs_design.specs.Clocks.{same_name}
 use Rattle.vs_grammar.specs.Trees as tree
 use Rattle.vs_ast.specs.declared.expressions.Expr.{Expr}
 use Rattle.vs_ast.specs.Views as view
-use Rattle.vs_hierarchy.specs.Environments.{Env}
-use Rattle.vs_hierarchy.specs.Pieces as pieces
-use Rattle.vs_hierarchy.specs.Ports.{Port, find_port}
-use Rattle.vs_hierarchy.specs.Targets.{as_target}
-use Rattle.vs_hierarchy.specs.Instances.{connected, directed, output_target, connected_by_name, connection_name, connection_of, in_port_order}
+use Rattle.vs_elaborated.specs.Environments.{Env}
+use Rattle.vs_elaborated.specs.Pieces as pieces
+use Rattle.vs_elaborated.specs.Ports.{Port, find_port}
+use Rattle.vs_elaborated.specs.Targets.{as_target}
+use Rattle.vs_elaborated.specs.Instances.{connected, directed, output_target, connected_by_name, connection_name, connection_of, in_port_order}
 use Rattle.vs_scope.specs.Maps.{Pair, value_at}
 use Rattle.vs_scope.proofs.Entries.{same_is}
 use Rattle.vs_elab.specs.declared.ports.Port.{Port as Port'}

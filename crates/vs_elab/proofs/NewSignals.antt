@@ -10,10 +10,10 @@ use Rattle.vs_design.specs.Clocks.{same_name}
 use Rattle.vs_design.specs.Elaborated.{same_range, same_flag, same_signal, is_this, is_signal}
 use Rattle.vs_grammar.specs.Trees as tree
 use Rattle.vs_grammar.specs.Shapes.{Each}
-use Rattle.vs_hierarchy.specs.Signals.{SaidSignal}
-use Rattle.vs_hierarchy.specs.Pieces.{Task}
-use Rattle.vs_hierarchy.specs.Surveys.{Totals, Survey}
-use Rattle.vs_hierarchy.specs.Sound.{AreCounted}
+use Rattle.vs_elaborated.specs.Signals.{SaidSignal}
+use Rattle.vs_elaborated.specs.Pieces.{Task}
+use Rattle.vs_elaborated.specs.Surveys.{Totals, Survey}
+use Rattle.vs_elaborated.specs.Sound.{AreCounted}
 use Rattle.vs_scope.specs.Surveys.{IsOfParts, signals_in, start_at}
 use Rattle.vs_scope.proofs.NamedLists.{same_self}
 

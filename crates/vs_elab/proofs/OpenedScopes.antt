@@ -10,12 +10,12 @@ use Rattle.vs_design.specs.Elaborated.{is_signal}
 use Rattle.vs_grammar.specs.Trees as tree
 use Rattle.vs_grammar.specs.Shapes.{Each, OneOrMore, IsModule, IsShaped}
 use Rattle.vs_const.specs.Faults.{least}
-use Rattle.vs_hierarchy.specs.Limits.{the_limits}
-use Rattle.vs_hierarchy.specs.Environments.{within}
-use Rattle.vs_hierarchy.specs.Pieces.{Task, is_instance}
-use Rattle.vs_hierarchy.specs.Surveys.{Totals, Survey, survey}
-use Rattle.vs_hierarchy.specs.Elaborated.{both_designs, counted, limit_faults}
-use Rattle.vs_hierarchy.specs.Sound.{AreSoundEntries, IsSoundTask, AreModules, AreCounted, FaultlessIsFair, SignalsAreCounted}
+use Rattle.vs_elaborated.specs.Limits.{the_limits}
+use Rattle.vs_elaborated.specs.Environments.{within}
+use Rattle.vs_elaborated.specs.Pieces.{Task, is_instance}
+use Rattle.vs_elaborated.specs.Surveys.{Totals, Survey, survey}
+use Rattle.vs_elaborated.specs.Elaborated.{both_designs, counted, limit_faults}
+use Rattle.vs_elaborated.specs.Sound.{AreSoundEntries, IsSoundTask, AreModules, AreCounted, FaultlessIsFair, SignalsAreCounted}
 use Rattle.vs_build.specs.Drafts.{Draft, and_scope}
 use Rattle.vs_build.specs.Growth.{draft}
 use Rattle.vs_build.proofs.Wider.{IsWider, same_signals, more_signals}

@@ -10,12 +10,12 @@ use Rattle.vs_design.specs.Expressions.{signal_length}
 use Rattle.vs_grammar.specs.Trees as tree
 use Rattle.vs_grammar.specs.Shapes.{Each}
 use Rattle.vs_const.specs.declared.faults.Fault.{Fault}
-use Rattle.vs_hierarchy.specs.Limits.{the_limits}
-use Rattle.vs_hierarchy.specs.Environments.{Env, Entry, Later, OfSignal, OfParameter, OfGenvar, OfScope, Declared}
-use Rattle.vs_hierarchy.specs.Pieces.{Task, Piece, Within, is_instance}
-use Rattle.vs_hierarchy.specs.Surveys.{Totals, survey, piece_processes}
-use Rattle.vs_hierarchy.specs.Elaborated.{both_designs, counted, read_scope}
-use Rattle.vs_hierarchy.specs.Sound.{IsSoundDeclared, AreSoundEntries, AreSoundFrames}
+use Rattle.vs_elaborated.specs.Limits.{the_limits}
+use Rattle.vs_elaborated.specs.Environments.{Env, Entry, Later, OfSignal, OfParameter, OfGenvar, OfScope, Declared}
+use Rattle.vs_elaborated.specs.Pieces.{Task, Piece, Within, is_instance}
+use Rattle.vs_elaborated.specs.Surveys.{Totals, survey, piece_processes}
+use Rattle.vs_elaborated.specs.Elaborated.{both_designs, counted, read_scope}
+use Rattle.vs_elaborated.specs.Sound.{IsSoundDeclared, AreSoundEntries, AreSoundFrames}
 use Rattle.vs_build.proofs.Wider.{IsWider, same_signals}
 use Rattle.vs_scope.specs.declared.frames.Frame.{Frame}
 use Rattle.vs_scope.specs.Frames.{env_at, envs}

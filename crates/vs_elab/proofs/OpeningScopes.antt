@@ -7,12 +7,12 @@ use Rattle.vs_grammar.specs.Depths.{deepest, item_depth}
 use Rattle.vs_grammar.specs.Spelled.{depth_limit}
 use Rattle.vs_const.specs.declared.faults.Fault.{Fault}
 use Rattle.vs_const.specs.Faults.{least}
-use Rattle.vs_hierarchy.specs.Limits.{the_limits}
-use Rattle.vs_hierarchy.specs.Environments.{within}
-use Rattle.vs_hierarchy.specs.Pieces.{Task, is_instance}
-use Rattle.vs_hierarchy.specs.Surveys.{Totals, Survey, survey, items_of, items_said}
-use Rattle.vs_hierarchy.specs.Elaborated.{counted, limit_faults}
-use Rattle.vs_hierarchy.specs.Sound.{IsSoundTask, BlocksAreLower, FaultlessIsFair, SignalsAreCounted}
+use Rattle.vs_elaborated.specs.Limits.{the_limits}
+use Rattle.vs_elaborated.specs.Environments.{within}
+use Rattle.vs_elaborated.specs.Pieces.{Task, is_instance}
+use Rattle.vs_elaborated.specs.Surveys.{Totals, Survey, survey, items_of, items_said}
+use Rattle.vs_elaborated.specs.Elaborated.{counted, limit_faults}
+use Rattle.vs_elaborated.specs.Sound.{IsSoundTask, BlocksAreLower, FaultlessIsFair, SignalsAreCounted}
 use Rattle.vs_build.specs.Drafts.{Draft, and_scope}
 use Rattle.vs_build.specs.Growth.{draft}
 use Rattle.vs_scope.specs.declared.frames.Frame.{Frame}

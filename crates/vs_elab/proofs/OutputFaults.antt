@@ -9,12 +9,13 @@ use Rattle.vs_ast.specs.declared.expressions.Expr.{Expr}
 use Rattle.vs_ast.specs.Views.{expr, exprs}
 use Rattle.vs_const.specs.declared.faults.Fault.{Fault}
 use Rattle.vs_const.specs.Faults.{fault}
+use Rattle.vs_const.specs.declared.rules.Rule.TheVariants.{WrongKind}
 use Rattle.vs_const.specs.Meanings.{Find}
 use Rattle.vs_const.specs.Expressions.{typed}
 use Rattle.vs_grammar.specs.Trees.{expr_place}
-use Rattle.vs_hierarchy.specs.Environments.{Env, named}
-use Rattle.vs_hierarchy.specs.Instances.{output_target}
-use Rattle.vs_hierarchy.specs.Targets.{typed_target, typed_targets, as_target, as_targets, targeted, and_target}
+use Rattle.vs_elaborated.specs.Environments.{Env, named}
+use Rattle.vs_elaborated.specs.Instances.{output_target}
+use Rattle.vs_elaborated.specs.Targets.{typed_target, typed_targets, as_target, as_targets, targeted, and_target}
 use Rattle.vs_elab.specs.Outputs.{found_faults, found_parts}
 
 abbrev faults_of : Find → tree.Target → List Fault
@@ -97,9 +98,9 @@ target_output name e env h = by (as_target e) refl h (found_are e (named env))
     by None is h r = cc
     by (Some t) is h r = r t is
 
-pub no_target : (name : List ℕ) (e : tree.Expr) (env : Env) → is_some (as_target e) ≡ false → fault 43 (expr_place e) ++ (typed e (named env) false).faults ≡ (output_target name e env (as_target e)).faults
+pub no_target : (name : List ℕ) (e : tree.Expr) (env : Env) → is_some (as_target e) ≡ false → fault WrongKind (expr_place e) ++ (typed e (named env) false).faults ≡ (output_target name e env (as_target e)).faults
 no_target name e env h = by (as_target e) h
   where
-    by : (o : Option tree.Target) → is_some o ≡ false → fault 43 (expr_place e) ++ (typed e (named env) false).faults ≡ (output_target name e env o).faults
+    by : (o : Option tree.Target) → is_some o ≡ false → fault WrongKind (expr_place e) ++ (typed e (named env) false).faults ≡ (output_target name e env o).faults
     by None h = refl
     by (Some t) h = cc

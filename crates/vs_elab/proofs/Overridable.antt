@@ -5,7 +5,7 @@ use Rattle.vs_grammar.specs.Trees as tree
 use Rattle.vs_ast.specs.declared.items.Setting.{Setting}
 use Rattle.vs_ast.specs.declared.items.Parameters.{Parameters}
 use Rattle.vs_ast.specs.Views as view
-use Rattle.vs_hierarchy.specs.Ports.{parameter_names, item_parameters}
+use Rattle.vs_elaborated.specs.Ports.{parameter_names, item_parameters}
 use Rattle.vs_elab.specs.Ports.{setting_bytes, body_parameters}
 
 settings_are : (ss : List Setting) → map setting_bytes ss ≡ map (λ (s : tree.Setting). s.name.bytes) (map view.setting ss)

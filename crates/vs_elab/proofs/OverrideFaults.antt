@@ -7,9 +7,10 @@ use Rattle.vs_grammar.specs.Trees as tree
 use Rattle.vs_grammar.specs.Trees.{Name}
 use Rattle.vs_grammar.specs.Shapes.{Each, Given, OneOrMore, AreOrdered, IsExpr}
 use Rattle.vs_const.specs.Faults.{fault, fault_if}
-use Rattle.vs_hierarchy.specs.Environments.{Env}
-use Rattle.vs_hierarchy.specs.Ports.{overridable, is_named}
-use Rattle.vs_hierarchy.specs.Instances.{Overrides, and_override, overrides_by_order, overrides_by_name, connected_names, is_overridable}
+use Rattle.vs_const.specs.declared.rules.Rule.TheVariants.{DuplicateName, UnknownPort}
+use Rattle.vs_elaborated.specs.Environments.{Env}
+use Rattle.vs_elaborated.specs.Ports.{overridable, is_named}
+use Rattle.vs_elaborated.specs.Instances.{Overrides, and_override, overrides_by_order, overrides_by_name, connected_names, is_overridable}
 use Rattle.vs_scope.specs.Maps.{value_at}
 use Rattle.vs_scope.specs.MapViews.{pairs}
 use Rattle.vs_scope.proofs.Entries.{same_is}
@@ -50,8 +51,8 @@ named_override_faults (c ∷ cs) env =
 pub names_alike : (p q : List ℕ → Bool) → ((name : List ℕ) → p name ≡ q name) → (seen : List Name) (cs : List tree.NamedConnection) → connected_names p seen cs ≡ connected_names q seen cs
 names_alike p q h seen [] = refl
 names_alike p q h seen (c ∷ cs) =
-    ap (λ b. (if is_named c.name.bytes seen then fault 36 c.name.place else fault_if (not b) 39 c.name.place) ++ connected_names p (c.name ∷ seen) cs) (h c.name.bytes)
-    ∙ ap (λ fs. (if is_named c.name.bytes seen then fault 36 c.name.place else fault_if (not (q c.name.bytes)) 39 c.name.place) ++ fs) (names_alike p q h (c.name ∷ seen) cs)
+    ap (λ b. (if is_named c.name.bytes seen then fault DuplicateName c.name.place else fault_if (not b) UnknownPort c.name.place) ++ connected_names p (c.name ∷ seen) cs) (h c.name.bytes)
+    ∙ ap (λ fs. (if is_named c.name.bytes seen then fault DuplicateName c.name.place else fault_if (not (q c.name.bytes)) UnknownPort c.name.place) ++ fs) (names_alike p q h (c.name ∷ seen) cs)
 
 pub same_swapped : (a b : List ℕ) → same_name a b ≡ same_name b a
 same_swapped a b = by (same_name a b) refl (same_name b a) refl

@@ -7,10 +7,10 @@ use Rattle.vs_grammar.specs.Trees as tree
 use Rattle.vs_grammar.specs.Shapes.{IsExpr}
 use Rattle.vs_ast.specs.declared.expressions.Expr.{Expr}
 use Rattle.vs_ast.specs.Views as view
-use Rattle.vs_hierarchy.specs.Environments.{Env}
-use Rattle.vs_hierarchy.specs.Instances.{Overrides, and_override, overrides_by_order, overrides_by_name}
-use Rattle.vs_hierarchy.specs.Parameters as spec
-use Rattle.vs_hierarchy.specs.Parameters.{override_of}
+use Rattle.vs_elaborated.specs.Environments.{Env}
+use Rattle.vs_elaborated.specs.Instances.{Overrides, and_override, overrides_by_order, overrides_by_name}
+use Rattle.vs_elaborated.specs.Parameters as spec
+use Rattle.vs_elaborated.specs.Parameters.{override_of}
 use Rattle.vs_scope.specs.declared.frames.Frame.{Frame}
 use Rattle.vs_scope.specs.declared.maps.NameMap.{NameMap}
 use Rattle.vs_scope.specs.declared.parameters.Override.{Override}

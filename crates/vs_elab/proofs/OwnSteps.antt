@@ -15,12 +15,12 @@ use Rattle.vs_ast.specs.declared.items.Instance.{Instance as TextInstance}
 use Rattle.vs_ast.specs.declared.items.Instances.{Instances}
 use Rattle.vs_ast.specs.declared.names.Name.{Name}
 use Rattle.vs_const.specs.Sound.{AreSound}
-use Rattle.vs_hierarchy.specs.Limits.{the_limits}
-use Rattle.vs_hierarchy.specs.Environments.{Env, named}
-use Rattle.vs_hierarchy.specs.Instances.{Around}
-use Rattle.vs_hierarchy.specs.Sound.{AreSoundFrames}
-use Rattle.vs_hierarchy.specs.Pieces.{Own}
-use Rattle.vs_hierarchy.specs.Elaborated.{both_designs, of_processes}
+use Rattle.vs_elaborated.specs.Limits.{the_limits}
+use Rattle.vs_elaborated.specs.Environments.{Env, named}
+use Rattle.vs_elaborated.specs.Instances.{Around}
+use Rattle.vs_elaborated.specs.Sound.{AreSoundFrames}
+use Rattle.vs_elaborated.specs.Pieces.{Own}
+use Rattle.vs_elaborated.specs.Elaborated.{both_designs, of_processes}
 use Rattle.vs_build.specs.Drafts.{Draft, and_process}
 use Rattle.vs_build.specs.Growth.{draft}
 use Rattle.vs_build.specs.Executable.{IsRunnable, block_process}

@@ -4,10 +4,10 @@ use Rattle.std.proofs.lemmas.List.{append-nil, map-append}
 use Rattle.vs_grammar.specs.Trees as tree
 use Rattle.vs_ast.specs.declared.items.Item.{Item}
 use Rattle.vs_ast.specs.Views as view
-use Rattle.vs_hierarchy.specs.Generate.{Made}
-use Rattle.vs_hierarchy.specs.Pieces.{Piece}
-use Rattle.vs_hierarchy.specs.Instances.{Around}
-use Rattle.vs_hierarchy.specs.Surveys.{nested_piece, item_said, items_said}
+use Rattle.vs_elaborated.specs.Generate.{Made}
+use Rattle.vs_elaborated.specs.Pieces.{Piece}
+use Rattle.vs_elaborated.specs.Instances.{Around}
+use Rattle.vs_elaborated.specs.Surveys.{nested_piece, item_said, items_said}
 use Rattle.vs_scope.specs.declared.made.Nested.{Nested}
 use Rattle.vs_scope.specs.Made as code
 use Rattle.vs_elab.proofs.ItemLists.{IsOther, pieces_behind, made_at, made_more, length_taken, mapped}

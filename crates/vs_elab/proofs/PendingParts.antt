@@ -3,8 +3,8 @@ use Rattle.std.proofs.Common.{◌≡◌, ℕ, ◌+◌, ◌<◌, List, [], ◌∷
 use Rattle.std.proofs.lemmas.List.{append-nil}
 use Rattle.std.proofs.lemmas.Grind.{flat_map-append}
 use Rattle.vs_grammar.specs.Trees as tree
-use Rattle.vs_hierarchy.specs.Pieces.{Piece, Said, all_said}
-use Rattle.vs_hierarchy.specs.Instances.{Around}
+use Rattle.vs_elaborated.specs.Pieces.{Piece, Said, all_said}
+use Rattle.vs_elaborated.specs.Instances.{Around}
 use Rattle.vs_elab.specs.declared.pending.Part.{Part}
 use Rattle.vs_elab.specs.Pending.{part_pieces, parts_pieces}
 use Rattle.vs_elab.proofs.Repeats.{one_more}

@@ -1,8 +1,8 @@
 -- The ports of a table by their names.
 use Rattle.std.proofs.Common.{◌≡◌, ℕ, Bool, true, false, List, [], ◌∷◌, map, Option, Some, option_map, if◌then◌else◌, refl, sym, ap, ◌∙◌}
 use Rattle.vs_design.specs.Clocks.{same_name}
-use Rattle.vs_hierarchy.specs.Ports as ports
-use Rattle.vs_hierarchy.specs.Ports.{find_port}
+use Rattle.vs_elaborated.specs.Ports as ports
+use Rattle.vs_elaborated.specs.Ports.{find_port}
 use Rattle.vs_scope.specs.Maps.{value_at}
 use Rattle.vs_scope.proofs.Entries.{same_is}
 use Rattle.vs_scope.specs.MapViews.{pairs}

@@ -13,11 +13,11 @@ use Rattle.vs_ast.specs.Views as view
 use Rattle.vs_const.specs.Meanings.{SignalMeaning, Find}
 use Rattle.vs_const.specs.Expressions.{typed}
 use Rattle.vs_flat.specs.Trees.{signal_at}
-use Rattle.vs_hierarchy.specs.Environments.{Declared, OfSignal, Entry, Env, named, find_entry}
-use Rattle.vs_hierarchy.specs.Targets.{as_target, typed_target}
-use Rattle.vs_hierarchy.specs.Pieces as pieces
-use Rattle.vs_hierarchy.specs.Instances.{directed, output_target}
-use Rattle.vs_hierarchy.specs.Elaborated.{entry_signal, port_assign}
+use Rattle.vs_elaborated.specs.Environments.{Declared, OfSignal, Entry, Env, named, find_entry}
+use Rattle.vs_elaborated.specs.Targets.{as_target, typed_target}
+use Rattle.vs_elaborated.specs.Pieces as pieces
+use Rattle.vs_elaborated.specs.Instances.{directed, output_target}
+use Rattle.vs_elaborated.specs.Elaborated.{entry_signal, port_assign}
 use Rattle.vs_build.specs.Drafts.{Draft, and_process}
 use Rattle.vs_build.specs.Writable.{input_process}
 use Rattle.vs_build.specs.Outputs.{IsOutput, output_of, output_process}

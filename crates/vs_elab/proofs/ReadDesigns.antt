@@ -1,8 +1,8 @@
 -- What has been read stays so with processes more.
 use Rattle.std.proofs.Common.{◌≡◌, ◌≤◌, ◌^◌, false, List, [], ◌∷◌, length, Some, None, sym, ap, ◌∙◌, subst}
 use Rattle.vs_design.specs.Designs.{Process, Design, bit_count}
-use Rattle.vs_hierarchy.specs.Environments.{Declared, Later, OfSignal, OfParameter, OfGenvar, OfScope, Entry}
-use Rattle.vs_hierarchy.specs.Sound.{IsSoundDeclared, AreSoundEntries, AreSoundFrames}
+use Rattle.vs_elaborated.specs.Environments.{Declared, Later, OfSignal, OfParameter, OfGenvar, OfScope, Entry}
+use Rattle.vs_elaborated.specs.Sound.{IsSoundDeclared, AreSoundEntries, AreSoundFrames}
 use Rattle.vs_build.proofs.Wider.{IsWider, same_signals}
 use Rattle.vs_scope.specs.declared.frames.Frame.{Frame}
 use Rattle.vs_scope.specs.Frames.{env_at, envs}

@@ -12,8 +12,9 @@ use Rattle.std.proofs.lemmas.List.{append-nil, map-append}
 use Rattle.vs_design.specs.Clocks.{same_name}
 use Rattle.vs_grammar.specs.Trees.{Name, Module}
 use Rattle.vs_const.specs.Faults.{fault_if}
-use Rattle.vs_hierarchy.specs.Ports.{find_in, is_named}
-use Rattle.vs_hierarchy.specs.Elaborated.{repeated_modules}
+use Rattle.vs_const.specs.declared.rules.Rule.TheVariants.{DuplicateModule}
+use Rattle.vs_elaborated.specs.Ports.{find_in, is_named}
+use Rattle.vs_elaborated.specs.Elaborated.{repeated_modules}
 
 or_false : (b : Bool) → (b || false) ≡ b
 or_false true = refl
@@ -32,16 +33,16 @@ taken_more seen m ms name = by (same_name m.name.bytes name) (is_named name seen
     by false b = refl
 
 repeated_behind : (seen : List Name) (ms : List Module) (m : Module)
-    → repeated_modules seen (ms ++ m ∷ []) ≡ repeated_modules seen ms ++ fault_if (is_taken seen ms m.name.bytes) 33 m.name.place
+    → repeated_modules seen (ms ++ m ∷ []) ≡ repeated_modules seen ms ++ fault_if (is_taken seen ms m.name.bytes) DuplicateModule m.name.place
 repeated_behind seen [] m =
-    append-nil (fault_if (is_named m.name.bytes seen) 33 m.name.place) ∙ ap (λ b. fault_if b 33 m.name.place) (sym (or_false (is_named m.name.bytes seen)))
+    append-nil (fault_if (is_named m.name.bytes seen) DuplicateModule m.name.place) ∙ ap (λ b. fault_if b DuplicateModule m.name.place) (sym (or_false (is_named m.name.bytes seen)))
 repeated_behind seen (x ∷ xs) m =
-    ap (λ fs. fault_if (is_named x.name.bytes seen) 33 x.name.place ++ fs) (repeated_behind (x.name ∷ seen) xs m)
-    ∙ sym (append_assoc (fault_if (is_named x.name.bytes seen) 33 x.name.place) (repeated_modules (x.name ∷ seen) xs) (fault_if (is_taken (x.name ∷ seen) xs m.name.bytes) 33 m.name.place))
-    ∙ ap (λ b. (fault_if (is_named x.name.bytes seen) 33 x.name.place ++ repeated_modules (x.name ∷ seen) xs) ++ fault_if b 33 m.name.place) (taken_more seen x xs m.name.bytes)
+    ap (λ fs. fault_if (is_named x.name.bytes seen) DuplicateModule x.name.place ++ fs) (repeated_behind (x.name ∷ seen) xs m)
+    ∙ sym (append_assoc (fault_if (is_named x.name.bytes seen) DuplicateModule x.name.place) (repeated_modules (x.name ∷ seen) xs) (fault_if (is_taken (x.name ∷ seen) xs m.name.bytes) DuplicateModule m.name.place))
+    ∙ ap (λ b. (fault_if (is_named x.name.bytes seen) DuplicateModule x.name.place ++ repeated_modules (x.name ∷ seen) xs) ++ fault_if b DuplicateModule m.name.place) (taken_more seen x xs m.name.bytes)
 
 -- of modules that stand first in a text
-pub repeated_more : (ms : List Module) (m : Module) → repeated_modules [] (ms ++ m ∷ []) ≡ repeated_modules [] ms ++ fault_if (is_some (find_in ms m.name.bytes)) 33 m.name.place
+pub repeated_more : (ms : List Module) (m : Module) → repeated_modules [] (ms ++ m ∷ []) ≡ repeated_modules [] ms ++ fault_if (is_some (find_in ms m.name.bytes)) DuplicateModule m.name.place
 repeated_more ms m = repeated_behind [] ms m
 
 -- the elements before a place and the one there

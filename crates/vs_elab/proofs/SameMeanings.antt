@@ -1,7 +1,7 @@
 -- Scopes whose names mean the same are seen alike.
 use mathlib.Core.Path.{fun_ext}
 use Rattle.std.proofs.Common.{◌≡◌, ℕ, List, Option, Some, None, refl, ap, ◌∙◌}
-use Rattle.vs_hierarchy.specs.Environments.{Declared, Later, OfSignal, OfParameter, OfGenvar, OfScope, Entry, Env, find_name, within, entry_meaning, named}
+use Rattle.vs_elaborated.specs.Environments.{Declared, Later, OfSignal, OfParameter, OfGenvar, OfScope, Entry, Env, find_name, within, entry_meaning, named}
 use Rattle.vs_scope.specs.Surveys.{MeanTheSame}
 
 module _ (env : Env) (es fs : List Entry) (h : MeanTheSame es fs) where

@@ -4,13 +4,14 @@ use Rattle.std.specs.Prelude.{slice_get}
 use Rattle.vs_grammar.specs.Trees as tree
 use Rattle.vs_grammar.specs.Trees.{expr_place, target_place}
 use Rattle.vs_const.specs.Faults.{fault, fault_if}
+use Rattle.vs_const.specs.declared.rules.Rule.TheVariants.{PortCount, WrongKind}
 use Rattle.vs_const.specs.Meanings.{Find}
 use Rattle.vs_const.specs.Expressions.{typed, constant}
-use Rattle.vs_hierarchy.specs.Environments.{Env, named}
-use Rattle.vs_hierarchy.specs.Targets.{typed_target, as_target}
-use Rattle.vs_hierarchy.specs.Ports.{Port, find_port}
-use Rattle.vs_hierarchy.specs.Pieces.{FromOutput, IntoInput}
-use Rattle.vs_hierarchy.specs.Instances.{Overrides, and_override, overrides_by_order, overrides_by_name, module_overridable, is_overridable, has_too_many, connected_names, said_overrides, Connected, output_target, directed, connected, and_connected, connected_by_order, connected_by_name, module_ports, is_port, has_wrong_count, in_port_order, said_connections}
+use Rattle.vs_elaborated.specs.Environments.{Env, named}
+use Rattle.vs_elaborated.specs.Targets.{typed_target, as_target}
+use Rattle.vs_elaborated.specs.Ports.{Port, find_port}
+use Rattle.vs_elaborated.specs.Pieces.{FromOutput, IntoInput}
+use Rattle.vs_elaborated.specs.Instances.{Overrides, and_override, overrides_by_order, overrides_by_name, module_overridable, is_overridable, has_too_many, connected_names, said_overrides, Connected, output_target, directed, connected, and_connected, connected_by_order, connected_by_name, module_ports, is_port, has_wrong_count, in_port_order, said_connections}
 
 module _ (e1 e2 : Env) (h : named e1 ≡ named e2) where
   -- ---- overrides
@@ -35,14 +36,14 @@ module _ (e1 e2 : Env) (h : named e1 ≡ named e2) where
   pub overrides_alike : (of : tree.Name) (m : Option tree.Module) (c : tree.Connections) → said_overrides of m c e1 ≡ said_overrides of m c e2
   overrides_alike of m tree.Unconnected = refl
   overrides_alike of m (tree.ByOrder parts) =
-      ap (λ (r : Overrides). let o : Overrides = record r { faults = fault_if (has_too_many m (length parts)) 38 of.place ++ r.faults } in o) (ordered_alike (module_overridable m) 0 parts)
+      ap (λ (r : Overrides). let o : Overrides = record r { faults = fault_if (has_too_many m (length parts)) PortCount of.place ++ r.faults } in o) (ordered_alike (module_overridable m) 0 parts)
   overrides_alike of m (tree.ByName parts) =
       ap (λ (r : Overrides). let o : Overrides = record r { faults = connected_names (is_overridable m) [] parts ++ r.faults } in o) (by_name_alike parts)
 
   -- ---- connections
 
   output_alike : (name : List ℕ) (e : tree.Expr) (t : Option tree.Target) → output_target name e e1 t ≡ output_target name e e2 t
-  output_alike name e None = ap (λ (find : Find). let c : Connected = record { connections = []; faults = fault 43 (expr_place e) ++ (typed e find false).faults } in c) h
+  output_alike name e None = ap (λ (find : Find). let c : Connected = record { connections = []; faults = fault WrongKind (expr_place e) ++ (typed e find false).faults } in c) h
   output_alike name e (Some t) =
       ap (λ (find : Find). let c : Connected = record { connections = FromOutput name (target_place t) (typed_target t find false).target ∷ []; faults = (typed_target t find false).faults } in c) h
 
@@ -70,6 +71,6 @@ module _ (e1 e2 : Env) (h : named e1 ≡ named e2) where
   pub connections_alike : (m : Option tree.Module) (name : tree.Name) (c : tree.Connections) → said_connections m name c e1 ≡ said_connections m name c e2
   connections_alike m name tree.Unconnected = refl
   connections_alike m name (tree.ByOrder parts) =
-      ap (λ (r : Connected). let c : Connected = record r { faults = fault_if (has_wrong_count m (length parts)) 38 name.place ++ r.faults } in c) (order_alike (module_ports m) 0 parts)
+      ap (λ (r : Connected). let c : Connected = record r { faults = fault_if (has_wrong_count m (length parts)) PortCount name.place ++ r.faults } in c) (order_alike (module_ports m) 0 parts)
   connections_alike m name (tree.ByName parts) =
       ap (λ (r : Connected). let c : Connected = record { connections = in_port_order (module_ports m) r.connections; faults = connected_names (is_port m) [] parts ++ r.faults } in c) (name_alike (module_ports m) parts)

@@ -5,15 +5,15 @@ use Rattle.vs_design.specs.Expressions.{signal_length}
 use Rattle.vs_grammar.specs.Trees.{Name, Module, Source}
 use Rattle.vs_const.specs.Typed.{Typed}
 use Rattle.vs_const.specs.Expressions.{constant}
-use Rattle.vs_hierarchy.specs.Limits.{Limits}
-use Rattle.vs_hierarchy.specs.Environments.{Env, Entry, up_to, within, named}
-use Rattle.vs_hierarchy.specs.Declarations.{ParameterSort, Sort, SignalOf, ParameterOf, GenvarSort, InstanceSort, Declaration, names_of, repeated_names}
-use Rattle.vs_hierarchy.specs.Parameters.{Override, chosen, said_range, parameter_declared, SaidParameter, said_parameter, put_value, first_entries, SaidEntries, said_parameters}
-use Rattle.vs_hierarchy.specs.Signals.{SaidSignal, said_signals, range_faults, put_signals}
-use Rattle.vs_hierarchy.specs.Generate.{Made}
-use Rattle.vs_hierarchy.specs.Constructs.{constructs}
-use Rattle.vs_hierarchy.specs.Pieces.{OfModule}
-use Rattle.vs_hierarchy.specs.Surveys.{items_said, block_faults, block_entries, Totals, bits_over, piece_processes, processes_over, turns_after, items_of, declarations_of, header_of, Survey, survey}
+use Rattle.vs_elaborated.specs.Limits.{Limits}
+use Rattle.vs_elaborated.specs.Environments.{Env, Entry, up_to, within, named}
+use Rattle.vs_elaborated.specs.Declarations.{ParameterSort, Sort, SignalOf, ParameterOf, GenvarSort, InstanceSort, Declaration, names_of, repeated_names}
+use Rattle.vs_elaborated.specs.Parameters.{Override, chosen, said_range, parameter_declared, SaidParameter, said_parameter, put_value, first_entries, SaidEntries, said_parameters}
+use Rattle.vs_elaborated.specs.Signals.{SaidSignal, said_signals, range_faults, put_signals}
+use Rattle.vs_elaborated.specs.Generate.{Made}
+use Rattle.vs_elaborated.specs.Constructs.{constructs}
+use Rattle.vs_elaborated.specs.Pieces.{OfModule}
+use Rattle.vs_elaborated.specs.Surveys.{items_said, block_faults, block_entries, Totals, bits_over, piece_processes, processes_over, turns_after, items_of, declarations_of, header_of, Survey, survey}
 use Rattle.vs_elab.specs.Overriding.{AreAlike}
 
 -- all that an instance of a module says, by its names with the values of its parameters

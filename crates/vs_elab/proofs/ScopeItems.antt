@@ -1,10 +1,10 @@
 -- The items of a scope, and what each of them makes.
 use Rattle.std.proofs.Common.{◌≡◌, ℕ, suc, List, [], ◌∷◌, length, if◌then◌else◌, refl, ap}
 use Rattle.vs_grammar.specs.Trees.{Item}
-use Rattle.vs_hierarchy.specs.Limits.{Limits}
-use Rattle.vs_hierarchy.specs.Environments.{Env}
-use Rattle.vs_hierarchy.specs.Constructs.{construct, constructs, is_construct}
-use Rattle.vs_hierarchy.specs.Surveys.{items_of}
+use Rattle.vs_elaborated.specs.Limits.{Limits}
+use Rattle.vs_elaborated.specs.Environments.{Env}
+use Rattle.vs_elaborated.specs.Constructs.{construct, constructs, is_construct}
+use Rattle.vs_elaborated.specs.Surveys.{items_of}
 use Rattle.vs_scope.specs.declared.contents.Contents.{Contents}
 use Rattle.vs_scope.specs.declared.contents.Contents.TheVariants.{Module, Block}
 use Rattle.vs_scope.specs.declared.frames.Frame.{Frame}

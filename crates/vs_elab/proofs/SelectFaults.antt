@@ -6,11 +6,12 @@ use Rattle.vs_grammar.specs.Trees as tree
 use Rattle.vs_grammar.specs.Trees.{expr_place}
 use Rattle.vs_const.specs.declared.faults.Fault.{Fault}
 use Rattle.vs_const.specs.Faults.{fault_if}
+use Rattle.vs_const.specs.declared.rules.Rule.TheVariants.{BadRange}
 use Rattle.vs_const.specs.Meanings.{Find}
 use Rattle.vs_const.specs.Typed.{Typed, natural}
 use Rattle.vs_const.specs.Expressions.{typed}
 use Rattle.vs_const.specs.Selects.{taken, if_width, moving, is_against, along, between}
-use Rattle.vs_hierarchy.specs.Targets.{target_base, selected_target}
+use Rattle.vs_elaborated.specs.Targets.{target_base, selected_target}
 use Rattle.vs_elab.specs.Selects.{against_faults, is_select, select_faults}
 
 taken_has : (declared : Option Range) (up : Bool) (n : ℕ) (index : Typed) (fs : List Fault) → (taken declared up n index fs).faults ≡ fs
@@ -24,7 +25,7 @@ width_has declared up (Some n) index fs = taken_has declared up n index fs
 pub moving_has : (declared : Option Range) (up : Bool) (a : Typed) (place : ℕ) (w : Typed) → (moving declared up a place w).faults ≡ a.faults ++ (natural 1 64 place w).faults
 moving_has declared up a place w = width_has declared up (natural 1 64 place w).number a (a.faults ++ (natural 1 64 place w).faults)
 
-along_has : (against : Bool) (declared : Option Range) (bracket place : ℕ) (r : Range) (fs : List Fault) → (along against declared bracket place r fs).faults ≡ fs ++ fault_if against 37 bracket
+along_has : (against : Bool) (declared : Option Range) (bracket place : ℕ) (r : Range) (fs : List Fault) → (along against declared bracket place r fs).faults ≡ fs ++ fault_if against BadRange bracket
 along_has true declared bracket place r fs = refl
 along_has false None bracket place r fs = sym (append-nil fs)
 along_has false (Some d) bracket place r fs = sym (append-nil fs)

@@ -8,11 +8,11 @@ use Rattle.vs_grammar.specs.Shapes.{Each, IsModule, IsShaped, OneOrMore}
 use Rattle.vs_grammar.specs.Depths.{deepest, item_depth, items_depth, module_depth}
 use Rattle.vs_grammar.specs.Spelled.{depth_limit}
 use Rattle.vs_const.specs.Typed.{Typed}
-use Rattle.vs_hierarchy.specs.Environments.{no_env}
-use Rattle.vs_hierarchy.specs.Parameters as spec
-use Rattle.vs_hierarchy.specs.Parameters.{override_of}
-use Rattle.vs_hierarchy.specs.Ports.{find_in, find_module}
-use Rattle.vs_hierarchy.specs.Sound.{IsConstantFine, AreFineOverrides, IsSoundTask}
+use Rattle.vs_elaborated.specs.Environments.{no_env}
+use Rattle.vs_elaborated.specs.Parameters as spec
+use Rattle.vs_elaborated.specs.Parameters.{override_of}
+use Rattle.vs_elaborated.specs.Ports.{find_in, find_module}
+use Rattle.vs_elaborated.specs.Sound.{IsConstantFine, AreFineOverrides, IsSoundTask}
 use Rattle.vs_scope.specs.declared.frames.Frame.{Frame}
 use Rattle.vs_scope.specs.declared.parameters.Override.{Override}
 use Rattle.vs_scope.specs.Maps.{Pair, IsNew, AreDistinct}

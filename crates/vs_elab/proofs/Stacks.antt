@@ -7,10 +7,10 @@ use Rattle.vs_design.specs.Designs.{Scope, Process, Design}
 use Rattle.vs_grammar.specs.Trees.{Source}
 use Rattle.vs_const.specs.declared.faults.Fault.{Fault}
 use Rattle.vs_const.specs.Faults.{least}
-use Rattle.vs_hierarchy.specs.Limits.{Limits}
-use Rattle.vs_hierarchy.specs.Pieces.{Task, Connection, Piece, Own, Instance, Within}
-use Rattle.vs_hierarchy.specs.Surveys.{Totals, Survey, survey}
-use Rattle.vs_hierarchy.specs.Elaborated.{both_designs, of_processes, then_do, unless_fault, port_assign, Read, ReadPieces, read_piece, read_pieces, counted, limit_faults, scope_design, read_scope}
+use Rattle.vs_elaborated.specs.Limits.{Limits}
+use Rattle.vs_elaborated.specs.Pieces.{Task, Connection, Piece, Own, Instance, Within}
+use Rattle.vs_elaborated.specs.Surveys.{Totals, Survey, survey}
+use Rattle.vs_elaborated.specs.Elaborated.{both_designs, of_processes, then_do, unless_fault, port_assign, Read, ReadPieces, read_piece, read_pieces, counted, limit_faults, scope_design, read_scope}
 use Rattle.vs_elab.specs.Stacks.{Pending, pending, rest_of, built_then, scope_part, ports_part}
 
 -- ---- designs one after the other

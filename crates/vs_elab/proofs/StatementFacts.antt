@@ -8,7 +8,7 @@ use Rattle.vs_ast.proofs.statements.Statement.TheLaws as statement_laws
 use Rattle.vs_ast.proofs.statements.CaseArm.TheLaws as arm_laws
 use Rattle.vs_ast.specs.declared.statements.Statement.{Statement, If, Case, Sequence, the_lemmas}
 use Rattle.vs_ast.specs.declared.statements.CaseArm.{CaseArm}
-use Rattle.vs_ast.specs.declared.statements.CaseKind.{CaseKind}
+use Rattle.vs_base.specs.declared.events.CaseKind.{CaseKind}
 use Rattle.vs_ast.specs.declared.expressions.Expr.{Expr}
 use Rattle.vs_ast.proofs.Rows.{statement_rows, arm_rows}
 use Rattle.vs_ast.specs.Views as view
@@ -17,7 +17,7 @@ use Rattle.vs_const.specs.Expressions.{typed}
 use Rattle.vs_const.specs.Faults.{least, better}
 use Rattle.vs_const.specs.Meanings.{Find}
 use Rattle.vs_const.proofs.Least.{least_append}
-use Rattle.vs_hierarchy.specs.Statements.{TypedStatement, typed_list, typed_statement, typed_sequence, typed_arms}
+use Rattle.vs_elaborated.specs.Statements.{TypedStatement, typed_list, typed_statement, typed_sequence, typed_arms}
 use Rattle.vs_elab.specs.StatementFaults.{arms_faults}
 
 -- ---- labels
@@ -103,15 +103,15 @@ if_alone_view place c p = search (rules, the_lemmas)
 pub if_else_view : (place : ℕ) (c : Expr) (p q : Box Statement Global) → view.statement (If place c p (Some q)) ≡ tree.If place (view.expr c) (view.statement p.value) (tree.Otherwise (view.statement q.value))
 if_else_view place c p q = search (rules, the_lemmas)
 
-pub case_alone_view : (place : ℕ) (kind : CaseKind) (e : Expr) (list : Vec CaseArm Global) → view.statement (Case place kind e list None) ≡ tree.Case place (view.case_kind kind) (view.expr e) (view.arms list.items) tree.NoFallback
+pub case_alone_view : (place : ℕ) (kind : CaseKind) (e : Expr) (list : Vec CaseArm Global) → view.statement (Case place kind e list None) ≡ tree.Case place kind (view.expr e) (view.arms list.items) tree.NoFallback
 case_alone_view place kind e list = search (rules, arm_rows, the_lemmas)
 
 pub case_default_view : (place : ℕ) (kind : CaseKind) (e : Expr) (list : Vec CaseArm Global) (q : Box Statement Global)
-    → view.statement (Case place kind e list (Some q)) ≡ tree.Case place (view.case_kind kind) (view.expr e) (view.arms list.items) (tree.Otherwise (view.statement q.value))
+    → view.statement (Case place kind e list (Some q)) ≡ tree.Case place kind (view.expr e) (view.arms list.items) (tree.Otherwise (view.statement q.value))
 case_default_view place kind e list q = search (rules, arm_rows, the_lemmas)
 
 pub case_view : (place : ℕ) (kind : CaseKind) (e : Expr) (list : Vec CaseArm Global) (o : Option (Box Statement Global))
-    → (other : tree.Fallback) × (view.statement (Case place kind e list o) ≡ tree.Case place (view.case_kind kind) (view.expr e) (view.arms list.items) other)
+    → (other : tree.Fallback) × (view.statement (Case place kind e list o) ≡ tree.Case place kind (view.expr e) (view.arms list.items) other)
 case_view place kind e list None = (tree.NoFallback, case_alone_view place kind e list)
 case_view place kind e list (Some q) = (tree.Otherwise (view.statement q.value), case_default_view place kind e list q)
 

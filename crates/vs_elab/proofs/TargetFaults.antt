@@ -7,7 +7,7 @@ use Rattle.vs_ast.specs.declared.statements.Target.{Target}
 use Rattle.vs_ast.specs.Views.{target, targets}
 use Rattle.vs_const.specs.declared.faults.Fault.{Fault}
 use Rattle.vs_const.specs.Meanings.{Find}
-use Rattle.vs_hierarchy.specs.Targets.{typed_target, typed_targets}
+use Rattle.vs_elaborated.specs.Targets.{typed_target, typed_targets}
 
 abbrev pub faults_of : Find → Bool → tree.Target → List Fault
 faults_of find p t = (typed_target t find p).faults

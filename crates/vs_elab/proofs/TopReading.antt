@@ -13,14 +13,14 @@ use Rattle.vs_ast.specs.declared.modules.Module.{Module}
 use Rattle.vs_ast.specs.Views as view
 use Rattle.vs_const.specs.declared.faults.Fault.{Fault}
 use Rattle.vs_const.specs.Faults.{least}
-use Rattle.vs_hierarchy.specs.Limits.{Limits, the_limits}
-use Rattle.vs_hierarchy.specs.Ports.{find_in, find_module}
-use Rattle.vs_hierarchy.specs.Parameters as parameters
-use Rattle.vs_hierarchy.specs.Pieces.{Task, is_instance, Piece, Within, OfModule}
-use Rattle.vs_hierarchy.specs.Surveys.{Totals, no_totals, survey, piece_processes}
-use Rattle.vs_hierarchy.specs.Elaborated.{both_designs, of_processes, then_do, repeated_modules, top_task, elaborated_top, elaborated, counted, Read, read_scope}
-use Rattle.vs_hierarchy.specs.Environments.{Env, no_env}
-use Rattle.vs_hierarchy.specs.Sound.{IsSoundTask, AreFineOverrides}
+use Rattle.vs_elaborated.specs.Limits.{Limits, the_limits}
+use Rattle.vs_elaborated.specs.Ports.{find_in, find_module}
+use Rattle.vs_elaborated.specs.Parameters as parameters
+use Rattle.vs_elaborated.specs.Pieces.{Task, is_instance, Piece, Within, OfModule}
+use Rattle.vs_elaborated.specs.Surveys.{Totals, no_totals, survey, piece_processes}
+use Rattle.vs_elaborated.specs.Elaborated.{both_designs, of_processes, then_do, repeated_modules, top_task, elaborated_top, elaborated, counted, Read, read_scope}
+use Rattle.vs_elaborated.specs.Environments.{Env, no_env}
+use Rattle.vs_elaborated.specs.Sound.{IsSoundTask, AreFineOverrides}
 use Rattle.vs_scope.specs.declared.contents.Contents.TheVariants.{Module as OfCode}
 use Rattle.vs_scope.specs.declared.frames.Frame.{Frame}
 use Rattle.vs_scope.specs.declared.maps.NameMap.{NameMap}

@@ -4,7 +4,7 @@ use Rattle.vs_design.specs.Designs.{Design}
 use Rattle.vs_grammar.specs.Trees as tree
 use Rattle.vs_const.specs.Meanings.{SignalMeaning, Meaning, AValue, Undefined, ASignal, Another, Unknown, Find}
 use Rattle.vs_const.specs.Sound.{IsSoundSignal, IsSound, AreSound}
-use Rattle.vs_hierarchy.specs.Environments.{Entry}
+use Rattle.vs_elaborated.specs.Environments.{Entry}
 use Rattle.vs_build.specs.Buildable.{IsBuildable}
 use Rattle.vs_build.specs.Outputs.{IsOutput}
 use Rattle.vs_build.proofs.Wider.{IsWider}

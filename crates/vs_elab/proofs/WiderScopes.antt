@@ -2,11 +2,11 @@
 use Rattle.std.proofs.Common.{◌≡◌, ◌<◌, ◌≤◌, Bool, false, List, [], ◌∷◌, ◌++◌, length, length-append, Some, None, sym, subst, arith, ◌⊎◌, inl, inr}
 use Rattle.std.proofs.lemmas.Bool.{cases_lt}
 use Rattle.vs_design.specs.Designs.{Design}
-use Rattle.vs_hierarchy.specs.Environments.{Declared, Later, OfSignal, OfParameter, OfGenvar, OfScope, Entry, Env, within}
-use Rattle.vs_hierarchy.specs.Parameters.{Override}
-use Rattle.vs_hierarchy.specs.Pieces.{Task}
-use Rattle.vs_hierarchy.specs.Surveys.{overrides_of}
-use Rattle.vs_hierarchy.specs.Sound.{IsSoundDeclared, AreSoundEntries, AreSoundFrames, AreFineOverrides, IsSoundTask}
+use Rattle.vs_elaborated.specs.Environments.{Declared, Later, OfSignal, OfParameter, OfGenvar, OfScope, Entry, Env, within}
+use Rattle.vs_elaborated.specs.Parameters.{Override}
+use Rattle.vs_elaborated.specs.Pieces.{Task}
+use Rattle.vs_elaborated.specs.Surveys.{overrides_of}
+use Rattle.vs_elaborated.specs.Sound.{IsSoundDeclared, AreSoundEntries, AreSoundFrames, AreFineOverrides, IsSoundTask}
 use Rattle.vs_build.proofs.Wider.{IsWider, expression_wider}
 use Rattle.vs_scope.specs.declared.frames.Frame.{Frame}
 use Rattle.vs_scope.specs.Frames.{env_at, envs}

@@ -9,12 +9,14 @@ use Rattle.vs_grammar.specs.Depths.{expr_depth, exprs_depth, target_depth, targe
 use Rattle.vs_ast.specs.Views as view
 use Rattle.vs_const.specs.declared.faults.Fault.{Fault}
 use Rattle.vs_const.specs.Faults.{fault}
+use Rattle.vs_const.specs.declared.rules.Rule.{Rule}
+use Rattle.vs_const.specs.declared.rules.Rule.TheVariants.{WrongKind}
 use Rattle.vs_const.specs.Sound.{AreSound}
 use Rattle.vs_const.specs.Expressions.{typed}
-use Rattle.vs_hierarchy.specs.Environments.{Entry, Env, named}
-use Rattle.vs_hierarchy.specs.Targets.{as_target, as_targets, targeted, and_target}
-use Rattle.vs_hierarchy.specs.Instances.{directed, output_target}
-use Rattle.vs_hierarchy.specs.Sound.{MeansSignal}
+use Rattle.vs_elaborated.specs.Environments.{Entry, Env, named}
+use Rattle.vs_elaborated.specs.Targets.{as_target, as_targets, targeted, and_target}
+use Rattle.vs_elaborated.specs.Instances.{directed, output_target}
+use Rattle.vs_elaborated.specs.Sound.{MeansSignal}
 use Rattle.vs_build.specs.Writable.{IsWritable}
 use Rattle.vs_build.specs.Outputs.{IsOutput, output_of}
 use Rattle.vs_elab.specs.declared.connections.Connection.{Connection}
@@ -70,11 +72,11 @@ mutual
 
 -- ---- ports
 
-fault_some : (n place : ℕ) (fs : List Fault) → (let all : List Fault = fault n place ++ fs in all) ≡ [] → ⊥
+fault_some : (n : Rule) (place : ℕ) (fs : List Fault) → (let all : List Fault = fault n place ++ fs in all) ≡ [] → ⊥
 fault_some n place fs h = cc
 
 output_built : (d : Design) (env : Env) (name : List ℕ) (e : tree.Expr) (o : Option tree.Target) → as_target e ≡ o → AreSound d false (named env) → IsExpr e → expr_depth e ≤ 253 → (output_target name e env o).faults ≡ [] → IsOutput d (named env) e
-output_built d env name e None i s x h f = absurd (fault_some 43 (expr_place e) (typed e (named env) false).faults f)
+output_built d env name e None i s x h f = absurd (fault_some WrongKind (expr_place e) (typed e (named env) false).faults f)
 output_built d env name e (Some t) i s x h f =
     let r = target_shaped e t x i in
     let same : t ≡ output_of e = ap (λ (o : Option tree.Target). unwrap_or o (tree.Targeted 0 tree.NoTarget)) (sym i) in

@@ -7,13 +7,15 @@ use Rattle.vs_grammar.specs.Shapes.{Each}
 use Rattle.vs_ast.specs.Views as view
 use Rattle.vs_const.specs.declared.faults.Fault.{Fault}
 use Rattle.vs_const.specs.Faults.{fault}
+use Rattle.vs_const.specs.declared.rules.Rule.{Rule}
+use Rattle.vs_const.specs.declared.rules.Rule.TheVariants.{WrongKind}
 use Rattle.vs_const.specs.Sound.{AreSound}
 use Rattle.vs_const.specs.Expressions.{typed}
-use Rattle.vs_hierarchy.specs.Environments.{Entry, Env, named}
-use Rattle.vs_hierarchy.specs.Targets.{as_target}
-use Rattle.vs_hierarchy.specs.Instances.{directed, output_target, connection_name}
-use Rattle.vs_hierarchy.specs.Pieces as pieces
-use Rattle.vs_hierarchy.specs.Sound.{MeansSignal}
+use Rattle.vs_elaborated.specs.Environments.{Entry, Env, named}
+use Rattle.vs_elaborated.specs.Targets.{as_target}
+use Rattle.vs_elaborated.specs.Instances.{directed, output_target, connection_name}
+use Rattle.vs_elaborated.specs.Pieces as pieces
+use Rattle.vs_elaborated.specs.Sound.{MeansSignal}
 use Rattle.vs_elab.specs.declared.connections.Connection.{Connection}
 use Rattle.vs_elab.specs.Connections.{said, said_one}
 use Rattle.vs_elab.specs.Fine.{IsFineConnected}
@@ -28,11 +30,11 @@ pub record IsOne (name : List ℕ) (cs : List pieces.Connection) : Type 0 where
   pub is : cs ≡ one ∷ []
   pub name_is : connection_name one ≡ name
 
-fault_some : (n place : ℕ) (fs : List Fault) → (let all : List Fault = fault n place ++ fs in all) ≡ [] → ⊥
+fault_some : (n : Rule) (place : ℕ) (fs : List Fault) → (let all : List Fault = fault n place ++ fs in all) ≡ [] → ⊥
 fault_some n place fs h = cc
 
 output_one : (name : List ℕ) (e : tree.Expr) (env : Env) (t : Option tree.Target) → (output_target name e env t).faults ≡ [] → IsOne name (output_target name e env t).connections
-output_one name e env None h = absurd (fault_some 43 (expr_place e) (typed e (named env) false).faults h)
+output_one name e env None h = absurd (fault_some WrongKind (expr_place e) (typed e (named env) false).faults h)
 output_one name e env (Some t) h = record { one = _; is = refl; name_is = refl }
 
 directed_one : (name : List ℕ) (b : Bool) (e : tree.Expr) (env : Env) → (directed name (Some b) e env).faults ≡ [] → IsOne name (directed name (Some b) e env).connections

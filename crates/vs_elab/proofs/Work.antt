@@ -5,10 +5,10 @@ use Rattle.vs_design.specs.Designs.{Process}
 use Rattle.vs_grammar.specs.Trees.{Source}
 use Rattle.vs_const.specs.declared.faults.Fault.{Fault}
 use Rattle.vs_const.specs.Faults.{least}
-use Rattle.vs_hierarchy.specs.Limits.{Limits}
-use Rattle.vs_hierarchy.specs.Pieces.{Task, Connection, Piece, Own, Instance, Within}
-use Rattle.vs_hierarchy.specs.Surveys.{Totals, Survey, survey}
-use Rattle.vs_hierarchy.specs.Elaborated.{both_designs, then_do, Read, ReadPieces, read_piece, read_pieces, counted, limit_faults, scope_design, read_scope}
+use Rattle.vs_elaborated.specs.Limits.{Limits}
+use Rattle.vs_elaborated.specs.Pieces.{Task, Connection, Piece, Own, Instance, Within}
+use Rattle.vs_elaborated.specs.Surveys.{Totals, Survey, survey}
+use Rattle.vs_elaborated.specs.Elaborated.{both_designs, then_do, Read, ReadPieces, read_piece, read_pieces, counted, limit_faults, scope_design, read_scope}
 use Rattle.vs_elab.specs.Stacks.{Pending, pending, after, piece_work, pieces_work, scope_work, work}
 use Rattle.vs_elab.proofs.Stacks.{within_read, instance_read, fair}
 

@@ -4,6 +4,7 @@ use Rattle.std.specs.Borrow.{Bor}
 use Rattle.vs_grammar.specs.Trees.{Name}
 use Rattle.vs_const.specs.declared.faults.Fault.{Fault}
 use Rattle.vs_const.specs.Faults.{fault, fault_if}
+use Rattle.vs_const.specs.declared.rules.Rule.TheVariants.{DuplicateName, UnknownPort}
 use Rattle.vs_scope.specs.declared.maps.NameMap.{NameMap}
 use Rattle.vs_scope.specs.Maps.{value_at}
 use Rattle.vs_scope.specs.MapViews.{pairs}
@@ -15,4 +16,4 @@ is_known (Some names) name = is_some (value_at name (pairs names.now))
 
 -- what is wrong with a name that is connected, `again` if it was before
 abbrev pub name_faults : (List ℕ → Bool) → (again : Bool) → Name → List Fault
-name_faults known again name = if again then fault 36 name.place else fault_if (not (known name.bytes)) 39 name.place
+name_faults known again name = if again then fault DuplicateName name.place else fault_if (not (known name.bytes)) UnknownPort name.place

@@ -3,9 +3,9 @@ use Rattle.std.specs.Prelude.{◌≡◌, ◌≤◌, ◌+◌, ℕ, Bool, List, No
 use Rattle.std.specs.List.{list_any}
 use Rattle.vs_design.specs.Clocks.{same_name}
 use Rattle.vs_const.specs.Faults.{least}
-use Rattle.vs_hierarchy.specs.Pieces.{Connection, Piece}
-use Rattle.vs_hierarchy.specs.Instances.{connection_name}
-use Rattle.vs_hierarchy.specs.Surveys.{processes_over, piece_processes}
+use Rattle.vs_elaborated.specs.Pieces.{Connection, Piece}
+use Rattle.vs_elaborated.specs.Instances.{connection_name}
+use Rattle.vs_elaborated.specs.Surveys.{processes_over, piece_processes}
 use Rattle.vs_scope.specs.Maps.{Pair, value_at}
 use Rattle.vs_elab.specs.declared.counts.Count.{Count}
 

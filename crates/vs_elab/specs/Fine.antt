@@ -6,13 +6,13 @@ use Rattle.vs_grammar.specs.Depths.{deepest, option_depth, expr_depth, assign_de
 use Rattle.vs_grammar.specs.Spelled.{depth_limit}
 use Rattle.vs_ast.specs.Views as view
 use Rattle.vs_const.specs.Expressions.{typed}
-use Rattle.vs_hierarchy.specs.Environments.{Env, named}
-use Rattle.vs_hierarchy.specs.Targets.{typed_target}
-use Rattle.vs_hierarchy.specs.Statements.{typed_control, typed_statement}
-use Rattle.vs_hierarchy.specs.Generate.{Nested, Made}
-use Rattle.vs_hierarchy.specs.Ports.{Port, find_port, find_module}
-use Rattle.vs_hierarchy.specs.Instances.{Around, directed, connected, said_overrides, said_connections}
-use Rattle.vs_hierarchy.specs.Surveys.{item_said, items_said}
+use Rattle.vs_elaborated.specs.Environments.{Env, named}
+use Rattle.vs_elaborated.specs.Targets.{typed_target}
+use Rattle.vs_elaborated.specs.Statements.{typed_control, typed_statement}
+use Rattle.vs_elaborated.specs.Generate.{Nested, Made}
+use Rattle.vs_elaborated.specs.Ports.{Port, find_port, find_module}
+use Rattle.vs_elaborated.specs.Instances.{Around, directed, connected, said_overrides, said_connections}
+use Rattle.vs_elaborated.specs.Surveys.{item_said, items_said}
 use Rattle.vs_build.specs.Writable.{wire_assign}
 use Rattle.vs_scope.specs.Contents.{block_items}
 use Rattle.vs_elab.specs.declared.connections.Connection.{Connection}

@@ -3,8 +3,8 @@ use Rattle.std.specs.Prelude.{false, List, [], ◌++◌, Option, Some, None}
 use Rattle.vs_grammar.specs.Trees as tree
 use Rattle.vs_const.specs.declared.faults.Fault.{Fault}
 use Rattle.vs_const.specs.Expressions.{typed}
-use Rattle.vs_hierarchy.specs.Environments.{Env, named}
-use Rattle.vs_hierarchy.specs.Targets.{target_base, typed_target}
+use Rattle.vs_elaborated.specs.Environments.{Env, named}
+use Rattle.vs_elaborated.specs.Targets.{target_base, typed_target}
 
 -- of an assign
 abbrev pub assign_faults : Env → tree.Assign → List Fault

@@ -12,7 +12,6 @@ pub mod Wiring
 pub mod Values
 pub mod Interfaces
 pub mod Written
-pub mod Numbers
 pub mod Selects
 pub mod Opening
 pub mod Outputs

@@ -3,7 +3,7 @@ use Rattle.std.specs.Prelude.{false, List, [], ◌++◌}
 use Rattle.vs_grammar.specs.Trees as tree
 use Rattle.vs_const.specs.declared.faults.Fault.{Fault}
 use Rattle.vs_const.specs.Meanings.{Find}
-use Rattle.vs_hierarchy.specs.Targets.{selected_target}
+use Rattle.vs_elaborated.specs.Targets.{selected_target}
 
 abbrev mutual
   pub found_faults : tree.Expr → Find → List Fault

@@ -1,10 +1,10 @@
 -- What overrides the parameters of an instance, as a map of names.
 use Rattle.std.specs.Prelude.{◌≡◌, ℕ, List, [], map, Option}
 use Rattle.vs_grammar.specs.Trees as tree
-use Rattle.vs_hierarchy.specs.Environments.{Env}
-use Rattle.vs_hierarchy.specs.Instances as instances
-use Rattle.vs_hierarchy.specs.Parameters as spec
-use Rattle.vs_hierarchy.specs.Parameters.{override_of}
+use Rattle.vs_elaborated.specs.Environments.{Env}
+use Rattle.vs_elaborated.specs.Instances as instances
+use Rattle.vs_elaborated.specs.Parameters as spec
+use Rattle.vs_elaborated.specs.Parameters.{override_of}
 use Rattle.vs_scope.specs.declared.frames.Frame.{Frame}
 use Rattle.vs_scope.specs.declared.maps.NameMap.{NameMap}
 use Rattle.vs_scope.specs.declared.parameters.Override.{Override}

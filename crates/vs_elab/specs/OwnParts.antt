@@ -2,7 +2,7 @@
 use Rattle.std.specs.Prelude.{List, [], ◌∷◌}
 use Rattle.vs_design.specs.Designs.{Process}
 use Rattle.vs_ast.specs.Views as view
-use Rattle.vs_hierarchy.specs.Environments.{Env, named}
+use Rattle.vs_elaborated.specs.Environments.{Env, named}
 use Rattle.vs_build.specs.Writable.{wire_assign, assign_process}
 use Rattle.vs_build.specs.Executable.{block_process}
 use Rattle.vs_elab.specs.declared.pending.Part.{Part}

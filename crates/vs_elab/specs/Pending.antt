@@ -3,10 +3,10 @@ use Rattle.std.specs.Prelude.{◌<◌, ℕ, List, [], ◌∷◌, map, flat_map, 
 use Rattle.vs_grammar.specs.Trees as tree
 use Rattle.vs_grammar.specs.Shapes.{Each}
 use Rattle.vs_ast.specs.Views as view
-use Rattle.vs_hierarchy.specs.Ports.{find_module}
-use Rattle.vs_hierarchy.specs.Pieces.{Piece}
-use Rattle.vs_hierarchy.specs.Instances.{Around, instance_said, said_overrides}
-use Rattle.vs_hierarchy.specs.Surveys.{assign_said, wire_said, block_said, nested_piece}
+use Rattle.vs_elaborated.specs.Ports.{find_module}
+use Rattle.vs_elaborated.specs.Pieces.{Piece}
+use Rattle.vs_elaborated.specs.Instances.{Around, instance_said, said_overrides}
+use Rattle.vs_elaborated.specs.Surveys.{assign_said, wire_said, block_said, nested_piece}
 use Rattle.vs_scope.specs.Contents.{block_items}
 use Rattle.vs_scope.specs.declared.frames.Frame.{Frame}
 use Rattle.vs_scope.specs.Frames.{turn, env_at, envs}

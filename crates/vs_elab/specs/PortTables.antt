@@ -1,6 +1,6 @@
 -- What a table of ports has.
 use Rattle.std.specs.Prelude.{◌≡◌, List, map}
-use Rattle.vs_hierarchy.specs.Ports as ports
+use Rattle.vs_elaborated.specs.Ports as ports
 use Rattle.vs_scope.specs.MapViews.{pairs}
 use Rattle.vs_elab.specs.declared.ports.Ports.{Ports}
 use Rattle.vs_elab.specs.Noted.{AreFirst}

@@ -6,12 +6,12 @@ use Rattle.vs_grammar.specs.Shapes.{Each, IsShaped}
 use Rattle.vs_ast.specs.Views as view
 use Rattle.vs_const.specs.declared.faults.Fault.{Fault}
 use Rattle.vs_const.specs.Faults.{least}
-use Rattle.vs_hierarchy.specs.Limits.{the_limits}
-use Rattle.vs_hierarchy.specs.Environments.{within}
-use Rattle.vs_hierarchy.specs.Pieces.{Task}
-use Rattle.vs_hierarchy.specs.Surveys.{Totals, Survey, survey, turned, piece_processes}
-use Rattle.vs_hierarchy.specs.Elaborated.{both_designs, counted, limit_faults, read_scope}
-use Rattle.vs_hierarchy.specs.Sound.{AreSoundFrames}
+use Rattle.vs_elaborated.specs.Limits.{the_limits}
+use Rattle.vs_elaborated.specs.Environments.{within}
+use Rattle.vs_elaborated.specs.Pieces.{Task}
+use Rattle.vs_elaborated.specs.Surveys.{Totals, Survey, survey, turned, piece_processes}
+use Rattle.vs_elaborated.specs.Elaborated.{both_designs, counted, limit_faults, read_scope}
+use Rattle.vs_elaborated.specs.Sound.{AreSoundFrames}
 use Rattle.vs_build.specs.Growth.{draft}
 use Rattle.vs_scope.specs.declared.frames.Frame.{Frame}
 use Rattle.vs_scope.specs.Frames.{turn, env_at, envs}

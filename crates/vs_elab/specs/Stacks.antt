@@ -3,10 +3,10 @@ use Rattle.std.specs.Prelude.{◌+◌, ℕ, zero, suc, List, [], ◌∷◌, map,
 use Rattle.vs_design.specs.Designs.{Design}
 use Rattle.vs_grammar.specs.Trees.{Source}
 use Rattle.vs_const.specs.declared.faults.Fault.{Fault}
-use Rattle.vs_hierarchy.specs.Limits.{Limits}
-use Rattle.vs_hierarchy.specs.Pieces.{Task, is_instance, Connection, Piece, Own, Instance, Within}
-use Rattle.vs_hierarchy.specs.Surveys.{Totals, Survey, survey}
-use Rattle.vs_hierarchy.specs.Elaborated.{both_designs, of_processes, then_do, port_assign, counted, Read, ReadPieces, read_piece, read_scope}
+use Rattle.vs_elaborated.specs.Limits.{Limits}
+use Rattle.vs_elaborated.specs.Pieces.{Task, is_instance, Connection, Piece, Own, Instance, Within}
+use Rattle.vs_elaborated.specs.Surveys.{Totals, Survey, survey}
+use Rattle.vs_elaborated.specs.Elaborated.{both_designs, of_processes, then_do, port_assign, counted, Read, ReadPieces, read_piece, read_scope}
 
 -- a piece that is still to be read; `left` bounds how deep scopes stand within one another in it
 pub record Pending : Type 0 where

@@ -3,7 +3,7 @@ use Rattle.std.specs.Prelude.{List}
 use Rattle.vs_grammar.specs.Trees as tree
 use Rattle.vs_const.specs.declared.faults.Fault.{Fault}
 use Rattle.vs_const.specs.Meanings.{Find}
-use Rattle.vs_hierarchy.specs.Statements.{typed_fallback, typed_arms}
+use Rattle.vs_elaborated.specs.Statements.{typed_fallback, typed_arms}
 
 -- of arms, where there is no default
 abbrev pub arms_faults : tree.CaseArms → Find → List Fault

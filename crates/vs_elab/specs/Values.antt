@@ -3,7 +3,7 @@ use Rattle.std.specs.Prelude.{Bool, List, [], Option, Some, None}
 use Rattle.vs_grammar.specs.Trees as tree
 use Rattle.vs_const.specs.declared.faults.Fault.{Fault}
 use Rattle.vs_const.specs.Expressions.{typed}
-use Rattle.vs_hierarchy.specs.Environments.{Env, named}
+use Rattle.vs_elaborated.specs.Environments.{Env, named}
 
 -- of one that may be missing
 abbrev pub value_faults : Env → Bool → Option tree.Expr → List Fault

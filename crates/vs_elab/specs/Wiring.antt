@@ -5,7 +5,7 @@ use Rattle.vs_design.specs.Elaborated.{is_signal}
 use Rattle.vs_grammar.specs.Shapes.{Each}
 use Rattle.vs_ast.specs.Views.{expr}
 use Rattle.vs_const.specs.Meanings.{SignalMeaning, Find}
-use Rattle.vs_hierarchy.specs.Environments.{OfSignal, Entry, find_entry}
+use Rattle.vs_elaborated.specs.Environments.{OfSignal, Entry, find_entry}
 use Rattle.vs_build.specs.Drafts.{Draft}
 use Rattle.vs_build.specs.Buildable.{IsBuildable}
 use Rattle.vs_build.specs.Outputs.{IsOutput}

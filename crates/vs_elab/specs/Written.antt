@@ -4,7 +4,7 @@ use Rattle.vs_four.specs.declared.Range.{Range}
 use Rattle.vs_const.specs.Faults.{least}
 use Rattle.vs_const.specs.Meanings.{SignalMeaning, Meaning, ASignal, Unknown}
 use Rattle.vs_const.specs.Selects as selects
-use Rattle.vs_hierarchy.specs.Environments as environments
+use Rattle.vs_elaborated.specs.Environments as environments
 use Rattle.vs_elab.specs.declared.written.Base.{Base}
 use Rattle.vs_elab.specs.declared.written.Written.{Written}
 use Rattle.vs_elab.specs.declared.written.Written.TheVariants as written

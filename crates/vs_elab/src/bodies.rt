@@ -4,24 +4,23 @@ ghost use Rattle.std.specs.Prelude.{◌≡◌, ◌≤◌, ◌+◌, ◌++◌, [],
 ghost use Rattle.vs_grammar.specs.Trees as tree;
 ghost use Rattle.vs_ast.specs.Views as view;
 ghost use Rattle.vs_const.specs.Faults.{least};
-ghost use Rattle.vs_hierarchy.specs.Environments.{named};
-ghost use Rattle.vs_hierarchy.specs.Generate.{Made};
-ghost use Rattle.vs_hierarchy.specs.Instances.{Around};
-ghost use Rattle.vs_hierarchy.specs.Surveys.{item_said, items_said, piece_processes, processes_over};
+ghost use Rattle.vs_elaborated.specs.Environments.{named};
+ghost use Rattle.vs_elaborated.specs.Generate.{Made};
+ghost use Rattle.vs_elaborated.specs.Instances.{Around};
+ghost use Rattle.vs_elaborated.specs.Surveys.{item_said, items_said, piece_processes, processes_over};
 ghost use Rattle.vs_scope.specs.Contents.{contents_items};
 ghost use Rattle.vs_scope.specs.Frames.{view_env};
 ghost use Rattle.vs_elab.specs.Modules.{AreOf};
 ghost use Rattle.vs_elab.specs.Stated.{AreStated, IsStated};
 
 use crate::counts::{Count, count_contents};
-use crate::faults::first_of;
 use crate::instances::instances_fault;
 use crate::items::{assigns_fault, wires_fault};
 use crate::modules::{Known, seen_by};
 use crate::statements::block_fault;
 use std::alloc::{AllocError, Global};
 use vs_ast::Item;
-use vs_const::Fault;
+use vs_const::{Fault, first_of};
 use vs_scope::{BlockItems, Contents, NameMap, View};
 
 /// The first rule that an item breaks, but for those of its generate blocks and their heads.
@@ -104,7 +103,7 @@ pub(crate) struct SaidItems {
 }
 
 /// What is found of the items of a scope, where there are `total` processes before it and may be `most`. Their faults are those of their parts,
-/// and 45: the first piece with which there are too many processes. An error is want of memory.
+/// and `TooManyProcesses`: the first piece with which there are too many processes. An error is want of memory.
 pub(crate) fn said_items<'a>(
     alloc: Global,
     modules: &NameMap<'a, Known<'a>>,

@@ -4,15 +4,14 @@ ghost use Rattle.std.specs.Prelude.{◌≡◌, ◌++◌, [], ◌∷◌, List, If
 ghost use Rattle.vs_grammar.specs.Trees as tree;
 ghost use Rattle.vs_ast.specs.Views as view;
 ghost use Rattle.vs_const.specs.Faults.{least};
-ghost use Rattle.vs_hierarchy.specs.Instances.{connected_names};
+ghost use Rattle.vs_elaborated.specs.Instances.{connected_names};
 ghost use Rattle.vs_elab.specs.Connected.{is_known, name_faults};
 ghost use Rattle.vs_elab.specs.Connections.{AreApart};
 
-use crate::faults::{fault_at, fault_if, first_of};
 use crate::noted::note;
 use std::alloc::{AllocError, Global};
 use vs_ast::{Name, NamedConnection};
-use vs_const::Fault;
+use vs_const::{Fault, Rule, fault_at, fault_if, first_of};
 use vs_scope::NameMap;
 
 /// Whether a name may be connected: it is one of these, or all are where nothing is known of them.
@@ -30,9 +29,13 @@ fn wrong_name<V: Drop>(known: Option<&NameMap<'_, V>>, again: bool, name: &Name)
     ensures { result ≡ least (name_faults (is_known known.entry) again (view.name name.now)) }
 {
     if again {
-        fault_at(36, name.place)
+        fault_at(Rule::DuplicateName, name.place)
     } else {
-        fault_if(!is_known(known, name.text.as_bytes()), 39, name.place)
+        fault_if(
+            !is_known(known, name.text.as_slice()),
+            Rule::UnknownPort,
+            name.place,
+        )
     }
 }
 
@@ -48,7 +51,7 @@ pub(crate) fn name_fault<V: Drop>(
     let mut seen = NameMap::new(alloc);
     let mut fault = None;
     for connection in connections {
-        let name = connection.name.text.as_bytes();
+        let name = connection.name.text.as_slice();
         let again = note(&mut seen, name, ())?;
         fault = first_of(fault, wrong_name(known, again, &connection.name));
     }

@@ -6,9 +6,9 @@ ghost use Rattle.vs_grammar.specs.Shapes.{AreConnections, Each};
 ghost use Rattle.vs_grammar.specs.Depths.{connections_depth};
 ghost use Rattle.vs_grammar.specs.Spelled.{depth_limit};
 ghost use Rattle.vs_ast.specs.Views as view;
-ghost use Rattle.vs_hierarchy.specs.Environments.{Env};
-ghost use Rattle.vs_hierarchy.specs.Instances.{connected, connected_by_name, connected_by_order, in_port_order, said_connections};
-ghost use Rattle.vs_hierarchy.specs.Ports as spec;
+ghost use Rattle.vs_elaborated.specs.Environments.{Env};
+ghost use Rattle.vs_elaborated.specs.Instances.{connected, connected_by_name, connected_by_order, in_port_order, said_connections};
+ghost use Rattle.vs_elaborated.specs.Ports as spec;
 ghost use Rattle.vs_elab.specs.Fine.{AreFineOrdered, IsFineConnected, IsFineNamed, IsFineValue};
 ghost use Rattle.vs_elab.specs.Connections.{AreApart, AreNamed, connected_at, said};
 ghost use Rattle.vs_scope.specs.MapViews.{pairs};
@@ -82,7 +82,7 @@ fn by_first_name<'a>(
 {
     let mut names = NameMap::new(alloc);
     for part in parts {
-        note(&mut names, part.name.text.as_bytes(), &part.value)?;
+        note(&mut names, part.name.text.as_slice(), &part.value)?;
     }
     Ok(names)
 }

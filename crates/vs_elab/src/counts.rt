@@ -3,14 +3,14 @@
 ghost use Rattle.std.specs.Prelude.{◌≡◌, ◌++◌, [], ◌∷◌, ℕ, List, Some, IfOk, OnOk, map, option_map, length, if◌then◌else◌};
 ghost use Rattle.vs_grammar.specs.Trees as tree;
 ghost use Rattle.vs_ast.specs.Views as view;
-ghost use Rattle.vs_hierarchy.specs.Environments.{Env};
-ghost use Rattle.vs_hierarchy.specs.Generate.{Made};
-ghost use Rattle.vs_hierarchy.specs.Parameters.{Override};
-ghost use Rattle.vs_hierarchy.specs.Pieces.{Piece, all_said};
-ghost use Rattle.vs_hierarchy.specs.Surveys as survey;
-ghost use Rattle.vs_hierarchy.specs.Surveys.{piece_place, piece_processes};
-ghost use Rattle.vs_hierarchy.specs.Instances as spec;
-ghost use Rattle.vs_hierarchy.specs.Ports as spec_ports;
+ghost use Rattle.vs_elaborated.specs.Environments.{Env};
+ghost use Rattle.vs_elaborated.specs.Generate.{Made};
+ghost use Rattle.vs_elaborated.specs.Parameters.{Override};
+ghost use Rattle.vs_elaborated.specs.Pieces.{Piece, all_said};
+ghost use Rattle.vs_elaborated.specs.Surveys as survey;
+ghost use Rattle.vs_elaborated.specs.Surveys.{piece_place, piece_processes};
+ghost use Rattle.vs_elaborated.specs.Instances as spec;
+ghost use Rattle.vs_elaborated.specs.Ports as spec_ports;
 ghost use Rattle.vs_scope.specs.Contents.{contents_items};
 ghost use Rattle.vs_scope.specs.MapViews.{pairs};
 ghost use Rattle.vs_elab.specs.Counts.{HasNames, IsCounted};
@@ -26,7 +26,7 @@ use crate::outputs::is_target;
 use crate::ports::{Port, Ports};
 use std::alloc::{AllocError, Global};
 use vs_ast::{Assign, Connections, Declarator, Expr, Instance, Instances, Item, NamedConnection};
-use vs_const::Fault;
+use vs_const::{Fault, Rule};
 use vs_scope::{BlockItems, Contents, NameMap};
 
 /// A count of processes, which goes up to the most that there may be.
@@ -34,7 +34,7 @@ use vs_scope::{BlockItems, Contents, NameMap};
 pub(crate) struct Count {
     pub most: u32,
     pub total: u32,
-    /// 45: the first piece with which there are too many.
+    /// `TooManyProcesses`: the first piece with which there are too many.
     pub over: Option<Fault>,
 }
 
@@ -49,7 +49,10 @@ impl Count {
         }
         let left = self.most.saturating_sub(self.total);
         if (left as usize) < count {
-            self.over = Some(Fault { number: 45, place });
+            self.over = Some(Fault {
+                rule: Rule::TooManyProcesses,
+                place,
+            });
         } else {
             self.total += count as u32;
         }
@@ -137,7 +140,7 @@ fn note_connected<'a>(
     ensures { (ps : List spec_ports.Port) (env : Env) (cs : List tree.NamedConnection) → ArePorts ports.now ps → HasNames (pairs names.old) (spec.connected_by_name ps cs env).connections
         → OnOk result (HasNames (pairs names.new) (spec.connected_by_name ps (cs ++ view.named_connection part.now ∷ []) env).connections) }
 {
-    let name = part.name.text.as_bytes();
+    let name = part.name.text.as_slice();
     if has_process(ports.find(name), &part.value) {
         note(names, name, ())?;
     }

@@ -9,7 +9,7 @@ use vs_const::Fault;
 pub enum ElabError {
     /// A rule is broken (IEEE 1364-2005, clauses 4, 5, 6, 9 and 12): the first one of the first scope that breaks any, in the order in which scopes
     /// are read. Its place is the number of a token.
-    #[error("rule {} is broken", .0.number)]
+    #[error("rule {} is broken", .0.rule.number())]
     Broken(Fault),
     /// There was not enough memory.
     #[error("out of memory")]

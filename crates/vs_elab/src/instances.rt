@@ -5,9 +5,9 @@ ghost use Rattle.vs_grammar.specs.Trees as tree;
 ghost use Rattle.vs_grammar.specs.Shapes.{AreConnections, AreInstances, IsExpr, IsInstance, Given, Each, IsConnection};
 ghost use Rattle.vs_ast.specs.Views as view;
 ghost use Rattle.vs_const.specs.Faults.{least};
-ghost use Rattle.vs_hierarchy.specs.Environments.{named};
-ghost use Rattle.vs_hierarchy.specs.Ports.{find_module, find_port};
-ghost use Rattle.vs_hierarchy.specs.Instances as spec;
+ghost use Rattle.vs_elaborated.specs.Environments.{named};
+ghost use Rattle.vs_elaborated.specs.Ports.{find_module, find_port};
+ghost use Rattle.vs_elaborated.specs.Instances as spec;
 ghost use Rattle.vs_scope.specs.Frames.{view_env};
 ghost use Rattle.vs_elab.specs.Connected.{is_known};
 ghost use Rattle.vs_elab.specs.Instances.{instance_faults};
@@ -15,7 +15,6 @@ ghost use Rattle.vs_elab.specs.Interfaces.{IsKnown};
 ghost use Rattle.vs_elab.specs.Ports.{port_of, input_of};
 
 use crate::connected::name_fault;
-use crate::faults::{fault_if, first_of};
 use crate::interfaces::Interface;
 use crate::outputs::output_fault;
 use crate::overrides::overrides_fault;
@@ -23,7 +22,7 @@ use crate::ports::Port;
 use crate::values::expr_fault;
 use std::alloc::{AllocError, Global};
 use vs_ast::{Connections, Expr, Instance, Instances, Name, NamedConnection};
-use vs_const::Fault;
+use vs_const::{Fault, Rule, fault_if, first_of};
 use vs_scope::{NameMap, View};
 
 /// The first rule that an expression breaks that is connected to a port; `input` says whether it is one, if it has a direction.
@@ -141,7 +140,7 @@ fn values_fault<'a>(
 {
     let mut fault = None;
     for part in parts {
-        let port = port_named(known, part.name.text.as_bytes());
+        let port = port_named(known, part.name.text.as_slice());
         let found = port_fault(alloc, port, &part.value, here)?;
         fault = first_of(fault, found);
     }
@@ -160,7 +159,11 @@ fn order_fault(
     ensures { (m : Option tree.Module) → IsKnown known.entry m
         → IfOk result (λ f. f ≡ least (spec.said_connections m (view.name name.now) (tree.ByOrder (map (view.option view.expr) parts.now)) (view_env here.now)).faults) }
 {
-    let wrong = fault_if(has_wrong_count(known, parts.len()), 38, name.place);
+    let wrong = fault_if(
+        has_wrong_count(known, parts.len()),
+        Rule::PortCount,
+        name.place,
+    );
     let found = ordered_fault(alloc, known, parts, here)?;
     Ok(first_of(wrong, found))
 }
@@ -221,9 +224,9 @@ fn all_fault<'a>(
 }
 
 /// The first rule that an item of instances breaks (12.1.2): `known` is what is known of the module that it names.
-/// - 34: the text has no such module.
-/// - 36, 38, 39: a name that is connected twice, a wrong number of connections by order, an unknown name.
-/// - 43: what is connected to an output isn't a net.
+/// - `UnknownModule`: the text has no such module.
+/// - `DuplicateName`, `PortCount`, `UnknownPort`: a name that is connected twice, a wrong number of connections by order, an unknown name.
+/// - `WrongKind`: what is connected to an output isn't a net.
 /// - and what the expressions break.
 pub(crate) fn instances_fault<'a>(
     alloc: Global,
@@ -235,7 +238,7 @@ pub(crate) fn instances_fault<'a>(
     ensures { (source : tree.Source) (around : spec.Around) → IsKnown known.entry (find_module source t.now.of.text) → named around.env ≡ named (view_env here.now)
         → IfOk result (λ f. f ≡ least (spec.instances_said source around (view.instances t.now)).faults) }
 {
-    let missing = fault_if(known.is_none(), 34, t.of.place);
+    let missing = fault_if(known.is_none(), Rule::UnknownModule, t.of.place);
     let overrides = overrides_fault(alloc, &t.of, known, &t.overrides, here)?;
     let connections = all_fault(alloc, known, &t.instances, here)?;
     Ok(first_of(first_of(missing, overrides), connections))

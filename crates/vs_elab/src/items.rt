@@ -4,18 +4,17 @@ ghost use Rattle.std.specs.Prelude.{◌≡◌, ℕ, IfOk, map, flat_map};
 ghost use Rattle.vs_grammar.specs.Shapes.{IsAssign, IsDeclarator, Each};
 ghost use Rattle.vs_ast.specs.Views as view;
 ghost use Rattle.vs_const.specs.Faults.{least};
-ghost use Rattle.vs_hierarchy.specs.Surveys as spec;
-ghost use Rattle.vs_hierarchy.specs.Pieces.{all_said};
+ghost use Rattle.vs_elaborated.specs.Surveys as spec;
+ghost use Rattle.vs_elaborated.specs.Pieces.{all_said};
 ghost use Rattle.vs_scope.specs.Frames.{view_env};
 ghost use Rattle.vs_elab.specs.Items.{assign_faults, wire_faults};
 
-use crate::faults::first_of;
 use crate::targets::target_fault;
 use crate::values::expr_fault;
 use crate::written::base_of;
 use std::alloc::{AllocError, Global};
 use vs_ast::{Assign, Declarator};
-use vs_const::Fault;
+use vs_const::{Fault, first_of};
 use vs_scope::View;
 
 /// The first rule that an assign breaks.

@@ -6,7 +6,6 @@ mod connected;
 mod connections;
 mod counts;
 mod error;
-mod faults;
 mod instances;
 mod interfaces;
 mod items;

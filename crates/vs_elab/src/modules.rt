@@ -4,17 +4,16 @@ ghost use Rattle.std.specs.Prelude.{◌≡◌, [], Option, IfOk};
 ghost use Rattle.vs_grammar.specs.Trees as tree;
 ghost use Rattle.vs_ast.specs.Views as view;
 ghost use Rattle.vs_const.specs.Faults.{least};
-ghost use Rattle.vs_hierarchy.specs.Ports.{find_module};
-ghost use Rattle.vs_hierarchy.specs.Elaborated.{repeated_modules};
+ghost use Rattle.vs_elaborated.specs.Ports.{find_module};
+ghost use Rattle.vs_elaborated.specs.Elaborated.{repeated_modules};
 ghost use Rattle.vs_elab.specs.Interfaces.{IsKnown};
 ghost use Rattle.vs_elab.specs.Modules.{AreOf};
 
-use crate::faults::{fault_if, first_of};
 use crate::interfaces::{Interface, seen_of};
 use crate::noted::note;
 use std::alloc::{AllocError, Global};
 use vs_ast::{Module, Name, Source};
-use vs_const::Fault;
+use vs_const::{Fault, Rule, fault_if, first_of};
 use vs_scope::NameMap;
 
 /// A module, and what instances see of it.
@@ -28,7 +27,7 @@ pub(crate) struct Known<'a> {
 #[derive(Drop)]
 pub(crate) struct Modules<'a> {
     pub by_name: NameMap<'a, Known<'a>>,
-    /// 33: the second module of a name.
+    /// `DuplicateModule`: the second module of a name.
     pub repeated: Option<Fault>,
 }
 
@@ -41,8 +40,11 @@ pub(crate) fn by_names(alloc: Global, source: &Source) -> Result<Modules<'_>, Al
     let mut repeated = None;
     for of in &source.modules {
         let seen = seen_of(alloc, of)?;
-        let had = note(&mut by_name, of.name.text.as_bytes(), Known { of, seen })?;
-        repeated = first_of(repeated, fault_if(had, 33, of.name.place));
+        let had = note(&mut by_name, of.name.text.as_slice(), Known { of, seen })?;
+        repeated = first_of(
+            repeated,
+            fault_if(had, Rule::DuplicateModule, of.name.place),
+        );
     }
     Ok(Modules { by_name, repeated })
 }
@@ -54,7 +56,7 @@ pub(crate) fn seen_by<'f, 'a>(
 ) -> Option<&'f Interface<'a>>
     ensures { (source : tree.Source) → AreOf modules.now source → IsKnown result (find_module source (view.name name.now).bytes) }
 {
-    match modules.get(name.text.as_bytes()) {
+    match modules.get(name.text.as_slice()) {
         None => None,
         Some(k) => Some(&k.seen),
     }

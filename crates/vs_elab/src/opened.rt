@@ -5,10 +5,10 @@ ghost use Rattle.vs_grammar.specs.Depths.{deepest, item_depth};
 ghost use Rattle.vs_grammar.specs.Spelled.{depth_limit};
 ghost use Rattle.vs_flat.specs.Named.{all_below};
 ghost use Rattle.vs_const.specs.Faults.{least};
-ghost use Rattle.vs_hierarchy.specs.Elaborated.{counted, limit_faults};
-ghost use Rattle.vs_hierarchy.specs.Limits.{the_limits};
-ghost use Rattle.vs_hierarchy.specs.Pieces as pieces;
-ghost use Rattle.vs_hierarchy.specs.Sound.{IsSoundTask};
+ghost use Rattle.vs_elaborated.specs.Elaborated.{counted, limit_faults};
+ghost use Rattle.vs_elaborated.specs.Limits.{the_limits};
+ghost use Rattle.vs_elaborated.specs.Pieces as pieces;
+ghost use Rattle.vs_elaborated.specs.Sound.{IsSoundTask};
 ghost use Rattle.vs_scope.specs.declared.frames.Frame.{Frame};
 ghost use Rattle.vs_scope.specs.Contents.{contents_items};
 ghost use Rattle.vs_scope.specs.Overrides.{AreOverrides};
@@ -24,7 +24,7 @@ use crate::reading::{Counts, NewScope, Reading, Text};
 use crate::surveyed::{SurveyedScope, survey_scope};
 use std::alloc::Global;
 use vs_const::Fault;
-use vs_hierarchy::scope_law;
+use vs_elaborated::scope_law;
 use vs_scope::{Contents, survey_law};
 
 /// The counts with an instance more, if the scope is one, and the fault of one that stands too deep or is one too many.

@@ -9,8 +9,9 @@ ghost use Rattle.vs_build.specs.Growth.{draft};
 ghost use Rattle.vs_elab.specs.Opening.{Follow, and_signals, signal};
 
 use std::alloc::{AllocError, Global};
+use vs_base::Text;
 use vs_build::Builder;
-use vs_flat::{Scope, Text};
+use vs_flat::Scope;
 use vs_scope::Signal;
 
 /// Adds a scope of this name, where `parent` is the number of the scope around it, if there is one.

@@ -4,18 +4,17 @@ ghost use Rattle.std.specs.Prelude.{◌≡◌, ℕ, List, IfOk, is_some};
 ghost use Rattle.vs_grammar.specs.Shapes.{IsExpr, AreExprs};
 ghost use Rattle.vs_ast.specs.Views as view;
 ghost use Rattle.vs_const.specs.Faults.{least};
-ghost use Rattle.vs_hierarchy.specs.Environments.{named};
-ghost use Rattle.vs_hierarchy.specs.Targets.{as_target, as_targets};
-ghost use Rattle.vs_hierarchy.specs.Instances.{output_target};
+ghost use Rattle.vs_elaborated.specs.Environments.{named};
+ghost use Rattle.vs_elaborated.specs.Targets.{as_target, as_targets};
+ghost use Rattle.vs_elaborated.specs.Instances.{output_target};
 ghost use Rattle.vs_scope.specs.Frames.{view_env};
 ghost use Rattle.vs_elab.specs.Outputs.{found_faults, found_parts};
 
-use crate::faults::{fault_at, first_of};
 use crate::selects::selected_fault;
 use crate::values::expr_fault;
 use std::alloc::{AllocError, Global};
 use vs_ast::Expr;
-use vs_const::{Fault, place_of};
+use vs_const::{Fault, Rule, fault_at, first_of, place_of};
 use vs_scope::View;
 
 /// Whether an expression is a target; brackets round it are no matter.
@@ -89,6 +88,6 @@ pub(crate) fn output_fault(
         part_fault(alloc, e, here)
     } else {
         let found = expr_fault(alloc, e, here, false)?;
-        Ok(first_of(fault_at(43, place_of(e)), found))
+        Ok(first_of(fault_at(Rule::WrongKind, place_of(e)), found))
     }
 }

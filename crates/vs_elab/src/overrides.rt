@@ -5,17 +5,16 @@ ghost use Rattle.vs_grammar.specs.Trees as tree;
 ghost use Rattle.vs_grammar.specs.Shapes.{AreConnections, IsExpr, Given, Each, IsConnection};
 ghost use Rattle.vs_ast.specs.Views as view;
 ghost use Rattle.vs_const.specs.Faults.{least};
-ghost use Rattle.vs_hierarchy.specs.Instances.{said_overrides};
+ghost use Rattle.vs_elaborated.specs.Instances.{said_overrides};
 ghost use Rattle.vs_scope.specs.Frames.{view_env};
 ghost use Rattle.vs_elab.specs.Interfaces.{IsKnown};
 
 use crate::connected::name_fault;
-use crate::faults::{fault_if, first_of};
 use crate::interfaces::{Interface, has_too_many, parameter_names};
 use crate::values::{named_fault, values_fault};
 use std::alloc::{AllocError, Global};
 use vs_ast::{Connections, Expr, Name, NamedConnection};
-use vs_const::Fault;
+use vs_const::{Fault, Rule, fault_if, first_of};
 use vs_scope::View;
 
 /// The first rule that overrides by order break.
@@ -30,7 +29,7 @@ fn by_order(
     ensures { (m : Option tree.Module) → IsKnown known.entry m
         → IfOk result (λ f. f ≡ least (said_overrides (view.name of.now) m (tree.ByOrder (map (view.option view.expr) parts.now)) (view_env here.now)).faults) }
 {
-    let many = fault_if(has_too_many(known, parts.len()), 38, of.place);
+    let many = fault_if(has_too_many(known, parts.len()), Rule::PortCount, of.place);
     let found = values_fault(alloc, parts, here, true)?;
     Ok(first_of(many, found))
 }

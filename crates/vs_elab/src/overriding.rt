@@ -5,9 +5,9 @@ ghost use Rattle.std.specs.Borrow.{Bor};
 ghost use Rattle.vs_grammar.specs.Trees as tree;
 ghost use Rattle.vs_grammar.specs.Shapes.{AreConnections, IsExpr, Given, Each, IsConnection};
 ghost use Rattle.vs_ast.specs.Views as view;
-ghost use Rattle.vs_hierarchy.specs.Environments.{Env};
-ghost use Rattle.vs_hierarchy.specs.Instances as instances;
-ghost use Rattle.vs_hierarchy.specs.Parameters as spec;
+ghost use Rattle.vs_elaborated.specs.Environments.{Env};
+ghost use Rattle.vs_elaborated.specs.Instances as instances;
+ghost use Rattle.vs_elaborated.specs.Parameters as spec;
 ghost use Rattle.vs_scope.specs.Frames.{env_at, envs};
 ghost use Rattle.vs_scope.specs.Maps.{AreDistinct};
 ghost use Rattle.vs_scope.specs.MapViews.{pairs};
@@ -79,7 +79,7 @@ fn by_name<'a>(
 {
     let mut overrides = NameMap::new(alloc);
     for part in parts {
-        let name = part.name.text.as_bytes();
+        let name = part.name.text.as_slice();
         note_override(&mut overrides, Some(name), &part.value, frame)?;
     }
     Ok(overrides)

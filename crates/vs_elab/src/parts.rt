@@ -4,10 +4,10 @@ ghost use Rattle.std.specs.Prelude.{◌≡◌, ◌++◌, ◌∷◌, [], List, If
 ghost use Rattle.vs_grammar.specs.Trees as tree;
 ghost use Rattle.vs_grammar.specs.Shapes.{Each};
 ghost use Rattle.vs_ast.specs.Views as view;
-ghost use Rattle.vs_hierarchy.specs.Environments.{Env};
-ghost use Rattle.vs_hierarchy.specs.Generate as generate;
-ghost use Rattle.vs_hierarchy.specs.Instances.{Around};
-ghost use Rattle.vs_hierarchy.specs.Surveys.{item_said, items_said, nested_piece};
+ghost use Rattle.vs_elaborated.specs.Environments.{Env};
+ghost use Rattle.vs_elaborated.specs.Generate as generate;
+ghost use Rattle.vs_elaborated.specs.Instances.{Around};
+ghost use Rattle.vs_elaborated.specs.Surveys.{item_said, items_said, nested_piece};
 ghost use Rattle.vs_scope.specs.Contents.{block_items, contents_items};
 ghost use Rattle.vs_scope.specs.Made as code;
 ghost use Rattle.vs_elab.specs.Fine.{AreFineInside, AreFineItems, AreFineParts, IsFineItem};

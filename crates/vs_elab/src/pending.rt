@@ -4,10 +4,10 @@ ghost use Rattle.std.specs.Prelude.{◌≡◌, ◌++◌, OnOk, map};
 ghost use Rattle.vs_grammar.specs.Trees as tree;
 ghost use Rattle.vs_grammar.specs.Shapes.{Each};
 ghost use Rattle.vs_ast.specs.Views as view;
-ghost use Rattle.vs_hierarchy.specs.Environments.{Env};
-ghost use Rattle.vs_hierarchy.specs.Pieces.{all_said};
-ghost use Rattle.vs_hierarchy.specs.Surveys as survey;
-ghost use Rattle.vs_hierarchy.specs.Instances as spec;
+ghost use Rattle.vs_elaborated.specs.Environments.{Env};
+ghost use Rattle.vs_elaborated.specs.Pieces.{all_said};
+ghost use Rattle.vs_elaborated.specs.Surveys as survey;
+ghost use Rattle.vs_elaborated.specs.Instances as spec;
 ghost use Rattle.vs_elab.specs.Pending.{parts_pieces};
 ghost use Rattle.vs_elab.specs.Fine.{AreFineParts, IsFineAssign, IsFineInstance, IsFineWire};
 

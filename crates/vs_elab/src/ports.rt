@@ -4,9 +4,9 @@ ghost use Rattle.std.specs.Prelude.{◌≡◌, ◌++◌, List, Bool, IfOk, OnOk,
 ghost use Rattle.vs_grammar.specs.Shapes.{is_port_kind};
 ghost use Rattle.vs_grammar.specs.Trees as tree;
 ghost use Rattle.vs_ast.specs.Views as view;
-ghost use Rattle.vs_hierarchy.specs.Ports as spec_ports;
-ghost use Rattle.vs_hierarchy.specs.Ports.{Direction, directions_in, item_directions, header_ports, item_parameters, parameter_names};
-ghost use Rattle.vs_hierarchy.specs.Signals as spec;
+ghost use Rattle.vs_elaborated.specs.Ports as spec_ports;
+ghost use Rattle.vs_elaborated.specs.Ports.{Direction, directions_in, item_directions, header_ports, item_parameters, parameter_names};
+ghost use Rattle.vs_elaborated.specs.Signals as spec;
 ghost use Rattle.vs_scope.specs.Maps.{Pair};
 ghost use Rattle.vs_scope.specs.MapViews.{pairs};
 ghost use Rattle.vs_elab.specs.Noted.{AreFirst};
@@ -49,7 +49,7 @@ fn note_signals<'a>(
 {
     let input = is_input(signals.kind);
     for declarator in &signals.names {
-        note(directions, declarator.name.text.as_bytes(), input)?;
+        note(directions, declarator.name.text.as_slice(), input)?;
     }
     Ok(())
 }
@@ -87,7 +87,7 @@ fn plain_ports<'a>(
 {
     let mut ports = Vec::new(alloc);
     for name in names {
-        let name = name.text.as_bytes();
+        let name = name.text.as_slice();
         let input = directions.get(name).copied();
         ports.push(Port { name, input })?;
     }
@@ -100,7 +100,7 @@ fn push_ports<'a>(ports: &mut Vec<Port<'a>>, signals: &'a Signals) -> Result<(),
 {
     let input = Some(is_input(signals.kind));
     for declarator in &signals.names {
-        let name = declarator.name.text.as_bytes();
+        let name = declarator.name.text.as_slice();
         ports.push(Port { name, input })?;
     }
     Ok(())
@@ -152,7 +152,7 @@ fn push_settings<'a>(names: &mut Vec<&'a [u8]>, settings: &'a [Setting]) -> Resu
     ensures { OnOk result (map name_bytes names.new.items ≡ map name_bytes names.old.items ++ map setting_bytes settings.now) }
 {
     for setting in settings {
-        names.push(setting.name.text.as_bytes())?;
+        names.push(setting.name.text.as_slice())?;
     }
     Ok(())
 }

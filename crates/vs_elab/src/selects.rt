@@ -9,18 +9,17 @@ ghost use Rattle.vs_const.specs.Expressions.{constant, typed};
 ghost use Rattle.vs_const.specs.Faults.{least};
 ghost use Rattle.vs_const.specs.Selects as selects;
 ghost use Rattle.vs_const.specs.Typed.{natural};
-ghost use Rattle.vs_hierarchy.specs.Environments.{named};
-ghost use Rattle.vs_hierarchy.specs.Targets.{selected_target};
+ghost use Rattle.vs_elaborated.specs.Environments.{named};
+ghost use Rattle.vs_elaborated.specs.Targets.{selected_target};
 ghost use Rattle.vs_scope.specs.Frames.{view_env};
 ghost use Rattle.vs_elab.specs.Selects.{against_faults, is_select, select_faults, slice_faults};
 
-use crate::faults::{fault_if, first_of};
-use crate::numbers::{bounds_at, is_against, natural_at};
+use crate::numbers::{bounds_at, natural_at};
 use crate::values::expr_fault;
 use crate::written::base_of;
 use std::alloc::{AllocError, Global};
 use vs_ast::{Expr, Name, Select, SliceKind};
-use vs_const::Fault;
+use vs_const::{Fault, Rule, fault_if, first_of, is_against};
 use vs_four::Range;
 use vs_scope::View;
 
@@ -30,7 +29,7 @@ fn against_fault(declared: Option<Range>, bracket: u32, range: Option<Range>) ->
 {
     match range {
         None => None,
-        Some(r) => fault_if(is_against(declared, r), 37, bracket),
+        Some(r) => fault_if(is_against(declared, r), Rule::BadRange, bracket),
     }
 }
 
@@ -48,7 +47,7 @@ fn between_fault(
     ensures { (needed : Bool) → IfOk result (λ f. f ≡ least (slice_faults declared bracket tree.Between (view.expr left.now) (view.expr right.now) (named (view_env here.now)) needed)) }
 {
     let b = bounds_at(alloc, bracket, left, right, here)?;
-    Ok(first_of(b.fault, against_fault(declared, bracket, b.range)))
+    Ok(first_of(b.flaws.first, against_fault(declared, bracket, b.range)))
 }
 
 /// The first rule that `[left +: right]` or `[left -: right]` breaks.
@@ -66,7 +65,7 @@ fn moving_fault(
 {
     let a = expr_fault(alloc, left, here, needed)?;
     let n = natural_at(alloc, 1, 64, right, here)?;
-    Ok(first_of(a, n.fault))
+    Ok(first_of(a, n.flaws.first))
 }
 
 /// The first rule that bits of a range break.

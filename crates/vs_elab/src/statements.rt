@@ -5,20 +5,19 @@ ghost use Rattle.vs_grammar.specs.Shapes.{IsExpr, IsTarget, IsStatement, AreStat
 ghost use Rattle.vs_ast.specs.Views as view;
 ghost use Rattle.vs_const.specs.Expressions.{typed};
 ghost use Rattle.vs_const.specs.Faults.{least};
-ghost use Rattle.vs_hierarchy.specs.Environments.{named};
-ghost use Rattle.vs_hierarchy.specs.Statements.{typed_list, typed_statement, typed_sequence};
-ghost use Rattle.vs_hierarchy.specs.Surveys.{block_said};
-ghost use Rattle.vs_hierarchy.specs.Targets.{typed_target};
+ghost use Rattle.vs_elaborated.specs.Environments.{named};
+ghost use Rattle.vs_elaborated.specs.Statements.{typed_list, typed_statement, typed_sequence};
+ghost use Rattle.vs_elaborated.specs.Surveys.{block_said};
+ghost use Rattle.vs_elaborated.specs.Targets.{typed_target};
 ghost use Rattle.vs_scope.specs.Frames.{view_env};
 ghost use Rattle.vs_elab.specs.StatementFaults.{arms_faults};
 
-use crate::faults::first_of;
 use crate::targets::target_fault;
 use crate::values::expr_fault;
 use std::alloc::{AllocError, Global};
 use vs_ast::{AlwaysBlock, CaseArm, Expr, Statement, Target};
 use vs_build::check_control;
-use vs_const::Fault;
+use vs_const::{Fault, first_of};
 use vs_scope::View;
 
 /// The first rule that an assignment breaks (9.2).

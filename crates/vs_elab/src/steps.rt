@@ -2,14 +2,15 @@
 
 ghost use Rattle.std.specs.Prelude.{◌≡◌, ◌<◌, ◌^◌, ◌++◌, ◌∷◌, [], suc, false, length, IfErr, IfOk, OnOk, Err, Some};
 ghost use Rattle.vs_ast.specs.Views as view;
-ghost use Rattle.vs_hierarchy.specs.Ports.{find_module};
-ghost use Rattle.vs_hierarchy.specs.Sound.{AreSoundFrames};
+ghost use Rattle.vs_elaborated.specs.Ports.{find_module};
+ghost use Rattle.vs_elaborated.specs.Sound.{AreSoundFrames};
 ghost use Rattle.vs_scope.specs.Frames.{env_at, envs};
 ghost use Rattle.vs_build.specs.Growth.{draft};
 ghost use Rattle.vs_build.specs.Items.{and_processes};
 ghost use Rattle.vs_elab.specs.Modules.{IsOf};
 ghost use Rattle.vs_elab.specs.OwnParts.{IsFineOwn, own_processes};
 ghost use Rattle.vs_elab.specs.Reading.{IsReading, IsStep, IsText, Tells, design_so_far, outcome, pending_at, source_of};
+ghost use Rattle.vs_const.specs.declared.rules.Rule.TheVariants.{InstanceDepth};
 ghost use Rattle.vs_elab.specs.declared.error.ElabError.TheVariants.{Broken};
 ghost use Rattle.vs_elab.specs.declared.pending.Part.TheVariants as parts;
 
@@ -25,8 +26,8 @@ use crate::wiring::wire_ports;
 use std::alloc::{AllocError, Global};
 use vs_ast::{Instance, Instances};
 use vs_build::{always, assign, wire};
-use vs_const::Fault;
-use vs_hierarchy::{instance_law, scope_law};
+use vs_const::{Fault, Rule};
+use vs_elaborated::{instance_law, scope_law};
 use vs_scope::{BlockItems, Contents, NameMap, Turn, View};
 
 /// Where a part stands: the number of its scope, the instances around it, and how deep scopes may stand within one another in it.
@@ -41,10 +42,13 @@ pub(crate) struct Standing {
 fn one_deeper(left: u32, place: u32) -> Result<u32, ElabError>
     ensures deeper { IfOk result (λ n. left ≡ suc n) }
     ensures none { IfErr result (λ e. left ≡ 0) }
-    ensures fault { IfErr result (λ e. e ≡ Broken (record { number = 40; place = place })) }
+    ensures fault { IfErr result (λ e. e ≡ Broken (record { rule = InstanceDepth; place = place })) }
 {
     if left == 0 {
-        Err(ElabError::Broken(Fault { number: 40, place }))
+        Err(ElabError::Broken(Fault {
+            rule: Rule::InstanceDepth,
+            place,
+        }))
     } else {
         Ok(left - 1)
     }
@@ -139,7 +143,7 @@ fn read_instance<'a>(
     let depth = at.depth + 1;
     let number = reading.counts.start.scope as usize;
     let scope = NewScope {
-        name: instance.name.text.as_bytes(),
+        name: instance.name.text.as_slice(),
         within: Some(at.frame as u32),
         contents: Contents::Module(known.of),
         overrides: &overrides,
@@ -187,7 +191,7 @@ pub(crate) fn read_part<'a>(
         Part::Block { name, items, turn } => {
             read_block(alloc, text, reading, stack, at, name, items, turn)
         }
-        Part::Instance { item, instance } => match text.modules.get(item.of.text.as_bytes()) {
+        Part::Instance { item, instance } => match text.modules.get(item.of.text.as_slice()) {
             None => unreachable!(),
             Some(known) => { read_instance(alloc, text, reading, stack, at, item, instance, known) }
         },

@@ -4,15 +4,14 @@ ghost use Rattle.std.specs.Prelude.{◌≡◌, IfOk};
 ghost use Rattle.vs_grammar.specs.Shapes.{IsTarget, AreTargets};
 ghost use Rattle.vs_ast.specs.Views as view;
 ghost use Rattle.vs_const.specs.Faults.{least};
-ghost use Rattle.vs_hierarchy.specs.Environments.{named};
-ghost use Rattle.vs_hierarchy.specs.Targets.{typed_target, typed_targets};
+ghost use Rattle.vs_elaborated.specs.Environments.{named};
+ghost use Rattle.vs_elaborated.specs.Targets.{typed_target, typed_targets};
 ghost use Rattle.vs_scope.specs.Frames.{view_env};
 
-use crate::faults::first_of;
 use crate::selects::selected_fault;
 use std::alloc::{AllocError, Global};
 use vs_ast::Target;
-use vs_const::Fault;
+use vs_const::{Fault, first_of};
 use vs_scope::View;
 
 /// The first rule that a target breaks; `procedural` says whether an assignment of a block writes it.

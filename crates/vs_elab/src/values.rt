@@ -5,14 +5,13 @@ ghost use Rattle.vs_grammar.specs.Shapes.{IsExpr, Given, Each, IsConnection};
 ghost use Rattle.vs_ast.specs.Views as view;
 ghost use Rattle.vs_const.specs.Expressions.{typed};
 ghost use Rattle.vs_const.specs.Faults.{least};
-ghost use Rattle.vs_hierarchy.specs.Environments.{named};
+ghost use Rattle.vs_elaborated.specs.Environments.{named};
 ghost use Rattle.vs_scope.specs.Frames.{view_env};
 ghost use Rattle.vs_elab.specs.Values.{value_faults, named_faults};
 
-use crate::faults::first_of;
 use std::alloc::{AllocError, Global};
 use vs_ast::{Expr, NamedConnection};
-use vs_const::{Fault, check};
+use vs_const::{Fault, check, first_of};
 use vs_scope::View;
 
 /// The first rule that an expression breaks; `needed` says whether it has to be a constant.

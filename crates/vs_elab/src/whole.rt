@@ -6,9 +6,9 @@ ghost use Rattle.vs_grammar.specs.Depths.{module_depth};
 ghost use Rattle.vs_grammar.specs.Shapes.{IsModule, IsShaped};
 ghost use Rattle.vs_grammar.specs.Spelled.{depth_limit};
 ghost use Rattle.vs_ast.specs.Views as view;
-ghost use Rattle.vs_hierarchy.specs.Limits.{the_limits};
-ghost use Rattle.vs_hierarchy.specs.Surveys.{no_totals};
-ghost use Rattle.vs_hierarchy.specs.Elaborated.{elaborated, elaborated_top, of_processes};
+ghost use Rattle.vs_elaborated.specs.Limits.{the_limits};
+ghost use Rattle.vs_elaborated.specs.Surveys.{no_totals};
+ghost use Rattle.vs_elaborated.specs.Elaborated.{elaborated, elaborated_top, of_processes};
 ghost use Rattle.vs_flat.specs.DesignOf.{design_of};
 ghost use Rattle.vs_flat.specs.Lawful.{IsLawful};
 ghost use Rattle.vs_elab.specs.Reading.{IsRead, IsReading, IsText, Tells, design_so_far, outcome, source_of, totals_of};
@@ -22,9 +22,9 @@ use crate::steps::read_part;
 use std::alloc::Global;
 use vs_ast::Source;
 use vs_build::Builder;
-use vs_const::Fault;
+use vs_const::{Fault, Rule};
+use vs_elaborated::elaborated_law;
 use vs_flat::Flat;
-use vs_hierarchy::elaborated_law;
 use vs_scope::{Contents, NameMap, Start};
 
 /// How many scopes may stand within one another: the top, and at most 201 for each of 32 instances.
@@ -87,7 +87,7 @@ fn read_top<'a>(alloc: Global, text: &Text<'a>, top: &Known<'a>) -> Result<Readi
     let mut stack = Vec::new(alloc);
     let none = NameMap::new(alloc);
     let scope = NewScope {
-        name: top.of.name.text.as_bytes(),
+        name: top.of.name.text.as_slice(),
         within: None,
         contents: Contents::Module(top.of),
         overrides: &none,
@@ -104,19 +104,19 @@ fn read_top<'a>(alloc: Global, text: &Text<'a>, top: &Known<'a>) -> Result<Readi
 /// The design that the tree of a text has from the module `top` on, flat: every scope, signal and process of it in the order of the text, each scope
 /// before those within it (IEEE 1364-2005, 12.1). Nothing of the text is borrowed by it.
 ///
-/// An error is the first rule that is broken: 33 before all others, then 32, then those of one scope after the other, each scope before those within
+/// An error is the first rule that is broken: `DuplicateModule` before all others, then `NoTop`, then those of one scope after the other, each scope before those within
 /// it; of a scope that at the least token, and there the one with the least number.
-/// - 30, 31: an expression that has to be constant isn't, or has unknown bits.
-/// - 32: the text has no module `top`; the place is 0.
-/// - 33: the second module of a name.
-/// - 34: an instance of a module that the text doesn't have.
-/// - 35, 36: a name that isn't declared, or is twice (12.7).
-/// - 37: a range, a select or a number of copies that has no meaning.
-/// - 38, 39: too many connections or overrides, and one of a name that the module doesn't have (12.2, 12.3).
-/// - 40, 41: over 32 instances within one another, and over 4,096 in all.
-/// - 42: over 4,096 turns of one generate loop, or 1,048,576 of all (12.4.1).
-/// - 43: a name of another kind than is needed there.
-/// - 44, 45: over 1,048,576 bits, and over 65,536 processes.
+/// - `NotConstant`, `UnknownConstant`: an expression that has to be constant isn't, or has unknown bits.
+/// - `NoTop`: the text has no module `top`; the place is 0.
+/// - `DuplicateModule`: the second module of a name.
+/// - `UnknownModule`: an instance of a module that the text doesn't have.
+/// - `UnknownName`, `DuplicateName`: a name that isn't declared, or is twice (12.7).
+/// - `BadRange`: a range, a select or a number of copies that has no meaning.
+/// - `PortCount`, `UnknownPort`: too many connections or overrides, and one of a name that the module doesn't have (12.2, 12.3).
+/// - `InstanceDepth`, `TooManyInstances`: over 32 instances within one another, and over 4,096 in all.
+/// - `GenerateTurns`: over 4,096 turns of one generate loop, or 1,048,576 of all (12.4.1).
+/// - `WrongKind`: a name of another kind than is needed there.
+/// - `TooManyBits`, `TooManyProcesses`: over 1,048,576 bits, and over 65,536 processes.
 ///
 /// Or it is want of memory. It takes time linear in the text and in what the generate constructs and instances make of it.
 pub fn flatten(alloc: Global, source: &Source, top: &[u8]) -> Result<Flat, ElabError>
@@ -135,7 +135,7 @@ pub fn flatten(alloc: Global, source: &Source, top: &[u8]) -> Result<Flat, ElabE
     };
     match text.modules.get(top) {
         None => Err(ElabError::Broken(Fault {
-            number: 32,
+            rule: Rule::NoTop,
             place: 0,
         })),
         Some(known) => {

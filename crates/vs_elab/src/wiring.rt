@@ -2,8 +2,8 @@
 
 ghost use Rattle.std.specs.Prelude.{◌≡◌, ◌<◌, ◌≤◌, ◌+◌, ◌^◌, ℕ, OnOk, length, map};
 ghost use Rattle.vs_const.specs.Meanings.{SignalMeaning};
-ghost use Rattle.vs_hierarchy.specs.Elaborated.{port_assign};
-ghost use Rattle.vs_hierarchy.specs.Environments.{named};
+ghost use Rattle.vs_elaborated.specs.Elaborated.{port_assign};
+ghost use Rattle.vs_elaborated.specs.Environments.{named};
 ghost use Rattle.vs_build.specs.Growth.{draft};
 ghost use Rattle.vs_scope.specs.Frames.{view_env};
 ghost use Rattle.vs_scope.specs.Views.{entries};

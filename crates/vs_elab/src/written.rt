@@ -2,15 +2,14 @@
 
 ghost use Rattle.std.specs.Prelude.{◌≡◌};
 ghost use Rattle.vs_ast.specs.Views as view;
-ghost use Rattle.vs_hierarchy.specs.Environments.{named, declared_meaning};
-ghost use Rattle.vs_hierarchy.specs.Targets.{target_base};
+ghost use Rattle.vs_elaborated.specs.Environments.{named, declared_meaning};
+ghost use Rattle.vs_elaborated.specs.Targets.{target_base};
 ghost use Rattle.vs_scope.specs.Frames.{view_env};
 ghost use Rattle.vs_scope.specs.Views.{declared};
 ghost use Rattle.vs_elab.specs.Written.{IsBase, is_late, is_wrong, IsNamed};
 
-use crate::faults::{fault_at, fault_if};
 use vs_ast::Name;
-use vs_const::Fault;
+use vs_const::{Fault, Rule, fault_at, fault_if};
 use vs_four::Range;
 use vs_scope::{Declared, Entry, View};
 
@@ -97,7 +96,7 @@ fn is_wrong(net: bool, input: bool, procedural: bool) -> bool
 pub(crate) fn base_of(here: &View<'_, '_>, name: &Name, procedural: bool, selected: bool) -> Base
     ensures { IsBase result (target_base procedural name.now.place selected (named (view_env here.now) name.now.text)) }
 {
-    match meant(here, name.text.as_bytes()) {
+    match meant(here, name.text.as_slice()) {
         Written::Signal {
             net,
             input,
@@ -108,16 +107,16 @@ pub(crate) fn base_of(here: &View<'_, '_>, name: &Name, procedural: bool, select
             let wrong = is_wrong(net, input, procedural) || scalar;
             Base {
                 range,
-                fault: fault_if(wrong, 43, name.place),
+                fault: fault_if(wrong, Rule::WrongKind, name.place),
             }
         }
         Written::Other => Base {
             range: None,
-            fault: fault_at(43, name.place),
+            fault: fault_at(Rule::WrongKind, name.place),
         },
         Written::Unknown => Base {
             range: None,
-            fault: fault_at(35, name.place),
+            fault: fault_at(Rule::UnknownName, name.place),
         },
     }
 }

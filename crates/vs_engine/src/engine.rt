@@ -23,7 +23,7 @@ use std::sync::ledger::Ledger;
 use vs_cone::write_law;
 use vs_four::{Bit4, Bits, join};
 use vs_plane::{Lanes, Pair, PlaneFile, Steps, Word};
-use vs_program::{Compiled, Phase, Span};
+use vs_program::{Compiled, Phase, Span, home};
 
 /// A compiled design at work: its slots, in every lane. Each lane is a run of the design of its own.
 #[derive(Drop)]
@@ -74,7 +74,7 @@ impl<W: Word> Engine<W> {
         requires { bit < self.now.program.bits }
         ensures { (i : ℕ) → pair_lane W.lane result i ≡ state W.lane self.now i bit }
     {
-        self.file.load(4 + bit)
+        self.file.load(home(bit))
     }
 
     /// The lanes in which a signal has another value than these planes of its bits.
@@ -85,7 +85,7 @@ impl<W: Word> Engine<W> {
             → W.lane result i ≡ differ_below (λ k. slot_lane W.lane old.now k i) (λ k. state W.lane self.now i (s.first + k)) s.length }
     {
         let span = self.compiled.signals()[signal as usize];
-        differing(&self.file, 4 + span.first, span.length, old)
+        differing(&self.file, home(span.first), span.length, old)
     }
 
     /// Copies the planes of a signal's bits, as they are at the end of the last slot.
@@ -97,7 +97,7 @@ impl<W: Word> Engine<W> {
             → slot_lane W.lane out.new k i ≡ state W.lane self.now i (s.first + k) }
     {
         let span = self.compiled.signals()[signal as usize];
-        copy_planes(&self.file, 4 + span.first, out);
+        copy_planes(&self.file, home(span.first), out);
     }
 
     /// How many steps the next fall takes, and how many each rise.
@@ -241,7 +241,7 @@ fn read<W: Lanes>(file: &PlaneFile<W>, lane: u32, span: Span) -> Bits
     requires few { length file.now < 2 ^ 32 }
     ensures { result ≡ read (λ b. slot_lane W.lane file.now (home b) lane) (span_bits span) }
 {
-    let first = 4 + span.first;
+    let first = home(span.first);
     let mut bits = Bits::of(&[file.lane(first, lane)]);
     for k in 1..span.length {
         let next = file.lane(first + k, lane);
@@ -281,7 +281,7 @@ fn read_group<W: Lanes>(file: &PlaneFile<W>, span: Span, k: u32, out: &mut [Bits
 {
     let from = 64 * k as usize;
     if span.length == 1 {
-        let pair = file.load(4 + span.first);
+        let pair = file.load(home(span.first));
         let value = pair.value.sixty_four(k);
         let unknown = pair.unknown.sixty_four(k);
         for i in 0..64 {
@@ -290,7 +290,7 @@ fn read_group<W: Lanes>(file: &PlaneFile<W>, span: Span, k: u32, out: &mut [Bits
     } else {
         let mut slots = [0; 64];
         for n in 0..span.length {
-            slots[n as usize] = 4 + span.first + n;
+            slots[n as usize] = home(span.first + n);
         }
         let columns = file.columns(&slots[..span.length as usize], k);
         for i in 0..64 {
@@ -314,7 +314,7 @@ fn feed<W: Word, L: Ledger>(
     ensures ticked { steps.new ≡ steps.old + length bits.now }
 {
     for (n, bit) in bits.iter().enumerate() {
-        file.store(4 + *bit, pairs[n], steps);
+        file.store(home(*bit), pairs[n], steps);
     }
 }
 
@@ -334,6 +334,6 @@ fn store_all<W: Word, L: Ledger>(
 {
     let pair = Pair::of_bit(value);
     for bit in bits {
-        file.store(4 + *bit, pair, steps);
+        file.store(home(*bit), pair, steps);
     }
 }

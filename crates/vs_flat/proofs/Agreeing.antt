@@ -17,7 +17,7 @@ use Rattle.vs_flat.specs.declared.statements.Arm.{Arm}
 use Rattle.vs_flat.specs.declared.statements.Statement.{Statement}
 use Rattle.vs_flat.specs.declared.statements.Statement.TheVariants as S
 use Rattle.vs_flat.specs.Named.{all_below, node_signals, node_expressions, statement_expressions, statement_statements, kind_signals, kind_expressions, kind_statements, node_names_below, statement_names_below, kind_names_below}
-use Rattle.vs_flat.specs.Operators.{unary_of, port_of}
+use Rattle.vs_flat.specs.Ports.{port_of}
 use Rattle.vs_flat.specs.Targets.{source_of, place_of}
 use Rattle.vs_flat.specs.Trees.{first_copy, copy_count, joined, node_tree, branch, sequence, arms_tree, statement_tree, target_tree}
 use Rattle.vs_flat.specs.DesignOf.{event_of, kind_of}
@@ -91,7 +91,7 @@ node_agrees signals nodes s t f g (PartSelect of range base up width) ss ff h =
     let e = ff of (first_below nodes of (base ∷ []) b) in
     let i = ff base (first_below nodes base [] (rest_below nodes of (base ∷ []) b)) in
     ap (λ x. E.Select (source_of x) part (f base)) e ∙ ap (λ x. E.Select (source_of (g of)) part x) i
-node_agrees signals nodes s t f g (Unary op a) ss ff h = ap (E.Unary (unary_of op)) (ff a (first_below nodes a [] h))
+node_agrees signals nodes s t f g (Unary op a) ss ff h = ap (E.Unary op) (ff a (first_below nodes a [] h))
 node_agrees signals nodes s t f g (Binary op a b) ss ff h =
     let left : f a ≡ g a = ff a (first_below nodes a (b ∷ []) h) in
     let right : f b ≡ g b = ff b (first_below nodes b [] (rest_below nodes a (b ∷ []) h)) in

@@ -8,11 +8,11 @@ use Rattle.vs_design.specs.Statements as T
 use Rattle.vs_design.specs.Designs as D
 use Rattle.vs_flat.specs.declared.expressions.Node.{Node}
 use Rattle.vs_flat.specs.declared.expressions.Node.TheVariants as N
-use Rattle.vs_flat.specs.declared.expressions.UnaryOp.TheVariants as U
-use Rattle.vs_flat.specs.declared.processes.Edge.TheVariants as G
+use Rattle.vs_base.specs.declared.operators.UnaryOp.TheVariants as U
+use Rattle.vs_base.specs.declared.events.Edge.TheVariants as G
 use Rattle.vs_flat.specs.declared.processes.Kind.TheVariants as K
 use Rattle.vs_flat.specs.declared.statements.Statement.TheVariants as S
-use Rattle.vs_flat.specs.declared.statements.CaseKind.TheVariants as C
+use Rattle.vs_base.specs.declared.events.CaseKind.TheVariants as C
 use Rattle.vs_flat.specs.Arena.{Arena, placed, empty_arena}
 
 abbrev pub four_bits : Range
@@ -30,7 +30,7 @@ block_arena = record empty_arena {
       ∷ record { name = 97 ∷ []; scope = 0; net = true; input = true; range = Some four_bits; signed = false; first_bit = 1 }
       ∷ record { name = 113 ∷ []; scope = 0; net = false; input = false; range = Some four_bits; signed = false; first_bit = 5 }
       ∷ [];
-  processes = record { at = 58; kind = K.Block false (record { signal = 0; edge = G.Pos } ∷ []) 5 } ∷ [];
+  processes = record { at = 58; kind = K.Block false (record { signal = 0; edge = G.Posedge } ∷ []) 5 } ∷ [];
   nodes =
       placed (N.Name 1) 84 ∷ placed (index 0) 86 ∷ placed (N.Bit 0 four_bits 1) 84
       ∷ placed (N.Name 2) 90

@@ -9,7 +9,7 @@ use Rattle.vs_flat.specs.declared.processes.Process.{Process}
 use Rattle.vs_flat.specs.declared.processes.Kind.{Kind}
 use Rattle.vs_flat.specs.declared.processes.Kind.TheVariants as K
 use Rattle.vs_flat.specs.Arena.{Arena}
-use Rattle.vs_flat.specs.Operators.{port_of, edge_of}
+use Rattle.vs_flat.specs.Ports.{port_of}
 use Rattle.vs_flat.specs.Targets.{place_of}
 use Rattle.vs_flat.specs.Trees.{signals_from, signal_at, tree_at, statement_at, node_trees, statement_trees, target_tree}
 
@@ -17,7 +17,7 @@ abbrev pub scope_of : Scope → D.Scope
 scope_of s = record { name = s.name; parent = s.parent; instance = s.instance }
 
 abbrev pub event_of : (ℕ → E.Signal) → Event → D.Event
-event_of signal e = record { signal = signal e.signal; edge = edge_of e.edge }
+event_of signal e = record { signal = signal e.signal; edge = e.edge }
 
 abbrev pub kind_of : (ℕ → E.Signal) → (ℕ → E.Expression) → (ℕ → T.Statement) → ℕ → Kind → D.Process
 kind_of signal tree statement place (K.Assign target e port) = D.Continuous place (port_of port) (place_of (tree target)) (target_tree (tree target)) (tree e)

@@ -4,7 +4,7 @@ use Rattle.vs_design.specs.Expressions as E
 use Rattle.vs_design.specs.Statements as T
 use Rattle.vs_design.specs.Designs as D
 use Rattle.vs_flat.specs.declared.expressions.Node.TheVariants.{Name, Binary}
-use Rattle.vs_flat.specs.declared.expressions.BinaryOp.TheVariants.{BitAnd}
+use Rattle.vs_base.specs.declared.operators.BinaryOp.TheVariants.{BitAnd}
 use Rattle.vs_flat.specs.declared.processes.Signal.{Signal}
 use Rattle.vs_flat.specs.declared.processes.Kind.TheVariants.{Assign}
 use Rattle.vs_flat.specs.declared.processes.Port.TheVariants.{Written}

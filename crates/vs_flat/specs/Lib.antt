@@ -1,7 +1,8 @@
 pub mod Arena
 pub mod Named
 pub mod Kept
-pub mod Operators
+pub mod Ports
+pub mod Events
 pub mod Targets
 pub mod Trees
 pub mod DesignOf

@@ -2,7 +2,7 @@
 use Rattle.std.specs.Prelude.{◌≡◌, true, false, [], ◌∷◌}
 use Rattle.vs_design.specs.Expressions as E
 use Rattle.vs_flat.specs.declared.expressions.Node.TheVariants.{Name, Unary, Join}
-use Rattle.vs_flat.specs.declared.expressions.UnaryOp.TheVariants.{BitNot}
+use Rattle.vs_base.specs.declared.operators.UnaryOp.TheVariants.{BitNot}
 use Rattle.vs_flat.specs.declared.processes.Port.TheVariants.{Written, Input}
 use Rattle.vs_flat.specs.Arena.{placed}
 use Rattle.vs_flat.specs.Lawful.{are_different, are_copies, is_target, are_chains, node_depths, nodes_name_earlier}

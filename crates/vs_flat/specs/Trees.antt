@@ -10,7 +10,6 @@ use Rattle.vs_flat.specs.declared.processes.Signal.{Signal}
 use Rattle.vs_flat.specs.declared.statements.Arm.{Arm}
 use Rattle.vs_flat.specs.declared.statements.Statement.{Statement}
 use Rattle.vs_flat.specs.declared.statements.Statement.TheVariants as S
-use Rattle.vs_flat.specs.Operators.{unary_of, binary_of, case_of}
 use Rattle.vs_flat.specs.Targets.{source_of, target_of}
 
 -- what a number stands for that nothing has
@@ -49,8 +48,8 @@ node_tree signal tree (Literal bits signed sized) = E.Literal bits signed sized
 node_tree signal tree (Name n) = E.Name (signal n)
 node_tree signal tree (Bit of range index) = E.Select (source_of (tree of)) (one_bit range) (tree index)
 node_tree signal tree (Part of range base up width) = E.Select (source_of (tree of)) (record { range = range; up = up; width = width }) (tree base)
-node_tree signal tree (Unary op a) = E.Unary (unary_of op) (tree a)
-node_tree signal tree (Binary op a b) = E.Binary (binary_of op) (tree a) (tree b)
+node_tree signal tree (Unary op a) = E.Unary op (tree a)
+node_tree signal tree (Binary op a b) = E.Binary op (tree a) (tree b)
 node_tree signal tree (Choice c p q) = E.Choice (tree c) (tree p) (tree q)
 node_tree signal tree (Join parts) = E.Repeat (copy_count parts) (joined (map tree (first_copy parts)))
 
@@ -94,7 +93,7 @@ abbrev pub statement_tree : (ℕ → E.Expression) → (ℕ → T.Statement) →
 statement_tree tree statement place S.Empty = T.Empty
 statement_tree tree statement place (S.Assign target e blocking) = T.Assignment place (target_tree (tree target)) (tree e) blocking
 statement_tree tree statement place (S.If c taken other) = T.If (tree c) (statement taken) (branch statement other)
-statement_tree tree statement place (S.Case kind of arms other) = T.Case (case_of kind) (tree of) (arms_tree tree statement other arms)
+statement_tree tree statement place (S.Case kind of arms other) = T.Case kind (tree of) (arms_tree tree statement other arms)
 statement_tree tree statement place (S.Seq parts) = sequence (map statement parts)
 
 abbrev pub with_statement_tree : (ℕ → E.Expression) → List T.Statement → Placed Statement → List T.Statement

@@ -7,7 +7,7 @@ ghost use Rattle.vs_flat.specs.Arena.{bit_count};
 use crate::Flat;
 use vs_four::Range;
 
-/// How many bits a signal of this range has (IEEE 1364-2005, 3.3): one, where it has none.
+/// How many bits a signal of this range has, where they are fewer than 2^32, as in a lawful design.
 pub fn length_of(range: Option<Range>) -> u32
     requires { range_or_one range < 2 ^ 32 }
     ensures { result ≡ range_or_one range }
@@ -15,6 +15,16 @@ pub fn length_of(range: Option<Range>) -> u32
     match range {
         None => 1,
         Some(range) => range.left.abs_diff(range.right) + 1,
+    }
+}
+
+/// How many bits a signal of any range has (IEEE 1364-2005, 3.3): one, where it has none.
+pub fn signal_length(range: Option<Range>) -> u64
+    ensures { result ≡ range_or_one range }
+{
+    match range {
+        None => 1,
+        Some(range) => range.length(),
     }
 }
 

@@ -159,6 +159,13 @@ impl Flat {
         Ok(number)
     }
 
+    /// How many expressions there are.
+    pub fn expr_count(&self) -> u32
+        ensures { result ≡ length self.now.nodes }
+    {
+        self.nodes.len() as u32
+    }
+
     /// Expression e.
     pub fn expr(&self, e: u32) -> &Node
         requires { e < length self.now.nodes }

@@ -5,18 +5,16 @@ mod bits;
 mod expressions;
 mod flat;
 mod laws;
-mod lists;
 mod placed;
 mod processes;
 mod statements;
 
-pub use bits::{count_bits, length_of};
-pub use expressions::{BinaryOp, Node, UnaryOp};
+pub use bits::{count_bits, length_of, signal_length};
+pub use expressions::Node;
 pub use flat::Flat;
 pub use laws::{
     adding_law, different_law, example_law, lawful_law, names_law, rows_law, trees_law,
 };
-pub use lists::{List, Text};
 pub use placed::Placed;
-pub use processes::{Edge, Event, Kind, Port, Process, Scope, Signal};
-pub use statements::{Arm, CaseKind, Statement};
+pub use processes::{Event, Kind, Port, Process, Scope, Signal, has_edge};
+pub use statements::{Arm, Statement};

@@ -1,6 +1,10 @@
 //! Scopes, signals and processes (IEEE 1364-2005, clauses 3, 6, 9 and 12).
 
-use crate::{List, Text};
+ghost use Rattle.std.specs.Prelude.{◌≡◌};
+ghost use Rattle.std.specs.List.{list_any};
+ghost use Rattle.vs_flat.specs.Events.{is_edge_event};
+
+use vs_base::{Edge, List, Text};
 use vs_four::Range;
 
 /// A module instance or a generate block (IEEE 1364-2005, 12.1 and 12.4). Scope 0 is the top.
@@ -70,10 +74,9 @@ pub struct Event {
     pub edge: Edge,
 }
 
-/// Any change of a signal, `posedge` or `negedge`.
-#[derive(Clone, Copy, PartialEq, Eq, Debug)]
-pub enum Edge {
-    Any,
-    Pos,
-    Neg,
+/// Whether an edge is among the events of a block, so that the block is clocked (IEEE 1364-2005, 9.7.2).
+pub fn has_edge(events: &[Event]) -> bool
+    ensures { result ≡ list_any is_edge_event events.now }
+{
+    events.iter().any(|e| e.edge.is_edge())
 }

@@ -1,17 +1,6 @@
 //! Statements (IEEE 1364-2005, clause 9).
 
-use crate::List;
-
-/// How a case compares (IEEE 1364-2005, 9.5).
-#[derive(Clone, Copy, PartialEq, Eq, Debug)]
-pub enum CaseKind {
-    /// `case`: bits as written
-    Exact,
-    /// `casez`: z on either side is no matter
-    CaseZ,
-    /// `casex`: x and z on either side are no matter
-    CaseX,
-}
+use vs_base::{CaseKind, List};
 
 /// One arm of a case: the expressions that it is taken for, and its statement.
 #[derive(Drop)]

@@ -6,6 +6,7 @@ mod lengths;
 mod logic;
 mod numbers;
 mod planes;
+mod ranges;
 mod selects;
 mod shifts;
 

@@ -1,7 +1,7 @@
 //! Selects and writes by an index of the declared range.
 
-ghost use Rattle.std.specs.Prelude.{◌≡◌, ◌≤◌, ◌<◌, ◌+◌, ◌*◌, ◌/◌, ◌%◌, ◌^◌, ℕ, pos, negsuc, unsigned_abs, ◌-ℤ◌, if◌then◌else◌, [], ◌∷◌, length, map};
-ghost use Rattle.vs_four.specs.Selects.{Part, is_descending, range_length, least_index, greatest_index, below, place_of, indices_up, indices, select, write_places, write_select, one_bit};
+ghost use Rattle.std.specs.Prelude.{◌≡◌, ◌≤◌, ◌<◌, ◌+◌, ◌*◌, ◌/◌, ◌%◌, ◌^◌, ℕ, pos, negsuc, unsigned_abs, [], ◌∷◌, length, map};
+ghost use Rattle.vs_four.specs.Selects.{Part, range_length, below, place_of, indices_up, indices, select, write_places, write_select, one_bit};
 
 use crate::logic::without;
 use crate::numbers::{integer, is_known, repeated};
@@ -35,47 +35,6 @@ fn overlaid(under: Bits, over: Bits, start: i128) -> Bits
     }
 }
 
-/// Whether the range is descending, as `[7:0]` is (IEEE 1364-2005, 4.3), or has one bit.
-fn is_descending(range: Range) -> bool
-    ensures { result ≡ is_descending range }
-{
-    range.right <= range.left
-}
-
-/// The index of a part's least significant bit: its least index in a descending range, and its
-/// greatest in an ascending one.
-fn lowest_index(range: Range, base: i128, up: bool, width: u32) -> i128
-    requires some { 1 ≤ width }
-    requires at_most_64 { width ≤ 64 }
-    requires fits { unsigned_abs base < 2 ^ 64 }
-    ensures value { let p : Part = record { range = range; up = up; width = width } in result ≡ (if is_descending range then least_index p base else greatest_index p base) }
-    ensures fits { unsigned_abs result < 2 ^ 65 }
-{
-    let descending = is_descending(range);
-    let spread = width as i128 - 1;
-    if descending && !up {
-        base - spread
-    } else if !descending && up {
-        base + spread
-    } else {
-        base
-    }
-}
-
-/// The place of this index in the range, from that of the least significant bit up. It is negative
-/// or too great where the range has no such index.
-fn place(range: Range, index: i128) -> i128
-    requires { unsigned_abs index < 2 ^ 65 }
-    ensures value { result ≡ (if is_descending range then (index -ℤ pos range.right) else (pos range.right -ℤ index)) }
-    ensures fits { unsigned_abs result < 2 ^ 66 }
-{
-    if is_descending(range) {
-        index - range.right as i128
-    } else {
-        range.right as i128 - index
-    }
-}
-
 /// The place from which a part's places go up.
 fn start(range: Range, base: i128, up: bool, width: u32) -> i128
     requires some { 1 ≤ width }
@@ -84,7 +43,7 @@ fn start(range: Range, base: i128, up: bool, width: u32) -> i128
     ensures places { let p : Part = record { range = range; up = up; width = width } in map (place_of range) (indices p base) ≡ map (below (range_length range)) (indices_up result width) }
     ensures fits { unsigned_abs result < 2 ^ 66 }
 {
-    place(range, lowest_index(range, base, up, width))
+    range.place(range.lowest_index(base, up, width))
 }
 
 /// `a[base +: width]`, or `a[base -: width]` where not `up` (IEEE 1364-2005, 5.2.1): x for each index

@@ -7,7 +7,8 @@ use Rattle.vs_four.specs.declared.Bit4.TheVariants.{Zero, One, X}
 use Rattle.vs_lexer.specs.Literals.{number_bits}
 use Rattle.vs_grammar.specs.Grammars.{depth}
 use Rattle.vs_grammar.specs.Trees.{Declarator, PlainPorts, Name, Expr, Exprs, UnaryOp, BinaryOp, SystemFunction, Assign, Item, Module, Source, items_list}
-use Rattle.vs_grammar.specs.Trees.{UnaryOp as unary, BinaryOp as binary}
+use Rattle.vs_base.specs.declared.operators.UnaryOp.TheVariants as unary
+use Rattle.vs_base.specs.declared.operators.BinaryOp.TheVariants as binary
 use Rattle.vs_grammar.specs.Trees.{Alone, AlwaysItem, AndArm, AndExpr, AndGenerateArm, AndItem, AndStatement, AndTarget, Any, AsSigned, AsUnsigned, Assignment, AssignsItem, Between, Binary, BitAt, Brackets, ByName, ByOrder, Call, Case, CaseX, CaseZ, Choice, Clog2, Concatenation, DeclaredPorts, Downward, Empty, Enclosed, Exact, GenerateCase, GenerateFor, GenerateIf, GenvarsItem, If, Input, InstancesItem, Listed, Named, NamedTarget, Negedge, NoArm, NoBlock, NoBlockFallback, NoExpr, NoFallback, NoGenerateArm, NoItem, NoPorts, NoStatement, NoTarget, Number, Otherwise, OtherwiseBlock, Output, OutputReg, OutputWire, ParametersItem, Posedge, Reg, Replication, Sequence, SignalsItem, Slice, Star, Targeted, Unary, Unconnected, Upward, Whole, Wire}
 use Rattle.vs_grammar.specs.Spelled.{Spells, HasSyntaxFault}
 
@@ -314,6 +315,8 @@ unary_sign unary.ReduceOr = codes "|"
 unary_sign unary.ReduceNor = codes "~|"
 unary_sign unary.ReduceXor = codes "^"
 unary_sign unary.ReduceXnor = codes "~^"
+unary_sign unary.Signed = codes "$signed"
+unary_sign unary.Unsigned = codes "$unsigned"
 
 abbrev pub binary_sign : BinaryOp → List ℕ
 binary_sign binary.Add = codes "+"

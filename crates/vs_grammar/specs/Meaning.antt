@@ -9,8 +9,8 @@ use Rattle.vs_grammar.specs.Grammars.Tree.{leaf, both, former, latter, without, 
 use Rattle.vs_grammar.specs.Verilog.{◌⨾◌, ◌∣◌, verilog, t, r, phrase_of, separated, signed_range, wire_name, assignment, named_connection, number, unary_operator, product_operator, sum_operator, shift_operator, relation_operator, equality_operator, xor_operator, reg_item, wire_item, local_item, assign_item, always_item, genvar_item, overrides, instance_item, for_item, if_item, generate_case}
 use Rattle.vs_grammar.specs.Verilog.{Rule as rule}
 use Rattle.vs_grammar.specs.Trees.{Name, Literal, Expr, Exprs, Select, SliceKind, SystemFunction, UnaryOp, BinaryOp, Target, Targets, CaseKind, Statement, Fallback, Statements, CaseArms, RangeTree, SignalKind, Declarator, Signals, Setting, Parameters, Assign, Edge, Event, EventControl, NamedConnection, Connections, Instance, Item, GenerateBlock, BlockFallback, GenerateArms, Items, Header, Module, Source}
-use Rattle.vs_grammar.specs.Trees.{UnaryOp as unary}
-use Rattle.vs_grammar.specs.Trees.{BinaryOp as binary}
+use Rattle.vs_base.specs.declared.operators.UnaryOp.TheVariants as unary
+use Rattle.vs_base.specs.declared.operators.BinaryOp.TheVariants as binary
 use Rattle.vs_grammar.specs.Trees.{AsSigned, AsUnsigned, Clog2, Between, Upward, Downward, Number, Named, Unary, Binary, Choice, Concatenation, Replication, Call, Brackets, NoExpr, AndExpr, Whole, BitAt, Slice, NamedTarget, Targeted, NoTarget, AndTarget, Exact, CaseZ, CaseX, Empty, Assignment, If, Case, Sequence, NoFallback, Otherwise, NoStatement, AndStatement, NoArm, AndArm, Input, InputWire, Output, OutputWire, OutputReg, Reg, Wire, Any, Posedge, Negedge, Star, Listed, Unconnected, ByOrder, ByName, SignalsItem, ParametersItem, AssignsItem, AlwaysItem, GenvarsItem, InstancesItem, GenerateFor, GenerateIf, GenerateCase, NoBlock, Alone, Enclosed, NoBlockFallback, OtherwiseBlock, NoGenerateArm, AndGenerateArm, NoItem, AndItem, NoPorts, PlainPorts, DeclaredPorts}
 
 -- a derivation of a phrase in the grammar of design texts

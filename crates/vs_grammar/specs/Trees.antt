@@ -2,6 +2,15 @@
 -- field for it, a function below gives the place of its first token.
 use Rattle.std.specs.Prelude.{ℕ, Bool, List, [], ◌∷◌, Option}
 use Rattle.vs_four.specs.Logic.{BitList}
+-- the operators, of which the grammar writes no `Signed` or `Unsigned`, which are calls (5.1), the edges (9.7.2) and the kinds of `case` (9.5)
+pub use Rattle.vs_base.specs.declared.operators.UnaryOp.{UnaryOp}
+pub use Rattle.vs_base.specs.declared.operators.UnaryOp.TheVariants.{Plus, Minus, BitNot, LogicalNot, ReduceAnd, ReduceNand, ReduceOr, ReduceNor, ReduceXor, ReduceXnor, Signed, Unsigned}
+pub use Rattle.vs_base.specs.declared.operators.BinaryOp.{BinaryOp}
+pub use Rattle.vs_base.specs.declared.operators.BinaryOp.TheVariants.{Add, Subtract, Multiply, Divide, Remainder, BitAnd, BitOr, BitXor, BitXnor, Less, LessEqual, Greater, GreaterEqual, Equal, NotEqual, CaseEqual, CaseNotEqual, LogicalAnd, LogicalOr, ShiftLeft, ShiftRight, ShiftLeftArith, ShiftRightArith}
+pub use Rattle.vs_base.specs.declared.events.Edge.{Edge}
+pub use Rattle.vs_base.specs.declared.events.Edge.TheVariants.{Any, Posedge, Negedge}
+pub use Rattle.vs_base.specs.declared.events.CaseKind.{CaseKind}
+pub use Rattle.vs_base.specs.declared.events.CaseKind.TheVariants.{Exact, CaseZ, CaseX}
 
 -- ---- names and numbers
 
@@ -18,17 +27,6 @@ pub record Literal : Type 0 where
   pub sized : Bool
 
 -- ---- expressions (A.8)
-
--- `+ - ~ !` and the reductions `& ~& | ~| ^ ~^`, of which `^~` is the last too (5.1)
-pub data UnaryOp : Type 0 where
-  Plus Minus BitNot LogicalNot : UnaryOp
-  ReduceAnd ReduceNand ReduceOr ReduceNor ReduceXor ReduceXnor : UnaryOp
-
--- `+ - * / % & | ^ ~^`, of which `^~` is the last too, `< <= > >= == != === !==`, `&& || << >> <<< >>>` (5.1)
-pub data BinaryOp : Type 0 where
-  Add Subtract Multiply Divide Remainder BitAnd BitOr BitXor BitXnor : BinaryOp
-  Less LessEqual Greater GreaterEqual Equal NotEqual CaseEqual CaseNotEqual : BinaryOp
-  LogicalAnd LogicalOr ShiftLeft ShiftRight ShiftLeftArith ShiftRightArith : BinaryOp
 
 -- `$signed`, `$unsigned` (5.5) and `$clog2` (17.11)
 pub data SystemFunction : Type 0 where
@@ -78,10 +76,6 @@ mutual
   pub data Targets : Type 0 where
     NoTarget : Targets
     AndTarget : (target : Target) (rest : Targets) → Targets
-
--- `case`, `casez` and `casex` (9.5)
-pub data CaseKind : Type 0 where
-  Exact CaseZ CaseX : CaseKind
 
 mutual
   pub data Statement : Type 0 where
@@ -155,9 +149,6 @@ pub record Assign : Type 0 where
   pub e : Expr
 
 -- 9.7.2
-pub data Edge : Type 0 where
-  Any Posedge Negedge : Edge
-
 pub record Event : Type 0 where
   pub edge : Edge
   pub name : Name

@@ -2,7 +2,7 @@
 use Rattle.std.proofs.Common.{◌≡◌, ℕ, zero, suc, ◌≤◌, ◌<◌, false, List, [], ◌∷◌, ◌++◌, ◌==◌, refl, sym, ap, ◌∙◌, subst, length, arith, get_or}
 use Rattle.vs_design.specs.Footprints.{contains}
 use Rattle.vs_design.specs.Cycles.{AreApart, AreAtLeast}
-use Rattle.vs_level.proofs.Tests.{or_neither, or_false, contains-append, same_turned}
+use Rattle.vs_reads.proofs.Tests.{or_neither, or_false, contains-append, same_turned}
 
 pub append_false : (xs ys : List ℕ) (b : ℕ) → contains (xs ++ ys) b ≡ false → (contains xs b ≡ false) × (contains ys b ≡ false)
 append_false xs ys b h = or_neither (contains xs b) (contains ys b) (sym (contains-append xs ys b) ∙ h)

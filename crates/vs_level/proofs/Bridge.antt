@@ -27,8 +27,8 @@ use Rattle.vs_level.specs.declared.search.SortError.{SortError}
 use Rattle.vs_level.specs.declared.search.SortError.TheVariants.{Circle, Memory}
 use Rattle.vs_level.specs.SortError.{IsSortError, IsSortErrorOf}
 use Rattle.vs_level.specs.Feeders.{settles, is_writer, is_feeder, IsGraphOf}
-use Rattle.vs_level.proofs.Tests.{by_test, either_way, or_left, or_right, and_both, and_true, not_true, not_false, any_member, member_any}
-use Rattle.vs_level.proofs.Numbered.{number_at, at_is, number_below, process_there, place_is}
+use Rattle.vs_reads.proofs.Tests.{by_test, either_way, or_left, or_right, and_both, and_true, not_true, not_false, any_member, member_any}
+use Rattle.vs_reads.proofs.Numbered.{number_at, at_is, number_below, process_there, place_is}
 
 -- ---- what feeds what
 

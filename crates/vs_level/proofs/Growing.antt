@@ -11,8 +11,8 @@ use Rattle.vs_design.specs.Footprints.{contains, writes_of, reads_of, waits_of}
 use Rattle.vs_design.specs.Levels.{needs, at_number}
 use Rattle.vs_level.specs.Graph.{Feeding, is_node, is_fed_by}
 use Rattle.vs_level.specs.Feeders.{settles, is_writer, is_feeder, writers_at, AreWriters, IsGraphUpTo, with_node, with_other}
-use Rattle.vs_level.proofs.Tests.{by_test, either_way, contains-append, contains_more, any_same, any_test, below_same, below_other}
-use Rattle.vs_level.proofs.Numbered.{number_at}
+use Rattle.vs_reads.proofs.Tests.{by_test, either_way, contains-append, contains_more, any_same, any_test, below_same, below_other}
+use Rattle.vs_reads.proofs.Numbered.{number_at}
 
 same_other : (q p : ℕ) → (q == p) ≡ false → q ≡ p → ⊥
 same_other q p h e = either_way (q == p) (subst (λ m. (q == m) ≡ true) e (eq-eqb q q refl)) h

@@ -1,10 +1,6 @@
-pub mod Tests
 pub mod Apart
 pub mod Rings
 pub mod Steps
-pub mod Numbered
 pub mod Growing
 pub mod Settling
-pub mod Told
-pub mod Table
 pub mod Bridge

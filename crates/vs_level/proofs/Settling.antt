@@ -13,8 +13,9 @@ use Rattle.vs_flat.specs.Arena.{Arena}
 use Rattle.vs_flat.specs.Laws.{EachProcess}
 use Rattle.vs_flat.specs.Trees.{signal_at, tree_at, statement_at}
 use Rattle.vs_flat.specs.DesignOf.{event_of, kind_of, process_of, arena_signals, arena_trees, arena_statements, design_of}
-use Rattle.vs_level.specs.Feeders.{is_edge_event, settles}
-use Rattle.vs_level.proofs.Numbered.{number_at}
+use Rattle.vs_level.specs.Feeders.{settles}
+use Rattle.vs_flat.specs.Events.{is_edge_event}
+use Rattle.vs_reads.proofs.Numbered.{number_at}
 
 abbrev pub is_clocked_kind : Kind → Bool
 is_clocked_kind (K.Assign target e port) = false

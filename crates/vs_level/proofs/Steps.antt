@@ -8,7 +8,7 @@ use Rattle.vs_level.specs.declared.search.Mark.{Mark}
 use Rattle.vs_level.specs.declared.search.Mark.TheVariants.{Fresh, Open, Placed}
 use Rattle.vs_level.specs.Graph.{Feeding, feeders_at, is_node, is_fed_by, IsLinked, IsRing, IsClosed, IsPlaced, IsSorted}
 use Rattle.vs_level.specs.Search.{Progress, mark_at, left_at, is_open, is_placed, first_of, rest_of, opened, with_placed, looked, IsWay, IsSearch, weight, effort, has_met, KeepsMet, IsUpTo}
-use Rattle.vs_level.proofs.Tests.{by_test, either_way, or_left, or_right, place_of, member_at, contains_head, contains_tail}
+use Rattle.vs_reads.proofs.Tests.{by_test, either_way, or_left, or_right, place_of, member_at, contains_head, contains_tail}
 use Rattle.vs_level.proofs.Apart.{apart_left}
 
 -- the path is this process and the rest of it

@@ -1,16 +1,10 @@
 -- The graph of a design: its assigns and combinational blocks, and what feeds each.
 use Rattle.std.specs.Prelude.{◌≡◌, ℕ, ◌<◌, Bool, not, ◌&&◌, List, [], ◌∷◌, ◌++◌, length, slice_index_or, nat_lt}
 use Rattle.std.specs.List.{list_any}
-use Rattle.vs_design.specs.Designs.{is_edge, is_clocked, Design}
+use Rattle.vs_design.specs.Designs.{is_clocked, Design}
 use Rattle.vs_design.specs.Footprints.{contains, writes_of}
 use Rattle.vs_design.specs.Levels.{needs, at_number}
-use Rattle.vs_flat.specs.declared.processes.Event.{Event}
-use Rattle.vs_flat.specs.Operators.{edge_of}
 use Rattle.vs_level.specs.Graph.{Feeding, is_node, is_fed_by}
-
--- an edge
-abbrev pub is_edge_event : Event → Bool
-is_edge_event e = is_edge (edge_of e.edge)
 
 -- the process of this number is an assign or a combinational block
 abbrev pub settles : Design → ℕ → Bool

@@ -7,20 +7,14 @@ ghost use Rattle.vs_design.specs.Footprints.{contains};
 ghost use Rattle.vs_flat.specs.DesignOf.{design_of};
 ghost use Rattle.vs_flat.specs.Lawful.{IsLawful};
 ghost use Rattle.vs_reads.specs.Footprint.{footprints_of};
-ghost use Rattle.vs_level.specs.Feeders.{settles, is_edge_event, is_feeder, writers_at, AreWriters, IsGraphOf};
+ghost use Rattle.vs_level.specs.Feeders.{settles, is_feeder, writers_at, AreWriters, IsGraphOf};
 
 use crate::graph::Graph;
 use crate::writers::Writers;
 use std::alloc::{AllocError, Global};
-use vs_flat::{Edge, Event, Flat, Kind, List, count_bits, trees_law};
+use vs_base::List;
+use vs_flat::{Flat, Kind, count_bits, has_edge, trees_law};
 use vs_reads::{Footprints, footprint_law};
-
-/// Whether an edge is among the events of a block (IEEE 1364-2005, 9.7.2).
-fn has_edge(events: &[Event]) -> bool
-    ensures { result ≡ list_any is_edge_event events.now }
-{
-    events.iter().any(|e| e.edge != Edge::Any)
-}
 
 /// Whether a process is an assign or a combinational block.
 fn is_settling(flat: &Flat, p: u32) -> bool

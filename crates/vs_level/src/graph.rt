@@ -2,7 +2,7 @@
 
 use std::alloc::{AllocError, Global};
 use std::marker::Model;
-use vs_flat::List;
+use vs_base::List;
 
 /// Which processes are to be put in order, and for each process the list of those that feed it.
 #[derive(Drop)]

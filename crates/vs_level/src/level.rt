@@ -3,7 +3,6 @@
 ghost use Rattle.std.specs.Prelude.{◌≡◌, true, IfOk, IfErr, OnOk};
 ghost use Rattle.vs_design.specs.Levels.{is_level_order, has_no_cycle};
 ghost use Rattle.vs_flat.specs.DesignOf.{design_of};
-ghost use Rattle.vs_flat.specs.Lawful.{IsLawful};
 ghost use Rattle.vs_reads.specs.Footprint.{footprints_of};
 ghost use Rattle.vs_level.specs.Level.{IsLevelError};
 ghost use Rattle.vs_level.specs.SortError.{IsSortErrorOf};
@@ -15,7 +14,7 @@ use std::alloc::Global;
 use vs_design::cycle_law;
 use vs_flat::{Flat, trees_law};
 use vs_reads::Footprints;
-use vs_width::Typed;
+use vs_typed::Typed;
 
 /// The error of a circle in the graph of a design.
 fn error_of(flat: &Flat, error: SortError) -> LevelError

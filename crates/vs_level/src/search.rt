@@ -1,10 +1,10 @@
 //! The search for an order of the nodes of a graph.
 
-ghost use Rattle.std.specs.Prelude.{◌≡◌, ℕ, ◌+◌, ◌<◌, [], true, length, reverse, IfOk, IfErr, OnOk, Some};
+ghost use Rattle.std.specs.Prelude.{◌≡◌, ◌<◌, [], true, length, reverse, IfOk, IfErr, OnOk, Some};
 ghost use Rattle.vs_design.specs.Footprints.{contains};
 ghost use Rattle.vs_level.specs.declared.search.Mark.TheVariants.{Fresh, Open};
 ghost use Rattle.vs_level.specs.SortError.{IsSortError};
-ghost use Rattle.vs_level.specs.Graph.{feeders_at, is_node, is_fed_by, IsClosed, IsSorted};
+ghost use Rattle.vs_level.specs.Graph.{is_node, IsClosed, IsSorted};
 
 use crate::graph::Graph;
 use crate::turn::least_first;
@@ -71,7 +71,7 @@ impl Model for Search {
 }
 
 impl Search {
-    ghost use Rattle.vs_level.specs.Search.{IsSearch, IsUpTo, KeepsMet, effort, first_of, has_met, left_at, looked, mark_at, opened, with_placed};
+    ghost use Rattle.vs_level.specs.Search.{IsSearch, IsUpTo, KeepsMet, effort, first_of, left_at, looked, mark_at, opened, with_placed};
 
     /// A search that hasn't met any process.
     fn begin(alloc: Global, graph: &Graph) -> Result<Search, AllocError>

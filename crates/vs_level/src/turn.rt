@@ -1,6 +1,6 @@
 //! Rings of processes.
 
-ghost use Rattle.std.specs.Prelude.{◌≡◌, ℕ, ◌<◌, ◌≤◌, length, slice_index, vec_len};
+ghost use Rattle.std.specs.Prelude.{ℕ, ◌<◌, ◌≤◌, length, slice_index, vec_len};
 ghost use Rattle.vs_level.specs.Graph.{Feeding, IsRing, IsCircle};
 
 /// The place of the least of some numbers.

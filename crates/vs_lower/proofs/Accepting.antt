@@ -24,18 +24,17 @@ use Rattle.vs_flat.specs.DesignOf.{arena_trees, event_of}
 use Rattle.vs_flat.specs.Lawful.{IsLawful}
 use Rattle.vs_flat.specs.Laws.{AssignTargets, ProcessNames}
 use Rattle.vs_flat.specs.Named.{all_below, kind_names_below}
-use Rattle.vs_flat.specs.Operators.{edge_of}
 use Rattle.vs_flat.specs.Targets.{target_of}
 use Rattle.vs_flat.specs.Trees.{target_tree, tree_at}
 use Rattle.vs_code.specs.Calls.{length_of}
 use Rattle.vs_program.specs.Lowered.{IsLayout, Layout, home, process_stores}
-use Rattle.vs_lower.specs.Coded.{Coding}
+use Rattle.vs_values.specs.Coded.{Coding}
 use Rattle.vs_lower.specs.Processed.{HasKindNames, HasShadows, IsBlockReady, IsContinuousReady}
 use Rattle.vs_lower.specs.Stated.{AreAmong}
 use Rattle.vs_lower.proofs.Placing.{by_test}
 use Rattle.vs_lower.proofs.Restoring.{left_among, right_among}
-use Rattle.vs_lower.proofs.Unary.{not_true}
-use Rattle.vs_lower.proofs.Values.{both_true}
+use Rattle.vs_values.proofs.Unary.{not_true}
+use Rattle.vs_values.proofs.Values.{both_true}
 
 -- ---- what holds of each process
 
@@ -221,9 +220,9 @@ shadows_among count first shadows these those l among h = record {
 }
 
 -- a block with an edge is clocked
-pub edges_are : (signal : ℕ → E.Signal) (events : List F.Event) → list_any has_edge (map (event_of signal) events) ≡ list_any (λ (e : F.Event). is_edge (edge_of e.edge)) events
+pub edges_are : (signal : ℕ → E.Signal) (events : List F.Event) → list_any has_edge (map (event_of signal) events) ≡ list_any (λ (e : F.Event). is_edge e.edge) events
 edges_are signal [] = refl
-edges_are signal (e ∷ es) = ap (λ q. is_edge (edge_of e.edge) || q) (edges_are signal es)
+edges_are signal (e ∷ es) = ap (λ q. is_edge e.edge || q) (edges_are signal es)
 
 -- ---- what the lowering of each kind needs
 

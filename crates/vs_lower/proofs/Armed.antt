@@ -19,27 +19,27 @@ use Rattle.vs_flat.specs.Arena.{Arena}
 use Rattle.vs_flat.specs.Trees.{arms_tree, branch}
 use Rattle.vs_kern_select.specs.declared.costs.Kernel.TheVariants as S
 use Rattle.vs_code.specs.declared.kernels.AnyKernel.TheVariants.{Select}
-use Rattle.vs_length.specs.Bodies.{EachArmNames, body_of}
-use Rattle.vs_length.specs.Nodes.{EachBelow, tree_of}
+use Rattle.vs_shape.specs.Bodies.{EachArmNames, body_of}
+use Rattle.vs_shape.specs.Nodes.{EachBelow, tree_of}
 use Rattle.vs_code.specs.Calls.{Call, call_cost, length_of}
 use Rattle.vs_lower.specs.Branched.{written}
-use Rattle.vs_lower.specs.Coded.{Coding}
-use Rattle.vs_lower.specs.Done.{placed}
+use Rattle.vs_values.specs.Coded.{Coding}
+use Rattle.vs_values.specs.Environments.{placed}
 use Rattle.vs_lower.specs.Joined.{IsJoined, differing_bits, join_args}
-use Rattle.vs_lower.specs.Made.{IsCallable}
-use Rattle.vs_lower.specs.Ready.{IsStatementReady}
-use Rattle.vs_lower.specs.Stated.{AddsArm, AddsArms, AddsBranch, AddsCases, AddsStatement, AreAmong, AreArmsReady, AreInOrder, IsArmReady}
+use Rattle.vs_values.specs.Made.{IsCallable}
+use Rattle.vs_lower.specs.Stated.{IsStatementReady, AddsArm, AddsArms, AddsBranch, AddsCases, AddsStatement, AreAmong, AreArmsReady, AreInOrder, IsArmReady}
 use Rattle.vs_lower.specs.Tested.{AddsTests}
-use Rattle.vs_lower.proofs.Adding.{env_more}
+use Rattle.vs_values.proofs.Adding.{env_more}
 use Rattle.vs_lower.proofs.Branched.{statement_kept, written_long}
 use Rattle.vs_lower.proofs.Branching.{CanJoin, put_back}
 use Rattle.vs_lower.proofs.Casing.{adds_default, adds_arm_now, adds_arm_later}
 use Rattle.vs_lower.proofs.Distinct.{distinct_most}
 use Rattle.vs_lower.proofs.Homeward.{distinct_length, rising_once}
 use Rattle.vs_lower.proofs.Joining.{neither, picked, picked_below}
-use Rattle.vs_lower.proofs.Placing.{placed_all, placed_length, placed_other}
+use Rattle.vs_lower.proofs.Placing.{placed_all, placed_other}
+use Rattle.vs_values.proofs.Environments.{placed_length}
 use Rattle.vs_lower.proofs.Restoring.{IsKept, fork, join_callable, joins, left_among, right_among, outside}
-use Rattle.vs_lower.proofs.Values.{both_true}
+use Rattle.vs_values.proofs.Values.{both_true}
 
 -- ---- lists
 

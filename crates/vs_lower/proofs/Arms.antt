@@ -6,11 +6,13 @@ use Rattle.vs_four.specs.Logic.{BitList, truth}
 use Rattle.vs_four.specs.Tables.{is_one}
 use Rattle.vs_net.specs.Network as N
 use Rattle.vs_code.specs.Calls.{Call, State, AreCalled}
-use Rattle.vs_lower.specs.Added.{IsEnv, Holds}
-use Rattle.vs_lower.specs.Done.{placed, IsDone, IsCondition}
-use Rattle.vs_lower.proofs.Lists.{range_below, range_from}
-use Rattle.vs_lower.proofs.Adding.{called_parts, one_called, holds_after, vector_stays, added_more, env_more}
-use Rattle.vs_lower.proofs.Placing.{placed_length, placed_all, placed_other, placed_from}
+use Rattle.vs_values.specs.Added.{IsEnv, Holds}
+use Rattle.vs_values.specs.Environments.{placed}
+use Rattle.vs_lower.specs.Done.{IsDone, IsCondition}
+use Rattle.vs_values.proofs.Lists.{range_below, range_from}
+use Rattle.vs_values.proofs.Adding.{called_parts, one_called, holds_after, vector_stays, added_more, env_more}
+use Rattle.vs_values.proofs.Environments.{placed_length}
+use Rattle.vs_lower.proofs.Placing.{placed_all, placed_other, placed_from}
 use Rattle.vs_lower.proofs.Joining.{IsBranched, IsJoin, join_call, join_added, join_values, joined_value, join_from, joined_later, from_both, by_bool, either_run, taken_writes, taken_updates, picked_below, neither, from_more, later_more}
 
 branched_after : (now later tv : List ℕ) (sv : N.State → BitList) (m : ℕ) (cond : N.State → BitList) (cc : List Call) (tc : List ℕ) (n cost : ℕ)

@@ -10,11 +10,13 @@ use Rattle.vs_design.specs.Statements.{Target, Whole, target_width}
 use Rattle.vs_design.specs.Bodies.{effect_of, assignment_writes, target_writes}
 use Rattle.vs_design.specs.Footprints.{target_bits}
 use Rattle.vs_code.specs.Calls.{Call, State}
-use Rattle.vs_lower.specs.Added.{IsEnv, Holds, AreValues, vectors}
-use Rattle.vs_lower.specs.Done.{placed, IsDone, index_values, IsWritten, IsNew}
+use Rattle.vs_values.specs.Added.{IsEnv, Holds, AreValues, vectors, IsNew}
+use Rattle.vs_values.specs.Environments.{placed}
+use Rattle.vs_lower.specs.Done.{IsDone, index_values, IsWritten}
 use Rattle.vs_lower.proofs.Joining.{IsLaterSlot}
-use Rattle.vs_lower.proofs.Adding.{called_parts, holds_after, added_none, added_more, values_as, env_more}
-use Rattle.vs_lower.proofs.Placing.{write_all_last, placed_length, placed_all, placed_holds, placed_other, placed_from}
+use Rattle.vs_values.proofs.Adding.{called_parts, holds_after, added_none, added_more, values_as, env_more}
+use Rattle.vs_lower.proofs.Placing.{write_all_last, placed_all, placed_holds, placed_other, placed_from}
+use Rattle.vs_values.proofs.Environments.{placed_length}
 use mathlib.Core.Path.{fun_ext}
 
 -- ---- what a target's value is written to

@@ -16,21 +16,22 @@ use Rattle.vs_design.specs.Sizes.{distinct}
 use Rattle.vs_design.specs.Statements.{CaseKind, Statement, Empty, Assignment, Then, If, Case, Arms, Arm, Default}
 use Rattle.vs_code.specs.Calls.{Call, IsCall, call_cost, length_of}
 use Rattle.vs_program.specs.Lowered.{IsLayout, Layout, home}
-use Rattle.vs_lower.specs.Coded.{Coding}
-use Rattle.vs_lower.specs.Copies.{copies, homes, home_copies, moved}
-use Rattle.vs_lower.specs.Done.{IsNew, IsStatementDone}
+use Rattle.vs_values.specs.Coded.{Coding}
+use Rattle.vs_lower.specs.Copies.{copies, home_copies, moved}
+use Rattle.vs_values.specs.Environments.{homes}
+use Rattle.vs_values.specs.Added.{IsNew}
+use Rattle.vs_lower.specs.Done.{IsStatementDone}
 use Rattle.vs_lower.specs.Processed.{AddsProcess, HasShadows, IsBlockReady}
-use Rattle.vs_lower.specs.Ready.{IsStatementReady}
-use Rattle.vs_lower.specs.Stated.{AddsStatement}
-use Rattle.vs_lower.specs.Valued.{IsSource}
+use Rattle.vs_lower.specs.Stated.{IsStatementReady, AddsStatement}
+use Rattle.vs_values.specs.Valued.{IsSource}
 use Rattle.vs_lower.proofs.Branching.{differing_in, still_once}
-use Rattle.vs_lower.proofs.Copying.{copies_are, map_at}
+use Rattle.vs_lower.proofs.Copying.{copies_are}
+use Rattle.vs_values.proofs.Lists.{map_at, map_agree}
 use Rattle.vs_lower.proofs.Differing.{bits_within, bits_alike}
 use Rattle.vs_lower.proofs.Distinct.{Once, distinct_most}
 use Rattle.vs_lower.proofs.Homeward.{CanGoHome, all_in, from_homes, rising_once}
 use Rattle.vs_lower.proofs.Homing.{home_at, home_calls, member_at, once_places, picked_homes}
 use Rattle.vs_lower.proofs.Joining.{picked, picked_below}
-use Rattle.vs_lower.proofs.Lists.{map_agree}
 use Rattle.vs_lower.proofs.Placing.{by_test}
 use Rattle.vs_lower.proofs.Processes.{clocked_lowered, comb_lowered, copies_cost, homes_env}
 

@@ -10,9 +10,10 @@ use Rattle.vs_design.specs.Bodies.{body, arms_body}
 use Rattle.vs_design.specs.Footprints.{statement_bits, arms_bits}
 use Rattle.vs_design.specs.Sizes.{distinct, weight, statement_weight, arms_weight, items_weight}
 use Rattle.vs_code.specs.Calls.{Call}
-use Rattle.vs_lower.specs.Added.{IsEnv}
-use Rattle.vs_lower.specs.Valued.{IsValue}
-use Rattle.vs_lower.specs.Done.{placed, IsDone, IsCondition, IsStatementDone}
+use Rattle.vs_values.specs.Added.{IsEnv}
+use Rattle.vs_values.specs.Valued.{IsValue}
+use Rattle.vs_values.specs.Environments.{placed}
+use Rattle.vs_lower.specs.Done.{IsDone, IsCondition, IsStatementDone}
 use Rattle.vs_lower.proofs.Joining.{IsJoin, join_call, condition_is, done_none, done_then, done_if_now, done_if_later, done_if_same}
 use Rattle.vs_lower.proofs.Arms.{done_arm_now, done_arm_later, done_arm_same}
 use Rattle.vs_lower.specs.Cases.{matches_of}

@@ -9,17 +9,16 @@ use Rattle.vs_design.specs.Footprints.{statement_bits}
 use Rattle.vs_design.specs.Statements.{Statement, If}
 use Rattle.vs_code.specs.Calls.{Call, call_cost, length_of}
 use Rattle.vs_lower.specs.Branched.{unwritten, written}
-use Rattle.vs_lower.specs.Coded.{Coding}
+use Rattle.vs_values.specs.Coded.{Coding}
 use Rattle.vs_lower.specs.Joined.{IsJoined, differing_bits}
-use Rattle.vs_lower.specs.Ready.{IsStatementReady}
-use Rattle.vs_lower.specs.Stated.{AddsStatement, AreAmong, AreInOrder}
-use Rattle.vs_lower.specs.Valued.{AddsValue}
+use Rattle.vs_lower.specs.Stated.{IsStatementReady, AddsStatement, AreAmong, AreInOrder}
+use Rattle.vs_values.specs.Valued.{AddsValue}
 use Rattle.vs_lower.proofs.Branching.{CanJoin}
 use Rattle.vs_lower.proofs.Conditional.{adds_if_now, adds_if_later}
 use Rattle.vs_lower.proofs.Joining.{picked}
-use Rattle.vs_lower.proofs.Readying.{fits_length}
+use Rattle.vs_values.proofs.Readying.{fits_length}
 use Rattle.vs_lower.proofs.Restoring.{IsKept, fork, joins}
-use Rattle.vs_lower.proofs.Values.{both_true}
+use Rattle.vs_values.proofs.Values.{both_true}
 
 -- what a statement leaves of the written environment
 pub statement_kept : (clocked : Bool) (now later : List ℕ) (old new : Coding) (st : Statement) (now1 later1 : List ℕ) → AddsStatement now later old new st now1 later1

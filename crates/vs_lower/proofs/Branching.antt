@@ -10,16 +10,17 @@ use Rattle.vs_kern_select.specs.declared.costs.Kernel.TheVariants as S
 use Rattle.vs_code.specs.declared.kernels.AnyKernel.TheVariants.{Select}
 use Rattle.vs_code.specs.Kernels.{takes}
 use Rattle.vs_code.specs.Calls.{IsCall, call_cost, length_of}
-use Rattle.vs_lower.specs.Coded.{Coding}
-use Rattle.vs_lower.specs.Done.{placed}
+use Rattle.vs_values.specs.Coded.{Coding}
+use Rattle.vs_values.specs.Environments.{placed}
 use Rattle.vs_lower.specs.Joined.{differing_bits}
-use Rattle.vs_lower.specs.Made.{IsCallable}
-use Rattle.vs_lower.proofs.Adding.{is_fresh_call}
+use Rattle.vs_values.specs.Made.{IsCallable}
+use Rattle.vs_values.proofs.Adding.{is_fresh_call}
 use Rattle.vs_lower.proofs.Differing.{bits_within, bits_alike}
 use Rattle.vs_lower.proofs.Distinct.{Once, distinct_most}
 use Rattle.vs_lower.proofs.Joining.{picked, picked_below, IsJoin, join_call}
-use Rattle.vs_lower.proofs.Placing.{by_test, placed_length}
-use Rattle.vs_lower.proofs.Unary.{not_true}
+use Rattle.vs_lower.proofs.Placing.{by_test}
+use Rattle.vs_values.proofs.Environments.{placed_length}
+use Rattle.vs_values.proofs.Unary.{not_true}
 
 -- ---- an environment put back
 

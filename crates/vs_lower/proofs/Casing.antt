@@ -10,8 +10,8 @@ use Rattle.vs_design.specs.Bodies.{arms_body}
 use Rattle.vs_design.specs.Footprints.{contains, statement_bits, arms_bits}
 use Rattle.vs_design.specs.Sizes.{distinct, arms_weight}
 use Rattle.vs_code.specs.Calls.{Call}
-use Rattle.vs_lower.specs.Added.{IsEnv}
-use Rattle.vs_lower.specs.Coded.{Coding}
+use Rattle.vs_values.specs.Added.{IsEnv}
+use Rattle.vs_values.specs.Coded.{Coding}
 use Rattle.vs_lower.specs.Done.{IsDone, IsStatementDone}
 use Rattle.vs_lower.specs.Joined.{IsJoined, differing_bits}
 use Rattle.vs_lower.specs.Tested.{AddsTests}

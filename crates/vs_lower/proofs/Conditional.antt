@@ -12,22 +12,22 @@ use Rattle.vs_design.specs.Rules.{mixed_in}
 use Rattle.vs_kern_select.specs.declared.costs.Kernel.TheVariants as S
 use Rattle.vs_code.specs.declared.kernels.AnyKernel.TheVariants.{Select}
 use Rattle.vs_code.specs.Calls.{Call, call_cost, length_of}
-use Rattle.vs_lower.specs.Added.{fresh_call}
-use Rattle.vs_lower.specs.Coded.{Coding}
+use Rattle.vs_values.specs.Added.{fresh_call}
+use Rattle.vs_values.specs.Coded.{Coding}
 use Rattle.vs_lower.specs.Done.{IsStatementDone}
 use Rattle.vs_lower.specs.Joined.{IsJoined, differing_bits, join_args}
-use Rattle.vs_lower.specs.Ready.{IsReady, IsStatementReady}
-use Rattle.vs_lower.specs.Valued.{AddsValue}
-use Rattle.vs_lower.proofs.Adding.{env_more}
+use Rattle.vs_values.specs.Ready.{IsReady}
+use Rattle.vs_lower.specs.Stated.{IsStatementReady, AddsStatement}
+use Rattle.vs_values.specs.Valued.{AddsValue}
+use Rattle.vs_values.proofs.Adding.{env_more}
 use Rattle.vs_lower.proofs.Bodies.{if_done_now, if_done_later, if_done_same}
 use Rattle.vs_lower.proofs.Branching.{CanJoin}
 use Rattle.vs_lower.proofs.Differing.{bits_alike, slots_are}
 use Rattle.vs_lower.proofs.Joining.{picked, join_call, neither}
 use Rattle.vs_lower.proofs.Placing.{by_test}
-use Rattle.vs_lower.proofs.Readying.{fits_length}
-use Rattle.vs_lower.specs.Stated.{AddsStatement}
-use Rattle.vs_lower.proofs.Unary.{not_true}
-use Rattle.vs_lower.proofs.Values.{both_true}
+use Rattle.vs_values.proofs.Readying.{fits_length}
+use Rattle.vs_values.proofs.Unary.{not_true}
+use Rattle.vs_values.proofs.Values.{both_true}
 
 -- ---- what its parts need
 

@@ -1,13 +1,11 @@
 -- The copies at the end of a process are calls.
-use Rattle.std.proofs.Common.{◌≡◌, ◌≢◌, ℕ, zero, suc, ◌<◌, ◌≤◌, ◌^◌, Bool, true, ◌&&◌, ◌==◌, nat_le, List, [], ◌∷◌, map, length, slice_index, ap, ◌∙◌, refl, arith, ◌⊎◌}
+use Rattle.std.proofs.Common.{◌≡◌, ℕ, ◌<◌, ◌≤◌, ◌^◌, Bool, true, ◌&&◌, ◌==◌, nat_le, List, [], ◌∷◌, length, ap, ◌∙◌, arith}
 use Rattle.std.specs.List.{All}
-use Rattle.std.proofs.lemmas.List.{length-map}
-use Rattle.std.proofs.lemmas.List.Elements.{All-nil, All-cons, All-head, All-tail, All-weaker, All-map}
-use Rattle.vs_net.specs.Network as N
+use Rattle.std.proofs.lemmas.List.Elements.{All-nil, All-cons}
 use Rattle.vs_plane.specs.Kernels.{AreDifferent, AreApart, IsArgument}
 use Rattle.vs_code.specs.Calls.{IsCall}
-use Rattle.vs_lower.specs.Copies.{copy_call, copies}
-use Rattle.std.proofs.lemmas.List.FromFn.{length-range_with_len}
+use Rattle.vs_values.specs.Added.{copy_call}
+use Rattle.vs_lower.specs.Copies.{copies}
 
 le_true : (a b : ℕ) → a ≤ b → nat_le a b ≡ true
 le_true a b h = grind arith
@@ -39,8 +37,3 @@ copies_are (s ∷ from) to long short below_from below_to differ apart =
         scratch_apart = record { differ = λ j k l m e. absurd (omega arith) };
       }) (All-nil (λ arg. IsArgument (2 ^ 32) arg to []));
     }) (All-nil IsCall)
-
-pub map_at : (f : ℕ → ℕ) (xs : List ℕ) (k : ℕ) → k < length xs → slice_index (map f xs) k ≡ f (slice_index xs k)
-map_at f [] k l = absurd (omega arith)
-map_at f (x ∷ xs) zero l = refl
-map_at f (x ∷ xs) (suc k) l = map_at f xs k (omega arith)

@@ -21,11 +21,12 @@ use Rattle.vs_design.specs.Values.{constant_value, count_from}
 use Rattle.vs_program.specs.Lowered.{Layout, home}
 use Rattle.vs_code.specs.Calls.{Call, IsCall, call_cost, length_of}
 use Rattle.vs_lower.specs.Assigned.{AddsRun, IsAssignReady, assign_most}
-use Rattle.vs_lower.specs.Coded.{Coding}
-use Rattle.vs_lower.specs.Copies.{copies, homes, moved, home_copies}
+use Rattle.vs_values.specs.Coded.{Coding}
+use Rattle.vs_lower.specs.Copies.{copies, moved, home_copies}
+use Rattle.vs_values.specs.Environments.{homes}
 use Rattle.vs_lower.specs.Done.{IsDone}
 use Rattle.vs_lower.specs.Processed.{AddsProcess, IsContinuousReady}
-use Rattle.vs_lower.specs.Valued.{IsSource}
+use Rattle.vs_values.specs.Valued.{IsSource}
 use Rattle.vs_lower.proofs.Branching.{differing_in, still_once}
 use Rattle.vs_lower.proofs.Differing.{bits_within, bits_alike}
 use Rattle.vs_lower.proofs.Distinct.{Once, distinct_most}
@@ -34,8 +35,8 @@ use Rattle.vs_lower.proofs.Joining.{picked}
 use Rattle.vs_lower.proofs.Partwise.{constant_part_bits}
 use Rattle.vs_lower.proofs.Placing.{by_test}
 use Rattle.vs_lower.proofs.Processes.{assign_lowered, copies_cost, homes_env}
-use Rattle.vs_lower.proofs.Unary.{not_true}
-use Rattle.vs_lower.proofs.Values.{both_true}
+use Rattle.vs_values.proofs.Unary.{not_true}
+use Rattle.vs_values.proofs.Values.{both_true}
 
 -- ---- a target with constant selects has at most as many bits as its length
 

@@ -12,13 +12,15 @@ use Rattle.vs_code.specs.Calls.{IsCall, lengths_of}
 use Rattle.vs_design.specs.Footprints.{contains}
 use Rattle.vs_design.specs.Sizes.{distinct}
 use Rattle.vs_program.specs.Lowered.{home}
-use Rattle.vs_lower.specs.Copies.{copy_call, copies, homes, moved, home_copies}
-use Rattle.vs_lower.specs.Valued.{IsSource}
+use Rattle.vs_values.specs.Added.{copy_call}
+use Rattle.vs_lower.specs.Copies.{copies, moved, home_copies}
+use Rattle.vs_values.specs.Environments.{homes}
+use Rattle.vs_values.specs.Valued.{IsSource}
 use Rattle.vs_lower.proofs.Branching.{differs, differing_in, still_once}
 use Rattle.vs_lower.proofs.Differing.{bits_within}
 use Rattle.vs_lower.proofs.Distinct.{Once, distinct_most}
 use Rattle.vs_lower.proofs.Joining.{picked}
-use Rattle.vs_lower.proofs.Lists.{range_at}
+use Rattle.vs_values.proofs.Lists.{range_at}
 use Rattle.vs_lower.proofs.Placing.{by_test}
 
 -- ---- lists

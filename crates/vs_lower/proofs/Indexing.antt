@@ -13,16 +13,16 @@ use Rattle.vs_design.specs.Statements.{Target, Whole, PartOf}
 use Rattle.vs_design.specs.TreeLaws.{ConstantValue}
 use Rattle.vs_four.specs.Selects.{Part}
 use Rattle.vs_lower.specs.declared.leaves.Leaf.{Leaf}
-use Rattle.vs_lower.specs.Added.{IsEnv, AreValues}
-use Rattle.vs_lower.specs.Coded.{Coding}
+use Rattle.vs_values.specs.Added.{IsEnv, AreValues}
+use Rattle.vs_values.specs.Coded.{Coding}
 use Rattle.vs_lower.specs.Done.{index_values}
-use Rattle.vs_lower.specs.Ready.{IsReady}
-use Rattle.vs_lower.specs.Valued.{AddsValue}
+use Rattle.vs_values.specs.Ready.{IsReady}
+use Rattle.vs_values.specs.Valued.{AddsValue}
 use Rattle.vs_lower.specs.Written.{HasRoom, IsIndexed, AreIndexed, index_weight, AddsIndex, AddsIndices}
-use Rattle.vs_lower.proofs.Adding.{values_none, values_more, values_as, env_more}
+use Rattle.vs_values.proofs.Adding.{values_none, values_more, values_as, env_more}
 use Rattle.vs_lower.proofs.Partwise.{fit_part}
-use Rattle.vs_lower.proofs.Readying.{stores_of, two_added}
-use Rattle.vs_lower.proofs.Taking.{index_is}
+use Rattle.vs_values.proofs.Readying.{stores_of, two_added}
+use Rattle.vs_values.proofs.Taking.{index_is}
 
 -- ---- of one part
 

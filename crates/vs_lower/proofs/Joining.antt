@@ -11,11 +11,13 @@ use Rattle.vs_design.specs.Footprints.{contains}
 use Rattle.vs_kern_select.specs.declared.costs.Kernel.TheVariants as S
 use Rattle.vs_code.specs.declared.kernels.AnyKernel.TheVariants.{Select}
 use Rattle.vs_code.specs.Calls.{Call, State, IsCall, IsCalled, AreCalled, call_cost}
-use Rattle.vs_lower.specs.Added.{AreAdded, IsEnv, Holds, AreValues, fresh_call}
-use Rattle.vs_lower.specs.Done.{placed, IsDone, IsCondition, IsNew}
-use Rattle.vs_lower.proofs.Lists.{range_below, range_from}
-use Rattle.vs_lower.proofs.Adding.{called_parts, one_called, holds_after, vector_stays, added_none, added_more, added_call, env_more}
-use Rattle.vs_lower.proofs.Placing.{by_test, write_all-append, flatten-append, placed_length, placed_all, placed_holds, placed_other, placed_from, written_as}
+use Rattle.vs_values.specs.Added.{AreAdded, IsEnv, Holds, AreValues, fresh_call, IsNew}
+use Rattle.vs_values.specs.Environments.{placed}
+use Rattle.vs_lower.specs.Done.{IsDone, IsCondition}
+use Rattle.vs_values.proofs.Lists.{range_below, range_from}
+use Rattle.vs_values.proofs.Adding.{called_parts, one_called, holds_after, vector_stays, added_none, added_more, added_call, env_more}
+use Rattle.vs_lower.proofs.Placing.{by_test, write_all-append, flatten-append, placed_all, placed_holds, placed_other, placed_from, written_as}
+use Rattle.vs_values.proofs.Environments.{placed_length}
 
 -- ---- no statement
 

@@ -15,12 +15,11 @@ use Rattle.vs_design.specs.Statements.{CaseKind, Exact, CaseZ, CaseX, case_match
 use Rattle.vs_design.specs.Bodies.{is_taken}
 use Rattle.vs_code.specs.Kernels.{operator_of, takes, room_of}
 use Rattle.vs_code.specs.Calls.{Call, IsCall, call_cost}
-use Rattle.vs_lower.specs.Added.{IsEnv, Holds, AreValues, fresh_call}
-use Rattle.vs_lower.specs.Choices.{match_kernel}
-use Rattle.vs_lower.specs.Cases.{matches_of}
-use Rattle.vs_lower.specs.Done.{IsCondition, IsDone, IsNew}
-use Rattle.vs_lower.proofs.Lists.{range_below}
-use Rattle.vs_lower.proofs.Adding.{called_parts, one_called, holds_after, vector_stays, added_none, added_more, added_within, added_call, is_fresh_call}
+use Rattle.vs_values.specs.Added.{IsEnv, Holds, AreValues, fresh_call, IsNew}
+use Rattle.vs_lower.specs.Cases.{match_kernel, matches_of}
+use Rattle.vs_lower.specs.Done.{IsCondition, IsDone}
+use Rattle.vs_values.proofs.Lists.{range_below}
+use Rattle.vs_values.proofs.Adding.{called_parts, one_called, holds_after, vector_stays, added_none, added_more, added_within, added_call, is_fresh_call}
 use Rattle.vs_lower.proofs.Joining.{IsLaterSlot}
 
 -- ---- some item matches where the matches' truth is 1

@@ -4,9 +4,8 @@ use Rattle.vs_design.specs.Footprints.{statement_bits}
 use Rattle.vs_design.specs.Statements.{Statement}
 use Rattle.vs_flat.specs.Trees.{sequence}
 use Rattle.vs_lower.specs.Branched.{unwritten}
-use Rattle.vs_lower.specs.Coded.{Coding}
-use Rattle.vs_lower.specs.Ready.{IsStatementReady}
-use Rattle.vs_lower.specs.Stated.{AddsStatement, AreInside}
+use Rattle.vs_values.specs.Coded.{Coding}
+use Rattle.vs_lower.specs.Stated.{IsStatementReady, AddsStatement, AreInside}
 use Rattle.vs_lower.proofs.Restoring.{left_among, right_among}
 use Rattle.vs_lower.proofs.Sequencing.{IsSoFar, chain, chain_bits, ready_chain, ready_head, ready_rest, one_more, adds_empty, adds_chain}
 

@@ -15,7 +15,7 @@ use Rattle.vs_flat.specs.DesignOf.{arena_trees}
 use Rattle.vs_flat.specs.Named.{all_below}
 use Rattle.vs_flat.specs.Trees.{joined, no_signal, target_tree, tree_at, first_copy, copy_count}
 use Rattle.vs_lower.specs.declared.leaves.Leaf.{Leaf}
-use Rattle.vs_lower.proofs.Trees.{Tree}
+use Rattle.vs_values.proofs.Trees.{Tree}
 use Rattle.vs_lower.specs.Leaves.{leaves_of, leaf_target, IsInside, AddsLeaves}
 
 -- ---- a concatenation that is a target
@@ -94,15 +94,15 @@ pub record IsPartedTarget (a : Arena) (e : ℕ) (parts first : List ℕ) : Type 
   pub each : (n : ℕ) → n < length first → (slice_index first n < e) × IsSome (target_of (tree_at (arena_trees a) (slice_index first n)))
   pub are : leaves_of (target_tree (tree_at (arena_trees a) e)) ≡ flat_map (λ p. leaves_of (target_tree (tree_at (arena_trees a) p))) first
 
-pub parted : (a : Arena) (e : ℕ) (parts : List ℕ) → Tree a e (N.Join parts) → IsSome (target_of (tree_at (arena_trees a) e)) → (n : ℕ) → take n parts ≡ first_copy parts → IsPartedTarget a e parts (take n parts)
-parted a e parts tr some n copy =
+pub parted : (a : Arena) (e : ℕ) (parts : List ℕ) → Tree a e (N.Join parts) → IsSome (target_of (tree_at (arena_trees a) e)) → (first : List ℕ) → first ≡ first_copy parts → first ≡ take (length first) parts → IsPartedTarget a e parts first
+parted a e parts tr some first copy prefix =
     let t = tree_at (arena_trees a) in
     let one : E.Expression = joined (map t (first_copy parts)) in
     let here : IsSome (target_of (E.At tr.place (E.Repeat (copy_count parts) one))) = subst (λ (x : E.Expression). IsSome (target_of x)) tr.is some in
     let c = one_copy (copy_count parts) one here in
     let each = some_each (map t (first_copy parts)) c.0 in
     let below = below_all e parts (and_parts true (all_below e parts) tr.earlier).1 in
-    let firsts = subst (All (λ p. p < e)) copy (All-take (λ p. p < e) n parts below) in
+    let firsts = subst (All (λ p. p < e)) (sym prefix ∙ copy) (All-take (λ p. p < e) (length first) parts below) in
     subst (IsPartedTarget a e parts) (sym copy) (record {
       each = λ k l. (firsts k 0 l, some_at (first_copy parts) k l each);
       are = ap (λ (x : E.Expression). leaves_of (target_tree x)) tr.is ∙ ap leaves_of c.1 ∙ leaves_joined (map t (first_copy parts)) c.0 ∙ flat_map-map t (λ e. leaves_of (target_tree e)) (first_copy parts);

@@ -16,22 +16,23 @@ use Rattle.vs_kern_select.specs.declared.costs.Kernel.TheVariants as S
 use Rattle.vs_code.specs.declared.kernels.AnyKernel.TheVariants as K
 use Rattle.vs_code.specs.Kernels.{takes}
 use Rattle.vs_code.specs.Calls.{Call, call_cost}
-use Rattle.vs_lower.specs.Added.{fresh_call}
-use Rattle.vs_lower.specs.Coded.{Coding, with_call}
-use Rattle.vs_lower.specs.Constants.{constant_bits, AreConstant}
-use Rattle.vs_lower.specs.Done.{placed, IsWritten}
-use Rattle.vs_lower.specs.Made.{IsCallable}
+use Rattle.vs_values.specs.Added.{fresh_call}
+use Rattle.vs_values.specs.Coded.{Coding, with_call}
+use Rattle.vs_values.specs.Constants.{constant_bits, AreConstant}
+use Rattle.vs_values.specs.Environments.{placed}
+use Rattle.vs_lower.specs.Done.{IsWritten}
+use Rattle.vs_values.specs.Made.{IsCallable}
 use Rattle.vs_lower.specs.Written.{HasRoom, IsIndex, AddsWrites, write_weight}
-use Rattle.vs_lower.proofs.Adding.{added_within, is_fresh_call}
+use Rattle.vs_values.proofs.Adding.{added_within, is_fresh_call}
 use Rattle.vs_lower.proofs.Assigning.{whole_written}
 use Rattle.vs_lower.proofs.Joining.{picked}
-use Rattle.vs_lower.proofs.Named.{all_run, length_count}
+use Rattle.vs_values.proofs.Named.{all_run, length_count}
 use Rattle.vs_lower.proofs.Placing.{by_test}
-use Rattle.vs_lower.proofs.Readying.{fits_64_is, fits_length}
-use Rattle.vs_lower.proofs.Selecting.{selection}
+use Rattle.vs_values.proofs.Readying.{fits_64_is, fits_length}
+use Rattle.vs_values.proofs.Selecting.{selection}
 use Rattle.vs_lower.proofs.Targets.{IsWithin, places_within, in_run, part_written, part_call_written, write_call}
-use Rattle.vs_lower.proofs.Unary.{not_true}
-use Rattle.vs_lower.proofs.Values.{both_true}
+use Rattle.vs_values.proofs.Unary.{not_true}
+use Rattle.vs_values.proofs.Values.{both_true}
 
 pub record IsFitPart (signal : Signal) (part : Part) (index : Expression) : Type 0 where
   pub some : 1 ≤ part.width

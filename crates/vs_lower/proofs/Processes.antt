@@ -15,11 +15,12 @@ use Rattle.vs_design.specs.Footprints.{contains, statement_bits, target_bits, wr
 use Rattle.vs_design.specs.Sizes.{distinct, statement_weight, assignment_weight, process_weight}
 use Rattle.vs_code.specs.Calls.{Call, State, IsCall, AreCalled, call_cost, call_slots, length_of, slots_of, targets_of}
 use Rattle.vs_program.specs.Lowered.{Layout, IsLayout, home, bits_of, HasConstants, process_stores, IsLoweredProcess}
-use Rattle.vs_lower.specs.Added.{IsEnv, Holds}
+use Rattle.vs_values.specs.Added.{IsEnv, Holds, copy_call}
 use Rattle.vs_lower.specs.Done.{IsDone, IsStatementDone}
-use Rattle.vs_lower.specs.Copies.{copy_call, copies, homes}
-use Rattle.vs_lower.proofs.Lists.{range_at, range_below}
-use Rattle.vs_lower.proofs.Adding.{called_parts, one_called, stays}
+use Rattle.vs_lower.specs.Copies.{copies}
+use Rattle.vs_values.specs.Environments.{homes}
+use Rattle.vs_values.proofs.Lists.{range_at, range_below}
+use Rattle.vs_values.proofs.Adding.{called_parts, one_called, stays}
 use Rattle.vs_lower.proofs.Placing.{by_test}
 use Rattle.vs_lower.proofs.Joining.{picked}
 

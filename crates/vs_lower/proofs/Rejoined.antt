@@ -10,12 +10,12 @@ use Rattle.vs_design.specs.Statements.{Target, Both, target_width}
 use Rattle.vs_flat.specs.Arena.{Arena}
 use Rattle.vs_lower.specs.declared.leaves.Leaf.{Leaf}
 use Rattle.vs_lower.specs.declared.leaves.Leaf.TheVariants as L
-use Rattle.vs_lower.specs.Coded.{Coding}
+use Rattle.vs_values.specs.Coded.{Coding}
 use Rattle.vs_lower.specs.Done.{index_values, IsWritten}
 use Rattle.vs_lower.specs.Leaves.{joined_target, leaf_target, IsInside}
 use Rattle.vs_lower.specs.Written.{HasRoom, AreIndexed, AddsWrites, write_weight}
-use Rattle.vs_lower.proofs.Adding.{below_more}
-use Rattle.vs_lower.proofs.Readying.{stores_of, two_added}
+use Rattle.vs_values.proofs.Adding.{below_more}
+use Rattle.vs_values.proofs.Readying.{stores_of, two_added}
 use Rattle.vs_lower.proofs.Targets.{both_written}
 
 pub width_joined : (t : Target) (ts : List Target) → target_width (joined_target (t ∷ ts)) ≡ sum_by target_width (t ∷ ts)

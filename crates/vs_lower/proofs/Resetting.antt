@@ -26,16 +26,17 @@ use Rattle.vs_kern_select.specs.declared.costs.Kernel.TheVariants as S
 use Rattle.vs_code.specs.declared.kernels.AnyKernel.TheVariants.{Select}
 use Rattle.vs_code.specs.Calls.{Call, IsCall, call_cost, length_of}
 use Rattle.vs_program.specs.Lowered.{Layout, bits_of, home}
-use Rattle.vs_lower.specs.Added.{Holds}
-use Rattle.vs_lower.specs.Coded.{Coding}
-use Rattle.vs_lower.specs.Copies.{copies, homes, home_copies, moved}
-use Rattle.vs_lower.specs.Done.{IsStatementDone, placed}
+use Rattle.vs_values.specs.Added.{Holds}
+use Rattle.vs_values.specs.Coded.{Coding}
+use Rattle.vs_lower.specs.Copies.{copies, home_copies, moved}
+use Rattle.vs_values.specs.Environments.{homes, placed}
+use Rattle.vs_lower.specs.Done.{IsStatementDone}
 use Rattle.vs_lower.specs.Joined.{IsJoined, differing_bits, join_args}
-use Rattle.vs_lower.specs.Ready.{IsReady, IsStatementReady}
-use Rattle.vs_lower.specs.Made.{IsCallable, IsUnary}
+use Rattle.vs_values.specs.Ready.{IsReady}
+use Rattle.vs_lower.specs.Stated.{IsStatementReady, AddsStatement, AreInOrder}
+use Rattle.vs_values.specs.Made.{IsCallable, IsUnary}
 use Rattle.vs_lower.specs.Resetting.{AddsReset, HasResetRoom, IsResetOf, IsResetReady, reset_condition, reset_signal, reset_statement}
-use Rattle.vs_lower.specs.Stated.{AddsStatement, AreInOrder}
-use Rattle.vs_lower.specs.Valued.{AddsValue, IsSource}
+use Rattle.vs_values.specs.Valued.{AddsValue, IsSource}
 use Rattle.vs_lower.proofs.Blocking.{AddsBlock, moved_few, total_of}
 use Rattle.vs_lower.proofs.Branched.{adds_if, if_joins}
 use Rattle.vs_lower.proofs.Branching.{CanJoin}
@@ -45,13 +46,13 @@ use Rattle.vs_lower.proofs.Distinct.{distinct_most}
 use Rattle.vs_lower.proofs.Homeward.{CanGoHome, all_in, from_homes, rising_once}
 use Rattle.vs_lower.proofs.Homing.{home_at, home_calls, picked_homes}
 use Rattle.vs_lower.proofs.Joining.{picked, picked_below}
-use Rattle.vs_lower.proofs.Lists.{range_from}
-use Rattle.vs_lower.proofs.Named.{adds_name}
+use Rattle.vs_values.proofs.Lists.{range_from}
+use Rattle.vs_values.proofs.Named.{adds_name}
 use Rattle.vs_lower.proofs.Placing.{by_test, placed_from}
 use Rattle.vs_lower.proofs.Processes.{all_slots, copies_cost, copies_slots, home_is, homes_env, homes_hold}
 use Rattle.vs_lower.proofs.Restoring.{join_callable}
 use Rattle.vs_lower.proofs.Sequencing.{adds_empty}
-use Rattle.vs_lower.proofs.Unary.{Operand, operand_of, ready_operand, returns_unary}
+use Rattle.vs_values.proofs.Unary.{Operand, operand_of, ready_operand, returns_unary}
 
 -- ---- the statement that it is
 

@@ -10,18 +10,19 @@ use Rattle.vs_kern_select.specs.declared.costs.Kernel.TheVariants as S
 use Rattle.vs_code.specs.declared.kernels.AnyKernel.TheVariants.{Select}
 use Rattle.vs_code.specs.Calls.{length_of}
 use Rattle.vs_lower.specs.Branched.{unwritten, written}
-use Rattle.vs_lower.specs.Coded.{Coding}
-use Rattle.vs_lower.specs.Done.{placed}
+use Rattle.vs_values.specs.Coded.{Coding}
+use Rattle.vs_values.specs.Environments.{placed}
 use Rattle.vs_lower.specs.Joined.{IsJoined, differing_bits, join_args}
-use Rattle.vs_lower.specs.Made.{IsCallable}
+use Rattle.vs_values.specs.Made.{IsCallable}
 use Rattle.vs_lower.specs.Stated.{AreAmong}
 use Rattle.vs_lower.proofs.Branching.{CanJoin, can_join, put_back}
 use Rattle.vs_lower.proofs.Conditional.{IsFork}
 use Rattle.vs_lower.proofs.Differing.{slots_are}
 use Rattle.vs_lower.proofs.Homeward.{rising_once}
 use Rattle.vs_lower.proofs.Joining.{neither, picked}
-use Rattle.vs_lower.proofs.Placing.{by_test, placed_length, placed_other}
-use Rattle.vs_lower.proofs.Unary.{not_true}
+use Rattle.vs_lower.proofs.Placing.{by_test, placed_other}
+use Rattle.vs_values.proofs.Environments.{placed_length}
+use Rattle.vs_values.proofs.Unary.{not_true}
 
 -- ---- sets of bits
 

@@ -11,13 +11,12 @@ use Rattle.vs_design.specs.Rules.{mixed_in}
 use Rattle.vs_design.specs.Sizes.{statement_weight}
 use Rattle.vs_flat.specs.Trees.{sequence}
 use Rattle.vs_code.specs.Calls.{Call, call_cost, length_of}
-use Rattle.vs_lower.specs.Coded.{Coding}
+use Rattle.vs_values.specs.Coded.{Coding}
 use Rattle.vs_lower.specs.Done.{IsDone}
-use Rattle.vs_lower.specs.Ready.{IsStatementReady}
-use Rattle.vs_lower.specs.Stated.{AddsStatement}
+use Rattle.vs_lower.specs.Stated.{IsStatementReady, AddsStatement}
 use Rattle.vs_lower.proofs.Bodies.{empty_done, then_done}
 use Rattle.vs_lower.proofs.Matching.{done_as}
-use Rattle.vs_lower.proofs.Values.{both_true}
+use Rattle.vs_values.proofs.Values.{both_true}
 
 -- ---- the flag of an assignment
 

@@ -19,12 +19,12 @@ use Rattle.vs_flat.specs.Targets.{target_of, both_of}
 use Rattle.vs_flat.specs.Trees.{no_signal, target_tree}
 use Rattle.vs_code.specs.Calls.{Call}
 use Rattle.vs_lower.specs.Done.{index_values, IsWritten}
-use Rattle.vs_lower.specs.Added.{Holds}
+use Rattle.vs_values.specs.Added.{Holds}
 use Rattle.vs_lower.specs.Leaves.{leaves_of, joined_target}
 use Rattle.vs_lower.specs.Written.{write_weight, index_weight}
-use Rattle.vs_lower.proofs.Folding.{constant_weight}
+use Rattle.vs_values.proofs.Folding.{constant_weight}
 use Rattle.vs_lower.proofs.Rejoined.{width_joined}
-use Rattle.vs_lower.proofs.Values.{both_true}
+use Rattle.vs_values.proofs.Values.{both_true}
 
 -- ---- a target and its parts
 

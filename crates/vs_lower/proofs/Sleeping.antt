@@ -1,5 +1,5 @@
 -- Sleeping blocks lowered.
-use Rattle.std.proofs.Common.{◌≡◌, ℕ, suc, ◌+◌, ◌*◌, ◌<◌, ◌≤◌, ◌^◌, Bool, true, false, not, ◌||◌, ◌==◌, nat_le, ◌&&◌, if◌then◌else◌, List, [], ◌∷◌, ◌++◌, map, length, replicate, slice_index, sym, ap, ◌∙◌, subst, refl, arith, append_assoc, eq-eqb, eqb-true, true≢false, ◌⊎◌, inl, inr}
+use Rattle.std.proofs.Common.{◌≡◌, ℕ, ◌+◌, ◌<◌, ◌≤◌, ◌^◌, Bool, true, false, not, ◌||◌, ◌==◌, nat_le, ◌&&◌, if◌then◌else◌, List, [], ◌∷◌, ◌++◌, map, length, replicate, slice_index, sym, ap, ◌∙◌, subst, refl, arith, append_assoc, eqb-true, true≢false, ◌⊎◌, inl, inr}
 use Rattle.std.specs.List.{All, list_all, range_with_len}
 use Rattle.std.specs.Prelude.{Some, slice_get}
 use Rattle.std.specs.List.Sorted.{IsStrictlyIncreasing}
@@ -27,26 +27,26 @@ use Rattle.vs_kern_select.specs.declared.costs.Kernel.TheVariants.{Branch}
 use Rattle.vs_code.specs.declared.kernels.AnyKernel.TheVariants.{Logic, Select}
 use Rattle.vs_code.specs.Kernels.{takes}
 use Rattle.vs_code.specs.Calls.{Call, State, IsCall, AreCalled, call_cost, length_of}
-use Rattle.vs_program.specs.Lowered.{Layout, HasConstants, home, process_stores}
-use Rattle.vs_reset.specs.Sleepers.{AreBits, AreOwn, FinishIsCall, IsBody, IsMask, SleepersWrite, WakeIsCalls, compare_call, finish_call, mask_call, sleeper_calls, wake_calls, x_slots}
-use Rattle.vs_lower.specs.Added.{AreAdded, Holds, fresh_call}
-use Rattle.vs_lower.specs.Asleep.{AddsBody, AddsSleeper, IsSleeperReady, stored_call}
-use Rattle.vs_lower.specs.Assigned.{AreNew, IsOwned}
-use Rattle.vs_lower.specs.Coded.{Coding, with_call}
-use Rattle.vs_lower.specs.Copies.{copy_call, homes}
-use Rattle.vs_lower.specs.Made.{IsCallable}
+use Rattle.vs_program.specs.Lowered.{Layout, home, process_stores}
+use Rattle.vs_reset.specs.Sleepers.{AreBits, FinishIsCall, IsBody, IsMask, SleepersWrite, WakeIsCalls, compare_call, finish_call, mask_call, sleeper_calls, wake_calls, x_slots}
+use Rattle.vs_values.specs.Added.{AreAdded, Holds, fresh_call, stored_call, copy_call}
+use Rattle.vs_lower.specs.Asleep.{AddsBody, AddsSleeper, IsSleeperReady}
+use Rattle.vs_lower.specs.Assigned.{IsOwned}
+use Rattle.vs_values.specs.Coded.{Coding}
+use Rattle.vs_values.specs.Environments.{homes}
+use Rattle.vs_values.specs.Made.{IsCallable}
 use Rattle.vs_lower.specs.Processed.{IsBlockReady}
 use Rattle.vs_lower.specs.Stated.{AddsStatement}
 use Rattle.vs_lower.proofs.Accepting.{block_is_ready, stores_are}
-use Rattle.vs_lower.proofs.Adding.{added_call, added_more, added_within, called_parts, is_fresh_call, one_called, stays}
+use Rattle.vs_values.proofs.Adding.{added_call, added_more, added_within, called_parts, is_fresh_call, one_called, stays}
 use Rattle.vs_lower.proofs.Blocking.{AddsBlock, total_of}
 use Rattle.vs_lower.proofs.Distinct.{Once, distinct_most}
 use Rattle.vs_lower.proofs.Homeward.{all_in, from_homes, rising_once}
 use Rattle.vs_lower.proofs.Homing.{home_at}
 use Rattle.vs_lower.proofs.Joining.{picked, picked_below}
-use Rattle.vs_lower.proofs.Lists.{range_below, range_from}
+use Rattle.vs_values.proofs.Lists.{range_below, range_from}
 use Rattle.vs_lower.proofs.Placing.{by_test}
-use Rattle.vs_lower.proofs.Readying.{two_added}
+use Rattle.vs_values.proofs.Readying.{two_added}
 
 -- ---- lists
 

@@ -14,19 +14,19 @@ use Rattle.vs_design.specs.Statements.{CaseKind, Target, Assignment, Case, Arms,
 use Rattle.vs_design.specs.Values.{value}
 use Rattle.vs_lower.specs.Assigned.{AddsRun, assign_most}
 use Rattle.vs_lower.specs.Branched.{unwritten, written}
-use Rattle.vs_lower.specs.Coded.{Coding}
-use Rattle.vs_lower.specs.Done.{placed}
-use Rattle.vs_lower.specs.Ready.{IsReady, IsStatementReady}
-use Rattle.vs_lower.specs.Stated.{AddsCases, AddsStatement, AreArmsReady, AreInOrder, AreInside, ItemsWithin}
-use Rattle.vs_lower.specs.Valued.{AddsValue}
-use Rattle.vs_lower.proofs.Adding.{env_more}
+use Rattle.vs_values.specs.Coded.{Coding}
+use Rattle.vs_values.specs.Environments.{placed}
+use Rattle.vs_values.specs.Ready.{IsReady}
+use Rattle.vs_lower.specs.Stated.{IsStatementReady, AddsCases, AddsStatement, AreArmsReady, AreInOrder, AreInside, ItemsWithin}
+use Rattle.vs_values.specs.Valued.{AddsValue}
+use Rattle.vs_values.proofs.Adding.{env_more}
 use Rattle.vs_lower.proofs.Armed.{behind_placed}
 use Rattle.vs_lower.proofs.Bodies.{case_done}
 use Rattle.vs_lower.proofs.Homeward.{all_in}
 use Rattle.vs_lower.proofs.Matching.{done_as}
-use Rattle.vs_lower.proofs.Readying.{fits_length, stores_of, two_added}
+use Rattle.vs_values.proofs.Readying.{fits_length, stores_of, two_added}
 use Rattle.vs_lower.proofs.Restoring.{both_same}
-use Rattle.vs_lower.proofs.Values.{both_true}
+use Rattle.vs_values.proofs.Values.{both_true}
 
 -- ---- an assignment
 

@@ -21,22 +21,22 @@ use Rattle.vs_code.specs.declared.kernels.AnyKernel.TheVariants.{Logic}
 use Rattle.vs_code.specs.Kernels.{takes}
 use Rattle.vs_code.specs.Calls.{call_cost, length_of}
 use Rattle.vs_lower.specs.declared.leaves.Leaf.{Leaf}
-use Rattle.vs_lower.specs.Added.{IsEnv, vectors, fresh_call}
+use Rattle.vs_values.specs.Added.{IsEnv, vectors, fresh_call, IsNew}
 use Rattle.vs_lower.specs.Assigned.{AddsAssigned, AddsOperands, AddsRun, AreNew, IsOwned, assign_most, operands_weight}
-use Rattle.vs_lower.specs.Coded.{Coding, with_call}
-use Rattle.vs_lower.specs.Done.{IsDone, IsNew, index_values}
+use Rattle.vs_values.specs.Coded.{Coding, with_call}
+use Rattle.vs_lower.specs.Done.{IsDone, index_values}
 use Rattle.vs_lower.specs.Leaves.{leaves_of, joined_target, leaf_target, IsInside}
-use Rattle.vs_lower.specs.Made.{IsCallable}
-use Rattle.vs_lower.specs.Ready.{IsReady}
-use Rattle.vs_lower.specs.Valued.{IsSource, AddsValue}
+use Rattle.vs_values.specs.Made.{IsCallable}
+use Rattle.vs_values.specs.Ready.{IsReady}
+use Rattle.vs_values.specs.Valued.{IsSource, AddsValue}
 use Rattle.vs_lower.specs.Written.{HasRoom, AreIndexed, IsWriteReady, AddsIndices, AddsWrites, write_weight, index_weight}
-use Rattle.vs_lower.proofs.Adding.{called_parts, one_called, added_more, added_call, values_more, values_as, env_more, vectors_stay, is_fresh_call, below_more}
+use Rattle.vs_values.proofs.Adding.{called_parts, one_called, added_more, added_call, values_more, values_as, env_more, vectors_stay, is_fresh_call, below_more}
 use Rattle.vs_lower.proofs.Assigning.{assigned_values, done_assignment_now, done_assignment_later}
-use Rattle.vs_lower.proofs.Lists.{range_below, range_from}
+use Rattle.vs_values.proofs.Lists.{range_below, range_from}
 use Rattle.vs_lower.proofs.Placing.{by_test}
-use Rattle.vs_lower.proofs.Readying.{fits_64_is, fits_length, stores_of, two_added}
+use Rattle.vs_values.proofs.Readying.{fits_64_is, fits_length, stores_of, two_added}
 use Rattle.vs_lower.proofs.Settling.{some_leaf, leaf_widths, leaf_weights, leaf_fits, leaf_indices, written_whole, width_of_target}
-use Rattle.vs_lower.proofs.Values.{both_true}
+use Rattle.vs_values.proofs.Values.{both_true}
 
 -- ---- a right side
 

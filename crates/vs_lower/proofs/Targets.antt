@@ -18,15 +18,17 @@ use Rattle.vs_code.specs.Calls as C
 use Rattle.vs_code.specs.Calls.{IsCall, call_cost}
 use Rattle.vs_code.specs.declared.kernels.AnyKernel.TheVariants as K
 use Rattle.vs_kern_select.specs.declared.costs.Kernel.TheVariants as S
-use Rattle.vs_lower.specs.Added.{IsEnv, Holds, vectors, fresh_call}
-use Rattle.vs_lower.specs.Constants.{constant_bits, AreConstant}
-use Rattle.vs_lower.specs.Done.{placed, index_values, IsWritten}
-use Rattle.vs_lower.proofs.Adding.{called_parts, one_called, added_call, added_none, added_more, holds_after, vectors_stay, vector_stays}
-use Rattle.vs_lower.proofs.Folding.{bits_are}
-use Rattle.vs_lower.proofs.Lists.{range_below, range_from}
-use Rattle.vs_lower.proofs.Selecting.{selection}
+use Rattle.vs_values.specs.Added.{IsEnv, Holds, vectors, fresh_call}
+use Rattle.vs_values.specs.Constants.{constant_bits, AreConstant}
+use Rattle.vs_values.specs.Environments.{placed}
+use Rattle.vs_lower.specs.Done.{index_values, IsWritten}
+use Rattle.vs_values.proofs.Adding.{called_parts, one_called, added_call, added_none, added_more, holds_after, vectors_stay, vector_stays}
+use Rattle.vs_values.proofs.Folding.{bits_are}
+use Rattle.vs_values.proofs.Lists.{range_below, range_from}
+use Rattle.vs_values.proofs.Selecting.{selection}
 use Rattle.vs_lower.proofs.Joining.{picked, picked_are}
-use Rattle.vs_lower.proofs.Placing.{by_test, placed_length, placed_all, placed_holds, placed_other, placed_from, put-same, put-other, write_all_at, write_all_covered, write_all-append, written_as}
+use Rattle.vs_lower.proofs.Placing.{by_test, placed_all, placed_holds, placed_other, placed_from, put-same, put-other, write_all_at, write_all_covered, write_all-append, written_as}
+use Rattle.vs_values.proofs.Environments.{placed_length}
 
 -- ---- by an index in constants' slots
 

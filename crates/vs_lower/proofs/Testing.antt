@@ -8,18 +8,17 @@ use Rattle.vs_design.specs.Sizes.{weight, items_weight}
 use Rattle.vs_design.specs.Statements.{CaseKind}
 use Rattle.vs_code.specs.Kernels.{takes}
 use Rattle.vs_code.specs.Calls.{Call, length_of}
-use Rattle.vs_lower.specs.Added.{fresh_call}
-use Rattle.vs_lower.specs.Cases.{matches_of}
-use Rattle.vs_lower.specs.Choices.{match_kernel}
-use Rattle.vs_lower.specs.Coded.{Coding, with_call}
+use Rattle.vs_values.specs.Added.{fresh_call}
+use Rattle.vs_lower.specs.Cases.{matches_of, match_kernel}
+use Rattle.vs_values.specs.Coded.{Coding, with_call}
 use Rattle.vs_lower.specs.Done.{IsCondition}
-use Rattle.vs_lower.specs.Made.{IsCallable}
-use Rattle.vs_lower.specs.Ready.{IsReady}
+use Rattle.vs_values.specs.Made.{IsCallable}
+use Rattle.vs_values.specs.Ready.{IsReady}
 use Rattle.vs_lower.specs.Tested.{AreTestsReady, AddsTests}
-use Rattle.vs_lower.specs.Valued.{AddsValue}
-use Rattle.vs_lower.proofs.Adding.{env_more, is_fresh_call}
+use Rattle.vs_values.specs.Valued.{AddsValue}
+use Rattle.vs_values.proofs.Adding.{env_more, is_fresh_call}
 use Rattle.vs_lower.proofs.Matching.{tests_none, tests_more, match_takes, match_room, match_cost}
-use Rattle.vs_lower.proofs.Readying.{stores_of}
+use Rattle.vs_values.proofs.Readying.{stores_of}
 
 items_more : (es : List Expression) (e : Expression) (w : ℕ) → items_weight (es ++ e ∷ []) w ≡ items_weight es w + (weight e w + (w + 1))
 items_more [] e w = omega arith

@@ -1,5 +1,5 @@
 -- What the lowering of a sleeping block needs and gives (9.7.5).
-use Rattle.std.specs.Prelude.{◌≡◌, ℕ, ◌+◌, ◌*◌, ◌<◌, ◌≤◌, ◌^◌, true, false, List, [], ◌++◌, map, length, All}
+use Rattle.std.specs.Prelude.{◌≡◌, ℕ, ◌+◌, ◌*◌, ◌<◌, ◌≤◌, ◌^◌, true, false, List, ◌++◌, map, length, All}
 use Rattle.vs_net.specs.Network as N
 use Rattle.vs_design.specs.Bodies.{body}
 use Rattle.vs_design.specs.Designs.{Process}
@@ -7,19 +7,14 @@ use Rattle.vs_design.specs.Footprints.{contains, statement_bits, writes_of}
 use Rattle.vs_design.specs.Sizes.{distinct, statement_weight}
 use Rattle.vs_design.specs.Statements.{Statement}
 use Rattle.vs_cone.specs.Lists.{HasEachOnce}
-use Rattle.vs_code.specs.declared.kernels.AnyKernel.{AnyKernel}
 use Rattle.vs_code.specs.Calls.{Call, State, AreCalled, length_of}
 use Rattle.vs_program.specs.Lowered.{Layout}
 use Rattle.vs_reset.specs.Sleepers.{AreBits, IsBody, IsMask, sleeper_calls}
-use Rattle.vs_lower.specs.Added.{AreAdded, Holds}
+use Rattle.vs_values.specs.Added.{AreAdded, Holds}
 use Rattle.vs_lower.specs.Assigned.{AreNew}
-use Rattle.vs_lower.specs.Coded.{Coding}
-use Rattle.vs_lower.specs.Copies.{homes}
+use Rattle.vs_values.specs.Coded.{Coding}
+use Rattle.vs_values.specs.Environments.{homes}
 use Rattle.vs_lower.specs.Processed.{IsBlockReady}
-
--- a call whose value gets these slots
-abbrev pub stored_call : AnyKernel → List (List ℕ) → List ℕ → Call
-stored_call kernel args to = record { kernel = kernel; args = args; to = to; scratch = [] }
 
 -- What is added for a statement whose bits stay at home: these slots, constants' or new ones, have what these bits have after it.
 pub record AddsBody (count : ℕ) (old new : Coding) (st : Statement) (bits now : List ℕ) : Type 0 where

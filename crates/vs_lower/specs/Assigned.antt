@@ -11,12 +11,12 @@ use Rattle.vs_design.specs.Sizes.{weight, target_weight}
 use Rattle.vs_kern_logic.specs.declared.costs.Kernel.TheVariants as L
 use Rattle.vs_code.specs.declared.kernels.AnyKernel.TheVariants.{Logic}
 use Rattle.vs_code.specs.Calls.{Call, length_of}
-use Rattle.vs_lower.specs.Added.{IsEnv, AreValues}
-use Rattle.vs_lower.specs.Coded.{Coding, with_call}
+use Rattle.vs_values.specs.Added.{IsEnv, AreValues}
+use Rattle.vs_values.specs.Coded.{Coding, with_call}
 use Rattle.vs_lower.specs.Done.{IsDone, index_values}
 use Rattle.vs_lower.specs.Leaves.{leaves_of}
-use Rattle.vs_lower.specs.Made.{IsWithout}
-use Rattle.vs_lower.specs.Valued.{IsSource}
+use Rattle.vs_values.specs.Made.{IsWithout}
+use Rattle.vs_values.specs.Valued.{IsSource}
 use Rattle.vs_lower.specs.Written.{AreIndexed, index_weight}
 
 -- what is added for a right side: the slots of its value for a target of this length

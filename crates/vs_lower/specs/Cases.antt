@@ -4,7 +4,10 @@ use Rattle.vs_design.specs.Expressions.{Expression}
 use Rattle.vs_four.specs.Logic.{BitList}
 use Rattle.vs_net.specs.Network.{State}
 use Rattle.vs_design.specs.Values.{value}
-use Rattle.vs_design.specs.Statements.{CaseKind, case_match, widest, all_signed}
+use Rattle.vs_design.specs.Statements.{CaseKind, Exact, CaseZ, CaseX, case_match, widest, all_signed}
+use Rattle.vs_kern_logic.specs.declared.costs.Kernel.TheVariants as L
+use Rattle.vs_code.specs.declared.kernels.AnyKernel.{AnyKernel}
+use Rattle.vs_code.specs.declared.kernels.AnyKernel.TheVariants.{Logic}
 use Rattle.vs_flat.specs.declared.statements.Arm.{Arm}
 
 -- the matches of a value and these items
@@ -18,3 +21,9 @@ arms_widest tree (arm ∷ arms) w = arms_widest tree arms (widest w (map tree ar
 abbrev pub arms_signed : (ℕ → Expression) → List Arm → Bool → Bool
 arms_signed tree [] s = s
 arms_signed tree (arm ∷ arms) s = arms_signed tree arms (all_signed s (map tree arm.items))
+
+-- how a case compares
+abbrev pub match_kernel : CaseKind → AnyKernel
+match_kernel Exact = Logic L.CaseEqual
+match_kernel CaseZ = Logic L.MatchesZ
+match_kernel CaseX = Logic L.MatchesX

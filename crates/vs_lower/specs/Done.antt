@@ -1,5 +1,5 @@
 -- What the lowering of a statement gives: which slots hold the bits' values afterwards.
-use Rattle.std.specs.Prelude.{◌≡◌, ◌⊎◌, ℕ, ◌<◌, ◌≤◌, false, List, [], ◌∷◌, map, ◌++◌, length, set, slice_index, All, Contains, Option, Some, None}
+use Rattle.std.specs.Prelude.{◌≡◌, ◌⊎◌, ℕ, ◌<◌, ◌≤◌, false, List, [], ◌∷◌, map, ◌++◌, length, slice_index, All, Contains}
 use Rattle.vs_net.specs.Network as N
 use Rattle.vs_code.specs.Calls.{Call, State, AreCalled}
 use Rattle.vs_four.specs.Logic.{BitList}
@@ -8,23 +8,7 @@ use Rattle.vs_design.specs.Statements.{Target, Whole, PartOf, Both, Statement}
 use Rattle.vs_design.specs.Bodies.{target_writes, body}
 use Rattle.vs_design.specs.Footprints.{contains, target_bits, statement_bits}
 use Rattle.vs_design.specs.Sizes.{statement_weight}
-use Rattle.vs_lower.specs.Added.{AreAdded, IsEnv, Holds, vectors}
-
--- the slots of the bits after a write: these bits have these slots, one after the other; what is no bit is left out
-abbrev pub placed : List ℕ → List (Option ℕ) → List ℕ → List ℕ
-placed env [] to = env
-placed env (p ∷ ps) [] = env
-placed env (None ∷ ps) (t ∷ ts) = placed env ps ts
-placed env (Some b ∷ ps) (t ∷ ts) = placed (set env b t) ps ts
-
--- the slots of the bits after one of them, if it is one, got another
-abbrev pub put_at : List ℕ → Option ℕ → ℕ → List ℕ
-put_at env None slot = env
-put_at env (Some b) slot = set env b slot
-
--- a constant's slot, or one that was new before the calls
-abbrev pub IsNew : ℕ → ℕ → Type 0
-IsNew mark slot = (slot < 4) ⊎ (mark ≤ slot)
+use Rattle.vs_values.specs.Added.{AreAdded, IsEnv, Holds, IsNew, vectors}
 
 -- What calls do whose run gives these effects. `now` says which slots hold the bits' values, and `later` which hold the values that the bits have
 -- once the updates so far are made (9.2.2); a run writes to the first by its blocking writes and to the second by its updates. Bits that are none

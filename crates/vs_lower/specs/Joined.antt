@@ -3,8 +3,8 @@ use Rattle.std.specs.Prelude.{◌≡◌, ◌⊎◌, ℕ, ◌==◌, List, [], ◌
 use Rattle.std.specs.List.{range_with_len}
 use Rattle.vs_kern_select.specs.declared.costs.Kernel.TheVariants as S
 use Rattle.vs_code.specs.declared.kernels.AnyKernel.TheVariants.{Select}
-use Rattle.vs_lower.specs.Coded.{Coding, with_call}
-use Rattle.vs_lower.specs.Done.{placed}
+use Rattle.vs_values.specs.Coded.{Coding, with_call}
+use Rattle.vs_values.specs.Environments.{placed}
 
 -- those of these bits whose slots in the first list aren't those of the environment
 abbrev pub differing_bits : List ℕ → List ℕ → List ℕ → List ℕ

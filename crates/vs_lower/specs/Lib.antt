@@ -1,15 +1,7 @@
-pub mod Added
-pub mod Constants
-pub mod Choices
-pub mod Valued
 pub mod Done
 pub mod Copies
-pub mod Coded
-pub mod Ready
-pub mod Made
 pub mod Joined
 pub mod Cases
-pub mod Environments
 pub mod Leaves
 pub mod Written
 pub mod Assigned
@@ -19,4 +11,3 @@ pub mod Stated
 pub mod Processed
 pub mod Resetting
 pub mod Asleep
-pub mod Products

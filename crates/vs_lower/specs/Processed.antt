@@ -16,7 +16,7 @@ use Rattle.vs_flat.specs.Targets.{target_of}
 use Rattle.vs_flat.specs.Trees.{tree_at}
 use Rattle.vs_program.specs.Lowered.{IsLayout, IsLoweredProcess, Layout, home}
 use Rattle.vs_code.specs.Calls.{Call, length_of}
-use Rattle.vs_lower.specs.Coded.{Coding}
+use Rattle.vs_values.specs.Coded.{Coding}
 use Rattle.vs_lower.specs.Stated.{AreInside}
 
 -- these calls, and no others, are added for the process

@@ -11,7 +11,7 @@ use Rattle.vs_design.specs.Sizes.{distinct, process_weight, statement_weight}
 use Rattle.vs_design.specs.Statements.{Statement, Empty, If}
 use Rattle.vs_program.specs.Lowered.{IsLoweredReset, Layout, home, process_stores}
 use Rattle.vs_code.specs.Calls.{Call, length_of}
-use Rattle.vs_lower.specs.Coded.{Coding}
+use Rattle.vs_values.specs.Coded.{Coding}
 use Rattle.vs_lower.specs.Stated.{AreInside}
 
 -- a signal of the one bit of the reset's input

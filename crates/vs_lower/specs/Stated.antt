@@ -14,13 +14,26 @@ use Rattle.vs_flat.specs.declared.statements.Arm as F
 use Rattle.vs_flat.specs.declared.statements.Statement as S
 use Rattle.vs_flat.specs.declared.statements.Statement.TheVariants as V
 use Rattle.vs_code.specs.Calls.{Call, length_of}
-use Rattle.vs_lower.specs.Added.{IsEnv}
+use Rattle.vs_values.specs.Added.{IsEnv}
 use Rattle.vs_lower.specs.Assigned.{AddsRun}
 use Rattle.vs_lower.specs.Branched.{unwritten, written}
-use Rattle.vs_lower.specs.Coded.{Coding}
-use Rattle.vs_lower.specs.Done.{IsDone, placed}
+use Rattle.vs_values.specs.Coded.{Coding}
+use Rattle.vs_lower.specs.Done.{IsDone}
+use Rattle.vs_values.specs.Environments.{placed}
 use Rattle.vs_lower.specs.Joined.{IsJoined}
 use Rattle.vs_lower.specs.Tested.{AddsTests}
+
+-- what a call of the lowering of a statement needs: the slots of the bits, now and after the updates so far, are known, the statement fits,
+-- a clocked block has no blocking assignment and any other no nonblocking one (9.2.2), and there is room
+pub record IsStatementReady (bits : ℕ) (now later : List ℕ) (code : Coding) (clocked : Bool) (st : Statement) : Type 0 where
+  pub now_env : IsEnv now code.next
+  pub later_env : IsEnv later code.next
+  pub now_bits : length now ≡ bits
+  pub later_bits : length later ≡ bits
+  pub fit : fits_statement st ≡ true
+  pub unmixed : mixed_in clocked st ≡ []
+  pub slots : code.next + statement_weight st < 2 ^ 32
+  pub few : length_of code.calls + statement_weight st ≤ 2 ^ 32
 
 -- what is added for a statement
 abbrev pub AddsStatement : (now later : List ℕ) (old new : Coding) (st : Statement) (now_after later_after : List ℕ) → Type 0

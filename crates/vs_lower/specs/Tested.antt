@@ -7,8 +7,8 @@ use Rattle.vs_design.specs.Fits.{is_fit}
 use Rattle.vs_design.specs.Sizes.{items_weight}
 use Rattle.vs_design.specs.Statements.{CaseKind}
 use Rattle.vs_code.specs.Calls.{Call, length_of}
-use Rattle.vs_lower.specs.Added.{IsEnv}
-use Rattle.vs_lower.specs.Coded.{Coding}
+use Rattle.vs_values.specs.Added.{IsEnv}
+use Rattle.vs_values.specs.Coded.{Coding}
 use Rattle.vs_lower.specs.Done.{IsCondition}
 use Rattle.vs_lower.specs.Cases.{matches_of}
 

@@ -9,9 +9,9 @@ use Rattle.vs_design.specs.Fits.{fits_target}
 use Rattle.vs_design.specs.Sizes.{weight}
 use Rattle.vs_flat.specs.Arena.{Arena, bit_count}
 use Rattle.vs_code.specs.Calls.{Call, length_of}
-use Rattle.vs_lower.specs.Added.{IsEnv, AreValues}
-use Rattle.vs_lower.specs.Coded.{Coding}
-use Rattle.vs_lower.specs.Constants.{AreConstant, constant_bits}
+use Rattle.vs_values.specs.Added.{IsEnv, AreValues}
+use Rattle.vs_values.specs.Coded.{Coding}
+use Rattle.vs_values.specs.Constants.{AreConstant, constant_bits}
 use Rattle.vs_lower.specs.Done.{index_values, IsWritten}
 use Rattle.vs_lower.specs.declared.leaves.Leaf.{Leaf}
 use Rattle.vs_lower.specs.Leaves.{leaf_target, IsInside}

@@ -13,24 +13,22 @@ ghost use Rattle.vs_flat.specs.Trees.{target_tree, tree_at};
 ghost use Rattle.vs_kern_logic.specs.declared.costs.Kernel.TheVariants as L;
 ghost use Rattle.vs_code.specs.declared.kernels.AnyKernel.TheVariants as K;
 ghost use Rattle.vs_lower.specs.Assigned.{AddsAssigned, AddsOperands, AddsRun, AreNew, IsAssignReady, IsOwned, assign_most, operands_weight};
-ghost use Rattle.vs_lower.specs.Coded.{with_call};
+ghost use Rattle.vs_values.specs.Coded.{with_call};
 ghost use Rattle.vs_lower.specs.Leaves.{IsInside, joined_target, leaf_target, leaves_of};
-ghost use Rattle.vs_lower.specs.Made.{IsCallable};
-ghost use Rattle.vs_lower.specs.Ready.{IsReady};
-ghost use Rattle.vs_lower.specs.Valued.{IsSource};
+ghost use Rattle.vs_values.specs.Made.{IsCallable};
+ghost use Rattle.vs_values.specs.Ready.{IsReady};
+ghost use Rattle.vs_values.specs.Valued.{IsSource};
 ghost use Rattle.vs_lower.specs.Written.{AddsWrites, HasRoom, IsWriteReady, write_weight};
 
-use crate::applied::single;
-use crate::code::Code;
-use crate::environment::{Environment, Environments};
-use crate::expressions::{Context, lower};
+use crate::environments::Environments;
 use crate::indices::indices;
 use crate::leaves::{Leaf, target_leaves};
-use crate::typed::own;
 use crate::writes::write_leaves;
 use std::alloc::{AllocError, Global};
-use vs_code::{AnyKernel, List};
-use vs_width::Typed;
+use vs_base::{Context, List};
+use vs_code::AnyKernel;
+use vs_typed::Typed;
+use vs_values::{Code, Environment, lower, own, single};
 
 /// Adds the calls of a right side, and answers the slots of its value for a target of this length (IEEE 1364-2005, 5.5.3).
 fn right_side(

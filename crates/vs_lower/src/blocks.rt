@@ -4,16 +4,16 @@ ghost use Rattle.std.specs.Prelude.{◌≡◌, ◌<◌, length, slice_index, OnO
 ghost use Rattle.vs_design.specs.Designs.{Always, Event, is_clocked};
 ghost use Rattle.vs_design.specs.Footprints.{statement_bits};
 ghost use Rattle.vs_flat.specs.Arena.{bit_count};
-ghost use Rattle.vs_length.specs.Bodies.{body_of};
+ghost use Rattle.vs_shape.specs.Bodies.{body_of};
 ghost use Rattle.vs_program.specs.Lowered.{IsLayout, Layout};
 ghost use Rattle.vs_lower.specs.Processed.{AddsProcess, HasShadows, IsBlockReady};
 
-use crate::code::Code;
 use crate::copies::{copy_all, copy_home};
-use crate::environment::{Environment, Environments};
+use crate::environments::Environments;
 use crate::statements::{statement, written_bits};
 use std::alloc::{AllocError, Global};
-use vs_width::Typed;
+use vs_typed::Typed;
+use vs_values::{Code, Environment};
 
 /// Adds the calls of a combinational block with this statement, in a design of `count` bits: its bits have their values at home once it is done.
 pub(crate) fn combinational(

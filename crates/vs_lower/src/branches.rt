@@ -5,17 +5,16 @@ ghost use Rattle.std.specs.List.{range_with_len};
 ghost use Rattle.vs_kern_select.specs.declared.costs.Kernel.TheVariants as S;
 ghost use Rattle.vs_code.specs.declared.kernels.AnyKernel.TheVariants as K;
 ghost use Rattle.vs_lower.specs.Branched.{unwritten, written};
-ghost use Rattle.vs_lower.specs.Coded.{with_call};
-ghost use Rattle.vs_lower.specs.Done.{placed};
-ghost use Rattle.vs_lower.specs.Made.{IsCallable};
+ghost use Rattle.vs_values.specs.Coded.{with_call};
+ghost use Rattle.vs_values.specs.Environments.{placed};
+ghost use Rattle.vs_values.specs.Made.{IsCallable};
 ghost use Rattle.vs_lower.specs.Joined.{IsJoined, differing_bits, differing_slots, join_args};
 ghost use Rattle.vs_lower.specs.Stated.{AddsJoin};
 
-use crate::applied::triple;
-use crate::code::Code;
-use crate::environment::{Environment, Environments, picked, place};
+use crate::environments::Environments;
 use std::alloc::{AllocError, Global};
 use vs_code::AnyKernel;
+use vs_values::{Code, Environment, picked, place, triple};
 
 /// Those of these bits whose slots differ in both.
 pub(crate) fn differing(

@@ -4,25 +4,21 @@ ghost use Rattle.std.specs.Prelude.{◌≡◌, ◌<◌, [], ◌∷◌, map, leng
 ghost use Rattle.std.specs.List.{range_with_len};
 ghost use Rattle.vs_flat.specs.Arena.{bit_count};
 ghost use Rattle.vs_flat.specs.DesignOf.{arena_trees};
-ghost use Rattle.vs_flat.specs.Operators.{case_of};
 ghost use Rattle.vs_flat.specs.Trees.{tree_at};
-ghost use Rattle.vs_lower.specs.Choices.{match_kernel};
-ghost use Rattle.vs_lower.specs.Coded.{with_call};
-ghost use Rattle.vs_lower.specs.Made.{IsCallable};
+ghost use Rattle.vs_lower.specs.Cases.{match_kernel};
+ghost use Rattle.vs_values.specs.Coded.{with_call};
+ghost use Rattle.vs_values.specs.Made.{IsCallable};
 ghost use Rattle.vs_lower.specs.Tested.{AddsTests, AreTestsReady};
 
-use crate::code::Code;
-use crate::environment::Environment;
-use crate::expressions::{Context, lower, pair};
-use crate::joins::appended;
 use std::alloc::{AllocError, Global};
+use vs_base::{CaseKind, Context};
 use vs_code::AnyKernel;
-use vs_flat::CaseKind;
-use vs_width::Typed;
+use vs_typed::Typed;
+use vs_values::{Code, Environment, appended, lower, pair};
 
 /// The kernel by which a case compares (IEEE 1364-2005, 9.5).
 fn match_kernel(kind: CaseKind) -> AnyKernel
-    ensures { result ≡ match_kernel (case_of kind) }
+    ensures { result ≡ match_kernel kind }
 {
     match kind {
         CaseKind::Exact => AnyKernel::Logic(vs_kern_logic::Kernel::CaseEqual),
@@ -39,9 +35,9 @@ fn matched(
     item: Vec<u32>,
     code: &mut Code,
 ) -> Result<Vec<u32>, AllocError>
-    requires call { IsCallable code.old (match_kernel (case_of kind)) (subject.items ∷ item.items ∷ []) 1 }
+    requires call { IsCallable code.old (match_kernel kind) (subject.items ∷ item.items ∷ []) 1 }
     ensures to { IfOk result (λ to. to.items ≡ range_with_len code.old.next 1) }
-    ensures ok { OnOk result (code.new ≡ with_call code.old (match_kernel (case_of kind)) (subject.items ∷ item.items ∷ []) 1) }
+    ensures ok { OnOk result (code.new ≡ with_call code.old (match_kernel kind) (subject.items ∷ item.items ∷ []) 1) }
 {
     let args = pair(alloc, subject, item)?;
     let kernel = match_kernel(kind);
@@ -62,7 +58,7 @@ pub(crate) fn tests(
     requires items { All (λ e. e < length typed.now.nodes) items.now }
     requires ready { AreTestsReady (bit_count typed.now.signals) env.now subject.now code.old (map (tree_at (arena_trees typed.now)) items.now) context.width }
     ensures alike { IfOk result (λ ms. length ms.items ≡ length items.now) }
-    ensures adds { IfOk result (λ ms. AddsTests env.now subject.now code.old code.new (case_of kind) context.width context.signed (map (tree_at (arena_trees typed.now)) items.now) ms.items) }
+    ensures adds { IfOk result (λ ms. AddsTests env.now subject.now code.old code.new kind context.width context.signed (map (tree_at (arena_trees typed.now)) items.now) ms.items) }
 {
     let mut matches = Vec::new(alloc);
     for n in 0..items.len() {

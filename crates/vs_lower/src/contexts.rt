@@ -1,6 +1,6 @@
 //! The context that a case's expression and items share.
 
-ghost use Rattle.std.specs.Prelude.{◌≡◌, ◌<◌, length, map, max, ◌&&◌, All, true};
+ghost use Rattle.std.specs.Prelude.{◌≡◌, ◌<◌, length, map, All, true};
 ghost use Rattle.vs_design.specs.Expressions as E;
 ghost use Rattle.vs_design.specs.Fits.{is_fit};
 ghost use Rattle.vs_design.specs.Statements.{all_signed, widest};
@@ -8,10 +8,10 @@ ghost use Rattle.vs_flat.specs.DesignOf.{arena_trees};
 ghost use Rattle.vs_flat.specs.Trees.{tree_at};
 ghost use Rattle.vs_lower.specs.Cases.{arms_signed, arms_widest};
 
-use crate::expressions::{Context, shared};
-use crate::typed::own;
+use vs_base::Context;
 use vs_flat::Arm;
-use vs_width::Typed;
+use vs_typed::Typed;
+use vs_values::own;
 
 /// The context of an expression and these items (IEEE 1364-2005, 9.5).
 pub(crate) fn with_items(typed: &Typed, context: Context, items: &[u32]) -> Context
@@ -22,7 +22,7 @@ pub(crate) fn with_items(typed: &Typed, context: Context, items: &[u32]) -> Cont
 {
     let mut all = context;
     for n in 0..items.len() {
-        all = shared(all, own(typed, items[n]));
+        all = all.shared(own(typed, items[n]));
     }
     all
 }

@@ -9,16 +9,16 @@ ghost use Rattle.vs_flat.specs.DesignOf.{arena_trees};
 ghost use Rattle.vs_flat.specs.Targets.{target_of};
 ghost use Rattle.vs_flat.specs.Trees.{target_tree, tree_at};
 ghost use Rattle.vs_program.specs.Lowered.{Layout};
-ghost use Rattle.vs_length.specs.Walked.{IsTarget};
+ghost use Rattle.vs_shape.specs.Walked.{IsTarget};
 ghost use Rattle.vs_lower.specs.Processed.{AddsProcess, IsContinuousReady};
 
 use crate::assigns::assign;
-use crate::code::Code;
 use crate::copies::copy_home;
-use crate::environment::{Environment, Environments};
+use crate::environments::Environments;
 use std::alloc::{AllocError, Global};
-use vs_length::ascend;
-use vs_width::Typed;
+use vs_shape::ascend;
+use vs_typed::Typed;
+use vs_values::{Code, Environment};
 
 /// The bits that a target writes, in ascending order and each once.
 fn target_written(alloc: Global, typed: &Typed, target: u32) -> Result<Vec<u32>, AllocError>

@@ -5,9 +5,8 @@ ghost use Rattle.vs_code.specs.Calls.{IsCall, length_of};
 ghost use Rattle.vs_lower.specs.Copies.{copies, home_copies};
 
 use crate::branches::differing;
-use crate::code::Code;
-use crate::environment::{Environment, picked};
 use std::alloc::{AllocError, Global};
+use vs_values::{Code, Environment, picked};
 
 /// Copies the values of those of these bits that have left their homes to their homes: by one call, and of none by none.
 pub(crate) fn copy_home(

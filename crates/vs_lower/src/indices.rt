@@ -6,15 +6,12 @@ ghost use Rattle.vs_flat.specs.Arena.{bit_count};
 ghost use Rattle.vs_lower.specs.Leaves.{IsInside, leaf_target};
 ghost use Rattle.vs_lower.specs.Written.{AddsIndex, AddsIndices, HasRoom, index_weight};
 
-use crate::code::Code;
-use crate::environment::Environment;
-use crate::expressions::lower;
 use crate::leaves::Leaf;
-use crate::typed::own;
 use std::alloc::{AllocError, Global};
-use vs_code::List;
+use vs_base::List;
 use vs_design::value_law;
-use vs_width::Typed;
+use vs_typed::Typed;
+use vs_values::{Code, Environment, lower, own};
 
 /// Adds the calls of the index of a part of a target, and answers the slots of its value. A whole signal has none.
 fn index(

@@ -7,11 +7,11 @@ ghost use Rattle.vs_flat.specs.Targets.{source_of, target_of};
 ghost use Rattle.vs_flat.specs.Trees.{target_tree, tree_at};
 ghost use Rattle.vs_lower.specs.Leaves.{AddsLeaves, IsInside, leaf_target, leaves_of};
 
-use crate::joins::period;
 use std::alloc::{AllocError, Global};
 use vs_flat::{Node, trees_law};
 use vs_four::Range;
-use vs_width::Typed;
+use vs_shape::first_copy;
+use vs_typed::Typed;
 
 /// A part of a target that is no concatenation (IEEE 1364-2005, table 6-1): a whole signal, or a bit or part select of one. Signals and indices are named by their numbers.
 #[derive(Clone, Copy)]
@@ -67,9 +67,9 @@ fn add_leaves(typed: &Typed, target: u32, leaves: &mut Vec<Leaf>) -> Result<(), 
             width,
         } => add_select(typed, *of, *range, *up, *width, *base, leaves),
         Node::Join { parts } => {
-            let parts = parts.as_slice();
-            for n in 0..period(parts) {
-                add_leaves(typed, parts[n], leaves)?;
+            let parts = first_copy(parts.as_slice());
+            for part in parts {
+                add_leaves(typed, *part, leaves)?;
             }
             Ok(())
         }

@@ -1,7 +1,7 @@
 //! The processes of a design (IEEE 1364-2005, clause 11).
 
-ghost use Rattle.std.specs.Prelude.{◌≡◌, ◌+◌, ◌<◌, ◌≤◌, ◌^◌, length, slice_get, slice_index, IsTrue, OnOk, Some, true, ℕ};
-ghost use Rattle.std.specs.List.{list_all, list_any};
+ghost use Rattle.std.specs.Prelude.{◌≡◌, ◌+◌, ◌<◌, ◌≤◌, ◌^◌, length, slice_get, slice_index, OnOk, Some, true, ℕ};
+ghost use Rattle.std.specs.List.{list_all};
 ghost use Rattle.vs_design.specs.Accepted.{is_empty};
 ghost use Rattle.vs_design.specs.Designs as D;
 ghost use Rattle.vs_design.specs.Levels.{has_no_cycle};
@@ -9,38 +9,19 @@ ghost use Rattle.vs_design.specs.Rules.{mixed_assigns};
 ghost use Rattle.vs_design.specs.Sizes.{register_bits};
 ghost use Rattle.vs_flat.specs.Arena.{bit_count};
 ghost use Rattle.vs_flat.specs.DesignOf.{design_of, kind_of, arena_signals, arena_trees};
-ghost use Rattle.vs_flat.specs.Operators.{edge_of};
 ghost use Rattle.vs_flat.specs.Trees.{signal_at, tree_at};
-ghost use Rattle.vs_flat.specs.declared.processes.Event as F;
-ghost use Rattle.vs_length.specs.Bodies.{body_of};
+ghost use Rattle.vs_shape.specs.Bodies.{body_of};
 ghost use Rattle.vs_program.specs.Lowered.{IsLayout, Layout, home, process_stores};
 ghost use Rattle.vs_code.specs.Calls.{length_of};
 ghost use Rattle.vs_lower.specs.Processed.{AddsProcess, HasKindNames, HasShadows};
 
 use crate::blocks::{clocked, combinational};
-use crate::code::Code;
 use crate::continuous::continuous;
 use std::alloc::{AllocError, Global};
 use vs_design::footprint_law;
-use vs_flat::{Edge, Event, Kind, lawful_law, names_law, trees_law};
-use vs_width::{Typed, fits_law};
-
-/// Whether an event is `posedge` or `negedge`.
-fn is_edge(edge: Edge) -> bool
-    ensures { result ≡ D.is_edge (edge_of edge) }
-{
-    match edge {
-        Edge::Any => false,
-        Edge::Pos | Edge::Neg => true,
-    }
-}
-
-/// Whether one of these events is an edge, so that the block is clocked.
-fn has_edge(events: &[Event]) -> bool
-    ensures { result ≡ list_any (λ (e : F.Event). D.is_edge (edge_of e.edge)) events.now }
-{
-    events.iter().any(|e| is_edge(e.edge))
-}
+use vs_flat::{Kind, has_edge, lawful_law, names_law, trees_law};
+use vs_typed::{Typed, fits_law};
+use vs_values::Code;
 
 /// What process p is: it names expressions and statements of the design.
 pub(crate) fn kind_at(typed: &Typed, p: u32) -> &Kind

@@ -4,24 +4,23 @@ ghost use Rattle.std.specs.Prelude.{◌≡◌, ◌+◌, ◌<◌, ◌≤◌, ◌^
 ghost use Rattle.vs_net.specs.Network as N;
 ghost use Rattle.vs_design.specs.Designs as D;
 ghost use Rattle.vs_flat.specs.Arena.{bit_count};
-ghost use Rattle.vs_length.specs.Bodies.{body_of};
+ghost use Rattle.vs_shape.specs.Bodies.{body_of};
 ghost use Rattle.vs_program.specs.Lowered.{Layout};
-ghost use Rattle.vs_lower.specs.Copies.{homes};
-ghost use Rattle.vs_lower.specs.Ready.{IsReady};
+ghost use Rattle.vs_values.specs.Environments.{homes};
+ghost use Rattle.vs_values.specs.Ready.{IsReady};
 ghost use Rattle.vs_lower.specs.Resetting.{AddsReset, HasResetRoom, IsResetOf, IsResetReady, reset_condition};
-ghost use Rattle.vs_lower.specs.Valued.{AddsValue};
+ghost use Rattle.vs_values.specs.Valued.{AddsValue};
 
-use crate::applied::applied;
 use crate::branches::join_written;
-use crate::code::Code;
 use crate::copies::copy_home;
-use crate::environment::{Environment, Environments};
-use crate::expressions::Context;
+use crate::environments::Environments;
 use crate::statements::{statement, written_bits};
 use std::alloc::{AllocError, Global};
+use vs_base::{Context, UnaryOp};
 use vs_design::value_law;
-use vs_flat::UnaryOp;
-use vs_width::Typed;
+use vs_program::home;
+use vs_typed::Typed;
+use vs_values::{Code, Environment, applied};
 
 /// The slot of a reset's condition: that of its input, or of its `!` where the reset is active at 0.
 fn active(
@@ -39,7 +38,7 @@ fn active(
 {
     value_law();
     let mut slot = Vec::new(alloc);
-    slot.push(4 + input)?;
+    slot.push(home(input))?;
     if falls {
         let context = Context {
             width: 1,

@@ -10,27 +10,25 @@ ghost use Rattle.vs_design.specs.Sizes.{distinct};
 ghost use Rattle.vs_design.specs.Sleepers.{is_sleeping};
 ghost use Rattle.vs_flat.specs.Arena.{bit_count};
 ghost use Rattle.vs_flat.specs.DesignOf.{design_of};
-ghost use Rattle.vs_length.specs.Bodies.{body_of};
+ghost use Rattle.vs_shape.specs.Bodies.{body_of};
 ghost use Rattle.vs_code.specs.Calls.{IsCall, call_cost, length_of};
 ghost use Rattle.vs_program.specs.Lowered.{Layout, home, process_stores};
 ghost use Rattle.vs_reset.specs.Sleepers.{AreBits, IsMask, compare_call, finish_call, wake_calls, x_slots};
 ghost use Rattle.vs_lower.specs.Asleep.{AddsBody, AddsSleeper, IsSleeperReady};
 ghost use Rattle.vs_lower.specs.Processed.{IsBlockReady};
 
-use crate::applied::triple;
 use crate::assigns::owned;
-use crate::code::Code;
-use crate::environment::{Environment, Environments, picked};
-use crate::expressions::pair;
-use crate::joins::appended;
+use crate::environments::Environments;
 use crate::lowered::kind_at;
 use crate::statements::{statement, written_bits};
 use std::alloc::{AllocError, Global};
 use vs_code::AnyKernel;
 use vs_design::footprint_law;
 use vs_flat::{Kind, lawful_law, trees_law};
+use vs_program::home;
 use vs_reset::sleeper_law;
-use vs_width::{Typed, fits_law};
+use vs_typed::{Typed, fits_law};
+use vs_values::{Code, Environment, appended, pair, picked, triple};
 
 /// The list of one slot.
 fn one(alloc: Global, slot: u32) -> Result<Vec<u32>, AllocError>
@@ -48,7 +46,7 @@ fn homes_of(alloc: Global, bits: &[u32]) -> Result<Vec<u32>, AllocError>
 {
     let mut to = Vec::with_capacity(alloc, bits.len())?;
     for n in 0..bits.len() {
-        to.push(4 + bits[n])?;
+        to.push(home(bits[n]))?;
     }
     Ok(to)
 }

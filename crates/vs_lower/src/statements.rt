@@ -1,34 +1,30 @@
 //! Statements (IEEE 1364-2005, clause 9).
 
-ghost use Rattle.std.specs.Prelude.{◌≡◌, ◌<◌, ◌≤◌, length, map, slice_index, All, IfOk, OnOk, true, Some, ℕ};
+ghost use Rattle.std.specs.Prelude.{◌≡◌, ◌<◌, ◌≤◌, length, map, All, IfOk, OnOk, true, Some, ℕ};
 ghost use Rattle.std.specs.List.Sorted.{IsStrictlyIncreasing};
-ghost use Rattle.vs_design.specs.Expressions as E;
 ghost use Rattle.vs_design.specs.Statements as T;
 ghost use Rattle.vs_design.specs.Fits.{fits_statement};
 ghost use Rattle.vs_design.specs.Footprints.{contains, arms_bits, statement_bits};
 ghost use Rattle.vs_design.specs.Sizes.{distinct};
 ghost use Rattle.vs_flat.specs.Arena.{bit_count};
 ghost use Rattle.vs_flat.specs.DesignOf.{arena_trees};
-ghost use Rattle.vs_flat.specs.Operators.{case_of};
 ghost use Rattle.vs_flat.specs.Trees.{arms_tree, branch, sequence, tree_at};
-ghost use Rattle.vs_length.specs.Bodies.{EachArmNames, HasBodyNames, HasTarget, OtherBelow, body_of, body_of_statement, body_place};
-ghost use Rattle.vs_length.specs.Nodes.{EachBelow};
+ghost use Rattle.vs_shape.specs.Bodies.{EachArmNames, HasBodyNames, HasTarget, OtherBelow, body_of, body_of_statement, body_place};
+ghost use Rattle.vs_shape.specs.Nodes.{EachBelow};
 ghost use Rattle.vs_lower.specs.Branched.{unwritten};
-ghost use Rattle.vs_lower.specs.Ready.{IsStatementReady};
-ghost use Rattle.vs_lower.specs.Stated.{AddsArm, AddsBranch, AddsCases, AddsStatement, AreAmong, AreArmsReady, AreInOrder, AreInside, HasItems, IsArmReady};
+ghost use Rattle.vs_lower.specs.Stated.{IsStatementReady, AddsArm, AddsBranch, AddsCases, AddsStatement, AreAmong, AreArmsReady, AreInOrder, AreInside, HasItems, IsArmReady};
 
 use crate::assigns::assign;
 use crate::branches::{join_apart, join_written};
 use crate::cases::tests;
-use crate::code::Code;
 use crate::contexts::case_context;
-use crate::environment::Environments;
-use crate::expressions::{Context, lower};
-use crate::typed::own;
+use crate::environments::Environments;
 use std::alloc::{AllocError, Global};
-use vs_flat::{Arm, CaseKind, Statement, lawful_law, names_law, trees_law};
-use vs_length::{Walk, ascend};
-use vs_width::Typed;
+use vs_base::{CaseKind, Context};
+use vs_flat::{Arm, Statement, lawful_law};
+use vs_shape::{Walk, ascend};
+use vs_typed::Typed;
+use vs_values::{Code, lower, own};
 
 /// The bits that a statement may write, in ascending order and each once.
 pub(crate) fn written_bits(alloc: Global, typed: &Typed, s: u32) -> Result<Vec<u32>, AllocError>
@@ -51,10 +47,8 @@ fn statement_of(typed: &Typed, s: u32) -> &Statement
     ensures items { HasItems result.now }
     ensures tree { body_of typed.now s ≡ body_of_statement typed.now (body_place typed.now s) result.now }
 {
-    names_law();
-    trees_law();
     lawful_law();
-    typed.flat().statement(s)
+    vs_shape::statement_of(typed.flat(), s)
 }
 
 /// Adds the calls of statement s, in a block of which it is told whether it is clocked.
@@ -256,9 +250,9 @@ fn case(
     requires arms { EachArmNames (length typed.now.nodes) s arms.now }
     requires items { All (λ arm. 1 ≤ length arm.items) arms.now }
     requires other { OtherBelow s other }
-    requires ready { IsStatementReady (bit_count typed.now.signals) env.old.values env.old.ahead code.old clocked (T.Case (case_of kind) (tree_at (arena_trees typed.now) of) (arms_tree (tree_at (arena_trees typed.now)) (body_of typed.now) other arms.now)) }
+    requires ready { IsStatementReady (bit_count typed.now.signals) env.old.values env.old.ahead code.old clocked (T.Case kind (tree_at (arena_trees typed.now) of) (arms_tree (tree_at (arena_trees typed.now)) (body_of typed.now) other arms.now)) }
     requires bits { AreInOrder (bit_count typed.now.signals) bits.now (arms_bits (arms_tree (tree_at (arena_trees typed.now)) (body_of typed.now) other arms.now)) }
-    ensures adds { OnOk result (AddsStatement env.old.values env.old.ahead code.old code.new (T.Case (case_of kind) (tree_at (arena_trees typed.now) of) (arms_tree (tree_at (arena_trees typed.now)) (body_of typed.now) other arms.now)) env.new.values env.new.ahead) }
+    ensures adds { OnOk result (AddsStatement env.old.values env.old.ahead code.old code.new (T.Case kind (tree_at (arena_trees typed.now) of) (arms_tree (tree_at (arena_trees typed.now)) (body_of typed.now) other arms.now)) env.new.values env.new.ahead) }
     ensures unchanged { OnOk result (unwritten clocked env.new.values env.new.ahead ≡ unwritten clocked env.old.values env.old.ahead) }
 {
     let context = case_context(typed, of, arms);
@@ -303,7 +297,7 @@ fn branches(
     requires other { OtherBelow s other }
     requires ready { AreArmsReady (bit_count typed.now.signals) env.old.values env.old.ahead subject.now code.old clocked context.width (distinct (arms_bits (arms_tree (tree_at (arena_trees typed.now)) (body_of typed.now) other arms.now))) (arms_tree (tree_at (arena_trees typed.now)) (body_of typed.now) other arms.now) }
     requires bits { AreInOrder (bit_count typed.now.signals) bits.now (arms_bits (arms_tree (tree_at (arena_trees typed.now)) (body_of typed.now) other arms.now)) }
-    ensures adds { IfOk result (λ slots. AddsCases clocked env.old.values env.old.ahead subject.now code.old code.new (case_of kind) context.width context.signed (distinct (arms_bits (arms_tree (tree_at (arena_trees typed.now)) (body_of typed.now) other arms.now))) (arms_tree (tree_at (arena_trees typed.now)) (body_of typed.now) other arms.now) bits.now slots.items) }
+    ensures adds { IfOk result (λ slots. AddsCases clocked env.old.values env.old.ahead subject.now code.old code.new kind context.width context.signed (distinct (arms_bits (arms_tree (tree_at (arena_trees typed.now)) (body_of typed.now) other arms.now))) (arms_tree (tree_at (arena_trees typed.now)) (body_of typed.now) other arms.now) bits.now slots.items) }
     ensures values { OnOk result (env.new.values ≡ env.old.values) }
     ensures ahead { OnOk result (env.new.ahead ≡ env.old.ahead) }
 {
@@ -343,7 +337,7 @@ fn arm(
     requires rising { IsStrictlyIncreasing bits.now }
     requires inside { All (λ b. b < bit_count typed.now.signals) bits.now }
     requires among { AreAmong (statement_bits (body_of typed.now part)) bits.now }
-    ensures adds { IfOk result (λ slots. AddsArm clocked env.old.values env.old.ahead subject.now code.old code.new (case_of kind) context.width context.signed (map (tree_at (arena_trees typed.now)) items.now) (body_of typed.now part) bits.now behind.items slots.items) }
+    ensures adds { IfOk result (λ slots. AddsArm clocked env.old.values env.old.ahead subject.now code.old code.new kind context.width context.signed (map (tree_at (arena_trees typed.now)) items.now) (body_of typed.now part) bits.now behind.items slots.items) }
     ensures values { OnOk result (env.new.values ≡ env.old.values) }
     ensures ahead { OnOk result (env.new.ahead ≡ env.old.ahead) }
 {

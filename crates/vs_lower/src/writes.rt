@@ -1,84 +1,68 @@
 //! Writes to targets: which slots hold the bits' values afterwards.
 
-ghost use Rattle.std.specs.Prelude.{◌≡◌, ◌+◌, ◌<◌, ◌≤◌, ◌^◌, [], ◌∷◌, map, length, slice_index, sum_by, unsigned_abs, All, IfOk, OnOk, Some, true, option_map};
+ghost use Rattle.std.specs.Prelude.{◌≡◌, ℕ, ◌+◌, ◌<◌, ◌≤◌, ◌^◌, [], ◌∷◌, map, length, slice_index, slice_index_or, sum_by, All, IfOk, OnOk, Some, None, true, option_map};
 ghost use Rattle.std.specs.List.{range_with_len};
-ghost use Rattle.vs_four.specs.Selects.{Part, below, indices_up, places, range_length};
-ghost use Rattle.vs_design.specs.Expressions.{sign, signal_length};
+ghost use Rattle.vs_four.specs.Selects as selects;
+ghost use Rattle.vs_design.specs.Expressions.{signal_length};
 ghost use Rattle.vs_design.specs.Bodies.{bits_at};
 ghost use Rattle.vs_design.specs.Fits.{fits_target};
 ghost use Rattle.vs_design.specs.Statements.{target_width};
 ghost use Rattle.vs_design.specs.Values.{bits_of_signal};
 ghost use Rattle.vs_flat.specs.Arena.{bit_count};
-ghost use Rattle.vs_flat.specs.DesignOf.{arena_signals, arena_trees};
-ghost use Rattle.vs_flat.specs.Trees.{signal_at, tree_at};
+ghost use Rattle.vs_flat.specs.DesignOf.{arena_signals};
+ghost use Rattle.vs_flat.specs.Trees.{signal_at};
 ghost use Rattle.vs_kern_select.specs.declared.costs.Kernel.TheVariants as S;
 ghost use Rattle.vs_code.specs.declared.kernels.AnyKernel.TheVariants as K;
-ghost use Rattle.vs_lower.specs.Coded.{with_call};
-ghost use Rattle.vs_lower.specs.Constants.{constant_bits};
-ghost use Rattle.vs_lower.specs.Done.{placed, put_at};
+ghost use Rattle.vs_values.specs.Coded.{with_call};
+ghost use Rattle.vs_values.specs.Constants.{constant_bits};
+ghost use Rattle.vs_values.specs.Environments.{placed, put_at};
 ghost use Rattle.vs_lower.specs.Leaves.{IsInside, joined_target, leaf_target};
-ghost use Rattle.vs_lower.specs.Made.{IsCallable};
+ghost use Rattle.vs_values.specs.Made.{IsCallable};
 ghost use Rattle.vs_lower.specs.Written.{AddsWrites, AreIndexed, HasRoom, IsIndexed, write_weight};
 
-use crate::applied::triple;
-use crate::code::Code;
-use crate::environment::{Environment, place};
 use crate::leaves::Leaf;
-use crate::names::{signal_bits, signal_slots};
-use crate::selects::{shifted, start};
-use crate::slots::{are_constant, constant_bits};
 use std::alloc::{AllocError, Global};
-use vs_code::{AnyKernel, List};
+use vs_base::List;
+use vs_code::AnyKernel;
 use vs_flat::{lawful_law, length_of, trees_law};
-use vs_four::{Range, integer, is_known};
 use vs_kern_select::Selection;
-use vs_width::Typed;
+use vs_shape::{Part, Places, places_of};
+use vs_typed::Typed;
+use vs_values::{
+    Code, Environment, are_constant, constant_bits, place, signal_bits, signal_slots, triple,
+};
 
-/// The place, where there are so many.
-fn place_below(place: i128, count: u32) -> Option<u32>
-    ensures { result ≡ below count place }
-{
-    if place < 0 || place >= count as i128 {
-        None
-    } else {
-        Some(place as u32)
-    }
-}
-
-/// Gives the bit at a place of a signal another slot, where there is that place. The signal has its bits from `first` on.
+/// Gives the bit at a place of the signal that begins with bit `first` another slot, where there is that place.
 fn set_at(
     env: &mut Environment,
     first: u32,
-    count: u32,
-    place: i128,
+    place: Option<usize>,
     slot: u32,
 ) -> Result<(), AllocError>
-    requires inside { first + count ≤ length env.old }
-    requires few { first + count < 2 ^ 32 }
-    ensures { OnOk result (env.new ≡ put_at env.old (option_map (λ n. first + n) (below count place)) slot) }
+    requires inside { (n : ℕ) → place ≡ Some n → first + n < length env.old }
+    requires few { length env.old < 2 ^ 32 }
+    ensures { OnOk result (env.new ≡ put_at env.old (option_map (λ n. first + n) place) slot) }
 {
-    match place_below(place, count) {
-        Some(n) => env.set(first + n, slot),
+    match place {
+        Some(n) => env.set(first + n as u32, slot),
         None => Ok(()),
     }
 }
 
-/// Gives the bits from a place on these slots.
-fn place_from(
+/// Gives the bits at these places of the signal that begins with bit `first` these slots, one after the other.
+fn place_at(
     env: &mut Environment,
     first: u32,
-    count: u32,
-    start: i128,
+    places: &Places,
     value: &[u32],
 ) -> Result<(), AllocError>
-    requires fits { unsigned_abs start < 2 ^ 66 }
-    requires most { length value.now ≤ 64 }
-    requires inside { first + count ≤ length env.old }
-    requires few { first + count < 2 ^ 32 }
-    ensures { OnOk result (env.new ≡ placed env.old (map (λ p. option_map (λ n. first + n) p) (map (below count) (indices_up start (length value.now)))) value.now) }
+    requires alike { length places.now ≡ length value.now }
+    requires inside { (k n : ℕ) → slice_index_or places.now k None ≡ Some n → first + n < length env.old }
+    requires few { length env.old < 2 ^ 32 }
+    ensures { OnOk result (env.new ≡ placed env.old (map (λ p. option_map (λ n. first + n) p) places.now) value.now) }
 {
-    for k in 0..value.len() {
-        set_at(env, first, count, shifted(start, k as u32), value[k])?;
+    for k in 0..places.len() {
+        set_at(env, first, places.get(k), value[k as usize])?;
     }
     Ok(())
 }
@@ -95,25 +79,24 @@ fn place_select(
 ) -> Result<(), AllocError>
     requires signal { signal < length typed.now.signals }
     requires bits { length env.old ≡ bit_count typed.now.signals }
-    requires of_range { range_length selection.range ≡ signal_length (signal_at (arena_signals typed.now) signal) }
+    requires of_range { selects.range_length selection.range ≡ signal_length (signal_at (arena_signals typed.now) signal) }
     requires some { 1 ≤ length value.now }
     requires most { length value.now ≤ 64 }
     requires some_index { 1 ≤ length index.now }
     requires index { length index.now ≤ 64 }
-    ensures { OnOk result (env.new ≡ placed env.old (bits_at (signal_at (arena_signals typed.now) signal) (places (record { range = selection.range; up = selection.up; width = length value.now }) selection.signed (constant_bits index.now))) value.now) }
+    ensures { OnOk result (env.new ≡ placed env.old (bits_at (signal_at (arena_signals typed.now) signal) (selects.places (record { range = selection.range; up = selection.up; width = length value.now }) selection.signed (constant_bits index.now))) value.now) }
 {
     trees_law();
     lawful_law();
     let bits = constant_bits(alloc, index)?;
-    if is_known(bits) {
-        let base = integer(bits, selection.signed);
-        let first = start(selection.range, base, selection.up, value.len() as u32);
-        let flat = typed.flat();
-        let of = flat.signal(signal);
-        place_from(env, of.first_bit, length_of(of.range), first, value)?;
-        return Ok(());
-    }
-    Ok(())
+    let part = Part {
+        range: selection.range,
+        up: selection.up,
+        width: value.len() as u32,
+    };
+    let places = places_of(part, selection.signed, bits);
+    let first = typed.flat().signal(signal).first_bit;
+    place_at(env, first, &places, value)
 }
 
 /// Gives a whole signal these slots.

@@ -14,11 +14,11 @@ use Rattle.vs_ast.specs.declared.items.Item.{Item as ItemNode}
 use Rattle.vs_ast.specs.declared.items.GenerateBlock.{GenerateBlock as BlockNode}
 use Rattle.vs_ast.specs.declared.items.GenerateArm.{GenerateArm}
 use Rattle.vs_ast.specs.Views as view
-use Rattle.vs_phrase.specs.declared.input.Input.{Input}
+use Rattle.vs_statements.specs.declared.input.Input.{Input}
 use Rattle.vs_parser.specs.Parts as part
 use Rattle.vs_parser.specs.ItemLists.{ItemRead, ItemsGrown, items_from}
-use Rattle.vs_phrase.specs.Reading.{kind_at, bytes_in, Read, Parsed}
-use Rattle.vs_phrase.proofs.Places.{ap2, parsed, read_eps, read_many, grown_start, grown_more}
+use Rattle.vs_statements.specs.Reading.{kind_at, bytes_in, Read, Parsed}
+use Rattle.vs_statements.proofs.Places.{ap2, parsed, read_eps, read_many, grown_start, grown_more}
 
 -- ---- arms of a generate case
 

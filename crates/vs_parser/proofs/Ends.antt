@@ -25,13 +25,13 @@ use Rattle.vs_grammar.specs.Spelled.{NoneLeftOut, Spells}
 use Rattle.vs_grammar.proofs.Stopped.{stopping, sinking}
 use Rattle.vs_grammar.proofs.Whole.{derived, stops, sinks}
 use Rattle.vs_grammar.proofs.Decided.{verilog_is_predictive}
-use Rattle.vs_phrase.specs.declared.input.Input.{Input}
-use Rattle.vs_phrase.specs.declared.error.ParseError.{ParseError}
-use Rattle.vs_phrase.specs.declared.error.ParseError.TheVariants.{Syntax}
+use Rattle.vs_statements.specs.declared.input.Input.{Input}
+use Rattle.vs_statements.specs.declared.error.ParseError.{ParseError}
+use Rattle.vs_statements.specs.declared.error.ParseError.TheVariants.{Syntax}
 use Rattle.vs_parser.specs.Faults.{Fault}
-use Rattle.vs_phrase.specs.Reading.{kind_at, from, terminal_at, Refused, Parsed}
-use Rattle.vs_phrase.specs.Reading.Refused.{stopped, too_deep, out_of_memory}
-use Rattle.vs_phrase.proofs.Places.{from_head, kind_end, kind_in, below_end, at_head}
+use Rattle.vs_statements.specs.Reading.{kind_at, from, terminal_at, Refused, Parsed}
+use Rattle.vs_statements.specs.Reading.Refused.{stopped, too_deep, out_of_memory}
+use Rattle.vs_statements.proofs.Places.{from_head, kind_end, kind_in, below_end, at_head}
 
 -- ---- places and terminals
 

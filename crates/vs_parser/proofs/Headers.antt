@@ -13,13 +13,13 @@ use Rattle.std.specs.Prelude.{Result, IfErr, IsErrAnd}
 use Rattle.std.proofs.lemmas.Result.{err_from_is_err_and}
 use Rattle.vs_ast.specs.declared.modules.Module.{Module as ModuleNode}
 use Rattle.vs_ast.specs.Views as view
-use Rattle.vs_phrase.specs.declared.error.ParseError.{ParseError}
-use Rattle.vs_phrase.specs.declared.error.ParseError.TheVariants.{Memory}
-use Rattle.vs_phrase.specs.declared.input.Input.{Input}
+use Rattle.vs_statements.specs.declared.error.ParseError.{ParseError}
+use Rattle.vs_statements.specs.declared.error.ParseError.TheVariants.{Memory}
+use Rattle.vs_statements.specs.declared.input.Input.{Input}
 use Rattle.vs_parser.specs.Headings as part
 use Rattle.vs_parser.specs.Headings.{PortRead, PortsStep, PortsGrown, PortsRead, ParametersStep, ParametersGrown, ParametersRead}
-use Rattle.vs_phrase.specs.Reading.{kind_at, bytes_in, Read}
-use Rattle.vs_phrase.proofs.Places.{read_eps, read_many, grown_start, grown_more}
+use Rattle.vs_statements.specs.Reading.{kind_at, bytes_in, Read}
+use Rattle.vs_statements.proofs.Places.{read_eps, read_many, grown_start, grown_more}
 
 names_nil : (s : Signals) → part.with_names s [] ≡ s
 names_nil s = ap (λ z. record s { names = z }) (append-nil s.names)

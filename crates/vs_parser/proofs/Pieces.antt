@@ -17,10 +17,10 @@ use Rattle.vs_ast.specs.declared.items.Event.{Event}
 use Rattle.vs_ast.specs.declared.items.SignalKind.{SignalKind}
 use Rattle.vs_ast.specs.Views as view
 use Rattle.vs_parser.specs.Parts as part
-use Rattle.vs_phrase.specs.Reading.{from, terminal_at, Read, kind_at, IsBeside, Picked, Chosen}
-use Rattle.vs_phrase.proofs.Places.{from_head, later, known}
-use Rattle.vs_phrase.proofs.Lists.{some}
-use Rattle.vs_phrase.proofs.Tables.{chosen_tok, chosen_former, chosen_latter}
+use Rattle.vs_statements.specs.Reading.{from, terminal_at, Read, kind_at, IsBeside, Picked, Chosen}
+use Rattle.vs_statements.proofs.Places.{from_head, later, known}
+use Rattle.vs_statements.proofs.Lists.{some}
+use Rattle.vs_statements.proofs.Tables.{chosen_tok, chosen_former, chosen_latter}
 
 -- what is read from place i on has its first token there
 pub first_is : {ts : List Token} {d : ℕ} {x : Phrase} {a : D x} {i j : ℕ} → Read ts d x a i j → can_be_empty verilog x ≡ false → first_place a ≡ i

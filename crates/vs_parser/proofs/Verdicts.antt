@@ -12,8 +12,8 @@ use Rattle.vs_grammar.specs.Spelled.{NoneLeftOut, Spells, SpelledBy, LeftOutAt, 
 use Rattle.vs_grammar.specs.SpelledLaws.{OneSource, SpelledHasNoFault, OneFaultOfTokens}
 use Rattle.vs_ast.specs.declared.modules.Source.{Source}
 use Rattle.vs_ast.specs.Views as view
-use Rattle.vs_phrase.specs.declared.error.ParseError.{ParseError}
-use Rattle.vs_phrase.specs.declared.error.ParseError.TheVariants.{LeftOut, Syntax, TooDeep, Memory}
+use Rattle.vs_statements.specs.declared.error.ParseError.{ParseError}
+use Rattle.vs_statements.specs.declared.error.ParseError.TheVariants.{LeftOut, Syntax, TooDeep, Memory}
 use Rattle.vs_parser.specs.Faults.{Fault, IsSyntaxAnswer, IsDepthAnswer}
 
 same_tokens : {A E : Type 0} {a b : A} {x : Result A E} → x ≡ Ok a → x ≡ Ok b → a ≡ b

@@ -2,8 +2,8 @@
 use Rattle.std.specs.Prelude.{◌≡◌, ◌<◌, ℕ, List}
 use Rattle.vs_lexer.specs.declared.token.Token.{Token}
 use Rattle.vs_grammar.specs.Spelled.{LeftOutAt, HasSyntaxFault, IsTooDeep}
-use Rattle.vs_phrase.specs.declared.error.ParseError.{ParseError}
-use Rattle.vs_phrase.specs.declared.error.ParseError.TheVariants.{LeftOut, Syntax, TooDeep, Memory}
+use Rattle.vs_statements.specs.declared.error.ParseError.{ParseError}
+use Rattle.vs_statements.specs.declared.error.ParseError.TheVariants.{LeftOut, Syntax, TooDeep, Memory}
 
 -- the token is the first that is left out, or the first with which no derived list goes on, or one with which none goes on that is shallow enough
 abbrev pub Fault : List Token → ParseError → Type 0

@@ -8,8 +8,8 @@ use Rattle.vs_grammar.specs.Verilog.{◌⨾◌, ◌∣◌, t, r}
 use Rattle.vs_grammar.specs.Verilog.{Rule as rule}
 use Rattle.vs_grammar.specs.Trees.{Signals, Declarator, Parameters, Setting, RangeTree, SignalKind, Header, NoPorts}
 use Rattle.vs_grammar.specs.Meaning.{D, port_of, ports_onto, ports_of, parameters_of, setting_of, parameters_onto}
-use Rattle.vs_phrase.specs.declared.input.Input.{Input}
-use Rattle.vs_phrase.specs.Reading.{Read, Grown, bytes_in}
+use Rattle.vs_statements.specs.declared.input.Input.{Input}
+use Rattle.vs_statements.specs.Reading.{Read, Grown, bytes_in}
 
 abbrev pub with_names : Signals → List Declarator → Signals
 with_names s names = record s { names = s.names ++ names }

@@ -7,8 +7,8 @@ use Rattle.vs_grammar.specs.Trees.{Item, Items, AndItem}
 use Rattle.vs_grammar.specs.Meaning.{D, item_onto, items_onto}
 use Rattle.vs_ast.specs.declared.items.Item.{Item as ItemNode}
 use Rattle.vs_ast.specs.Views as view
-use Rattle.vs_phrase.specs.declared.input.Input.{Input}
-use Rattle.vs_phrase.specs.Reading.{Read, Grown, bytes_in}
+use Rattle.vs_statements.specs.declared.input.Input.{Input}
+use Rattle.vs_statements.specs.Reading.{Read, Grown, bytes_in}
 
 abbrev pub items_from : List Item → Items → Items
 items_from [] rest = rest

@@ -9,17 +9,17 @@ ghost use Rattle.vs_grammar.specs.Meaning as meaning;
 ghost use Rattle.vs_ast.specs.Views as view;
 ghost use Rattle.vs_parser.specs.Parts as part;
 ghost use Rattle.vs_grammar.specs.Trees as tree;
-ghost use Rattle.vs_phrase.specs.Reading.{Answers};
+ghost use Rattle.vs_statements.specs.Reading.{Answers};
 
 use vs_ast::{Declarator, Expr, Item, Name, Parameters, Range, Setting, SignalKind, Signals};
 use vs_lexer::TokenKind;
-use vs_phrase::ParseError;
-use vs_phrase::commas::{Part, comma_list};
-use vs_phrase::depth::Depth;
-use vs_phrase::expressions::expression;
-use vs_phrase::input::{Found, Input};
-use vs_phrase::tokens::{optional, stands, take};
-use vs_phrase::words::identifier;
+use vs_statements::ParseError;
+use vs_statements::commas::{Part, comma_list};
+use vs_statements::depth::Depth;
+use vs_statements::expressions::expression;
+use vs_statements::input::{Found, Input};
+use vs_statements::tokens::{optional, stands, take};
+use vs_statements::words::identifier;
 
 /// The bounds of a vector.
 fn range(input: &Input<'_>, at: u32, depth: Depth) -> Result<Found<Range>, ParseError>

@@ -10,19 +10,19 @@ ghost use Rattle.vs_grammar.specs.Predictive.{is_member};
 ghost use Rattle.vs_ast.specs.Views as view;
 ghost use Rattle.vs_parser.specs.Parts as part;
 ghost use Rattle.vs_parser.specs.ItemLists.{ItemRead};
-ghost use Rattle.vs_phrase.specs.Reading.{Refused, kind_at, Answers};
+ghost use Rattle.vs_statements.specs.Reading.{Refused, kind_at, Answers};
 
 use crate::declarations::{identifiers, local_parameters, parameters, ports_item, regs, wires};
 use crate::instances::instances;
 use crate::processes::{always, assigns};
 use vs_ast::{GenerateArm, GenerateBlock, GenerateHead, Item};
 use vs_lexer::TokenKind;
-use vs_phrase::ParseError;
-use vs_phrase::depth::Depth;
-use vs_phrase::expressions::{expression, expressions, is_expression_at};
-use vs_phrase::input::{Found, Input};
-use vs_phrase::tokens::{optional, stands, stands_any, take};
-use vs_phrase::words::{identifier, label};
+use vs_statements::ParseError;
+use vs_statements::depth::Depth;
+use vs_statements::expressions::{expression, expressions, is_expression_at};
+use vs_statements::input::{Found, Input};
+use vs_statements::tokens::{optional, stands, stands_any, take};
+use vs_statements::words::{identifier, label};
 
 /// What an item begins with that may stand in a generate block.
 const GENERATE_ITEM_KINDS: [TokenKind; 10] = [

@@ -8,5 +8,5 @@ mod modules;
 mod processes;
 mod whole;
 
-pub use vs_phrase::ParseError;
+pub use vs_statements::ParseError;
 pub use whole::parse;

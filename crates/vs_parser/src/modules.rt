@@ -8,18 +8,18 @@ ghost use Rattle.vs_grammar.specs.Meaning as meaning;
 ghost use Rattle.vs_ast.specs.Views as view;
 ghost use Rattle.vs_parser.specs.Headings as part;
 ghost use Rattle.vs_parser.specs.Headings.{ParametersRead, ParametersStep, PortRead, PortsRead, PortsStep};
-ghost use Rattle.vs_phrase.specs.Reading.{Refused, Answers};
+ghost use Rattle.vs_statements.specs.Reading.{Refused, Answers};
 
 use crate::declarations::{direction, identifiers, optional_range, plain_declarator, setting};
 use crate::items::items;
 use std::alloc::Global;
 use vs_ast::{Declarator, Header, Module, Parameters, Range, Setting, Signals, Source};
 use vs_lexer::TokenKind;
-use vs_phrase::ParseError;
-use vs_phrase::depth::Depth;
-use vs_phrase::input::{Found, Input};
-use vs_phrase::tokens::{optional, stands, stands_any, take};
-use vs_phrase::words::identifier;
+use vs_statements::ParseError;
+use vs_statements::depth::Depth;
+use vs_statements::input::{Found, Input};
+use vs_statements::tokens::{optional, stands, stands_any, take};
+use vs_statements::words::identifier;
 
 /// The parameters in a header.
 fn header_parameters(

@@ -10,18 +10,19 @@ ghost use Rattle.vs_grammar.specs.Predictive.{is_member};
 ghost use Rattle.vs_ast.specs.Views as view;
 ghost use Rattle.vs_parser.specs.Parts as part;
 ghost use Rattle.vs_grammar.specs.Trees as tree;
-ghost use Rattle.vs_phrase.specs.Reading.{Answers, Chosen, kind_at};
+ghost use Rattle.vs_statements.specs.Reading.{Answers, Chosen, kind_at};
 
-use vs_ast::{AlwaysBlock, Assign, Edge, Event, EventControl, Item};
+use vs_ast::{AlwaysBlock, Assign, Event, EventControl, Item};
+use vs_base::Edge;
 use vs_lexer::TokenKind;
-use vs_phrase::ParseError;
-use vs_phrase::commas::{Part, comma_list};
-use vs_phrase::depth::Depth;
-use vs_phrase::expressions::expression;
-use vs_phrase::input::{Found, Input};
-use vs_phrase::statements::{statement, target};
-use vs_phrase::tokens::{choose, stands, take};
-use vs_phrase::words::identifier;
+use vs_statements::ParseError;
+use vs_statements::commas::{Part, comma_list};
+use vs_statements::depth::Depth;
+use vs_statements::expressions::expression;
+use vs_statements::input::{Found, Input};
+use vs_statements::statements::{statement, target};
+use vs_statements::tokens::{choose, stands, take};
+use vs_statements::words::identifier;
 
 /// What stands between two events.
 const EVENT_SIGNS: [(TokenKind, ()); 2] = [(TokenKind::KeywordOr, ()), (TokenKind::Comma, ())];
@@ -82,7 +83,7 @@ pub(crate) fn assigns(input: &Input<'_>, at: u32, depth: Depth) -> Result<Found<
 
 /// Which edge is named.
 fn edge(input: &Input<'_>, at: u32, depth: Depth) -> Result<Found<Edge>, ParseError>
-    ensures { Answers input.now (part.edge_words) (λ b d. meaning.edge_of d) view.edge depth at result }
+    ensures { Answers input.now (part.edge_words) (λ b d. meaning.edge_of d) (λ e. e) depth at result }
 {
     if stands(input, at, TokenKind::KeywordPosedge) {
         let posedge = take(input, at, TokenKind::KeywordPosedge)?;

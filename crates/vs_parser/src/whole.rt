@@ -12,9 +12,9 @@ use std::alloc::Global;
 use vs_ast::Source;
 use vs_grammar::laws::spelled_law;
 use vs_lexer::{Token, is_left_out};
-use vs_phrase::ParseError;
-use vs_phrase::depth::Depth;
-use vs_phrase::input::Input;
+use vs_statements::ParseError;
+use vs_statements::depth::Depth;
+use vs_statements::input::Input;
 
 /// The first token that is left out, if there is one.
 fn first_left_out(tokens: &[Token]) -> Option<u32>

@@ -16,13 +16,13 @@ use Rattle.vs_flat.specs.Arena.{Arena}
 use Rattle.vs_flat.specs.Named.{all_below, kind_signals, kind_expressions, kind_statements, kind_names_below}
 use Rattle.vs_flat.specs.Lawful.{IsLawful}
 use Rattle.vs_flat.specs.Laws.{ProcessNames, AssignTargets, EachProcess}
-use Rattle.vs_flat.specs.Operators.{edge_of, port_of}
+use Rattle.vs_flat.specs.Ports.{port_of}
 use Rattle.vs_flat.specs.declared.processes.Port.{Port}
 use Rattle.vs_flat.specs.Targets.{target_of, place_of}
 use Rattle.vs_flat.specs.Trees.{signal_at, target_tree}
 use Rattle.vs_flat.specs.DesignOf.{arena_signals, design_of, kind_of, event_of}
-use Rattle.vs_length.specs.Nodes.{tree_of}
-use Rattle.vs_length.specs.Bodies.{body_of}
+use Rattle.vs_shape.specs.Nodes.{tree_of}
+use Rattle.vs_shape.specs.Bodies.{body_of}
 use Rattle.vs_reads.specs.Footprint.{footprint_in, footprints_of, footprint_at, no_footprint}
 use Rattle.vs_reads.specs.Kept.{footprint_of}
 use Rattle.vs_reads.specs.declared.lists.ProcessBits.{ProcessBits}
@@ -89,12 +89,12 @@ module _ (names : ProcessNames) (targets : AssignTargets) (each : EachProcess) (
         statement_fits = fits_kind (K.Block star events statement) is;
       }
 
-edges_are : (s : ℕ → Signal) (es : List Event) → list_any D.has_edge (map (event_of s) es) ≡ list_any (λ (e : Event). D.is_edge (edge_of e.edge)) es
+edges_are : (s : ℕ → Signal) (es : List Event) → list_any D.has_edge (map (event_of s) es) ≡ list_any (λ (e : Event). D.is_edge e.edge) es
 edges_are s [] = refl
-edges_are s (e ∷ es) = ap (λ b. D.is_edge (edge_of e.edge) || b) (edges_are s es)
+edges_are s (e ∷ es) = ap (λ b. D.is_edge e.edge || b) (edges_are s es)
 
-pub edges_of : (s : ℕ → Signal) (es slice : List Event) (found b : Bool) → slice ≡ es → found ≡ list_any (λ (e : Event). D.is_edge (edge_of e.edge)) slice → found ≡ b → list_any D.has_edge (map (event_of s) es) ≡ b
-edges_of s es slice found b same is h = edges_are s es ∙ ap (list_any (λ (e : Event). D.is_edge (edge_of e.edge))) (sym same) ∙ sym is ∙ h
+pub edges_of : (s : ℕ → Signal) (es slice : List Event) (found b : Bool) → slice ≡ es → found ≡ list_any (λ (e : Event). D.is_edge e.edge) slice → found ≡ b → list_any D.has_edge (map (event_of s) es) ≡ b
+edges_of s es slice found b same is h = edges_are s es ∙ ap (list_any (λ (e : Event). D.is_edge e.edge)) (sym same) ∙ sym is ∙ h
 
 -- the footprint of a process, by its kind
 module _ (bits : BitsOfDesign) (each : EachProcess) (a : Arena) (lawful : IsLawful a) (p : ℕ) (process : Process) (at : slice_get a.processes p ≡ Some process) (k : Kind) (is : process.kind ≡ k) where

@@ -5,9 +5,9 @@ use Rattle.vs_flat.specs.declared.processes.Event.{Event}
 use Rattle.vs_flat.specs.declared.processes.Kind.{Kind}
 use Rattle.vs_flat.specs.declared.processes.Kind.TheVariants as K
 use Rattle.vs_flat.specs.Arena.{Arena}
-use Rattle.vs_length.specs.Nodes.{tree_of}
-use Rattle.vs_length.specs.Bodies.{body_of}
-use Rattle.vs_length.specs.Walked.{IsTarget}
+use Rattle.vs_shape.specs.Nodes.{tree_of}
+use Rattle.vs_shape.specs.Bodies.{body_of}
+use Rattle.vs_shape.specs.Walked.{IsTarget}
 
 abbrev pub EachSignalBelow : ℕ → List Event → Type 0
 EachSignalBelow n events = (k : ℕ) (e : Event) → slice_get events k ≡ Some e → e.signal < n

@@ -6,12 +6,10 @@ ghost use Rattle.std.specs.List.Sorted.{IsStrictlyIncreasing};
 ghost use Rattle.vs_design.specs.Designs as D;
 ghost use Rattle.vs_design.specs.Fits.{fits_statement};
 ghost use Rattle.vs_design.specs.Footprints.{contains, without, ascending, signals_bits, wait_signals};
-ghost use Rattle.vs_flat.specs.declared.processes.Event.{Event as FlatEvent};
 ghost use Rattle.vs_flat.specs.DesignOf.{event_of, arena_signals};
-ghost use Rattle.vs_flat.specs.Operators.{edge_of};
 ghost use Rattle.vs_flat.specs.Trees.{signal_at, target_tree};
-ghost use Rattle.vs_length.specs.Nodes.{tree_of};
-ghost use Rattle.vs_length.specs.Bodies.{body_of};
+ghost use Rattle.vs_shape.specs.Nodes.{tree_of};
+ghost use Rattle.vs_shape.specs.Bodies.{body_of};
 ghost use Rattle.vs_reads.specs.Footprint.{footprint_in};
 ghost use Rattle.vs_reads.specs.Kept.{footprint_of};
 ghost use Rattle.vs_reads.specs.Named.{AssignIsFit, BlockIsFit, EachSignalBelow};
@@ -20,33 +18,8 @@ ghost use Rattle.vs_reads.specs.Within.{IsWithin};
 use crate::lists::ProcessBits;
 use smallvec::SmallVec;
 use std::alloc::{AllocError, Global};
-use vs_flat::{Edge, Event};
-use vs_length::{Shapes, Walk, ascend};
-
-/// Whether an event is `posedge` or `negedge`.
-fn is_edge(edge: Edge) -> bool
-    ensures { result ≡ D.is_edge (edge_of edge) }
-{
-    match edge {
-        Edge::Any => false,
-        Edge::Pos | Edge::Neg => true,
-    }
-}
-
-/// Whether one of these events is an edge, so that the block is clocked.
-pub(crate) fn has_edge(events: &[Event]) -> bool
-    ensures { result ≡ list_any (λ (e : FlatEvent). D.is_edge (edge_of e.edge)) events.now }
-{
-    events.iter().any(|e| is_edge(e.edge))
-}
-
-/// Whether a bit is among these, which rise.
-fn is_among(bits: &[u32], bit: u32) -> bool
-    requires { IsStrictlyIncreasing bits.now }
-    ensures { result ≡ contains bits.now bit }
-{
-    bits.binary_search(&bit).is_ok()
-}
+use vs_flat::Event;
+use vs_shape::{Shapes, Walk, ascend, is_among};
 
 /// Those of the bits that are not among the others, which rise.
 fn without(alloc: Global, bits: &[u32], others: &[u32]) -> Result<Vec<u32>, AllocError>

@@ -8,4 +8,4 @@ mod processes;
 
 pub use laws::footprint_law;
 pub use lists::Footprints;
-pub use processes::footprints;
+pub use processes::{fit_process, footprints};

@@ -9,14 +9,14 @@ ghost use Rattle.vs_reads.specs.Kept.{footprint_of};
 ghost use Rattle.vs_reads.specs.Named.{IsFitKind};
 
 use crate::Footprints;
-use crate::gather::{assign_bits, clocked_bits, combinational_bits, has_edge};
+use crate::gather::{assign_bits, clocked_bits, combinational_bits};
 use crate::lists::ProcessBits;
 use std::alloc::{AllocError, Global};
-use vs_flat::{Kind, Process, lawful_law, names_law, trees_law};
-use vs_length::Shapes;
+use vs_flat::{Kind, Process, has_edge, lawful_law, names_law, trees_law};
+use vs_shape::Shapes;
 
 /// Process p of a design in which all fits: what it names is there and has 1 to 64 bits.
-fn fit_process(shapes: &Shapes, p: u32) -> &Process
+pub fn fit_process(shapes: &Shapes, p: u32) -> &Process
     requires there { p < length shapes.now.processes }
     requires fits { list_all fits_process (design_of shapes.now).processes ≡ true }
     ensures is { slice_get shapes.now.processes p ≡ Some result.now }

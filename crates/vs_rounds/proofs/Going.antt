@@ -2,7 +2,7 @@
 use Rattle.std.proofs.Common.{◌≡◌, ◌<◌, ◌*◌, ◌+◌, ◌∙◌, ℕ, zero, suc, refl, true, false, ◌≤◌, Bool, List, length, sym, ap, subst, arith}
 use Rattle.std.proofs.Math.Nat.{mul-le-mul_left}
 use Rattle.vs_desk.specs.Desk.{Contents}
-use Rattle.vs_drive.specs.Lanes.{OtherPlacesKept}
+use Rattle.vs_feed.specs.Lanes.{OtherPlacesKept}
 use Rattle.vs_engine.specs.Lanes.{Running}
 use Rattle.vs_program.specs.Compiled.{IsProgramOf}
 use Rattle.vs_program.specs.Program.{Program, first_stores, fall_stores, rise_stores}

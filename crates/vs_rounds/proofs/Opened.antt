@@ -8,14 +8,14 @@ use Rattle.vs_program.specs.Compiled.{IsProgramOf}
 use Rattle.vs_program.proofs.Lengths.{lengths_of_spans}
 use Rattle.vs_stim.specs.Known.{Known, remaining}
 use Rattle.vs_stim.specs.Reading.{Reading}
-use Rattle.vs_drive.specs.Lanes.{lane_at}
+use Rattle.vs_feed.specs.Lanes.{lane_at}
 use Rattle.vs_waves.specs.Wave.{Wave, IsNewWave}
 use Rattle.vs_waves.specs.Puts.{wave_place}
 use Rattle.vs_rounds.specs.Lanes.{Run, reading_of, network, Simulation, wave_at, closed, IsRead, IsUnread, IsWaveAt, HaveNext, HaveVectors, AreOpened, AreBegun}
 use Rattle.vs_rounds.specs.Ready.{AreParts, IsReady}
 use Rattle.vs_rounds.proofs.Settled.{in_time}
 use Rattle.vs_rounds.proofs.Waves.{not_ended}
-use Rattle.vs_rounds.proofs.Rounded.{remaining_left, still_taken}
+use Rattle.vs_rounds.proofs.Rounded.{remaining_left, given_left, still_taken}
 
 unread : (r : Reading) (live : Bool) (rest : Reading) → live ≡ true → r ≡ rest → IsUnread r 0 live rest
 unread r true rest is_live is = record { rest_is = λ _. sym is; within = λ _. omega arith; unrefused = λ e. absurd (cc); ended = λ e. absurd (cc) }
@@ -25,7 +25,7 @@ alive : (b : Bool) → b ≡ true → b ≡ false → ⊥
 alive b is_true is_false = cc
 
 pub opened_next : {W : Type 0} (lane : W → ℕ → Bool) (run : Run) (m : Simulation W) (c : Contents) → AreOpened lane run m c → HaveNext run 0 m.stimuli c
-opened_next lane run m c h = record { each = λ i lt. unread (reading_of run i) (lane_at m.stimuli i).live (remaining (lane_at m.stimuli i) c) (h.live i lt) (h.reading i lt); taken = record { each = λ i lt dead. absurd (alive (lane_at m.stimuli i).live (h.live i lt) dead) } }
+opened_next lane run m c h = record { each = λ i lt. unread (reading_of run i) (lane_at m.stimuli i).live (remaining (lane_at m.stimuli i) c) (h.live i lt) (h.reading i lt); read = λ i lt _. h.read i lt; taken = record { each = λ i lt dead. absurd (alive (lane_at m.stimuli i).live (h.live i lt) dead) } }
 
 new_wave : (run : Run) (r : Reading) (w : Wave) (now : State) (text : List ℕ) → IsNewWave run.design run.half w → now ≡ (network run).idle → text ≡ [] → IsWaveAt run r 0 w now text
 new_wave run r w now text h idle empty = record {
@@ -45,6 +45,7 @@ opened_begun lane run m new before after h long waves engine read = record {
     program = subst (λ (e : Running _). IsProgramOf run.design run.clock e.program) (sym engine) h.program;
     read = record {
       each = λ i lt. subst (λ (rest : Reading). IsRead (reading_of run i) 0 (lane_at new.stimuli i).live (lane_at new.stimuli i).vector rest) (sym (remaining_left (lane_at new.stimuli i) after c left)) (read.each i lt);
+      read = λ i lt live. given_left run i 1 (lane_at new.stimuli i) after c left (read.read i lt live);
       taken = still_taken new.stimuli after c left read.taken;
     };
     waves = record {

@@ -15,17 +15,17 @@ use Rattle.vs_program.specs.Program.{Program}
 use Rattle.vs_program.specs.Compiled.{IsProgramOf, span_of, span_bits}
 use Rattle.vs_engine.specs.Lanes.{state}
 use Rattle.vs_stim.specs.Lines.{lines, all_lines}
-use Rattle.vs_stim.specs.Known.{Known, place_of, remaining}
+use Rattle.vs_stim.specs.Known.{Known, place_of, remaining, IsReadTo}
 use Rattle.vs_stim.specs.Reading.{Reading, limits, read_vectors}
-use Rattle.vs_drive.specs.Lanes.{lane_at, ended}
-use Rattle.vs_drive.specs.Reading.{AreTaken}
+use Rattle.vs_feed.specs.Lanes.{lane_at, ended}
+use Rattle.vs_feed.specs.Reading.{AreTaken}
 use Rattle.vs_vcd.specs.Texts.{values_of}
 use Rattle.vs_waves.specs.Wave.{Wave}
 use Rattle.vs_waves.specs.Puts.{wave_place, PutsLanes, PutsUpTo}
 use Rattle.vs_waves.specs.Rounds.{begun, after_put, round_text, lane_values, EachGoesOn, CanPut}
 use Rattle.vs_rounds.specs.Drives.{Vector, vector_state}
 use Rattle.vs_rounds.specs.Given.{IsGiven}
-use Rattle.vs_rounds.specs.Lanes.{Run, reading_of, network, Simulation, wave_at, closed, IsRead, IsUnread, IsWaveAt, AreBeforeRound, AreInRound}
+use Rattle.vs_rounds.specs.Lanes.{Run, reading_of, network, Simulation, wave_at, closed, IsRead, IsUnread, IsWaveAt, HasGiven, AreBeforeRound, AreInRound}
 use Rattle.vs_rounds.specs.Ready.{AreAlike, IsReady, IsWaveReady, IsNoted, IsWaveNoted, Settles, signal_values}
 use Rattle.vs_rounds.specs.Stops.{IsWriteStop}
 use Rattle.vs_rounds.proofs.Readings.{read_on}
@@ -45,6 +45,13 @@ signal_values_are d clock p s h = ap (map (λ (x : Span). read s (span_bits x)))
 -- what is left of a text depends on what is left on the desk alone
 pub remaining_left : (s : Known) (c new : Contents) → new.left ≡ c.left → remaining s new ≡ remaining s c
 remaining_left s c new same = ap (λ (left : ℕ → List ℕ). read_vectors limits s.columns s.at s.count (all_lines (lines (s.pending ++ left (place_of s.lane))))) same
+
+-- and so does how far it was read
+pub given_left : (run : Run) (i count : ℕ) (s : Known) (c new : Contents) → new.left ≡ c.left → HasGiven run i count s c → HasGiven run i count s new
+given_left run i count s c new same h = record {
+  count_is = h.count_is;
+  read = subst (λ (left : ℕ → List ℕ). IsReadTo run.inputs (run.texts i) s.count s.columns s.at (s.pending ++ left (place_of s.lane))) (sym same) h.read;
+}
 
 -- nor does it matter to what is left of the texts that have ended
 pub still_taken : (stimuli : List Known) (c new : Contents) → new.left ≡ c.left → AreTaken c stimuli → AreTaken new stimuli
@@ -105,6 +112,9 @@ round_done lane run k old m c new live waves h lives gone puts = record {
         subst (λ (ks : List Known). IsUnread (reading_of run i) (suc k) (lane_at ks i).live (remaining (lane_at ks i) new)) (sym h.stimuli)
         (subst (λ (r : Reading). IsUnread (reading_of run i) (suc k) (lane_at old.stimuli i).live r) (sym (remaining_left (lane_at old.stimuli i) c new puts.left))
         (read_on (h.began.read.each i (omega (arith, ap length h.stimuli)))));
+    read = λ i lt.
+        subst (λ (ks : List Known). (lane_at ks i).live ≡ true → HasGiven run i (suc k) (lane_at ks i) new) (sym h.stimuli) (λ live.
+        given_left run i (suc k) (lane_at old.stimuli i) c new puts.left (h.began.read.read i (omega (arith, ap length h.stimuli)) live));
     taken = still_taken m.stimuli c new puts.left (subst (λ (ks : List Known). AreTaken c ks) (sym h.stimuli) h.began.read.taken);
   };
   waves = record {

@@ -1,5 +1,5 @@
 -- Where each lane stands in a round.
-use Rattle.std.specs.Prelude.{◌≡◌, ℕ, ◌<◌, ◌≤◌, Bool, true, false, not, List, [], length, drop, slice_index_or, None}
+use Rattle.std.specs.Prelude.{◌≡◌, ℕ, suc, ◌<◌, ◌≤◌, Bool, true, false, not, List, [], length, drop, slice_index_or, None}
 use Rattle.vs_four.specs.Lengths.{last_or}
 use Rattle.vs_net.specs.Network.{State, Network}
 use Rattle.vs_design.specs.Designs.{Design}
@@ -8,10 +8,10 @@ use Rattle.vs_desk.specs.Desk.{Contents}
 use Rattle.vs_program.specs.Compiled.{IsProgramOf}
 use Rattle.vs_engine.specs.Lanes.{Running, state}
 use Rattle.vs_stim.specs.declared.input.Input.{Input}
-use Rattle.vs_stim.specs.Known.{Known, remaining}
+use Rattle.vs_stim.specs.Known.{Known, remaining, IsReadBy}
 use Rattle.vs_stim.specs.Reading.{Reading, reading, with_vector}
-use Rattle.vs_drive.specs.Lanes.{lane_at}
-use Rattle.vs_drive.specs.Reading.{AreTaken}
+use Rattle.vs_feed.specs.Lanes.{lane_at}
+use Rattle.vs_feed.specs.Reading.{AreTaken}
 use Rattle.vs_vcd.specs.Scopes.{head_text}
 use Rattle.vs_vcd.specs.Texts.{values_of}
 use Rattle.vs_waves.specs.Wave.{Wave, IsNewWave}
@@ -76,15 +76,22 @@ pub record IsWaveAt (run : Run) (r : Reading) (k : ℕ) (w : Wave) (now : State)
   pub now_is : k ≤ length r.vectors → now ≡ last_or (network run).idle given.ends
   pub last_is : 0 < k → k ≤ length r.vectors → w.dump.last ≡ values_of run.design now
 
+-- The stimulus of lane i has given this many vectors, and its text was read up to there.
+pub record HasGiven (run : Run) (i count : ℕ) (s : Known) (c : Contents) : Type 0 where
+  pub count_is : s.count ≡ count
+  pub read : IsReadBy run.inputs (run.texts i) s c
+
 -- The vector of round k is the next that is read of each lane that hasn't ended, and nothing is left of the texts of the others, where the
 -- desk has these contents.
 pub record HaveNext (run : Run) (k : ℕ) (stimuli : List Known) (c : Contents) : Type 0 where
   pub each : (i : ℕ) → i < length stimuli → IsUnread (reading_of run i) k (lane_at stimuli i).live (remaining (lane_at stimuli i) c)
+  pub read : (i : ℕ) → i < length stimuli → (lane_at stimuli i).live ≡ true → HasGiven run i k (lane_at stimuli i) c
   pub taken : AreTaken c stimuli
 
 -- the vector of round k was read of each lane that hasn't ended, and nothing is left of the texts of the others
 pub record HaveVectors (run : Run) (k : ℕ) (stimuli : List Known) (c : Contents) : Type 0 where
   pub each : (i : ℕ) → i < length stimuli → IsRead (reading_of run i) k (lane_at stimuli i).live (lane_at stimuli i).vector (remaining (lane_at stimuli i) c)
+  pub read : (i : ℕ) → i < length stimuli → (lane_at stimuli i).live ≡ true → HasGiven run i (suc k) (lane_at stimuli i) c
   pub taken : AreTaken c stimuli
 
 -- what each lane has got before the puts of round k, and what is kept of its wave, where `lane` reads a lane of a word
@@ -108,6 +115,7 @@ pub record AreOpened {W : Type 0} (lane : W → ℕ → Bool) (run : Run) (m : S
   pub program : IsProgramOf run.design run.clock m.engine.program
   pub live : (i : ℕ) → i < length m.stimuli → (lane_at m.stimuli i).live ≡ true
   pub reading : (i : ℕ) → i < length m.stimuli → reading_of run i ≡ remaining (lane_at m.stimuli i) c
+  pub read : (i : ℕ) → i < length m.stimuli → HasGiven run i 0 (lane_at m.stimuli i) c
   pub waves : (i : ℕ) → i < length m.stimuli → IsNewWave run.design run.half (wave_at m.waves i)
   pub idle : (i : ℕ) → i < length m.stimuli → state lane m.engine i ≡ (network run).idle
 

@@ -5,7 +5,7 @@ ghost use Rattle.std.specs.List.{count_by};
 ghost use Rattle.vs_desk.specs.Places.{most_lanes};
 ghost use Rattle.vs_design.specs.Designs.{Design};
 ghost use Rattle.vs_program.specs.Compiled.{IsProgramOf};
-ghost use Rattle.vs_drive.specs.Lanes.{AreAttached, OtherPlacesKept};
+ghost use Rattle.vs_feed.specs.Lanes.{AreAttached, OtherPlacesKept};
 ghost use Rattle.vs_waves.specs.Puts.{AreWritable};
 ghost use Rattle.vs_rounds.specs.Lanes.{Run, Simulation, HaveNext, HaveVectors, AreBeforeRound, AreInRound};
 ghost use Rattle.vs_rounds.specs.Ready.{AreParts, IsReady, IsNoted, Settles, Ticks};
@@ -17,8 +17,8 @@ use std::alloc::{AllocError, Global};
 use std::marker::Model;
 use std::sync::ledger::Ledger;
 use vs_desk::Desk;
-use vs_drive::Drive;
 use vs_engine::Engine;
+use vs_feed::Drive;
 use vs_four::Bit4;
 use vs_plane::{Lanes, Pair, Steps};
 use vs_waves::Waves;
@@ -83,7 +83,7 @@ impl<W: Lanes> Machine<W> {
         ensures read { IsTrue D.tells → (run : Run) (k : ℕ) → HaveNext run k self.old.stimuli (D.contents desk.old)
             → OnOk result (HaveVectors run k self.new.stimuli (D.contents desk.new)) }
         ensures stops { IsTrue D.tells → (run : Run) (k : ℕ) → HaveNext run k self.old.stimuli (D.contents desk.old)
-            → IfErr result (ReadStops run (length self.old.stimuli) k) }
+            → IfErr result (ReadStops run (length self.old.stimuli) k (D.contents desk.new)) }
         ensures lane { IfErr result (IsLaneOf (length self.old.stimuli)) }
         ensures cause { IfErr result (HasCause (D.register desk.old) (D.register desk.new)) }
         ensures others { IsTrue D.tells → OtherPlacesKept (length self.old.stimuli) (D.contents desk.old) (D.contents desk.new) }

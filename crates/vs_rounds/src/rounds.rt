@@ -5,7 +5,7 @@ ghost use Rattle.vs_desk.specs.Places.{most_lanes};
 ghost use Rattle.vs_design.specs.Designs.{Design};
 ghost use Rattle.vs_design.specs.Sizes.{size};
 ghost use Rattle.vs_program.specs.Compiled.{IsProgramOf};
-ghost use Rattle.vs_drive.specs.Lanes.{AreAttached, OtherPlacesKept};
+ghost use Rattle.vs_feed.specs.Lanes.{AreAttached, OtherPlacesKept};
 ghost use Rattle.vs_waves.specs.Puts.{AreWritable};
 ghost use Rattle.vs_rounds.specs.Lanes.{Run, AreInRound, AreOpened, AreBegun};
 ghost use Rattle.vs_rounds.specs.Ready.{IsReady};
@@ -52,7 +52,7 @@ impl<W: Lanes> Machine<W> {
 
         // The first lane without a known first vector stops it.
         ensures stops { IsTrue D.tells → (run : Run) → AreOpened W.lane run self.old (D.contents desk.old)
-            → IfErr result (ReadStops run (length self.old.stimuli) 0) }
+            → IfErr result (ReadStops run (length self.old.stimuli) 0 (D.contents desk.new)) }
         ensures lane { IfErr result (IsLaneOf (length self.old.stimuli)) }
         ensures cause { IfErr result (HasCause (D.register desk.old) (D.register desk.new)) }
         ensures same { OnOk result (D.register desk.new ≡ D.register desk.old) }

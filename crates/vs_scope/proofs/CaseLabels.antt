@@ -19,9 +19,9 @@ use Rattle.vs_const.specs.Typed.{Typed, is_over}
 use Rattle.vs_const.specs.Expressions.{constant, is_clean}
 use Rattle.vs_const.proofs.Least.{least_append}
 use Rattle.vs_const.proofs.Short.{short}
-use Rattle.vs_hierarchy.specs.Environments.{Env, named}
-use Rattle.vs_hierarchy.specs.Constructs as spec
-use Rattle.vs_hierarchy.specs.Constructs.{Label, length_or_none, widest, all_signed, own_unknown, unknown_in, in_context, same_bits, arm_of, no_case, label_of, labels_of, said_case}
+use Rattle.vs_elaborated.specs.Environments.{Env, named}
+use Rattle.vs_elaborated.specs.Constructs as spec
+use Rattle.vs_elaborated.specs.Constructs.{Label, length_or_none, widest, all_signed, own_unknown, unknown_in, in_context, same_bits, arm_of, no_case, label_of, labels_of, said_case}
 use Rattle.vs_scope.specs.declared.cases.Labels.{Labels}
 use Rattle.vs_scope.specs.declared.cases.SaidCase.{SaidCase}
 use Rattle.vs_scope.specs.Cases.{label_faults, own_faults, all_good, AreLabels, IsFit, AreFitArms, has_value, good_case, IsSaidCase}

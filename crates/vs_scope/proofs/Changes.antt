@@ -1,12 +1,12 @@
 -- What becomes known of one name, in a map of names.
 use Rattle.std.proofs.Common.{◌≡◌, ℕ, Bool, true, false, List, [], ◌∷◌, map, Some, None, if◌then◌else◌, refl, sym, ap, ◌∙◌, subst}
 use Rattle.vs_design.specs.Clocks.{same_name}
-use Rattle.vs_hierarchy.specs.Environments as environment
-use Rattle.vs_hierarchy.specs.Declarations.{Named}
+use Rattle.vs_elaborated.specs.Environments as environment
+use Rattle.vs_elaborated.specs.Declarations.{Named}
 use Rattle.vs_scope.specs.declared.names.Declaration.{Declaration}
 use Rattle.vs_scope.specs.declared.names.Entry.{Entry}
 use Rattle.vs_scope.specs.Maps.{Pair, value_at, with_value, IsNew, AreDistinct}
-use Rattle.vs_hierarchy.specs.Parameters.{valued}
+use Rattle.vs_elaborated.specs.Parameters.{valued}
 use Rattle.vs_scope.specs.Views.{declared, pair_entry, is_later}
 use Rattle.vs_scope.specs.Declares.{entry_named, named_of}
 use Rattle.vs_scope.proofs.Entries.{same_is}

@@ -13,11 +13,11 @@ use Rattle.vs_ast.specs.declared.items.GenerateArm.{GenerateArm}
 use Rattle.vs_ast.specs.declared.items.GenerateBlock.{GenerateBlock}
 use Rattle.vs_const.specs.declared.faults.Fault.{Fault}
 use Rattle.vs_const.specs.Expressions.{number}
-use Rattle.vs_hierarchy.specs.Limits.{the_limits}
-use Rattle.vs_hierarchy.specs.Environments.{Env, named}
-use Rattle.vs_hierarchy.specs.Generate.{Made, nothing_made, after_faults}
-use Rattle.vs_hierarchy.specs.Loops.{holds}
-use Rattle.vs_hierarchy.specs.Constructs.{said_case, construct, branch, fallback, arm_branch}
+use Rattle.vs_elaborated.specs.Limits.{the_limits}
+use Rattle.vs_elaborated.specs.Environments.{Env, named}
+use Rattle.vs_elaborated.specs.Generate.{Made, nothing_made, after_faults}
+use Rattle.vs_elaborated.specs.Loops.{holds}
+use Rattle.vs_elaborated.specs.Constructs.{said_case, construct, branch, fallback, arm_branch}
 use Rattle.vs_scope.proofs.Steps.{append_none}
 use Rattle.vs_scope.specs.Chosen.{IsConstruct, option_block, fallback_block, if_block, of_if, arm_block, case_block, of_case, block_made, branch_made}
 

@@ -5,10 +5,12 @@ use Rattle.std.proofs.lemmas.List.{map-append}
 use Rattle.vs_design.specs.Clocks.{same_name}
 use Rattle.vs_const.specs.declared.faults.Fault.{Fault}
 use Rattle.vs_const.specs.Faults.{fault_if, least, better}
-use Rattle.vs_hierarchy.specs.Environments.{OfScope, find_entry}
-use Rattle.vs_hierarchy.specs.Environments as environment
-use Rattle.vs_hierarchy.specs.Generate.{BlockName}
-use Rattle.vs_hierarchy.specs.Surveys.{clash_with, has_name, block_faults, block_entries}
+use Rattle.vs_const.specs.declared.rules.Rule.{Rule}
+use Rattle.vs_const.specs.declared.rules.Rule.TheVariants.{DuplicateName}
+use Rattle.vs_elaborated.specs.Environments.{OfScope, find_entry}
+use Rattle.vs_elaborated.specs.Environments as environment
+use Rattle.vs_elaborated.specs.Generate.{BlockName}
+use Rattle.vs_elaborated.specs.Surveys.{clash_with, has_name, block_faults, block_entries}
 use Rattle.vs_scope.specs.declared.made.Made.{Made}
 use Rattle.vs_scope.specs.declared.names.Entry.{Entry}
 use Rattle.vs_scope.specs.Clashes.{NameAt, block_text, blocks_of, has_name_at, clash_faults, AreNew}
@@ -33,12 +35,12 @@ pub clashing_start : (es : List environment.Entry) (known : List ℕ → Bool) (
 clashing_start es known all none = record { seen = []; same = none; first = so_far_start (clash_faults es [] all) }
 
 pub clashing_more : (es : List environment.Entry) (known new : List ℕ → Bool) (b : NameAt) (rest all : List NameAt) (found mine sum : Option Fault) → AreClashing es known found (b ∷ rest) all
-    → mine ≡ least (clash_with b.place (find_entry es b.name) ++ fault_if (known b.name) 36 b.place) → sum ≡ better found mine → ((n : List ℕ) → new n ≡ (same_name b.name n || known n)) → AreClashing es new sum rest all
+    → mine ≡ least (clash_with b.place (find_entry es b.name) ++ fault_if (known b.name) DuplicateName b.place) → sum ≡ better found mine → ((n : List ℕ) → new n ≡ (same_name b.name n || known n)) → AreClashing es new sum rest all
 clashing_more es known new b rest all found mine sum h m s is = record {
   seen = b ∷ h.seen;
   same = λ n. is n ∙ ap (λ (x : Bool). same_name b.name n || x) (h.same n);
-  first = so_far_more (clash_with b.place (find_entry es b.name) ++ fault_if (has_name_at b.name h.seen) 36 b.place) (clash_faults es (b ∷ h.seen) rest) (clash_faults es [] all) found mine sum h.first
-      (m ∙ ap (λ (x : Bool). least (clash_with b.place (find_entry es b.name) ++ fault_if x 36 b.place)) (h.same b.name)) s;
+  first = so_far_more (clash_with b.place (find_entry es b.name) ++ fault_if (has_name_at b.name h.seen) DuplicateName b.place) (clash_faults es (b ∷ h.seen) rest) (clash_faults es [] all) found mine sum h.first
+      (m ∙ ap (λ (x : Bool). least (clash_with b.place (find_entry es b.name) ++ fault_if x DuplicateName b.place)) (h.same b.name)) s;
 }
 
 pub clashing_end : (es : List environment.Entry) (known : List ℕ → Bool) (found : Option Fault) (all : List NameAt) → AreClashing es known found [] all → found ≡ least (clash_faults es [] all)
@@ -51,8 +53,8 @@ has_is n (b ∷ bs) = ap (λ (x : Bool). same_name b.name n || x) (has_is n bs)
 pub clash_is : (es : List environment.Entry) (seen bs : List BlockName) → clash_faults es (map block_text seen) (map block_text bs) ≡ block_faults es seen bs
 clash_is es seen [] = refl
 clash_is es seen (b ∷ bs) =
-    ap (λ (x : Bool). (clash_with b.place (find_entry es b.name) ++ fault_if x 36 b.place) ++ clash_faults es (map block_text (b ∷ seen)) (map block_text bs)) (has_is b.name seen)
-    ∙ ap (λ (x : List Fault). (clash_with b.place (find_entry es b.name) ++ fault_if (has_name b.name seen) 36 b.place) ++ x) (clash_is es (b ∷ seen) bs)
+    ap (λ (x : Bool). (clash_with b.place (find_entry es b.name) ++ fault_if x DuplicateName b.place) ++ clash_faults es (map block_text (b ∷ seen)) (map block_text bs)) (has_is b.name seen)
+    ∙ ap (λ (x : List Fault). (clash_with b.place (find_entry es b.name) ++ fault_if (has_name b.name seen) DuplicateName b.place) ++ x) (clash_is es (b ∷ seen) bs)
 
 -- the names from an item on
 pub texts_from : (ms : List Made) (i : ℕ) (m : Made) (done more whole : List NameAt) → i < length ms → m ≡ get_or ms i m → more ≡ done ++ map block_text (block_names m.name)
@@ -147,9 +149,9 @@ clash_none : (place : ℕ) (o : Option environment.Entry) → clash_with place o
 clash_none place None h = refl
 clash_none place (Some e) h = cc
 
-fault_none : (b : Bool) (number place : ℕ) → fault_if b number place ≡ [] → b ≡ false
-fault_none true number place h = cc
-fault_none false number place h = refl
+fault_none : (b : Bool) (rule : Rule) (place : ℕ) → fault_if b rule place ≡ [] → b ≡ false
+fault_none true rule place h = cc
+fault_none false rule place h = refl
 
 abbrev entry_at : BlockName → environment.Entry
 entry_at b = record { name = b.name; place = b.place; declared = OfScope }
@@ -176,10 +178,10 @@ join_new es (a ∷ xs) bs h k = (h.0, join_new (es ++ a ∷ []) xs bs h.1 (subst
 apart : (es done : List environment.Entry) (seen bs : List BlockName) → ((n : List ℕ) → has_name n seen ≡ false → find_entry done n ≡ None) → block_faults es seen bs ≡ [] → AreNew (es ++ done) (block_entries bs)
 apart es done seen [] known h = tt
 apart es done seen (b ∷ bs) known h =
-    let p = no_fault (clash_with b.place (find_entry es b.name) ++ fault_if (has_name b.name seen) 36 b.place) (block_faults es (b ∷ seen) bs) h in
-    let q = no_fault (clash_with b.place (find_entry es b.name)) (fault_if (has_name b.name seen) 36 b.place) p.0 in
+    let p = no_fault (clash_with b.place (find_entry es b.name) ++ fault_if (has_name b.name seen) DuplicateName b.place) (block_faults es (b ∷ seen) bs) h in
+    let q = no_fault (clash_with b.place (find_entry es b.name)) (fault_if (has_name b.name seen) DuplicateName b.place) p.0 in
     let out : find_entry (es ++ done) b.name ≡ None =
-    find_append es done b.name ∙ ap (λ (o : Option environment.Entry). or_else o (find_entry done b.name)) (clash_none b.place (find_entry es b.name) q.0) ∙ known b.name (fault_none (has_name b.name seen) 36 b.place q.1) in
+    find_append es done b.name ∙ ap (λ (o : Option environment.Entry). or_else o (find_entry done b.name)) (clash_none b.place (find_entry es b.name) q.0) ∙ known b.name (fault_none (has_name b.name seen) DuplicateName b.place q.1) in
     let later : (n : List ℕ) → has_name n (b ∷ seen) ≡ false → find_entry (done ++ written_entry b) n ≡ None =
     (λ n k. let r = or_parts (same_name b.name n) (has_name n seen) k in
     find_append done (written_entry b) n ∙ ap (λ (o : Option environment.Entry). or_else o (find_entry (written_entry b) n)) (known n r.1) ∙ one_found b b.written n r.0) in

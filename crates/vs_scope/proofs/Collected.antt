@@ -1,7 +1,7 @@
 -- The declaration of each name of an item.
 use Rattle.std.proofs.Common.{Bool}
 use Rattle.vs_grammar.specs.Trees as tree
-use Rattle.vs_hierarchy.specs.Declarations.{Declaration, SignalOf, ParameterOf, GenvarSort, InstanceSort}
+use Rattle.vs_elaborated.specs.Declarations.{Declaration, SignalOf, ParameterOf, GenvarSort, InstanceSort}
 
 abbrev pub signal_declared : Bool → tree.Signals → tree.Declarator → Declaration
 signal_declared header t d = record { name = d.name; sort = SignalOf (record { kind = t.kind; signed = t.signed; range = t.range; header = header }) }

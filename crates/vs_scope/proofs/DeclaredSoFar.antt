@@ -3,8 +3,9 @@ use Rattle.std.proofs.Common.{◌≡◌, ℕ, ◌+◌, ◌<◌, List, [], ◌∷
 use Rattle.std.proofs.lemmas.List.{take_more, map-append}
 use Rattle.vs_const.specs.declared.faults.Fault.{Fault}
 use Rattle.vs_const.specs.Faults.{least, better, fault_if}
+use Rattle.vs_const.specs.declared.rules.Rule.TheVariants.{DuplicateName}
 use Rattle.vs_const.proofs.Least.{least_append}
-use Rattle.vs_hierarchy.specs.Declarations as spec
+use Rattle.vs_elaborated.specs.Declarations as spec
 use Rattle.vs_scope.specs.declared.names.Declaration.{Declaration}
 use Rattle.vs_scope.specs.declared.names.Names.{Names}
 use Rattle.vs_scope.specs.Views.{declaration}
@@ -22,7 +23,7 @@ more_of ds i d h e = take_more ds i d h ∙ ap (λ (x : Declaration). take i ds 
 -- one declaration more
 pub declared_more : (ds : List Declaration) (i : ℕ) (d : Declaration) (names new : Names) (fault repeated sum : Option Fault) → i < length ds → d ≡ get_or ds i d
     → IsDeclared (take i ds) names fault
-    → named_list new ≡ with_named (declaration d) (named_list names) → AreFirst new → repeated ≡ least (fault_if (is_one_too_many (named_list names) (declaration d)) 36 d.name.now.place) → sum ≡ better fault repeated
+    → named_list new ≡ with_named (declaration d) (named_list names) → AreFirst new → repeated ≡ least (fault_if (is_one_too_many (named_list names) (declaration d)) DuplicateName d.name.now.place) → sum ≡ better fault repeated
     → IsDeclared (take (i + 1) ds) new sum
 declared_more ds i d names new fault repeated sum h e before n f r s =
     subst (λ (x : List Declaration). IsDeclared x new sum) (sym (more_of ds i d h e)) (record {
@@ -30,8 +31,8 @@ declared_more ds i d names new fault repeated sum h e before n f r s =
       first = f;
       fault =
           s ∙ ap (λ (x : Option Fault). better x repeated) before.fault
-          ∙ ap (better (least (spec.repeated_names [] (map declaration (take i ds))))) (r ∙ ap (λ (ns : List spec.Named). least (fault_if (is_one_too_many ns (declaration d)) 36 d.name.now.place)) before.named)
-          ∙ sym (least_append (spec.repeated_names [] (map declaration (take i ds))) (fault_if (is_one_too_many (spec.names_of (map declaration (take i ds))) (declaration d)) 36 d.name.now.place))
+          ∙ ap (better (least (spec.repeated_names [] (map declaration (take i ds))))) (r ∙ ap (λ (ns : List spec.Named). least (fault_if (is_one_too_many ns (declaration d)) DuplicateName d.name.now.place)) before.named)
+          ∙ sym (least_append (spec.repeated_names [] (map declaration (take i ds))) (fault_if (is_one_too_many (spec.names_of (map declaration (take i ds))) (declaration d)) DuplicateName d.name.now.place))
           ∙ ap least (sym (repeated_more (map declaration (take i ds)) (declaration d)))
           ∙ ap (λ (x : List spec.Declaration). least (spec.repeated_names [] x)) (sym (map-append declaration (take i ds) (d ∷ [])));
     })

@@ -1,6 +1,6 @@
 -- The digits of a number.
 use Rattle.std.proofs.Common.{◌≡◌, ◌<◌, ◌≤◌, ◌+◌, ◌/◌, ◌%◌, ℕ, zero, suc, List, [], ◌∷◌, ◌++◌, refl, sym, ap, ◌∙◌, append_assoc, arith}
-use Rattle.vs_hierarchy.specs.Generate.{digits_before}
+use Rattle.vs_elaborated.specs.Generate.{digits_before}
 
 pub digits_behind : (left n : ℕ) (later : List ℕ) → digits_before left n later ≡ digits_before left n [] ++ later
 digits_behind zero n later = refl

@@ -2,7 +2,7 @@
 use Rattle.std.proofs.Common.{◌≡◌, ℕ, Bool, true, false, ◌&&◌, ◌==◌, List, [], ◌∷◌, Option, Some, None, map, MatchOption, option_map, if◌then◌else◌, refl, sym, ap, subst}
 use Rattle.std.proofs.lemmas.Bool.{eqb-true}
 use Rattle.vs_design.specs.Clocks.{same_name}
-use Rattle.vs_hierarchy.specs.Environments.{find_entry}
+use Rattle.vs_elaborated.specs.Environments.{find_entry}
 use Rattle.vs_scope.specs.declared.names.Entry.{Entry}
 use Rattle.vs_scope.specs.Maps.{Pair, value_at}
 use Rattle.vs_scope.specs.Views.{entry_of, pair_entry}

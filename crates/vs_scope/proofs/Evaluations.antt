@@ -8,9 +8,9 @@ use Rattle.vs_const.specs.declared.faults.Fault.{Fault}
 use Rattle.vs_const.specs.Faults.{least, better}
 use Rattle.vs_const.specs.Typed.{Typed}
 use Rattle.vs_const.proofs.Least.{least_append}
-use Rattle.vs_hierarchy.specs.Environments.{Entry, Env}
-use Rattle.vs_hierarchy.specs.Declarations as spec
-use Rattle.vs_hierarchy.specs.Parameters.{Override as SaidOverride, override_of, chosen, said_parameters}
+use Rattle.vs_elaborated.specs.Environments.{Entry, Env}
+use Rattle.vs_elaborated.specs.Declarations as spec
+use Rattle.vs_elaborated.specs.Parameters.{Override as SaidOverride, override_of, chosen, said_parameters}
 use Rattle.vs_scope.specs.declared.frames.Frame.{Frame}
 use Rattle.vs_scope.specs.declared.names.Declaration.{Declaration}
 use Rattle.vs_scope.specs.declared.parameters.Override.{Override}

@@ -4,9 +4,9 @@ use Rattle.vs_const.specs.declared.faults.Fault.{Fault}
 use Rattle.vs_const.specs.Faults.{least, better}
 use Rattle.vs_const.specs.Meanings.{SignalMeaning}
 use Rattle.vs_const.proofs.Least.{least_append}
-use Rattle.vs_hierarchy.specs.Environments.{Env, Entry}
-use Rattle.vs_hierarchy.specs.Declarations as spec
-use Rattle.vs_hierarchy.specs.Signals.{range_faults, put_signal, put_signals, SaidSignal}
+use Rattle.vs_elaborated.specs.Environments.{Env, Entry}
+use Rattle.vs_elaborated.specs.Declarations as spec
+use Rattle.vs_elaborated.specs.Signals.{range_faults, put_signal, put_signals, SaidSignal}
 use Rattle.vs_scope.specs.declared.names.Declaration.{Declaration}
 use Rattle.vs_scope.specs.declared.names.Signal.{Signal}
 use Rattle.vs_scope.specs.Views.{declaration, signal_meaning}

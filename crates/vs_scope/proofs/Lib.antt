@@ -29,4 +29,3 @@ pub mod ChosenBlocks
 pub mod MakingSteps
 pub mod ClashSteps
 pub mod WholeSurveys
-pub mod ShapedBlocks

@@ -2,8 +2,8 @@
 use Rattle.std.proofs.Common.{◌≡◌, ◌<◌, ℕ, suc, List, [], ◌∷◌, ◌++◌, map, length, get_or, drop, Option, Some, sym, ap, ◌∙◌, append_assoc, drop-cons}
 use Rattle.std.proofs.lemmas.List.{map-append}
 use Rattle.vs_const.specs.declared.faults.Fault.{Fault}
-use Rattle.vs_hierarchy.specs.Generate as generate
-use Rattle.vs_hierarchy.specs.Loops.{indexed, turn_blocks}
+use Rattle.vs_elaborated.specs.Generate as generate
+use Rattle.vs_elaborated.specs.Loops.{indexed, turn_blocks}
 use Rattle.vs_scope.specs.declared.made.Nested.{Nested}
 use Rattle.vs_scope.specs.declared.made.Block.{Block}
 use Rattle.vs_scope.specs.Blocks.{block}

@@ -5,11 +5,11 @@ use Rattle.vs_grammar.specs.Trees as tree
 use Rattle.vs_const.specs.declared.faults.Fault.{Fault}
 use Rattle.vs_const.specs.Faults.{least, better}
 use Rattle.vs_const.proofs.Least.{least_append}
-use Rattle.vs_hierarchy.specs.Environments.{Env}
-use Rattle.vs_hierarchy.specs.Limits.{the_limits}
-use Rattle.vs_hierarchy.specs.Generate as generate
-use Rattle.vs_hierarchy.specs.Constructs.{construct, constructs, is_construct}
-use Rattle.vs_hierarchy.specs.Surveys.{turns_after}
+use Rattle.vs_elaborated.specs.Environments.{Env}
+use Rattle.vs_elaborated.specs.Limits.{the_limits}
+use Rattle.vs_elaborated.specs.Generate as generate
+use Rattle.vs_elaborated.specs.Constructs.{construct, constructs, is_construct}
+use Rattle.vs_elaborated.specs.Surveys.{turns_after}
 use Rattle.vs_scope.specs.declared.made.Made.{Made}
 use Rattle.vs_scope.specs.declared.constructs.Making.{Making}
 use Rattle.vs_scope.specs.Chosen.{IsMaking}

@@ -5,7 +5,8 @@ use Rattle.vs_design.specs.Clocks.{same_name}
 use Rattle.vs_grammar.specs.Trees.{SignalKind, Input, InputWire, Output, OutputWire, OutputReg, Reg, Wire}
 use Rattle.vs_const.specs.declared.faults.Fault.{Fault}
 use Rattle.vs_const.specs.Faults.{fault_if}
-use Rattle.vs_hierarchy.specs.Declarations.{Sort, SignalOf, ParameterOf, GenvarSort, InstanceSort, Declaration, Named, are_kinds_of_one, are_sorts_of_one, second_of, names_after, names_of, first_named, is_repeated, repeated_names}
+use Rattle.vs_const.specs.declared.rules.Rule.TheVariants.{DuplicateName}
+use Rattle.vs_elaborated.specs.Declarations.{Sort, SignalOf, ParameterOf, GenvarSort, InstanceSort, Declaration, Named, are_kinds_of_one, are_sorts_of_one, second_of, names_after, names_of, first_named, is_repeated, repeated_names}
 use Rattle.vs_scope.specs.Declares.{with_second, is_open, with_named, is_one_too_many}
 use Rattle.vs_scope.proofs.Entries.{same_is}
 use Rattle.vs_scope.proofs.Steps.{append_none}
@@ -166,12 +167,12 @@ repeated_is xs a = by (first_named a.name.bytes xs) refl ∙ sym (too_many [] xs
     by None e = rw e refl
     by (Some f) e = rw e refl
 
-repeated_from : (before xs : List Declaration) (a : Declaration) → repeated_names before (xs ++ a ∷ []) ≡ repeated_names before xs ++ fault_if (is_repeated (before ++ xs) a) 36 a.name.place
-repeated_from before [] a = append_none (fault_if (is_repeated before a) 36 a.name.place) ∙ ap (λ (b : List Declaration). fault_if (is_repeated b a) 36 a.name.place) (sym (append_none before))
+repeated_from : (before xs : List Declaration) (a : Declaration) → repeated_names before (xs ++ a ∷ []) ≡ repeated_names before xs ++ fault_if (is_repeated (before ++ xs) a) DuplicateName a.name.place
+repeated_from before [] a = append_none (fault_if (is_repeated before a) DuplicateName a.name.place) ∙ ap (λ (b : List Declaration). fault_if (is_repeated b a) DuplicateName a.name.place) (sym (append_none before))
 repeated_from before (x ∷ xs) a =
-    ap (λ (r : List Fault). fault_if (is_repeated before x) 36 x.name.place ++ r)
-    (repeated_from (before ++ x ∷ []) xs a ∙ ap (λ (b : List Declaration). repeated_names (before ++ x ∷ []) xs ++ fault_if (is_repeated b a) 36 a.name.place) (append_assoc before (x ∷ []) xs))
-    ∙ sym (append_assoc (fault_if (is_repeated before x) 36 x.name.place) (repeated_names (before ++ x ∷ []) xs) (fault_if (is_repeated (before ++ x ∷ xs) a) 36 a.name.place))
+    ap (λ (r : List Fault). fault_if (is_repeated before x) DuplicateName x.name.place ++ r)
+    (repeated_from (before ++ x ∷ []) xs a ∙ ap (λ (b : List Declaration). repeated_names (before ++ x ∷ []) xs ++ fault_if (is_repeated b a) DuplicateName a.name.place) (append_assoc before (x ∷ []) xs))
+    ∙ sym (append_assoc (fault_if (is_repeated before x) DuplicateName x.name.place) (repeated_names (before ++ x ∷ []) xs) (fault_if (is_repeated (before ++ x ∷ xs) a) DuplicateName a.name.place))
 
-pub repeated_more : (xs : List Declaration) (a : Declaration) → repeated_names [] (xs ++ a ∷ []) ≡ repeated_names [] xs ++ fault_if (is_one_too_many (names_of xs) a) 36 a.name.place
-repeated_more xs a = repeated_from [] xs a ∙ ap (λ (t : Bool). repeated_names [] xs ++ fault_if t 36 a.name.place) (repeated_is xs a)
+pub repeated_more : (xs : List Declaration) (a : Declaration) → repeated_names [] (xs ++ a ∷ []) ≡ repeated_names [] xs ++ fault_if (is_one_too_many (names_of xs) a) DuplicateName a.name.place
+repeated_more xs a = repeated_from [] xs a ∙ ap (λ (t : Bool). repeated_names [] xs ++ fault_if t DuplicateName a.name.place) (repeated_is xs a)

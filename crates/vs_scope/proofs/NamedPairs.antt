@@ -3,10 +3,10 @@ use Rattle.std.proofs.Common.{◌≡◌, ℕ, Bool, true, false, not, ◌||◌, 
 use Rattle.vs_ast.specs.Views as view
 use Rattle.vs_ast.specs.Views.{option}
 use Rattle.vs_design.specs.Clocks.{same_name}
-use Rattle.vs_hierarchy.specs.Environments as environment
-use Rattle.vs_hierarchy.specs.Declarations as spec
-use Rattle.vs_hierarchy.specs.Declarations.{are_sorts_of_one, Named}
-use Rattle.vs_hierarchy.specs.Parameters.{first_declared}
+use Rattle.vs_elaborated.specs.Environments as environment
+use Rattle.vs_elaborated.specs.Declarations as spec
+use Rattle.vs_elaborated.specs.Declarations.{are_sorts_of_one, Named}
+use Rattle.vs_elaborated.specs.Parameters.{first_declared}
 use Rattle.vs_scope.specs.declared.names.Declaration.{Declaration}
 use Rattle.vs_scope.specs.declared.names.Entry.{Entry}
 use Rattle.vs_scope.specs.Maps.{Pair, value_at, with_value}

@@ -4,7 +4,7 @@ use Rattle.vs_four.specs.declared.Bit4.{Bit4}
 use Rattle.vs_four.specs.declared.Bit4.TheVariants.{One}
 use Rattle.vs_four.specs.Logic.{BitList, map2, fold_with, identical}
 use Rattle.vs_four.specs.Tables.{same, and_bit, of_bool, same_bit}
-use Rattle.vs_hierarchy.specs.Constructs.{same_bits}
+use Rattle.vs_elaborated.specs.Constructs.{same_bits}
 
 and_known : (a b : Bool) → and_bit (of_bool a) (of_bool b) ≡ of_bool (a && b)
 and_known true true = refl

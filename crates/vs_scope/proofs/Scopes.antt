@@ -2,8 +2,8 @@
 use Rattle.std.proofs.Common.{◌≡◌, ℕ, zero, suc, ◌+◌, ◌<◌, ◌≤◌, Bool, true, false, List, [], ◌∷◌, ◌++◌, length, get_or, slice_index_or, nat_lt, Option, Some, None, if◌then◌else◌, refl, sym, ap, ◌∙◌, subst, arith, length-append}
 use Rattle.std.proofs.lemmas.Bool.{ltb-true, ltb-false}
 use Rattle.vs_ast.specs.Views.{option}
-use Rattle.vs_hierarchy.specs.Environments.{Entry, Env, no_env, within, find_entry, find_name, turn_of}
-use Rattle.vs_hierarchy.specs.Surveys.{turned}
+use Rattle.vs_elaborated.specs.Environments.{Entry, Env, no_env, within, find_entry, find_name, turn_of}
+use Rattle.vs_elaborated.specs.Surveys.{turned}
 use Rattle.vs_scope.specs.declared.frames.Frame.{Frame}
 use Rattle.vs_scope.specs.declared.frames.Turn.{Turn}
 use Rattle.vs_scope.specs.Views.{entries}

@@ -3,7 +3,7 @@ use Rattle.std.proofs.Common.{Bool, true, false, List, [], ◌∷◌, ◌++◌, 
 use Rattle.vs_grammar.specs.Trees as tree
 use Rattle.vs_grammar.specs.Trees.{items_list}
 use Rattle.vs_grammar.specs.Shapes.{IsRange, Given, Each, OneOrMore, IsSetting, AreParameters, ArePorts, AreHeaderParameters, IsGenerateItem, IsItem, AreItems, IsHeader, IsModule}
-use Rattle.vs_hierarchy.specs.Declarations.{Declaration, signals_declared, parameters_declared, item_declared, header_declared, module_declared}
+use Rattle.vs_elaborated.specs.Declarations.{Declaration, signals_declared, parameters_declared, item_declared, header_declared, module_declared}
 use Rattle.vs_scope.specs.Shaped.{AreShaped}
 use Rattle.vs_scope.proofs.Collected.{signal_declared, parameter_declared, genvar_declared, instance_declared}
 

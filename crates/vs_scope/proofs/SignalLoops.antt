@@ -9,9 +9,9 @@ use Rattle.vs_const.specs.Faults.{least, better}
 use Rattle.vs_const.specs.Meanings.{SignalMeaning}
 use Rattle.vs_const.proofs.Least.{least_append}
 use Rattle.vs_grammar.specs.Trees.{Name}
-use Rattle.vs_hierarchy.specs.Environments.{Env}
-use Rattle.vs_hierarchy.specs.Declarations.{Sort, SignalOf, ParameterOf, GenvarSort, InstanceSort, Declaration, Named}
-use Rattle.vs_hierarchy.specs.Signals.{Start, SaidSignal, said_signals, after}
+use Rattle.vs_elaborated.specs.Environments.{Env}
+use Rattle.vs_elaborated.specs.Declarations.{Sort, SignalOf, ParameterOf, GenvarSort, InstanceSort, Declaration, Named}
+use Rattle.vs_elaborated.specs.Signals.{Start, SaidSignal, said_signals, after}
 use Rattle.vs_scope.specs.declared.names.Entry.{Entry}
 use Rattle.vs_scope.specs.declared.names.Signal.{Signal}
 use Rattle.vs_scope.specs.declared.signals.SaidSignal.{SaidSignal as SignalFound}

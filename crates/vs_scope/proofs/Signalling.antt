@@ -4,11 +4,12 @@ use Rattle.vs_four.specs.declared.Range.{Range}
 use Rattle.vs_ast.specs.Views.{option}
 use Rattle.vs_grammar.specs.Trees.{RangeTree}
 use Rattle.vs_const.specs.Faults.{fault_if}
+use Rattle.vs_const.specs.declared.rules.Rule.TheVariants.{BadRange}
 use Rattle.vs_const.specs.Meanings.{SignalMeaning}
-use Rattle.vs_hierarchy.specs.Environments.{Env}
-use Rattle.vs_hierarchy.specs.Declarations.{SignalSort}
-use Rattle.vs_hierarchy.specs.Parameters.{said_range}
-use Rattle.vs_hierarchy.specs.Signals as spec
+use Rattle.vs_elaborated.specs.Environments.{Env}
+use Rattle.vs_elaborated.specs.Declarations.{SignalSort}
+use Rattle.vs_elaborated.specs.Parameters.{said_range}
+use Rattle.vs_elaborated.specs.Signals as spec
 use Rattle.vs_scope.specs.declared.names.Declaration.{Declaration}
 use Rattle.vs_scope.specs.Views.{declaration}
 use Rattle.vs_scope.specs.Signalled.{second_faults}
@@ -24,4 +25,4 @@ same_meaning scope number first n m a b c d e f g h k l r q x1 x2 x3 x4 x5 x6 x7
 pub same_faults : (env : Env) (s : SignalSort) (other : Option RangeTree) (second : Option Declaration) → other ≡ (spec.second_sort s (option declaration second)).range
     → second_faults (said_range s.range env) (said_range other env) second ≡ spec.second_faults env s (option declaration second)
 same_faults env s other None h = refl
-same_faults env s other (Some d) h = ap (λ (x : Option RangeTree). fault_if (spec.are_unequal (said_range s.range env) (said_range x env)) 37 d.name.now.place) h
+same_faults env s other (Some d) h = ap (λ (x : Option RangeTree). fault_if (spec.are_unequal (said_range s.range env) (said_range x env)) BadRange d.name.now.place) h

@@ -3,19 +3,22 @@ use Rattle.std.proofs.Common.{◌≡◌, ℕ, Bool, true, false, ◌&&◌, ◌||
 use Rattle.std.proofs.lemmas.Bool.{ltb-true, ltb-false, eqb-true, eqb-false}
 use Rattle.vs_grammar.specs.Trees as tree
 use Rattle.vs_const.specs.declared.faults.Fault.{Fault}
+use Rattle.vs_const.specs.Rules.{rule_number}
+use Rattle.vs_const.proofs.RuleNumbers.{same_rule}
 use Rattle.vs_const.specs.Faults.{comes_before, lesser, least, better}
+use Rattle.vs_const.specs.declared.rules.Rule.{Rule}
 use Rattle.vs_const.proofs.Least.{least_append}
-use Rattle.vs_hierarchy.specs.Limits.{the_limits}
-use Rattle.vs_hierarchy.specs.Pieces.{Task}
-use Rattle.vs_hierarchy.specs.Environments.{within}
-use Rattle.vs_hierarchy.specs.Declarations.{repeated_names}
-use Rattle.vs_hierarchy.specs.Signals.{range_faults}
-use Rattle.vs_hierarchy.specs.Surveys.{Totals, survey, header_of, declarations_of, overrides_of, block_faults, bits_over, processes_over}
+use Rattle.vs_elaborated.specs.Limits.{the_limits}
+use Rattle.vs_elaborated.specs.Pieces.{Task}
+use Rattle.vs_elaborated.specs.Environments.{within}
+use Rattle.vs_elaborated.specs.Declarations.{repeated_names}
+use Rattle.vs_elaborated.specs.Signals.{range_faults}
+use Rattle.vs_elaborated.specs.Surveys.{Totals, survey, header_of, declarations_of, overrides_of, block_faults, bits_over, processes_over}
 use Rattle.vs_scope.specs.Signalled.{faults_of}
 use Rattle.vs_scope.specs.Scopes.{evaluated_entries}
 use Rattle.vs_scope.specs.Surveys.{IsOfParts, start_at, signals_in, made_in, made_faults, declared_in, blocks_in, said_in}
 
-same_fault : (p q m n : ℕ) → p ≡ q → m ≡ n → (let f : Fault = record { number = m; place = p } in f) ≡ record { number = n; place = q }
+same_fault : (p q : ℕ) (m n : Rule) → p ≡ q → m ≡ n → (let f : Fault = record { rule = m; place = p } in f) ≡ record { rule = n; place = q }
 same_fault p q m n h k = cc
 
 -- of two, neither of which comes before the other
@@ -47,10 +50,10 @@ lesser_comm : (a b : Fault) → lesser a (Some b) ≡ lesser b (Some a)
 lesser_comm a b = by (comes_before b a) (comes_before a b) refl refl
   where
     by : (x y : Bool) → comes_before b a ≡ x → comes_before a b ≡ y → (if x then b else a) ≡ (if y then a else b)
-    by true true h k = absurd (never b.place a.place b.number a.number _ _ _ _ _ _ refl refl refl refl refl refl h k)
+    by true true h k = absurd (never b.place a.place (rule_number b.rule) (rule_number a.rule) _ _ _ _ _ _ refl refl refl refl refl refl h k)
     by true false h k = refl
     by false true h k = refl
-    by false false h k = let e = equal b.place a.place b.number a.number _ _ _ _ _ _ refl refl refl refl refl refl h k in sym (same_fault b.place a.place b.number a.number e.0 e.1)
+    by false false h k = let e = equal b.place a.place (rule_number b.rule) (rule_number a.rule) _ _ _ _ _ _ refl refl refl refl refl refl h k in sym (same_fault b.place a.place b.rule a.rule e.0 (same_rule b.rule a.rule e.1))
 
 better_comm : (a b : Option Fault) → better a b ≡ better b a
 better_comm None None = refl

@@ -5,11 +5,12 @@ use Rattle.std.proofs.lemmas.Bool.{eqb-true}
 use Rattle.vs_grammar.specs.Trees.{GenerateHead}
 use Rattle.vs_const.specs.declared.faults.Fault.{Fault}
 use Rattle.vs_const.specs.Faults.{fault, least, better}
+use Rattle.vs_const.specs.declared.rules.Rule.TheVariants.{DuplicateName, GenerateTurns}
 use Rattle.vs_const.specs.Typed.{Numbered, Natural}
 use Rattle.vs_const.specs.Expressions.{number}
-use Rattle.vs_hierarchy.specs.Limits.{the_limits}
-use Rattle.vs_hierarchy.specs.Environments.{Env, with_turn, named}
-use Rattle.vs_hierarchy.specs.Loops.{holds, step, Turns, no_turn, and_turn, turns_from}
+use Rattle.vs_elaborated.specs.Limits.{the_limits}
+use Rattle.vs_elaborated.specs.Environments.{Env, with_turn, named}
+use Rattle.vs_elaborated.specs.Loops.{holds, step, Turns, no_turn, and_turn, turns_from}
 use Rattle.vs_scope.specs.declared.turns.Turned.{Turned as TurnedOf}
 use Rattle.vs_scope.specs.Sets.{IsFirstSoFar}
 use Rattle.vs_scope.specs.Turns.{Turned, ended, taken_turn, turned, IsTurned}
@@ -42,21 +43,21 @@ module _ (head : GenerateHead) (is_same : Bool) (genvar : ℕ) (env : Env) where
 
       by : (a h l : Bool)
           → (elim a as (λ x. Turns) [
-            | true ↦ no_turn (fault 36 head.place) total
+            | true ↦ no_turn (fault DuplicateName head.place) total
             | false ↦ elim h as (λ x. Turns) [
               | false ↦ no_turn test.faults total
               | true ↦ elim l as (λ x. Turns) [
-                | true ↦ no_turn (test.faults ++ fault 42 head.place) (total + 1)
+                | true ↦ no_turn (test.faults ++ fault GenerateTurns head.place) (total + 1)
                 | false ↦ and_turn v (test.faults ++ next.faults) (elim next.number as (λ x. Turns) [ None ↦ no_turn [] (total + 1) | Some u ↦ turns_from left the_limits head is_same genvar env (v ∷ seen) (total + 1) u ])
               ]
             ]
           ])
           ≡ after_turn (elim a as (λ x. Turned) [
-            | true ↦ ended (fault 36 head.place) total
+            | true ↦ ended (fault DuplicateName head.place) total
             | false ↦ elim h as (λ x. Turned) [
               | false ↦ ended test.faults total
               | true ↦ elim l as (λ x. Turned) [
-                | true ↦ ended (test.faults ++ fault 42 head.place) (total + 1)
+                | true ↦ ended (test.faults ++ fault GenerateTurns head.place) (total + 1)
                 | false ↦ record { taken = true; next = next.number; faults = test.faults ++ next.faults; count = total + 1 }
               ]
             ]
@@ -83,11 +84,11 @@ turned_tells again is_last head is_same seen_there total = by again (holds (numb
 
     by : (a h l o : Bool)
         → Tells a l total (elim a as (λ x. Turned) [
-          | true ↦ ended (fault 36 head.place) total
+          | true ↦ ended (fault DuplicateName head.place) total
           | false ↦ elim h as (λ x. Turned) [
             | false ↦ ended test.faults total
             | true ↦ elim (l || o) as (λ x. Turned) [
-              | true ↦ ended (test.faults ++ fault 42 head.place) (total + 1)
+              | true ↦ ended (test.faults ++ fault GenerateTurns head.place) (total + 1)
               | false ↦ record { taken = true; next = next.number; faults = test.faults ++ next.faults; count = total + 1 }
             ]
           ]
@@ -233,13 +234,13 @@ module _ (head : GenerateHead) (is_same : Bool) (genvar : ℕ) (env : Env) (all 
 
 -- a turn whose test holds, by whether it is one too many
 pub taken_over : (c : TurnedOf) (is_last : Bool) (head : GenerateHead) (is_same : Bool) (seen_there : Env) (test : List Fault) (total : ℕ) → (is_last || nat_lt the_limits.all_turns (total + 1)) ≡ true
-    → IsTurned c (ended (test ++ fault 42 head.place) (total + 1)) → IsTurned c (taken_turn is_last head is_same seen_there test total)
+    → IsTurned c (ended (test ++ fault GenerateTurns head.place) (total + 1)) → IsTurned c (taken_turn is_last head is_same seen_there test total)
 taken_over c is_last head is_same seen_there test total over h = by (is_last || nat_lt the_limits.all_turns (total + 1)) over
   where
     next : Natural
     next = step is_same head seen_there
 
-    by : (b : Bool) → b ≡ true → IsTurned c (elim b as (λ x. Turned) [ true ↦ ended (test ++ fault 42 head.place) (total + 1) | false ↦ record { taken = true; next = next.number; faults = test ++ next.faults; count = total + 1 } ])
+    by : (b : Bool) → b ≡ true → IsTurned c (elim b as (λ x. Turned) [ true ↦ ended (test ++ fault GenerateTurns head.place) (total + 1) | false ↦ record { taken = true; next = next.number; faults = test ++ next.faults; count = total + 1 } ])
     by true e = h
     by false e = cc
 
@@ -250,6 +251,6 @@ taken_within c is_last head is_same seen_there test total over h = by (is_last |
     next : Natural
     next = step is_same head seen_there
 
-    by : (b : Bool) → b ≡ false → IsTurned c (elim b as (λ x. Turned) [ true ↦ ended (test ++ fault 42 head.place) (total + 1) | false ↦ record { taken = true; next = next.number; faults = test ++ next.faults; count = total + 1 } ])
+    by : (b : Bool) → b ≡ false → IsTurned c (elim b as (λ x. Turned) [ true ↦ ended (test ++ fault GenerateTurns head.place) (total + 1) | false ↦ record { taken = true; next = next.number; faults = test ++ next.faults; count = total + 1 } ])
     by true e = cc
     by false e = h

@@ -6,10 +6,10 @@ use Rattle.vs_design.specs.Clocks.{same_name}
 use Rattle.vs_const.specs.declared.faults.Fault.{Fault}
 use Rattle.vs_const.specs.Faults.{least, better}
 use Rattle.vs_const.proofs.Least.{least_append}
-use Rattle.vs_hierarchy.specs.Environments.{Env, Entry, within}
-use Rattle.vs_hierarchy.specs.Declarations.{Declaration, Named, are_sorts_of_one, second_of, names_after, names_of, repeated_names}
-use Rattle.vs_hierarchy.specs.Parameters.{Override, first_entries, said_parameters}
-use Rattle.vs_hierarchy.specs.Signals.{Start, SaidSignal, said_signals, range_faults}
+use Rattle.vs_elaborated.specs.Environments.{Env, Entry, within}
+use Rattle.vs_elaborated.specs.Declarations.{Declaration, Named, are_sorts_of_one, second_of, names_after, names_of, repeated_names}
+use Rattle.vs_elaborated.specs.Parameters.{Override, first_entries, said_parameters}
+use Rattle.vs_elaborated.specs.Signals.{Start, SaidSignal, said_signals, range_faults}
 use Rattle.vs_scope.specs.declared.names.Signal.{Signal}
 use Rattle.vs_scope.specs.Views.{signal_meaning}
 use Rattle.vs_scope.specs.Shaped.{IsShaped, AreShaped, AreShapedNames}

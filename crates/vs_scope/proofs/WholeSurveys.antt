@@ -7,15 +7,16 @@ use Rattle.vs_grammar.specs.Trees.{items_list}
 use Rattle.vs_grammar.specs.Shapes.{Each, IsGenerateItem}
 use Rattle.vs_const.specs.declared.faults.Fault.{Fault}
 use Rattle.vs_const.specs.Faults.{least, better, fault}
+use Rattle.vs_const.specs.declared.rules.Rule.TheVariants.{TooManyBits}
 use Rattle.vs_const.proofs.Least.{least_append}
-use Rattle.vs_hierarchy.specs.Signals as spec
-use Rattle.vs_hierarchy.specs.Generate as generate
-use Rattle.vs_hierarchy.specs.Pieces.{Contents as ContentsOf}
-use Rattle.vs_hierarchy.specs.Environments.{Env, Entry, within}
-use Rattle.vs_hierarchy.specs.Limits.{the_limits}
-use Rattle.vs_hierarchy.specs.Constructs.{construct, constructs, is_construct}
-use Rattle.vs_hierarchy.specs.Surveys.{bits_over, block_entries, declarations_of, items_of, turns_after}
-use Rattle.vs_scope.proofs.ShapedBlocks.{construct_shaped}
+use Rattle.vs_elaborated.specs.Signals as spec
+use Rattle.vs_elaborated.specs.Generate as generate
+use Rattle.vs_elaborated.specs.Pieces.{Contents as ContentsOf}
+use Rattle.vs_elaborated.specs.Environments.{Env, Entry, within}
+use Rattle.vs_elaborated.specs.Limits.{the_limits}
+use Rattle.vs_elaborated.specs.Constructs.{construct, constructs, is_construct}
+use Rattle.vs_elaborated.specs.Surveys.{bits_over, block_entries, declarations_of, items_of, turns_after}
+use Rattle.vs_elaborated.proofs.ShapedBlocks.{construct_shaped}
 use Rattle.vs_scope.specs.declared.contents.Contents.{Contents}
 use Rattle.vs_scope.specs.declared.contents.Contents.TheVariants.{Module, Block}
 use Rattle.vs_scope.specs.declared.frames.Frame.{Frame}
@@ -31,7 +32,7 @@ use Rattle.vs_scope.specs.Clashes.{blocks_of}
 use Rattle.vs_scope.specs.Contents.{contents_items, contents_declared, block_items}
 use Rattle.vs_scope.specs.Made as code
 use Rattle.vs_scope.specs.Shaped.{AreShaped}
-use Rattle.vs_hierarchy.specs.Parameters as parameters
+use Rattle.vs_elaborated.specs.Parameters as parameters
 use Rattle.vs_scope.specs.declared.scope.SaidScope.{SaidScope}
 use Rattle.vs_scope.specs.Maps.{Pair}
 use Rattle.vs_scope.specs.MapViews.{pairs}
@@ -79,7 +80,7 @@ signals_same cs ss h = sym (of_code cs) ∙ ap (map (λ (p : Placed). p.meaning.
 pub bits_same : (most total : ℕ) (ss : List spec.SaidSignal) → over most total (map placed_of ss) ≡ bits_over most total ss
 bits_same most total [] = refl
 bits_same most total (s ∷ ss) =
-    ap (λ (r : List Fault). if nat_lt most (total + counted_bits (placed_of s)) then fault 44 s.place else r) (bits_same most (total + counted_bits (placed_of s)) ss)
+    ap (λ (r : List Fault). if nat_lt most (total + counted_bits (placed_of s)) then fault TooManyBits s.place else r) (bits_same most (total + counted_bits (placed_of s)) ss)
 
 -- ---- what items make
 

@@ -3,6 +3,7 @@ use Rattle.std.specs.Prelude.{ℕ, ◌+◌, List, [], ◌∷◌, nat_lt, if◌th
 use Rattle.vs_design.specs.Expressions.{signal_length}
 use Rattle.vs_const.specs.declared.faults.Fault.{Fault}
 use Rattle.vs_const.specs.Faults.{fault}
+use Rattle.vs_const.specs.declared.rules.Rule.TheVariants.{TooManyBits}
 use Rattle.vs_scope.specs.Signalled.{Placed}
 
 -- of one signal
@@ -12,4 +13,4 @@ counted_bits p = if p.meaning.known then signal_length p.meaning.signal else 0
 -- the first signal with whose bits there are more than the most
 abbrev pub over : (most total : ℕ) → List Placed → List Fault
 over most total [] = []
-over most total (p ∷ ps) = if nat_lt most (total + counted_bits p) then fault 44 p.place else over most (total + counted_bits p) ps
+over most total (p ∷ ps) = if nat_lt most (total + counted_bits p) then fault TooManyBits p.place else over most (total + counted_bits p) ps

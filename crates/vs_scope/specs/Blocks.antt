@@ -1,8 +1,8 @@
 -- Blocks and loops' variables, as the code has them.
 use Rattle.std.specs.Prelude.{◌≡◌}
 use Rattle.vs_const.specs.Faults.{least}
-use Rattle.vs_hierarchy.specs.Generate as generate
-use Rattle.vs_hierarchy.specs.Loops as loops
+use Rattle.vs_elaborated.specs.Generate as generate
+use Rattle.vs_elaborated.specs.Loops as loops
 use Rattle.vs_scope.specs.declared.made.Block.{Block}
 use Rattle.vs_scope.specs.declared.loops.Variable.{Variable}
 use Rattle.vs_scope.specs.Contents.{block_items}

@@ -7,9 +7,9 @@ use Rattle.vs_grammar.specs.Shapes.{Each, IsExpr}
 use Rattle.vs_const.specs.declared.faults.Fault.{Fault}
 use Rattle.vs_const.specs.Faults.{least}
 use Rattle.vs_const.specs.Expressions.{constant, is_clean}
-use Rattle.vs_hierarchy.specs.Environments.{Env, named}
-use Rattle.vs_hierarchy.specs.Constructs as spec
-use Rattle.vs_hierarchy.specs.Constructs.{Label, length_or_none, widest, all_signed, own_unknown, unknown_in, in_context, same_bits, arm_of, no_case, label_of}
+use Rattle.vs_elaborated.specs.Environments.{Env, named}
+use Rattle.vs_elaborated.specs.Constructs as spec
+use Rattle.vs_elaborated.specs.Constructs.{Label, length_or_none, widest, all_signed, own_unknown, unknown_in, in_context, same_bits, arm_of, no_case, label_of}
 use Rattle.vs_scope.specs.declared.cases.Labels.{Labels}
 use Rattle.vs_scope.specs.declared.cases.SaidCase.{SaidCase}
 

@@ -9,12 +9,12 @@ use Rattle.vs_ast.specs.declared.items.GenerateBlock.{GenerateBlock}
 use Rattle.vs_const.specs.declared.faults.Fault.{Fault}
 use Rattle.vs_const.specs.Faults.{least, better}
 use Rattle.vs_const.specs.Typed.{Numbered}
-use Rattle.vs_hierarchy.specs.Environments.{Env}
-use Rattle.vs_hierarchy.specs.Limits.{the_limits}
-use Rattle.vs_hierarchy.specs.Generate.{Made, nothing_made, after_faults}
-use Rattle.vs_hierarchy.specs.Loops.{holds}
-use Rattle.vs_hierarchy.specs.Constructs.{SaidCase, branch, constructs}
-use Rattle.vs_hierarchy.specs.Surveys.{turns_after}
+use Rattle.vs_elaborated.specs.Environments.{Env}
+use Rattle.vs_elaborated.specs.Limits.{the_limits}
+use Rattle.vs_elaborated.specs.Generate.{Made, nothing_made, after_faults}
+use Rattle.vs_elaborated.specs.Loops.{holds}
+use Rattle.vs_elaborated.specs.Constructs.{SaidCase, branch, constructs}
+use Rattle.vs_elaborated.specs.Surveys.{turns_after}
 use Rattle.vs_scope.specs.declared.constructs.Chosen.{Chosen}
 use Rattle.vs_scope.specs.declared.constructs.Making.{Making}
 use Rattle.vs_scope.specs.Made.{made, kept}

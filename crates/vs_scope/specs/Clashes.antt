@@ -5,9 +5,10 @@ use Rattle.vs_design.specs.Clocks.{same_name}
 use Rattle.vs_grammar.specs.Trees.{Name}
 use Rattle.vs_const.specs.declared.faults.Fault.{Fault}
 use Rattle.vs_const.specs.Faults.{fault_if}
-use Rattle.vs_hierarchy.specs.Environments.{Entry, OfScope, find_entry}
-use Rattle.vs_hierarchy.specs.Generate.{BlockName}
-use Rattle.vs_hierarchy.specs.Surveys.{clash_with}
+use Rattle.vs_const.specs.declared.rules.Rule.TheVariants.{DuplicateName}
+use Rattle.vs_elaborated.specs.Environments.{Entry, OfScope, find_entry}
+use Rattle.vs_elaborated.specs.Generate.{BlockName}
+use Rattle.vs_elaborated.specs.Surveys.{clash_with}
 use Rattle.vs_scope.specs.declared.clashes.NamedBlock.{NamedBlock}
 use Rattle.vs_scope.specs.declared.made.Made.{Made}
 use Rattle.vs_scope.specs.Made.{block_names}
@@ -36,7 +37,7 @@ has_name_at name bs = list_any (λ (b : NameAt). same_name b.name name) bs
 -- of two things of one name the later has the fault; `seen` are the blocks before
 abbrev pub clash_faults : List Entry → List NameAt → List NameAt → List Fault
 clash_faults es seen [] = []
-clash_faults es seen (b ∷ bs) = (clash_with b.place (find_entry es b.name) ++ fault_if (has_name_at b.name seen) 36 b.place) ++ clash_faults es (b ∷ seen) bs
+clash_faults es seen (b ∷ bs) = (clash_with b.place (find_entry es b.name) ++ fault_if (has_name_at b.name seen) DuplicateName b.place) ++ clash_faults es (b ∷ seen) bs
 
 -- the entry of a name that is written
 abbrev pub label_entry : Name → Entry

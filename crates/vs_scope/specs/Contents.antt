@@ -3,7 +3,7 @@ use Rattle.std.specs.Prelude.{List, [], ◌∷◌, map, flat_map}
 use Rattle.vs_grammar.specs.Trees as tree
 use Rattle.vs_grammar.specs.Trees.{items_list}
 use Rattle.vs_ast.specs.Views as view
-use Rattle.vs_hierarchy.specs.Declarations.{Declaration, item_declared, module_declared}
+use Rattle.vs_elaborated.specs.Declarations.{Declaration, item_declared, module_declared}
 use Rattle.vs_scope.specs.declared.contents.BlockItems.{BlockItems}
 use Rattle.vs_scope.specs.declared.contents.BlockItems.TheVariants.{One, Many}
 use Rattle.vs_scope.specs.declared.contents.Contents.{Contents}

@@ -2,9 +2,9 @@
 use Rattle.std.specs.Prelude.{◌≡◌, Bool, true, false, not, ◌||◌, List, [], ◌∷◌, map, is_some, Option, Some, None, if◌then◌else◌}
 use Rattle.vs_ast.specs.Views.{option}
 use Rattle.vs_design.specs.Clocks.{same_name}
-use Rattle.vs_hierarchy.specs.Environments as environment
-use Rattle.vs_hierarchy.specs.Declarations.{Declaration, Named, are_sorts_of_one}
-use Rattle.vs_hierarchy.specs.Parameters.{first_declared}
+use Rattle.vs_elaborated.specs.Environments as environment
+use Rattle.vs_elaborated.specs.Declarations.{Declaration, Named, are_sorts_of_one}
+use Rattle.vs_elaborated.specs.Parameters.{first_declared}
 use Rattle.vs_scope.specs.declared.names.Declaration.{Declaration as DeclarationOf}
 use Rattle.vs_scope.specs.declared.names.Entry.{Entry}
 use Rattle.vs_scope.specs.declared.names.Names.{Names}

@@ -1,9 +1,9 @@
 -- What the scopes around a place of the text stand for: the names and turns that are seen there.
 use Rattle.std.specs.Prelude.{ℕ, List, [], ◌∷◌, ◌++◌, Option, Some, None, if◌then◌else◌, ◌==◌, nat_lt, slice_index_or}
 use Rattle.vs_ast.specs.Views.{option}
-use Rattle.vs_hierarchy.specs.Environments as environment
-use Rattle.vs_hierarchy.specs.Environments.{Env, no_env, within}
-use Rattle.vs_hierarchy.specs.Surveys.{turned}
+use Rattle.vs_elaborated.specs.Environments as environment
+use Rattle.vs_elaborated.specs.Environments.{Env, no_env, within}
+use Rattle.vs_elaborated.specs.Surveys.{turned}
 use Rattle.vs_scope.specs.declared.frames.Turn.{Turn}
 use Rattle.vs_scope.specs.declared.frames.Frame.{Frame}
 use Rattle.vs_scope.specs.declared.frames.Around.{Around}

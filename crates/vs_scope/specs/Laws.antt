@@ -3,8 +3,8 @@ use Rattle.std.specs.Prelude.{List, flat_map}
 use Rattle.vs_grammar.specs.Trees as tree
 use Rattle.vs_grammar.specs.Shapes.{Each, IsGenerateItem, IsModule}
 use Rattle.vs_const.specs.Meanings.{IsFair}
-use Rattle.vs_hierarchy.specs.Environments.{named}
-use Rattle.vs_hierarchy.specs.Declarations.{item_declared, module_declared}
+use Rattle.vs_elaborated.specs.Environments.{named}
+use Rattle.vs_elaborated.specs.Declarations.{item_declared, module_declared}
 use Rattle.vs_scope.specs.Shaped.{AreShaped}
 use Rattle.vs_scope.specs.declared.frames.View.{View}
 use Rattle.vs_scope.specs.Frames.{view_env}

@@ -5,8 +5,8 @@ use Rattle.vs_ast.specs.Views.{option}
 use Rattle.vs_grammar.specs.Shapes.{Each, IsGenerateItem}
 use Rattle.vs_const.specs.declared.faults.Fault.{Fault}
 use Rattle.vs_const.specs.Faults.{least}
-use Rattle.vs_hierarchy.specs.Generate as spec
-use Rattle.vs_hierarchy.specs.Generate.{decimal}
+use Rattle.vs_elaborated.specs.Generate as spec
+use Rattle.vs_elaborated.specs.Generate.{decimal}
 use Rattle.vs_scope.specs.declared.made.Nested.{Nested}
 use Rattle.vs_scope.specs.declared.made.BlockName.{BlockName}
 use Rattle.vs_scope.specs.declared.made.BlockName.TheVariants.{Written, Numbered}

@@ -7,9 +7,9 @@ use Rattle.vs_ast.specs.declared.items.Parameters.{Parameters}
 use Rattle.vs_const.specs.Faults.{least}
 use Rattle.vs_const.specs.Typed.{Typed}
 use Rattle.vs_const.specs.Expressions.{constant}
-use Rattle.vs_hierarchy.specs.Environments.{named}
-use Rattle.vs_hierarchy.specs.Declarations.{ParameterSort}
-use Rattle.vs_hierarchy.specs.Parameters as spec
+use Rattle.vs_elaborated.specs.Environments.{named}
+use Rattle.vs_elaborated.specs.Declarations.{ParameterSort}
+use Rattle.vs_elaborated.specs.Parameters as spec
 use Rattle.vs_scope.specs.declared.frames.Frame.{Frame}
 use Rattle.vs_scope.specs.declared.maps.NameMap.{NameMap}
 use Rattle.vs_scope.specs.declared.parameters.Override.{Override}

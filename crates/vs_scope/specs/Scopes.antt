@@ -1,10 +1,10 @@
 -- What a scope declares, but for its generate blocks.
 use Rattle.std.specs.Prelude.{List, [], ◌++◌, flat_map}
 use Rattle.vs_const.specs.declared.faults.Fault.{Fault}
-use Rattle.vs_hierarchy.specs.Environments.{Entry, Env, within}
-use Rattle.vs_hierarchy.specs.Declarations.{Declaration, names_of, repeated_names}
-use Rattle.vs_hierarchy.specs.Parameters.{Override, SaidEntries, first_entries, said_parameters}
-use Rattle.vs_hierarchy.specs.Signals.{Start, SaidSignal, said_signals, range_faults, put_signals}
+use Rattle.vs_elaborated.specs.Environments.{Entry, Env, within}
+use Rattle.vs_elaborated.specs.Declarations.{Declaration, names_of, repeated_names}
+use Rattle.vs_elaborated.specs.Parameters.{Override, SaidEntries, first_entries, said_parameters}
+use Rattle.vs_elaborated.specs.Signals.{Start, SaidSignal, said_signals, range_faults, put_signals}
 use Rattle.vs_scope.specs.Signalled.{faults_of}
 
 -- the parameters have their values

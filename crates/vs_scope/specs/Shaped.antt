@@ -1,7 +1,7 @@
 -- Declarations as the grammar has them.
 use Rattle.std.specs.Prelude.{List, [], ◌∷◌}
 use Rattle.vs_grammar.specs.Shapes.{IsExpr, IsRange, Given}
-use Rattle.vs_hierarchy.specs.Declarations.{Sort, SignalOf, ParameterOf, GenvarSort, InstanceSort, Declaration, Named}
+use Rattle.vs_elaborated.specs.Declarations.{Sort, SignalOf, ParameterOf, GenvarSort, InstanceSort, Declaration, Named}
 
 -- ranges and values are expressions
 abbrev pub IsShapedSort : Sort → Type 0

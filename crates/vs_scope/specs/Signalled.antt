@@ -5,11 +5,12 @@ use Rattle.vs_ast.specs.Views as view
 use Rattle.vs_ast.specs.declared.items.Signals.{Signals}
 use Rattle.vs_const.specs.declared.faults.Fault.{Fault}
 use Rattle.vs_const.specs.Faults.{least, fault_if}
+use Rattle.vs_const.specs.declared.rules.Rule.TheVariants.{BadRange}
 use Rattle.vs_const.specs.Meanings.{SignalMeaning}
-use Rattle.vs_hierarchy.specs.Environments.{Entry}
-use Rattle.vs_hierarchy.specs.Declarations.{SignalSort}
-use Rattle.vs_hierarchy.specs.Parameters as parameters
-use Rattle.vs_hierarchy.specs.Signals as spec
+use Rattle.vs_elaborated.specs.Environments.{Entry}
+use Rattle.vs_elaborated.specs.Declarations.{SignalSort}
+use Rattle.vs_elaborated.specs.Parameters as parameters
+use Rattle.vs_elaborated.specs.Signals as spec
 use Rattle.vs_scope.specs.declared.names.Declaration.{Declaration}
 use Rattle.vs_scope.specs.declared.names.Signal.{Signal}
 use Rattle.vs_scope.specs.declared.signals.Start.{Start}
@@ -31,7 +32,7 @@ signal_sort s header = record { kind = view.signal_kind s.kind; signed = s.signe
 -- the ranges of both declarations are equal
 abbrev pub second_faults : parameters.SaidRange → parameters.SaidRange → Option Declaration → List Fault
 second_faults r q None = []
-second_faults r q (Some d) = fault_if (spec.are_unequal r q) 37 d.name.now.place
+second_faults r q (Some d) = fault_if (spec.are_unequal r q) BadRange d.name.now.place
 
 -- but for where it stands
 pub record IsSortOf (c : Signals) (s : SignalSort) : Type 0 where

@@ -6,13 +6,13 @@ use Rattle.vs_grammar.specs.Shapes.{Each, IsGenerateItem, IsModule}
 use Rattle.vs_design.specs.Expressions.{signal_length}
 use Rattle.vs_const.specs.declared.faults.Fault.{Fault}
 use Rattle.vs_const.specs.Faults.{least, better}
-use Rattle.vs_hierarchy.specs.Limits.{the_limits}
-use Rattle.vs_hierarchy.specs.Environments.{Entry, Env, within, find_entry}
-use Rattle.vs_hierarchy.specs.Signals.{Start, SaidSignal}
-use Rattle.vs_hierarchy.specs.Generate.{BlockName, Made}
-use Rattle.vs_hierarchy.specs.Constructs.{constructs}
-use Rattle.vs_hierarchy.specs.Pieces.{Contents as ContentsOf, OfModule, OfBlock, Task, Said}
-use Rattle.vs_hierarchy.specs.Surveys.{items_said, block_faults, block_entries, Totals, bits_over, piece_processes, processes_over, turns_after, items_of, declarations_of, overrides_of, header_of, Survey, survey}
+use Rattle.vs_elaborated.specs.Limits.{the_limits}
+use Rattle.vs_elaborated.specs.Environments.{Entry, Env, within, find_entry}
+use Rattle.vs_elaborated.specs.Signals.{Start, SaidSignal}
+use Rattle.vs_elaborated.specs.Generate.{BlockName, Made}
+use Rattle.vs_elaborated.specs.Constructs.{constructs}
+use Rattle.vs_elaborated.specs.Pieces.{Contents as ContentsOf, OfModule, OfBlock, Task, Said}
+use Rattle.vs_elaborated.specs.Surveys.{items_said, block_faults, block_entries, Totals, bits_over, piece_processes, processes_over, turns_after, items_of, declarations_of, overrides_of, header_of, Survey, survey}
 use Rattle.vs_scope.specs.declared.contents.Contents.{Contents}
 use Rattle.vs_scope.specs.declared.contents.Contents.TheVariants.{Module, Block}
 use Rattle.vs_scope.specs.declared.frames.Frame.{Frame}

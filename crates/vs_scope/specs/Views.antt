@@ -2,9 +2,9 @@
 use Rattle.std.specs.Prelude.{ℕ, Bool, true, false, List, map, Some, None}
 use Rattle.vs_ast.specs.Views as view
 use Rattle.vs_const.specs.Meanings.{SignalMeaning}
-use Rattle.vs_hierarchy.specs.Environments as environment
-use Rattle.vs_hierarchy.specs.Declarations as declarations
-use Rattle.vs_hierarchy.specs.Targets.{no_signal}
+use Rattle.vs_elaborated.specs.Environments as environment
+use Rattle.vs_elaborated.specs.Declarations as declarations
+use Rattle.vs_elaborated.specs.Targets.{no_signal}
 use Rattle.vs_scope.specs.declared.names.Sort.{Sort}
 use Rattle.vs_scope.specs.declared.names.Sort.TheVariants as sorts
 use Rattle.vs_scope.specs.declared.names.Declaration.{Declaration}

@@ -1,10 +1,10 @@
 -- What the code finds of the declarations of a scope.
 use Rattle.std.specs.Prelude.{◌≡◌, ◌+◌, false, map}
 use Rattle.vs_const.specs.Faults.{least}
-use Rattle.vs_hierarchy.specs.Environments.{Env}
-use Rattle.vs_hierarchy.specs.Pieces.{Contents}
-use Rattle.vs_hierarchy.specs.Signals.{Start}
-use Rattle.vs_hierarchy.specs.Surveys.{declarations_of, overrides_of}
+use Rattle.vs_elaborated.specs.Environments.{Env}
+use Rattle.vs_elaborated.specs.Pieces.{Contents}
+use Rattle.vs_elaborated.specs.Signals.{Start}
+use Rattle.vs_elaborated.specs.Surveys.{declarations_of, overrides_of}
 use Rattle.vs_scope.specs.declared.scope.SaidScope.{SaidScope}
 use Rattle.vs_scope.specs.Scopes.{said_faults}
 use Rattle.vs_scope.specs.Signalled.{placed, placed_of, start_after, start_of}

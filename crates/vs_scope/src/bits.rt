@@ -2,14 +2,13 @@
 
 ghost use Rattle.std.specs.Prelude.{◌≡◌, ◌+◌, None, Some, if◌then◌else◌, map, nat_lt};
 ghost use Rattle.vs_const.specs.Faults.{least};
-ghost use Rattle.vs_hierarchy.specs.Limits.{the_limits};
+ghost use Rattle.vs_elaborated.specs.Limits.{the_limits};
 ghost use Rattle.vs_scope.specs.Bits.{counted_bits, over};
 ghost use Rattle.vs_scope.specs.Signalled.{placed};
 
-use crate::faults::fault_at;
 use crate::names::Signal;
 use crate::signals::length_or_one;
-use vs_const::Fault;
+use vs_const::{Fault, Rule, fault_at};
 
 /// How many bits all signals have at most.
 const MOST_BITS: u64 = 1_048_576;
@@ -36,7 +35,7 @@ pub(crate) fn bits_fault(total: u32, signals: &[Signal<'_>]) -> Option<Fault>
     let mut sum = total as u64;
     for s in signals {
         match with_signal(sum, s) {
-            None => return fault_at(44, s.place),
+            None => return fault_at(Rule::TooManyBits, s.place),
             Some(next) => sum = next,
         }
     }

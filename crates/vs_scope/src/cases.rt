@@ -8,17 +8,16 @@ ghost use Rattle.vs_const.specs.Expressions.{constant as constant_of};
 ghost use Rattle.vs_const.specs.Found.{AreValued, Says};
 ghost use Rattle.vs_const.specs.Typed as typed;
 ghost use Rattle.vs_four.specs.Logic.{BitList};
-ghost use Rattle.vs_hierarchy.specs.Environments.{named};
-ghost use Rattle.vs_hierarchy.specs.Constructs as spec;
+ghost use Rattle.vs_elaborated.specs.Environments.{named};
+ghost use Rattle.vs_elaborated.specs.Constructs as spec;
 ghost use Rattle.vs_scope.specs.Cases.{AreLabels, IsFit, AreFitArms, IsSaidCase, has_value, good_case};
 ghost use Rattle.vs_scope.specs.Frames.{view_env};
 
-use crate::faults::{fault_if, first_of};
 use crate::frames::View;
 use crate::numbers::constant;
 use std::alloc::{AllocError, Global};
 use vs_ast::{Expr, GenerateArm};
-use vs_const::{Fault, Found, own, place_of, value};
+use vs_const::{Fault, Found, Rule, fault_if, first_of, own, place_of, value};
 use vs_four::{Bit4, Bits, is_known, same};
 
 /// What labels have together: whether all have values, the largest length up to 65, whether all are signed, the first of their faults, and the first
@@ -79,7 +78,7 @@ fn own_unknown(place: u32, c: &Found) -> Option<Fault>
 {
     match &c.form {
         None => None,
-        Some(f) => fault_if(!is_known(own(f)), 31, place),
+        Some(f) => fault_if(!is_known(own(f)), Rule::UnknownConstant, place),
     }
 }
 
@@ -172,7 +171,7 @@ fn unknown_label(
     ensures { IfOk result (λ f. f ≡ least (spec.unknown_in width signed (spec.label_of (view_env here.now) (view.expr e.now)))) }
 {
     let bits = bits_in(alloc, e, here, width, signed)?;
-    Ok(fault_if(!is_known(bits), 31, place_of(e)))
+    Ok(fault_if(!is_known(bits), Rule::UnknownConstant, place_of(e)))
 }
 
 /// The first of an arm's labels that has x or z.

@@ -3,22 +3,21 @@
 ghost use Rattle.std.specs.Prelude.{◌≡◌, ◌++◌, ◌∷◌, [], None, IfOk, OnOk, List, ℕ, false, map, flat_map};
 ghost use Rattle.vs_ast.specs.Views as view;
 ghost use Rattle.vs_const.specs.Faults.{least, fault_if};
-ghost use Rattle.vs_hierarchy.specs.Environments.{find_entry};
-ghost use Rattle.vs_hierarchy.specs.Surveys as spec;
+ghost use Rattle.vs_elaborated.specs.Environments.{find_entry};
+ghost use Rattle.vs_elaborated.specs.Surveys as spec;
 ghost use Rattle.vs_scope.specs.Clashes.{AreNew, block_of, block_text, blocks_of, clash_faults, label_entry};
 ghost use Rattle.vs_scope.specs.Made as code;
 ghost use Rattle.vs_scope.specs.Sets.{has};
 ghost use Rattle.vs_scope.specs.Surveys.{MeanTheSame};
 ghost use Rattle.vs_scope.specs.Views.{entries};
 
-use crate::faults::{fault_at, fault_if, first_of};
 use crate::made::{BlockName, Made};
 use crate::names::{Declaration, Declared, Entry, Names, Sort};
 use crate::sets::NameSet;
 use crate::texts::name_text;
 use std::alloc::{AllocError, Global};
 use vs_ast::Name;
-use vs_const::Fault;
+use vs_const::{Fault, Rule, fault_at, fault_if, first_of};
 
 /// A block's name as text, and where it stands.
 #[derive(Drop)]
@@ -73,7 +72,7 @@ fn declared_fault(names: &Names<'_>, b: &NamedBlock) -> Option<Fault>
 {
     match names.find(b.text.as_slice()) {
         None => None,
-        Some(e) => fault_at(36, b.place.max(e.first.name.place)),
+        Some(e) => fault_at(Rule::DuplicateName, b.place.max(e.first.name.place)),
     }
 }
 
@@ -90,7 +89,7 @@ fn clash_fault(
     for b in blocks {
         let text = b.text.as_slice();
         let declared = declared_fault(names, b);
-        let again = fault_if(seen.contains(text), 36, b.place);
+        let again = fault_if(seen.contains(text), Rule::DuplicateName, b.place);
         let both = first_of(declared, again);
         fault = first_of(fault, both);
         seen.add(text)?;
@@ -104,7 +103,7 @@ impl<'a> Names<'a> {
         ensures same { OnOk result (MeanTheSame (entries self.new) (entries self.old ++ label_entry (view.name label.now) ∷ [])) }
         ensures new { OnOk result (find_entry (entries self.old) (view.name label.now).bytes ≡ None → entries self.new ≡ entries self.old ++ label_entry (view.name label.now) ∷ []) }
     {
-        let name = label.text.as_bytes();
+        let name = label.text.as_slice();
         if self.map.get(name).is_some() {
             return Ok(());
         }

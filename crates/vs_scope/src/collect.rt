@@ -3,7 +3,7 @@
 ghost use Rattle.std.specs.Prelude.{◌≡◌, ◌++◌, true, OnOk, IfOk, map, flat_map};
 ghost use Rattle.vs_grammar.specs.Trees as tree;
 ghost use Rattle.vs_ast.specs.Views as view;
-ghost use Rattle.vs_hierarchy.specs.Declarations as spec;
+ghost use Rattle.vs_elaborated.specs.Declarations as spec;
 ghost use Rattle.vs_scope.specs.Views.{declaration};
 ghost use Rattle.vs_scope.specs.Contents.{contents_declared};
 

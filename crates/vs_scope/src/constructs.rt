@@ -6,10 +6,10 @@ ghost use Rattle.vs_grammar.specs.Shapes.{AreGenerateArms, Each, Given, IsBlock,
 ghost use Rattle.vs_ast.specs.Views as view;
 ghost use Rattle.vs_ast.specs.Views.{option};
 ghost use Rattle.vs_const.specs.Expressions.{number as number_of};
-ghost use Rattle.vs_hierarchy.specs.Environments.{named};
-ghost use Rattle.vs_hierarchy.specs.Generate as generate;
-ghost use Rattle.vs_hierarchy.specs.Limits.{the_limits};
-ghost use Rattle.vs_hierarchy.specs.Constructs as spec;
+ghost use Rattle.vs_elaborated.specs.Environments.{named};
+ghost use Rattle.vs_elaborated.specs.Generate as generate;
+ghost use Rattle.vs_elaborated.specs.Limits.{the_limits};
+ghost use Rattle.vs_elaborated.specs.Constructs as spec;
 ghost use Rattle.vs_scope.specs.Blocks.{block};
 ghost use Rattle.vs_scope.specs.Contents.{block_items, contents_items};
 ghost use Rattle.vs_scope.specs.Chosen.{ChosenBlock, IsChosen, IsConstruct, IsMaking, block_now, option_block, if_block, of_if, arm_block, case_block, of_case, branch_made};
@@ -20,7 +20,6 @@ ghost use Rattle.vs_scope.specs.Made.{made, kept};
 use crate::cases::{SaidCase, said_case};
 use crate::contents::{BlockItems, Contents};
 use crate::counts::one_more;
-use crate::faults::first_of;
 use crate::frames::View;
 use crate::loops::loop_made;
 use crate::made::{Block, BlockName, Made, after_fault, nothing_made, one_block};
@@ -28,7 +27,7 @@ use crate::numbers::number;
 use crate::turns::holds;
 use std::alloc::{AllocError, Global};
 use vs_ast::{Expr, GenerateArm, GenerateBlock, Item, Name};
-use vs_const::Fault;
+use vs_const::{Fault, first_of};
 
 /// The name of a block, by its construct's number in the scope (12.4.3).
 fn block_name<'a>(number: u32, place: u32, label: &'a Option<Name>) -> BlockName<'a>
@@ -122,7 +121,7 @@ fn chosen_branch<'a>(
     let v = number(alloc, condition, here)?;
     Ok(Chosen {
         body: branch_body(v.number, taken, other),
-        fault: v.fault,
+        fault: v.flaws.first,
     })
 }
 

@@ -3,19 +3,19 @@
 ghost use Rattle.std.specs.Prelude.{◌≡◌, ◌||◌, not, [], OnOk, IfOk, map, is_some, None};
 ghost use Rattle.vs_ast.specs.Views as view;
 ghost use Rattle.vs_const.specs.Faults.{least, fault_if};
-ghost use Rattle.vs_hierarchy.specs.Declarations as spec;
-ghost use Rattle.vs_hierarchy.specs.Parameters.{first_entries, first_declared};
+ghost use Rattle.vs_const.specs.declared.rules.Rule.TheVariants.{DuplicateName};
+ghost use Rattle.vs_elaborated.specs.Declarations as spec;
+ghost use Rattle.vs_elaborated.specs.Parameters.{first_entries, first_declared};
 ghost use Rattle.vs_scope.specs.Maps.{value_at};
 ghost use Rattle.vs_scope.specs.MapViews.{pairs};
 ghost use Rattle.vs_scope.specs.Views as scope;
 ghost use Rattle.vs_scope.specs.Declares.{named_list, AreFirst, IsOpenAt, with_named, is_one_too_many};
 
-use crate::faults::{fault_at, first_of};
 use crate::maps::NameMap;
 use crate::names::{Declaration, Declared, Entry, Names, Sort};
 use std::alloc::{AllocError, Global};
 use vs_ast::SignalKind;
-use vs_const::Fault;
+use vs_const::{Fault, Rule, fault_at, first_of};
 
 /// The names of a scope, and the first declaration that is one too many.
 #[derive(Drop)]
@@ -85,7 +85,7 @@ impl<'a> Names<'a> {
     {
         let declared = first_declared(d.sort);
         self.map.put(
-            d.name.text.as_bytes(),
+            d.name.text.as_slice(),
             Entry {
                 first: d,
                 second: None,
@@ -108,7 +108,7 @@ impl<'a> Names<'a> {
     {
         let declared = first_declared(first.sort);
         self.map.put(
-            d.name.text.as_bytes(),
+            d.name.text.as_slice(),
             Entry {
                 first,
                 second: Some(d),
@@ -123,9 +123,9 @@ impl<'a> Names<'a> {
         requires first { AreFirst self.old }
         ensures named { OnOk result (named_list self.new ≡ with_named (scope.declaration d.entry) (named_list self.old)) }
         ensures first { OnOk result (AreFirst self.new) }
-        ensures fault { IfOk result (λ f. f ≡ least (fault_if (is_one_too_many (named_list self.old) (scope.declaration d.entry)) 36 d.entry.name.now.place)) }
+        ensures fault { IfOk result (λ f. f ≡ least (fault_if (is_one_too_many (named_list self.old) (scope.declaration d.entry)) DuplicateName d.entry.name.now.place)) }
     {
-        match self.map.get(d.name.text.as_bytes()).copied() {
+        match self.map.get(d.name.text.as_slice()).copied() {
             None => {
                 self.declare_first(d)?;
                 Ok(None)
@@ -135,7 +135,7 @@ impl<'a> Names<'a> {
                     self.declare_second(first, d)?;
                     Ok(None)
                 } else {
-                    Ok(fault_at(36, d.name.place))
+                    Ok(fault_at(Rule::DuplicateName, d.name.place))
                 }
             }
         }

@@ -2,7 +2,7 @@
 
 ghost use Rattle.std.specs.Prelude.{◌≡◌, ◌<◌, None, Some, MatchOption, length};
 ghost use Rattle.vs_const.specs.Meanings.{Means};
-ghost use Rattle.vs_hierarchy.specs.Environments as spec;
+ghost use Rattle.vs_elaborated.specs.Environments as spec;
 ghost use Rattle.vs_scope.specs.Views.{declared, entries, entry_of};
 ghost use Rattle.vs_scope.specs.Frames as view;
 
@@ -220,7 +220,7 @@ fn genvar_meaning(value: Option<u32>) -> Named
 }
 
 impl Env for View<'_, '_> {
-    ghost use Rattle.vs_hierarchy.specs.Environments.{named};
+    ghost use Rattle.vs_elaborated.specs.Environments.{named};
     ghost use Rattle.vs_scope.specs.Frames.{view_env};
 
     ghost names = { λ v. named (view_env v) };

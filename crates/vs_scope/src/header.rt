@@ -4,15 +4,14 @@ ghost use Rattle.std.specs.Prelude.{◌≡◌, ◌||◌, List, ℕ, false, [], n
 ghost use Rattle.vs_ast.specs.Views as view;
 ghost use Rattle.vs_grammar.specs.Shapes.{is_port_kind};
 ghost use Rattle.vs_const.specs.Faults.{least, fault_if};
-ghost use Rattle.vs_hierarchy.specs.Ports as spec;
+ghost use Rattle.vs_elaborated.specs.Ports as spec;
 ghost use Rattle.vs_scope.specs.Headers.{opposed_faults, undirected_faults};
 ghost use Rattle.vs_scope.specs.Sets.{has};
 
-use crate::faults::{fault_if, first_of};
 use crate::sets::NameSet;
 use std::alloc::{AllocError, Global};
 use vs_ast::{Header, Item, Module, Name, SignalKind, Signals};
-use vs_const::Fault;
+use vs_const::{Fault, Rule, fault_if, first_of};
 
 /// Whether a declaration is one of ports.
 fn is_port_kind(kind: SignalKind) -> bool
@@ -35,9 +34,9 @@ fn repeated_name<'a>(
 {
     let mut fault = None;
     for name in names {
-        let text = name.text.as_bytes();
+        let text = name.text.as_slice();
         let again = known.contains(text);
-        fault = first_of(fault, fault_if(again, 36, name.place));
+        fault = first_of(fault, fault_if(again, Rule::DuplicateName, name.place));
         known.add(text)?;
     }
     Ok(fault)
@@ -54,9 +53,9 @@ fn direct<'a>(
 {
     let mut fault = None;
     for d in &signals.names {
-        let text = d.name.text.as_bytes();
+        let text = d.name.text.as_slice();
         let unknown = !known.contains(text);
-        fault = first_of(fault, fault_if(unknown, 39, d.name.place));
+        fault = first_of(fault, fault_if(unknown, Rule::UnknownPort, d.name.place));
         directed.add(text)?;
     }
     Ok(fault)
@@ -101,8 +100,8 @@ fn undirected_name(directed: &NameSet<'_>, names: &[Name]) -> Option<Fault>
 {
     let mut fault = None;
     for name in names {
-        let missing = !directed.contains(name.text.as_bytes());
-        fault = first_of(fault, fault_if(missing, 35, name.place));
+        let missing = !directed.contains(name.text.as_slice());
+        fault = first_of(fault, fault_if(missing, Rule::UnknownName, name.place));
     }
     fault
 }
@@ -117,8 +116,8 @@ fn plain_names<'a>(header: &'a Header) -> &'a [Name]
     }
 }
 
-/// The first rule that a module's header breaks: 35, a name of its plain list has no direction in the body; 36, a name stands there a second time;
-/// 39, the body gives a direction to a name that isn't there.
+/// The first rule that a module's header breaks: `UnknownName`, a name of its plain list has no direction in the body; `DuplicateName`, a name stands there a second time;
+/// `UnknownPort`, the body gives a direction to a name that isn't there.
 pub(crate) fn header_fault(alloc: Global, whole: &Module) -> Result<Option<Fault>, AllocError>
     ensures { IfOk result (λ f. f ≡ least (spec.header_faults (view.module_tree whole.now))) }
 {

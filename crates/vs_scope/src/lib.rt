@@ -10,7 +10,6 @@ mod constructs;
 mod contents;
 mod counts;
 mod declare;
-mod faults;
 mod frames;
 mod header;
 mod laws;

@@ -6,17 +6,16 @@ ghost use Rattle.vs_grammar.specs.Shapes.{IsHead};
 ghost use Rattle.vs_ast.specs.Views as view;
 ghost use Rattle.vs_ast.specs.Views.{option};
 ghost use Rattle.vs_const.specs.Faults.{least};
-ghost use Rattle.vs_hierarchy.specs.Environments.{find_name};
-ghost use Rattle.vs_hierarchy.specs.Generate as generate;
-ghost use Rattle.vs_hierarchy.specs.Limits.{the_limits};
-ghost use Rattle.vs_hierarchy.specs.Loops as spec;
+ghost use Rattle.vs_elaborated.specs.Environments.{find_name};
+ghost use Rattle.vs_elaborated.specs.Generate as generate;
+ghost use Rattle.vs_elaborated.specs.Limits.{the_limits};
+ghost use Rattle.vs_elaborated.specs.Loops as spec;
 ghost use Rattle.vs_scope.specs.Blocks.{block, IsVariable};
 ghost use Rattle.vs_scope.specs.Frames.{view_env};
 ghost use Rattle.vs_scope.specs.Made as code;
 ghost use Rattle.vs_scope.specs.Made.{made, kept, nested};
 ghost use Rattle.vs_scope.specs.Turns.{AreTurns};
 
-use crate::faults::{fault_at, first_of};
 use crate::frames::{Turn, View};
 use crate::made::{Block, BlockName, Made, Nested, nothing_made};
 use crate::names::Declared;
@@ -24,7 +23,7 @@ use crate::texts::{indexed, name_text};
 use crate::turns::{Turns, genvar_value, turns_from};
 use std::alloc::{AllocError, Global};
 use vs_ast::{GenerateHead, Name};
-use vs_const::Fault;
+use vs_const::{Fault, Rule, fault_at, first_of};
 
 /// Where a loop's variable is declared, if it is a genvar, and its fault.
 #[derive(Clone, Copy)]
@@ -37,10 +36,10 @@ pub(crate) struct Variable {
 fn variable_of(name: &Name, here: &View<'_, '_>) -> Variable
     ensures { IsVariable result (spec.variable_of name.now.place (find_name (view_env here.now).frames (view.name name.now).bytes)) }
 {
-    match here.entry(name.text.as_bytes()) {
+    match here.entry(name.text.as_slice()) {
         None => Variable {
             genvar: None,
-            fault: fault_at(35, name.place),
+            fault: fault_at(Rule::UnknownName, name.place),
         },
         Some(e) => match e.declared {
             Declared::Genvar => Variable {
@@ -49,7 +48,7 @@ fn variable_of(name: &Name, here: &View<'_, '_>) -> Variable
             },
             _ => Variable {
                 genvar: None,
-                fault: fault_at(43, name.place),
+                fault: fault_at(Rule::WrongKind, name.place),
             },
         },
     }
@@ -59,9 +58,9 @@ fn variable_of(name: &Name, here: &View<'_, '_>) -> Variable
 fn declared_or(name: &Name, here: &View<'_, '_>) -> Option<Fault>
     ensures { result ≡ least (spec.declared_or name.now.place (find_name (view_env here.now).frames (view.name name.now).bytes)) }
 {
-    match here.entry(name.text.as_bytes()) {
-        None => fault_at(35, name.place),
-        Some(_) => fault_at(43, name.place),
+    match here.entry(name.text.as_slice()) {
+        None => fault_at(Rule::UnknownName, name.place),
+        Some(_) => fault_at(Rule::WrongKind, name.place),
     }
 }
 
@@ -69,7 +68,7 @@ fn declared_or(name: &Name, here: &View<'_, '_>) -> Option<Fault>
 fn is_same_name(a: &Name, b: &Name) -> bool
     ensures { result ≡ same_name (view.name a.now).bytes (view.name b.now).bytes }
 {
-    b.text.as_bytes() == a.text.as_bytes()
+    b.text.as_slice() == a.text.as_slice()
 }
 
 /// The fault of the second assignment: it is to the same variable.
@@ -168,8 +167,8 @@ fn loop_at<'a>(
     }
 }
 
-/// What a loop makes. Its first fault is one of: 35 and 43, its variable is no genvar, or the second assignment is to another name; 36, its
-/// variable has a value again; 42, it takes more than 4,096 turns, or all loops more than 1,048,576; and those of its expressions.
+/// What a loop makes. Its first fault is one of: `UnknownName` and `WrongKind`, its variable is no genvar, or the second assignment is to another name; `DuplicateName`, its
+/// variable has a value again; `GenerateTurns`, it takes more than 4,096 turns, or all loops more than 1,048,576; and those of its expressions.
 pub(crate) fn loop_made<'a>(
     alloc: Global,
     head: &GenerateHead,
@@ -185,7 +184,7 @@ pub(crate) fn loop_made<'a>(
     let is_same = is_same_name(&head.variable, &head.again);
     let again = again_fault(head, is_same, here);
     let first = genvar_value(alloc, &head.first, here)?;
-    let fault = first_of(variable.fault, first_of(again, first.fault));
+    let fault = first_of(variable.fault, first_of(again, first.flaws.first));
     loop_at(
         alloc,
         head,

@@ -3,17 +3,16 @@
 ghost use Rattle.std.specs.Prelude.{◌≡◌, List, IfOk};
 ghost use Rattle.vs_ast.specs.Views.{option};
 ghost use Rattle.vs_const.specs.Faults.{least};
-ghost use Rattle.vs_hierarchy.specs.Generate as generate;
+ghost use Rattle.vs_elaborated.specs.Generate as generate;
 ghost use Rattle.vs_scope.specs.Blocks.{block};
 ghost use Rattle.vs_scope.specs.Made.{made, kept};
 
 use crate::contents::BlockItems;
-use crate::faults::first_of;
 use crate::frames::Turn;
 use crate::texts::name_text;
 use std::alloc::{AllocError, Global};
 use vs_ast::Name;
-use vs_const::Fault;
+use vs_const::{Fault, first_of};
 
 /// A generate block that is taken: a scope within its scope. `name` is as it is written, `genblk<n>`, or for a loop's block `name[v]`; `turn` is the
 /// value of the loop's genvar.

@@ -2,7 +2,7 @@
 
 ghost use Rattle.std.specs.Prelude.{◌≡◌, None, Some, MatchOption};
 ghost use Rattle.vs_const.specs.Meanings.{IsFairValue};
-ghost use Rattle.vs_hierarchy.specs.Environments.{find_entry};
+ghost use Rattle.vs_elaborated.specs.Environments.{find_entry};
 
 use crate::maps::NameMap;
 use vs_ast::{Expr, Name, Parameters, Signals};

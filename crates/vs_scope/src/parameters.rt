@@ -12,8 +12,8 @@ ghost use Rattle.vs_const.specs.Faults.{least};
 ghost use Rattle.vs_const.specs.Forms.{expression, IsValued};
 ghost use Rattle.vs_const.specs.Found.{IsOf, AreValued, Says};
 ghost use Rattle.vs_const.specs.Typed as typed;
-ghost use Rattle.vs_hierarchy.specs.Declarations.{ParameterSort};
-ghost use Rattle.vs_hierarchy.specs.Parameters as spec;
+ghost use Rattle.vs_elaborated.specs.Declarations.{ParameterSort};
+ghost use Rattle.vs_elaborated.specs.Parameters as spec;
 ghost use Rattle.vs_scope.specs.Declares.{named_list};
 ghost use Rattle.vs_scope.specs.Frames.{around_env, view_env};
 ghost use Rattle.vs_scope.specs.Numbers.{IsSaidRange};
@@ -21,14 +21,13 @@ ghost use Rattle.vs_scope.specs.Shaped.{AreShaped, IsShaped};
 ghost use Rattle.vs_scope.specs.Overrides.{AreOverrides, IsSaidParameter, overrides_of, parameter_sort};
 ghost use Rattle.vs_scope.specs.Views as scope;
 
-use crate::faults::first_of;
 use crate::frames::{Around, Frame, View};
 use crate::maps::NameMap;
 use crate::names::{Declaration, Evaluated, Names, Parameter, Sort};
-use crate::numbers::{SaidRange, constant, length_of, said_range};
+use crate::numbers::{SaidRange, constant, said_range};
 use std::alloc::{AllocError, Global};
 use vs_ast::{Expr, Name, Parameters};
-use vs_const::{Constant, Fault, Form, Found, own, shape, value};
+use vs_const::{Constant, Fault, Form, Found, first_of, own, shape, value};
 use vs_four::{Bits, Range, cut};
 
 /// What a parameter is overridden with: an expression, and the number of the scope in which its instance stands (12.2.2).
@@ -63,7 +62,7 @@ fn in_range(signed: bool, range: Range, f: &Form) -> Parameter
     requires short { range_length range ≤ 64 }
     ensures { (t : typed.Typed) → IsOf f.now t → scope.evaluated (Value result) ≡ spec.converted signed (Some range) t }
 {
-    let width = length_of(range) as u32;
+    let width = range.length() as u32;
     Parameter {
         value: Constant {
             bits: assigned(f, width),
@@ -155,7 +154,7 @@ fn said_parameter<'a>(
         parameters.is_local,
         overrides,
         here.around.frames,
-        name.text.as_bytes(),
+        name.text.as_slice(),
         c,
     )?;
     Ok(SaidParameter {
@@ -187,7 +186,7 @@ fn evaluate_one<'a>(
                 before: Some(d.name.place),
             };
             let s = said_parameter(alloc, &here, overrides, d.name, parameters, value)?;
-            names.put_value(d.name.text.as_bytes(), s.value)?;
+            names.put_value(d.name.text.as_slice(), s.value)?;
             Ok(s.fault)
         }
         _ => Ok(None),

@@ -2,10 +2,10 @@
 
 ghost use Rattle.std.specs.Prelude.{◌≡◌, ◌∷◌, ◌++◌, [], IfOk, OnOk, map, flat_map};
 ghost use Rattle.vs_const.specs.Faults.{least};
-ghost use Rattle.vs_hierarchy.specs.Environments.{within};
-ghost use Rattle.vs_hierarchy.specs.Declarations as declarations;
-ghost use Rattle.vs_hierarchy.specs.Parameters as parameters;
-ghost use Rattle.vs_hierarchy.specs.Signals as spec;
+ghost use Rattle.vs_elaborated.specs.Environments.{within};
+ghost use Rattle.vs_elaborated.specs.Declarations as declarations;
+ghost use Rattle.vs_elaborated.specs.Parameters as parameters;
+ghost use Rattle.vs_elaborated.specs.Signals as spec;
 ghost use Rattle.vs_scope.specs.Contents.{contents_declared};
 ghost use Rattle.vs_scope.specs.Declares.{named_list};
 ghost use Rattle.vs_scope.specs.Frames.{around_env, view_env};
@@ -18,7 +18,6 @@ ghost use Rattle.vs_scope.specs.Views.{declaration, entries, signal_meaning};
 use crate::collect::collect;
 use crate::contents::Contents;
 use crate::declare::{DeclaredNames, declared_names};
-use crate::faults::first_of;
 use crate::frames::{Around, View};
 use crate::maps::NameMap;
 use crate::names::{Declaration, Names, Signal, Sort};
@@ -26,7 +25,7 @@ use crate::numbers::said_range;
 use crate::parameters::{Override, evaluate};
 use crate::signals::{SaidSignals, Start, said_signals};
 use std::alloc::{AllocError, Global};
-use vs_const::Fault;
+use vs_const::{Fault, first_of};
 
 /// The names of a scope with the values of its parameters and its signals, the signals in order of declaration, the first fault of the
 /// declarations, and where the next signal begins.
@@ -88,9 +87,9 @@ fn range_faults(
 ///
 /// `fault` is the first rule that the declarations break, at a token of the text. Where several are, it is the one at the least token, and there
 /// the one with the least number:
-/// - 36: a second declaration of a name (12.7).
-/// - 37: a range that has no meaning, or unequal ranges of one signal.
-/// - and what a constant of a parameter or a range breaks: 30, 31, 35, 37 and 43.
+/// - `DuplicateName`: a second declaration of a name (12.7).
+/// - `BadRange`: a range that has no meaning, or unequal ranges of one signal.
+/// - and what a constant of a parameter or a range breaks: `NotConstant`, `UnknownConstant`, `UnknownName`, `BadRange` and `WrongKind`.
 ///
 /// An error is want of memory; more signals or bits than 32 bits count are too many, too.
 pub(crate) fn declare_scope<'a>(

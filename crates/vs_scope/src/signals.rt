@@ -6,8 +6,8 @@ ghost use Rattle.vs_design.specs.Elaborated.{same_range};
 ghost use Rattle.vs_grammar.specs.Shapes.{IsRange, Given};
 ghost use Rattle.vs_ast.specs.Views as view;
 ghost use Rattle.vs_const.specs.Faults.{least};
-ghost use Rattle.vs_hierarchy.specs.Signals as spec;
-ghost use Rattle.vs_hierarchy.specs.Parameters as parameters;
+ghost use Rattle.vs_elaborated.specs.Signals as spec;
+ghost use Rattle.vs_elaborated.specs.Parameters as parameters;
 ghost use Rattle.vs_const.specs.Meanings.{SignalMeaning};
 ghost use Rattle.vs_scope.specs.Declares.{named_list};
 ghost use Rattle.vs_scope.specs.Frames.{view_env};
@@ -16,13 +16,12 @@ ghost use Rattle.vs_scope.specs.Shaped.{IsShaped, AreShapedNames};
 ghost use Rattle.vs_scope.specs.Signalled.{start_of, signal_sort, second_faults, placed, placed_of, faults_of, start_after, IsSortOf, IsSaidSignal, IsSignalAt};
 ghost use Rattle.vs_scope.specs.Views as scope;
 
-use crate::faults::{fault_if, first_of};
 use crate::frames::View;
 use crate::names::{Declaration, Entry, Names, Signal, Sort};
-use crate::numbers::{SaidRange, length_of, said_range};
+use crate::numbers::{SaidRange, said_range};
 use std::alloc::{AllocError, Global};
 use vs_ast::{SignalKind, Signals};
-use vs_const::Fault;
+use vs_const::{Fault, Rule, fault_if, first_of};
 use vs_four::Range;
 
 /// Where the signals of a scope begin: the scope's number, whether it is the top, and the numbers of the next signal and of its first bit.
@@ -135,7 +134,11 @@ fn second_fault(
 {
     match second {
         None => None,
-        Some(d) => fault_if(are_unequal(range, second_range), 37, d.name.place),
+        Some(d) => fault_if(
+            are_unequal(range, second_range),
+            Rule::BadRange,
+            d.name.place,
+        ),
     }
 }
 
@@ -145,7 +148,7 @@ pub(crate) fn length_or_one(range: Option<Range>) -> u64
 {
     match range {
         None => 1,
-        Some(r) => length_of(r),
+        Some(r) => r.length(),
     }
 }
 
@@ -168,7 +171,7 @@ pub(crate) fn said_signal<'a>(
     let second_range = said_range(alloc, &other.range, here)?;
     let is_input = is_input_of(signals.kind, other.kind);
     let signal = Signal {
-        name: first.name.text.as_bytes(),
+        name: first.name.text.as_slice(),
         place: first.name.place,
         scope: start.scope,
         number: start.signal,

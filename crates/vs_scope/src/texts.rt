@@ -1,8 +1,8 @@
 //! The names of blocks as text (IEEE 1364-2005, 12.4.1 and 12.4.3).
 
 ghost use Rattle.std.specs.Prelude.{◌≡◌, ◌++◌, [], IfOk, OnOk};
-ghost use Rattle.vs_hierarchy.specs.Generate.{digits_before};
-ghost use Rattle.vs_hierarchy.specs.Loops as spec;
+ghost use Rattle.vs_elaborated.specs.Generate.{digits_before};
+ghost use Rattle.vs_elaborated.specs.Loops as spec;
 ghost use Rattle.vs_scope.specs.Made.{block_name};
 
 use crate::made::BlockName;
@@ -28,7 +28,7 @@ pub(crate) fn name_text(alloc: Global, name: BlockName<'_>) -> Result<Vec<u8>, A
 {
     let mut text = Vec::new(alloc);
     match name {
-        BlockName::Written(n) => text.extend_from_slice(n.text.as_bytes())?,
+        BlockName::Written(n) => text.extend_from_slice(n.text.as_slice())?,
         BlockName::Numbered { number, .. } => {
             text.extend_from_slice(b"genblk")?;
             push_digits(&mut text, 10, number)?;

@@ -3,25 +3,26 @@
 ghost use Rattle.std.specs.Prelude.{◌≡◌, ◌++◌, ◌∷◌, ◌||◌, [], ◌==◌, true, false, None, nat_lt, suc, length, Bool, ℕ, List, IfOk, OnOk, if◌then◌else◌};
 ghost use Rattle.vs_grammar.specs.Shapes.{IsExpr, IsHead};
 ghost use Rattle.vs_ast.specs.Views as view;
+ghost use Rattle.vs_const.specs.Checks.{ChecksNatural};
 ghost use Rattle.vs_const.specs.Faults.{least};
 ghost use Rattle.vs_const.specs.Found.{Says, AreValued};
 ghost use Rattle.vs_const.specs.Typed as typed;
-ghost use Rattle.vs_hierarchy.specs.Environments.{with_turn};
-ghost use Rattle.vs_hierarchy.specs.Limits.{the_limits};
-ghost use Rattle.vs_hierarchy.specs.Loops as spec;
+ghost use Rattle.vs_elaborated.specs.Environments.{with_turn};
+ghost use Rattle.vs_elaborated.specs.Limits.{the_limits};
+ghost use Rattle.vs_elaborated.specs.Loops as spec;
 ghost use Rattle.vs_scope.specs.Frames.{turn, view_env};
-ghost use Rattle.vs_scope.specs.Numbers.{IsNatural};
 ghost use Rattle.vs_scope.specs.Turns.{IsTurned, AreTurns, assigned_natural, taken_turn, turned};
 
 use crate::counts::one_more;
-use crate::faults::{fault_at, first_of};
 use crate::frames::{Turn, View};
-use crate::numbers::{Natural, Numbered, constant, number, within};
+use crate::numbers::{constant, number};
 use crate::parameters::assigned;
 use indexmap::IndexSet;
 use std::alloc::{AllocError, Global};
 use vs_ast::{Expr, GenerateHead};
-use vs_const::{Fault, Found, own, place_of};
+use vs_const::{
+    Fault, Found, Natural, Rule, both, fault_at, first_of, flaw, flawless, own, place_of, within,
+};
 use vs_four::{Bits, integer, is_known};
 
 /// How many turns one loop takes at most, and all loops of a design.
@@ -31,14 +32,14 @@ const MOST_OF_ALL: u32 = 1_048_576;
 
 /// The number of a value that is assigned to a genvar, by its own bits and those of the genvar.
 fn assigned_number(place: u32, own: Bits, bits: Bits) -> Natural
-    ensures { IsNatural result (assigned_natural place own bits) }
+    ensures { ChecksNatural result (assigned_natural place own bits) }
 {
     if is_known(own) && is_known(bits) {
         within(0, 2147483647, place, Some(integer(bits, true)))
     } else {
         Natural {
             number: None,
-            fault: fault_at(31, place),
+            flaws: flaw(Rule::UnknownConstant, place),
         }
     }
 }
@@ -46,18 +47,18 @@ fn assigned_number(place: u32, own: Bits, bits: Bits) -> Natural
 /// A value assigned to a genvar: converted to 32 bits, signed, and not negative.
 fn genvar_number(place: u32, c: &Found) -> Natural
     requires { AreValued c.now.form }
-    ensures { (t : typed.Typed) → Says true c.now t → IsNatural result (spec.genvar_number place t) }
+    ensures { (t : typed.Typed) → Says true c.now t → ChecksNatural result (spec.genvar_number place t) }
 {
     match &c.form {
         None => Natural {
             number: None,
-            fault: c.said.flaws.first,
+            flaws: c.said.flaws,
         },
         Some(f) => {
             let n = assigned_number(place, own(f), assigned(f, 32));
             Natural {
                 number: n.number,
-                fault: first_of(c.said.flaws.first, n.fault),
+                flaws: both(c.said.flaws, n.flaws),
             }
         }
     }
@@ -70,7 +71,7 @@ pub(crate) fn genvar_value(
     here: &View<'_, '_>,
 ) -> Result<Natural, AllocError>
     requires { IsExpr (view.expr e.now) }
-    ensures { IfOk result (λ n. IsNatural n (spec.genvar_value (view.expr e.now) (view_env here.now))) }
+    ensures { IfOk result (λ n. ChecksNatural n (spec.genvar_value (view.expr e.now) (view_env here.now))) }
 {
     let c = constant(alloc, e, here)?;
     Ok(genvar_number(place_of(e), &c))
@@ -129,14 +130,14 @@ fn step(
     inside: &View<'_, '_>,
 ) -> Result<Natural, AllocError>
     requires { IsHead (view.generate_head head.now) }
-    ensures { IfOk result (λ n. IsNatural n (spec.step is_same (view.generate_head head.now) (view_env inside.now))) }
+    ensures { IfOk result (λ n. ChecksNatural n (spec.step is_same (view.generate_head head.now) (view_env inside.now))) }
 {
     if is_same {
         genvar_value(alloc, &head.next, inside)
     } else {
         Ok(Natural {
             number: None,
-            fault: None,
+            flaws: flawless(),
         })
     }
 }
@@ -163,13 +164,16 @@ fn taken(
 {
     let count = one_more(total)?;
     if is_over(is_last, count) {
-        return Ok(ended(first_of(test, fault_at(42, head.place)), count));
+        return Ok(ended(
+            first_of(test, fault_at(Rule::GenerateTurns, head.place)),
+            count,
+        ));
     }
     let next = step(alloc, head, is_same, inside)?;
     Ok(Turned {
         taken: true,
         next: next.number,
-        fault: first_of(test, next.fault),
+        fault: first_of(test, next.flaws.first),
         count,
     })
 }
@@ -188,13 +192,21 @@ fn turn_at(
     ensures { IfOk result (λ t. IsTurned t (turned again is_last (view.generate_head head.now) is_same (view_env inside.now) total)) }
 {
     if again {
-        return Ok(ended(fault_at(36, head.place), total));
+        return Ok(ended(fault_at(Rule::DuplicateName, head.place), total));
     }
     let test = number(alloc, &head.test, inside)?;
     if holds(test.number) {
-        taken(alloc, head, is_same, inside, is_last, test.fault, total)
+        taken(
+            alloc,
+            head,
+            is_same,
+            inside,
+            is_last,
+            test.flaws.first,
+            total,
+        )
     } else {
-        Ok(ended(test.fault, total))
+        Ok(ended(test.flaws.first, total))
     }
 }
 

@@ -1,8 +1,8 @@
 //! What becomes known of declared names.
 
 ghost use Rattle.std.specs.Prelude.{◌≡◌, OnOk};
-ghost use Rattle.vs_hierarchy.specs.Parameters.{put_value};
-ghost use Rattle.vs_hierarchy.specs.Signals.{put_signal};
+ghost use Rattle.vs_elaborated.specs.Parameters.{put_value};
+ghost use Rattle.vs_elaborated.specs.Signals.{put_signal};
 ghost use Rattle.vs_scope.specs.Views.{declared, evaluated, is_later, entries, signal_meaning};
 ghost use Rattle.vs_scope.specs.Declares.{named_list};
 

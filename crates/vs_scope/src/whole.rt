@@ -3,8 +3,8 @@
 ghost use Rattle.std.specs.Prelude.{◌≡◌, None, IfOk, List, map};
 ghost use Rattle.vs_grammar.specs.Shapes.{Each};
 ghost use Rattle.vs_const.specs.Faults.{least};
-ghost use Rattle.vs_hierarchy.specs.Signals.{SaidSignal};
-ghost use Rattle.vs_hierarchy.specs.Surveys.{header_of};
+ghost use Rattle.vs_elaborated.specs.Signals.{SaidSignal};
+ghost use Rattle.vs_elaborated.specs.Surveys.{header_of};
 ghost use Rattle.vs_scope.specs.Frames.{around_env};
 ghost use Rattle.vs_scope.specs.Wholes.{IsDeclared, scope_after};
 ghost use Rattle.vs_scope.specs.declared.frames.Frame.{Frame};
@@ -20,7 +20,6 @@ use crate::bits::bits_fault;
 use crate::constructs::{Making, constructs};
 use crate::contents::Contents;
 use crate::counts::one_more;
-use crate::faults::first_of;
 use crate::frames::{Around, View};
 use crate::header::header_fault;
 use crate::made::Made;
@@ -30,7 +29,7 @@ use crate::parameters::Override;
 use crate::scope::{SaidScope, declare_scope};
 use crate::signals::Start;
 use std::alloc::{AllocError, Global};
-use vs_const::Fault;
+use vs_const::{Fault, first_of};
 
 /// What one scope says but for its items: its names with the values of its parameters, its signals and the names of its blocks; the signals in order
 /// of declaration; what each of its items makes, in order; the first fault of all of it; the count of all loops' turns behind it; and where the next
@@ -98,14 +97,14 @@ fn next_scope(start: Start) -> Result<Start, AllocError>
 ///
 /// `fault` is the first rule that any of it breaks, at a token of the text. Where several are, it is the one at the least token, and there the one
 /// with the least number:
-/// - 31: a label of a generate `case` has unknown bits, or the value of a loop's variable has.
-/// - 35, 36, 39: a name of the header's plain list without a direction, one that stands there again, and a direction of another name (12.3.3).
-/// - 36: a second declaration of a name (12.7), a block of a declared name, or a loop's variable that has a value again.
-/// - 37: a range that has no meaning, unequal ranges of one signal, or a negative value of a loop's variable.
-/// - 35, 43: a loop's variable that is no genvar, and a second assignment to another name (12.4.1).
-/// - 42: over 4,096 turns of one loop, or 1,048,576 of all.
-/// - 44: over 1,048,576 bits of all signals.
-/// - and what a constant breaks: 30, 31, 35, 37 and 43.
+/// - `UnknownConstant`: a label of a generate `case` has unknown bits, or the value of a loop's variable has.
+/// - `UnknownName`, `DuplicateName`, `UnknownPort`: a name of the header's plain list without a direction, one that stands there again, and a direction of another name (12.3.3).
+/// - `DuplicateName`: a second declaration of a name (12.7), a block of a declared name, or a loop's variable that has a value again.
+/// - `BadRange`: a range that has no meaning, unequal ranges of one signal, or a negative value of a loop's variable.
+/// - `UnknownName`, `WrongKind`: a loop's variable that is no genvar, and a second assignment to another name (12.4.1).
+/// - `GenerateTurns`: over 4,096 turns of one loop, or 1,048,576 of all.
+/// - `TooManyBits`: over 1,048,576 bits of all signals.
+/// - and what a constant breaks: `NotConstant`, `UnknownConstant`, `UnknownName`, `BadRange` and `WrongKind`.
 ///
 /// An error is want of memory; more scopes, signals, bits, constructs or turns than 32 bits count are too many, too.
 pub fn survey<'a>(

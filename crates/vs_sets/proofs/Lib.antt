@@ -1,5 +1,4 @@
 pub mod Steps
-pub mod PlaceSteps
 pub mod Fit
 pub mod Widths
 pub mod ExtremeSteps

@@ -1,6 +1,6 @@
--- Nodes of a lawful flat design: what they name is there, and where the bits of signals are.
+-- What is named in a lawful flat design is there, and where the bits of signals are.
 use Rattle.std.proofs.Common.{◌≡◌, ℕ, zero, suc, ◌+◌, ◌<◌, ◌≤◌, true, List, [], ◌∷◌, length, map, take, drop, get_or, Option, Some, None, refl, sym, ap, ◌∙◌, subst, arith}
-use Rattle.std.specs.Prelude.{◌&&◌, ◌==◌, nat_lt, nat_le, slice_get, option_map, sum_by}
+use Rattle.std.specs.Prelude.{◌&&◌, ◌==◌, nat_lt, nat_le, sum_by}
 use Rattle.std.specs.List.{list_all}
 use Rattle.std.proofs.lemmas.Bool.Decides.{nat_tests}
 use Rattle.std.proofs.lemmas.List.Sums.{sum_by-cons}
@@ -11,17 +11,14 @@ use Rattle.vs_design.specs.Expressions as E
 use Rattle.vs_design.specs.Designs as D
 use Rattle.vs_design.specs.Elaborated.{have_bits_from, is_declared, is_lawful_range}
 use Rattle.vs_design.specs.Values.{count_from}
-use Rattle.vs_flat.specs.declared.placed.Placed.{Placed}
-use Rattle.vs_flat.specs.declared.expressions.Node.{Node}
-use Rattle.vs_flat.specs.declared.expressions.Node.TheVariants.{Literal, Name, Bit, Part, Unary, Binary, Choice, Join}
-use Rattle.vs_flat.specs.Arena.{Arena, node_at}
-use Rattle.vs_flat.specs.Named.{node_names_below, all_below}
+use Rattle.vs_flat.specs.Arena.{Arena}
+use Rattle.vs_flat.specs.Named.{all_below}
 use Rattle.vs_flat.specs.Lawful.{IsLawful}
-use Rattle.vs_flat.specs.Laws.{NodeNames, CountsStay}
+use Rattle.vs_flat.specs.Laws.{CountsStay}
 use Rattle.vs_flat.specs.Trees.{signal_at}
 use Rattle.vs_flat.specs.DesignOf.{arena_signals, design_of}
 use Rattle.vs_sets.specs.FitParts.{Is64}
-use Rattle.vs_sets.specs.Nodes.{HasNames, EachBelow, signal_of}
+use Rattle.vs_sets.specs.Nodes.{EachBelow, signal_of}
 use Rattle.vs_sets.specs.Tables.{beyond, family_of}
 use Rattle.vs_sets.proofs.Fit.{and_left, and_right}
 
@@ -32,24 +29,6 @@ pub all_below-each : (n : ℕ) (ms : List ℕ) → all_below n ms ≡ true → E
 all_below-each n [] h k inside = absurd (omega arith)
 all_below-each n (m ∷ ms) h zero inside = below m n (and_left _ _ h)
 all_below-each n (m ∷ ms) h (suc k) inside = all_below-each n ms (and_right (nat_lt m n) _ h) k (omega arith)
-
-names : (signals e : ℕ) (n : Node) → node_names_below signals e n ≡ true → HasNames signals e n
-names signals e (Literal bits signed sized) h = tt
-names signals e (Name signal) h = below signal signals (and_left _ _ (and_left (nat_lt signal signals && true) true h))
-names signals e (Bit of range index) h = let k = all_below-each e (of ∷ index ∷ []) (and_right true _ h) in (k 0 (omega arith), k 1 (omega arith))
-names signals e (Part of range base up width) h = let k = all_below-each e (of ∷ base ∷ []) (and_right true _ h) in (k 0 (omega arith), k 1 (omega arith))
-names signals e (Unary op a) h = all_below-each e (a ∷ []) (and_right true _ h) 0 (omega arith)
-names signals e (Binary op a b) h = let k = all_below-each e (a ∷ b ∷ []) (and_right true _ h) in (k 0 (omega arith), k 1 (omega arith))
-names signals e (Choice c p q) h = let k = all_below-each e (c ∷ p ∷ q ∷ []) (and_right true _ h) in (k 0 (omega arith), k 1 (omega arith), k 2 (omega arith))
-names signals e (Join parts) h = all_below-each e parts (and_right true _ h)
-
-pub node_names : NodeNames → (a : Arena) (e : ℕ) (n : Node) → IsLawful a → node_at a e ≡ Some n → HasNames (length a.signals) e n
-node_names law a e n lawful h = at (slice_get a.nodes e) refl h where
-  at : (o : Option (Placed Node)) → slice_get a.nodes e ≡ o → option_map (λ (p : Placed Node). p.item) o ≡ Some n → HasNames (length a.signals) e n
-  at None f h = absurd (let z : ⊥ = cc in z)
-  at (Some p) f h =
-      let same : p.item ≡ n = cc in
-      subst (λ (m : Node). HasNames (length a.signals) e m) same (names (length a.signals) e p.item (law a lawful.names e p f))
 
 -- ---- the bits of signals
 

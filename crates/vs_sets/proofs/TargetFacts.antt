@@ -24,30 +24,6 @@ use Rattle.vs_sets.specs.Nodes.{EachBelow}
 use Rattle.vs_sets.specs.TargetsOf.{IsTarget, target_tree}
 use Rattle.vs_sets.proofs.Fit.{and_left, and_right, is64_of, same_number}
 
-below_is : (L : ℕ) (i : ℤ) (n : ℕ) → below L i ≡ Some n → n < L
-below_is L (negsuc m) n h = absurd (let z : ⊥ = cc in z)
-below_is L (pos m) n h = at (nat_lt m L) refl h where
-  at : (k : Bool) → nat_lt m L ≡ k → (if k then Some m else None) ≡ Some n → n < L
-  at true e h = let same : m ≡ n = cc in let inside : m < L = grind (arith, nat_tests, e) in omega (arith, same, inside)
-  at false e h = absurd (let z : ⊥ = cc in z)
-
-mapped_below : (r : Range) (is : List ℤ) (k n : ℕ) → get_or (map (place_of r) is) k None ≡ Some n → n < range_length r
-mapped_below r [] k n h = absurd (let z : ⊥ = cc in z)
-mapped_below r (i ∷ is) zero n h = below_is (range_length r) _ n h
-mapped_below r (i ∷ is) (suc k) n h = mapped_below r is k n h
-
-none_at : (w k n : ℕ) → get_or (replicate w None) k None ≡ Some n → ⊥
-none_at zero k n h = cc
-none_at (suc w) zero n h = cc
-none_at (suc w) (suc k) n h = none_at w k n h
-
--- a place is below the length of the range
-pub place_below : (p : Part) (s : Bool) (index : BitList) (k n : ℕ) → get_or (places p s index) k None ≡ Some n → n < range_length p.range
-place_below p s index k n h = at (all_known index) h where
-  at : (u : Bool) → get_or (if u then map (place_of p.range) (indices p (integer s index)) else replicate p.width None) k None ≡ Some n → n < range_length p.range
-  at true h = mapped_below p.range (indices p (integer s index)) k n h
-  at false h = absurd (none_at p.width k n h)
-
 pub record PartFacts (signal : Signal) (p : Part) (index : Expression) : Type 0 where
   pub range : range_length p.range ≡ signal_length signal
   pub fit : is_fit index ≡ true

@@ -1,13 +1,12 @@
 pub mod BitOperators
 pub mod Arithmetic
 pub mod Choosing
-pub mod KeptPlaces
 pub mod SameLength
 pub mod Tables
 pub mod Nodes
 pub mod FitParts
 pub mod PartSets
-pub mod Ways
+pub mod Lifts
 pub mod Extremes
 pub mod Operands
 pub mod TargetsOf

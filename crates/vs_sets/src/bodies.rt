@@ -10,7 +10,6 @@ ghost use Rattle.vs_design.specs.LiftedBodies.{lifted_body};
 ghost use Rattle.vs_design.specs.Sets.{set_or};
 ghost use Rattle.vs_design.specs.Sleepers.{at_once, arms_at_once};
 ghost use Rattle.vs_flat.specs.DesignOf.{design_of};
-ghost use Rattle.vs_flat.specs.Operators.{case_of};
 ghost use Rattle.vs_flat.specs.Trees.{branch, sequence};
 ghost use Rattle.vs_sets.specs.Branches.{branch_sets, taken_arms, taken_branches};
 ghost use Rattle.vs_sets.specs.Matches.{IsOneOf, IsEither, branches_of};
@@ -20,14 +19,16 @@ ghost use Rattle.vs_sets.specs.Tables.{family_of};
 
 use crate::Set4;
 use crate::branches::{put_back, sets_of, unite};
-use crate::cases::{case_context, taken_arms};
+use crate::cases::taken_arms;
+use crate::contexts::{case_context, own_context};
 use crate::folds::set_or;
 use crate::lifter::Lifter;
 use crate::targets::assign;
 use std::alloc::{AllocError, Global};
-use vs_flat::{Arm, CaseKind, Statement, lawful_law, names_law, trees_law};
+use vs_base::CaseKind;
+use vs_flat::{Arm, Statement, lawful_law, names_law, trees_law};
 use vs_four::Bit4;
-use vs_length::Shapes;
+use vs_shape::Shapes;
 
 /// Statement s of a lawful design, of which nothing is over 64 bits: what it names is there, and holds too.
 pub fn statement_node(shapes: &Shapes, s: u32) -> &Statement
@@ -85,9 +86,9 @@ fn case_branches(
     requires fit { fits_arms (arms_of lifter.now.shapes.now other arms.now) ≡ true }
     ensures some { IfOk result (λ v. 1 ≤ length v.items) }
     ensures from { IfOk result (λ v. All (IsOneOf arms.now other) v.items) }
-    ensures taken { IfOk result (λ v. branch_sets (branches_of lifter.now.shapes.now v.items) (family_of lifter.now.table.now) ≡ lifted_body (T.Case (case_of kind) (tree_of lifter.now.shapes.now of) (arms_at_once (arms_of lifter.now.shapes.now other arms.now))) (family_of lifter.now.table.now)) }
+    ensures taken { IfOk result (λ v. branch_sets (branches_of lifter.now.shapes.now v.items) (family_of lifter.now.table.now) ≡ lifted_body (T.Case kind (tree_of lifter.now.shapes.now of) (arms_at_once (arms_of lifter.now.shapes.now other arms.now))) (family_of lifter.now.table.now)) }
 {
-    let context = case_context(lifter, lifter.own_context(of), arms, other);
+    let context = case_context(lifter.shapes, own_context(lifter.shapes, of), arms, other);
     let subject = lifter.lifted(of, context);
     taken_arms(alloc, lifter, kind, context, &subject, arms, other)
 }

@@ -10,7 +10,7 @@ use crate::Set4;
 use std::alloc::{AllocError, Global};
 
 /// The sets of these bits.
-pub(crate) fn sets_of(alloc: Global, table: &[Set4], bits: &[u32]) -> Result<Vec<Set4>, AllocError>
+pub fn sets_of(alloc: Global, table: &[Set4], bits: &[u32]) -> Result<Vec<Set4>, AllocError>
     requires { All (λ b. b < length table.now) bits.now }
     ensures { IfOk result (λ v. v.items ≡ map (family_of table.now) bits.now) }
 {
@@ -22,7 +22,7 @@ pub(crate) fn sets_of(alloc: Global, table: &[Set4], bits: &[u32]) -> Result<Vec
 }
 
 /// Gives these bits their sets of before.
-pub(crate) fn put_back(table: &mut [Set4], bits: &[u32], sets: &[Set4])
+pub fn put_back(table: &mut [Set4], bits: &[u32], sets: &[Set4])
     requires within { All (λ b. b < length table.old) bits.now }
     requires many { length sets.now ≡ length bits.now }
     ensures { (before : Family) → sets.now ≡ map before bits.now → family_of table.new ≡ replaced bits.now before (family_of table.old) }

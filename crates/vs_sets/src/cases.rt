@@ -11,7 +11,6 @@ ghost use Rattle.vs_design.specs.LiftedBodies.{match_bit, item_sets};
 ghost use Rattle.vs_design.specs.Sets.{Set4 as SetOf, is_only_one};
 ghost use Rattle.vs_design.specs.Sleepers.{arms_at_once};
 ghost use Rattle.vs_flat.specs.DesignOf.{design_of};
-ghost use Rattle.vs_flat.specs.Operators.{case_of};
 ghost use Rattle.vs_sets.specs.BitOperators.{operator_of};
 ghost use Rattle.vs_sets.specs.Branches.{taken_arms};
 ghost use Rattle.vs_sets.specs.Matches.{IsOneOf, are_within, branches_of, items_at};
@@ -22,10 +21,10 @@ ghost use Rattle.vs_sets.specs.Tables.{family_of};
 use crate::SetList;
 use crate::bits::BitOperator;
 use crate::bitwise::set_match;
-use crate::context::{Context, compared};
 use crate::lifter::Lifter;
 use std::alloc::{AllocError, Global};
-use vs_flat::{Arm, CaseKind};
+use vs_base::{CaseKind, Context};
+use vs_flat::Arm;
 use vs_four::Bit4;
 
 /// Whether an arm is surely taken where the case comes to it, and whether it may be.
@@ -37,50 +36,13 @@ struct Match {
 
 /// How a bit of an item is compared.
 fn match_operator(kind: CaseKind) -> BitOperator
-    ensures { operator_of result ≡ match_bit (case_of kind) }
+    ensures { operator_of result ≡ match_bit kind }
 {
     match kind {
         CaseKind::Exact => BitOperator::Same,
         CaseKind::CaseZ => BitOperator::CaseZ,
         CaseKind::CaseX => BitOperator::CaseX,
     }
-}
-
-/// The context of a case's items, with those of one arm more.
-fn with_items(lifter: &Lifter, context: Context, items: &[u32]) -> Context
-    requires there { EachBelow (length lifter.now.shapes.now.nodes) items.now }
-    requires fit { list_all is_fit (map (tree_of lifter.now.shapes.now) items.now) ≡ true }
-    requires few { context.len ≤ 64 }
-    ensures len { result.len ≡ T.widest context.len (map (tree_of lifter.now.shapes.now) items.now) }
-    ensures sign { result.signed ≡ T.all_signed context.signed (map (tree_of lifter.now.shapes.now) items.now) }
-    ensures few { result.len ≤ 64 }
-{
-    let mut all = context;
-    for item in items {
-        all = compared(all, lifter.own_context(*item));
-    }
-    all
-}
-
-/// The context of a case's expression and items: their largest length, signed only if all are (IEEE 1364-2005, 9.5).
-pub(crate) fn case_context(
-    lifter: &Lifter,
-    own: Context,
-    arms: &[Arm],
-    other: Option<u32>,
-) -> Context
-    requires there { ArmsBelow (length lifter.now.shapes.now.nodes) (length lifter.now.shapes.now.statements) arms.now }
-    requires fit { fits_arms (arms_of lifter.now.shapes.now other arms.now) ≡ true }
-    requires few { own.len ≤ 64 }
-    ensures len { result.len ≡ T.arms_width (arms_of lifter.now.shapes.now other arms.now) own.len }
-    ensures sign { result.signed ≡ T.arms_sign (arms_of lifter.now.shapes.now other arms.now) own.signed }
-    ensures few { result.len ≤ 64 }
-{
-    let mut all = own;
-    for arm in arms {
-        all = with_items(lifter, all, arm.items.as_slice());
-    }
-    all
 }
 
 /// Whether items match these sets of the case's expression.
@@ -93,11 +55,11 @@ fn match_items(
 ) -> Match
     requires there { EachBelow (length lifter.now.shapes.now.nodes) items.now }
     requires fit { list_all is_fit (map (tree_of lifter.now.shapes.now) items.now) ≡ true }
-    requires within { are_within context.len (map (tree_of lifter.now.shapes.now) items.now) ≡ true }
-    requires few { context.len ≤ 64 }
-    requires many { length subject.now ≡ context.len }
-    ensures sure { result.sure ≡ list_any is_only_one (item_sets (case_of kind) context.len context.signed subject.now (map (tree_of lifter.now.shapes.now) items.now) (family_of lifter.now.table.now)) }
-    ensures may { result.may ≡ list_any (λ m. m.one?) (item_sets (case_of kind) context.len context.signed subject.now (map (tree_of lifter.now.shapes.now) items.now) (family_of lifter.now.table.now)) }
+    requires within { are_within context.width (map (tree_of lifter.now.shapes.now) items.now) ≡ true }
+    requires few { context.width ≤ 64 }
+    requires many { length subject.now ≡ context.width }
+    ensures sure { result.sure ≡ list_any is_only_one (item_sets kind context.width context.signed subject.now (map (tree_of lifter.now.shapes.now) items.now) (family_of lifter.now.table.now)) }
+    ensures may { result.may ≡ list_any (λ m. m.one?) (item_sets kind context.width context.signed subject.now (map (tree_of lifter.now.shapes.now) items.now) (family_of lifter.now.table.now)) }
 {
     let mut found = Match {
         sure: false,
@@ -126,12 +88,12 @@ pub(crate) fn taken_arms(
 ) -> Result<Vec<Option<u32>>, AllocError>
     requires there { ArmsBelow (length lifter.now.shapes.now.nodes) (length lifter.now.shapes.now.statements) arms.now }
     requires fit { fits_arms (arms_of lifter.now.shapes.now other arms.now) ≡ true }
-    requires within { (k : ℕ) → k < length arms.now → are_within context.len (map (tree_of lifter.now.shapes.now) (items_at arms.now k)) ≡ true }
-    requires few { context.len ≤ 64 }
-    requires many { length subject.now ≡ context.len }
+    requires within { (k : ℕ) → k < length arms.now → are_within context.width (map (tree_of lifter.now.shapes.now) (items_at arms.now k)) ≡ true }
+    requires few { context.width ≤ 64 }
+    requires many { length subject.now ≡ context.width }
     ensures some { IfOk result (λ v. 1 ≤ length v.items) }
     ensures from { IfOk result (λ v. All (IsOneOf arms.now other) v.items) }
-    ensures taken { IfOk result (λ v. branches_of lifter.now.shapes.now v.items ≡ taken_arms (arms_at_once (arms_of lifter.now.shapes.now other arms.now)) (case_of kind) context.len context.signed subject.now (family_of lifter.now.table.now)) }
+    ensures taken { IfOk result (λ v. branches_of lifter.now.shapes.now v.items ≡ taken_arms (arms_at_once (arms_of lifter.now.shapes.now other arms.now)) kind context.width context.signed subject.now (family_of lifter.now.table.now)) }
 {
     let mut taken = Vec::new(alloc);
     for arm in arms {

@@ -6,48 +6,15 @@ ghost use Rattle.vs_design.specs.Designs as D;
 ghost use Rattle.vs_design.specs.Fits.{fits_process};
 ghost use Rattle.vs_design.specs.Footprints.{contains, variable_bits};
 ghost use Rattle.vs_design.specs.Sleepers.{is_still};
-ghost use Rattle.vs_flat.specs.declared.processes.Event.{Event as FlatEvent};
 ghost use Rattle.vs_flat.specs.DesignOf.{design_of};
-ghost use Rattle.vs_flat.specs.Operators.{edge_of};
 ghost use Rattle.vs_reads.specs.Footprint.{footprints_of};
-ghost use Rattle.vs_reads.specs.Named.{IsFitKind};
 ghost use Rattle.vs_sets.specs.Flags.{AreFlags, flag_at, variables_before, still_before};
 
 use crate::twice::push_twice;
 use std::alloc::{AllocError, Global};
-use vs_flat::{Edge, Event, Kind, Process, Signal, count_bits, lawful_law, names_law, trees_law};
-use vs_length::Shapes;
-use vs_reads::{Footprints, footprint_law};
-
-/// Whether an event is `posedge` or `negedge`.
-fn is_edge(edge: Edge) -> bool
-    ensures { result ≡ D.is_edge (edge_of edge) }
-{
-    match edge {
-        Edge::Any => false,
-        Edge::Pos | Edge::Neg => true,
-    }
-}
-
-/// Whether one of these events is an edge, so that the block is clocked (IEEE 1364-2005, 9.7.2).
-pub fn has_edge(events: &[Event]) -> bool
-    ensures { result ≡ list_any (λ (e : FlatEvent). D.is_edge (edge_of e.edge)) events.now }
-{
-    events.iter().any(|e| is_edge(e.edge))
-}
-
-/// Process p of a design in which all fits: what it names is there and has 1 to 64 bits.
-pub fn fit_process(shapes: &Shapes, p: u32) -> &Process
-    requires there { p < length shapes.now.processes }
-    requires fits { list_all fits_process (design_of shapes.now).processes ≡ true }
-    ensures is { slice_get shapes.now.processes p ≡ Some result.now }
-    ensures fit { IsFitKind shapes.now result.now.kind }
-{
-    names_law();
-    lawful_law();
-    trees_law();
-    shapes.flat().process(p)
-}
+use vs_flat::{Kind, Signal, count_bits, has_edge, trees_law};
+use vs_reads::{Footprints, fit_process, footprint_law};
+use vs_shape::Shapes;
 
 /// Gives the flags of these bits this value.
 fn mark(flags: &mut [bool], bits: &[u32], value: bool)

@@ -8,7 +8,6 @@ ghost use Rattle.vs_design.specs.Fits.{is_fit, is_division, source_length};
 ghost use Rattle.vs_design.specs.Lifted as L;
 ghost use Rattle.vs_design.specs.Sets as S;
 ghost use Rattle.vs_design.specs.Values.{left_sign, left_width};
-ghost use Rattle.vs_flat.specs.Operators.{unary_of, binary_of};
 ghost use Rattle.vs_flat.specs.Targets.{source_of};
 ghost use Rattle.vs_flat.specs.Trees.{joined, first_copy, copy_count};
 ghost use Rattle.vs_sets.specs.FitParts.{FitParts, Is64};
@@ -19,21 +18,23 @@ ghost use Rattle.vs_sets.specs.Tables.{family_of};
 
 use crate::SetList;
 use crate::bitwise::set_choose;
-use crate::context::{Context, Lift, left_context, operand_context, right_context, set_lift};
+use crate::contexts::own_context;
 use crate::folds::{all_of, set_or, variable};
 use crate::lifter::Lifter;
+use crate::lifts::{Lift, set_lift};
 use crate::operators::{extend_sets, lift_binary, lift_unary};
-use crate::places::{Part, places_of};
 use crate::values::{at_places, shift, shift_by, shift_fill, surely_inside};
+use vs_base::{BinaryOp, Context, UnaryOp};
 use vs_design::value_law;
-use vs_flat::{BinaryOp, Node, UnaryOp};
+use vs_flat::Node;
+use vs_shape::{Part, copy_count, first_copy, places_of};
 
 /// The sets in the length of a context, extended by its sign.
 fn extended(list: SetList, context: Context) -> SetList
-    requires { context.len ≤ 64 }
-    ensures { result ≡ L.extend_sets context.len context.signed list }
+    requires { context.width ≤ 64 }
+    ensures { result ≡ L.extend_sets context.width context.signed list }
 {
-    extend_sets(list, context.len as usize, context.signed)
+    extend_sets(list, context.width as usize, context.signed)
 }
 
 impl Lifter<'_> {
@@ -42,10 +43,10 @@ impl Lifter<'_> {
     pub(crate) fn lifted(&self, e: u32, context: Context) -> SetList
         requires there { e < length self.now.shapes.now.nodes }
         requires fit { is_fit (tree_of self.now.shapes.now e) ≡ true }
-        requires wide { E.width (tree_of self.now.shapes.now e) ≤ context.len }
-        requires few { context.len ≤ 64 }
-        ensures value { result ≡ L.lifted (tree_of self.now.shapes.now e) context.len context.signed (family_of self.now.table.now) }
-        ensures length { length result ≡ context.len }
+        requires wide { E.width (tree_of self.now.shapes.now e) ≤ context.width }
+        requires few { context.width ≤ 64 }
+        ensures value { result ≡ L.lifted (tree_of self.now.shapes.now e) context.width context.signed (family_of self.now.table.now) }
+        ensures length { length result ≡ context.width }
     {
         value_law();
         self.lifted_node(e, context)
@@ -59,7 +60,7 @@ impl Lifter<'_> {
         ensures value { result ≡ L.own_sets (tree_of self.now.shapes.now e) (family_of self.now.table.now) }
         ensures length { length result ≡ E.width (tree_of self.now.shapes.now e) }
     {
-        self.lifted(e, self.own_context(e))
+        self.lifted(e, own_context(self.shapes, e))
     }
 
     /// The sets of expression e, by what it is.
@@ -67,9 +68,9 @@ impl Lifter<'_> {
     fn lifted_node(&self, e: u32, context: Context) -> SetList
         requires there { e < length self.now.shapes.now.nodes }
         requires fit { is_fit (tree_of self.now.shapes.now e) ≡ true }
-        requires wide { E.width (tree_of self.now.shapes.now e) ≤ context.len }
-        requires few { context.len ≤ 64 }
-        ensures { result ≡ L.lifted (tree_of self.now.shapes.now e) context.len context.signed (family_of self.now.table.now) }
+        requires wide { E.width (tree_of self.now.shapes.now e) ≤ context.width }
+        requires few { context.width ≤ 64 }
+        ensures { result ≡ L.lifted (tree_of self.now.shapes.now e) context.width context.signed (family_of self.now.table.now) }
     {
         match self.node(e) {
             Node::Literal { .. } => self.constant(e, context),
@@ -135,11 +136,11 @@ impl Lifter<'_> {
         requires there { e < length self.now.shapes.now.nodes }
         requires before { a < e }
         requires fit { is_fit (tree_of self.now.shapes.now a) ≡ true }
-        requires wide { E.width (E.Unary (unary_of op) (tree_of self.now.shapes.now a)) ≤ context.len }
-        requires few { context.len ≤ 64 }
-        ensures { L.extend_sets context.len context.signed result ≡ L.lifted (E.Unary (unary_of op) (tree_of self.now.shapes.now a)) context.len context.signed (family_of self.now.table.now) }
+        requires wide { E.width (E.Unary op (tree_of self.now.shapes.now a)) ≤ context.width }
+        requires few { context.width ≤ 64 }
+        ensures { L.extend_sets context.width context.signed result ≡ L.lifted (E.Unary op (tree_of self.now.shapes.now a)) context.width context.signed (family_of self.now.table.now) }
     {
-        let sets = self.lifted(a, operand_context(op, context, self.own_context(a)));
+        let sets = self.lifted(a, op.operand(context, own_context(self.shapes, a)));
         lift_unary(op, sets.as_slice())
     }
 
@@ -151,16 +152,16 @@ impl Lifter<'_> {
         requires b_before { b < e }
         requires a_fit { is_fit (tree_of self.now.shapes.now a) ≡ true }
         requires b_fit { is_fit (tree_of self.now.shapes.now b) ≡ true }
-        requires wide { E.width (E.Binary (binary_of op) (tree_of self.now.shapes.now a) (tree_of self.now.shapes.now b)) ≤ context.len }
-        requires few { context.len ≤ 64 }
-        ensures left { AreLeftSets (binary_of op) (tree_of self.now.shapes.now a) (tree_of self.now.shapes.now b) context.len context.signed (family_of self.now.table.now) result.0 }
-        ensures right { AreRightSets (binary_of op) (tree_of self.now.shapes.now a) (tree_of self.now.shapes.now b) context.len context.signed (family_of self.now.table.now) result.1 }
+        requires wide { E.width (E.Binary op (tree_of self.now.shapes.now a) (tree_of self.now.shapes.now b)) ≤ context.width }
+        requires few { context.width ≤ 64 }
+        ensures left { AreLeftSets op (tree_of self.now.shapes.now a) (tree_of self.now.shapes.now b) context.width context.signed (family_of self.now.table.now) result.0 }
+        ensures right { AreRightSets op (tree_of self.now.shapes.now a) (tree_of self.now.shapes.now b) context.width context.signed (family_of self.now.table.now) result.1 }
     {
-        let left = self.own_context(a);
-        let right = self.own_context(b);
+        let left = own_context(self.shapes, a);
+        let right = own_context(self.shapes, b);
         (
-            self.lifted(a, left_context(op, context, left, right)),
-            self.lifted(b, right_context(op, context, left, right)),
+            self.lifted(a, op.way().left(context, left, right)),
+            self.lifted(b, op.way().right(context, left, right)),
         )
     }
 
@@ -172,10 +173,10 @@ impl Lifter<'_> {
         requires b_before { b < e }
         requires a_fit { is_fit (tree_of self.now.shapes.now a) ≡ true }
         requires b_fit { is_fit (tree_of self.now.shapes.now b) ≡ true }
-        requires wide { E.width (E.Binary (binary_of op) (tree_of self.now.shapes.now a) (tree_of self.now.shapes.now b)) ≤ context.len }
-        requires few { context.len ≤ 64 }
-        requires kind { L.lift_of (binary_of op) ≡ L.FromSets }
-        ensures { L.extend_sets context.len context.signed result ≡ L.lifted (E.Binary (binary_of op) (tree_of self.now.shapes.now a) (tree_of self.now.shapes.now b)) context.len context.signed (family_of self.now.table.now) }
+        requires wide { E.width (E.Binary op (tree_of self.now.shapes.now a) (tree_of self.now.shapes.now b)) ≤ context.width }
+        requires few { context.width ≤ 64 }
+        requires kind { L.lift_of op ≡ L.FromSets }
+        ensures { L.extend_sets context.width context.signed result ≡ L.lifted (E.Binary op (tree_of self.now.shapes.now a) (tree_of self.now.shapes.now b)) context.width context.signed (family_of self.now.table.now) }
     {
         let (left, right) = self.operands(e, op, a, b, context);
         lift_binary(op, left.as_slice(), right.as_slice())
@@ -189,10 +190,10 @@ impl Lifter<'_> {
         requires b_before { b < e }
         requires a_fit { is_fit (tree_of self.now.shapes.now a) ≡ true }
         requires b_fit { is_fit (tree_of self.now.shapes.now b) ≡ true }
-        requires wide { E.width (E.Binary (binary_of op) (tree_of self.now.shapes.now a) (tree_of self.now.shapes.now b)) ≤ context.len }
-        requires few { context.len ≤ 64 }
-        requires kind { L.lift_of (binary_of op) ≡ L.Moved }
-        ensures { L.extend_sets context.len context.signed result ≡ L.lifted (E.Binary (binary_of op) (tree_of self.now.shapes.now a) (tree_of self.now.shapes.now b)) context.len context.signed (family_of self.now.table.now) }
+        requires wide { E.width (E.Binary op (tree_of self.now.shapes.now a) (tree_of self.now.shapes.now b)) ≤ context.width }
+        requires few { context.width ≤ 64 }
+        requires kind { L.lift_of op ≡ L.Moved }
+        ensures { L.extend_sets context.width context.signed result ≡ L.lifted (E.Binary op (tree_of self.now.shapes.now a) (tree_of self.now.shapes.now b)) context.width context.signed (family_of self.now.table.now) }
     {
         let (left, right) = self.operands(e, op, a, b, context);
         let fill = shift_fill(op, context.signed, left.as_slice());
@@ -213,9 +214,9 @@ impl Lifter<'_> {
         requires c_fit { is_fit (tree_of self.now.shapes.now c) ≡ true }
         requires p_fit { is_fit (tree_of self.now.shapes.now p) ≡ true }
         requires q_fit { is_fit (tree_of self.now.shapes.now q) ≡ true }
-        requires wide { E.width (E.Choice (tree_of self.now.shapes.now c) (tree_of self.now.shapes.now p) (tree_of self.now.shapes.now q)) ≤ context.len }
-        requires few { context.len ≤ 64 }
-        ensures { result ≡ L.lifted (E.Choice (tree_of self.now.shapes.now c) (tree_of self.now.shapes.now p) (tree_of self.now.shapes.now q)) context.len context.signed (family_of self.now.table.now) }
+        requires wide { E.width (E.Choice (tree_of self.now.shapes.now c) (tree_of self.now.shapes.now p) (tree_of self.now.shapes.now q)) ≤ context.width }
+        requires few { context.width ≤ 64 }
+        ensures { result ≡ L.lifted (E.Choice (tree_of self.now.shapes.now c) (tree_of self.now.shapes.now p) (tree_of self.now.shapes.now q)) context.width context.signed (family_of self.now.table.now) }
     {
         let condition = self.own(c);
         let first = self.lifted(p, context);
@@ -237,7 +238,7 @@ impl Lifter<'_> {
         ensures { result ≡ repeat (copy_count parts.now) (L.own_sets (joined (map (tree_of self.now.shapes.now) (first_copy parts.now))) (family_of self.now.table.now)) }
     {
         let copy = self.parts(e, first_copy(parts));
-        copy.repeated(copy_count(parts))
+        copy.repeated(copy_count(parts) as usize)
     }
 
     /// The sets of parts of a concatenation.
@@ -258,34 +259,5 @@ impl Lifter<'_> {
             list.append(self.own(parts[n]).as_slice());
         }
         list
-    }
-}
-
-/// The parts of a concatenation; of a replication those of its first copy, which ends where its first part comes again (IEEE 1364-2005, 5.1.14).
-pub(crate) fn first_copy(parts: &[u32]) -> &[u32]
-    ensures copy { result.now ≡ first_copy parts.now }
-    ensures prefix { result.now ≡ take (length result.now) parts.now }
-    ensures short { length result.now ≤ length parts.now }
-{
-    let Some((first, rest)) = parts.split_first() else {
-        return parts;
-    };
-    &parts[..length_before(rest, *first) + 1]
-}
-
-/// How many numbers stand before the first that is this one, and all of them where it is not among them.
-fn length_before(numbers: &[u32], number: u32) -> usize
-    ensures { result ≡ length (take_while (λ n. not (n == number)) numbers.now) }
-{
-    numbers.iter().take_while(|n| **n != number).count()
-}
-
-/// How many copies a replication has.
-fn copy_count(parts: &[u32]) -> usize
-    ensures { result ≡ copy_count parts.now }
-{
-    match parts.split_first() {
-        None => 1,
-        Some((first, rest)) => rest.iter().filter(|part| *part == first).count() + 1,
     }
 }

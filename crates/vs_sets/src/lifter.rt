@@ -12,26 +12,23 @@ ghost use Rattle.vs_design.specs.Sets.{only};
 ghost use Rattle.vs_design.specs.Values.{value, bits_of_signal};
 ghost use Rattle.vs_flat.specs.Arena.{node_at};
 ghost use Rattle.vs_flat.specs.DesignOf.{design_of};
-ghost use Rattle.vs_flat.specs.Operators.{unary_of, binary_of};
 ghost use Rattle.vs_flat.specs.Targets.{source_of};
 ghost use Rattle.vs_sets.specs.FitParts.{FitParts, Is64};
 ghost use Rattle.vs_sets.specs.Nodes.{HasNames, tree_of, place_of, tree_of_node, signal_of};
 ghost use Rattle.vs_sets.specs.Tables.{family_of};
 
-use crate::context::Context;
 use crate::operators::list_of;
-use crate::places::range_length;
 use crate::values::only_each;
 use crate::{Set4, SetList};
-use vs_flat::{Node, names_law, trees_law};
-use vs_four::Range;
-use vs_length::Shapes;
+use vs_base::Context;
+use vs_flat::{Node, signal_length, trees_law};
+use vs_shape::Shapes;
 
 /// A signal's bits: the number of the least significant one, and how many there are.
 #[derive(Clone, Copy, Debug)]
-pub(crate) struct Span {
-    pub(crate) first: usize,
-    pub(crate) len: usize,
+pub struct Span {
+    pub first: usize,
+    pub len: usize,
 }
 
 /// A design and the shapes of its expressions, with a set for each of its bits, from which those of its expressions follow.
@@ -42,18 +39,8 @@ pub(crate) struct Lifter<'a> {
     ghost covers: { length table.now ≡ bit_count (design_of shapes.now) },
 }
 
-/// How many bits a signal has.
-fn signal_length(range: Option<Range>) -> u64
-    ensures { result ≡ E.range_or_one range }
-{
-    match range {
-        None => 1,
-        Some(range) => range_length(range),
-    }
-}
-
 /// The bits of signal n.
-pub(crate) fn span_of(shapes: &Shapes, n: u32) -> Span
+pub fn span_of(shapes: &Shapes, n: u32) -> Span
     requires { n < length shapes.now.signals }
     ensures first { result.first ≡ (signal_of shapes.now n).first }
     ensures len { result.len ≡ E.signal_length (signal_of shapes.now n) }
@@ -68,17 +55,6 @@ pub(crate) fn span_of(shapes: &Shapes, n: u32) -> Span
     }
 }
 
-/// Expression e of a lawful design: it names earlier ones, and its tree is made of theirs.
-pub(crate) fn node_of(shapes: &Shapes, e: u32) -> &Node
-    requires { e < length shapes.now.nodes }
-    ensures names { HasNames (length shapes.now.signals) e result.now }
-    ensures tree { tree_of shapes.now e ≡ E.At (place_of shapes.now e) (tree_of_node shapes.now result.now) }
-{
-    names_law();
-    trees_law();
-    shapes.flat().expr(e)
-}
-
 impl Lifter<'_> {
     /// Expression e, with what holds of its parts.
     pub(crate) fn node(&self, e: u32) -> &Node
@@ -88,22 +64,7 @@ impl Lifter<'_> {
         ensures tree { tree_of self.now.shapes.now e ≡ E.At (place_of self.now.shapes.now e) (tree_of_node self.now.shapes.now result.now) }
         ensures parts { FitParts (tree_of_node self.now.shapes.now result.now) }
     {
-        node_of(self.shapes, e)
-    }
-
-    /// The context of an expression that stands by itself.
-    pub(crate) fn own_context(&self, e: u32) -> Context
-        requires there { e < length self.now.shapes.now.nodes }
-        requires fit { is_fit (tree_of self.now.shapes.now e) ≡ true }
-        ensures len { result.len ≡ E.width (tree_of self.now.shapes.now e) }
-        ensures sign { result.signed ≡ E.sign (tree_of self.now.shapes.now e) }
-        ensures few { Is64 result.len }
-    {
-        let shape = self.shapes.shape(e);
-        Context {
-            len: u32::from(shape.width),
-            signed: shape.signed,
-        }
+        self.shapes.node(e)
     }
 
     /// The sets of a signal's bits.
@@ -120,7 +81,7 @@ impl Lifter<'_> {
         requires { of < length self.now.shapes.now.nodes }
         ensures { result ≡ L.source_sets (family_of self.now.table.now) (source_of (tree_of self.now.shapes.now of)) }
     {
-        match node_of(self.shapes, of) {
+        match self.shapes.node(of) {
             Node::Name { signal } => self.signal_sets(*signal),
             Node::Literal { bits, .. } => only_each(*bits),
             _ => SetList::new(),
@@ -132,10 +93,10 @@ impl Lifter<'_> {
         requires there { e < length self.now.shapes.now.nodes }
         requires fit { is_fit (tree_of self.now.shapes.now e) ≡ true }
         requires constant { E.is_constant (tree_of self.now.shapes.now e) ≡ true }
-        requires wide { E.width (tree_of self.now.shapes.now e) ≤ context.len }
-        requires few { context.len ≤ 64 }
-        ensures { result ≡ map only (value (tree_of self.now.shapes.now e) context.len context.signed (λ b. X)) }
+        requires wide { E.width (tree_of self.now.shapes.now e) ≤ context.width }
+        requires few { context.width ≤ 64 }
+        ensures { result ≡ map only (value (tree_of self.now.shapes.now e) context.width context.signed (λ b. X)) }
     {
-        only_each(self.shapes.value(e, context.len, context.signed))
+        only_each(self.shapes.value(e, context.width, context.signed))
     }
 }

@@ -5,7 +5,6 @@ ghost use Rattle.vs_four.specs.Lengths.{last_or};
 ghost use Rattle.vs_four.specs.declared.Bit4.TheVariants.{Zero};
 ghost use Rattle.vs_design.specs.Sets.{only, image2, set_or};
 ghost use Rattle.vs_design.specs.Lifted.{extend_sets, lift_unary, lift_binary};
-ghost use Rattle.vs_flat.specs.Operators.{unary_of, binary_of};
 ghost use Rattle.vs_sets.specs.BitOperators.{operator_of};
 ghost use Rattle.vs_sets.specs.SameLength.{SameLength};
 
@@ -13,7 +12,7 @@ use crate::bits::BitOperator;
 use crate::bitwise::{each, not_each, set_match};
 use crate::folds::{arithmetic, arithmetic_on_both, set_and, set_or, set_xor};
 use crate::{Set4, SetList};
-use vs_flat::{BinaryOp, UnaryOp};
+use vs_base::{BinaryOp, UnaryOp};
 use vs_four::Bit4;
 
 /// A list of one set.
@@ -60,7 +59,7 @@ pub(crate) fn extend_sets(mut list: SetList, len: usize, signed: bool) -> SetLis
 /// The lifted operator on one operand.
 pub(crate) fn lift_unary(op: UnaryOp, sets: &[Set4]) -> SetList
     requires { length sets.now ≤ 64 }
-    ensures { result ≡ lift_unary (unary_of op) sets.now }
+    ensures { result ≡ lift_unary op sets.now }
 {
     match op {
         UnaryOp::Minus => SetList::replicated(sets.len(), arithmetic(sets)),
@@ -84,9 +83,9 @@ fn logical(operator: BitOperator, a: &[Set4], b: &[Set4]) -> SetList
 
 /// The lifted operator on two operands, which have the same length, or any with `&&` and `||`. Of a division or a shift it is any result.
 pub(crate) fn lift_binary(op: BinaryOp, a: &[Set4], b: &[Set4]) -> SetList
-    requires same_length { SameLength (binary_of op) a.now b.now }
+    requires same_length { SameLength op a.now b.now }
     requires most { length a.now ≤ 64 }
-    ensures { result ≡ lift_binary (binary_of op) a.now b.now }
+    ensures { result ≡ lift_binary op a.now b.now }
 {
     match op {
         BinaryOp::Add | BinaryOp::Subtract | BinaryOp::Multiply => {

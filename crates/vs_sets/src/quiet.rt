@@ -1,45 +1,21 @@
 //! Whether a statement leaves x alone where all bits are x.
 
 ghost use Rattle.std.specs.Prelude.{◌≡◌, ◌≤◌, ◌<◌, length, true, IfOk, OnOk, All};
-ghost use Rattle.std.specs.List.{list_all};
 ghost use Rattle.vs_four.specs.declared.Bit4.TheVariants.{X};
 ghost use Rattle.vs_design.specs.Designs.{bit_count};
 ghost use Rattle.vs_design.specs.Fits.{fits_statement};
-ghost use Rattle.vs_design.specs.Sets.{only, is_only_x};
+ghost use Rattle.vs_design.specs.Sets.{only};
 ghost use Rattle.vs_design.specs.Sleepers.{stays_x};
 ghost use Rattle.vs_flat.specs.DesignOf.{design_of};
-ghost use Rattle.vs_sets.specs.Branches.{replaced};
 ghost use Rattle.vs_sets.specs.StatementParts.{Covers, statement_of};
 ghost use Rattle.vs_sets.specs.Tables.{family_of};
 
 use crate::Set4;
 use crate::bodies::run;
+use crate::table::{are_only_x, fill};
 use std::alloc::{AllocError, Global};
 use vs_four::Bit4;
-use vs_length::Shapes;
-
-/// Whether each of these bits is surely x.
-fn are_only_x(table: &[Set4], bits: &[u32]) -> bool
-    requires { All (λ b. b < length table.now) bits.now }
-    ensures { result ≡ list_all (λ b. is_only_x (family_of table.now b)) bits.now }
-{
-    for bit in bits {
-        if !table[*bit as usize].is_only_x() {
-            return false;
-        }
-    }
-    true
-}
-
-/// Gives each of these bits this set.
-pub(crate) fn fill(table: &mut [Set4], bits: &[u32], set: Set4)
-    requires { All (λ b. b < length table.old) bits.now }
-    ensures { family_of table.new ≡ replaced bits.now (λ b. set) (family_of table.old) }
-{
-    for i in 0..bits.len() {
-        table[bits[i] as usize] = set;
-    }
-}
+use vs_shape::Shapes;
 
 /// Whether statement s, each `<=` taken as a `=`, leaves x alone in each bit that it writes where all bits are x alone: of a block this says that it is quiet. The bits are all that it writes, or more. Afterwards the table has x alone again; where memory is wanting it is left between.
 pub fn leaves_x(

@@ -13,13 +13,13 @@ ghost use Rattle.vs_sets.specs.Flags.{AreFlags};
 ghost use Rattle.vs_sets.specs.Tables.{family_of};
 
 use crate::Set4;
-use crate::flags::{are_set, fit_process, has_edge, still_flags};
+use crate::flags::{are_set, still_flags};
 use crate::quiet::leaves_x;
 use std::alloc::{AllocError, Global};
-use vs_flat::{Kind, trees_law};
+use vs_flat::{Kind, has_edge, trees_law};
 use vs_four::Bit4;
-use vs_length::Shapes;
-use vs_reads::{Footprints, footprint_law};
+use vs_reads::{Footprints, fit_process, footprint_law};
+use vs_shape::Shapes;
 
 /// Whether process p sleeps, by the flags of the bits on which it may wait and a table that has x alone, before and afterwards.
 fn sleeps(

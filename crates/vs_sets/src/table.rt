@@ -1,12 +1,15 @@
-//! Writing to a table of sets, one for each bit of the design.
+//! Tables of sets, one for each bit of the design.
 
-ghost use Rattle.std.specs.Prelude.{◌≡◌, ◌≤◌, ◌<◌, ◌+◌, ℕ, length, map, Some, None, slice_index_or};
+ghost use Rattle.std.specs.Prelude.{◌≡◌, ◌≤◌, ◌<◌, ◌+◌, ℕ, length, map, Some, None, slice_index_or, All};
+ghost use Rattle.std.specs.List.{list_all};
 ghost use Rattle.vs_design.specs.LiftedBodies.{put_each, widen};
+ghost use Rattle.vs_design.specs.Sets.{is_only_x};
 ghost use Rattle.vs_design.specs.Values.{count_from};
+ghost use Rattle.vs_sets.specs.Branches.{replaced};
 ghost use Rattle.vs_sets.specs.Tables.{family_of, bits_from};
 
 use crate::Set4;
-use crate::places::Places;
+use vs_shape::Places;
 
 /// Writes sets one after the other, from this bit on.
 pub(crate) fn put_run(table: &mut [Set4], first: usize, sets: &[Set4])
@@ -38,5 +41,28 @@ pub(crate) fn widen_run(table: &mut [Set4], first: usize, len: usize, set: Set4)
 {
     for bit in first..first + len {
         table[bit] = table[bit].union(set);
+    }
+}
+
+/// Whether each of these bits is surely x.
+pub fn are_only_x(table: &[Set4], bits: &[u32]) -> bool
+    requires { All (λ b. b < length table.now) bits.now }
+    ensures { result ≡ list_all (λ b. is_only_x (family_of table.now b)) bits.now }
+{
+    for bit in bits {
+        if !table[*bit as usize].is_only_x() {
+            return false;
+        }
+    }
+    true
+}
+
+/// Gives each of these bits this set.
+pub fn fill(table: &mut [Set4], bits: &[u32], set: Set4)
+    requires { All (λ b. b < length table.old) bits.now }
+    ensures { family_of table.new ≡ replaced bits.now (λ b. set) (family_of table.old) }
+{
+    for i in 0..bits.len() {
+        table[bits[i] as usize] = set;
     }
 }

@@ -14,24 +14,23 @@ ghost use Rattle.vs_sets.specs.Nodes.{EachBelow, tree_of, signal_of};
 ghost use Rattle.vs_sets.specs.TargetsOf.{IsSignal, IsTarget, target_tree};
 ghost use Rattle.vs_sets.specs.Tables.{family_of};
 
-use crate::context::Context;
+use crate::contexts::own_context;
 use crate::folds::all_of;
-use crate::lift::first_copy;
-use crate::lifter::{Lifter, node_of, span_of};
-use crate::places::{Part, places_of};
+use crate::lifter::{Lifter, span_of};
 use crate::table::{put_places, put_run, widen_run};
 use crate::{Set4, SetList};
+use vs_base::Context;
 use vs_flat::Node;
-use vs_length::Shapes;
+use vs_shape::{Part, Shapes, first_copy, places_of};
 
 /// The number of the signal that expression e is the name of.
-fn named_signal(shapes: &Shapes, name: u32) -> u32
+pub fn named_signal(shapes: &Shapes, name: u32) -> u32
     requires there { name < length shapes.now.nodes }
     requires is_name { IsSignal (source_of (tree_of shapes.now name)) }
     ensures there { result < length shapes.now.signals }
     ensures is { source_of (tree_of shapes.now name) ≡ E.OfSignal (signal_of shapes.now result) }
 {
-    match node_of(shapes, name) {
+    match shapes.node(name) {
         Node::Name { signal } => *signal,
         _ => unreachable!(),
     }
@@ -46,7 +45,7 @@ fn write(shapes: &Shapes, e: u32, sets: &[Set4], table: &mut [Set4])
     requires many { length sets.now ≡ E.width (tree_of shapes.now e) }
     ensures { family_of table.new ≡ write_sets (target_tree (tree_of shapes.now e)) sets.now (family_of table.old) }
 {
-    match node_of(shapes, e) {
+    match shapes.node(e) {
         Node::Name { signal } => put_run(table, span_of(shapes, *signal).first, sets),
         Node::Bit { of, range, index } => {
             let part = Part {
@@ -124,9 +123,9 @@ fn assigned_sets(lifter: &Lifter, e: u32, len: u32) -> SetList
     ensures value { result ≡ L.assigned_sets (tree_of lifter.now.shapes.now e) len (family_of lifter.now.table.now) }
     ensures length { length result ≡ len }
 {
-    let own = lifter.own_context(e);
+    let own = own_context(lifter.shapes, e);
     let context = Context {
-        len: own.len.max(len),
+        width: own.width.max(len),
         signed: own.signed,
     };
     let mut list = lifter.lifted(e, context);

@@ -11,15 +11,7 @@ ghost use Rattle.vs_sets.specs.Twice.{Adds, PartsFit, BranchFits, ArmsFit, is_tw
 use crate::bodies::statement_node;
 use std::alloc::{AllocError, Global};
 use vs_flat::{Arm, Statement};
-use vs_length::{Shapes, Walk, ascend};
-
-/// Whether a bit is among these, which rise.
-fn is_among(bits: &[u32], bit: u32) -> bool
-    requires { IsStrictlyIncreasing bits.now }
-    ensures { result ≡ contains bits.now bit }
-{
-    bits.binary_search(&bit).is_ok()
-}
+use vs_shape::{Shapes, Walk, ascend, is_among};
 
 /// Adds the bits that both lists have, of which the first rises.
 fn push_common(some: &[u32], others: &[u32], out: &mut Vec<u32>) -> Result<(), AllocError>

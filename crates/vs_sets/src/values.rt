@@ -8,16 +8,15 @@ ghost use Rattle.vs_four.specs.Selects.{at_place, places};
 ghost use Rattle.vs_four.specs.Shifts.{distance};
 ghost use Rattle.vs_design.specs.Sets.{only, set_shift_by, set_shift};
 ghost use Rattle.vs_design.specs.Lifted.{surely_inside, is_inside, is_left, fill_set};
-ghost use Rattle.vs_flat.specs.Operators.{binary_of};
 ghost use Rattle.vs_sets.specs.Extremes.{counts_up, extreme_bit, extreme_bits};
 
 use crate::bitwise::{moved_down, moved_up};
 use crate::folds::{all_of, are_known, variable};
 use crate::operators::top;
-use crate::places::{Part, Places, places_of};
 use crate::{Set4, SetList};
-use vs_flat::BinaryOp;
+use vs_base::BinaryOp;
 use vs_four::{Bit4, Bits, integer, is_known};
+use vs_shape::{Part, Places, places_of};
 
 /// The sets of a constant: each bit has its value alone.
 pub(crate) fn only_each(bits: Bits) -> SetList
@@ -123,14 +122,14 @@ fn distance(len: usize, amount: Bits) -> usize
 
 /// Whether the shift goes to the left.
 fn is_left(op: BinaryOp) -> bool
-    ensures { result ≡ is_left (binary_of op) }
+    ensures { result ≡ is_left op }
 {
     matches!(op, BinaryOp::ShiftLeft | BinaryOp::ShiftLeftArith)
 }
 
 /// What a shift brings in: 0, or with `>>>` of a signed value its top bit (IEEE 1364-2005, 5.1.12).
 pub(crate) fn shift_fill(op: BinaryOp, signed: bool, sets: &[Set4]) -> Set4
-    ensures { result ≡ fill_set (binary_of op) signed sets.now }
+    ensures { result ≡ fill_set op signed sets.now }
 {
     if signed && op == BinaryOp::ShiftRightArith {
         top(sets)
@@ -142,7 +141,7 @@ pub(crate) fn shift_fill(op: BinaryOp, signed: bool, sets: &[Set4]) -> Set4
 /// The lifted shift by a constant amount.
 pub(crate) fn shift_by(op: BinaryOp, fill: Set4, amount: Bits, sets: &[Set4]) -> SetList
     requires { length sets.now ≤ 64 }
-    ensures { result ≡ set_shift_by (all_known amount) (is_left (binary_of op)) fill (distance (length sets.now) amount) sets.now }
+    ensures { result ≡ set_shift_by (all_known amount) (is_left op) fill (distance (length sets.now) amount) sets.now }
 {
     if !is_known(amount) {
         return SetList::replicated(sets.len(), Set4::only(Bit4::X));

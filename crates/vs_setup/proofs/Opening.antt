@@ -1,13 +1,14 @@
 -- Why a stimulus can't be opened.
-use Rattle.std.proofs.Common.{◌≡◌, ◌≢◌, ◌⊎◌, ℕ, ◌<◌, ◌≤◌, ◌+◌, List, length, take, Some, arith, refl, inl, inr, IsTrue, Bool, Result, Ok, Err, IfErr, sym, subst, ap, ◌∙◌}
-use Rattle.vs_desk.specs.Desk.{Register, Contents}
-use Rattle.vs_desk.specs.Places.{design_place}
+use Rattle.std.proofs.Common.{◌≡◌, ◌≢◌, ◌⊎◌, ℕ, ◌<◌, ◌≤◌, ◌+◌, List, length, take, Some, arith, refl, inl, inr, IsTrue, Bool, true, false, Result, Ok, Err, IfErr, sym, subst, ap, ◌∙◌}
+use Rattle.vs_desk.specs.Desk.{Register, Contents, Fails}
+use Rattle.vs_desk.specs.Places.{design_place, stimulus_place}
 use Rattle.vs_stim.specs.declared.input.Input.{Input}
 use Rattle.vs_stim.specs.declared.error.StimError.{StimError}
 use Rattle.vs_stim.specs.declared.error.StimError.TheVariants as E
-use Rattle.vs_stim.specs.Reading.{header_refusal}
+use Rattle.vs_stim.specs.Known.{IsUntold}
+use Rattle.vs_stim.specs.Reading.{first_place, header_refusal}
 use Rattle.vs_stim.specs.Source.{IsHeaderError}
-use Rattle.vs_drive.specs.Opened.{path_at, with_lanes, HaveHeaders}
+use Rattle.vs_feed.specs.Opened.{path_at, with_lanes, HaveHeaders}
 use Rattle.vs_design.specs.Designs.{Design}
 use Rattle.vs_flat.specs.DesignOf.{design_of}
 use Rattle.vs_engine.specs.Lanes.{Running}
@@ -28,14 +29,25 @@ use Rattle.vs_setup.specs.Prepared.{IsDesignLoaded}
 use Rattle.vs_setup.specs.Unprepared.{IsUnopened, IsUnprepared, IsDesignOf, IsDesignRefused, IsLoadError, IsTextRefusal, IsFirstRefused, StimulusFails, error_of, design_error, accept_error}
 
 -- what is known of the lane that stopped the opening
-pub record HasStopped (tells : Bool) (inputs : List Input) (stimuli : List (List ℕ)) (before : Register) (old : Contents) (now : Register) (lane : ℕ) (error : StimError) : Type 0 where
+pub record HasStopped (tells : Bool) (inputs : List Input) (stimuli : List (List ℕ)) (before : Register) (old : Contents) (now : Register) (new : Contents) (lane : ℕ) (error : StimError) : Type 0 where
   pub is_lane : lane < length stimuli
   pub is_header_error : IsHeaderError error
   pub refused : IsTrue tells → error ≢ E.ReadFault → error ≢ E.Memory → header_refusal inputs (old.files (path_at stimuli lane)) ≡ Some error
   pub earlier : IsTrue tells → HaveHeaders inputs old.files stimuli lane
   pub register : error ≢ E.ReadFault → error ≢ E.Memory → now ≡ with_lanes before (take (lane + 1) stimuli)
   pub memory : error ≡ E.Memory → (now ≡ with_lanes before (take lane stimuli)) ⊎ (now ≡ with_lanes before (take (lane + 1) stimuli))
-  pub fault : error ≡ E.ReadFault → StimulusFails before stimuli now lane
+  pub fault : error ≡ E.ReadFault
+      → Fails (with_lanes before (take lane stimuli)) now (stimulus_place lane) (path_at stimuli lane)
+      ⊎ Fails (with_lanes before (take (lane + 1) stimuli)) now (stimulus_place lane) before.asked
+  pub needed : IsTrue tells → error ≡ E.ReadFault
+      → Fails (with_lanes before (take lane stimuli)) now (stimulus_place lane) (path_at stimuli lane)
+      ⊎ IsUntold first_place (old.files (path_at stimuli lane)) (new.left (stimulus_place lane))
+
+-- a call that failed in the one way, or in the other, of which more is known where the desk tells
+both_known : (tells : Bool) (A B C : Type 0) → A ⊎ B → (IsTrue tells → A ⊎ C) → A ⊎ (B × (IsTrue tells → C))
+both_known tells A B C (inl a) more = inl a
+both_known true A B C (inr b) more = elim (more refl) [ inl a ↦ inl a | inr c ↦ inr (b, λ _. c) ]
+both_known false A B C (inr b) more = inr (b, λ h. absurd (cc))
 
 -- what is no fault and no want of memory is a refusal
 text_refusal : (error : StimError) → IsHeaderError error → error ≢ E.ReadFault → error ≢ E.Memory → IsTextRefusal error
@@ -50,24 +62,28 @@ text_refusal (E.LineTooLong line) h r m = h
 text_refusal E.ReadFault h r m = absurd (r refl)
 text_refusal E.Memory h r m = absurd (m refl)
 
-refusal : (tells : Bool) (inputs : List Input) (stimuli : List (List ℕ)) (before : Register) (old : Contents) (now : Register) (lane : ℕ) (error : StimError)
-    → HasStopped tells inputs stimuli before old now lane error → error ≢ E.ReadFault → error ≢ E.Memory
+refusal : (tells : Bool) (inputs : List Input) (stimuli : List (List ℕ)) (before : Register) (old : Contents) (now : Register) (new : Contents) (lane : ℕ) (error : StimError)
+    → HasStopped tells inputs stimuli before old now new lane error → error ≢ E.ReadFault → error ≢ E.Memory
     → (lane < length stimuli) × IsTextRefusal error × (now ≡ with_lanes before (take (lane + 1) stimuli)) × (IsTrue tells → IsFirstRefused inputs old stimuli lane error)
-refusal tells inputs stimuli before old now lane error s r m =
+refusal tells inputs stimuli before old now new lane error s r m =
     (s.is_lane, text_refusal error s.is_header_error r m, s.register r m, λ t. record { refused = s.refused t r m; earlier = s.earlier t })
 
-pub unopened : (tells : Bool) (inputs : List Input) (stimuli : List (List ℕ)) (before : Register) (old : Contents) (now : Register) (lane : ℕ) (error : StimError)
-    → HasStopped tells inputs stimuli before old now lane error → IsUnopened tells inputs stimuli before old now (error_of lane error)
-unopened tells inputs stimuli before old now lane E.BadHeader s = refusal tells inputs stimuli before old now lane E.BadHeader s (λ e. cc) (λ e. cc)
-unopened tells inputs stimuli before old now lane (E.BadVector line) s = refusal tells inputs stimuli before old now lane (E.BadVector line) s (λ e. cc) (λ e. cc)
-unopened tells inputs stimuli before old now lane E.FirstUnknown s = refusal tells inputs stimuli before old now lane E.FirstUnknown s (λ e. cc) (λ e. cc)
-unopened tells inputs stimuli before old now lane (E.UnknownReset line) s = refusal tells inputs stimuli before old now lane (E.UnknownReset line) s (λ e. cc) (λ e. cc)
-unopened tells inputs stimuli before old now lane E.NoVector s = refusal tells inputs stimuli before old now lane E.NoVector s (λ e. cc) (λ e. cc)
-unopened tells inputs stimuli before old now lane E.TooManyVectors s = refusal tells inputs stimuli before old now lane E.TooManyVectors s (λ e. cc) (λ e. cc)
-unopened tells inputs stimuli before old now lane E.StimulusTooLong s = refusal tells inputs stimuli before old now lane E.StimulusTooLong s (λ e. cc) (λ e. cc)
-unopened tells inputs stimuli before old now lane (E.LineTooLong line) s = refusal tells inputs stimuli before old now lane (E.LineTooLong line) s (λ e. cc) (λ e. cc)
-unopened tells inputs stimuli before old now lane E.ReadFault s = (lane, s.is_lane, refl, s.fault refl, s.earlier)
-unopened tells inputs stimuli before old now lane E.Memory s = of_memory (s.memory refl)
+pub unopened : (tells : Bool) (inputs : List Input) (stimuli : List (List ℕ)) (before : Register) (old : Contents) (now : Register) (new : Contents) (lane : ℕ) (error : StimError)
+    → HasStopped tells inputs stimuli before old now new lane error → IsUnopened tells inputs stimuli before old now new (error_of lane error)
+unopened tells inputs stimuli before old now new lane E.BadHeader s = refusal tells inputs stimuli before old now new lane E.BadHeader s (λ e. cc) (λ e. cc)
+unopened tells inputs stimuli before old now new lane (E.BadVector line) s = refusal tells inputs stimuli before old now new lane (E.BadVector line) s (λ e. cc) (λ e. cc)
+unopened tells inputs stimuli before old now new lane E.FirstUnknown s = refusal tells inputs stimuli before old now new lane E.FirstUnknown s (λ e. cc) (λ e. cc)
+unopened tells inputs stimuli before old now new lane (E.UnknownReset line) s = refusal tells inputs stimuli before old now new lane (E.UnknownReset line) s (λ e. cc) (λ e. cc)
+unopened tells inputs stimuli before old now new lane E.NoVector s = refusal tells inputs stimuli before old now new lane E.NoVector s (λ e. cc) (λ e. cc)
+unopened tells inputs stimuli before old now new lane E.TooManyVectors s = refusal tells inputs stimuli before old now new lane E.TooManyVectors s (λ e. cc) (λ e. cc)
+unopened tells inputs stimuli before old now new lane E.StimulusTooLong s = refusal tells inputs stimuli before old now new lane E.StimulusTooLong s (λ e. cc) (λ e. cc)
+unopened tells inputs stimuli before old now new lane (E.LineTooLong line) s = refusal tells inputs stimuli before old now new lane (E.LineTooLong line) s (λ e. cc) (λ e. cc)
+unopened tells inputs stimuli before old now new lane E.ReadFault s =
+    let attach = Fails (with_lanes before (take lane stimuli)) now (stimulus_place lane) (path_at stimuli lane) in
+    let taking = Fails (with_lanes before (take (lane + 1) stimuli)) now (stimulus_place lane) before.asked in
+    let untold = IsUntold first_place (old.files (path_at stimuli lane)) (new.left (stimulus_place lane)) in
+    (lane, s.is_lane, refl, both_known tells attach taking untold (s.fault refl) (λ t. s.needed t refl), s.earlier)
+unopened tells inputs stimuli before old now new lane E.Memory s = of_memory (s.memory refl)
   where
     of_memory : (now ≡ with_lanes before (take lane stimuli)) ⊎ (now ≡ with_lanes before (take (lane + 1) stimuli)) → (lanes : ℕ) × (lanes ≤ length stimuli) × (now ≡ with_lanes before (take lanes stimuli))
     of_memory (inl e) =
@@ -132,7 +148,7 @@ with_text top clock d text other e a = record {
 -- a stimulus that can't be opened, behind a loaded design
 pub unprepared : {W : Type 0} (lane : W → ℕ → Bool) (lanes : ℕ) (tells : Bool) (job : Job) (before : Register) (old mid : Contents) (now : Register) (new : Contents) (a : Acceptance) (inputs : List Input) (engine : Running W)
     → IsDesignLoaded lane lanes tells job old a inputs engine → (IsTrue tells → mid.files ≡ old.files)
-    → (e : SetupError) → IsUnopened tells inputs job.stimuli (with_design before job.design) mid now e → IsUnprepared tells job before old now new e
+    → (e : SetupError) → IsUnopened tells inputs job.stimuli (with_design before job.design) mid now new e → IsUnprepared tells job before old now new e
 unfolding with_text
 unprepared lane lanes tells job before old mid now new a inputs engine l same e u = by_error e u
   where
@@ -149,7 +165,7 @@ unprepared lane lanes tells job before old mid now new a inputs engine l same e 
         → header_refusal (data_inputs (design_of a.flat) (accepted t).accepted.clock.first) (old.files (path_at job.stimuli n)) ≡ Some error
     refused t n error h = ap (λ is. header_refusal is (old.files (path_at job.stimuli n))) (sym (inputs_are t)) ∙ ap (λ (files : List ℕ → List ℕ). header_refusal inputs (files (path_at job.stimuli n))) (sym (same t)) ∙ h
 
-    by_error : (e : SetupError) → IsUnopened tells inputs job.stimuli (with_design before job.design) mid now e → IsUnprepared tells job before old now new e
+    by_error : (e : SetupError) → IsUnopened tells inputs job.stimuli (with_design before job.design) mid now new e → IsUnprepared tells job before old now new e
     by_error TooLong u = absurd u
     by_error (Refused r) u = absurd u
     by_error (Stimulus n error) u = (
@@ -166,7 +182,10 @@ unprepared lane lanes tells job before old mid now new a inputs engine l same e 
       lane = u.0;
       is_lane = u.1;
       place_is = u.2;
-      fails = u.3;
+      fails = elim u.3 [
+        | inl attach ↦ inl attach
+        | inr taking ↦ inr (taking.0, λ t. subst (λ (files : List ℕ → List ℕ). IsUntold first_place (files (path_at job.stimuli u.0)) (new.left (stimulus_place u.0))) (same t) (taking.1 t))
+      ];
       earlier = λ t. record { design = design_of a.flat; accepted = accepted t; headers = headers t u.0 (u.4 t) };
     })
     by_error Memory u = inr u

@@ -10,10 +10,11 @@ use Rattle.vs_program.proofs.Lengths.{lengths_of_spans}
 use Rattle.vs_engine.specs.Lanes.{Running, state}
 use Rattle.vs_accept.specs.Lent.{Acceptance}
 use Rattle.vs_stim.specs.declared.input.Input.{Input}
+use Rattle.vs_stim.specs.Known.{IsReadBy}
 use Rattle.vs_stim.specs.Reading.{reading}
-use Rattle.vs_drive.specs.Lanes.{AreLanes}
-use Rattle.vs_drive.specs.Opened as drive
-use Rattle.vs_drive.specs.Opened.{path_at}
+use Rattle.vs_feed.specs.Lanes.{AreLanes, lane_at}
+use Rattle.vs_feed.specs.Opened as drive
+use Rattle.vs_feed.specs.Opened.{path_at}
 use Rattle.vs_waves.specs.Wave.{Wave, IsNewWave}
 use Rattle.vs_rounds.specs.Lanes.{Simulation, AreOpened, wave_at, closed}
 use Rattle.vs_rounds.specs.Ready.{IsReady, IsWaveReady, signal_lengths}
@@ -75,6 +76,15 @@ begins lane lanes tells job old mid new a inputs engine m p t = record {
       ap (λ is. reading is (old.files (path_at job.stimuli i))) (sym p.loaded.loaded.inputs_are)
       ∙ ap (λ (files : List ℕ → List ℕ). reading inputs (files (path_at job.stimuli i))) (sym (p.files t))
       ∙ (p.opened.each i h).reading t;
+  read = λ i h.
+      let k = lane_at m.stimuli i in
+      let path = path_at job.stimuli i in
+      let o = p.opened.each i h in
+      record {
+        count_is = o.count;
+        read = subst (λ (is : List Input). IsReadBy is (old.files path) k new) p.loaded.loaded.inputs_are
+            (subst (λ (files : List ℕ → List ℕ). IsReadBy inputs (files path) k new) (p.files t) (o.read t));
+      };
   waves = λ i h. new_wave (design_of a.flat) job.half m.waves p.new_waves i (subst (λ n. i < n) (sym p.waves) h);
   idle = λ i h. ap (λ (e : Running _). state lane e i) p.engine_is ∙ p.loaded.loaded.idle i (below i h);
 }

@@ -2,7 +2,7 @@
 use Rattle.std.specs.Prelude.{ℕ, ◌<◌, IsNone, List}
 use Rattle.vs_desk.specs.Desk.{Register}
 use Rattle.vs_desk.specs.Places.{stimulus_place, design_place}
-use Rattle.vs_drive.specs.Opened.{with_lanes}
+use Rattle.vs_feed.specs.Opened.{with_lanes}
 use Rattle.vs_job.specs.declared.job.Job.{Job}
 use Rattle.vs_setup.specs.DesignText.{with_design}
 

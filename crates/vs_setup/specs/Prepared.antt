@@ -9,8 +9,8 @@ use Rattle.vs_engine.specs.Lanes.{Running}
 use Rattle.vs_accept.specs.Accepted.{IsAcceptedText}
 use Rattle.vs_accept.specs.Lent.{Acceptance}
 use Rattle.vs_stim.specs.Header.{IsInput}
-use Rattle.vs_drive.specs.Lanes.{AreAttached}
-use Rattle.vs_drive.specs.Opened.{path_at, HaveHeaders}
+use Rattle.vs_feed.specs.Lanes.{AreAttached}
+use Rattle.vs_feed.specs.Opened.{path_at, HaveHeaders}
 use Rattle.vs_job.specs.declared.job.Job.{Job}
 use Rattle.vs_job.specs.Places.{vcd_path}
 use Rattle.vs_rounds.specs.Inputs.{data_inputs}

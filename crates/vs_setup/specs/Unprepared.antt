@@ -10,9 +10,10 @@ use Rattle.vs_accept.specs.Accepted.{most_bytes, IsAcceptedText, IsRefusedText}
 use Rattle.vs_stim.specs.declared.input.Input.{Input}
 use Rattle.vs_stim.specs.declared.error.StimError.{StimError}
 use Rattle.vs_stim.specs.declared.error.StimError.TheVariants as E
-use Rattle.vs_stim.specs.Reading.{header_refusal}
+use Rattle.vs_stim.specs.Known.{IsUntold}
+use Rattle.vs_stim.specs.Reading.{first_place, header_refusal}
 use Rattle.vs_stim.specs.Source.{IsHeaderError}
-use Rattle.vs_drive.specs.Opened.{path_at, with_lanes, HaveHeaders}
+use Rattle.vs_feed.specs.Opened.{path_at, with_lanes, HaveHeaders}
 use Rattle.vs_job.specs.declared.job.Job.{Job}
 use Rattle.vs_rounds.specs.Inputs.{data_inputs}
 use Rattle.vs_setup.specs.declared.design_text.DesignError.{DesignError}
@@ -57,10 +58,12 @@ pub record IsHeaderRefusal (job : Job) (c : Contents) (lane : ℕ) (error : Stim
   pub accepted : IsDesignOf job c design
   pub first : IsFirstRefused (data_inputs design accepted.accepted.clock.first) c job.stimuli lane error
 
--- A call failed at the place of this lane's stimulus, behind the earlier ones: the attach, or a take.
-abbrev pub StimulusFails : Register → List (List ℕ) → Register → ℕ → Type 0
-StimulusFails before stimuli now lane = Fails (with_lanes before (take lane stimuli)) now (stimulus_place lane) (path_at stimuli lane)
-    ⊎ Fails (with_lanes before (take (lane + 1) stimuli)) now (stimulus_place lane) before.asked
+-- The attach of this lane's stimulus failed, behind the earlier ones, or a take there did, behind bytes of its text that tell neither a header nor
+-- a refusal.
+abbrev pub StimulusFails : Bool → List (List ℕ) → Register → Contents → Register → Contents → ℕ → Type 0
+StimulusFails tells stimuli before old now new lane = Fails (with_lanes before (take lane stimuli)) now (stimulus_place lane) (path_at stimuli lane)
+    ⊎ (Fails (with_lanes before (take (lane + 1) stimuli)) now (stimulus_place lane) before.asked
+    × (IsTrue tells → IsUntold first_place (text_of old stimuli lane) (new.left (stimulus_place lane))))
 
 -- a fault at the place of the design
 pub record IsDesignFault (tells : Bool) (job : Job) (before : Register) (old : Contents) (now : Register) (new : Contents) (place : ℕ) : Type 0 where
@@ -68,11 +71,11 @@ pub record IsDesignFault (tells : Bool) (job : Job) (before : Register) (old : C
   pub fails : DesignFails tells before old now new job.design
 
 -- a fault at the place of a stimulus, behind the earlier ones
-pub record IsStimulusFault (tells : Bool) (job : Job) (before : Register) (old : Contents) (now : Register) (place : ℕ) : Type 0 where
+pub record IsStimulusFault (tells : Bool) (job : Job) (before : Register) (old : Contents) (now : Register) (new : Contents) (place : ℕ) : Type 0 where
   pub lane : ℕ
   pub is_lane : lane < length job.stimuli
   pub place_is : place ≡ stimulus_place lane
-  pub fails : StimulusFails (with_design before job.design) job.stimuli now lane
+  pub fails : StimulusFails tells job.stimuli (with_design before job.design) old now new lane
   pub earlier : IsTrue tells → AreEarlierOpened job old lane
 
 -- a text is refused up to its header; a fault isn't that, nor is want of memory
@@ -88,18 +91,18 @@ IsUnprepared tells job before old now new (Refused r) =
     (now ≡ with_design before job.design) × IsSomeRefusal job r × (IsTrue tells → IsDesignRefused job old new r)
 IsUnprepared tells job before old now new (Stimulus lane error) =
     (lane < length job.stimuli) × IsTextRefusal error × (now ≡ with_texts before job (take (lane + 1) job.stimuli)) × (IsTrue tells → IsHeaderRefusal job old lane error)
-IsUnprepared tells job before old now new (ReadFault place) = IsDesignFault tells job before old now new place ⊎ IsStimulusFault tells job before old now place
+IsUnprepared tells job before old now new (ReadFault place) = IsDesignFault tells job before old now new place ⊎ IsStimulusFault tells job before old now new place
 IsUnprepared tells job before old now new Memory = (now ≡ before) ⊎ ((lanes : ℕ) × (lanes ≤ length job.stimuli) × (now ≡ with_texts before job (take lanes job.stimuli)))
 
 -- Why a stimulus can't be opened, where the design's inputs are these.
-abbrev pub IsUnopened : Bool → List Input → List (List ℕ) → Register → Contents → Register → SetupError → Type 0
-IsUnopened tells inputs stimuli before old now TooLong = ⊥
-IsUnopened tells inputs stimuli before old now (Refused r) = ⊥
-IsUnopened tells inputs stimuli before old now (Stimulus lane error) =
+abbrev pub IsUnopened : Bool → List Input → List (List ℕ) → Register → Contents → Register → Contents → SetupError → Type 0
+IsUnopened tells inputs stimuli before old now new TooLong = ⊥
+IsUnopened tells inputs stimuli before old now new (Refused r) = ⊥
+IsUnopened tells inputs stimuli before old now new (Stimulus lane error) =
     (lane < length stimuli) × IsTextRefusal error × (now ≡ with_lanes before (take (lane + 1) stimuli)) × (IsTrue tells → IsFirstRefused inputs old stimuli lane error)
-IsUnopened tells inputs stimuli before old now (ReadFault place) =
-    (lane : ℕ) × (lane < length stimuli) × (place ≡ stimulus_place lane) × StimulusFails before stimuli now lane × (IsTrue tells → HaveHeaders inputs old.files stimuli lane)
-IsUnopened tells inputs stimuli before old now Memory = (lanes : ℕ) × (lanes ≤ length stimuli) × (now ≡ with_lanes before (take lanes stimuli))
+IsUnopened tells inputs stimuli before old now new (ReadFault place) =
+    (lane : ℕ) × (lane < length stimuli) × (place ≡ stimulus_place lane) × StimulusFails tells stimuli before old now new lane × (IsTrue tells → HaveHeaders inputs old.files stimuli lane)
+IsUnopened tells inputs stimuli before old now new Memory = (lanes : ℕ) × (lanes ≤ length stimuli) × (now ≡ with_lanes before (take lanes stimuli))
 
 -- the error of a stimulus that can't be opened
 abbrev pub error_of : ℕ → StimError → SetupError

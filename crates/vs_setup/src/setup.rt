@@ -8,8 +8,8 @@ ghost use Rattle.vs_accept.specs.Accepted.{most_bytes};
 ghost use Rattle.vs_design.specs.Sizes.{size as size_of};
 ghost use Rattle.vs_setup.specs.Loaded.{IsLoaded};
 ghost use Rattle.vs_stim.specs.Header.{IsInput};
-ghost use Rattle.vs_drive.specs.Lanes.{AreAttached, AreLanes, OtherPlacesKept};
-ghost use Rattle.vs_drive.specs.Opened.{AreFree, AreOpened, HaveHeaders, with_lanes};
+ghost use Rattle.vs_feed.specs.Lanes.{AreAttached, AreLanes, OtherPlacesKept};
+ghost use Rattle.vs_feed.specs.Opened.{AreFree, AreOpened, HaveHeaders, with_lanes};
 ghost use Rattle.vs_waves.specs.Wave.{IsNewWave};
 ghost use Rattle.vs_job.specs.Job.{IsJob};
 ghost use Rattle.vs_job.specs.Places.{vcd_path};
@@ -23,7 +23,7 @@ use crate::design_text::read_design;
 use crate::loading::{Loaded, load};
 use std::alloc::{AllocError, Global};
 use vs_desk::{Desk, FIRST_STIMULUS};
-use vs_drive::{Drive, Stopped, open};
+use vs_feed::{Drive, Stopped, open};
 use vs_job::{Job, stimulus_paths, vcd_paths};
 use vs_plane::Lanes;
 use vs_rounds::Machine;
@@ -104,7 +104,7 @@ fn open_stimuli<D: Desk>(
     ensures numbered { IfOk result AreLanes }
     ensures register { OnOk result (D.register desk.new ≡ with_lanes (D.register desk.old) job.now.stimuli) }
     ensures readable { IfOk result (AreAttached (D.register desk.new)) }
-    ensures unopened { IfErr result (IsUnopened D.tells inputs.now job.now.stimuli (D.register desk.old) (D.contents desk.old) (D.register desk.new)) }
+    ensures unopened { IfErr result (IsUnopened D.tells inputs.now job.now.stimuli (D.register desk.old) (D.contents desk.old) (D.register desk.new) (D.contents desk.new)) }
     ensures others { IsTrue D.tells → OtherPlacesKept (length job.now.stimuli) (D.contents desk.old) (D.contents desk.new) }
 {
     let paths = stimulus_paths(alloc, job)?;

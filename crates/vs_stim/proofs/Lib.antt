@@ -13,3 +13,4 @@ pub mod Known
 pub mod Sized
 pub mod Turns
 pub mod Untold
+pub mod Passed

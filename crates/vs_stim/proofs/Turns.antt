@@ -7,13 +7,13 @@ use Rattle.vs_stim.specs.declared.error.StimError.TheVariants.{BadHeader, BadVec
 use Rattle.vs_stim.specs.declared.input.Column.{Column}
 use Rattle.vs_stim.specs.declared.input.Input.{Input}
 use Rattle.vs_stim.specs.Lines.{lines, all_lines}
-use Rattle.vs_stim.specs.Reading.{Reading, refused, with_vector, limits, behind, too_long, Said, said, header_line, header_fault, vector_line, not_taken, at_end, read_vectors}
+use Rattle.vs_stim.specs.Reading.{Reading, refused, with_vector, limits, behind, too_long, Said, said, header_line, header_fault, vector_line, not_taken, at_end, read_vectors, read_header}
 use Rattle.vs_stim.specs.Reading.Said.{Skipped, Malformed, Given}
 use Rattle.vs_stim.specs.Row.{Values}
 use Rattle.vs_stim.specs.Fields.{is_skipped, fields}
 use Rattle.vs_stim.specs.Vectors.{vector}
 use Rattle.vs_stim.specs.Known.{lines_tell}
-use Rattle.vs_stim.specs.Source.{Open, line_length, line_refusal, says, vectors_from, header_fault_from, text_tells, is_told, Passes}
+use Rattle.vs_stim.specs.Source.{Open, line_length, line_refusal, says, vectors_from, header_from, header_fault_from, text_tells, is_told, Passes}
 
 refusal_here : (o : Open) → o.taken ≡ 0 → too_long limits o.at (length (lines o.rest).first.bytes) (lines o.rest).first.ended ≡ line_refusal o
 refusal_here o z = ap (λ n. too_long limits o.at n (lines o.rest).first.ended) (sym (zero-add (length (lines o.rest).first.bytes)) ∙ ap (λ t. t + length (lines o.rest).first.bytes) (sym z))
@@ -90,6 +90,26 @@ vectors_taken_last cs o p count v z h b s n = vectors_given cs o count v z h.kep
 pub vectors_found : (cs : List Column) (o p : Open) (count : ℕ) (v : Values) (last : Bool) → o.taken ≡ 0 → Passes last o p → p.at.start ≤ 4294967296 → vector_line cs (says o) ≡ Given v → not_taken limits cs o.at.number count v ≡ None → vectors_from cs count o ≡ with_vector v (vectors_from cs (count + 1) p)
 vectors_found cs o p count v true z h b s n = vectors_taken_last cs o p count v z h b s n
 vectors_found cs o p count v false z h b s n = vectors_taken cs o p count v z h s n
+
+-- a line before the vectors, by its refusal and by what it says
+header_turn : List Input → Open → Option StimError → Said (List Column) → Reading
+header_turn is o r s =
+    elim r [
+      | Some e ↦ refused e
+      | None ↦ elim s [
+        | Skipped ↦ read_header limits is (behind o.at (length (lines o.rest).first.bytes)) (lines o.rest).later
+        | Malformed ↦ refused BadHeader
+        | Given cs ↦ read_vectors limits cs (behind o.at (length (lines o.rest).first.bytes)) 0 (lines o.rest).later
+      ]
+    ]
+
+-- A header was read, with which the text ends.
+pub header_last : (is : List Input) (cs : List Column) (o p : Open) → o.taken ≡ 0 → Passes true o p → p.at.start ≤ 4294967296 → header_line is (says o) ≡ Given cs
+    → header_from is o ≡ vectors_from cs 0 p
+unfolding header_turn
+header_last is cs o p z h b s =
+    let turned : header_from is o ≡ header_turn is o None (Given cs) = λ i. header_turn is o ((refusal_here o z ∙ h.kept) i) (s i) in
+    turned ∙ last_vectors cs o p 0 h ∙ sym (nothing_left cs p 0 (h.nothing refl) b)
 
 -- what is skipped
 pub skipped_is : {A : Type 0} (t : List ℕ) (o : Option A) → Skipped ≡ (elim (is_skipped t) as (λ _. Said A) [ true ↦ Skipped | false ↦ said o ]) → is_skipped t ≡ true

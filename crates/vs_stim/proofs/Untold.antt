@@ -3,11 +3,17 @@ use Rattle.std.proofs.Common.{◌≡◌, ℕ, ◌+◌, ◌≤◌, Bool, true, fa
 use Rattle.std.proofs.lemmas.Bool.{le-ltb}
 use Rattle.std.specs.Prelude.{Option, Some, None}
 use Rattle.vs_stim.specs.declared.error.StimError.{StimError}
-use Rattle.vs_stim.specs.declared.error.StimError.TheVariants.{LineTooLong, StimulusTooLong}
-use Rattle.vs_stim.specs.Fields.{is_skipped}
+use Rattle.vs_four.specs.declared.Bit4.{Bit4}
+use Rattle.vs_stim.specs.declared.error.StimError.TheVariants.{BadHeader, BadVector, LineTooLong, StimulusTooLong}
+use Rattle.vs_stim.specs.declared.input.Column.{Column}
+use Rattle.vs_stim.specs.declared.input.Input.{Input}
+use Rattle.vs_stim.specs.Fields.{is_skipped, fields}
+use Rattle.vs_stim.specs.Header.{header}
 use Rattle.vs_stim.specs.Lines.{Lines, lines, all_lines, with_lf, with_byte, content, no_lf}
 use Rattle.vs_stim.specs.Known.{lines_tell, IsUntold}
-use Rattle.vs_stim.specs.Reading.{limits, Place, behind, too_long}
+use Rattle.vs_stim.specs.Reading.{limits, Place, behind, too_long, Reading, Said, said, refused, with_vector, not_taken, read_vectors, read_header}
+use Rattle.vs_stim.specs.Reading.Said.{Skipped, Malformed, Given}
+use Rattle.vs_stim.specs.Vectors.{vector}
 use Rattle.vs_stim.specs.Source.{Open, line_length, says, GoesOn, PassesLf, Passes}
 use Rattle.vs_stim.proofs.Counted.{both}
 
@@ -29,7 +35,7 @@ lines_open (b ∷ bs) h = go (nat_eq b 10) (both (not (nat_eq b 10)) (no_lf bs) 
     go false p f = ap (with_byte b) (f p.1)
 
 -- and with an LF behind them they are a line
-lines_closed : (bs more : List ℕ) → no_lf bs ≡ true → lines (bs ++ 10 ∷ more) ≡ record { first = record { bytes = bs; ended = true }; later = all_lines (lines more) }
+pub lines_closed : (bs more : List ℕ) → no_lf bs ≡ true → lines (bs ++ 10 ∷ more) ≡ record { first = record { bytes = bs; ended = true }; later = all_lines (lines more) }
 lines_closed [] more h = refl
 lines_closed (b ∷ bs) more h = go (nat_eq b 10) (both (not (nat_eq b 10)) (no_lf bs) h) (lines_closed bs more)
   where
@@ -61,19 +67,22 @@ passes_lf a b c h k = record {
   rest = h.rest ∙ ap (λ r. h.bytes ++ r) k.rest ∙ sym (append_assoc h.bytes k.bytes (10 ∷ c.rest));
 }
 
--- whole lines, which tell nothing
-record WholeLines (old new : Open) : Type 0 where
-  bytes : List ℕ
-  rest : old.rest ≡ bytes ++ new.rest
-  tells : (more : List ℕ) → lines_tell old.at (all_lines (lines (bytes ++ more))) ≡ lines_tell new.at (all_lines (lines more))
+-- whole lines, which tell nothing, and give nothing
+pub record WholeLines (old new : Open) : Type 0 where
+  pub bytes : List ℕ
+  pub rest : old.rest ≡ bytes ++ new.rest
+  pub tells : (more : List ℕ) → lines_tell old.at (all_lines (lines (bytes ++ more))) ≡ lines_tell new.at (all_lines (lines more))
+  pub vectors : (cs : List Column) (count : ℕ) (more : List ℕ)
+      → read_vectors limits cs old.at count (all_lines (lines (bytes ++ more))) ≡ read_vectors limits cs new.at count (all_lines (lines more))
+  pub headers : (is : List Input) (more : List ℕ) → read_header limits is old.at (all_lines (lines (bytes ++ more))) ≡ read_header limits is new.at (all_lines (lines more))
 
--- the reader passed whole lines, which tell nothing
-pub IsPassed : Open → Open → Type 0
+-- the reader passed whole lines, which tell nothing, and give nothing
+unfoldable pub IsPassed : Open → Open → Type 0
 IsPassed old new = WholeLines old new
 
 pub none_passed : (o : Open) → IsPassed o o
 unfolding IsPassed
-none_passed o = record { bytes = []; rest = refl; tells = λ more. refl }
+none_passed o = record { bytes = []; rest = refl; tells = λ more. refl; vectors = λ cs count more. refl; headers = λ is more. refl }
 
 passed_on : (a b c : Open) → IsPassed a b → IsPassed b c → IsPassed a c
 unfolding IsPassed
@@ -82,15 +91,29 @@ passed_on a b c h k = record {
   rest = h.rest ∙ ap (λ r. h.bytes ++ r) k.rest ∙ sym (append_assoc h.bytes k.bytes c.rest);
   tells = λ more.
       ap (λ bs. lines_tell a.at (all_lines (lines bs))) (append_assoc h.bytes k.bytes more) ∙ h.tells (k.bytes ++ more) ∙ k.tells more;
+  vectors = λ cs count more.
+      ap (λ bs. read_vectors limits cs a.at count (all_lines (lines bs))) (append_assoc h.bytes k.bytes more)
+      ∙ h.vectors cs count (k.bytes ++ more)
+      ∙ k.vectors cs count more;
+  headers = λ is more.
+      ap (λ bs. read_header limits is a.at (all_lines (lines bs))) (append_assoc h.bytes k.bytes more) ∙ h.headers is (k.bytes ++ more) ∙ k.headers is more;
 }
 
 -- whether lines tell, by the first one's refusal, and whether it is skipped, where it has its LF
 tell_ended : Option StimError → Bool → Bool → Bool
 tell_ended r s k = elim r [ Some e ↦ true | None ↦ elim s [ false ↦ true | true ↦ k ] ]
 
+-- what lines give, by the first one's refusal, whether it is skipped, what it says else, and what the later lines give
+give_ended : {A : Type 0} → Option StimError → Bool → Said A → Reading → Reading → (A → Reading) → Reading
+give_ended {A = A} r s other later malformed given =
+    elim r [
+      | Some e ↦ refused e
+      | None ↦ elim (elim s as (λ _. Said A) [ true ↦ Skipped | false ↦ other ]) [ Skipped ↦ later | Malformed ↦ malformed | Given a ↦ given a ]
+    ]
+
 -- a line that was skipped
 line_passed : (o p : Open) → o.taken ≡ 0 → PassesLf o p → Passes false o p → is_skipped (says o) ≡ true → IsPassed o p
-unfolding tell_ended IsPassed
+unfolding tell_ended give_ended IsPassed
 line_passed o p z h k s =
     let first : lines o.rest ≡ record { first = record { bytes = h.bytes; ended = true }; later = all_lines (lines p.rest) } =
     ap lines h.rest ∙ lines_closed h.bytes p.rest h.inner in
@@ -105,6 +128,25 @@ line_passed o p z h k s =
           ∙ ap (λ t. lines_tell o.at (all_lines t)) (lines_closed h.bytes more h.inner)
           ∙ (λ i. tell_ended (kept i) (skipped i) (lines_tell (behind o.at (length h.bytes)) (all_lines (lines more))))
           ∙ ap (λ at. lines_tell at (all_lines (lines more))) (sym (k.at refl ∙ ap (behind o.at) long));
+      vectors = λ cs count more.
+          let next = behind o.at (length h.bytes) in
+          let later = all_lines (lines more) in
+          let text = content (record { bytes = h.bytes; ended = true }) in
+          let given : List (List Bit4) → Reading =
+          λ v. elim (not_taken limits cs o.at.number count v) [ Some e ↦ refused e | None ↦ with_vector v (read_vectors limits cs next (count + 1) later) ] in
+          ap (λ bs. read_vectors limits cs o.at count (all_lines (lines bs))) (append_assoc h.bytes (10 ∷ []) more)
+          ∙ ap (λ t. read_vectors limits cs o.at count (all_lines t)) (lines_closed h.bytes more h.inner)
+          ∙ (λ i. give_ended (kept i) (skipped i) (said (vector cs (fields text))) (read_vectors limits cs next count later) (refused (BadVector o.at.number)) given)
+          ∙ ap (λ at. read_vectors limits cs at count later) (sym (k.at refl ∙ ap (behind o.at) long));
+      headers = λ is more.
+          let next = behind o.at (length h.bytes) in
+          let later = all_lines (lines more) in
+          let text = content (record { bytes = h.bytes; ended = true }) in
+          let given : List Column → Reading = λ cs. read_vectors limits cs next 0 later in
+          ap (λ bs. read_header limits is o.at (all_lines (lines bs))) (append_assoc h.bytes (10 ∷ []) more)
+          ∙ ap (λ t. read_header limits is o.at (all_lines t)) (lines_closed h.bytes more h.inner)
+          ∙ (λ i. give_ended (kept i) (skipped i) (said (header is (fields text))) (read_header limits is next later) (refused BadHeader) given)
+          ∙ ap (λ at. read_header limits is at later) (sym (k.at refl ∙ ap (behind o.at) long));
     }
 
 pub passed_more : (a o p : Open) → IsPassed a o → o.taken ≡ 0 → PassesLf o p → Passes false o p → is_skipped (says o) ≡ true → IsPassed a p

@@ -3,10 +3,11 @@ use Rattle.std.specs.Prelude.{◌≡◌, ℕ, Bool, true, false, List, [], ◌�
 use Rattle.vs_desk.specs.Desk.{Contents}
 use Rattle.vs_desk.specs.Places.{stimulus_place}
 use Rattle.vs_four.specs.declared.Bit4.{Bit4}
+use Rattle.vs_stim.specs.declared.input.Input.{Input}
 use Rattle.vs_stim.specs.declared.input.Column.{Column}
 use Rattle.vs_stim.specs.Lines.{Line, lines, all_lines, content}
 use Rattle.vs_stim.specs.Fields.{is_skipped}
-use Rattle.vs_stim.specs.Reading.{Place, Reading, limits, behind, too_long, read_vectors}
+use Rattle.vs_stim.specs.Reading.{Place, Reading, limits, behind, too_long, with_vectors, reading, read_vectors}
 
 -- A stimulus between two lines: its lane, whether the next line may be read, the columns of its header, how many vectors
 -- were given, the last of them, where the next line stands, and the bytes that were taken and not yet read.
@@ -52,3 +53,24 @@ pub record IsUntold (p : Place) (text left : List ℕ) : Type 0 where
   pub taken : List ℕ
   pub text_is : text ≡ taken ++ left
   pub untold : lines_tell p (all_lines (lines taken)) ≡ false
+
+-- A text was read up to here: its header, which has these columns, and so many vectors. What stands behind them is read on from this place,
+-- whatever it is. Where nothing stands behind them in this text, its last line may lack an LF, and nothing is said of more behind it.
+pub record IsReadTo (inputs : List Input) (text : List ℕ) (count : ℕ) (columns : List Column) (at : Place) (rest : List ℕ) : Type 0 where
+  pub given : List ℕ
+  pub text_is : text ≡ given ++ rest
+  pub vectors : List (List (List Bit4))
+  pub count_is : length vectors ≡ count
+  pub goes_on : (more : List ℕ) → (rest ≡ [] → more ≡ []) → reading inputs (given ++ more) ≡ with_vectors vectors (read_vectors limits columns at count (all_lines (lines more)))
+
+-- the text was read up to where a stimulus stands
+abbrev pub IsReadBy : List Input → List ℕ → Known → Contents → Type 0
+IsReadBy inputs text k contents = IsReadTo inputs text k.count k.columns k.at (text_left k contents)
+
+-- A take failed behind so many vectors of a text, and what was taken has no refusal, and doesn't tell what is read next.
+pub record IsUntoldBehind (inputs : List Input) (count : ℕ) (text left : List ℕ) : Type 0 where
+  pub columns : List Column
+  pub at : Place
+  pub rest : List ℕ
+  pub read : IsReadTo inputs text count columns at rest
+  pub untold : IsUntold at rest left

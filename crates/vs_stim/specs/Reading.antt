@@ -1,5 +1,5 @@
 -- What a text of a stimulus gives: its vectors one after the other, and how it ends.
-use Rattle.std.specs.Prelude.{◌≡◌, ℕ, zero, suc, ◌+◌, Bool, true, false, not, ◌&&◌, List, [], ◌∷◌, length, nat_eq, nat_le, nat_lt, Option, Some, None}
+use Rattle.std.specs.Prelude.{◌≡◌, ℕ, zero, suc, ◌+◌, Bool, true, false, not, ◌&&◌, List, [], ◌∷◌, ◌++◌, length, nat_eq, nat_le, nat_lt, Option, Some, None}
 use Rattle.vs_four.specs.declared.Bit4.{Bit4}
 use Rattle.vs_stim.specs.declared.input.Input.{Input}
 use Rattle.vs_stim.specs.declared.input.Column.{Column}
@@ -32,6 +32,10 @@ whole = record { vectors = []; refusal = None }
 
 abbrev pub with_vector : List (List Bit4) → Reading → Reading
 with_vector v r = record { vectors = v ∷ r.vectors; refusal = r.refusal }
+
+-- these vectors, and behind them what a reading gives
+abbrev pub with_vectors : List (List (List Bit4)) → Reading → Reading
+with_vectors vs r = record { vectors = vs ++ r.vectors; refusal = r.refusal }
 
 -- where a line stands: its number from 1, and how many bytes stand before it
 pub record Place : Type 0 where

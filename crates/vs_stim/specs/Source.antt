@@ -10,7 +10,8 @@ use Rattle.vs_stim.specs.declared.source.Piece.{Piece}
 use Rattle.vs_stim.specs.declared.source.Piece.TheVariants.{Byte, LineEnd, TextEnd}
 use Rattle.vs_stim.specs.Known.{lines_tell}
 use Rattle.vs_stim.specs.Lines.{lines, all_lines, content, no_lf}
-use Rattle.vs_stim.specs.Reading.{limits, Place, behind, too_long, Reading, read_vectors, read_header, header_fault}
+use Rattle.vs_stim.specs.Reading.{limits, Place, behind, too_long, Reading, with_vector, read_vectors, read_header, header_fault}
+use Rattle.vs_stim.specs.Row.{Values}
 
 -- where the line stands, how many of its bytes were read, and the text that is left
 pub record Open : Type 0 where
@@ -177,3 +178,16 @@ pub record SameLine (old new : Open) : Type 0 where
 -- the rest tells what is read next, from a line's start
 abbrev pub text_tells : Open → Bool
 text_tells o = lines_tell o.at (all_lines (lines o.rest))
+
+-- The reader passed lines, the last of which is a vector: whatever stands behind them, or nothing where the text ends.
+pub record PassesVector (cs : List Column) (count : ℕ) (v : Values) (old new : Open) : Type 0 where
+  pub bytes : List ℕ
+  pub rest : old.rest ≡ bytes ++ new.rest
+  pub gives : (more : List ℕ) → (new.rest ≡ [] → more ≡ [])
+      → read_vectors limits cs old.at count (all_lines (lines (bytes ++ more))) ≡ with_vector v (read_vectors limits cs new.at (count + 1) (all_lines (lines more)))
+
+-- And the same of lines whose last is the header.
+pub record PassesHeader (is : List Input) (cs : List Column) (old new : Open) : Type 0 where
+  pub bytes : List ℕ
+  pub rest : old.rest ≡ bytes ++ new.rest
+  pub gives : (more : List ℕ) → (new.rest ≡ [] → more ≡ []) → read_header limits is old.at (all_lines (lines (bytes ++ more))) ≡ read_vectors limits cs new.at 0 (all_lines (lines more))

@@ -8,7 +8,7 @@ ghost use Rattle.vs_stim.specs.Header.{IsInput, lengths, each_once};
 ghost use Rattle.vs_stim.specs.Reading.{header_line, refused};
 ghost use Rattle.vs_stim.specs.Row.{as_said, IsColumn};
 ghost use Rattle.vs_stim.specs.Heading.{heading_with, IsHeading};
-ghost use Rattle.vs_stim.specs.Source.{open_at, line_refusal, says, rest_of, vectors_from, header_from, header_fault_from, IsSource, IsHeaderError, GoesOn, PassesLf, Passes};
+ghost use Rattle.vs_stim.specs.Source.{open_at, line_refusal, says, rest_of, vectors_from, header_from, header_fault_from, IsSource, IsHeaderError, GoesOn, PassesLf, Passes, PassesHeader};
 ghost use Rattle.vs_stim.specs.Known.{IsUntold};
 ghost use Rattle.vs_stim.specs.declared.heading.Stage.TheVariants.{Start};
 ghost use Rattle.vs_stim.specs.declared.row.LineKind.TheVariants.{Skipped, Given};
@@ -108,6 +108,7 @@ pub(crate) fn find_header<D: Desk>(
     ensures each { IfOk result (λ cs. each_once (length inputs.now) cs.items ≡ true) }
 
     ensures found { IsTrue D.tells → IfOk result (λ cs. header_from inputs.now (open_at source.old (D.contents desk.old)) ≡ vectors_from cs.items 0 (open_at source.new (D.contents desk.new))) }
+    ensures passes { IsTrue D.tells → IfOk result (λ cs. PassesHeader inputs.now cs.items (open_at source.old (D.contents desk.old)) (open_at source.new (D.contents desk.new))) }
     ensures refused { IsTrue D.tells → IfErr result (λ e. e ≢ StimError.ReadFault → e ≢ StimError.Memory → header_from inputs.now (open_at source.old (D.contents desk.old)) ≡ refused e) }
 
     ensures headed { IsTrue D.tells → OnOk result (header_fault_from inputs.now (open_at source.old (D.contents desk.old)) ≡ None) }

@@ -1,6 +1,6 @@
 //! The vectors of one lane's text.
 
-ghost use Rattle.std.specs.Prelude.{◌≡◌, ◌≢◌, ◌⊎◌, ◌+◌, ◌<◌, ◌≤◌, ◌↔◌, [], All, length, map, true, false, Some, None, Ok, Err, string_bytes, IsNone, IsTrue, IfOk, IfErr, OnOk};
+ghost use Rattle.std.specs.Prelude.{◌≡◌, ◌≢◌, ◌⊎◌, ℕ, ◌+◌, ◌<◌, ◌≤◌, ◌↔◌, List, [], All, length, map, true, false, Some, None, Ok, Err, string_bytes, IsNone, IsTrue, IfOk, IfErr, OnOk};
 ghost use Rattle.vs_desk.specs.Desk.{IsAttached, Fails, with_place};
 ghost use Rattle.vs_desk.specs.declared.desk.Way.TheVariants.{Read};
 ghost use Rattle.vs_desk.specs.Taking.{OnlyTaken, TakesAt};
@@ -8,7 +8,8 @@ ghost use Rattle.vs_desk.specs.Places.{stimulus_place, waveform_place};
 ghost use Rattle.vs_stim.specs.Header.{IsInput, lengths};
 ghost use Rattle.vs_stim.specs.Row.{sizes};
 ghost use Rattle.vs_stim.specs.Reading.{first_place, reading, header_refusal, refused, whole, with_vector};
-ghost use Rattle.vs_stim.specs.Known.{remaining, pending_tells, text_left, IsUntold};
+ghost use Rattle.vs_stim.specs.Known.{remaining, pending_tells, text_left, IsReadBy, IsUntold};
+ghost use Rattle.vs_stim.specs.declared.input.Input.{Input};
 ghost use Rattle.vs_stim.specs.Source.{IsSource, IsVectorError, IsHeaderError};
 
 use crate::header::find_header;
@@ -62,6 +63,7 @@ impl Stimulus {
 
         // Where the desk tells its bytes, the answer is what the definition reads first of the path's bytes.
         ensures header { IsTrue D.tells → IfOk result (λ s. reading inputs.now ((D.contents desk.old).files (string_bytes path)) ≡ remaining s (D.contents desk.new)) }
+        ensures read { IsTrue D.tells → IfOk result (λ s. IsReadBy inputs.now ((D.contents desk.old).files (string_bytes path)) s (D.contents desk.new)) }
         ensures refused { IsTrue D.tells → IfErr result (λ e. e ≢ StimError.ReadFault → e ≢ StimError.Memory →
             reading inputs.now ((D.contents desk.old).files (string_bytes path)) ≡ refused e) }
         ensures headed { IsTrue D.tells → OnOk result (header_refusal inputs.now ((D.contents desk.old).files (string_bytes path)) ≡ None) }
@@ -72,6 +74,7 @@ impl Stimulus {
         ensures errors { IfErr result IsHeaderError }
         ensures live { IfOk result (λ s. IsTrue s.live) }
         ensures lane { IfOk result (λ s. s.lane ≡ lane) }
+        ensures count { IfOk result (λ s. s.count ≡ 0) }
         ensures sizes { IfOk result (λ s. sizes s.vector ≡ lengths inputs.now) }
 
         // On the desk the place is attached and bytes are taken there, and a fault is a failed call.
@@ -127,6 +130,8 @@ impl Stimulus {
         // Where the desk tells its bytes, the answer is what the definition reads next.
         ensures vector { IsTrue D.tells → result ≡ Ok true →
             remaining self.old (D.contents desk.old) ≡ with_vector self.new.vector (remaining self.new (D.contents desk.new)) }
+        ensures read { IsTrue D.tells → result ≡ Ok true → (inputs : List Input) (text : List ℕ)
+            → IsReadBy inputs text self.old (D.contents desk.old) → IsReadBy inputs text self.new (D.contents desk.new) }
         ensures end { IsTrue D.tells → result ≡ Ok false → remaining self.old (D.contents desk.old) ≡ whole }
         ensures taken { IsTrue D.tells → result ≡ Ok false → text_left self.new (D.contents desk.new) ≡ [] }
         ensures refused { IsTrue D.tells → IfErr result (λ e. e ≢ StimError.ReadFault → remaining self.old (D.contents desk.old) ≡ refused e) }
@@ -135,6 +140,7 @@ impl Stimulus {
         ensures errors { IfErr result IsVectorError }
         ensures live { IsTrue self.new.live ↔ (result ≡ Ok true) }
         ensures lane { self.new.lane ≡ self.old.lane }
+        ensures count { result ≡ Ok true → self.new.count ≡ self.old.count + 1 }
         ensures sizes { sizes self.new.vector ≡ sizes self.old.vector }
 
         // On the desk only bytes at the place are taken, and a fault is a failed call there.

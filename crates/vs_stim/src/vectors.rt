@@ -8,7 +8,7 @@ ghost use Rattle.vs_four.specs.Tables.{is_known};
 ghost use Rattle.vs_stim.specs.Vectors.{all_known, vector_known, resets_known};
 ghost use Rattle.vs_stim.specs.Reading.{vector_line, limits, not_taken, at_end, refused, whole, with_vector};
 ghost use Rattle.vs_stim.specs.Row.{row_with, as_said, sizes, each_input, IsColumn, IsRow, SameForm};
-ghost use Rattle.vs_stim.specs.Source.{open_at, in_block, is_told, text_tells, line_refusal, says, IsSource, IsReadError, IsVectorError, GoesOn, PassesLf, Passes, rest_of, vectors_from};
+ghost use Rattle.vs_stim.specs.Source.{open_at, in_block, is_told, text_tells, line_refusal, says, IsSource, IsReadError, IsVectorError, GoesOn, PassesLf, Passes, PassesVector, rest_of, vectors_from};
 ghost use Rattle.vs_stim.specs.Known.{IsUntold};
 
 use crate::row::{LineKind, Row};
@@ -195,6 +195,8 @@ pub(crate) fn find_vector<D: Desk>(
 
     ensures found { IsTrue D.tells → result ≡ Ok true → vectors_from row.old.columns.items count (open_at source.old (D.contents desk.old))
         ≡ with_vector row.new.values.items (vectors_from row.old.columns.items (count + 1) (open_at source.new (D.contents desk.new))) }
+    ensures passes { IsTrue D.tells → result ≡ Ok true
+        → PassesVector row.old.columns.items count row.new.values.items (open_at source.old (D.contents desk.old)) (open_at source.new (D.contents desk.new)) }
     ensures whole { IsTrue D.tells → result ≡ Ok false → vectors_from row.old.columns.items count (open_at source.old (D.contents desk.old)) ≡ whole }
     ensures end { IsTrue D.tells → result ≡ Ok false → rest_of source.new (D.contents desk.new) ≡ [] }
     ensures refused { IsTrue D.tells → IfErr result (λ e. e ≢ StimError.ReadFault → vectors_from row.old.columns.items count (open_at source.old (D.contents desk.old)) ≡ refused e) }

@@ -6,7 +6,7 @@ use Rattle.vs_desk.specs.Desk.{Register, Contents, Rose, Fails, with_place}
 use Rattle.vs_desk.specs.Places.{with_places, stimulus_place, waveform_place}
 use Rattle.vs_stim.specs.declared.error.StimError.{StimError}
 use Rattle.vs_stim.specs.declared.error.StimError.TheVariants as E
-use Rattle.vs_drive.specs.Opened.{path_at}
+use Rattle.vs_feed.specs.Opened.{path_at}
 use Rattle.vs_waves.specs.Puts.{wave_place}
 use Rattle.vs_rounds.specs.declared.stop.Stop.{Stop}
 use Rattle.vs_rounds.specs.declared.stop.Stop.TheVariants as R
@@ -16,7 +16,7 @@ use Rattle.vs_setup.specs.declared.error.SetupError.{SetupError}
 use Rattle.vs_setup.specs.declared.error.SetupError.TheVariants as S
 use Rattle.vs_setup.specs.DesignText.{with_design, DesignFails}
 use Rattle.vs_setup.specs.Places.{with_texts}
-use Rattle.vs_setup.specs.Unprepared.{IsUnprepared, IsTextRefusal, IsDesignFault, IsStimulusFault}
+use Rattle.vs_setup.specs.Unprepared.{IsUnprepared, IsTextRefusal, IsDesignFault, IsStimulusFault, StimulusFails}
 use Rattle.vs_top.specs.declared.outcome.Summary.{Summary}
 use Rattle.vs_top.specs.declared.outcome.Outcome.{Outcome}
 use Rattle.vs_top.specs.declared.outcome.Outcome.TheVariants.{Done, Refused, ReadFault, WriteFault, Memory}
@@ -126,13 +126,12 @@ design_ends tells job old before new after place h = subst (λ (p : ℕ). Ends o
     by (inl f) = read_ends old old new 1 job.design (quiet old) (λ e. omega arith) f
     by (inr f) = read_ends old (with_design old job.design) new 1 old.asked (placed old 1 Read (job.design ∷ [])) (λ e. omega arith) f.0
 
-stimulus_ends : (tells : Bool) (job : Job) (old : Register) (before : Contents) (new : Register) (place : ℕ) → IsStimulusFault tells job old before new place → Ends old new (ReadFault place)
-stimulus_ends tells job old before new place h = subst (λ (p : ℕ). Ends old new (ReadFault p)) (sym h.place_is) (by h.fails)
+stimulus_ends : (tells : Bool) (job : Job) (old : Register) (before : Contents) (new : Register) (after : Contents) (place : ℕ) → IsStimulusFault tells job old before new after place → Ends old new (ReadFault place)
+stimulus_ends tells job old before new after place h = subst (λ (p : ℕ). Ends old new (ReadFault p)) (sym h.place_is) (by h.fails)
   where
-    by : (Fails (with_texts old job (take h.lane job.stimuli)) new (stimulus_place h.lane) (path_at job.stimuli h.lane)) ⊎ (Fails (with_texts old job (take (h.lane + 1) job.stimuli)) new (stimulus_place h.lane) old.asked)
-        → Ends old new (ReadFault (stimulus_place h.lane))
+    by : StimulusFails tells job.stimuli (with_design old job.design) before new after h.lane → Ends old new (ReadFault (stimulus_place h.lane))
     by (inl f) = read_ends old (with_texts old job (take h.lane job.stimuli)) new (stimulus_place h.lane) (path_at job.stimuli h.lane) (texts old job (take h.lane job.stimuli)) (λ e. omega arith) f
-    by (inr f) = read_ends old (with_texts old job (take (h.lane + 1) job.stimuli)) new (stimulus_place h.lane) old.asked (texts old job (take (h.lane + 1) job.stimuli)) (λ e. omega arith) f
+    by (inr f) = read_ends old (with_texts old job (take (h.lane + 1) job.stimuli)) new (stimulus_place h.lane) old.asked (texts old job (take (h.lane + 1) job.stimuli)) (λ e. omega arith) f.0
 
 setup_ends : (tells : Bool) (job : Job) (old : Register) (before : Contents) (new : Register) (after : Contents) (e : SetupError) → IsUnprepared tells job old before new after e → Ends old new (setup_outcome e)
 setup_ends tells job old before new after S.TooLong h = let q = quiet_at old (with_design old job.design) new (placed old 1 Read (job.design ∷ [])) h.0 in record { fault = q.faults; losses = q.losses }
@@ -140,7 +139,7 @@ setup_ends tells job old before new after (S.Refused r) h = let q = quiet_at old
 setup_ends tells job old before new after (S.Stimulus i e) h =
     refusal_ends old new i e (text_refusal e h.1) (quiet_at old (with_texts old job (take (i + 1) job.stimuli)) new (texts old job (take (i + 1) job.stimuli)) h.2)
 setup_ends tells job old before new after (S.ReadFault place) (inl h) = design_ends tells job old before new after place h
-setup_ends tells job old before new after (S.ReadFault place) (inr h) = stimulus_ends tells job old before new place h
+setup_ends tells job old before new after (S.ReadFault place) (inr h) = stimulus_ends tells job old before new after place h
 setup_ends tells job old before new after S.Memory (inl h) = let q = quiet_at old old new (quiet old) h in record { fault = q.faults; losses = q.losses }
 setup_ends tells job old before new after S.Memory (inr h) =
     let q = quiet_at old (with_texts old job (take h.0 job.stimuli)) new (texts old job (take h.0 job.stimuli)) h.2 in record { fault = q.faults; losses = q.losses }

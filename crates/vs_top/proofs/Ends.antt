@@ -4,7 +4,7 @@ use Rattle.std.proofs.lemmas.Bool.{ne_eqb, cond-false}
 use Rattle.vs_desk.specs.Desk.{Register, Contents, with_put}
 use Rattle.vs_desk.specs.Places.{stimulus_place}
 use Rattle.vs_waves.specs.Puts.{wave_place}
-use Rattle.vs_drive.specs.Opened.{path_at}
+use Rattle.vs_feed.specs.Opened.{path_at}
 use Rattle.vs_rounds.specs.Inputs.{data_inputs}
 use Rattle.vs_job.specs.declared.job.Job.{Job}
 use Rattle.vs_top.specs.declared.outcome.Summary.{Summary}
@@ -19,7 +19,7 @@ use Rattle.vs_refusal.specs.declared.refusal.Refusal.{Refusal}
 use Rattle.vs_refusal.specs.declared.refusal.Refusal.TheVariants.{Bare, SamePath, At}
 use Rattle.vs_refusal.specs.declared.names.AtName.{AtName}
 use Rattle.vs_refusal.specs.declared.names.BareName.TheVariants.{NoTop, Usage}
-use Rattle.vs_accept.specs.Refused.{token_refusal, TreeFault, OutOfLanguage, OutOfGrammar, OutOfDepth, tree_refusal, rule_name, design_refusal}
+use Rattle.vs_accept.specs.Refused.{token_refusal, TreeFault, OutOfLanguage, OutOfGrammar, OutOfDepth, tree_refusal, rule_name, told_by, design_refusal}
 use Rattle.vs_accept.specs.Accepted.{IsRefusedText, ByTokens, ByTree, ByElaboration, ByRule}
 use Rattle.vs_rounds.specs.declared.stop.Stop.{Stop}
 use Rattle.vs_rounds.specs.declared.stop.Stop.TheVariants as R
@@ -49,6 +49,7 @@ written_still job old mid new r line s e w = record {
   lanes_are = w.lanes_are;
   counted = w.counted;
   size_is = w.size_is;
+  stored = w.stored;
 }
 
 same_summary : (s t : Summary) → Done s ≡ Done t → s ≡ t
@@ -91,9 +92,9 @@ tree_usage byte (OutOfLanguage k) h = cc
 tree_usage byte (OutOfGrammar k) h = cc
 tree_usage byte (OutOfDepth k) h = cc
 
-either_usage : (b : Bool) (name : AtName) (at : ℕ) → (if b then Bare NoTop else At name at) ≡ Bare Usage → ⊥
-either_usage true name at h = cc
-either_usage false name at h = cc
+told_usage : (o : Option AtName) (at : ℕ) → told_by o at ≡ Bare Usage → ⊥
+told_usage None at h = cc
+told_usage (Some name) at h = cc
 
 design_usage : (byte : ℕ → ℕ) (x : DesignRefusal) → design_refusal byte x ≡ Bare Usage → ⊥
 design_usage byte (OfWidth (rule.TooWide at)) h = cc
@@ -113,7 +114,7 @@ design_usage byte (OfZero (rule.TimeZero p at)) h = cc
 text_usage : (text top clock : List ℕ) (r : Refusal) → IsRefusedText text top clock r → r ≡ Bare Usage → ⊥
 text_usage text top clock r (ByTokens e cut told) h = token_usage e (told ∙ ap (λ (q : Refusal). Some q) h)
 text_usage text top clock r (ByTree tokens x cut fault told) h = tree_usage _ x (told ∙ h)
-text_usage text top clock r (ByElaboration tokens source f read fault told) h = either_usage _ (rule_name f.number) _ (told ∙ h)
+text_usage text top clock r (ByElaboration tokens source f read fault told) h = told_usage (rule_name f.rule) _ (told ∙ h)
 text_usage text top clock r (ByRule tokens source d x read elaborates broken told) h = design_usage _ x (told ∙ h)
 
 same_refusal : (r q : Refusal) → Refused r ≡ Refused q → r ≡ q

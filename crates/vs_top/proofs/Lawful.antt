@@ -8,7 +8,7 @@ use Rattle.vs_stim.specs.declared.error.StimError.TheVariants.{BadHeader}
 use Rattle.vs_stim.specs.Lines.{Line, lines, all_lines, content}
 use Rattle.vs_stim.specs.Reading.{Limits, Place, Reading, limits, refused, behind, too_long, Said, header_line, read_vectors, read_header, header_fault, first_place, header_refusal, reading, stimulus}
 use Rattle.vs_stim.specs.Reading.Said.{Skipped, Malformed, Given}
-use Rattle.vs_drive.specs.Opened.{path_at}
+use Rattle.vs_feed.specs.Opened.{path_at}
 use Rattle.vs_rounds.specs.Drives.{Vector}
 use Rattle.vs_rounds.specs.Inputs.{data_inputs}
 use Rattle.vs_rounds.specs.Lanes.{Run, reading_of}

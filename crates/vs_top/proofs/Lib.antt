@@ -6,3 +6,4 @@ pub mod Causes
 pub mod Refusals
 pub mod Lawful
 pub mod Benches
+pub mod Stores

@@ -8,7 +8,7 @@ use Rattle.vs_desk.specs.Desk.{Attachment, Register, IsAttached}
 use Rattle.vs_desk.specs.Laws.{OtherPlacesStay, EachPlaceIsAttached}
 use Rattle.vs_desk.specs.Places.{most_lanes, with_places, design_place, waveform_place, stimulus_place}
 use Rattle.vs_stim.specs.Known.{Known}
-use Rattle.vs_drive.specs.Lanes.{lane_at, ended, AreLanes, AreAttached}
+use Rattle.vs_feed.specs.Lanes.{lane_at, ended, AreLanes, AreAttached}
 use Rattle.vs_waves.specs.Puts.{wave_place}
 use Rattle.vs_waves.specs.Attached.{AreFree}
 use Rattle.vs_job.specs.declared.job.Job.{Job}

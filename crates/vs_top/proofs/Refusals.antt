@@ -7,7 +7,7 @@ use Rattle.vs_stim.specs.declared.error.StimError.{StimError}
 use Rattle.vs_stim.specs.Reading.{Reading, header_refusal}
 use Rattle.vs_design.specs.Expressions.{Signal}
 use Rattle.vs_design.specs.Designs.{Design}
-use Rattle.vs_drive.specs.Opened.{HaveHeaders}
+use Rattle.vs_feed.specs.Opened.{HaveHeaders}
 use Rattle.vs_waves.specs.Puts.{wave_place}
 use Rattle.vs_rounds.specs.Inputs.{data_inputs}
 use Rattle.vs_rounds.specs.Lanes.{Run, reading_of}
@@ -53,11 +53,11 @@ unprepared tells job before old now new told d (S.Stimulus i error) r c e = ByHe
 unprepared tells job before old now new told d (S.ReadFault place) r c e = cc
 unprepared tells job before old now new told d S.Memory r c e = cc
 
-unread : (job : Job) (old : Contents) → same_paths job ≡ None → (run : Run) → IsRunOf job old run → (k : ℕ) (stop : Stop) (r : Refusal) → IsLaneOf (length job.stimuli) stop
-    → ReadStops run (length job.stimuli) k stop → Refused r ≡ stop_outcome stop → IsRefusedJob job old r
-unread job old d run is k (R.Refused i error) r lane s e = ByLine d run k i error lane is s e
-unread job old d run is k (R.ReadFault i) r lane s e = cc
-unread job old d run is k (R.WriteFault i) r lane s e = cc
+unread : (job : Job) (old : Contents) → same_paths job ≡ None → (run : Run) → IsRunOf job old run → (k : ℕ) (new : Contents) (stop : Stop) (r : Refusal) → IsLaneOf (length job.stimuli) stop
+    → ReadStops run (length job.stimuli) k new stop → Refused r ≡ stop_outcome stop → IsRefusedJob job old r
+unread job old d run is k new (R.Refused i error) r lane s e = ByLine d run k i error lane is s e
+unread job old d run is k new (R.ReadFault i) r lane s e = cc
+unread job old d run is k new (R.WriteFault i) r lane s e = cc
 
 unsettled : (job : Job) (old : Contents) → same_paths job ≡ None → (run : Run) → IsRunOf job old run → (k : ℕ) (new : Contents) (stop : Stop) (r : Refusal) → IsLaneOf (length job.stimuli) stop
     → StopsIn run (length job.stimuli) k new stop → Refused r ≡ stop_outcome stop → IsRefusedJob job old r
@@ -73,7 +73,7 @@ refused_job tells job before old now new told o r is (same e) =
 refused_job tells job before old now new told o r is (setup d e) = unprepared tells job before old now new told d e.error r e.cause (is ∙ e.outcome_is)
 refused_job tells job before old now new told o r is (first d e) =
     let s = e.stops told in
-    unread job old d s.0 s.1 0 e.stop r e.lane s.2 (is ∙ e.outcome_is)
+    unread job old d s.0 s.1 0 new e.stop r e.lane s.2 (is ∙ e.outcome_is)
 refused_job tells job before old now new told o r is (attached d e) = absurd (fault (wave_place e.lane) (is ∙ e.outcome_is))
   where
     fault : (p : ℕ) → Refused r ≡ WriteFault p → ⊥

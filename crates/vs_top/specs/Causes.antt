@@ -3,7 +3,7 @@ use Rattle.std.specs.Prelude.{◌≡◌, ◌≢◌, ◌⊎◌, ℕ, ◌<◌, Non
 use Rattle.vs_desk.specs.Desk.{Register, Contents, Rose}
 use Rattle.vs_design.specs.Designs.{Design}
 use Rattle.vs_stim.specs.Reading.{stimulus}
-use Rattle.vs_drive.specs.Opened.{path_at}
+use Rattle.vs_feed.specs.Opened.{path_at}
 use Rattle.vs_rounds.specs.Drives.{Vector}
 use Rattle.vs_job.specs.declared.job.Job.{Job}
 use Rattle.vs_job.specs.Places.{same_paths}

@@ -4,7 +4,7 @@ use Rattle.vs_desk.specs.declared.desk.Way.TheVariants.{Write}
 use Rattle.vs_desk.specs.Desk.{Register, Contents, Fails}
 use Rattle.vs_desk.specs.Places.{with_places, waveform_place}
 use Rattle.vs_design.specs.Designs.{Design}
-use Rattle.vs_drive.specs.Opened.{path_at, HaveHeaders}
+use Rattle.vs_feed.specs.Opened.{path_at, HaveHeaders}
 use Rattle.vs_waves.specs.Puts.{wave_place}
 use Rattle.vs_waves.specs.Attached.{AreEmptied, AreFree}
 use Rattle.vs_rounds.specs.declared.stop.Stop.{Stop}
@@ -69,7 +69,7 @@ pub record IsFirstEnd (tells : Bool) (job : Job) (before : Register) (old : Cont
   pub outcome_is : o ≡ stop_outcome stop
   pub lane : IsLaneOf (length job.stimuli) stop
   pub cause : HasCause (with_texts before job job.stimuli) now stop
-  pub stops : IsTrue tells → (run : Run) × IsRunOf job old run × ReadStops run (length job.stimuli) 0 stop
+  pub stops : IsTrue tells → (run : Run) × IsRunOf job old run × ReadStops run (length job.stimuli) 0 new stop
   pub kept : IsTrue tells → AreTextsKept old new
 
 -- Each stimulus has a known first vector, and a waveform's place can't be attached, behind those of the earlier lanes, where nothing was put

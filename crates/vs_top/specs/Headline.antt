@@ -1,5 +1,5 @@
 -- What a run that is done has written, in the words of the event queue (IEEE 1364-2005, 11.3 and 11.4).
-use Rattle.std.specs.Prelude.{◌≡◌, ℕ, ◌<◌, List, [], ◌∷◌, length, map}
+use Rattle.std.specs.Prelude.{◌≡◌, ℕ, ◌+◌, ◌*◌, ◌<◌, List, [], ◌∷◌, length, map}
 use Rattle.vs_net.specs.Network.{State}
 use Rattle.vs_net.specs.Queue.{Choice, IsFirst, IsCompleted, start, ends}
 use Rattle.vs_design.specs.Designs.{Design}
@@ -7,10 +7,12 @@ use Rattle.vs_design.specs.Networks.{network_of}
 use Rattle.vs_design.specs.Sizes.{size as size_of}
 use Rattle.vs_desk.specs.Desk.{Contents}
 use Rattle.vs_desk.specs.Places.{stimulus_place, design_place}
+use Rattle.vs_program.specs.Program.{Program, first_stores, fall_stores, rise_stores}
+use Rattle.vs_program.specs.Compiled.{IsProgramOf}
 use Rattle.vs_accept.specs.Accepted.{IsAcceptedText}
 use Rattle.vs_stim.specs.declared.input.Input.{Input}
 use Rattle.vs_stim.specs.Reading.{stimulus}
-use Rattle.vs_drive.specs.Opened.{path_at}
+use Rattle.vs_feed.specs.Opened.{path_at}
 use Rattle.vs_vcd.specs.Texts.{vcd}
 use Rattle.vs_waves.specs.Puts.{wave_place}
 use Rattle.vs_rounds.specs.Drives.{Vector, vector_state}
@@ -42,6 +44,15 @@ pub record IsLaneWritten (d : Design) (clock half : ℕ) (inputs : List Input) (
   pub every : (values : List State) → IsRunOn d clock vectors values → put ≡ vcd d half values
   pub some : (values : List State) × IsRunOn d clock vectors values
 
+-- The operations are the stores of a program of the design, for all lanes together: those of its first fall, of so many later falls, and of a rise
+-- behind each fall. Each fall and each rise is a settling.
+pub record AreStores (d : Design) (clock settlings operations : ℕ) : Type 0 where
+  pub program : Program
+  pub is_program : IsProgramOf d clock program
+  pub later : ℕ
+  pub settlings_are : settlings ≡ 2 * (later + 1)
+  pub operations_are : operations ≡ first_stores program + later * fall_stores program + (later + 1) * rise_stores program
+
 -- The design's text is accepted, each lane is written, all texts were taken to their end, and the counts are those of the design and of the stimuli, where the desk had these
 -- contents before and after.
 pub record IsWritten (job : Job) (old new : Contents) (s : Summary) : Type 0 where
@@ -54,3 +65,4 @@ pub record IsWritten (job : Job) (old new : Contents) (s : Summary) : Type 0 whe
   pub lanes_are : s.lanes ≡ length job.stimuli
   pub counted : AreCounted (run_of job old.files design accepted.accepted.clock.first) (length job.stimuli) s.vectors s.settlings
   pub size_is : s.size ≡ size_of design
+  pub stored : AreStores design accepted.accepted.clock.first s.settlings s.operations

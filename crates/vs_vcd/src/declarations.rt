@@ -1,7 +1,6 @@
 //! The head of the text: its declarations (IEEE 1364-2005, 18.2.3).
 
 ghost use Rattle.std.specs.Prelude.{◌≡◌, ◌<◌, ◌≤◌, ◌+◌, ◌++◌, length, IfOk, OnOk, None, vec_len};
-ghost use Rattle.vs_design.specs.Expressions.{range_or_one};
 ghost use Rattle.vs_flat.specs.DesignOf.{design_of, scope_of};
 ghost use Rattle.vs_flat.specs.Trees.{signal_of};
 ghost use Rattle.vs_vcd.specs.Groups.{AreLinked};
@@ -11,7 +10,7 @@ ghost use Rattle.vs_vcd.specs.Steps.{scope_key, scope_keys, signal_keys, step_te
 use crate::groups::Groups;
 use crate::line::Line;
 use std::alloc::{AllocError, Global};
-use vs_flat::{Flat, Scope, Signal};
+use vs_flat::{Flat, Scope, Signal, signal_length};
 use vs_four::Range;
 
 /// What is still to be written of the scopes.
@@ -180,7 +179,7 @@ fn variable_start(number: u32, signal: &Signal) -> Line
     line.push_text(b"$var ");
     line.push_text(variable_kind(signal.net));
     line.push(b' ');
-    line.push_decimal(range_length(signal.range));
+    line.push_decimal(signal_length(signal.range));
     line.push(b' ');
     line.push_identifier(number);
     line.push(b' ');
@@ -196,17 +195,6 @@ fn variable_kind(net: bool) -> &'static [u8]
         return b"wire";
     }
     b"reg"
-}
-
-/// How many bits a signal has.
-fn range_length(range: Option<Range>) -> u64
-    ensures { result ≡ range_or_one range }
-{
-    match range {
-        None => 1,
-        Some(r) if r.right <= r.left => u64::from(r.left - r.right) + 1,
-        Some(r) => u64::from(r.right - r.left) + 1,
-    }
 }
 
 /// Adds a declared range.

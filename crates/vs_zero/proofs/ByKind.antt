@@ -1,12 +1,11 @@
--- The process that an item of a flat design stands for, by its kind.
-use Rattle.std.proofs.Common.{◌≡◌, ℕ, zero, suc, ◌<◌, Bool, true, false, List, [], ◌∷◌, ◌&&◌, refl, sym, ap, ◌∙◌, subst, Some, None, Option, map, nat_lt, length}
+-- What a process of a flat design names, by its kind.
+use Rattle.std.proofs.Common.{◌≡◌, ℕ, zero, suc, ◌<◌, Bool, true, List, [], ◌∷◌, ◌&&◌, sym, ap, ◌∙◌, subst, Some, None, map, nat_lt, length}
 use Rattle.std.specs.Prelude.{slice_get}
 use Rattle.std.specs.List.{list_all}
 use Rattle.std.proofs.lemmas.Bool.{ltb-true}
-use Rattle.vs_design.specs.Designs.{process_place}
 use Rattle.vs_design.specs.Designs as D
 use Rattle.vs_design.specs.Fits.{fits_process}
-use Rattle.vs_design.specs.Refusals.{width_refusal, place_at}
+use Rattle.vs_design.specs.Refusals.{width_refusal}
 use Rattle.vs_flat.specs.declared.processes.Process.{Process}
 use Rattle.vs_flat.specs.declared.processes.Kind.{Kind}
 use Rattle.vs_flat.specs.declared.processes.Kind.TheVariants as K
@@ -17,42 +16,11 @@ use Rattle.vs_flat.specs.Arena.{Arena}
 use Rattle.vs_flat.specs.Lawful.{NamesEarlier, IsLawful}
 use Rattle.vs_flat.specs.Laws.{EachProcess, ProcessNames, AssignTargets}
 use Rattle.vs_flat.specs.Named.{all_below, kind_names_below}
-use Rattle.vs_flat.specs.Trees.{signal_at, tree_at, statement_at, target_tree}
-use Rattle.vs_flat.specs.DesignOf.{kind_of, arena_signals, arena_trees, arena_statements, design_of}
-use Rattle.vs_width.specs.Laws.{EachProcessFits}
-use Rattle.vs_zero.proofs.Numbered.{place_is}
-
-and_both : (a b : Bool) → (a && b) ≡ true → (a ≡ true) × (b ≡ true)
-and_both true b h = (refl, h)
-and_both false b h = cc
-
--- an arena's kind as a process
-abbrev pub kind_in : Arena → ℕ → Kind → D.Process
-kind_in a place k = kind_of (signal_at (arena_signals a)) (tree_at (arena_trees a)) (statement_at (arena_statements a)) place k
-
-pub kind_is : EachProcess → (a : Arena) (p : ℕ) (r : Process) (k : Kind) → slice_get a.processes p ≡ Some r → r.kind ≡ k → slice_get (design_of a).processes p ≡ Some (kind_in a r.at k)
-kind_is each a p r k e h = each a p r e ∙ ap (λ k. Some (kind_in a r.at k)) h
-
-pub process_same : (x y : D.Process) (o : Option D.Process) → o ≡ Some x → o ≡ Some y → x ≡ y
-process_same x y o e f = some_same x y (sym e ∙ f)
-  where
-    some_same : (x y : D.Process) → Some x ≡ Some y → x ≡ y
-    some_same x y e = cc
-
-names_below : ProcessNames → (a : Arena) → NamesEarlier a → (p : ℕ) (r : Process) (target e : ℕ) (port : Port) → slice_get a.processes p ≡ Some r → r.kind ≡ K.Assign target e port → (target < length a.nodes) × (e < length a.nodes)
-names_below law a n p r target e port i h =
-    let c : kind_names_below (length a.signals) (length a.nodes) (length a.statements) (K.Assign target e port) ≡ true = sym (ap (kind_names_below (length a.signals) (length a.nodes) (length a.statements)) h) ∙ law a n p r i in
-    let b : (nat_lt target (length a.nodes) && (nat_lt e (length a.nodes) && true)) ≡ true = (and_both true _ (and_both (true && (nat_lt target (length a.nodes) && (nat_lt e (length a.nodes) && true))) true c).0).1 in
-    let f = and_both (nat_lt target (length a.nodes)) (nat_lt e (length a.nodes) && true) b in
-    (ltb-true target (length a.nodes) f.0, ltb-true e (length a.nodes) (and_both (nat_lt e (length a.nodes)) true f.1).0)
-
-pub target_there : ProcessNames → (a : Arena) → NamesEarlier a → (p : ℕ) (r : Process) (target e : ℕ) (port : Port) → slice_get a.processes p ≡ Some r → r.kind ≡ K.Assign target e port → target < length a.nodes
-target_there law a n p r target e port i h = (names_below law a n p r target e port i h).0
-
-pub expr_there : ProcessNames → (a : Arena) → NamesEarlier a → (p : ℕ) (r : Process) (target e : ℕ) (port : Port) → slice_get a.processes p ≡ Some r → r.kind ≡ K.Assign target e port → e < length a.nodes
-expr_there law a n p r target e port i h = (names_below law a n p r target e port i h).1
-
--- ---- assigns
+use Rattle.vs_flat.specs.Trees.{tree_at, target_tree}
+use Rattle.vs_flat.specs.DesignOf.{arena_trees, design_of}
+use Rattle.vs_typed.specs.Laws.{EachProcessFits}
+use Rattle.vs_shape.proofs.Names.{and_both}
+use Rattle.vs_reads.proofs.ByKind.{kind_in, kind_is}
 
 -- what an assign's target is
 pub assign_target : AssignTargets → (a : Arena) → IsLawful a → (p : ℕ) (r : Process) (target e : ℕ) (port : Port) → slice_get a.processes p ≡ Some r → r.kind ≡ K.Assign target e port
@@ -75,12 +43,3 @@ plain_all f (y ∷ ps) (suc p) x h e = plain_all f ps p x (and_both (f y) (list_
 
 pub process_fits : EachProcessFits → EachProcess → (a : Arena) → IsLawful a → width_refusal (design_of a) ≡ None → (p : ℕ) (r : Process) (k : Kind) → slice_get a.processes p ≡ Some r → r.kind ≡ k → fits_process (kind_in a r.at k) ≡ true
 process_fits fits each a l w p r k i h = plain_all fits_process (design_of a).processes p (kind_in a r.at k) (fits (design_of a) l.design w) (kind_is each a p r k i h)
-
--- ---- places
-
-place_same : (a : Arena) (place : ℕ) (k : Kind) → process_place (kind_in a place k) ≡ place
-place_same a place (K.Assign target e port) = refl
-place_same a place (K.Block star events body) = refl
-
-pub place_at_is : EachProcess → (a : Arena) (p : ℕ) (r : Process) → slice_get a.processes p ≡ Some r → r.at ≡ place_at (design_of a).processes p
-place_at_is each a p r e = sym (place_same a r.at r.kind) ∙ sym (place_is (design_of a).processes p (kind_in a r.at r.kind) (each a p r e))

@@ -14,16 +14,13 @@ use Rattle.vs_design.specs.Refusals.{otherwise, first_found, where_true, place_a
 use Rattle.vs_design.specs.TimeZero.{Families, families, is_uncertain}
 use Rattle.vs_clock.specs.Clocked.{Clocked, IsClockOf}
 use Rattle.vs_zero.specs.First.{IsFirst, NoneBefore}
-use Rattle.vs_zero.proofs.Numbered.{place_is}
-use Rattle.vs_zero.proofs.Unrefused.{and_both}
-use Rattle.vs_zero.proofs.Tables.{same_or_other}
+use Rattle.vs_reads.proofs.Numbered.{place_is}
+use Rattle.vs_shape.proofs.Names.{and_both}
+use Rattle.vs_sets.proofs.Families.{same_or_other}
 use Rattle.std.proofs.Common.{inl, inr, ◌⊎◌}
 use Rattle.std.specs.Prelude.{sum_by}
 use Rattle.std.proofs.lemmas.List.Sums.{sum_by-cons}
-
-by_test : {P : Type 0} (b : Bool) → (b ≡ true → P) → (b ≡ false → P) → P
-by_test true f g = f refl
-by_test false f g = g refl
+use Rattle.vs_reads.proofs.Tests.{by_test}
 
 process_same : (x y : Process) (o : Option Process) → o ≡ Some x → o ≡ Some y → x ≡ y
 process_same x y o e f = some_same x y (sym e ∙ f)

@@ -21,7 +21,7 @@ use Rattle.vs_sets.specs.Nodes.{tree_of}
 use Rattle.vs_sets.specs.StatementParts.{BranchBelow, ArmsBelow, arms_of, statement_of}
 use Rattle.vs_zero.specs.Constants.{are_constants, arms_are_constants, taken_arm, IsFixed, updated, IsFixedBranch, EachIsFixed}
 use Rattle.vs_zero.specs.States.{unknown}
-use Rattle.vs_zero.proofs.Fit.{and_left, and_right, and_both}
+use Rattle.vs_sets.proofs.Fit.{and_left, and_right, and_both}
 use Rattle.vs_zero.proofs.Writing.{write_all-append}
 
 -- ---- no signals

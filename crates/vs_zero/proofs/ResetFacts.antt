@@ -22,15 +22,16 @@ use Rattle.vs_flat.specs.Lawful.{IsLawful}
 use Rattle.vs_reads.specs.Footprint.{footprints_of, writes_at}
 use Rattle.vs_reads.specs.Laws.{HasBitsOf, EachHasItsBits}
 use Rattle.vs_sets.specs.StatementParts.{Covers, statement_of}
-use Rattle.vs_width.specs.Laws.{EachProcessFits}
+use Rattle.vs_typed.specs.Laws.{EachProcessFits}
 use Rattle.vs_clock.specs.declared.resets.Reset.{Reset}
 use Rattle.vs_clock.specs.Resets.{branch_by, branch_of, plain_branch, IsResetOf, IsReset, AreAllResets, reset_at}
 use Rattle.vs_zero.specs.Constants.{IsFixed}
 use Rattle.vs_zero.specs.Values.{with_updates}
 use Rattle.vs_zero.proofs.ByKind.{plain_all}
-use Rattle.vs_zero.proofs.Numbered.{process_there}
+use Rattle.vs_reads.proofs.Numbered.{process_there}
 use Rattle.vs_zero.proofs.Settling.{all_below}
-use Rattle.vs_zero.proofs.Unrefused.{and_both, clean}
+use Rattle.vs_zero.proofs.Unrefused.{clean}
+use Rattle.vs_shape.proofs.Names.{and_both}
 
 -- ---- the events of a block with a reset
 

@@ -25,10 +25,12 @@ use Rattle.vs_flat.specs.Trees.{signal_at, tree_at, target_tree}
 use Rattle.vs_reads.specs.Footprint.{footprints_of, writes_at, waits_at}
 use Rattle.vs_reads.specs.Laws.{HasBitsOf, EachHasItsBits}
 use Rattle.vs_sets.specs.StatementParts.{statement_of}
-use Rattle.vs_width.specs.Laws.{EachProcessFits}
-use Rattle.vs_zero.specs.Blocks.{IsBlockOf, has_edge_event, may_wake}
-use Rattle.vs_zero.proofs.ByKind.{kind_in, kind_is, process_same, statement_there, process_fits}
-use Rattle.vs_zero.proofs.Tables.{same_or_other}
+use Rattle.vs_typed.specs.Laws.{EachProcessFits}
+use Rattle.vs_flat.specs.Events.{is_edge_event}
+use Rattle.vs_zero.specs.Blocks.{IsBlockOf, may_wake}
+use Rattle.vs_zero.proofs.ByKind.{statement_there, process_fits}
+use Rattle.vs_reads.proofs.ByKind.{kind_in, kind_is, process_same}
+use Rattle.vs_sets.proofs.Families.{same_or_other}
 use Rattle.vs_zero.proofs.Unrefused.{clean}
 
 -- ---- the bits of a process
@@ -115,9 +117,9 @@ along_step d order k p x f g early late l e i h j =
 
 -- ---- the rule
 
-pub edges_same : (signal : ℕ → Rattle.vs_design.specs.Expressions.Signal) (events : List Event) → list_any has_edge (map (event_of signal) events) ≡ list_any has_edge_event events
+pub edges_same : (signal : ℕ → Rattle.vs_design.specs.Expressions.Signal) (events : List Event) → list_any has_edge (map (event_of signal) events) ≡ list_any is_edge_event events
 edges_same signal [] = refl
-edges_same signal (e ∷ es) = ap {B = Bool} (λ t. has_edge_event e || t) (edges_same signal es)
+edges_same signal (e ∷ es) = ap {B = Bool} (λ t. is_edge_event e || t) (edges_same signal es)
 
 pub assign_certain : EachProcess → (a : Arena) (p : ℕ) (r : Process) (target e : ℕ) (port : Port) → slice_get a.processes p ≡ Some r → r.kind ≡ K.Assign target e port → (f : Families) (x : D.Process) → slice_get (design_of a).processes p ≡ Some x → false ≡ is_uncertain (design_of a) f x
 assign_certain each a p r target e port i h f x k =
@@ -125,7 +127,7 @@ assign_certain each a p r target e port i h f x k =
 
 -- by the four tests of a block
 pub block_by : EachProcess → (a : Arena) (p : ℕ) (r : Process) (star : Bool) (events : List Event) (statement : ℕ) → slice_get a.processes p ≡ Some r → r.kind ≡ K.Block star events statement → (f : Families) (x : D.Process) → slice_get (design_of a).processes p ≡ Some x
-    → (edge asleep quiet wake : Bool) → edge ≡ list_any has_edge_event events → asleep ≡ is_sleeping (design_of a) x → quiet ≡ is_quiet (statement_of a statement) f.early → wake ≡ wakes f x
+    → (edge asleep quiet wake : Bool) → edge ≡ list_any is_edge_event events → asleep ≡ is_sleeping (design_of a) x → quiet ≡ is_quiet (statement_of a statement) f.early → wake ≡ wakes f x
     → (not edge && not asleep && not quiet && not wake) ≡ is_uncertain (design_of a) f x
 block_by each a p r star events statement i h f x k edge asleep quiet wake e s q w =
     ap (λ t. not t && not asleep && not quiet && not wake) (e ∙ sym (edges_same (signal_at (arena_signals a)) events))

@@ -21,7 +21,8 @@ use Rattle.vs_sets.specs.Branches.{replaced}
 use Rattle.vs_sets.specs.Tables.{beyond, family_of}
 use Rattle.vs_zero.specs.declared.sources.SignalKind.TheVariants.{Net, Input}
 use Rattle.vs_zero.specs.Sources.{bits_of_kind}
-use Rattle.vs_zero.proofs.Tables.{put_family}
+use Rattle.vs_sets.proofs.Families.{put_family}
+use Rattle.vs_sets.proofs.BranchSteps.{or_false}
 
 -- one bit more of a run
 count_more : (first n : ℕ) → count_from first (n + 1) ≡ count_from first n ++ (first + n) ∷ []
@@ -30,10 +31,6 @@ count_more first (suc n) =
     let more : suc n + 1 ≡ suc (n + 1) = omega arith in
     let turned : suc first + n ≡ first + suc n = omega arith in
     ap (count_from first) more ∙ ap (λ bs. first ∷ bs) (count_more (suc first) n ∙ ap (λ m. count_from (suc first) n ++ m ∷ []) turned)
-
-or_false : (b : Bool) → (b || false) ≡ b
-or_false true = refl
-or_false false = refl
 
 pub run_filled : (t : List Set4) (first n b : ℕ) (set_ : Set4) (g : Family) → b ≡ first + n → b < length t → family_of t ≡ replaced (count_from first n) (λ b. set_) g → family_of (set t b set_) ≡ replaced (count_from first (n + 1)) (λ b. set_) g
 run_filled t first n b set_ g e l h = put_family t b set_ l ∙ ap (λ f. put f b set_) h ∙ fun_ext (λ c. at c (c == b) (contains (count_from first n) c) (more c)) where

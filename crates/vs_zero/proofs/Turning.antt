@@ -15,8 +15,9 @@ use Rattle.vs_design.specs.Statements.{Statement}
 use Rattle.vs_design.specs.TimeZero.{before_run, block_sets, is_quiet, early_end, late_end}
 use Rattle.vs_sets.specs.Branches.{replaced}
 use Rattle.vs_sets.specs.Laws.{BlockingIsAtOnce}
-use Rattle.vs_zero.proofs.Tables.{same_or_other}
-use Rattle.vs_zero.proofs.Unwritten.{body_other}
+use Rattle.vs_sets.proofs.Families.{same_or_other}
+use Rattle.vs_sets.proofs.Unwritten.{body_other}
+use Rattle.vs_sets.proofs.Running.{same_truth}
 
 -- the bits are those that the statement writes
 abbrev pub AreOwn : List ℕ → Statement → Type 0
@@ -64,11 +65,6 @@ each_of_all p (x ∷ xs) h b k = at (same_or_other b x) k (each_of_all p xs (rig
   at : (((b == x) ≡ true) × (b ≡ x)) ⊎ (((b == x) ≡ false) × (b ≢ x)) → ((b == x) || contains xs b) ≡ true → (contains xs b ≡ true → p b ≡ true) → p b ≡ true
   at (inl e) k rest = ap p e.1 ∙ left (p x) _ h
   at (inr e) k rest = rest (sym (ap (λ q. q || contains xs b) e.0) ∙ k)
-
-same_truth : (a b : Bool) → (a ≡ true → b ≡ true) → (b ≡ true → a ≡ true) → a ≡ b
-same_truth true b h k = sym (h refl)
-same_truth false true h k = k refl
-same_truth false false h k = refl
 
 -- lists with the same members pass the same tests
 pub all_same : (p : ℕ → Bool) (xs ys : List ℕ) → ((b : ℕ) → contains xs b ≡ contains ys b) → list_all p xs ≡ list_all p ys

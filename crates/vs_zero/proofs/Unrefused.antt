@@ -11,11 +11,9 @@ use Rattle.vs_design.specs.Refusals.{least, otherwise, first_found, BlockRefusal
 use Rattle.vs_design.specs.Designs.{process_place}
 use Rattle.vs_design.specs.Rules.{mixed_assigns, missing_bits, latches, shared_bits}
 use Rattle.vs_design.specs.Footprints.{contains}
-use Rattle.vs_zero.proofs.Numbered.{at_is}
-
-pub and_both : (a b : Bool) → (a && b) ≡ true → (a ≡ true) × (b ≡ true)
-and_both true b h = (refl, h)
-and_both false b h = cc
+use Rattle.vs_reads.proofs.Numbered.{at_is}
+use Rattle.vs_shape.proofs.Names.{and_both}
+use Rattle.vs_reads.proofs.Tests.{not_true}
 
 none_least : (ns : List ℕ) → least ns ≡ None → ns ≡ []
 none_least [] h = refl
@@ -76,10 +74,6 @@ pub record IsSettling (d : Design) (p : ℕ) : Type 0 where
   pub process : Process
   pub is : slice_get d.processes p ≡ Some process
   pub settles : is_clocked process ≡ false
-
-not_true : (a : Bool) → not a ≡ true → a ≡ false
-not_true true h = cc
-not_true false h = refl
 
 settling_after : (d : Design) (placed order : List ℕ) (k p : ℕ) → is_order_after placed d order ≡ true → slice_get order k ≡ Some p → IsSettling d p
 settling_after d placed [] k p h e = cc

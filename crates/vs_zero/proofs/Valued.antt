@@ -2,8 +2,6 @@
 use Rattle.std.proofs.Common.{◌≡◌, ℕ, zero, suc, ◌+◌, ◌<◌, ◌≢◌, Bool, true, false, List, [], ◌∷◌, length, take, get_or, set, refl, sym, ap, ap₂, ◌∙◌, subst, arith, ◌⊎◌, inl, inr}
 use Rattle.std.specs.Prelude.{◌||◌, ◌==◌, if◌then◌else◌, All}
 use mathlib.Core.Path.{fun_ext}
-use Rattle.std.proofs.lemmas.List.{take_more}
-use Rattle.std.proofs.lemmas.List.Folds.{list_any-append}
 use Rattle.std.proofs.lemmas.Bool.{cond-true, cond-false}
 use Rattle.vs_four.specs.declared.Bit4.{Bit4}
 use Rattle.vs_four.specs.declared.Bit4.TheVariants.{Zero, One, X, Z}
@@ -20,24 +18,13 @@ use Rattle.vs_sets.specs.Branches.{replaced}
 use Rattle.vs_sets.specs.StatementParts.{Covers}
 use Rattle.vs_zero.specs.States.{state_of, unknown}
 use Rattle.vs_zero.specs.Values.{are_same, joined, with_updates, IsZero, replaced_by}
-use Rattle.vs_zero.proofs.BranchSteps.{union_twice}
-use Rattle.vs_zero.proofs.Tables.{same_or_other}
+use Rattle.vs_sets.proofs.BranchSteps.{union_twice}
+use Rattle.vs_sets.proofs.Families.{same_or_other}
 use Rattle.vs_zero.proofs.Writing.{put_state}
+use Rattle.vs_sets.proofs.BranchSteps.{or_false, or_true, contains_more}
+use Rattle.vs_reads.proofs.Tests.{by_test}
 
 -- ---- tables of values
-
-or_false : (b : Bool) → (b || false) ≡ b
-or_false true = refl
-or_false false = refl
-
-or_true : (b : Bool) → (b || true) ≡ true
-or_true true = refl
-or_true false = refl
-
-contains_more : (bits : List ℕ) (i c : ℕ) → i < length bits → contains (take (i + 1) bits) c ≡ (contains (take i bits) c || (c == get_or bits i 0))
-contains_more bits i c h =
-    ap (λ bs. contains bs c) (take_more bits i 0 h) ∙ list_any-append (λ d. c == d) (take i bits) (get_or bits i 0 ∷ [])
-    ∙ ap (λ b. contains (take i bits) c || b) (or_false (c == get_or bits i 0))
 
 pub state_step : (t : List Bit4) (bits : List ℕ) (i : ℕ) (x : Bit4) (f g : State) → i < length bits → get_or bits i 0 < length t → state_of t ≡ replaced_by (take i bits) f g
     → x ≡ f (get_or bits i 0) → state_of (set t (get_or bits i 0) x) ≡ replaced_by (take (i + 1) bits) f g
@@ -71,10 +58,6 @@ same_self Zero = refl
 same_self One = refl
 same_self X = refl
 same_self Z = refl
-
-by_test : {P : Type 0} (b : Bool) → (b ≡ true → P) → (b ≡ false → P) → P
-by_test true f g = f refl
-by_test false f g = g refl
 
 write_all_at : (ws : List Write) (s t : State) (b : ℕ) → s b ≡ t b → write_all s ws b ≡ write_all t ws b
 unfolding write_all

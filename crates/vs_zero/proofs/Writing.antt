@@ -12,7 +12,7 @@ use Rattle.vs_net.specs.Network.{State, Write, put, write_all}
 use Rattle.vs_design.specs.Values.{count_from}
 use Rattle.vs_sets.specs.Tables.{bits_from}
 use Rattle.vs_zero.specs.States.{state_of, written}
-use Rattle.vs_zero.proofs.Tables.{same_or_other}
+use Rattle.vs_sets.proofs.Families.{same_or_other}
 
 -- ---- writes
 

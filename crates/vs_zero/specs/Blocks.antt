@@ -1,13 +1,11 @@
 -- Combinational blocks of a flat design.
 use Rattle.std.specs.Prelude.{◌≡◌, ◌<◌, ◌&&◌, ℕ, Bool, true, false, [], List, length, All}
-use Rattle.vs_design.specs.Designs.{bit_count, is_edge}
+use Rattle.vs_design.specs.Designs.{bit_count}
 use Rattle.vs_design.specs.Fits.{fits_statement}
 use Rattle.vs_design.specs.Footprints.{contains, statement_bits}
 use Rattle.vs_design.specs.Lifted.{Family}
 use Rattle.vs_design.specs.Rules.{mixed_in}
 use Rattle.vs_design.specs.Sets.{is_unknown_set, is_known_set}
-use Rattle.vs_flat.specs.declared.processes.Event.{Event}
-use Rattle.vs_flat.specs.Operators.{edge_of}
 use Rattle.vs_flat.specs.Arena.{Arena}
 use Rattle.vs_flat.specs.DesignOf.{design_of}
 use Rattle.vs_sets.specs.StatementParts.{statement_of}
@@ -19,10 +17,6 @@ pub record IsBlockOf (a : Arena) (s : ℕ) (bits : List ℕ) : Type 0 where
   pub unmixed : mixed_in false (statement_of a s) ≡ []
   pub within : All (λ b. b < bit_count (design_of a)) bits
   pub own : (b : ℕ) → contains bits b ≡ contains (statement_bits (statement_of a s)) b
-
--- an edge
-abbrev pub has_edge_event : Event → Bool
-has_edge_event e = is_edge (edge_of e.edge)
 
 -- a bit that is surely x or z early, and surely 0 or 1 late
 abbrev pub may_wake : Family → Family → ℕ → Bool

@@ -1,6 +1,6 @@
 //! Assignments of constants (IEEE 1364-2005, 5.5.3 and 9.2).
 
-ghost use Rattle.std.specs.Prelude.{◌≡◌, ◌≤◌, ◌<◌, length, max, take, true};
+ghost use Rattle.std.specs.Prelude.{◌≡◌, ◌<◌, length, take, true};
 ghost use Rattle.vs_net.specs.Network.{write_all};
 ghost use Rattle.vs_design.specs.Bodies.{assignment_writes};
 ghost use Rattle.vs_design.specs.Designs.{bit_count};
@@ -16,7 +16,7 @@ ghost use Rattle.vs_zero.specs.States.{state_of, unknown};
 
 use crate::targets::put;
 use vs_four::{Bit4, Bits, cut};
-use vs_length::Shapes;
+use vs_shape::Shapes;
 
 /// The bits of a value, least significant first, in an array that has room for any.
 fn listed(value: Bits) -> [Bit4; 64]

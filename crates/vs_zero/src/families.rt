@@ -1,12 +1,11 @@
 //! The early and the late sets of all bits at time zero.
 
-ghost use Rattle.std.specs.Prelude.{◌≡◌, ◌<◌, ℕ, None, Some, true, length, slice_get, IfOk, OnOk};
-ghost use Rattle.vs_design.specs.Designs as D;
+ghost use Rattle.std.specs.Prelude.{◌≡◌, ◌<◌, None, Some, true, length, IfOk};
 ghost use Rattle.vs_design.specs.Designs.{bit_count};
 ghost use Rattle.vs_design.specs.Levels.{is_level_order};
 ghost use Rattle.vs_design.specs.Refusals.{block_refusal};
 ghost use Rattle.vs_design.specs.Resets.{with_resets};
-ghost use Rattle.vs_design.specs.TimeZero.{early_source, families, late_source};
+ghost use Rattle.vs_design.specs.TimeZero.{families, late_source};
 ghost use Rattle.vs_clock.specs.Clocked.{AreResets};
 ghost use Rattle.vs_flat.specs.DesignOf.{design_of};
 ghost use Rattle.vs_reads.specs.Footprint.{footprints_of};
@@ -24,7 +23,7 @@ use vs_four::Bit4;
 use vs_level::Order;
 use vs_reads::{Footprints, footprint_law};
 use vs_sets::Set4;
-use vs_width::{Typed, fits_law};
+use vs_typed::{Typed, fits_law};
 
 /// The early and the late sets of all bits.
 #[derive(Drop)]

@@ -1,8 +1,6 @@
 //! What a statement does that reads no signal (IEEE 1364-2005, clause 9).
 
 ghost use Rattle.std.specs.Prelude.{◌≡◌, ◌≤◌, ◌<◌, length, map};
-ghost use Rattle.vs_net.specs.Network.{flatten, write_all};
-ghost use Rattle.vs_design.specs.Bodies.{body};
 ghost use Rattle.vs_design.specs.Designs.{bit_count};
 ghost use Rattle.vs_flat.specs.DesignOf.{design_of};
 ghost use Rattle.vs_flat.specs.Trees.{branch, sequence};
@@ -10,13 +8,13 @@ ghost use Rattle.vs_sets.specs.StatementParts.{statement_of};
 ghost use Rattle.vs_zero.specs.Constants.{EachIsFixed, IsFixed, IsFixedBranch, updated};
 ghost use Rattle.vs_zero.specs.States.{state_of};
 
-use crate::cases::{case_context, own_context, taken_branch};
+use crate::cases::taken_branch;
 use crate::constants::assign;
-use crate::nodes::statement_node;
 use vs_design::write_law;
 use vs_flat::Statement;
 use vs_four::{Bit4, truth};
-use vs_length::Shapes;
+use vs_sets::{case_context, own_context, statement_node};
+use vs_shape::Shapes;
 
 /// Lets a statement run that reads no signal, on the values that its updates give.
 #[cycle(running)]
@@ -43,7 +41,7 @@ pub(crate) fn run(shapes: &Shapes, s: u32, state: &mut [Bit4])
             other,
         } => {
             let context = case_context(shapes, own_context(shapes, *of), arms.as_slice(), *other);
-            let subject = shapes.value(*of, context.len, context.signed);
+            let subject = shapes.value(*of, context.width, context.signed);
             let taken = taken_branch(shapes, *kind, context, subject, arms.as_slice(), *other);
             run_branch(shapes, s, taken, state);
         }

@@ -7,7 +7,6 @@ mod constants;
 mod error;
 mod families;
 mod fixed;
-mod nodes;
 mod process;
 mod sources;
 mod targets;

@@ -12,15 +12,15 @@ ghost use Rattle.vs_design.specs.TimeZero.{families_along, is_uncertain, settle_
 ghost use Rattle.vs_flat.specs.DesignOf.{design_of};
 ghost use Rattle.vs_reads.specs.Footprint.{footprints_of};
 ghost use Rattle.vs_sets.specs.Tables.{family_of};
-ghost use Rattle.vs_zero.specs.Blocks.{has_edge_event, may_wake};
+ghost use Rattle.vs_zero.specs.Blocks.{may_wake};
 ghost use Rattle.vs_zero.specs.First.{IsFirst};
 
 use crate::turns::{is_quiet, turn_early, turn_late};
 use std::alloc::{AllocError, Global};
-use vs_flat::{Edge, Event, Kind, lawful_law, names_law, trees_law};
+use vs_flat::{Kind, has_edge, lawful_law, names_law, trees_law};
 use vs_reads::{Footprints, footprint_law};
 use vs_sets::{Set4, assign};
-use vs_width::{Typed, fits_law};
+use vs_typed::{Typed, fits_law};
 
 /// The turn of an assign or a combinational block in both tables.
 fn turn(
@@ -103,13 +103,6 @@ fn wakes(waits: &[u32], early: &[Set4], late: &[Set4]) -> bool
         }
     }
     false
-}
-
-/// Whether an edge is among the events of a block (IEEE 1364-2005, 9.7.2).
-fn has_edge(events: &[Event]) -> bool
-    ensures { result ≡ list_any has_edge_event events.now }
-{
-    events.iter().any(|e| e.edge != Edge::Any)
 }
 
 /// Whether a combinational block neither sleeps, nor is quiet, nor wakes. Afterwards the early sets are as before; where memory is wanting they are left between.

@@ -1,8 +1,7 @@
 //! The sets of bits that no assign and no combinational block writes (IEEE 1364-2005, 4.2.1 and 4.2.2).
 
-ghost use Rattle.std.specs.Prelude.{◌≡◌, ◌≤◌, ◌<◌, ◌+◌, ℕ, length, IfOk, OnOk, All};
+ghost use Rattle.std.specs.Prelude.{◌≡◌, ◌≤◌, ◌<◌, ◌+◌, ℕ, length, IfOk};
 ghost use Rattle.vs_four.specs.declared.Bit4.TheVariants.{X};
-ghost use Rattle.vs_net.specs.Network.{put};
 ghost use Rattle.vs_design.specs.Designs.{bit_count};
 ghost use Rattle.vs_design.specs.Sets.{only};
 ghost use Rattle.vs_design.specs.TimeZero.{early_source};
@@ -13,12 +12,11 @@ ghost use Rattle.vs_sets.specs.Nodes.{signal_of};
 ghost use Rattle.vs_sets.specs.Tables.{family_of};
 ghost use Rattle.vs_zero.specs.Sources.{bits_of_kind, is_kind};
 
-use crate::nodes::span_of;
 use std::alloc::{AllocError, Global};
 use vs_flat::{count_bits, trees_law};
 use vs_four::Bit4;
-use vs_length::Shapes;
-use vs_sets::Set4;
+use vs_sets::{Set4, span_of};
+use vs_shape::Shapes;
 
 /// What a signal is: a net that isn't an input of the top, or such an input.
 #[derive(Clone, Copy, PartialEq, Eq, Debug)]

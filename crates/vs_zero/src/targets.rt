@@ -11,15 +11,14 @@ ghost use Rattle.vs_design.specs.Values.{count_from};
 ghost use Rattle.vs_flat.specs.DesignOf.{design_of};
 ghost use Rattle.vs_flat.specs.Targets.{source_of};
 ghost use Rattle.vs_flat.specs.Trees.{joined};
-ghost use Rattle.vs_sets.specs.FitParts.{Is64};
 ghost use Rattle.vs_sets.specs.Nodes.{EachBelow, tree_of};
 ghost use Rattle.vs_sets.specs.TargetsOf.{IsTarget, target_tree};
 ghost use Rattle.vs_zero.specs.States.{state_of, unknown, written};
 
-use crate::nodes::{first_copy, named_signal, node_of, span_of};
 use vs_flat::Node;
 use vs_four::{Bit4, Bits, Range, write_part};
-use vs_length::Shapes;
+use vs_sets::{named_signal, span_of};
+use vs_shape::{Shapes, first_copy};
 
 /// Writes the bits of a value one after the other, from this bit on.
 fn put_bits(state: &mut [Bit4], first: usize, value: Bits)
@@ -67,7 +66,7 @@ pub(crate) fn put(shapes: &Shapes, e: u32, value: &[Bit4], state: &mut [Bit4])
     requires many { length value.now ≡ E.width (tree_of shapes.now e) }
     ensures { state_of state.new ≡ write_all (state_of state.old) (target_writes (target_tree (tree_of shapes.now e)) value.now unknown) }
 {
-    match node_of(shapes, e) {
+    match shapes.node(e) {
         Node::Name { signal } => {
             put_bits(state, span_of(shapes, *signal).first, Bits::of(value));
         }

@@ -9,11 +9,11 @@ ghost use Rattle.vs_sets.specs.StatementParts.{statement_of};
 ghost use Rattle.vs_sets.specs.Tables.{family_of};
 ghost use Rattle.vs_zero.specs.Blocks.{IsBlockOf};
 
-use crate::bits::{add_x, are_only_x, fill, put_back, sets_of};
+use crate::bits::add_x;
 use std::alloc::{AllocError, Global};
 use vs_four::Bit4;
-use vs_length::Shapes;
-use vs_sets::{Set4, at_once_law, run};
+use vs_sets::{Set4, are_only_x, at_once_law, fill, put_back, run, sets_of};
+use vs_shape::Shapes;
 
 /// Lets a combinational block run, whose own bits may have any value when it begins.
 fn run_block(

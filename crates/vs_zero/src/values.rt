@@ -1,6 +1,6 @@
 //! The sets of bits with the values that a reset gives them (IEEE 1364-2005, 9.2.2 and 9.7.2).
 
-ghost use Rattle.std.specs.Prelude.{◌≡◌, ◌<◌, ℕ, length, All};
+ghost use Rattle.std.specs.Prelude.{◌≡◌, ◌<◌, length, All};
 ghost use Rattle.vs_four.specs.declared.Bit4.TheVariants.{Zero};
 ghost use Rattle.vs_net.specs.Network.{flatten};
 ghost use Rattle.vs_design.specs.Designs.{bit_count};
@@ -16,8 +16,8 @@ ghost use Rattle.vs_zero.specs.Values.{IsZero, are_same, joined, replaced_by, wi
 use crate::fixed::run;
 use vs_design::write_law;
 use vs_four::Bit4;
-use vs_length::Shapes;
 use vs_sets::Set4;
+use vs_shape::Shapes;
 
 /// Whether two bits are the same.
 pub(crate) fn are_same(a: Bit4, b: Bit4) -> bool

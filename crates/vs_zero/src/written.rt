@@ -16,7 +16,7 @@ use crate::values::{are_same, reset_bits};
 use std::alloc::AllocError;
 use vs_design::write_law;
 use vs_four::Bit4;
-use vs_length::Shapes;
+use vs_shape::Shapes;
 
 /// Adds those of these bits that are the same in both states.
 fn add_same(

@@ -17,7 +17,7 @@ use vs_design::{cycle_law, time_zero_law};
 use vs_flat::trees_law;
 use vs_level::Order;
 use vs_reads::Footprints;
-use vs_width::Typed;
+use vs_typed::Typed;
 
 /// The rule TimeZero on the combinational blocks of a design: each surely sleeps, or is quiet, or something that it waits on surely wakes it. TimeZero: it answers the first block that breaks the rule.
 pub fn check(

@@ -9,9 +9,10 @@ use Rattle.vs_design.specs.Rules.{missing_bits, latches}
 use Rattle.vs_flat.specs.Arena.{Arena}
 use Rattle.vs_flat.specs.DesignOf.{arena_signals, event_of, design_of}
 use Rattle.vs_flat.specs.Trees.{signal_at}
-use Rattle.vs_length.specs.Bodies.{body_of}
+use Rattle.vs_shape.specs.Bodies.{body_of}
 use Rattle.vs_reads.specs.Footprint.{reads_at, writes_at, waits_at}
-use Rattle.vs_block.proofs.Blocks.{block_in, one_process, is_clocked_as, mixed_as, mixed_refused, none_mixed, clocked_kept, latches_are, combinational_is, missing_is, told}
+use Rattle.vs_block.proofs.Blocks.{block_in, one_process, is_clocked_as, mixed_as, mixed_refused, none_mixed, clocked_kept, latches_are, combinational_is, missing_is}
+use Rattle.vs_reads.proofs.Told.{told}
 use Rattle.vs_block.proofs.block.check_block.Goals as goal
 
 pub least_mixed-requires-clause-fits : goal.least_mixed-requires-clause-fits

@@ -1,7 +1,7 @@
 use Rattle.std.proofs.Common.{◌≡◌, ◌||◌, not, true, false, sym, ap, ◌∙◌, arith}
 use Rattle.std.proofs.lemmas.Grind.{common_steps}
 use Rattle.vs_block.specs.Flags.{is_set}
-use Rattle.vs_block.proofs.Truth.{or_left, or_right}
+use Rattle.vs_reads.proofs.Tests.{or_left, or_right}
 use Rattle.vs_block.proofs.Least.{first_is, first_none}
 use Rattle.vs_block.proofs.latches.first_kept.Goals as goal
 use Rattle.vs_block.proofs.latches.first_kept.Goals.{then-early-k-via-then-early-k, then-early-k-via-else-early-k+then-not-assigned-k}

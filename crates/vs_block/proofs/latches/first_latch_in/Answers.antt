@@ -1,4 +1,4 @@
-use Rattle.vs_length.specs.Bodies.{body_of}
+use Rattle.vs_shape.specs.Bodies.{body_of}
 use Rattle.vs_block.proofs.Branching.{set_as}
 use Rattle.vs_block.proofs.Blocks.{latch_is}
 use Rattle.vs_block.proofs.latches.first_latch_in.Goals as goal

@@ -4,8 +4,8 @@ use Rattle.vs_design.specs.Refusals.{least}
 use Rattle.vs_design.specs.Rules.{mixed_in}
 use Rattle.vs_flat.specs.Trees.{branch}
 use Rattle.vs_flat.specs.declared.statements.Arm.{Arm}
-use Rattle.vs_length.specs.Nodes.{tree_of}
-use Rattle.vs_length.specs.Bodies.{body_of, body_of_statement}
+use Rattle.vs_shape.specs.Nodes.{tree_of}
+use Rattle.vs_shape.specs.Bodies.{body_of, body_of_statement}
 use Rattle.vs_block.specs.Mixed.{mixed_of}
 use Rattle.vs_block.specs.Parts.{AreArms, HasParts}
 use Rattle.vs_block.proofs.Mixing.{more_mixed, mixed_sequence, mixed_arms}

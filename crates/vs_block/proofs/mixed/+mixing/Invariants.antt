@@ -2,7 +2,7 @@
 use Rattle.std.proofs.Common.{◌≡◌, ◌+◌, ◌*◌, ◌++◌, ℕ, List, map, take}
 use Rattle.vs_design.specs.Refusals.{least}
 use Rattle.vs_flat.specs.declared.statements.Arm.{Arm}
-use Rattle.vs_length.specs.Bodies.{body_of}
+use Rattle.vs_shape.specs.Bodies.{body_of}
 use Rattle.vs_block.specs.Mixed.{mixed_of}
 use Rattle.vs_block.proofs.mixed.+mixing.Given as goal
 

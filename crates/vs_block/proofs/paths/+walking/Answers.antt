@@ -2,16 +2,16 @@ use Rattle.std.proofs.Common.{List, map, take, get_or, refl, sym, ap, ◌∙◌,
 use Rattle.std.proofs.lemmas.List.{take_all}
 use Rattle.std.proofs.lemmas.Grind.{get_or_default_zero}
 use Rattle.vs_design.specs.Footprints.{items_reads}
-use Rattle.vs_flat.specs.Operators.{case_of}
 use Rattle.vs_flat.specs.declared.statements.Arm.{Arm}
 use Rattle.vs_flat.specs.Trees.{branch, arms_tree, target_tree}
-use Rattle.vs_length.specs.Nodes.{tree_of}
-use Rattle.vs_length.specs.Bodies.{body_of, body_of_statement}
+use Rattle.vs_shape.specs.Nodes.{tree_of}
+use Rattle.vs_shape.specs.Bodies.{body_of, body_of_statement}
 use Rattle.vs_block.specs.Flags.{AreNoted}
 use Rattle.vs_block.specs.Parts.{AreArms, HasParts}
 use Rattle.vs_block.proofs.Truth.{map_more}
 use Rattle.vs_block.proofs.FlagSteps.{put_back}
-use Rattle.vs_block.proofs.Branching.{assignment_walked, if_walked, arm_walked, arms_step, case_walked, walked_next, if_ok, arm_at, shared_as, set_as, fresh_as, walked_as, arms_as, arm_as, parts_as}
+use Rattle.vs_block.proofs.Branching.{assignment_walked, if_walked, arm_walked, arms_step, case_walked, walked_next, if_ok, shared_as, set_as, fresh_as, walked_as, arms_as, arm_as, parts_as}
+use Rattle.vs_shape.proofs.Walking.{arm_at}
 use Rattle.vs_block.proofs.paths.+walking.Goals as goal
 
 pub walk-walk_arms-requires : goal.walk-walk_arms-requires
@@ -49,7 +49,7 @@ walk-returns-in_ok-note_value-in-Case-clause-walked t c =
     let arms = arms_tree (tree_of a) (body_of a) c.in-Case.other in
     if_ok c.walk_arms.result c.walk_arms.ensures.walked
     (λ v w. walked_as own _ _ _ _ c.args.early.now c.walk_arms.new.early v.items (sym tree) refl
-    (case_walked own (case_of c.in-Case.kind) (tree_of a c.in-Case.of) (arms c.in-Case.arms) c.args.assigned.now c.args.early.now c.note_value-in-Case.new.early c.walk_arms.new.early v.items c.in_ok-note_value-in-Case.ensures
+    (case_walked own c.in-Case.kind (tree_of a c.in-Case.of) (arms c.in-Case.arms) c.args.assigned.now c.args.early.now c.note_value-in-Case.new.early c.walk_arms.new.early v.items c.in_ok-note_value-in-Case.ensures
     (arms_as own _ _ c.args.assigned.now c.note_value-in-Case.new.early c.walk_arms.new.early v.items (ap arms c.as_slice-in-Case.ensures) w)))
 
 pub walk_arm-returns-clause-walked : goal.walk_arm-returns-clause-walked

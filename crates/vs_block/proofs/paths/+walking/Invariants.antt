@@ -2,8 +2,8 @@
 use Rattle.std.proofs.Common.{◌≡◌, ◌+◌, ◌*◌, map, take}
 use Rattle.vs_design.specs.Latches.{assigned_in_arms, early_in_arms}
 use Rattle.vs_flat.specs.Trees.{arms_tree}
-use Rattle.vs_length.specs.Nodes.{tree_of}
-use Rattle.vs_length.specs.Bodies.{body_of}
+use Rattle.vs_shape.specs.Nodes.{tree_of}
+use Rattle.vs_shape.specs.Bodies.{body_of}
 use Rattle.vs_block.specs.Walked.{IsWalked}
 use Rattle.vs_block.proofs.Branching.{AreWalked}
 use Rattle.vs_block.proofs.paths.+walking.Given as goal

@@ -1,6 +1,6 @@
 use Rattle.std.proofs.Common.{◌++◌, get_or, ap, ◌∙◌}
 use Rattle.vs_design.specs.Footprints.{read_bits}
-use Rattle.vs_length.specs.Nodes.{tree_of}
+use Rattle.vs_shape.specs.Nodes.{tree_of}
 use Rattle.vs_block.proofs.Branching.{items_more}
 use Rattle.vs_block.proofs.paths.note_values.Goals as goal
 

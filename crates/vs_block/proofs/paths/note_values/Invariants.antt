@@ -1,6 +1,6 @@
 use Rattle.std.proofs.Common.{◌≡◌, map, take}
 use Rattle.vs_design.specs.Footprints.{items_reads}
-use Rattle.vs_length.specs.Nodes.{tree_of}
+use Rattle.vs_shape.specs.Nodes.{tree_of}
 use Rattle.vs_block.proofs.paths.note_values.Given as goal
 
 abbrev pub invariant-loop-item : goal.invariant-loop-item

@@ -1,5 +1,5 @@
 use Rattle.std.proofs.Common.{◌≡◌, ◌++◌, take}
-use Rattle.vs_length.specs.Nodes.{tree_of}
+use Rattle.vs_shape.specs.Nodes.{tree_of}
 use Rattle.vs_block.proofs.TargetParts.{each_assigns}
 use Rattle.vs_block.proofs.targets.+push_assigned.Given as goal
 

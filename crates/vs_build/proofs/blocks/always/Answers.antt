@@ -5,7 +5,7 @@ use Rattle.vs_grammar.specs.Depths.{statement_depth}
 use Rattle.vs_ast.specs.Views as view
 use Rattle.vs_ast.specs.declared.items.Event.{Event as TextEvent}
 use Rattle.vs_flat.specs.declared.processes.Event.{Event}
-use Rattle.vs_hierarchy.specs.Statements.{typed_statement}
+use Rattle.vs_elaborated.specs.Statements.{typed_statement}
 use Rattle.vs_flat.specs.Named.{all_below}
 use Rattle.vs_flat.specs.Trees.{signal_at}
 use Rattle.vs_build.specs.Drafts.{and_process}

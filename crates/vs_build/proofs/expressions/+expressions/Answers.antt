@@ -15,7 +15,7 @@ use Rattle.vs_flat.specs.Targets.{source_of}
 use Rattle.vs_build.specs.Drafts.{Draft, AddsExpression, EndsInSelect}
 use Rattle.vs_build.specs.Growth.{draft}
 use Rattle.vs_build.specs.Buildable.{IsBuildable, IsSelectable, AreBuildable, HasBits, IsNumbered, AreBounds, IsRangeOf, IsConstant, part_expressions, selected_by}
-use Rattle.vs_build.proofs.Arms.{child, child_ends, children_end, ends_three, after, same_design, ok_up_to, unary_operand, binary_left, binary_right, choice_condition, choice_yes, choice_no, unary_arm, cast_arm, binary_arm, choice_arm}
+use Rattle.vs_build.proofs.Arms.{child, child_ends, children_end, ends_three, after, same_design, ok_up_to, unary_operand, binary_left, binary_right, choice_condition, choice_yes, choice_no, unary_arm, binary_arm, choice_arm}
 use Rattle.vs_build.proofs.Lists.{concatenation_view, replication_view, each_part, part_levels, part_falls, taken_more, taken_all, parts_none, parts_more, parts_are, ends_parts, part_after, part_count, concatenation_parts, join_arm, replication_is, replication_expression, deeper_up_to}
 use Rattle.vs_build.proofs.Selects.{named_select, named_expression, bit_taken, bit_index, moving_taken, moving_is, between_is, between_taken, select_ends, select_arm, signed_operand, unsigned_operand, clog2_constant}
 use Rattle.vs_build.proofs.expressions.+expressions.Goals as goal
@@ -27,24 +27,24 @@ expression-unary-requires g t c =
 pub expression-returns-in_ok-operand-in-Unary : goal.expression-returns-in_ok-operand-in-Unary
 expression-returns-in_ok-operand-in-Unary g t c =
     subst (λ x. OnOk c.unary.result (AddsExpression (draft c.args.builder.now) (draft c.unary.new.self) (begins_at c.args.at (typed (view.expr x) (g.E.Env.names c.args.env.now) c.args.needed).expression) (1 + expr_depth (view.expr x)))) (sym c.in-Unary.is)
-    (unary_arm c.unary.result (draft c.args.builder.now) (draft c.operand.new.builder) (draft c.unary.new.self) (g.E.Env.names c.args.env.now) c.args.needed c.args.at (view.unary_op c.in-Unary.op) c.flat_unary.result c.in-Unary.a.value c.deref.result.now c.deref.ensures c.flat_unary.ensures c.in_ok-operand-in-Unary.ensures c.unary.ensures)
+    (unary_arm c.unary.result (draft c.args.builder.now) (draft c.operand.new.builder) (draft c.unary.new.self) (g.E.Env.names c.args.env.now) c.args.needed c.args.at c.in-Unary.op c.in-Unary.a.value c.deref.result.now c.deref.ensures c.in_ok-operand-in-Unary.ensures c.unary.ensures)
 
 pub expression-operand-requires-in-Binary : goal.expression-operand-requires-in-Binary
 expression-operand-requires-in-Binary g t c κs within =
-    (search (rules, the_lemmas), (within, (child (draft c.args.builder.now).design (g.E.Env.names c.args.env.now) c.args.needed c.deref-in-Binary.result.now c.in-Binary.left.value c.deref-in-Binary.ensures (binary_left (draft c.args.builder.now).design (g.E.Env.names c.args.env.now) c.args.needed (view.binary_op c.in-Binary.op) (view.expr c.in-Binary.left.value) (view.expr c.in-Binary.right.value) (subst (λ x. IsBuildable (draft c.args.builder.now).design (g.E.Env.names c.args.env.now) c.args.needed (view.expr x)) c.in-Binary.is c.requires)))))
+    (search (rules, the_lemmas), (within, (child (draft c.args.builder.now).design (g.E.Env.names c.args.env.now) c.args.needed c.deref-in-Binary.result.now c.in-Binary.left.value c.deref-in-Binary.ensures (binary_left (draft c.args.builder.now).design (g.E.Env.names c.args.env.now) c.args.needed c.in-Binary.op (view.expr c.in-Binary.left.value) (view.expr c.in-Binary.right.value) (subst (λ x. IsBuildable (draft c.args.builder.now).design (g.E.Env.names c.args.env.now) c.args.needed (view.expr x)) c.in-Binary.is c.requires)))))
 
 pub expression-operand-requires-in-Binary-2 : goal.expression-operand-requires-in-Binary-2
 expression-operand-requires-in-Binary-2 g t c κs within =
-    (search (rules, the_lemmas), (within, (after (draft c.args.builder.now) (draft c.operand-in-Binary.new.builder) (typed (view.expr c.deref-in-Binary.result.now) (g.E.Env.names c.args.env.now) c.args.needed).expression (1 + expr_depth (view.expr c.deref-in-Binary.result.now)) (g.E.Env.names c.args.env.now) c.args.needed (view.expr c.deref-in-Binary-2.result.now) c.in_ok-operand-in-Binary.ensures (child (draft c.args.builder.now).design (g.E.Env.names c.args.env.now) c.args.needed c.deref-in-Binary-2.result.now c.in-Binary.right.value c.deref-in-Binary-2.ensures (binary_right (draft c.args.builder.now).design (g.E.Env.names c.args.env.now) c.args.needed (view.binary_op c.in-Binary.op) (view.expr c.in-Binary.left.value) (view.expr c.in-Binary.right.value) (subst (λ x. IsBuildable (draft c.args.builder.now).design (g.E.Env.names c.args.env.now) c.args.needed (view.expr x)) c.in-Binary.is c.requires))))))
+    (search (rules, the_lemmas), (within, (after (draft c.args.builder.now) (draft c.operand-in-Binary.new.builder) (typed (view.expr c.deref-in-Binary.result.now) (g.E.Env.names c.args.env.now) c.args.needed).expression (1 + expr_depth (view.expr c.deref-in-Binary.result.now)) (g.E.Env.names c.args.env.now) c.args.needed (view.expr c.deref-in-Binary-2.result.now) c.in_ok-operand-in-Binary.ensures (child (draft c.args.builder.now).design (g.E.Env.names c.args.env.now) c.args.needed c.deref-in-Binary-2.result.now c.in-Binary.right.value c.deref-in-Binary-2.ensures (binary_right (draft c.args.builder.now).design (g.E.Env.names c.args.env.now) c.args.needed c.in-Binary.op (view.expr c.in-Binary.left.value) (view.expr c.in-Binary.right.value) (subst (λ x. IsBuildable (draft c.args.builder.now).design (g.E.Env.names c.args.env.now) c.args.needed (view.expr x)) c.in-Binary.is c.requires))))))
 
 pub expression-binary-requires : goal.expression-binary-requires
 expression-binary-requires g t c =
-    children_end (draft c.args.builder.now).design (g.E.Env.names c.args.env.now) c.args.needed (view.expr c.deref-in-Binary.result.now) (view.expr c.deref-in-Binary-2.result.now) (draft c.args.builder.now) (draft c.operand-in-Binary.new.builder) (draft c.operand-in-Binary-2.new.builder) (child (draft c.args.builder.now).design (g.E.Env.names c.args.env.now) c.args.needed c.deref-in-Binary.result.now c.in-Binary.left.value c.deref-in-Binary.ensures (binary_left (draft c.args.builder.now).design (g.E.Env.names c.args.env.now) c.args.needed (view.binary_op c.in-Binary.op) (view.expr c.in-Binary.left.value) (view.expr c.in-Binary.right.value) (subst (λ x. IsBuildable (draft c.args.builder.now).design (g.E.Env.names c.args.env.now) c.args.needed (view.expr x)) c.in-Binary.is c.requires))) (child (draft c.args.builder.now).design (g.E.Env.names c.args.env.now) c.args.needed c.deref-in-Binary-2.result.now c.in-Binary.right.value c.deref-in-Binary-2.ensures (binary_right (draft c.args.builder.now).design (g.E.Env.names c.args.env.now) c.args.needed (view.binary_op c.in-Binary.op) (view.expr c.in-Binary.left.value) (view.expr c.in-Binary.right.value) (subst (λ x. IsBuildable (draft c.args.builder.now).design (g.E.Env.names c.args.env.now) c.args.needed (view.expr x)) c.in-Binary.is c.requires))) c.in_ok-operand-in-Binary.ensures c.in_ok-operand-in-Binary-2.ensures
+    children_end (draft c.args.builder.now).design (g.E.Env.names c.args.env.now) c.args.needed (view.expr c.deref-in-Binary.result.now) (view.expr c.deref-in-Binary-2.result.now) (draft c.args.builder.now) (draft c.operand-in-Binary.new.builder) (draft c.operand-in-Binary-2.new.builder) (child (draft c.args.builder.now).design (g.E.Env.names c.args.env.now) c.args.needed c.deref-in-Binary.result.now c.in-Binary.left.value c.deref-in-Binary.ensures (binary_left (draft c.args.builder.now).design (g.E.Env.names c.args.env.now) c.args.needed c.in-Binary.op (view.expr c.in-Binary.left.value) (view.expr c.in-Binary.right.value) (subst (λ x. IsBuildable (draft c.args.builder.now).design (g.E.Env.names c.args.env.now) c.args.needed (view.expr x)) c.in-Binary.is c.requires))) (child (draft c.args.builder.now).design (g.E.Env.names c.args.env.now) c.args.needed c.deref-in-Binary-2.result.now c.in-Binary.right.value c.deref-in-Binary-2.ensures (binary_right (draft c.args.builder.now).design (g.E.Env.names c.args.env.now) c.args.needed c.in-Binary.op (view.expr c.in-Binary.left.value) (view.expr c.in-Binary.right.value) (subst (λ x. IsBuildable (draft c.args.builder.now).design (g.E.Env.names c.args.env.now) c.args.needed (view.expr x)) c.in-Binary.is c.requires))) c.in_ok-operand-in-Binary.ensures c.in_ok-operand-in-Binary-2.ensures
 
 pub expression-returns-in_ok-operand-in-Binary-2 : goal.expression-returns-in_ok-operand-in-Binary-2
 expression-returns-in_ok-operand-in-Binary-2 g t c =
     subst (λ x. OnOk c.binary.result (AddsExpression (draft c.args.builder.now) (draft c.binary.new.self) (begins_at c.args.at (typed (view.expr x) (g.E.Env.names c.args.env.now) c.args.needed).expression) (1 + expr_depth (view.expr x)))) (sym c.in-Binary.is)
-    (binary_arm c.binary.result (draft c.args.builder.now) (draft c.operand-in-Binary.new.builder) (draft c.operand-in-Binary-2.new.builder) (draft c.binary.new.self) (g.E.Env.names c.args.env.now) c.args.needed c.args.at (view.binary_op c.in-Binary.op) c.flat_binary.result c.in-Binary.left.value c.in-Binary.right.value c.deref-in-Binary.result.now c.deref-in-Binary-2.result.now c.deref-in-Binary.ensures c.deref-in-Binary-2.ensures c.flat_binary.ensures c.in_ok-operand-in-Binary.ensures c.in_ok-operand-in-Binary-2.ensures c.binary.ensures)
+    (binary_arm c.binary.result (draft c.args.builder.now) (draft c.operand-in-Binary.new.builder) (draft c.operand-in-Binary-2.new.builder) (draft c.binary.new.self) (g.E.Env.names c.args.env.now) c.args.needed c.args.at c.in-Binary.op c.in-Binary.left.value c.in-Binary.right.value c.deref-in-Binary.result.now c.deref-in-Binary-2.result.now c.deref-in-Binary.ensures c.deref-in-Binary-2.ensures c.in_ok-operand-in-Binary.ensures c.in_ok-operand-in-Binary-2.ensures c.binary.ensures)
 
 pub expression-operand-requires-in-Choice : goal.expression-operand-requires-in-Choice
 expression-operand-requires-in-Choice g t c κs within =
@@ -143,7 +143,7 @@ pub expression-returns-in_ok-operand-in-AsSigned : goal.expression-returns-in_ok
 expression-returns-in_ok-operand-in-AsSigned g t c =
     subst (λ x. OnOk c.unary-in-AsSigned.result (AddsExpression (draft c.args.builder.now) (draft c.unary-in-AsSigned.new.self) (begins_at c.args.at (typed (view.expr x) (g.E.Env.names c.args.env.now) c.args.needed).expression) (1 + expr_depth (view.expr x)))) (sym c.in-Call.is)
     (subst (λ f. OnOk c.unary-in-AsSigned.result (AddsExpression (draft c.args.builder.now) (draft c.unary-in-AsSigned.new.self) (begins_at c.args.at (typed (tree.Call c.in-Call.place (view.system_function f) (view.expr c.in-Call.a.value)) (g.E.Env.names c.args.env.now) c.args.needed).expression) (1 + (1 + expr_depth (view.expr c.in-Call.a.value))))) (sym c.in-AsSigned.is)
-    (cast_arm c.unary-in-AsSigned.result (draft c.args.builder.now) (draft c.operand-in-AsSigned.new.builder) (draft c.unary-in-AsSigned.new.self) (g.E.Env.names c.args.env.now) c.args.needed c.args.at E.Signed c.in-Call.a.value c.deref-in-AsSigned.result.now c.deref-in-AsSigned.ensures c.in_ok-operand-in-AsSigned.ensures c.unary-in-AsSigned.ensures))
+    (unary_arm c.unary-in-AsSigned.result (draft c.args.builder.now) (draft c.operand-in-AsSigned.new.builder) (draft c.unary-in-AsSigned.new.self) (g.E.Env.names c.args.env.now) c.args.needed c.args.at E.Signed c.in-Call.a.value c.deref-in-AsSigned.result.now c.deref-in-AsSigned.ensures c.in_ok-operand-in-AsSigned.ensures c.unary-in-AsSigned.ensures))
 
 pub expression-unary-requires-in-AsUnsigned : goal.expression-unary-requires-in-AsUnsigned
 expression-unary-requires-in-AsUnsigned g t c =
@@ -153,7 +153,7 @@ pub expression-returns-in_ok-operand-in-AsUnsigned : goal.expression-returns-in_
 expression-returns-in_ok-operand-in-AsUnsigned g t c =
     subst (λ x. OnOk c.unary-in-AsUnsigned.result (AddsExpression (draft c.args.builder.now) (draft c.unary-in-AsUnsigned.new.self) (begins_at c.args.at (typed (view.expr x) (g.E.Env.names c.args.env.now) c.args.needed).expression) (1 + expr_depth (view.expr x)))) (sym c.in-Call.is)
     (subst (λ f. OnOk c.unary-in-AsUnsigned.result (AddsExpression (draft c.args.builder.now) (draft c.unary-in-AsUnsigned.new.self) (begins_at c.args.at (typed (tree.Call c.in-Call.place (view.system_function f) (view.expr c.in-Call.a.value)) (g.E.Env.names c.args.env.now) c.args.needed).expression) (1 + (1 + expr_depth (view.expr c.in-Call.a.value))))) (sym c.in-AsUnsigned.is)
-    (cast_arm c.unary-in-AsUnsigned.result (draft c.args.builder.now) (draft c.operand-in-AsUnsigned.new.builder) (draft c.unary-in-AsUnsigned.new.self) (g.E.Env.names c.args.env.now) c.args.needed c.args.at E.Unsigned c.in-Call.a.value c.deref-in-AsUnsigned.result.now c.deref-in-AsUnsigned.ensures c.in_ok-operand-in-AsUnsigned.ensures c.unary-in-AsUnsigned.ensures))
+    (unary_arm c.unary-in-AsUnsigned.result (draft c.args.builder.now) (draft c.operand-in-AsUnsigned.new.builder) (draft c.unary-in-AsUnsigned.new.self) (g.E.Env.names c.args.env.now) c.args.needed c.args.at E.Unsigned c.in-Call.a.value c.deref-in-AsUnsigned.result.now c.deref-in-AsUnsigned.ensures c.in_ok-operand-in-AsUnsigned.ensures c.unary-in-AsUnsigned.ensures))
 
 pub expression-constant_bits-requires : goal.expression-constant_bits-requires
 expression-constant_bits-requires g t c =

@@ -8,11 +8,11 @@ use Rattle.vs_build.proofs.names.source.Goals as goal
 pub name-requires-clause-formed : goal.name-requires-clause-formed
 name-requires-clause-formed g c =
     let m = g.E.Env.names c.args.env.now c.args.name.now.text in
-    (base_there (draft c.args.builder.now).design c.args.needed c.args.name.now.place m c.in-Signal.s c.requires (subst (λ b. Means (named.Signal c.in-Signal.s) (g.E.Env.names c.args.env.now b)) c.as_bytes.ensures c.in-Signal.ensures)).formed
+    (base_there (draft c.args.builder.now).design c.args.needed c.args.name.now.place m c.in-Signal.s c.requires (subst (λ b. Means (named.Signal c.in-Signal.s) (g.E.Env.names c.args.env.now b)) c.as_slice.ensures c.in-Signal.ensures)).formed
 
 pub returns-in_ok-name-in-Some : goal.returns-in_ok-name-in-Some
 returns-in_ok-name-in-Some g c =
     let m = g.E.Env.names c.args.env.now c.args.name.now.text in
     let d = (draft c.args.builder.now).design in
-    let there = base_there d c.args.needed c.args.name.now.place m c.in-Signal.s c.requires (subst (λ b. Means (named.Signal c.in-Signal.s) (g.E.Env.names c.args.env.now b)) c.as_bytes.ensures c.in-Signal.ensures) in
+    let there = base_there d c.args.needed c.args.name.now.place m c.in-Signal.s c.requires (subst (λ b. Means (named.Signal c.in-Signal.s) (g.E.Env.names c.args.env.now b)) c.as_slice.ensures c.in-Signal.ensures) in
     source_there d (draft c.args.builder.now) (draft c.name.new.self) c.args.needed c.args.name.now.place m c.in-Signal.s.number c.in-Signal.s.range c.in-Some.range there c.in-Some.is c.in_ok-name-in-Some.ensures

@@ -4,7 +4,7 @@ use Rattle.vs_ast.specs.Views as view
 use Rattle.vs_ast.proofs.Rows.{statement_rows, arm_rows}
 use Rattle.vs_ast.specs.declared.statements.Statement.{the_lemmas}
 use Rattle.vs_const.specs.Expressions.{typed}
-use Rattle.vs_hierarchy.specs.Statements.{typed_statement}
+use Rattle.vs_elaborated.specs.Statements.{typed_statement}
 use Rattle.vs_build.specs.Growth.{draft}
 use Rattle.vs_build.specs.Executable.{AreLabels, part_statements, labelled}
 use Rattle.vs_build.proofs.Executed.{adds_none, adds_these, adds_both, only_trees, one_tree, one_statement, labels_of, statements_of, other_view, conditional_of, executable_after, executable_is, one_branch, one_more, ends_in_parts, sequence_parts, sequence_arm, parts_count, each_part, part_levels, part_falls, parts_taken, parts_all, case_of_parts, choosable_after, arm_at, arms_more, arms_all, case_ends, subject_arms, subject_alone, subject_default, conditional_alone, conditional_else, case_arm, no_default, some_default, deep_default, arm_statement_falls}
@@ -54,12 +54,12 @@ statement-case-requires-in-Some-other-clause-ends g t c =
 
 pub statement-returns-in-None-other : goal.statement-returns-in-None-other
 statement-returns-in-None-other g t c =
-    case_arm c.case.result (draft c.args.builder.now) (draft c.arms.new.builder) (draft c.case.new.self) (g.E.Env.names c.args.env.now) c.args.s.now c.in-Case.place c.in-Case.kind c.in-Case.subject c.in-Case.list c.deref-in-None-other.result.now c.in-Case.other None _ 0 c.in-Case.is c.deref-in-None-other.ensures.value c.flat_case.ensures (no_default (g.E.Env.names c.args.env.now) c.in-Case.other c.in-None-other.is) refl
+    case_arm c.case.result (draft c.args.builder.now) (draft c.arms.new.builder) (draft c.case.new.self) (g.E.Env.names c.args.env.now) c.args.s.now c.in-Case.place c.in-Case.kind c.in-Case.subject c.in-Case.list c.deref-in-None-other.result.now c.in-Case.other None 0 c.in-Case.is c.deref-in-None-other.ensures.value (no_default (g.E.Env.names c.args.env.now) c.in-Case.other c.in-None-other.is) refl
     (subject_alone (draft c.args.builder.now) (draft c.arms.new.builder) (typed (view.expr c.in-Case.subject) (g.E.Env.names c.args.env.now) false).expression (labels_of (labelled (g.E.Env.names c.args.env.now) (view.arms c.in-Case.list.items))) (statements_of (labelled (g.E.Env.names c.args.env.now) (view.arms c.in-Case.list.items))) (1 + max (expr_depth (view.expr c.in-Case.subject)) (max (arms_depth (view.arms c.in-Case.list.items)) (fallback_depth (other_view c.in-Case.other)))) (subject_arms (draft c.args.builder.now) (draft c.operand-in-Case.new.builder) (draft c.arms.new.builder) (g.E.Env.names c.args.env.now) (view.expr c.in-Case.subject) c.in-Case.list.items c.deref-in-Case.result.now (1 + max (expr_depth (view.expr c.in-Case.subject)) (max (arms_depth (view.arms c.in-Case.list.items)) (fallback_depth (other_view c.in-Case.other)))) c.deref-in-Case.ensures.value c.in_ok-operand-in-Case.ensures c.in_ok-arms-in-Case.ensures (omega arith) (omega arith))) c.case.ensures
 
 pub statement-returns-in_ok-statement-in-Some-other : goal.statement-returns-in_ok-statement-in-Some-other
 statement-returns-in_ok-statement-in-Some-other g t c =
-    case_arm c.case-in-Some-other.result (draft c.args.builder.now) (draft c.statement-in-Some-other.new.builder) (draft c.case-in-Some-other.new.self) (g.E.Env.names c.args.env.now) c.args.s.now c.in-Case.place c.in-Case.kind c.in-Case.subject c.in-Case.list c.deref-in-Some-other-2.result.now c.in-Case.other (Some (typed_statement (view.statement c.in-Some-other.other.value) (g.E.Env.names c.args.env.now)).statement) _ 1 c.in-Case.is c.deref-in-Some-other-2.ensures.value c.flat_case-in-Some-other.ensures (some_default (g.E.Env.names c.args.env.now) c.in-Case.other c.in-Some-other.other c.in-Some-other.is) refl
+    case_arm c.case-in-Some-other.result (draft c.args.builder.now) (draft c.statement-in-Some-other.new.builder) (draft c.case-in-Some-other.new.self) (g.E.Env.names c.args.env.now) c.args.s.now c.in-Case.place c.in-Case.kind c.in-Case.subject c.in-Case.list c.deref-in-Some-other-2.result.now c.in-Case.other (Some (typed_statement (view.statement c.in-Some-other.other.value) (g.E.Env.names c.args.env.now)).statement) 1 c.in-Case.is c.deref-in-Some-other-2.ensures.value (some_default (g.E.Env.names c.args.env.now) c.in-Case.other c.in-Some-other.other c.in-Some-other.is) refl
     (subject_default (draft c.args.builder.now) (draft c.arms.new.builder) (draft c.statement-in-Some-other.new.builder) (typed (view.expr c.in-Case.subject) (g.E.Env.names c.args.env.now) false).expression (labels_of (labelled (g.E.Env.names c.args.env.now) (view.arms c.in-Case.list.items))) (statements_of (labelled (g.E.Env.names c.args.env.now) (view.arms c.in-Case.list.items))) (g.E.Env.names c.args.env.now) c.deref-in-Some-other.result.now c.in-Some-other.other.value (1 + max (expr_depth (view.expr c.in-Case.subject)) (max (arms_depth (view.arms c.in-Case.list.items)) (fallback_depth (other_view c.in-Case.other)))) c.deref-in-Some-other.ensures (subject_arms (draft c.args.builder.now) (draft c.operand-in-Case.new.builder) (draft c.arms.new.builder) (g.E.Env.names c.args.env.now) (view.expr c.in-Case.subject) c.in-Case.list.items c.deref-in-Case.result.now (1 + max (expr_depth (view.expr c.in-Case.subject)) (max (arms_depth (view.arms c.in-Case.list.items)) (fallback_depth (other_view c.in-Case.other)))) c.deref-in-Case.ensures.value c.in_ok-operand-in-Case.ensures c.in_ok-arms-in-Case.ensures (omega arith) (omega arith)) c.in_ok-statement-in-Some-other.ensures (omega (arith, deep_default c.in-Case.other c.in-Some-other.other c.in-Some-other.is))) c.case-in-Some-other.ensures
 
 pub statement-parts-requires : goal.statement-parts-requires

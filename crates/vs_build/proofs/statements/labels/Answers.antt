@@ -2,7 +2,7 @@ use Rattle.std.proofs.Common.{false, ◌+◌, map, take, sym, arith}
 use Rattle.vs_grammar.specs.Depths.{deepest, expr_depth}
 use Rattle.vs_ast.specs.Views as view
 use Rattle.vs_const.specs.Expressions.{typed}
-use Rattle.vs_hierarchy.specs.Statements.{typed_list}
+use Rattle.vs_elaborated.specs.Statements.{typed_list}
 use Rattle.vs_build.specs.Growth.{draft}
 use Rattle.vs_build.proofs.Lists.{parts_none, parts_more, parts_are}
 use Rattle.vs_build.proofs.Executed.{each_label, label_levels, labels_taken, labels_all}

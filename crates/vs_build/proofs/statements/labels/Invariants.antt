@@ -1,7 +1,7 @@
 use Rattle.std.proofs.Common.{◌+◌, map, take}
 use Rattle.vs_grammar.specs.Depths.{deepest, expr_depth}
 use Rattle.vs_ast.specs.Views as view
-use Rattle.vs_hierarchy.specs.Statements.{typed_list}
+use Rattle.vs_elaborated.specs.Statements.{typed_list}
 use Rattle.vs_build.specs.Drafts.{AddsParts}
 use Rattle.vs_build.specs.Growth.{draft}
 use Rattle.vs_build.proofs.statements.labels.Given as goal

@@ -2,7 +2,7 @@ use Rattle.std.proofs.Common.{◌≡◌, ◌<◌, ℕ, List, Vec, Global, Result
 use Rattle.std.specs.Prelude.{slice_get, IfOk}
 use Rattle.vs_design.specs.Clocks.{clock_nets, root_of, reads_clock, has_other_clock}
 use Rattle.vs_design.specs.Designs.{bit_count}
-use Rattle.vs_design.specs.Resets.{reset_inputs, has_other_form}
+use Rattle.vs_design.specs.Resets.{reset_inputs}
 use Rattle.vs_flat.specs.Arena.{Arena}
 use Rattle.vs_flat.specs.DesignOf.{design_of}
 use Rattle.vs_flat.specs.Lawful.{IsLawful}
@@ -14,7 +14,7 @@ use Rattle.vs_clock.specs.declared.resets.Reset.{Reset}
 use Rattle.vs_clock.specs.Found.{AreForms}
 use Rattle.vs_clock.specs.Resets.{AreAllResets, HasInputs}
 use Rattle.vs_clock.specs.Tests.{IsFirst}
-use Rattle.vs_clock.proofs.ByKind.{place_at_is}
+use Rattle.vs_reads.proofs.ByKind.{place_at_is}
 use Rattle.vs_clock.proofs.Resetting.{have_inputs}
 use Rattle.vs_clock.proofs.Refusing.{is_read, is_other, is_formless, none_refused, clock_below, clock_found, carried, first_there}
 use Rattle.vs_clock.proofs.clocked.check.Goals as goal

@@ -1,8 +1,8 @@
 use Rattle.std.proofs.Common.{sym, ◌∙◌, arith}
 use Rattle.vs_design.specs.Clocks.{reads_clock, clock_nets}
 use Rattle.vs_flat.specs.DesignOf.{design_of}
-use Rattle.vs_clock.proofs.Numbered.{process_there}
-use Rattle.vs_clock.proofs.Told.{there}
+use Rattle.vs_reads.proofs.Numbered.{process_there}
+use Rattle.vs_reads.proofs.Told.{there}
 use Rattle.vs_clock.proofs.Ruled.{none_more, first_is, none_is}
 use Rattle.vs_clock.proofs.first.first_reading.Goals as goal
 

@@ -1,5 +1,4 @@
 use Rattle.std.proofs.Common.{◌<◌, arith, ap, ◌∙◌}
-use Rattle.vs_flat.specs.Operators.{edge_of}
 use Rattle.vs_clock.specs.Forms.{if_branch}
 use Rattle.vs_clock.proofs.Branches.{if_below, part_below, part_same, parts_none}
 use Rattle.vs_clock.proofs.form.+branch_of.Goals as goal
@@ -16,8 +15,8 @@ returns-then-is_reset_condition-clause-there t c =
 
 pub returns-then-len-eq1-clause-branch : goal.returns-then-len-eq1-clause-branch
 returns-then-len-eq1-clause-branch t c =
-    c.branch_of.ensures.branch ∙ ap (if_branch (edge_of c.args.edge) c.args.bit) (part_same c.trees_law.ensures.statements c.args.flat.now c.requires.lawful.names c.args.s c.statement.result.now c.in-Seq.parts c.get.result.now c.statement.ensures c.in-Seq.is (omega (arith, c.len.ensures, c.if-len-eq1.true)) c.get.ensures)
+    c.branch_of.ensures.branch ∙ ap (if_branch c.args.edge c.args.bit) (part_same c.trees_law.ensures.statements c.args.flat.now c.requires.lawful.names c.args.s c.statement.result.now c.in-Seq.parts c.get.result.now c.statement.ensures c.in-Seq.is (omega (arith, c.len.ensures, c.if-len-eq1.true)) c.get.ensures)
 
 pub returns-else-len-eq1-clause-branch : goal.returns-else-len-eq1-clause-branch
 returns-else-len-eq1-clause-branch t c =
-    parts_none c.trees_law.ensures.statements c.args.flat.now c.requires.lawful.names c.args.s c.statement.result.now c.in-Seq.parts (edge_of c.args.edge) c.args.bit c.statement.ensures c.in-Seq.is (λ l. c.if-len-eq1.false (omega (arith, l, c.len.ensures)))
+    parts_none c.trees_law.ensures.statements c.args.flat.now c.requires.lawful.names c.args.s c.statement.result.now c.in-Seq.parts c.args.edge c.args.bit c.statement.ensures c.in-Seq.is (λ l. c.if-len-eq1.false (omega (arith, l, c.len.ensures)))

@@ -1,7 +1,7 @@
 use Rattle.std.proofs.Common.{◌<◌, length, sym, ◌∙◌}
 use Rattle.vs_flat.specs.DesignOf.{arena_signals}
 use Rattle.vs_clock.specs.Inputs.{is_named_input}
-use Rattle.vs_clock.proofs.Told.{there}
+use Rattle.vs_reads.proofs.Told.{there}
 use Rattle.vs_clock.proofs.Finding.{find_more, find_at}
 use Rattle.vs_clock.proofs.inputs.find_clock.Goals as goal
 

@@ -1,6 +1,5 @@
-use Rattle.std.proofs.Common.{◌≡◌, ℕ, List, Bool, Result, Ok, Err, false, filter, sym, ap, ◌∙◌}
+use Rattle.std.proofs.Common.{List, Bool, Result, Ok, Err, false, filter, ap, ◌∙◌}
 use Rattle.std.specs.Prelude.{IfOk, slice_index_or}
-use Rattle.vs_flat.specs.DesignOf.{design_of}
 use Rattle.vs_clock.proofs.Resetting.{inputs_are}
 use Rattle.vs_clock.proofs.marks.inputs_of.Goals as goal
 

@@ -1,4 +1,4 @@
-use Rattle.std.proofs.Common.{◌≡◌, ◌+◌, ◌<◌, ℕ, List, Bool, Vec, Global, true, false, length, take, set, sym, ap, ◌∙◌, subst}
+use Rattle.std.proofs.Common.{◌≡◌, ◌+◌, ℕ, List, Bool, Vec, Global, false, length, take, sym, ap, subst}
 use Rattle.std.specs.Prelude.{slice_index_or}
 use Rattle.vs_clock.specs.Resets.{has_input}
 use Rattle.vs_clock.proofs.Resetting.{input_here, input_marked, none_marked}

@@ -1,5 +1,6 @@
 use Rattle.std.proofs.Common.{◌∙◌}
-use Rattle.vs_clock.proofs.ByKind.{target_there, expr_there, copied_by}
+use Rattle.vs_clock.proofs.ByKind.{copied_by}
+use Rattle.vs_reads.proofs.ByKind.{target_there, expr_there}
 use Rattle.vs_clock.proofs.ports.copied_bits.Goals as goal
 
 pub bits_of_assign-requires-clause-target : goal.bits_of_assign-requires-clause-target

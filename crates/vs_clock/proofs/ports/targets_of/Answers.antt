@@ -3,8 +3,8 @@ use Rattle.std.proofs.Math.ListN.{length-set}
 use Rattle.vs_design.specs.Designs.{bit_count}
 use Rattle.vs_flat.specs.DesignOf.{design_of}
 use Rattle.vs_clock.specs.Ports.{AreTargets}
-use Rattle.vs_clock.proofs.Numbered.{process_there}
-use Rattle.vs_clock.proofs.Told.{there}
+use Rattle.vs_reads.proofs.Numbered.{process_there}
+use Rattle.vs_reads.proofs.Told.{there}
 use Rattle.vs_clock.proofs.Least.{all_targets}
 use Rattle.vs_clock.proofs.Copies.{copy_below, targets_more, targets_same}
 use Rattle.vs_clock.proofs.ports.targets_of.Goals as goal

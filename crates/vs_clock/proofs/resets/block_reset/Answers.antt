@@ -1,9 +1,9 @@
-use Rattle.std.proofs.Common.{◌≡◌, ◌<◌, ℕ, List, Result, Ok, Err, Some, None, length, sym, ap, ◌∙◌, subst}
+use Rattle.std.proofs.Common.{◌≡◌, ◌<◌, ℕ, List, Result, Ok, Err, Some, length, sym, subst}
 use Rattle.std.specs.Prelude.{slice_get, IfOk}
 use Rattle.vs_flat.specs.declared.processes.Event.{Event}
 use Rattle.vs_flat.specs.Arena.{Arena}
-use Rattle.vs_flat.specs.Trees.{signal_at, statement_at}
-use Rattle.vs_flat.specs.DesignOf.{arena_signals, arena_statements, design_of, event_of}
+use Rattle.vs_flat.specs.Trees.{signal_at}
+use Rattle.vs_flat.specs.DesignOf.{arena_signals, event_of}
 use Rattle.vs_clock.specs.declared.events.BlockEvents.TheVariants.{Clock, Reset, Other}
 use Rattle.vs_clock.proofs.Ruled.{events_below, statement_there, statement_fits, moved}
 use Rattle.vs_clock.proofs.Resetting.{assign_absent, none_absent, clock_absent, reset_found}

@@ -1,14 +1,13 @@
-use Rattle.std.proofs.Common.{◌≡◌, ◌+◌, ◌∷◌, [], ◌++◌, ℕ, List, Vec, Global, Option, Some, None, length, sym, ap, ◌∙◌, subst, arith}
+use Rattle.std.proofs.Common.{◌≡◌, ◌+◌, ℕ, List, Vec, Global, Option, Some, None, length, sym, ap, ◌∙◌, subst, arith}
 use Rattle.std.proofs.lemmas.List.{length_push}
 use Rattle.vs_flat.specs.Arena.{Arena}
 use Rattle.vs_flat.specs.DesignOf.{design_of}
 use Rattle.vs_clock.specs.declared.resets.Reset.{Reset}
 use Rattle.vs_clock.specs.declared.resets.BlockReset.{BlockReset}
-use Rattle.vs_clock.specs.declared.resets.BlockReset.TheVariants as B
 use Rattle.vs_clock.specs.Found.{other_form, IsBlockReset}
 use Rattle.vs_clock.specs.Nets.{AreNets}
-use Rattle.vs_clock.proofs.Numbered.{process_there}
-use Rattle.vs_clock.proofs.Told.{there}
+use Rattle.vs_reads.proofs.Numbered.{process_there}
+use Rattle.vs_reads.proofs.Told.{there}
 use Rattle.vs_clock.proofs.Ruled.{first_is}
 use Rattle.vs_clock.proofs.Resetting.{AreBefore, one_more, all_resets}
 use Rattle.vs_clock.proofs.resets.resets_of.Goals as goal

@@ -3,7 +3,7 @@ use Rattle.vs_design.specs.Footprints.{contains}
 use Rattle.vs_flat.specs.DesignOf.{design_of}
 use Rattle.vs_clock.specs.Roots.{AreRoots}
 use Rattle.vs_clock.specs.Spread.{targets_at, has_label, Spreads}
-use Rattle.vs_clock.proofs.Tests.{member_at}
+use Rattle.vs_reads.proofs.Tests.{member_at}
 use Rattle.vs_clock.proofs.Least.{targets_below, roots_more, roots_closed, seam}
 use Rattle.vs_clock.proofs.roots.roots_of.Goals as goal
 

@@ -5,7 +5,7 @@ use Rattle.vs_design.specs.Clocks.{clock_nets, root_of, events_of}
 use Rattle.vs_flat.specs.declared.processes.Event.{Event}
 use Rattle.vs_flat.specs.Trees.{signal_at}
 use Rattle.vs_flat.specs.DesignOf.{arena_signals, design_of, event_of}
-use Rattle.vs_clock.specs.Tests.{is_edge_event}
+use Rattle.vs_flat.specs.Events.{is_edge_event}
 use Rattle.vs_clock.proofs.Ruled.{not_edge, other_by, events_below, seen_none, seen_clock, seen_reset}
 use Rattle.vs_clock.proofs.rules.is_other.Goals as goal
 

@@ -3,7 +3,7 @@ use Rattle.vs_design.specs.Clocks.{clock_nets}
 use Rattle.vs_design.specs.Designs.{bit_count}
 use Rattle.vs_flat.specs.DesignOf.{design_of}
 use Rattle.vs_reads.specs.Footprint.{reads_at, waits_at}
-use Rattle.vs_clock.proofs.Told.{told}
+use Rattle.vs_reads.proofs.Told.{told}
 use Rattle.vs_clock.proofs.Ruled.{any_clock, reads_no, reads_first, reads_last}
 use Rattle.vs_clock.proofs.rules.is_reading.Goals as goal
 

@@ -1,6 +1,6 @@
 use Rattle.std.proofs.Common.{ℕ, ◌+◌, ◌<◌, List, [], ◌∷◌, ◌++◌, Option, Vec, Global, take, get_or, sym, ap, ◌∙◌, subst}
 use Rattle.vs_clock.specs.Spread.{label_at, Labels}
-use Rattle.vs_clock.proofs.Tests.{member_at}
+use Rattle.vs_reads.proofs.Tests.{member_at}
 use Rattle.vs_clock.proofs.Spreading.{label_had, label_got, none_by, some_by}
 use Rattle.vs_clock.proofs.spread.label_all.Goals as goal
 use Rattle.vs_clock.proofs.spread.label_all.Goals.{then-is_none+in_ok-push, else-is_none}

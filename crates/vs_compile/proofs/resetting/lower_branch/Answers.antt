@@ -1,7 +1,6 @@
 use Rattle.std.proofs.Common.{◌++◌, Bool, List, Result, Ok, Err, sym, ap, ◌∙◌, subst}
 use Rattle.std.specs.Prelude.{OnOk}
 use Rattle.vs_flat.specs.Arena.{bit_count}
-use Rattle.vs_flat.specs.Operators.{edge_of}
 use Rattle.vs_clock.specs.Resets.{plain_branch, plain_reset}
 use Rattle.vs_code.specs.Calls.{Call}
 use Rattle.vs_lower.specs.Resetting.{HasResetRoom, IsResetOf}
@@ -15,7 +14,7 @@ on_ok (Err e) h k = h
 
 pub reset-done-requires-clause-ready : goal.reset-done-requires-clause-ready
 reset-done-requires-clause-ready c =
-    ready_as (bit_count c.args.typed.now.signals) c.from-code.result c.args.program.now c.args.first_temp (falls (edge_of c.args.reset.edge)) c.falls.result c.args.reset.input (plain_branch c.args.typed.now c.args.reset)
+    ready_as (bit_count c.args.typed.now.signals) c.from-code.result c.args.program.now c.args.first_temp (falls c.args.reset.edge) c.falls.result c.args.reset.input (plain_branch c.args.typed.now c.args.reset)
     (c.from-code.ensures.calls ∙ c.replace-calls.ensures.value) c.from-code.ensures.next c.falls.ensures c.requires.ready
 
 pub returns : goal.returns

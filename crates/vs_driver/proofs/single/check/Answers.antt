@@ -4,7 +4,8 @@ use Rattle.std.proofs.lemmas.List.{get_or_default}
 use Rattle.vs_flat.specs.Arena.{Arena}
 use Rattle.vs_flat.specs.DesignOf.{design_of}
 use Rattle.vs_driver.specs.declared.drivers.Drivers.TheVariants.{Nobody}
-use Rattle.vs_driver.proofs.ByKind.{place_at_is, second_there}
+use Rattle.vs_driver.proofs.ByKind.{second_there}
+use Rattle.vs_reads.proofs.ByKind.{place_at_is}
 use Rattle.vs_driver.proofs.Least.{is_two, none_refused, two_refused, writes_below}
 use Rattle.vs_driver.proofs.single.check.Goals as goal
 

@@ -1,6 +1,6 @@
 use Rattle.std.proofs.Common.{◌<◌, get_or, refl, sym, subst}
 use Rattle.std.proofs.lemmas.List.{take_all}
-use Rattle.vs_driver.proofs.Tests.{member_at}
+use Rattle.vs_reads.proofs.Tests.{member_at}
 use Rattle.vs_driver.proofs.Counting.{AreNoted, one_noted}
 use Rattle.vs_driver.proofs.table.note.Goals as goal
 

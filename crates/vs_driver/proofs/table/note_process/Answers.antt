@@ -6,8 +6,10 @@ use Rattle.vs_design.specs.Rules.{times}
 use Rattle.vs_flat.specs.Arena.{Arena}
 use Rattle.vs_flat.specs.DesignOf.{design_of}
 use Rattle.vs_reads.specs.Footprint.{writes_at}
-use Rattle.vs_driver.proofs.ByKind.{block_noted, kind_is, target_is, target_there}
-use Rattle.vs_driver.proofs.Told.{told, below_length}
+use Rattle.vs_driver.proofs.ByKind.{block_noted, target_is}
+use Rattle.vs_reads.proofs.ByKind.{target_there}
+use Rattle.vs_reads.proofs.ByKind.{kind_is}
+use Rattle.vs_reads.proofs.Told.{told, below_length}
 use Rattle.vs_driver.proofs.Counting.{process_noted}
 use Rattle.vs_driver.proofs.table.note_process.Goals as goal
 

@@ -3,7 +3,7 @@ use Rattle.vs_grammar.specs.Trees as tree
 use Rattle.vs_ast.specs.Views as view
 use Rattle.vs_const.specs.declared.faults.Fault.{Fault}
 use Rattle.vs_const.specs.Faults.{least}
-use Rattle.vs_hierarchy.specs.Surveys.{items_said}
+use Rattle.vs_elaborated.specs.Surveys.{items_said}
 use Rattle.vs_scope.specs.Contents.{contents_items}
 use Rattle.vs_elab.specs.Stated.{AreStated}
 use Rattle.vs_elab.proofs.Repeats.{items_are}

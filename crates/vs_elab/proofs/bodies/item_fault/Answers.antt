@@ -5,8 +5,8 @@ use Rattle.vs_ast.specs.declared.items.Assign.{Assign}
 use Rattle.vs_ast.specs.Views as view
 use Rattle.vs_const.specs.declared.faults.Fault.{Fault}
 use Rattle.vs_const.specs.Faults.{least}
-use Rattle.vs_hierarchy.specs.Pieces.{all_said}
-use Rattle.vs_hierarchy.specs.Surveys.{assign_said, wire_said, item_said}
+use Rattle.vs_elaborated.specs.Pieces.{all_said}
+use Rattle.vs_elaborated.specs.Surveys.{assign_said, wire_said, item_said}
 use Rattle.vs_scope.specs.Frames.{view_env}
 use Rattle.vs_elab.proofs.BodyFaults.{assigns_alike, wires_alike}
 use Rattle.vs_elab.proofs.bodies.item_fault.Goals as goal

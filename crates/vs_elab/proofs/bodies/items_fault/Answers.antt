@@ -3,8 +3,8 @@ use Rattle.std.proofs.lemmas.List.{take_all}
 use Rattle.vs_ast.specs.declared.items.Item.{Item}
 use Rattle.vs_ast.specs.Views as view
 use Rattle.vs_const.specs.Faults.{least}
-use Rattle.vs_hierarchy.specs.Generate.{Made}
-use Rattle.vs_hierarchy.specs.Surveys.{items_said}
+use Rattle.vs_elaborated.specs.Generate.{Made}
+use Rattle.vs_elaborated.specs.Surveys.{items_said}
 use Rattle.vs_elab.specs.Stated.{IsStated}
 use Rattle.vs_elab.proofs.FaultLists.{each_at}
 use Rattle.vs_elab.proofs.ItemLists.{made_at, all_made}

@@ -1,7 +1,7 @@
 use Rattle.std.proofs.Common.{◌≤◌, [], ℕ, sym, ap, ◌∙◌, subst}
 use Rattle.vs_const.specs.Faults.{least, better}
 use Rattle.vs_const.proofs.Least.{least_append}
-use Rattle.vs_hierarchy.specs.Surveys.{items_said, processes_over}
+use Rattle.vs_elaborated.specs.Surveys.{items_said, processes_over}
 use Rattle.vs_scope.specs.Contents.{contents_items}
 use Rattle.vs_elab.proofs.BodyFaults.{none_counted, better_second}
 use Rattle.vs_elab.proofs.bodies.said_items.Goals as goal

@@ -5,7 +5,7 @@ use Rattle.vs_elab.proofs.ConnectedApart.{are_apart}
 use Rattle.vs_ast.specs.Views as view
 use Rattle.vs_const.specs.Faults.{least, better}
 use Rattle.vs_const.proofs.Least.{least_append}
-use Rattle.vs_hierarchy.specs.Instances.{connected_names}
+use Rattle.vs_elaborated.specs.Instances.{connected_names}
 use Rattle.vs_scope.specs.Maps.{value_at}
 use Rattle.vs_scope.specs.MapViews.{pairs}
 use Rattle.vs_elab.specs.Noted.{AreFirst, named}
@@ -24,11 +24,11 @@ loop-connection-preserved g c =
     record {
       seen =
           subst (λ xs. AreFirst (pairs c.note.new.map) (map named_only xs)) (sym next)
-          (subst (AreFirst (pairs c.note.new.map)) (ap (λ n. map named_only cs ++ named n tt ∷ []) c.as_bytes-name.ensures ∙ sym (map-append named_only cs (d ∷ []))) (c.in_ok-again.ensures.first (map named_only cs) before.seen));
+          (subst (AreFirst (pairs c.note.new.map)) (ap (λ n. map named_only cs ++ named n tt ∷ []) c.as_slice-name.ensures ∙ sym (map-append named_only cs (d ∷ []))) (c.in_ok-again.ensures.first (map named_only cs) before.seen));
       fault =
           c.first_of-fault.ensures ∙ ap (λ a. better a c.wrong_name.result) before.fault
           ∙ ap (better (least (connected_names k [] cs)))
-          (c.wrong_name.ensures ∙ ap (λ b. least (name_faults k b d.name)) (c.in_ok-again.ensures.had ∙ ap (λ n. is_some (value_at n (pairs c.loop-connection.seen))) c.as_bytes-name.ensures ∙ ap is_some (before.seen.each d.name.bytes)))
+          (c.wrong_name.ensures ∙ ap (λ b. least (name_faults k b d.name)) (c.in_ok-again.ensures.had ∙ ap (λ n. is_some (value_at n (pairs c.loop-connection.seen))) c.as_slice-name.ensures ∙ ap is_some (before.seen.each d.name.bytes)))
           ∙ sym (least_append (connected_names k [] cs) (name_faults k (is_again cs d.name.bytes) d.name))
           ∙ ap least (sym (connected_more k cs d))
           ∙ ap (λ xs. least (connected_names k [] xs)) (sym next);

@@ -1,7 +1,7 @@
 use Rattle.std.proofs.Common.{◌≡◌, [], map, take}
 use Rattle.vs_ast.specs.Views as view
 use Rattle.vs_const.specs.Faults.{least}
-use Rattle.vs_hierarchy.specs.Instances.{connected_names}
+use Rattle.vs_elaborated.specs.Instances.{connected_names}
 use Rattle.vs_scope.specs.MapViews.{pairs}
 use Rattle.vs_elab.specs.Noted.{AreFirst}
 use Rattle.vs_elab.specs.Connected.{is_known}

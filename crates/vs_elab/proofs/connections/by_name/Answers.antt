@@ -1,7 +1,7 @@
 use Rattle.std.proofs.Common.{◌≡◌, ◌++◌, [], get_or, None, map, flat_map, take, refl, sym, ap, ◌∙◌}
 use Rattle.std.proofs.lemmas.List.{take_all}
 use Rattle.vs_ast.specs.Views as view
-use Rattle.vs_hierarchy.specs.Ports.{Port}
+use Rattle.vs_elaborated.specs.Ports.{Port}
 use Rattle.vs_elab.specs.declared.ports.Port.{Port as Port'}
 use Rattle.vs_elab.specs.Ports.{port_of}
 use Rattle.vs_elab.specs.Connections.{connected_at}

@@ -1,8 +1,8 @@
 use Rattle.std.proofs.Common.{◌≡◌, List, map, flat_map, take}
 use Rattle.vs_grammar.specs.Trees as tree
 use Rattle.vs_grammar.specs.Shapes.{Each}
-use Rattle.vs_hierarchy.specs.Environments.{Env}
-use Rattle.vs_hierarchy.specs.Ports as spec
+use Rattle.vs_elaborated.specs.Environments.{Env}
+use Rattle.vs_elaborated.specs.Ports as spec
 use Rattle.vs_scope.specs.MapViews.{pairs}
 use Rattle.vs_elab.specs.Connections.{said, AreNamed, connected_at}
 use Rattle.vs_elab.specs.Fine.{IsFineConnected, IsFineNamed}

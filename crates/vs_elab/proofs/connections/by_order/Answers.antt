@@ -1,7 +1,7 @@
 use Rattle.std.proofs.Common.{◌≡◌, List, sym, ap, ◌∙◌, option_map}
 use Rattle.std.specs.Prelude.{slice_get}
 use Rattle.std.proofs.lemmas.Option.{slice_get-map}
-use Rattle.vs_hierarchy.specs.Ports.{Port}
+use Rattle.vs_elaborated.specs.Ports.{Port}
 use Rattle.vs_elab.specs.Connections.{said}
 use Rattle.vs_elab.specs.PortTables.{ArePorts}
 use Rattle.vs_elab.specs.Ports.{port_of}

@@ -1,9 +1,9 @@
 use Rattle.std.proofs.Common.{◌≡◌, ◌++◌, List, map, drop}
 use Rattle.vs_grammar.specs.Shapes.{Each}
 use Rattle.vs_ast.specs.Views as view
-use Rattle.vs_hierarchy.specs.Environments.{Env}
-use Rattle.vs_hierarchy.specs.Instances.{connected_by_order}
-use Rattle.vs_hierarchy.specs.Ports as spec
+use Rattle.vs_elaborated.specs.Environments.{Env}
+use Rattle.vs_elaborated.specs.Instances.{connected_by_order}
+use Rattle.vs_elaborated.specs.Ports as spec
 use Rattle.vs_elab.specs.Connections.{said}
 use Rattle.vs_elab.specs.Fine.{AreFineOrdered, IsFineConnected}
 use Rattle.vs_elab.specs.PortTables.{ArePorts}

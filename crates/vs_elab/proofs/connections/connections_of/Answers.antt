@@ -7,9 +7,10 @@ use Rattle.vs_ast.specs.declared.items.NamedConnection.{NamedConnection}
 use Rattle.vs_ast.specs.declared.items.Connections.{Connections}
 use Rattle.vs_ast.specs.Views as view
 use Rattle.vs_const.specs.Faults.{least, fault_if}
+use Rattle.vs_const.specs.declared.rules.Rule.TheVariants.{PortCount}
 use Rattle.vs_const.proofs.Formed.{both_nil}
-use Rattle.vs_hierarchy.specs.Ports.{ports_of}
-use Rattle.vs_hierarchy.specs.Instances.{connected_names, is_port, has_wrong_count, connected_by_name, connected_by_order, in_port_order, said_connections}
+use Rattle.vs_elaborated.specs.Ports.{ports_of}
+use Rattle.vs_elaborated.specs.Instances.{connected_names, is_port, has_wrong_count, connected_by_name, connected_by_order, in_port_order, said_connections}
 use Rattle.vs_elab.specs.Connections.{AreApart, said}
 use Rattle.vs_elab.specs.Fine.{AreFineOrdered, IsFineNamed}
 use Rattle.vs_elab.proofs.ConnectedApart.{are_apart}
@@ -29,7 +30,7 @@ returns-in-ByOrder c = record {
       let none = subst (λ (x : Connections). (said_connections (Some m) name (view.connections x) env).faults ≡ []) c.in-ByOrder.is clean in
       c.by_order.ensures.fine (ports_of m) env i.ports
       (subst (λ (xs : List (Option Expr)). AreFineOrdered (ports_of m) 0 env (map (view.option view.expr) xs)) (sym c.deref.ensures.value)
-      (are_fine_ordered (ports_of m) env es s d (both_nil (fault_if (has_wrong_count (Some m) (length es)) 38 name.place) (connected_by_order (ports_of m) 0 es env).faults none).1));
+      (are_fine_ordered (ports_of m) env es s d (both_nil (fault_if (has_wrong_count (Some m) (length es)) PortCount name.place) (connected_by_order (ports_of m) 0 es env).faults none).1));
 }
 
 pub returns-in-ByName : goal.returns-in-ByName

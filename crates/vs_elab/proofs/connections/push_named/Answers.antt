@@ -1,8 +1,8 @@
 use Rattle.std.proofs.Common.{◌≡◌, ◌++◌, Option, Some, None, option_map, sym, ap, ◌∙◌, subst}
 use Rattle.std.specs.Prelude.{OnOk}
 use Rattle.std.proofs.lemmas.List.{append-nil}
-use Rattle.vs_hierarchy.specs.Ports.{Port}
-use Rattle.vs_hierarchy.specs.Instances.{connected}
+use Rattle.vs_elaborated.specs.Ports.{Port}
+use Rattle.vs_elaborated.specs.Instances.{connected}
 use Rattle.vs_scope.specs.MapViews.{pairs}
 use Rattle.vs_elab.specs.Connections.{said, connected_if}
 use Rattle.vs_elab.specs.Fine.{IsFineValue}

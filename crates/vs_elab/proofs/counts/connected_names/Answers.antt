@@ -4,7 +4,7 @@ use Rattle.std.proofs.lemmas.List.{take_all}
 use Rattle.vs_grammar.specs.Trees as tree
 use Rattle.vs_ast.specs.declared.items.NamedConnection.{NamedConnection}
 use Rattle.vs_ast.specs.Views as view
-use Rattle.vs_hierarchy.specs.Instances.{connected_by_name}
+use Rattle.vs_elaborated.specs.Instances.{connected_by_name}
 use Rattle.vs_scope.specs.Maps.{value_at}
 use Rattle.vs_scope.specs.MapViews.{pairs}
 use Rattle.vs_elab.specs.Counts.{HasNames}

@@ -1,8 +1,8 @@
 use Rattle.std.proofs.Common.{List, map, take}
 use Rattle.vs_ast.specs.Views as view
-use Rattle.vs_hierarchy.specs.Environments.{Env}
-use Rattle.vs_hierarchy.specs.Ports.{Port}
-use Rattle.vs_hierarchy.specs.Instances.{connected_by_name}
+use Rattle.vs_elaborated.specs.Environments.{Env}
+use Rattle.vs_elaborated.specs.Ports.{Port}
+use Rattle.vs_elaborated.specs.Instances.{connected_by_name}
 use Rattle.vs_scope.specs.MapViews.{pairs}
 use Rattle.vs_elab.specs.Counts.{HasNames}
 use Rattle.vs_elab.specs.PortTables.{ArePorts}

@@ -4,8 +4,8 @@ use Rattle.vs_ast.specs.declared.expressions.Expr.{Expr}
 use Rattle.vs_ast.specs.declared.items.NamedConnection.{NamedConnection}
 use Rattle.vs_ast.specs.declared.items.Connections.{Connections}
 use Rattle.vs_ast.specs.Views as view
-use Rattle.vs_hierarchy.specs.Ports.{ports_of}
-use Rattle.vs_hierarchy.specs.Instances.{connected_by_name, in_port_order, said_connections}
+use Rattle.vs_elaborated.specs.Ports.{ports_of}
+use Rattle.vs_elaborated.specs.Instances.{connected_by_name, in_port_order, said_connections}
 use Rattle.vs_elab.proofs.counts.connection_count.Goals as goal
 
 pub returns-in-ByOrder : goal.returns-in-ByOrder

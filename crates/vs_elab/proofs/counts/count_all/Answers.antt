@@ -2,9 +2,9 @@ use Rattle.std.proofs.Common.{◌++◌, ◌+◌, List, Some, map, take, refl, sy
 use Rattle.std.proofs.lemmas.List.{take_all}
 use Rattle.vs_ast.specs.declared.items.Instance.{Instance}
 use Rattle.vs_ast.specs.Views as view
-use Rattle.vs_hierarchy.specs.Environments.{no_env}
-use Rattle.vs_hierarchy.specs.Pieces.{OfModule, Instance as InstancePiece, all_said}
-use Rattle.vs_hierarchy.specs.Instances.{instance_said, said_connections}
+use Rattle.vs_elaborated.specs.Environments.{no_env}
+use Rattle.vs_elaborated.specs.Pieces.{OfModule, Instance as InstancePiece, all_said}
+use Rattle.vs_elaborated.specs.Instances.{instance_said, said_connections}
 use Rattle.vs_elab.specs.Counts.{IsCounted}
 use Rattle.vs_elab.proofs.CountSteps.{counted_nothing, counted_list}
 use Rattle.vs_elab.proofs.counts.count_all.Goals as goal

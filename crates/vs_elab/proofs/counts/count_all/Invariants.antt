@@ -1,9 +1,9 @@
 use Rattle.std.proofs.Common.{◌≡◌, ◌++◌, ℕ, List, Some, map, take}
 use Rattle.vs_grammar.specs.Trees as tree
 use Rattle.vs_ast.specs.Views as view
-use Rattle.vs_hierarchy.specs.Parameters.{Override}
-use Rattle.vs_hierarchy.specs.Pieces.{Piece, all_said}
-use Rattle.vs_hierarchy.specs.Instances.{Around, instance_said}
+use Rattle.vs_elaborated.specs.Parameters.{Override}
+use Rattle.vs_elaborated.specs.Pieces.{Piece, all_said}
+use Rattle.vs_elaborated.specs.Instances.{Around, instance_said}
 use Rattle.vs_elab.specs.Counts.{IsCounted}
 use Rattle.vs_elab.specs.Interfaces.{IsInterface}
 use Rattle.vs_elab.proofs.counts.count_all.Given as goal

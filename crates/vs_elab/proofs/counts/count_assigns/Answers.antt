@@ -2,9 +2,9 @@ use Rattle.std.proofs.Common.{◌++◌, List, map, take, refl, ◌∙◌, subst}
 use Rattle.std.proofs.lemmas.List.{take_all}
 use Rattle.vs_ast.specs.declared.items.Assign.{Assign}
 use Rattle.vs_ast.specs.Views as view
-use Rattle.vs_hierarchy.specs.Environments.{named}
-use Rattle.vs_hierarchy.specs.Pieces.{Own, all_said}
-use Rattle.vs_hierarchy.specs.Surveys.{assign_said}
+use Rattle.vs_elaborated.specs.Environments.{named}
+use Rattle.vs_elaborated.specs.Pieces.{Own, all_said}
+use Rattle.vs_elaborated.specs.Surveys.{assign_said}
 use Rattle.vs_build.specs.Writable.{assign_process}
 use Rattle.vs_elab.specs.Counts.{IsCounted}
 use Rattle.vs_elab.proofs.CountSteps.{counted_nothing, counted_any}

@@ -1,8 +1,8 @@
 use Rattle.std.proofs.Common.{◌≡◌, ◌++◌, ℕ, List, map, take}
 use Rattle.vs_ast.specs.Views as view
-use Rattle.vs_hierarchy.specs.Environments.{Env}
-use Rattle.vs_hierarchy.specs.Pieces.{Piece, all_said}
-use Rattle.vs_hierarchy.specs.Surveys.{assign_said}
+use Rattle.vs_elaborated.specs.Environments.{Env}
+use Rattle.vs_elaborated.specs.Pieces.{Piece, all_said}
+use Rattle.vs_elaborated.specs.Surveys.{assign_said}
 use Rattle.vs_elab.specs.Counts.{IsCounted}
 use Rattle.vs_elab.proofs.counts.count_assigns.Given as goal
 

@@ -2,9 +2,9 @@ use Rattle.std.proofs.Common.{◌++◌, List, Option, Some, map, subst, OnOk}
 use Rattle.vs_grammar.specs.Trees as tree
 use Rattle.vs_ast.specs.declared.items.Instance.{Instance}
 use Rattle.vs_ast.specs.Views as view
-use Rattle.vs_hierarchy.specs.Pieces.{all_said}
-use Rattle.vs_hierarchy.specs.Ports.{find_module}
-use Rattle.vs_hierarchy.specs.Instances.{instance_said, said_overrides}
+use Rattle.vs_elaborated.specs.Pieces.{all_said}
+use Rattle.vs_elaborated.specs.Ports.{find_module}
+use Rattle.vs_elaborated.specs.Instances.{instance_said, said_overrides}
 use Rattle.vs_elab.specs.Counts.{IsCounted}
 use Rattle.vs_elab.specs.Interfaces.{IsKnown}
 use Rattle.vs_elab.proofs.CountSteps.{unknown_counted, known_counted}

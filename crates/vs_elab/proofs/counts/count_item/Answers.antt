@@ -2,10 +2,10 @@ use Rattle.std.proofs.Common.{◌++◌, refl, sym, subst, OnOk}
 use Rattle.vs_design.specs.Designs.{Always}
 use Rattle.vs_ast.specs.declared.items.Item.{Item}
 use Rattle.vs_ast.specs.Views as view
-use Rattle.vs_hierarchy.specs.Environments.{named}
-use Rattle.vs_hierarchy.specs.Statements.{typed_control, typed_statement}
-use Rattle.vs_hierarchy.specs.Pieces.{Own}
-use Rattle.vs_hierarchy.specs.Surveys.{item_said}
+use Rattle.vs_elaborated.specs.Environments.{named}
+use Rattle.vs_elaborated.specs.Statements.{typed_control, typed_statement}
+use Rattle.vs_elaborated.specs.Pieces.{Own}
+use Rattle.vs_elaborated.specs.Surveys.{item_said}
 use Rattle.vs_elab.specs.Counts.{IsCounted}
 use Rattle.vs_elab.proofs.ItemLists.{other_counted, are_others}
 use Rattle.vs_elab.proofs.counts.count_item.Goals as goal

@@ -2,8 +2,8 @@ use Rattle.std.proofs.Common.{◌++◌, List, map, take, refl, ◌∙◌, subst,
 use Rattle.std.proofs.lemmas.List.{take_all}
 use Rattle.vs_ast.specs.declared.items.Item.{Item}
 use Rattle.vs_ast.specs.Views as view
-use Rattle.vs_hierarchy.specs.Generate.{Made}
-use Rattle.vs_hierarchy.specs.Surveys.{items_said}
+use Rattle.vs_elaborated.specs.Generate.{Made}
+use Rattle.vs_elaborated.specs.Surveys.{items_said}
 use Rattle.vs_elab.specs.Counts.{IsCounted}
 use Rattle.vs_elab.proofs.CountSteps.{counted_nothing}
 use Rattle.vs_elab.proofs.ItemLists.{item_counted, made_at, all_made}

@@ -1,6 +1,6 @@
 use Rattle.std.proofs.Common.{◌++◌, List, sym, ◌∙◌}
 use Rattle.vs_ast.specs.Views as view
-use Rattle.vs_hierarchy.specs.Pieces.{Piece}
+use Rattle.vs_elaborated.specs.Pieces.{Piece}
 use Rattle.vs_elab.specs.Counts.{IsCounted}
 use Rattle.vs_elab.proofs.CountSteps.{viewed, wire_counted, wire_uncounted}
 use Rattle.vs_elab.proofs.counts.count_wire.Goals as goal

@@ -2,8 +2,8 @@ use Rattle.std.proofs.Common.{◌++◌, List, map, take, refl, ◌∙◌, subst}
 use Rattle.std.proofs.lemmas.List.{take_all}
 use Rattle.vs_ast.specs.declared.items.Declarator.{Declarator}
 use Rattle.vs_ast.specs.Views as view
-use Rattle.vs_hierarchy.specs.Pieces.{all_said}
-use Rattle.vs_hierarchy.specs.Surveys.{wire_said}
+use Rattle.vs_elaborated.specs.Pieces.{all_said}
+use Rattle.vs_elaborated.specs.Surveys.{wire_said}
 use Rattle.vs_elab.specs.Counts.{IsCounted}
 use Rattle.vs_elab.proofs.CountSteps.{counted_nothing, counted_list}
 use Rattle.vs_elab.proofs.counts.count_wires.Goals as goal

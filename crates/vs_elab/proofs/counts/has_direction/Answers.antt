@@ -1,7 +1,7 @@
 use Rattle.std.proofs.Common.{◌≡◌, Bool, false, Option, Some, length, ap, ◌∙◌}
 use Rattle.vs_ast.specs.Views as view
-use Rattle.vs_hierarchy.specs.Targets.{as_target}
-use Rattle.vs_hierarchy.specs.Instances.{directed}
+use Rattle.vs_elaborated.specs.Targets.{as_target}
+use Rattle.vs_elaborated.specs.Instances.{directed}
 use Rattle.vs_elab.proofs.CountedPorts.{output_counted}
 use Rattle.vs_elab.proofs.counts.has_direction.Goals as goal
 

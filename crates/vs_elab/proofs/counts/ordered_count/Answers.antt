@@ -2,7 +2,7 @@ use Rattle.std.proofs.Common.{◌≡◌, ◌+◌, length, drop, map, option_map,
 use Rattle.std.specs.Prelude.{slice_get}
 use Rattle.std.proofs.lemmas.Option.{slice_get-map}
 use Rattle.vs_ast.specs.Views as view
-use Rattle.vs_hierarchy.specs.Instances.{connected_by_order}
+use Rattle.vs_elaborated.specs.Instances.{connected_by_order}
 use Rattle.vs_elab.specs.Ports.{port_of}
 use Rattle.vs_elab.proofs.ConnectionSteps.{got_at}
 use Rattle.vs_elab.proofs.CountedPorts.{one_if_few, ordered_more, ordered_end}

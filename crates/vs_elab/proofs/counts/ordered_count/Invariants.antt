@@ -1,8 +1,8 @@
 use Rattle.std.proofs.Common.{◌≡◌, ◌+◌, ◌≤◌, List, length, drop, map}
 use Rattle.vs_ast.specs.Views as view
-use Rattle.vs_hierarchy.specs.Environments.{Env}
-use Rattle.vs_hierarchy.specs.Ports.{Port}
-use Rattle.vs_hierarchy.specs.Instances.{connected_by_order}
+use Rattle.vs_elaborated.specs.Environments.{Env}
+use Rattle.vs_elaborated.specs.Ports.{Port}
+use Rattle.vs_elaborated.specs.Instances.{connected_by_order}
 use Rattle.vs_elab.specs.PortTables.{ArePorts}
 use Rattle.vs_elab.proofs.counts.ordered_count.Given as goal
 

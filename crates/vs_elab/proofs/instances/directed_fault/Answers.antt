@@ -2,7 +2,7 @@ use Rattle.std.proofs.Common.{rules, ◌≡◌, Bool, false, Option, Some, IfOk,
 use Rattle.vs_ast.specs.Views as view
 use Rattle.vs_const.specs.declared.faults.Fault.{Fault}
 use Rattle.vs_const.specs.Faults.{least}
-use Rattle.vs_hierarchy.specs.Instances.{directed}
+use Rattle.vs_elaborated.specs.Instances.{directed}
 use Rattle.vs_scope.specs.Frames.{view_env}
 use Rattle.vs_elab.proofs.instances.directed_fault.Goals as goal
 

@@ -2,7 +2,7 @@ use Rattle.std.proofs.Common.{[], map, sym, ap, ◌∙◌}
 use Rattle.vs_ast.specs.Views as view
 use Rattle.vs_const.specs.Faults.{least, better}
 use Rattle.vs_const.proofs.Least.{least_append}
-use Rattle.vs_hierarchy.specs.Instances.{is_port, connected_names, connected_by_name, module_ports}
+use Rattle.vs_elaborated.specs.Instances.{is_port, connected_names, connected_by_name, module_ports}
 use Rattle.vs_scope.specs.Frames.{view_env}
 use Rattle.vs_elab.specs.Connected.{is_known}
 use Rattle.vs_elab.proofs.OverrideFaults.{names_alike}

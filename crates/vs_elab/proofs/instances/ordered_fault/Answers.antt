@@ -1,7 +1,7 @@
 use Rattle.std.proofs.Common.{option_map}
 use Rattle.vs_grammar.specs.Shapes.{Given, IsExpr}
 use Rattle.vs_ast.specs.Views as view
-use Rattle.vs_hierarchy.specs.Instances.{module_ports}
+use Rattle.vs_elaborated.specs.Instances.{module_ports}
 use Rattle.vs_scope.specs.Frames.{view_env}
 use Rattle.vs_elab.specs.Ports.{port_of}
 use Rattle.vs_elab.proofs.FaultLists.{each_at}

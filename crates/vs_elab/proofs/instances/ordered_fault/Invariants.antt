@@ -2,7 +2,7 @@ use Rattle.std.proofs.Common.{◌≡◌, Option, map, drop}
 use Rattle.vs_grammar.specs.Trees as tree
 use Rattle.vs_ast.specs.Views as view
 use Rattle.vs_const.specs.Faults.{least, better}
-use Rattle.vs_hierarchy.specs.Instances.{connected_by_order, module_ports}
+use Rattle.vs_elaborated.specs.Instances.{connected_by_order, module_ports}
 use Rattle.vs_scope.specs.Frames.{view_env}
 use Rattle.vs_elab.specs.Interfaces.{IsKnown}
 use Rattle.vs_elab.proofs.instances.ordered_fault.Given as goal

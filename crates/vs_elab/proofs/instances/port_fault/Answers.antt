@@ -3,7 +3,7 @@ use Rattle.vs_ast.specs.declared.expressions.Expr.{Expr}
 use Rattle.vs_ast.specs.Views as view
 use Rattle.vs_const.specs.declared.faults.Fault.{Fault}
 use Rattle.vs_const.specs.Faults.{least}
-use Rattle.vs_hierarchy.specs.Instances.{directed, connected}
+use Rattle.vs_elaborated.specs.Instances.{directed, connected}
 use Rattle.vs_scope.specs.Frames.{view_env}
 use Rattle.vs_elab.specs.Ports.{port_of}
 use Rattle.vs_elab.proofs.InstanceFaults.{name_of, connected_has}

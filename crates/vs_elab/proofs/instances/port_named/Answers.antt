@@ -1,5 +1,5 @@
 use Rattle.std.proofs.Common.{subst}
-use Rattle.vs_hierarchy.specs.Instances.{module_ports}
+use Rattle.vs_elaborated.specs.Instances.{module_ports}
 use Rattle.vs_elab.specs.Interfaces.{IsKnown}
 use Rattle.vs_elab.proofs.InstanceFaults.{known_ports}
 use Rattle.vs_elab.proofs.instances.port_named.Goals as goal

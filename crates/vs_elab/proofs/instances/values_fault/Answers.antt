@@ -4,8 +4,8 @@ use Rattle.vs_grammar.specs.Shapes.{IsConnection}
 use Rattle.vs_ast.specs.declared.items.NamedConnection.{NamedConnection}
 use Rattle.vs_ast.specs.Views as view
 use Rattle.vs_const.specs.Faults.{least}
-use Rattle.vs_hierarchy.specs.Ports.{Port, find_port}
-use Rattle.vs_hierarchy.specs.Instances.{module_ports, connected}
+use Rattle.vs_elaborated.specs.Ports.{Port, find_port}
+use Rattle.vs_elaborated.specs.Instances.{module_ports, connected}
 use Rattle.vs_scope.specs.Frames.{view_env}
 use Rattle.vs_elab.proofs.FaultLists.{least_more, each_at}
 use Rattle.vs_elab.proofs.InstanceFaults.{port_faults, named_port_faults}
@@ -21,7 +21,7 @@ loop-part-preserved c = λ m known.
     let e = (view.named_connection c.part-item.result).e in
     least_more view.named_connection (port_faults ps env) c.args.parts.now c.loop-part.part-index c.part-item.result _ _ _ c.loop-part-test.true c.part-item.is
     c.first_of-fault.ensures (c.loop-part.invariant m known)
-    (c.in_ok-found.ensures ∙ ap (λ (p : Option Port). least (connected p e env).faults) (c.port_named-port.ensures m known ∙ ap (find_port ps) c.as_bytes.ensures))
+    (c.in_ok-found.ensures ∙ ap (λ (p : Option Port). least (connected p e env).faults) (c.port_named-port.ensures m known ∙ ap (find_port ps) c.as_slice.ensures))
 
 pub returns : goal.returns
 returns c = λ m known.

@@ -4,8 +4,8 @@ use Rattle.vs_ast.specs.Views as view
 use Rattle.vs_const.specs.Faults.{least, better}
 use Rattle.vs_const.specs.Expressions.{typed}
 use Rattle.vs_const.proofs.Least.{least_append}
-use Rattle.vs_hierarchy.specs.Environments.{named}
-use Rattle.vs_hierarchy.specs.Targets.{target_base}
+use Rattle.vs_elaborated.specs.Environments.{named}
+use Rattle.vs_elaborated.specs.Targets.{target_base}
 use Rattle.vs_scope.specs.Frames.{view_env}
 use Rattle.vs_elab.specs.Items.{value_faults}
 use Rattle.vs_elab.proofs.items.wire_fault.Goals as goal

@@ -1,10 +1,11 @@
 use Rattle.std.proofs.Common.{◌≡◌, [], map, take, is_some, refl, sym, ap, ◌∙◌, subst}
 use Rattle.vs_ast.specs.Views as view
 use Rattle.vs_const.specs.Faults.{least, better, fault_if}
+use Rattle.vs_const.specs.declared.rules.Rule.TheVariants.{DuplicateModule}
 use Rattle.vs_const.proofs.Least.{least_append}
 use Rattle.std.proofs.lemmas.List.{take_all}
-use Rattle.vs_hierarchy.specs.Ports.{find_in}
-use Rattle.vs_hierarchy.specs.Elaborated.{repeated_modules}
+use Rattle.vs_elaborated.specs.Ports.{find_in}
+use Rattle.vs_elaborated.specs.Elaborated.{repeated_modules}
 use Rattle.vs_scope.specs.Maps.{value_at}
 use Rattle.vs_scope.specs.MapViews.{pairs}
 use Rattle.vs_elab.specs.Modules.{IsOf}
@@ -22,11 +23,11 @@ loop-of-preserved c =
     let before = c.loop-of.invariant in
     record {
       by_name = subst (AreModules (pairs c.note.new.map)) (sym next)
-          (modules_more (pairs c.loop-of.by_name) (pairs c.note.new.map) ms _ m c.as_bytes.result.now c.as_bytes.ensures (record { of = refl; seen = c.in_ok-seen.ensures }) before.by_name c.in_ok-had.ensures.first);
+          (modules_more (pairs c.loop-of.by_name) (pairs c.note.new.map) ms _ m c.as_slice.result.now c.as_slice.ensures (record { of = refl; seen = c.in_ok-seen.ensures }) before.by_name c.in_ok-had.ensures.first);
       repeated =
           c.first_of-repeated.ensures ∙ ap (λ a. better a c.fault_if.result) before.repeated
-          ∙ ap (better (least (repeated_modules [] ms))) (c.fault_if.ensures ∙ ap (λ b. least (fault_if b 33 m.name.place)) (c.in_ok-had.ensures.had ∙ ap (λ n. is_some (value_at n (pairs c.loop-of.by_name))) c.as_bytes.ensures ∙ module_had (pairs c.loop-of.by_name) ms m.name.bytes before.by_name))
-          ∙ sym (least_append (repeated_modules [] ms) (fault_if (is_some (find_in ms m.name.bytes)) 33 m.name.place))
+          ∙ ap (better (least (repeated_modules [] ms))) (c.fault_if.ensures ∙ ap (λ b. least (fault_if b DuplicateModule m.name.place)) (c.in_ok-had.ensures.had ∙ ap (λ n. is_some (value_at n (pairs c.loop-of.by_name))) c.as_slice.ensures ∙ module_had (pairs c.loop-of.by_name) ms m.name.bytes before.by_name))
+          ∙ sym (least_append (repeated_modules [] ms) (fault_if (is_some (find_in ms m.name.bytes)) DuplicateModule m.name.place))
           ∙ ap least (sym (repeated_more ms m))
           ∙ ap (λ xs. least (repeated_modules [] xs)) (sym next);
     }

@@ -1,7 +1,7 @@
 use Rattle.std.proofs.Common.{◌≡◌, [], map, take}
 use Rattle.vs_ast.specs.Views as view
 use Rattle.vs_const.specs.Faults.{least}
-use Rattle.vs_hierarchy.specs.Elaborated.{repeated_modules}
+use Rattle.vs_elaborated.specs.Elaborated.{repeated_modules}
 use Rattle.vs_scope.specs.MapViews.{pairs}
 use Rattle.vs_elab.proofs.Repeats.{AreModules}
 use Rattle.vs_elab.proofs.modules.by_names.Given as goal

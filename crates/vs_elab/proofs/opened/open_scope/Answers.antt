@@ -4,8 +4,8 @@ use Rattle.vs_build.specs.Growth.{draft}
 use Rattle.vs_scope.specs.declared.names.Signal.{Signal}
 use Rattle.vs_scope.specs.Contents.{contents_items}
 use Rattle.vs_scope.specs.Made as code
-use Rattle.vs_hierarchy.specs.Limits.{the_limits}
-use Rattle.vs_hierarchy.specs.Surveys.{survey}
+use Rattle.vs_elaborated.specs.Limits.{the_limits}
+use Rattle.vs_elaborated.specs.Surveys.{survey}
 use Rattle.vs_elab.specs.declared.reading.Reading.{Reading}
 use Rattle.vs_elab.specs.Opening.{signal, Follow, and_signals}
 use Rattle.vs_elab.specs.Reading.{source_of, task_of, totals_of}

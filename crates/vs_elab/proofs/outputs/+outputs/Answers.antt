@@ -7,7 +7,7 @@ use Rattle.vs_ast.proofs.Rows.{expr_rows}
 use Rattle.vs_ast.specs.declared.expressions.Expr.{Expr, the_lemmas}
 use Rattle.vs_const.specs.declared.faults.Fault.{Fault}
 use Rattle.vs_const.specs.Faults.{least}
-use Rattle.vs_hierarchy.specs.Environments.{named}
+use Rattle.vs_elaborated.specs.Environments.{named}
 use Rattle.vs_scope.specs.Frames.{view_env}
 use Rattle.vs_build.proofs.Lists.{concatenation_view}
 use Rattle.vs_build.proofs.OutputFacts.{part_falls}

@@ -2,7 +2,7 @@ use Rattle.std.proofs.Common.{◌≡◌, map, flat_map, take}
 use Rattle.vs_grammar.specs.Trees as tree
 use Rattle.vs_ast.specs.Views as view
 use Rattle.vs_const.specs.Faults.{least}
-use Rattle.vs_hierarchy.specs.Environments.{named}
+use Rattle.vs_elaborated.specs.Environments.{named}
 use Rattle.vs_scope.specs.Frames.{view_env}
 use Rattle.vs_elab.specs.Outputs.{found_faults}
 use Rattle.vs_elab.proofs.outputs.+outputs.Given as goal

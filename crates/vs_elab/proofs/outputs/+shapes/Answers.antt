@@ -6,7 +6,7 @@ use Rattle.vs_grammar.specs.Trees as tree
 use Rattle.vs_ast.specs.Views as view
 use Rattle.vs_ast.proofs.Rows.{expr_rows}
 use Rattle.vs_ast.specs.declared.expressions.Expr.{Expr, the_lemmas}
-use Rattle.vs_hierarchy.specs.Targets.{as_target, as_targets}
+use Rattle.vs_elaborated.specs.Targets.{as_target, as_targets}
 use Rattle.vs_build.proofs.Lists.{concatenation_view}
 use Rattle.vs_build.proofs.OutputFacts.{part_falls}
 use Rattle.vs_elab.proofs.OutputFaults.{is_output, all_some, parts_some}

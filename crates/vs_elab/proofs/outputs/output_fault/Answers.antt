@@ -3,9 +3,10 @@ use Rattle.vs_grammar.specs.Trees.{expr_place}
 use Rattle.vs_ast.specs.Views as view
 use Rattle.vs_const.specs.declared.faults.Fault.{Fault}
 use Rattle.vs_const.specs.Faults.{least, better, fault}
+use Rattle.vs_const.specs.declared.rules.Rule.TheVariants.{WrongKind}
 use Rattle.vs_const.specs.Expressions.{typed}
 use Rattle.vs_const.proofs.Least.{least_append}
-use Rattle.vs_hierarchy.specs.Environments.{named}
+use Rattle.vs_elaborated.specs.Environments.{named}
 use Rattle.vs_scope.specs.Frames.{view_env}
 use Rattle.vs_elab.proofs.OutputFaults.{target_output, no_target}
 use Rattle.vs_elab.proofs.outputs.output_fault.Goals as goal
@@ -21,7 +22,7 @@ returns-in_ok-found c = λ name.
     let e = view.expr c.args.e.now in
     let env = view_env c.args.here.now in
     let fs = (typed e (named env) false).faults in
-    c.first_of.ensures ∙ ap (λ a. better a c.in_ok-found.found) (c.fault_at.ensures ∙ ap (λ (p : ℕ). least (fault 43 p)) c.place_of.ensures)
-    ∙ ap (better (least (fault 43 (expr_place e)))) c.in_ok-found.ensures
-    ∙ sym (least_append (fault 43 (expr_place e)) fs)
+    c.first_of.ensures ∙ ap (λ a. better a c.in_ok-found.found) (c.fault_at.ensures ∙ ap (λ (p : ℕ). least (fault WrongKind p)) c.place_of.ensures)
+    ∙ ap (better (least (fault WrongKind (expr_place e)))) c.in_ok-found.ensures
+    ∙ sym (least_append (fault WrongKind (expr_place e)) fs)
     ∙ ap least (no_target name e env (sym c.is_target.ensures ∙ c.if-is_target.false))

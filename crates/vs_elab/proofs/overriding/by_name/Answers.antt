@@ -3,7 +3,7 @@ use Rattle.std.proofs.lemmas.List.{take_all}
 use Rattle.vs_grammar.specs.Shapes.{IsConnection}
 use Rattle.vs_ast.specs.declared.items.NamedConnection.{NamedConnection}
 use Rattle.vs_ast.specs.Views as view
-use Rattle.vs_hierarchy.specs.Instances.{overrides_by_name}
+use Rattle.vs_elaborated.specs.Instances.{overrides_by_name}
 use Rattle.vs_scope.specs.Frames.{env_at, envs}
 use Rattle.vs_elab.specs.Overriding.{one_override}
 use Rattle.vs_elab.proofs.FaultLists.{each_at}
@@ -25,8 +25,8 @@ loop-part-preserved c = record {
       let p = view.named_connection c.part-item.result in
       let cs = map view.named_connection (take c.loop-part.part-index c.args.parts.now) in
       let done = (overrides_by_name cs env).overrides in
-      same_said frames c.note_override.new.overrides (done ++ one_override (Some c.as_bytes-name.result.now) p.e env) (overrides_by_name (map view.named_connection (take (c.loop-part.part-index + 1) c.args.parts.now)) env).overrides
-      (ap (λ (n : List ℕ). done ++ one_override (Some n) p.e env) c.as_bytes-name.ensures
+      same_said frames c.note_override.new.overrides (done ++ one_override (Some c.as_slice-name.result.now) p.e env) (overrides_by_name (map view.named_connection (take (c.loop-part.part-index + 1) c.args.parts.now)) env).overrides
+      (ap (λ (n : List ℕ). done ++ one_override (Some n) p.e env) c.as_slice-name.ensures
       ∙ names_more cs (map view.named_connection (take (c.loop-part.part-index + 1) c.args.parts.now)) p env (one_more view.named_connection c.args.parts.now c.loop-part.part-index c.part-item.result c.loop-part-test.true c.part-item.is))
       (c.in_ok-note_override.ensures.said frames done (c.loop-part.invariant.said frames));
   fine = λ frames h.

@@ -1,5 +1,5 @@
 use Rattle.std.proofs.Common.{◌≡◌, ◌++◌, OnOk, sym, subst}
-use Rattle.vs_hierarchy.specs.Surveys.{items_said}
+use Rattle.vs_elaborated.specs.Surveys.{items_said}
 use Rattle.vs_scope.specs.declared.contents.BlockItems.{BlockItems}
 use Rattle.vs_scope.specs.Contents.{block_items}
 use Rattle.vs_elab.specs.Fine.{AreFineItems}

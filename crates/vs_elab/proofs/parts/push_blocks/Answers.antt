@@ -1,7 +1,7 @@
 use Rattle.std.proofs.Common.{◌≡◌, ◌++◌, ◌∷◌, [], ℕ, List, map, sym, ap, ◌∙◌}
 use Rattle.std.proofs.lemmas.List.{append-nil, take_all}
-use Rattle.vs_hierarchy.specs.Generate.{Nested}
-use Rattle.vs_hierarchy.specs.Surveys.{nested_piece}
+use Rattle.vs_elaborated.specs.Generate.{Nested}
+use Rattle.vs_elaborated.specs.Surveys.{nested_piece}
 use Rattle.vs_ast.specs.Views.{option}
 use Rattle.vs_scope.specs.declared.made.Nested as declared
 use Rattle.vs_scope.specs.Contents.{block_items}

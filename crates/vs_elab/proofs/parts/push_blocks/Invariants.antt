@@ -1,10 +1,10 @@
 use Rattle.std.proofs.Common.{◌≡◌, ◌++◌, map, take}
 use Rattle.vs_grammar.specs.Trees as tree
 use Rattle.vs_grammar.specs.Shapes.{Each}
-use Rattle.vs_hierarchy.specs.Environments.{Env}
-use Rattle.vs_hierarchy.specs.Generate.{Nested}
-use Rattle.vs_hierarchy.specs.Instances.{Around}
-use Rattle.vs_hierarchy.specs.Surveys.{nested_piece}
+use Rattle.vs_elaborated.specs.Environments.{Env}
+use Rattle.vs_elaborated.specs.Generate.{Nested}
+use Rattle.vs_elaborated.specs.Instances.{Around}
+use Rattle.vs_elaborated.specs.Surveys.{nested_piece}
 use Rattle.vs_scope.specs.Made as code
 use Rattle.vs_elab.specs.Fine.{AreFineInside, AreFineParts}
 use Rattle.vs_elab.specs.Pending.{parts_pieces}

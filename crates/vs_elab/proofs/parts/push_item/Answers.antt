@@ -4,9 +4,9 @@ use Rattle.vs_ast.specs.declared.items.Item.{Item}
 use Rattle.vs_ast.specs.declared.items.Declarator.{Declarator}
 use Rattle.vs_ast.specs.declared.items.Assign.{Assign}
 use Rattle.vs_ast.specs.Views as view
-use Rattle.vs_hierarchy.specs.Generate.{Nested}
-use Rattle.vs_hierarchy.specs.Pieces.{Piece, all_said}
-use Rattle.vs_hierarchy.specs.Surveys.{assign_said, wire_said, item_said, nested_piece}
+use Rattle.vs_elaborated.specs.Generate.{Nested}
+use Rattle.vs_elaborated.specs.Pieces.{Piece, all_said}
+use Rattle.vs_elaborated.specs.Surveys.{assign_said, wire_said, item_said, nested_piece}
 use Rattle.vs_scope.specs.Made as code
 use Rattle.vs_elab.specs.Fine.{IsFineAssign, IsFineWire, AreFineInside, IsFineItem}
 use Rattle.vs_elab.specs.Pending.{parts_pieces}

@@ -2,8 +2,8 @@ use Rattle.std.proofs.Common.{◌≡◌, ◌<◌, ◌++◌, [], List, length, ma
 use Rattle.std.proofs.lemmas.List.{append-nil, take_all}
 use Rattle.vs_ast.specs.declared.items.Item.{Item}
 use Rattle.vs_ast.specs.Views as view
-use Rattle.vs_hierarchy.specs.Generate.{Made, nothing_made}
-use Rattle.vs_hierarchy.specs.Surveys.{items_said}
+use Rattle.vs_elaborated.specs.Generate.{Made, nothing_made}
+use Rattle.vs_elaborated.specs.Surveys.{items_said}
 use Rattle.vs_scope.specs.Made as code
 use Rattle.vs_elab.specs.Pending.{parts_pieces}
 use Rattle.vs_elab.proofs.FineItems.{item_at}

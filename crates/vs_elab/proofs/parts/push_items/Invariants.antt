@@ -1,9 +1,9 @@
 use Rattle.std.proofs.Common.{◌≡◌, ◌++◌, List, map, take}
 use Rattle.vs_grammar.specs.Trees as tree
 use Rattle.vs_ast.specs.Views as view
-use Rattle.vs_hierarchy.specs.Generate.{Made}
-use Rattle.vs_hierarchy.specs.Instances.{Around}
-use Rattle.vs_hierarchy.specs.Surveys.{items_said}
+use Rattle.vs_elaborated.specs.Generate.{Made}
+use Rattle.vs_elaborated.specs.Instances.{Around}
+use Rattle.vs_elaborated.specs.Surveys.{items_said}
 use Rattle.vs_scope.specs.Made as code
 use Rattle.vs_elab.specs.Fine.{AreFineItems, AreFineParts}
 use Rattle.vs_elab.specs.Pending.{parts_pieces}

@@ -1,7 +1,7 @@
 use Rattle.std.proofs.Common.{◌≡◌, ◌++◌, [], List, OnOk, subst, ◌∙◌, arith}
 use Rattle.vs_ast.specs.Views as view
-use Rattle.vs_hierarchy.specs.Generate.{nothing_made}
-use Rattle.vs_hierarchy.specs.Pieces.{Piece}
+use Rattle.vs_elaborated.specs.Generate.{nothing_made}
+use Rattle.vs_elaborated.specs.Pieces.{Piece}
 use Rattle.vs_scope.specs.Made as code
 use Rattle.vs_elab.specs.Pending.{parts_pieces}
 use Rattle.vs_elab.proofs.FineItems.{one_fine}

@@ -2,8 +2,8 @@ use Rattle.std.proofs.Common.{◌++◌, List, map, sym, ap, ◌∙◌}
 use Rattle.std.proofs.lemmas.List.{append-nil, take_all}
 use Rattle.vs_ast.specs.declared.items.Assign.{Assign}
 use Rattle.vs_ast.specs.Views as view
-use Rattle.vs_hierarchy.specs.Pieces.{all_said}
-use Rattle.vs_hierarchy.specs.Surveys.{assign_said}
+use Rattle.vs_elaborated.specs.Pieces.{all_said}
+use Rattle.vs_elaborated.specs.Surveys.{assign_said}
 use Rattle.vs_elab.specs.Fine.{IsFineAssign}
 use Rattle.vs_elab.specs.Pending.{parts_pieces}
 use Rattle.vs_elab.proofs.FaultLists.{each_at}

@@ -3,9 +3,9 @@ use Rattle.std.proofs.lemmas.List.{append-nil, take_all}
 use Rattle.vs_grammar.specs.Shapes.{Each}
 use Rattle.vs_ast.specs.declared.items.Instance.{Instance}
 use Rattle.vs_ast.specs.Views as view
-use Rattle.vs_hierarchy.specs.Pieces.{all_said}
-use Rattle.vs_hierarchy.specs.Ports.{find_module}
-use Rattle.vs_hierarchy.specs.Instances.{instance_said, said_overrides}
+use Rattle.vs_elaborated.specs.Pieces.{all_said}
+use Rattle.vs_elaborated.specs.Ports.{find_module}
+use Rattle.vs_elaborated.specs.Instances.{instance_said, said_overrides}
 use Rattle.vs_elab.specs.Fine.{IsFineInstance}
 use Rattle.vs_elab.specs.Pending.{parts_pieces}
 use Rattle.vs_elab.proofs.FaultLists.{each_at}

@@ -2,10 +2,10 @@ use Rattle.std.proofs.Common.{◌≡◌, ◌++◌, map, take}
 use Rattle.vs_grammar.specs.Trees as tree
 use Rattle.vs_grammar.specs.Shapes.{Each}
 use Rattle.vs_ast.specs.Views as view
-use Rattle.vs_hierarchy.specs.Environments.{Env}
-use Rattle.vs_hierarchy.specs.Pieces.{all_said}
-use Rattle.vs_hierarchy.specs.Ports.{find_module}
-use Rattle.vs_hierarchy.specs.Instances.{Around, instance_said, said_overrides}
+use Rattle.vs_elaborated.specs.Environments.{Env}
+use Rattle.vs_elaborated.specs.Pieces.{all_said}
+use Rattle.vs_elaborated.specs.Ports.{find_module}
+use Rattle.vs_elaborated.specs.Instances.{Around, instance_said, said_overrides}
 use Rattle.vs_elab.specs.Fine.{IsFineInstance, AreFineParts}
 use Rattle.vs_elab.specs.Pending.{parts_pieces}
 use Rattle.vs_elab.proofs.pending.push_instances.Given as goal

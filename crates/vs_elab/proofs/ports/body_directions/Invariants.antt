@@ -1,6 +1,6 @@
 use Rattle.std.proofs.Common.{map, flat_map, take}
 use Rattle.vs_ast.specs.Views as view
-use Rattle.vs_hierarchy.specs.Ports.{item_directions}
+use Rattle.vs_elaborated.specs.Ports.{item_directions}
 use Rattle.vs_scope.specs.MapViews.{pairs}
 use Rattle.vs_elab.specs.Noted.{AreFirst}
 use Rattle.vs_elab.specs.Ports.{named_direction}

@@ -1,6 +1,6 @@
 use Rattle.std.proofs.Common.{◌≡◌, map, flat_map, take}
 use Rattle.vs_ast.specs.Views as view
-use Rattle.vs_hierarchy.specs.Ports.{directions_in}
+use Rattle.vs_elaborated.specs.Ports.{directions_in}
 use Rattle.vs_elab.specs.Ports.{port_of, declared_port}
 use Rattle.vs_elab.proofs.ports.declared_ports.Given as goal
 

@@ -1,7 +1,7 @@
 use Rattle.std.proofs.Common.{◌++◌, map, refl, ap, ◌∙◌, subst}
 use Rattle.std.proofs.lemmas.List.{take_all}
 use Rattle.vs_ast.specs.Views as view
-use Rattle.vs_hierarchy.specs.Signals as spec
+use Rattle.vs_elaborated.specs.Signals as spec
 use Rattle.vs_scope.specs.MapViews.{pairs}
 use Rattle.vs_elab.specs.Noted.{AreFirst}
 use Rattle.vs_elab.proofs.Directions.{declared_direction, declared_directions}

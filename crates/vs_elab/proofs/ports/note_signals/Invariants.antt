@@ -1,6 +1,6 @@
 use Rattle.std.proofs.Common.{◌++◌, Bool, List, map, take}
 use Rattle.vs_ast.specs.Views as view
-use Rattle.vs_hierarchy.specs.Signals as spec
+use Rattle.vs_elaborated.specs.Signals as spec
 use Rattle.vs_scope.specs.Maps.{Pair}
 use Rattle.vs_scope.specs.MapViews.{pairs}
 use Rattle.vs_elab.specs.Noted.{AreFirst}

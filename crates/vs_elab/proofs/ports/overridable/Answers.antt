@@ -1,7 +1,7 @@
 use Rattle.std.proofs.Common.{◌++◌, map, flat_map, sym, ap, ◌∙◌}
 use Rattle.std.proofs.lemmas.Grind.{flat_map-append}
 use Rattle.vs_ast.specs.Views as view
-use Rattle.vs_hierarchy.specs.Ports.{parameter_names, item_parameters}
+use Rattle.vs_elaborated.specs.Ports.{parameter_names, item_parameters}
 use Rattle.vs_elab.specs.Ports.{name_bytes, body_parameters}
 use Rattle.vs_elab.proofs.Overridable.{bodies_are}
 use Rattle.vs_elab.proofs.Repeats.{items_are}

@@ -1,7 +1,7 @@
 use Rattle.std.proofs.Common.{◌≡◌, List, map, take}
 use Rattle.vs_grammar.specs.Trees as tree
 use Rattle.vs_ast.specs.Views as view
-use Rattle.vs_hierarchy.specs.Ports.{Direction, header_ports}
+use Rattle.vs_elaborated.specs.Ports.{Direction, header_ports}
 use Rattle.vs_scope.specs.MapViews.{pairs}
 use Rattle.vs_elab.specs.Noted.{AreFirst}
 use Rattle.vs_elab.specs.Ports.{named_direction, port_of}

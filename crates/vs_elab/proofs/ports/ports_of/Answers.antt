@@ -1,7 +1,7 @@
 use Rattle.std.proofs.Common.{◌≡◌, map, flat_map, sym, ap, ◌∙◌, subst, IfOk}
 use Rattle.vs_grammar.specs.Trees as tree
 use Rattle.vs_ast.specs.Views as view
-use Rattle.vs_hierarchy.specs.Ports.{item_directions, header_ports}
+use Rattle.vs_elaborated.specs.Ports.{item_directions, header_ports}
 use Rattle.vs_elab.proofs.Repeats.{items_are}
 use Rattle.vs_elab.specs.Ports.{port_of}
 use Rattle.vs_elab.proofs.ports.ports_of.Goals as goal

@@ -1,6 +1,6 @@
 use Rattle.std.proofs.Common.{◌≡◌, ◌++◌, map, flat_map, take}
 use Rattle.vs_ast.specs.Views as view
-use Rattle.vs_hierarchy.specs.Ports.{parameter_names}
+use Rattle.vs_elaborated.specs.Ports.{parameter_names}
 use Rattle.vs_elab.specs.Ports.{name_bytes}
 use Rattle.vs_elab.proofs.ports.push_header.Given as goal
 

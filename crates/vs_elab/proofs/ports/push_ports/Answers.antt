@@ -1,7 +1,7 @@
 use Rattle.std.proofs.Common.{◌++◌, map, refl, ap, ◌∙◌}
 use Rattle.std.proofs.lemmas.List.{take_all}
 use Rattle.vs_ast.specs.Views as view
-use Rattle.vs_hierarchy.specs.Signals as spec
+use Rattle.vs_elaborated.specs.Signals as spec
 use Rattle.vs_elab.specs.Ports.{port_of}
 use Rattle.vs_elab.proofs.Directions.{declared_name, declared_names}
 use Rattle.vs_elab.proofs.ports.push_ports.Goals as goal

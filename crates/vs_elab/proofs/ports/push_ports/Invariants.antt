@@ -1,6 +1,6 @@
 use Rattle.std.proofs.Common.{◌≡◌, ◌++◌, map, take}
 use Rattle.vs_ast.specs.Views as view
-use Rattle.vs_hierarchy.specs.Signals as spec
+use Rattle.vs_elaborated.specs.Signals as spec
 use Rattle.vs_elab.specs.Ports.{port_of}
 use Rattle.vs_elab.proofs.Directions.{declared_name}
 use Rattle.vs_elab.proofs.ports.push_ports.Given as goal

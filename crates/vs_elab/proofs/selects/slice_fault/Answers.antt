@@ -5,7 +5,7 @@ use Rattle.vs_ast.specs.declared.expressions.SliceKind.{SliceKind}
 use Rattle.vs_const.specs.declared.faults.Fault.{Fault}
 use Rattle.vs_const.specs.Faults.{least}
 use Rattle.vs_const.specs.Expressions.{constant, typed}
-use Rattle.vs_hierarchy.specs.Environments.{named}
+use Rattle.vs_elaborated.specs.Environments.{named}
 use Rattle.vs_scope.specs.Frames.{view_env}
 use Rattle.vs_elab.specs.Selects.{slice_faults}
 use Rattle.vs_elab.proofs.SelectFaults.{moving_has}

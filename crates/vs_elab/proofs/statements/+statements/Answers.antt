@@ -11,8 +11,8 @@ use Rattle.vs_const.specs.declared.faults.Fault.{Fault}
 use Rattle.vs_const.specs.Expressions.{typed}
 use Rattle.vs_const.specs.Faults.{least, better}
 use Rattle.vs_const.proofs.Least.{least_append}
-use Rattle.vs_hierarchy.specs.Environments.{named}
-use Rattle.vs_hierarchy.specs.Statements.{typed_list, typed_statement, typed_sequence, typed_fallback}
+use Rattle.vs_elaborated.specs.Environments.{named}
+use Rattle.vs_elaborated.specs.Statements.{typed_list, typed_statement, typed_sequence, typed_fallback}
 use Rattle.vs_scope.specs.Frames.{view_env}
 use Rattle.vs_elab.specs.StatementFaults.{arms_faults}
 use Rattle.vs_elab.proofs.FaultLists.{least_more}
@@ -103,7 +103,7 @@ pub statement_fault-returns-in-None-other : goal.statement_fault-returns-in-None
 statement_fault-returns-in-None-other t c =
     let find = named (view_env c.args.here.now) in
     let arms = view.arms c.in-Case.arms.items in
-    let is : view.statement c.args.s.now ≡ tree.Case c.in-Case.place (view.case_kind c.in-Case.kind) (view.expr c.in-Case.subject) arms tree.NoFallback =
+    let is : view.statement c.args.s.now ≡ tree.Case c.in-Case.place c.in-Case.kind (view.expr c.in-Case.subject) arms tree.NoFallback =
     ap view.statement c.in-Case.is ∙ ap (λ o. view.statement (Case c.in-Case.place c.in-Case.kind c.in-Case.subject c.in-Case.arms o)) c.in-None-other.is ∙ case_alone_view c.in-Case.place c.in-Case.kind c.in-Case.subject c.in-Case.arms
     in
     let x = (typed (view.expr c.in-Case.subject) find false).faults in
@@ -117,7 +117,7 @@ statement_fault-returns-in_ok-found-in-Some-other t c =
     let find = named (view_env c.args.here.now) in
     let arms = view.arms c.in-Case.arms.items in
     let other = tree.Otherwise (view.statement c.in-Some-other.other.value) in
-    let is : view.statement c.args.s.now ≡ tree.Case c.in-Case.place (view.case_kind c.in-Case.kind) (view.expr c.in-Case.subject) arms other =
+    let is : view.statement c.args.s.now ≡ tree.Case c.in-Case.place c.in-Case.kind (view.expr c.in-Case.subject) arms other =
     ap view.statement c.in-Case.is ∙ ap (λ o. view.statement (Case c.in-Case.place c.in-Case.kind c.in-Case.subject c.in-Case.arms o)) c.in-Some-other.is
     ∙ case_default_view c.in-Case.place c.in-Case.kind c.in-Case.subject c.in-Case.arms c.in-Some-other.other
     in

@@ -3,8 +3,8 @@ use Rattle.vs_ast.specs.Views as view
 use Rattle.vs_const.specs.Faults.{least, better}
 use Rattle.vs_const.specs.Expressions.{typed}
 use Rattle.vs_const.proofs.Least.{least_append}
-use Rattle.vs_hierarchy.specs.Environments.{named}
-use Rattle.vs_hierarchy.specs.Targets.{typed_target}
+use Rattle.vs_elaborated.specs.Environments.{named}
+use Rattle.vs_elaborated.specs.Targets.{typed_target}
 use Rattle.vs_scope.specs.Frames.{view_env}
 use Rattle.vs_elab.proofs.statements.assignment_fault.Goals as goal
 

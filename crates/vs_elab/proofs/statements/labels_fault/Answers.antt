@@ -4,7 +4,7 @@ use Rattle.vs_grammar.specs.Shapes.{IsExpr}
 use Rattle.vs_ast.specs.declared.expressions.Expr.{Expr}
 use Rattle.vs_ast.specs.Views as view
 use Rattle.vs_const.specs.Faults.{least}
-use Rattle.vs_hierarchy.specs.Environments.{named}
+use Rattle.vs_elaborated.specs.Environments.{named}
 use Rattle.vs_scope.specs.Frames.{view_env}
 use Rattle.vs_elab.proofs.FaultLists.{least_more, each_at}
 use Rattle.vs_elab.proofs.StatementFacts.{label_faults, labels_have}

@@ -2,8 +2,8 @@ use Rattle.std.proofs.Common.{◌≡◌, ℕ, suc, ◌<◌, List, [], ◌∷◌,
 use Rattle.std.specs.Prelude.{Err}
 use Rattle.std.proofs.lemmas.Result.{err_from_is_err_and}
 use Rattle.vs_const.specs.declared.faults.Fault.{Fault}
-use Rattle.vs_hierarchy.specs.Pieces.{Task}
-use Rattle.vs_hierarchy.specs.Sound.{IsSoundTask}
+use Rattle.vs_elaborated.specs.Pieces.{Task}
+use Rattle.vs_elaborated.specs.Sound.{IsSoundTask}
 use Rattle.vs_scope.specs.Frames.{env_at, envs}
 use Rattle.vs_scope.specs.Overrides.{EachOverride}
 use Rattle.vs_elab.specs.declared.error.ElabError.TheVariants.{Memory}
@@ -15,6 +15,7 @@ use Rattle.vs_elab.specs.Stacks.{pending}
 use Rattle.vs_elab.proofs.BlockSteps.{below_one, block_faulty, block_opened, block_sound, block_task}
 use Rattle.vs_elab.proofs.OpenedSteps.{each_front, each_last, opened_before, opened_fine, opened_within, tells, told, told_exit}
 use Rattle.vs_elab.proofs.steps.read_block.Goals as goal
+use Rattle.vs_const.specs.declared.rules.Rule.TheVariants.{InstanceDepth}
 
 pub returns-in_err-left-clause-step : goal.returns-in_err-left-clause-step
 returns-in_err-left-clause-step c = let p = err_from_is_err_and c.from_residual.result c.from_residual.ensures.1 in rw p.1 tt
@@ -22,7 +23,7 @@ returns-in_err-left-clause-step c = let p = err_from_is_err_and c.from_residual.
 pub returns-in_err-left-clause-broken : goal.returns-in_err-left-clause-broken
 returns-in_err-left-clause-broken c =
     let old = c.args.reading.now in
-    let fault : Fault = record { number = 40; place = 0 } in
+    let fault : Fault = record { rule = InstanceDepth; place = 0 } in
     told_exit (λ (f : Fault). outcome c.args.text.now old (c.args.stack.now.items ++ pending_at c.args.at (parts.Block c.args.name c.args.items c.args.turn) ∷ []) ≡ Err f) c.from_residual.result c.in_err-left.field-0.0 c.from_residual.ensures.1
     (told (λ (f : Fault). outcome c.args.text.now old (c.args.stack.now.items ++ pending_at c.args.at (parts.Block c.args.name c.args.items c.args.turn) ∷ []) ≡ Err f) c.in_err-left.field-0.0 fault c.in_err-left.ensures.fault
     (block_faulty c.args.text.now (block_task old.frames.items c.args.at c.args.name.items c.args.items c.args.turn) old 0 c.args.at c.args.name c.args.items c.args.turn c.args.stack.now.items fault refl c.in_err-left.ensures.none refl))

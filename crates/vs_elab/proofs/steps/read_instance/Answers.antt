@@ -28,7 +28,7 @@ overflow_cast-scope c =
 
 pub open_scope-requires-clause-sound : goal.open_scope-requires-clause-sound
 open_scope-requires-clause-sound c =
-    code_sound c.args.text.now c.requires.text c.args.reading.now c.args.stack.now.items c.args.at c.args.item c.args.instance c.args.known.now c.requires.reading c.requires.known (pairs c.in_ok-overrides.overrides) c.as_bytes.result.now c.in_ok-overrides.ensures.alike c.instance_law.ensures.overrides c.in_ok-overrides.ensures.distinct
+    code_sound c.args.text.now c.requires.text c.args.reading.now c.args.stack.now.items c.args.at c.args.item c.args.instance c.args.known.now c.requires.reading c.requires.known (pairs c.in_ok-overrides.overrides) c.as_slice.result.now c.in_ok-overrides.ensures.alike c.instance_law.ensures.overrides c.in_ok-overrides.ensures.distinct
 
 pub open_scope-requires-clause-overrides : goal.open_scope-requires-clause-overrides
 open_scope-requires-clause-overrides c =
@@ -53,28 +53,28 @@ open_scope-requires-clause-within c =
 pub returns-in_err-parts-clause-broken : goal.returns-in_err-parts-clause-broken
 returns-in_err-parts-clause-broken c =
     let p = err_from_is_err_and c.from_residual-in_err-parts.result c.from_residual-in_err-parts.ensures.1 in
-    broken_told c.args.text.now c.requires.text c.args.reading.now c.args.stack.now.items c.args.at c.args.item c.args.instance c.args.known.now c.requires.reading c.requires.known (pairs c.in_ok-overrides.overrides) c.as_bytes.result.now c.in_ok-overrides.ensures.alike c.as_bytes.ensures c.in_ok-left.left c.in_ok-left.ensures.deeper c.from_residual-in_err-parts.result p.0 c.in_err-parts.field-0.0 p.1 p.2 c.in_err-parts.ensures.broken
+    broken_told c.args.text.now c.requires.text c.args.reading.now c.args.stack.now.items c.args.at c.args.item c.args.instance c.args.known.now c.requires.reading c.requires.known (pairs c.in_ok-overrides.overrides) c.as_slice.result.now c.in_ok-overrides.ensures.alike c.as_slice.ensures c.in_ok-left.left c.in_ok-left.ensures.deeper c.from_residual-in_err-parts.result p.0 c.in_err-parts.field-0.0 p.1 p.2 c.in_err-parts.ensures.broken
 
 pub of-here-requires : goal.of-here-requires
 of-here-requires c =
-    subst (λ (fs : List Frame). c.args.at.frame < length fs) (sym c.deref.ensures.value) (frame_still c.args.text.now c.requires.text c.args.reading.now c.args.stack.now.items c.args.at c.args.item c.args.instance c.args.known.now c.requires.reading c.requires.known (pairs c.in_ok-overrides.overrides) c.as_bytes.result.now c.in_ok-overrides.ensures.alike c.as_bytes.ensures c.in_ok-left.left c.in_ok-left.ensures.deeper c.open_scope.new.reading c.in_ok-parts.parts.items c.in_ok-parts.ensures.opened)
+    subst (λ (fs : List Frame). c.args.at.frame < length fs) (sym c.deref.ensures.value) (frame_still c.args.text.now c.requires.text c.args.reading.now c.args.stack.now.items c.args.at c.args.item c.args.instance c.args.known.now c.requires.reading c.requires.known (pairs c.in_ok-overrides.overrides) c.as_slice.result.now c.in_ok-overrides.ensures.alike c.as_slice.ensures c.in_ok-left.left c.in_ok-left.ensures.deeper c.open_scope.new.reading c.in_ok-parts.parts.items c.in_ok-parts.ensures.opened)
 
 pub index-requires : goal.index-requires
 index-requires c =
-    let h = frame_new c.args.text.now c.requires.text c.args.reading.now c.args.stack.now.items c.args.at c.args.item c.args.instance c.args.known.now c.requires.reading c.requires.known (pairs c.in_ok-overrides.overrides) c.as_bytes.result.now c.in_ok-overrides.ensures.alike c.as_bytes.ensures c.in_ok-left.left c.in_ok-left.ensures.deeper c.open_scope.new.reading c.in_ok-parts.parts.items c.in_ok-parts.ensures.opened c.args.reading.now.counts.start.scope (sym c.requires.reading.read.frames) in omega (arith, h)
+    let h = frame_new c.args.text.now c.requires.text c.args.reading.now c.args.stack.now.items c.args.at c.args.item c.args.instance c.args.known.now c.requires.reading c.requires.known (pairs c.in_ok-overrides.overrides) c.as_slice.result.now c.in_ok-overrides.ensures.alike c.as_slice.ensures c.in_ok-left.left c.in_ok-left.ensures.deeper c.open_scope.new.reading c.in_ok-parts.parts.items c.in_ok-parts.ensures.opened c.args.reading.now.counts.start.scope (sym c.requires.reading.read.frames) in omega (arith, h)
 
 pub wire_ports-requires-clause-room : goal.wire_ports-requires-clause-room
 wire_ports-requires-clause-room c =
-    ports_room c.args.text.now c.requires.text c.args.reading.now c.args.stack.now.items c.args.at c.args.item c.args.instance c.args.known.now c.requires.reading c.requires.known (pairs c.in_ok-overrides.overrides) c.as_bytes.result.now c.in_ok-overrides.ensures.alike c.as_bytes.ensures c.in_ok-left.left c.in_ok-left.ensures.deeper c.open_scope.new.reading c.in_ok-parts.parts.items c.in_ok-parts.ensures.opened c.in_ok-connections.connections.items c.deref-2.result.now c.deref-2.ensures.value c.in_ok-connections.ensures.said c.in_ok-connections.ensures.fine
+    ports_room c.args.text.now c.requires.text c.args.reading.now c.args.stack.now.items c.args.at c.args.item c.args.instance c.args.known.now c.requires.reading c.requires.known (pairs c.in_ok-overrides.overrides) c.as_slice.result.now c.in_ok-overrides.ensures.alike c.as_slice.ensures c.in_ok-left.left c.in_ok-left.ensures.deeper c.open_scope.new.reading c.in_ok-parts.parts.items c.in_ok-parts.ensures.opened c.in_ok-connections.connections.items c.deref-2.result.now c.deref-2.ensures.value c.in_ok-connections.ensures.said c.in_ok-connections.ensures.fine
 
 pub wire_ports-requires-clause-fine : goal.wire_ports-requires-clause-fine
 wire_ports-requires-clause-fine c =
-    ports_wirable c.args.text.now c.requires.text c.args.reading.now c.args.stack.now.items c.args.at c.args.item c.args.instance c.args.known.now c.requires.reading c.requires.known (pairs c.in_ok-overrides.overrides) c.as_bytes.result.now c.in_ok-overrides.ensures.alike c.as_bytes.ensures c.in_ok-left.left c.in_ok-left.ensures.deeper c.open_scope.new.reading c.in_ok-parts.parts.items c.in_ok-parts.ensures.opened c.in_ok-connections.connections.items c.deref-2.result.now c.deref-2.ensures.value c.in_ok-connections.ensures.said c.in_ok-connections.ensures.fine c.index.result.now c.args.reading.now.counts.start.scope (sym c.requires.reading.read.frames) c.index.ensures (view_env c.of-here.result) (c.of-here.ensures ∙ ap (λ (fs : List Frame). env_at (envs fs) (Some c.args.at.frame)) c.deref.ensures.value) c.scope_law.ensures.names c.instance_law.ensures.ports
+    ports_wirable c.args.text.now c.requires.text c.args.reading.now c.args.stack.now.items c.args.at c.args.item c.args.instance c.args.known.now c.requires.reading c.requires.known (pairs c.in_ok-overrides.overrides) c.as_slice.result.now c.in_ok-overrides.ensures.alike c.as_slice.ensures c.in_ok-left.left c.in_ok-left.ensures.deeper c.open_scope.new.reading c.in_ok-parts.parts.items c.in_ok-parts.ensures.opened c.in_ok-connections.connections.items c.deref-2.result.now c.deref-2.ensures.value c.in_ok-connections.ensures.said c.in_ok-connections.ensures.fine c.index.result.now c.args.reading.now.counts.start.scope (sym c.requires.reading.read.frames) c.index.ensures (view_env c.of-here.result) (c.of-here.ensures ∙ ap (λ (fs : List Frame). env_at (envs fs) (Some c.args.at.frame)) c.deref.ensures.value) c.scope_law.ensures.names c.instance_law.ensures.ports
 
 pub returns-clause-step : goal.returns-clause-step
 returns-clause-step c =
     let mid : Reading = c.open_scope.new.reading in
     let new : Reading = record mid { builder = c.wire_ports.new.builder } in
-    all_done c.args.text.now c.requires.text c.args.reading.now c.args.stack.now.items c.args.at c.args.item c.args.instance c.args.known.now c.requires.reading c.requires.known (pairs c.in_ok-overrides.overrides) c.as_bytes.result.now c.in_ok-overrides.ensures.alike c.as_bytes.ensures c.in_ok-left.left c.in_ok-left.ensures.deeper c.open_scope.new.reading c.in_ok-parts.parts.items c.in_ok-parts.ensures.opened c.in_ok-connections.connections.items c.deref-2.result.now c.deref-2.ensures.value c.in_ok-connections.ensures.said c.in_ok-connections.ensures.fine c.index.result.now c.args.reading.now.counts.start.scope (sym c.requires.reading.read.frames) c.index.ensures (view_env c.of-here.result) (c.of-here.ensures ∙ ap (λ (fs : List Frame). env_at (envs fs) (Some c.args.at.frame)) c.deref.ensures.value) new c.push_parts.new.stack.items refl refl (ap (λ (s : Draft). s.design) c.in_ok-wire_ports.ensures)
+    all_done c.args.text.now c.requires.text c.args.reading.now c.args.stack.now.items c.args.at c.args.item c.args.instance c.args.known.now c.requires.reading c.requires.known (pairs c.in_ok-overrides.overrides) c.as_slice.result.now c.in_ok-overrides.ensures.alike c.as_slice.ensures c.in_ok-left.left c.in_ok-left.ensures.deeper c.open_scope.new.reading c.in_ok-parts.parts.items c.in_ok-parts.ensures.opened c.in_ok-connections.connections.items c.deref-2.result.now c.deref-2.ensures.value c.in_ok-connections.ensures.said c.in_ok-connections.ensures.fine c.index.result.now c.args.reading.now.counts.start.scope (sym c.requires.reading.read.frames) c.index.ensures (view_env c.of-here.result) (c.of-here.ensures ∙ ap (λ (fs : List Frame). env_at (envs fs) (Some c.args.at.frame)) c.deref.ensures.value) new c.push_parts.new.stack.items refl refl (ap (λ (s : Draft). s.design) c.in_ok-wire_ports.ensures)
     (c.in_ok-push_parts.ensures.pieces (source_of c.args.text.now) mid.frames.items)
-    (c.in_ok-push_parts.ensures.parts (source_of c.args.text.now) mid.frames.items (pending_still c.args.text.now c.requires.text c.args.reading.now c.args.stack.now.items c.args.at c.args.item c.args.instance c.args.known.now c.requires.reading c.requires.known (pairs c.in_ok-overrides.overrides) c.as_bytes.result.now c.in_ok-overrides.ensures.alike c.as_bytes.ensures c.in_ok-left.left c.in_ok-left.ensures.deeper c.open_scope.new.reading c.in_ok-parts.parts.items c.in_ok-parts.ensures.opened) (frame_new c.args.text.now c.requires.text c.args.reading.now c.args.stack.now.items c.args.at c.args.item c.args.instance c.args.known.now c.requires.reading c.requires.known (pairs c.in_ok-overrides.overrides) c.as_bytes.result.now c.in_ok-overrides.ensures.alike c.as_bytes.ensures c.in_ok-left.left c.in_ok-left.ensures.deeper c.open_scope.new.reading c.in_ok-parts.parts.items c.in_ok-parts.ensures.opened c.args.reading.now.counts.start.scope (sym c.requires.reading.read.frames)) (depth_within_limit c.args.text.now c.requires.text c.args.reading.now c.args.stack.now.items c.args.at c.args.item c.args.instance c.args.known.now c.requires.reading c.requires.known (pairs c.in_ok-overrides.overrides) c.as_bytes.result.now c.in_ok-overrides.ensures.alike c.as_bytes.ensures c.in_ok-left.left c.in_ok-left.ensures.deeper c.open_scope.new.reading c.in_ok-parts.parts.items c.in_ok-parts.ensures.opened) (parts_still c.args.text.now c.requires.text c.args.reading.now c.args.stack.now.items c.args.at c.args.item c.args.instance c.args.known.now c.requires.reading c.requires.known (pairs c.in_ok-overrides.overrides) c.as_bytes.result.now c.in_ok-overrides.ensures.alike c.as_bytes.ensures c.in_ok-left.left c.in_ok-left.ensures.deeper c.open_scope.new.reading c.in_ok-parts.parts.items c.in_ok-parts.ensures.opened c.args.reading.now.counts.start.scope (sym c.requires.reading.read.frames)))
+    (c.in_ok-push_parts.ensures.parts (source_of c.args.text.now) mid.frames.items (pending_still c.args.text.now c.requires.text c.args.reading.now c.args.stack.now.items c.args.at c.args.item c.args.instance c.args.known.now c.requires.reading c.requires.known (pairs c.in_ok-overrides.overrides) c.as_slice.result.now c.in_ok-overrides.ensures.alike c.as_slice.ensures c.in_ok-left.left c.in_ok-left.ensures.deeper c.open_scope.new.reading c.in_ok-parts.parts.items c.in_ok-parts.ensures.opened) (frame_new c.args.text.now c.requires.text c.args.reading.now c.args.stack.now.items c.args.at c.args.item c.args.instance c.args.known.now c.requires.reading c.requires.known (pairs c.in_ok-overrides.overrides) c.as_slice.result.now c.in_ok-overrides.ensures.alike c.as_slice.ensures c.in_ok-left.left c.in_ok-left.ensures.deeper c.open_scope.new.reading c.in_ok-parts.parts.items c.in_ok-parts.ensures.opened c.args.reading.now.counts.start.scope (sym c.requires.reading.read.frames)) (depth_within_limit c.args.text.now c.requires.text c.args.reading.now c.args.stack.now.items c.args.at c.args.item c.args.instance c.args.known.now c.requires.reading c.requires.known (pairs c.in_ok-overrides.overrides) c.as_slice.result.now c.in_ok-overrides.ensures.alike c.as_slice.ensures c.in_ok-left.left c.in_ok-left.ensures.deeper c.open_scope.new.reading c.in_ok-parts.parts.items c.in_ok-parts.ensures.opened) (parts_still c.args.text.now c.requires.text c.args.reading.now c.args.stack.now.items c.args.at c.args.item c.args.instance c.args.known.now c.requires.reading c.requires.known (pairs c.in_ok-overrides.overrides) c.as_slice.result.now c.in_ok-overrides.ensures.alike c.as_slice.ensures c.in_ok-left.left c.in_ok-left.ensures.deeper c.open_scope.new.reading c.in_ok-parts.parts.items c.in_ok-parts.ensures.opened c.args.reading.now.counts.start.scope (sym c.requires.reading.read.frames)))

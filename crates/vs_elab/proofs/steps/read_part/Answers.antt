@@ -39,7 +39,7 @@ unreachable-requires c =
     let env = env_at (envs c.args.reading.now.frames.items) (Some c.args.next.frame) in
     let last = each_last (IsPending source c.args.reading.now.frames.items) c.args.stack.now.items c.args.next c.requires.reading.pending in
     let fine : IsFineInstance source env (view.instances c.in-Instance.item.now) (view.instance c.in-Instance.instance.now) = subst (IsFinePart source env) c.in-Instance.is last.fine in
-    found_some source c.args.text.now.modules c.as_bytes.result.now c.in-Instance.item.now.of.text c.get.result fine.of c.requires.text.modules c.get.ensures.value c.as_bytes.ensures fine.found c.in-None.is
+    found_some source c.args.text.now.modules c.as_slice.result.now c.in-Instance.item.now.of.text c.get.result fine.of c.requires.text.modules c.get.ensures.value c.as_slice.ensures fine.found c.in-None.is
 
 pub unreachable-unreachable : goal.unreachable-unreachable
 unreachable-unreachable c =
@@ -47,7 +47,7 @@ unreachable-unreachable c =
     let env = env_at (envs c.args.reading.now.frames.items) (Some c.args.next.frame) in
     let last = each_last (IsPending source c.args.reading.now.frames.items) c.args.stack.now.items c.args.next c.requires.reading.pending in
     let fine : IsFineInstance source env (view.instances c.in-Instance.item.now) (view.instance c.in-Instance.instance.now) = subst (IsFinePart source env) c.in-Instance.is last.fine in
-    found_some source c.args.text.now.modules c.as_bytes.result.now c.in-Instance.item.now.of.text c.get.result fine.of c.requires.text.modules c.get.ensures.value c.as_bytes.ensures fine.found c.in-None.is
+    found_some source c.args.text.now.modules c.as_slice.result.now c.in-Instance.item.now.of.text c.get.result fine.of c.requires.text.modules c.get.ensures.value c.as_slice.ensures fine.found c.in-None.is
 
 pub read_instance-requires-clause-text : goal.read_instance-requires-clause-text
 read_instance-requires-clause-text c = c.requires.text
@@ -59,7 +59,7 @@ read_instance-requires-clause-reading c =
 
 pub read_instance-requires-clause-known : goal.read_instance-requires-clause-known
 read_instance-requires-clause-known c =
-    found_known (source_of c.args.text.now) c.args.text.now.modules c.as_bytes.result.now c.in-Instance.item.now.of.text c.get.result c.in-Some.known c.requires.text.modules c.get.ensures.value c.as_bytes.ensures c.in-Some.is
+    found_known (source_of c.args.text.now) c.args.text.now.modules c.as_slice.result.now c.in-Instance.item.now.of.text c.get.result c.in-Some.known c.requires.text.modules c.get.ensures.value c.as_slice.ensures c.in-Some.is
 
 pub returns-in-Some-clause-step : goal.returns-in-Some-clause-step
 returns-in-Some-clause-step c =

@@ -7,8 +7,8 @@ use Rattle.vs_ast.proofs.Rows.{target_rows}
 use Rattle.vs_ast.specs.declared.statements.Target.{Target, the_lemmas}
 use Rattle.vs_const.specs.declared.faults.Fault.{Fault}
 use Rattle.vs_const.specs.Faults.{least}
-use Rattle.vs_hierarchy.specs.Environments.{named}
-use Rattle.vs_hierarchy.specs.Targets.{typed_target, typed_targets}
+use Rattle.vs_elaborated.specs.Environments.{named}
+use Rattle.vs_elaborated.specs.Targets.{typed_target, typed_targets}
 use Rattle.vs_scope.specs.Frames.{view_env}
 use Rattle.vs_build.proofs.TargetFacts.{concatenation_view, part_falls}
 use Rattle.vs_elab.proofs.FaultLists.{least_more}

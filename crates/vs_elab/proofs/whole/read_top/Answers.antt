@@ -11,7 +11,7 @@ use Rattle.vs_elab.proofs.TopReading.{items_shallow, none_override, top_sound, t
 use Rattle.vs_elab.proofs.whole.read_top.Goals as goal
 
 pub open_scope-requires-clause-sound : goal.open_scope-requires-clause-sound
-open_scope-requires-clause-sound c = top_sound _ c.nothing_read-reading.result.frames.items c.args.top.now.of c.as_bytes.result.now c.new-none.result c.new-none.ensures c.requires.shaped
+open_scope-requires-clause-sound c = top_sound _ c.nothing_read-reading.result.frames.items c.args.top.now.of c.as_slice.result.now c.new-none.result c.new-none.ensures c.requires.shaped
 
 pub open_scope-requires-clause-overrides : goal.open_scope-requires-clause-overrides
 open_scope-requires-clause-overrides c = none_override c.nothing_read-reading.result.frames.items c.new-none.result c.new-none.ensures
@@ -24,7 +24,7 @@ returns-in_err-parts-clause-broken c =
     let old = c.nothing_read-reading.result in
     let m = c.args.top.now.of in
     let p = err_from_is_err_and c.from_residual.result c.from_residual.ensures.1 in
-    let is = top_is old.frames.items m c.as_bytes.result.now c.new-none.result c.as_bytes.ensures c.new-none.ensures in
+    let is = top_is old.frames.items m c.as_slice.result.now c.new-none.result c.as_slice.ensures c.new-none.ensures in
     rw (p.1, p.2) (top_fails (source_of c.args.text.now) (view.module_tree m.now) _ (totals_of old.counts) _ is c.nothing_read-reading.ensures.totals c.in_err-parts.ensures.broken)
 
 pub read_pending-requires-clause-reading : goal.read_pending-requires-clause-reading
@@ -54,7 +54,7 @@ returns-clause-design c =
     let read = c.nothing_read-reading.ensures in
     let stack = c.push_parts.new.stack.items in
     let pieces = first_pieces source 6432 1 old.frames.items new.frames.items ps _ stack c.new-stack.ensures.items read.frames (c.in_ok-push_parts.ensures.pieces source new.frames.items) in
-    let is = top_is old.frames.items m c.as_bytes.result.now c.new-none.result c.as_bytes.ensures c.new-none.ensures in
+    let is = top_is old.frames.items m c.as_slice.result.now c.new-none.result c.as_slice.ensures c.new-none.ensures in
     let same = top_outcome text (view.module_tree m.now) _ old new ps stack is c.in_ok-parts.ensures.opened read.design read.totals pieces in
     subst (λ (d : Result Design Fault). IfOk c.read_pending.result (λ (r : Reading). d ≡ Ok (design_so_far r))) (sym same) c.read_pending.ensures.design
 
@@ -69,6 +69,6 @@ returns-clause-broken c =
     let read = c.nothing_read-reading.ensures in
     let stack = c.push_parts.new.stack.items in
     let pieces = first_pieces source 6432 1 old.frames.items new.frames.items ps _ stack c.new-stack.ensures.items read.frames (c.in_ok-push_parts.ensures.pieces source new.frames.items) in
-    let is = top_is old.frames.items m c.as_bytes.result.now c.new-none.result c.as_bytes.ensures c.new-none.ensures in
+    let is = top_is old.frames.items m c.as_slice.result.now c.new-none.result c.as_slice.ensures c.new-none.ensures in
     let same = top_outcome text (view.module_tree m.now) _ old new ps stack is c.in_ok-parts.ensures.opened read.design read.totals pieces in
     subst (λ (d : Result Design Fault). IfErr c.read_pending.result (λ (e : ElabError). Tells e (λ (f : Fault). d ≡ Err f))) (sym same) c.read_pending.ensures.broken

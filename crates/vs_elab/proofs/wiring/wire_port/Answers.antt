@@ -1,5 +1,5 @@
 use Rattle.std.proofs.Common.{◌≡◌, OnOk, subst}
-use Rattle.vs_hierarchy.specs.Environments.{named}
+use Rattle.vs_elaborated.specs.Environments.{named}
 use Rattle.vs_build.specs.Drafts.{Draft}
 use Rattle.vs_build.specs.Growth.{draft}
 use Rattle.vs_scope.specs.Frames.{view_env}

@@ -1,7 +1,7 @@
 use Rattle.std.proofs.Common.{List, map, ap, ◌∙◌}
 use Rattle.std.proofs.lemmas.List.{take_all}
-use Rattle.vs_hierarchy.specs.Elaborated.{port_assign}
-use Rattle.vs_hierarchy.specs.Environments.{named}
+use Rattle.vs_elaborated.specs.Elaborated.{port_assign}
+use Rattle.vs_elaborated.specs.Environments.{named}
 use Rattle.vs_build.specs.Growth.{draft}
 use Rattle.vs_scope.specs.Frames.{view_env}
 use Rattle.vs_scope.specs.Views.{entries}

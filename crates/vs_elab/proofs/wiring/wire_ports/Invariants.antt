@@ -1,5 +1,5 @@
 use Rattle.std.proofs.Common.{◌≡◌, map, take}
-use Rattle.vs_hierarchy.specs.Elaborated.{port_assign}
+use Rattle.vs_elaborated.specs.Elaborated.{port_assign}
 use Rattle.vs_build.specs.Growth.{draft}
 use Rattle.vs_scope.specs.Frames.{view_env}
 use Rattle.vs_scope.specs.Views.{entries}

@@ -16,7 +16,7 @@ loop-i-preserved g c =
     ∙ one_bit g.W.Word.lane c.args.file.now c.load-pair.result c.args.span.first c.sixty_four-value.result c.sixty_four-unknown.result c.loop-i.i n
     (c.sixty_four-value.ensures c.loop-i.i (omega arith))
     (c.sixty_four-unknown.ensures c.loop-i.i (omega arith))
-    (c.load-pair.ensures.lanes n)
+    (c.load-pair.ensures.lanes n ∙ ap (λ z. slot_lane g.W.Word.lane c.args.file.now z n) c.home.ensures)
     ∙ sym (ap (λ (m : ℕ). read (λ b. slot_lane g.W.Word.lane c.args.file.now (home b) n) (count_from c.args.span.first m)) c.if-span-eq1.true))
     c.loop-i.invariant
 

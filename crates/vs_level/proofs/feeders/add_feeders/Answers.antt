@@ -1,4 +1,4 @@
-use Rattle.vs_level.proofs.Tests.{member_at}
+use Rattle.vs_reads.proofs.Tests.{member_at}
 use Rattle.vs_level.proofs.feeders.add_feeders.Goals as goal
 
 pub of-requires : goal.of-requires

@@ -1,5 +1,5 @@
 use Rattle.std.proofs.Common.{◌<◌, get_or, subst, sym}
-use Rattle.vs_level.proofs.Tests.{member_at}
+use Rattle.vs_reads.proofs.Tests.{member_at}
 use Rattle.vs_level.proofs.feeders.add_writer.Goals as goal
 
 pub add-requires : goal.add-requires

@@ -6,7 +6,7 @@ use Rattle.vs_flat.specs.DesignOf.{design_of}
 use Rattle.vs_reads.specs.Footprint.{reads_at, waits_at}
 use Rattle.vs_level.specs.Feeders.{writers_at}
 use Rattle.vs_level.proofs.Growing.{feeders_are}
-use Rattle.vs_level.proofs.Told.{process_is, told, below_length, collected}
+use Rattle.vs_reads.proofs.Told.{process_is, told, below_length, collected}
 use Rattle.vs_level.proofs.feeders.feeders_of.Goals as goal
 
 pub add_feeders-requires : goal.add_feeders-requires

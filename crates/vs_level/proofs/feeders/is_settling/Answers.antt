@@ -1,6 +1,6 @@
 use Rattle.std.proofs.Common.{not, ap, sym, ◌∙◌}
 use Rattle.std.specs.List.{list_any}
-use Rattle.vs_level.specs.Feeders.{is_edge_event}
+use Rattle.vs_flat.specs.Events.{is_edge_event}
 use Rattle.vs_level.proofs.Settling.{settles_by}
 use Rattle.vs_level.proofs.feeders.is_settling.Goals as goal
 

@@ -4,7 +4,7 @@ use Rattle.vs_flat.specs.DesignOf.{design_of}
 use Rattle.vs_reads.specs.Footprint.{writes_at}
 use Rattle.vs_level.specs.Feeders.{AreWriters}
 use Rattle.vs_level.proofs.Growing.{writers_more, writers_same}
-use Rattle.vs_level.proofs.Told.{process_is, told, below_length, there}
+use Rattle.vs_reads.proofs.Told.{process_is, told, below_length, there}
 use Rattle.vs_level.proofs.feeders.writers_of.Goals as goal
 use Rattle.vs_level.proofs.feeders.writers_of.Goals.{then-is_settling+in_ok-add_writer, else-is_settling}
 

@@ -2,11 +2,10 @@ use Rattle.std.proofs.Common.{◌≡◌, ◌∙◌, ◌++◌, ℕ, List, true, r
 use Rattle.std.specs.List.{All}
 use Rattle.vs_code.specs.Calls.{IsCall}
 use Rattle.vs_flat.specs.Arena.{bit_count}
-use Rattle.vs_length.specs.Bodies.{body_of}
+use Rattle.vs_shape.specs.Bodies.{body_of}
 use Rattle.vs_lower.specs.Copies.{copies}
 use Rattle.vs_lower.specs.Processed.{IsBlockReady}
-use Rattle.vs_lower.specs.Ready.{IsStatementReady}
-use Rattle.vs_lower.specs.Stated.{AddsStatement}
+use Rattle.vs_lower.specs.Stated.{IsStatementReady, AddsStatement}
 use Rattle.vs_lower.proofs.Blocking.{AddsBlock, adds_clocked, block_copies_at, block_ready}
 use Rattle.vs_lower.proofs.Homeward.{at_homes, from_homes}
 use Rattle.vs_lower.proofs.Joining.{picked}

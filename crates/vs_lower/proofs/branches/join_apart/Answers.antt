@@ -2,10 +2,11 @@ use Rattle.std.proofs.Common.{◌≡◌, ◌∙◌, ◌<◌, ℕ, Bool, List, le
 use Rattle.std.specs.List.{All}
 use Rattle.std.proofs.lemmas.List.Elements.{All-weaker}
 use Rattle.vs_lower.specs.Branched.{unwritten, written}
-use Rattle.vs_lower.specs.Coded.{Coding}
-use Rattle.vs_lower.specs.Done.{placed}
+use Rattle.vs_values.specs.Coded.{Coding}
+use Rattle.vs_values.specs.Environments.{placed}
 use Rattle.vs_lower.specs.Joined.{IsJoined}
-use Rattle.vs_lower.proofs.Placing.{placed_length, placed_other}
+use Rattle.vs_values.proofs.Environments.{placed_length}
+use Rattle.vs_lower.proofs.Placing.{placed_other}
 use Rattle.vs_lower.proofs.Restoring.{joined_kept, restored}
 use Rattle.vs_lower.proofs.branches.join_apart.Goals as goal
 

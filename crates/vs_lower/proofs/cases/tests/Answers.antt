@@ -5,13 +5,12 @@ use Rattle.std.proofs.lemmas.List.FromFn.{length-range_with_len}
 use Rattle.vs_design.specs.Expressions.{Expression}
 use Rattle.vs_flat.specs.Arena.{bit_count}
 use Rattle.vs_flat.specs.DesignOf.{arena_trees}
-use Rattle.vs_flat.specs.Operators.{case_of}
 use Rattle.vs_flat.specs.Trees.{tree_at}
-use Rattle.vs_lower.specs.Choices.{match_kernel}
-use Rattle.vs_lower.specs.Coded.{with_call}
-use Rattle.vs_lower.specs.Made.{IsCallable}
-use Rattle.vs_lower.specs.Ready.{IsReady}
-use Rattle.vs_lower.specs.Valued.{AddsValue}
+use Rattle.vs_lower.specs.Cases.{match_kernel}
+use Rattle.vs_values.specs.Coded.{with_call}
+use Rattle.vs_values.specs.Made.{IsCallable}
+use Rattle.vs_values.specs.Ready.{IsReady}
+use Rattle.vs_values.specs.Valued.{AddsValue}
 use Rattle.vs_lower.proofs.Testing.{no_tests, ready_item, callable_match, adds_test}
 use Rattle.vs_lower.proofs.cases.tests.Goals as goal
 
@@ -21,7 +20,7 @@ item_at g (x ∷ xs) zero l = refl
 item_at g (x ∷ xs) (suc n) l = item_at g xs n (omega arith)
 
 pub loop-n-init : goal.loop-n-init
-loop-n-init c = (ap length c.new-matches.ensures.items, no_tests c.args.env.now c.args.subject.now c.args.code.now (case_of c.args.kind) c.args.context.width c.args.context.signed c.new-matches.result.items c.new-matches.ensures.items)
+loop-n-init c = (ap length c.new-matches.ensures.items, no_tests c.args.env.now c.args.subject.now c.args.code.now c.args.kind c.args.context.width c.args.context.signed c.new-matches.result.items c.new-matches.ensures.items)
 
 pub lower-requires-clause-ready : goal.lower-requires-clause-ready
 lower-requires-clause-ready c =
@@ -30,7 +29,7 @@ lower-requires-clause-ready c =
     let n = c.loop-n.n in
     let l : n < length (map g xs) = omega (arith, c.loop-n-test.true, length-map xs g) in
     subst (λ (x : Expression). IsReady (bit_count c.args.typed.now.signals) c.args.env.now c.loop-n.code x c.args.context.width) (item_at g xs n c.loop-n-test.true)
-    (ready_item (bit_count c.args.typed.now.signals) c.args.env.now c.args.subject.now c.args.code.now c.loop-n.code (case_of c.args.kind) c.args.context.width c.args.context.signed (map g xs) c.loop-n.matches.items n (g 0) l c.requires.ready c.loop-n.invariant.1)
+    (ready_item (bit_count c.args.typed.now.signals) c.args.env.now c.args.subject.now c.args.code.now c.loop-n.code c.args.kind c.args.context.width c.args.context.signed (map g xs) c.loop-n.matches.items n (g 0) l c.requires.ready c.loop-n.invariant.1)
 
 pub matched-requires : goal.matched-requires
 matched-requires c =
@@ -42,8 +41,8 @@ matched-requires c =
     let l : n < length (map g xs) = omega (arith, c.loop-n-test.true, length-map xs g) in
     let v = subst (λ (x : Expression). AddsValue env c.loop-n.code.calls c.loop-n.code.next c.lower.new.code.calls c.lower.new.code.next x c.args.context.width c.args.context.signed te) (sym (item_at g xs n c.loop-n-test.true)) c.in_ok-item.ensures in
     record {
-      call = subst (λ (x : List ℕ). IsCallable c.lower.new.code (match_kernel (case_of c.args.kind)) (x ∷ te ∷ []) 1) (sym c.in_ok-copy.ensures.items)
-          (callable_match (bit_count c.args.typed.now.signals) env c.args.subject.now c.args.code.now c.loop-n.code c.lower.new.code (case_of c.args.kind) c.args.context.width c.args.context.signed (map g xs) c.loop-n.matches.items te n (g 0) l c.requires.ready c.loop-n.invariant.1 v);
+      call = subst (λ (x : List ℕ). IsCallable c.lower.new.code (match_kernel c.args.kind) (x ∷ te ∷ []) 1) (sym c.in_ok-copy.ensures.items)
+          (callable_match (bit_count c.args.typed.now.signals) env c.args.subject.now c.args.code.now c.loop-n.code c.lower.new.code c.args.kind c.args.context.width c.args.context.signed (map g xs) c.loop-n.matches.items te n (g 0) l c.requires.ready c.loop-n.invariant.1 v);
     }
 
 pub loop-n-preserved : goal.loop-n-preserved
@@ -57,8 +56,8 @@ loop-n-preserved c =
     let v = subst (λ (x : Expression). AddsValue env c.loop-n.code.calls c.loop-n.code.next c.lower.new.code.calls c.lower.new.code.next x c.args.context.width c.args.context.signed te) (sym (item_at g xs n c.loop-n-test.true)) c.in_ok-item.ensures in
     let more = c.in_ok-matches.ensures ∙ ap (λ (x : List ℕ). c.loop-n.matches.items ++ x) c.in_ok-to.ensures.to in (
       omega (arith, ap length more, length-append c.loop-n.matches.items (range_with_len c.lower.new.code.next 1), length-range_with_len c.lower.new.code.next 1, c.loop-n.invariant.0),
-      adds_test (bit_count c.args.typed.now.signals) env c.args.subject.now c.args.code.now c.loop-n.code c.lower.new.code c.matched.new.code (case_of c.args.kind) c.args.context.width c.args.context.signed (map g xs) c.loop-n.matches.items te c.in_ok-matches.matches.items n (g 0) l
+      adds_test (bit_count c.args.typed.now.signals) env c.args.subject.now c.args.code.now c.loop-n.code c.lower.new.code c.matched.new.code c.args.kind c.args.context.width c.args.context.signed (map g xs) c.loop-n.matches.items te c.in_ok-matches.matches.items n (g 0) l
           c.requires.ready c.loop-n.invariant.1 v
-          (c.in_ok-to.ensures.ok ∙ ap (λ (x : List ℕ). with_call c.lower.new.code (match_kernel (case_of c.args.kind)) (x ∷ te ∷ []) 1) c.in_ok-copy.ensures.items)
+          (c.in_ok-to.ensures.ok ∙ ap (λ (x : List ℕ). with_call c.lower.new.code (match_kernel c.args.kind) (x ∷ te ∷ []) 1) c.in_ok-copy.ensures.items)
           more,
     )

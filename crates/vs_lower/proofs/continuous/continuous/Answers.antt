@@ -10,10 +10,11 @@ use Rattle.vs_flat.specs.Arena.{bit_count}
 use Rattle.vs_flat.specs.DesignOf.{arena_trees}
 use Rattle.vs_flat.specs.Trees.{target_tree, tree_at}
 use Rattle.vs_lower.specs.Assigned.{AddsRun, IsAssignReady, assign_most}
-use Rattle.vs_lower.specs.Copies.{homes, home_copies}
-use Rattle.vs_lower.specs.Coded.{Coding}
+use Rattle.vs_values.specs.Environments.{homes}
+use Rattle.vs_lower.specs.Copies.{home_copies}
+use Rattle.vs_values.specs.Coded.{Coding}
 use Rattle.vs_lower.specs.Processed.{IsContinuousReady}
-use Rattle.vs_lower.specs.Valued.{IsSource}
+use Rattle.vs_values.specs.Valued.{IsSource}
 use Rattle.vs_lower.proofs.Homeward.{assign_ready, at_homes, from_homes, AddsUpdate, CanGoHome, can_go_home, adds_continuous}
 use Rattle.vs_lower.proofs.continuous.continuous.Goals as goal
 

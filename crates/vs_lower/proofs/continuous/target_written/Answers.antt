@@ -3,7 +3,7 @@ use Rattle.vs_design.specs.Footprints.{contains, target_bits}
 use Rattle.vs_flat.specs.Arena.{Arena}
 use Rattle.vs_flat.specs.DesignOf.{arena_trees}
 use Rattle.vs_flat.specs.Trees.{target_tree, tree_at}
-use Rattle.vs_length.specs.Walked.{IsTarget}
+use Rattle.vs_shape.specs.Walked.{IsTarget}
 use Rattle.vs_lower.proofs.continuous.target_written.Goals as goal
 
 pub push_target-requires-clause-target : goal.push_target-requires-clause-target

@@ -2,7 +2,7 @@ use Rattle.std.proofs.Common.{◌≡◌, ◌∙◌, ◌==◌, ℕ, Bool, false, 
 use Rattle.std.specs.List.{All}
 use Rattle.std.proofs.lemmas.List.Elements.{All-head}
 use Rattle.vs_code.specs.Calls.{IsCall}
-use Rattle.vs_lower.specs.Copies.{copy_call}
+use Rattle.vs_values.specs.Added.{copy_call}
 use Rattle.vs_lower.proofs.Homing.{some_copies}
 use Rattle.vs_lower.proofs.Joining.{picked}
 use Rattle.vs_lower.proofs.copies.copy_all.Goals as goal

@@ -3,7 +3,9 @@ use Rattle.std.specs.List.{All}
 use Rattle.std.proofs.lemmas.List.Elements.{All-head, All-weaker}
 use Rattle.std.proofs.lemmas.List.FromFn.{length-range_with_len}
 use Rattle.vs_code.specs.Calls.{Call, IsCall}
-use Rattle.vs_lower.specs.Copies.{copy_call, homes, moved}
+use Rattle.vs_values.specs.Added.{copy_call}
+use Rattle.vs_values.specs.Environments.{homes}
+use Rattle.vs_lower.specs.Copies.{moved}
 use Rattle.vs_lower.specs.Joined.{differing_bits}
 use Rattle.vs_lower.proofs.Differing.{bits_within}
 use Rattle.vs_lower.proofs.Homing.{some_copies}

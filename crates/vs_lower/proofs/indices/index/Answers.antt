@@ -7,7 +7,7 @@ use Rattle.vs_flat.specs.Trees.{signal_at, tree_at}
 use Rattle.vs_lower.specs.declared.leaves.Leaf.{Leaf}
 use Rattle.vs_lower.specs.Leaves.{leaf_target}
 use Rattle.vs_lower.specs.Written.{AddsIndex, HasRoom, index_weight}
-use Rattle.vs_lower.proofs.Choosing.{own_value_of}
+use Rattle.vs_values.proofs.Choosing.{own_value_of}
 use Rattle.vs_lower.proofs.Indexing.{ready_index_of, adds_whole_index, adds_part_index}
 use Rattle.vs_lower.proofs.indices.index.Goals as goal
 

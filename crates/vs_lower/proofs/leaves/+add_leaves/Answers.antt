@@ -1,15 +1,14 @@
-use Rattle.std.proofs.Common.{◌≡◌, ◌∙◌, ◌<◌, ℕ, IsSome, List, Some, length, take, slice_index, sym, ap, subst, refl, arith}
+use Rattle.std.proofs.Common.{◌≡◌, ◌∙◌, ℕ, List, Some, length, take, slice_index, sym, ap, subst, refl, arith}
 use Rattle.std.specs.List.{flat_map}
-use Rattle.std.proofs.lemmas.List.{length-take, get_or-take}
+use Rattle.std.proofs.lemmas.List.{take_all}
 use Rattle.vs_design.specs.Expressions as E
 use Rattle.vs_lower.specs.declared.leaves.Leaf.TheVariants as L
 use Rattle.vs_flat.specs.Arena.{Arena, node_at}
 use Rattle.vs_flat.specs.DesignOf.{arena_trees}
-use Rattle.vs_flat.specs.Targets.{target_of}
 use Rattle.vs_flat.specs.Trees.{target_tree, tree_at}
 use Rattle.vs_flat.specs.declared.expressions.Node.TheVariants as N
 use Rattle.vs_lower.specs.Leaves.{AddsLeaves, leaves_of}
-use Rattle.vs_lower.proofs.Trees.{tree, name_below, select_below}
+use Rattle.vs_values.proofs.Trees.{tree, name_below, select_below}
 use Rattle.vs_lower.proofs.Parted.{parted, parts_more, adds_leaf, adds_leaves}
 use Rattle.vs_lower.proofs.leaves.+add_leaves.Goals as goal
 
@@ -33,31 +32,26 @@ pub add_leaves-requires : goal.add_leaves-requires
 add_leaves-requires t c =
     let a = c.args.typed.now in
     let e = c.args.target in
-    let parts = c.as_slice-parts.result.now in
-    let at : node_at a e ≡ Some (N.Join parts) = ap (λ (x : Arena). node_at x e) (sym c.flat.ensures.same) ∙ c.expr.ensures ∙ ap Some c.in-Join.is ∙ ap (λ (x : List ℕ). Some (N.Join x)) (sym c.as_slice-parts.ensures) in
+    let parts = c.as_slice.result.now in
+    let at : node_at a e ≡ Some (N.Join parts) = ap (λ (x : Arena). node_at x e) (sym c.flat.ensures.same) ∙ c.expr.ensures ∙ ap Some c.in-Join.is ∙ ap (λ (x : List ℕ). Some (N.Join x)) (sym c.as_slice.ensures) in
     let tr = tree c.trees_law.ensures.expressions a c.flat.ensures.lawful.names e (N.Join parts) at in
-    let k = c.period-n-end.result in
-    let n = c.loop-n.n in
-    let p = parted a e parts tr c.requires.is_target k c.period-n-end.ensures.copy in
-    let l : n < length (take k parts) = omega (arith, c.loop-n-test.true, length-take k parts, c.period-n-end.ensures.most) in
-    let same : slice_index (take k parts) n ≡ slice_index parts n = get_or-take k parts n 0 c.loop-n-test.true in
-    let q = p.each n l in (
-      omega (arith, q.0, same, c.decreases),
-      (omega (arith, q.0, same, c.requires.node), subst (λ (x : ℕ). IsSome (target_of (tree_at (arena_trees a) x))) same q.1),
+    let p = parted a e parts tr c.requires.is_target c.first_copy-parts.result.now c.first_copy-parts.ensures.copy c.first_copy-parts.ensures.prefix in
+    let q = p.each c.loop-part.part-index c.loop-part-test.true in (
+      omega (arith, q.0, c.decreases),
+      (omega (arith, q.0, c.requires.node), q.1),
     )
 
-pub returns-after-loop-n : goal.returns-after-loop-n
-returns-after-loop-n t c =
+pub returns-after-loop-part : goal.returns-after-loop-part
+returns-after-loop-part t c =
     let a = c.args.typed.now in
     let e = c.args.target in
-    let parts = c.as_slice-parts.result.now in
-    let at : node_at a e ≡ Some (N.Join parts) = ap (λ (x : Arena). node_at x e) (sym c.flat.ensures.same) ∙ c.expr.ensures ∙ ap Some c.in-Join.is ∙ ap (λ (x : List ℕ). Some (N.Join x)) (sym c.as_slice-parts.ensures) in
+    let parts = c.as_slice.result.now in
+    let at : node_at a e ≡ Some (N.Join parts) = ap (λ (x : Arena). node_at x e) (sym c.flat.ensures.same) ∙ c.expr.ensures ∙ ap Some c.in-Join.is ∙ ap (λ (x : List ℕ). Some (N.Join x)) (sym c.as_slice.ensures) in
     let tr = tree c.trees_law.ensures.expressions a c.flat.ensures.lawful.names e (N.Join parts) at in
-    let k = c.period-n-end.result in
-    let p = parted a e parts tr c.requires.is_target k c.period-n-end.ensures.copy in
-    let all : c.loop-n.n ≡ k = omega (arith, c.loop-n-test.false, c.loop-n.auto.n-end) in
+    let first = c.first_copy-parts.result.now in
+    let p = parted a e parts tr c.requires.is_target first c.first_copy-parts.ensures.copy c.first_copy-parts.ensures.prefix in
     let f = λ (x : ℕ). leaves_of (target_tree (tree_at (arena_trees a) x)) in
-    subst (AddsLeaves a c.args.leaves.now.items c.loop-n.leaves.items) (ap (λ (m : ℕ). flat_map f (take m parts)) all ∙ sym p.are) c.loop-n.invariant
+    subst (AddsLeaves a c.args.leaves.now.items c.loop-part.leaves.items) (ap (flat_map f) (take_all c.loop-part.part-index first c.loop-part-test.false) ∙ sym p.are) c.loop-part.invariant
 
 pub add_select-requires-clause-index : goal.add_select-requires-clause-index
 add_select-requires-clause-index t c =
@@ -75,14 +69,14 @@ add_select-requires-in-Part-clause-index t c =
     let tr = tree c.trees_law.ensures.expressions c.args.typed.now c.flat.ensures.lawful.names e node at in
     omega (arith, (select_below (length c.args.typed.now.signals) e c.in-Part.of c.in-Part.base tr.earlier).1, c.requires.node)
 
-pub loop-n-preserved : goal.loop-n-preserved
-loop-n-preserved t c =
+pub loop-part-preserved : goal.loop-part-preserved
+loop-part-preserved t c =
     let a = c.args.typed.now in
-    let parts = c.as_slice-parts.result.now in
-    let n = c.loop-n.n in
+    let parts = c.first_copy-parts.result.now in
+    let n = c.loop-part.part-index in
     let f = λ (x : ℕ). leaves_of (target_tree (tree_at (arena_trees a) x)) in
-    subst (AddsLeaves a c.args.leaves.now.items c.add_leaves.new.leaves.items) (parts_more f parts n (omega (arith, c.loop-n-test.true, c.period-n-end.ensures.most)))
-    (adds_leaves a c.args.leaves.now.items c.loop-n.leaves.items c.add_leaves.new.leaves.items (flat_map f (take n parts)) (f (slice_index parts n)) c.loop-n.invariant c.in_ok-add_leaves-in-Join.ensures)
+    subst (AddsLeaves a c.args.leaves.now.items c.add_leaves.new.leaves.items) (parts_more f parts n c.loop-part-test.true)
+    (adds_leaves a c.args.leaves.now.items c.loop-part.leaves.items c.add_leaves.new.leaves.items (flat_map f (take n parts)) (f (slice_index parts n)) c.loop-part.invariant c.in_ok-add_leaves-in-Join.ensures)
 
 pub returns-in_ok-push-in-Name : goal.returns-in_ok-push-in-Name
 returns-in_ok-push-in-Name t c =

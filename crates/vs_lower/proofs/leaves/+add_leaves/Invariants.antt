@@ -8,5 +8,5 @@ use Rattle.vs_lower.proofs.leaves.+add_leaves.Given as goal
 abbrev pub decreases-add_leaves : goal.decreases-add_leaves
 decreases-add_leaves l = l.target
 
-abbrev pub invariant-loop-n : goal.invariant-loop-n
-invariant-loop-n l = AddsLeaves l.typed l.initial.leaves.items l.leaves.items (flat_map (λ p. leaves_of (target_tree (tree_at (arena_trees l.typed) p))) (take l.n l.parts))
+abbrev pub invariant-loop-part : goal.invariant-loop-part
+invariant-loop-part l = AddsLeaves l.typed l.initial.leaves.items l.leaves.items (flat_map (λ p. leaves_of (target_tree (tree_at (arena_trees l.typed) p))) (take l.part-index l.parts))

@@ -7,7 +7,7 @@ use Rattle.vs_flat.specs.Trees.{target_tree, tree_at}
 use Rattle.vs_flat.specs.declared.expressions.Node.TheVariants as N
 use Rattle.vs_lower.specs.declared.leaves.Leaf.TheVariants as L
 use Rattle.vs_lower.specs.Leaves.{AddsLeaves, leaves_of}
-use Rattle.vs_lower.proofs.Trees.{tree, name_below}
+use Rattle.vs_values.proofs.Trees.{tree, name_below}
 use Rattle.vs_lower.proofs.Parted.{adds_leaf}
 use Rattle.vs_lower.proofs.leaves.add_select.Goals as goal
 

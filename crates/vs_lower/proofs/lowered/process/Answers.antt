@@ -6,11 +6,11 @@ use Rattle.vs_design.specs.Footprints.{statement_bits}
 use Rattle.vs_design.specs.Sizes.{register_bits}
 use Rattle.vs_flat.specs.Arena.{bit_count}
 use Rattle.vs_flat.specs.DesignOf.{arena_signals, arena_trees, design_of, event_of, kind_of}
-use Rattle.vs_flat.specs.Operators.{edge_of, port_of}
+use Rattle.vs_flat.specs.Ports.{port_of}
 use Rattle.vs_flat.specs.Targets.{place_of}
 use Rattle.vs_flat.specs.Trees.{signal_at, target_tree, tree_at}
 use Rattle.vs_flat.specs.declared.processes.Event as F
-use Rattle.vs_length.specs.Bodies.{body_of}
+use Rattle.vs_shape.specs.Bodies.{body_of}
 use Rattle.vs_lower.specs.Processed.{AddsProcess}
 use Rattle.vs_lower.proofs.Accepting.{assign_is_ready, block_is_ready, edges_are, layout_among, shadows_among, writes_in_registers}
 use Rattle.vs_lower.proofs.lowered.process.Goals as goal
@@ -44,7 +44,7 @@ clocked-requires-clause-ready c =
     let is = c.kind_at.ensures.is in
     let at = is.1 ∙ ap (λ k. Some (kind_of signal (tree_at (arena_trees a)) (body_of a) is.0 k)) c.in-Block.is in
     let lawful = c.lawful_law.ensures.design a c.flat-flat.ensures.lawful in
-    let edge = edges_are signal c.in-Block.events ∙ ap (list_any (λ (e : F.Event). D.is_edge (edge_of e.edge))) (sym c.as_slice.ensures) ∙ sym c.has_edge.ensures ∙ c.if-has_edge.true in
+    let edge = edges_are signal c.in-Block.events ∙ ap (list_any (λ (e : F.Event). D.is_edge e.edge)) (sym c.as_slice.ensures) ∙ sym c.has_edge.ensures ∙ c.if-has_edge.true in
     block_is_ready d c.footprint_law.ensures.bits (c.fits_law.ensures.fits d lawful c.flat-flat.ensures.fits) lawful (bit_count a.signals) (c.trees_law.ensures.counts a).bits c.requires.unmixed
     c.args.code.now true c.args.p is.0 c.in-Block.star (map (event_of signal) c.in-Block.events) (body_of a c.in-Block.statement) at edge c.requires.temps c.requires.slots c.requires.few
 
@@ -56,7 +56,7 @@ clocked-requires-clause-layout c =
     let is = c.kind_at.ensures.is in
     let st = body_of a c.in-Block.statement in
     let at = is.1 ∙ ap (λ k. Some (kind_of signal (tree_at (arena_trees a)) (body_of a) is.0 k)) c.in-Block.is in
-    let edge = edges_are signal c.in-Block.events ∙ ap (list_any (λ (e : F.Event). D.is_edge (edge_of e.edge))) (sym c.as_slice.ensures) ∙ sym c.has_edge.ensures ∙ c.if-has_edge.true in
+    let edge = edges_are signal c.in-Block.events ∙ ap (list_any (λ (e : F.Event). D.is_edge e.edge)) (sym c.as_slice.ensures) ∙ sym c.has_edge.ensures ∙ c.if-has_edge.true in
     layout_among _ (statement_bits st) (register_bits d.processes) (writes_in_registers d.processes c.args.p (D.Always is.0 c.in-Block.star (map (event_of signal) c.in-Block.events) st) at edge) c.requires.layout
 
 pub combinational-requires-clause-ready : goal.combinational-requires-clause-ready
@@ -67,7 +67,7 @@ combinational-requires-clause-ready c =
     let is = c.kind_at.ensures.is in
     let at = is.1 ∙ ap (λ k. Some (kind_of signal (tree_at (arena_trees a)) (body_of a) is.0 k)) c.in-Block.is in
     let lawful = c.lawful_law.ensures.design a c.flat-flat.ensures.lawful in
-    let edge = edges_are signal c.in-Block.events ∙ ap (list_any (λ (e : F.Event). D.is_edge (edge_of e.edge))) (sym c.as_slice.ensures) ∙ sym c.has_edge.ensures ∙ c.if-has_edge.false in
+    let edge = edges_are signal c.in-Block.events ∙ ap (list_any (λ (e : F.Event). D.is_edge e.edge)) (sym c.as_slice.ensures) ∙ sym c.has_edge.ensures ∙ c.if-has_edge.false in
     block_is_ready d c.footprint_law.ensures.bits (c.fits_law.ensures.fits d lawful c.flat-flat.ensures.fits) lawful (bit_count a.signals) (c.trees_law.ensures.counts a).bits c.requires.unmixed
     c.args.code.now false c.args.p is.0 c.in-Block.star (map (event_of signal) c.in-Block.events) (body_of a c.in-Block.statement) at edge c.requires.temps c.requires.slots c.requires.few
 
@@ -81,7 +81,7 @@ returns-then-has_edge c =
     let events = map (event_of signal) c.in-Block.events in
     let p = D.Always is.0 c.in-Block.star events st in
     let at = is.1 ∙ ap (λ k. Some (kind_of signal (tree_at (arena_trees a)) (body_of a) is.0 k)) c.in-Block.is in
-    let edge = edges_are signal c.in-Block.events ∙ ap (list_any (λ (e : F.Event). D.is_edge (edge_of e.edge))) (sym c.as_slice.ensures) ∙ sym c.has_edge.ensures ∙ c.if-has_edge.true in
+    let edge = edges_are signal c.in-Block.events ∙ ap (list_any (λ (e : F.Event). D.is_edge e.edge)) (sym c.as_slice.ensures) ∙ sym c.has_edge.ensures ∙ c.if-has_edge.true in
     on_ok c.clocked.result c.clocked.ensures
     (λ done l x has shadows. subst (λ (y : D.Process). AddsProcess l y c.args.code.now.calls c.clocked.new.code.calls) (same_process (slice_get d.processes c.args.p) p x at has)
     (done l is.0 c.in-Block.star events (shadows_among (bit_count a.signals) c.args.code.now.next c.args.shadows.now (statement_bits st) (register_bits d.processes) l (writes_in_registers d.processes c.args.p p at edge) shadows) edge))
@@ -96,7 +96,7 @@ returns-else-has_edge c =
     let events = map (event_of signal) c.in-Block.events in
     let p = D.Always is.0 c.in-Block.star events st in
     let at = is.1 ∙ ap (λ k. Some (kind_of signal (tree_at (arena_trees a)) (body_of a) is.0 k)) c.in-Block.is in
-    let edge = edges_are signal c.in-Block.events ∙ ap (list_any (λ (e : F.Event). D.is_edge (edge_of e.edge))) (sym c.as_slice.ensures) ∙ sym c.has_edge.ensures ∙ c.if-has_edge.false in
+    let edge = edges_are signal c.in-Block.events ∙ ap (list_any (λ (e : F.Event). D.is_edge e.edge)) (sym c.as_slice.ensures) ∙ sym c.has_edge.ensures ∙ c.if-has_edge.false in
     on_ok c.combinational.result c.combinational.ensures
     (λ done l x has shadows. subst (λ (y : D.Process). AddsProcess l y c.args.code.now.calls c.combinational.new.code.calls) (same_process (slice_get d.processes c.args.p) p x at has)
     (done l is.0 c.in-Block.star events shadows.bits_are shadows.temps_are edge))

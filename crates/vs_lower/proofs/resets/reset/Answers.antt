@@ -2,9 +2,11 @@ use Rattle.std.proofs.Common.{◌≡◌, ◌∙◌, ◌++◌, ℕ, List, true, s
 use Rattle.std.proofs.lemmas.List.FromFn.{length-range_with_len}
 use Rattle.vs_code.specs.Calls.{Call}
 use Rattle.vs_flat.specs.Arena.{bit_count}
-use Rattle.vs_length.specs.Bodies.{body_of}
-use Rattle.vs_lower.specs.Copies.{homes, home_copies}
-use Rattle.vs_lower.specs.Ready.{IsReady, IsStatementReady}
+use Rattle.vs_shape.specs.Bodies.{body_of}
+use Rattle.vs_values.specs.Environments.{homes}
+use Rattle.vs_lower.specs.Copies.{home_copies}
+use Rattle.vs_values.specs.Ready.{IsReady}
+use Rattle.vs_lower.specs.Stated.{IsStatementReady}
 use Rattle.vs_lower.specs.Resetting.{reset_condition}
 use Rattle.vs_lower.proofs.Homeward.{at_homes}
 use Rattle.vs_lower.proofs.Resetting.{Resetting, adds_reset, branch_ready, condition_ready, home_at_steps, joined_as, reset_callable, reset_few, reset_goes_home, reset_inside, resetting_at, value_at}

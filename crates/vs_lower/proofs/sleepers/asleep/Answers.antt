@@ -1,7 +1,7 @@
-use Rattle.std.proofs.Common.{◌≡◌, ◌∙◌, ◌++◌, [], ◌∷◌, ℕ, List, Result, Ok, Err, ap, sym, subst}
+use Rattle.std.proofs.Common.{◌∙◌, ◌++◌, [], ◌∷◌, ℕ, List, Result, Ok, Err, ap, sym, subst}
 use Rattle.std.specs.Prelude.{OnOk}
 use Rattle.vs_flat.specs.Arena.{bit_count}
-use Rattle.vs_length.specs.Bodies.{body_of}
+use Rattle.vs_shape.specs.Bodies.{body_of}
 use Rattle.vs_reset.specs.Sleepers.{finish_call}
 use Rattle.vs_lower.specs.Asleep.{AddsBody}
 use Rattle.vs_lower.proofs.Sleeping.{adds_sleeper, can_finish, can_wake, has_parts, on_slice}

@@ -1,4 +1,4 @@
-use Rattle.std.proofs.Common.{◌≡◌, ◌∙◌, ◌+◌, ◌≤◌, ◌^◌, ◌++◌, [], ◌∷◌, List, Result, Ok, Err, ap, sym, subst}
+use Rattle.std.proofs.Common.{◌∙◌, ◌+◌, ◌≤◌, ◌^◌, ◌++◌, [], ◌∷◌, Result, Ok, Err, ap, sym, subst}
 use Rattle.std.specs.Prelude.{OnOk}
 use Rattle.vs_code.specs.Calls.{Call, IsCall, call_cost, length_of}
 use Rattle.vs_lower.proofs.Sleeping.{compare_is}

@@ -1,12 +1,8 @@
-use Rattle.std.proofs.Common.{◌≡◌, ◌∙◌, ◌+◌, ◌<◌, ◌≤◌, ◌^◌, ℕ, List, length, false, Result, Ok, Err, refl, ap, sym, subst, arith}
-use Rattle.std.specs.List.{All}
+use Rattle.std.proofs.Common.{ℕ, List, length, false, Result, Ok, Err, refl}
 use Rattle.std.specs.Prelude.{IfOk}
 use Rattle.vs_flat.specs.Arena.{bit_count}
-use Rattle.vs_length.specs.Bodies.{body_of}
-use Rattle.vs_lower.specs.Asleep.{AddsBody}
-use Rattle.vs_lower.specs.Assigned.{IsOwned}
-use Rattle.vs_lower.specs.Ready.{IsStatementReady}
-use Rattle.vs_lower.specs.Stated.{AddsStatement}
+use Rattle.vs_shape.specs.Bodies.{body_of}
+use Rattle.vs_lower.specs.Stated.{IsStatementReady}
 use Rattle.vs_lower.proofs.Blocking.{block_ready}
 use Rattle.vs_lower.proofs.Homeward.{at_homes}
 use Rattle.vs_lower.proofs.Sleeping.{can_own, settled_adds, settled_inside}

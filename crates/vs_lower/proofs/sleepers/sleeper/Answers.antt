@@ -1,12 +1,12 @@
-use Rattle.std.proofs.Common.{◌≡◌, ◌∙◌, ℕ, Bool, List, true, false, map, Option, Result, Ok, Err, Some, sym, ap, subst}
+use Rattle.std.proofs.Common.{◌≡◌, ◌∙◌, map, Option, Result, Ok, Err, Some, sym, ap, subst}
 use Rattle.std.specs.Prelude.{OnOk, slice_get}
 use Rattle.vs_design.specs.Designs as D
 use Rattle.vs_flat.specs.Arena.{bit_count}
 use Rattle.vs_flat.specs.DesignOf.{arena_signals, arena_trees, design_of, event_of, kind_of}
-use Rattle.vs_flat.specs.Operators.{port_of}
+use Rattle.vs_flat.specs.Ports.{port_of}
 use Rattle.vs_flat.specs.Targets.{place_of}
 use Rattle.vs_flat.specs.Trees.{signal_at, target_tree, tree_at}
-use Rattle.vs_length.specs.Bodies.{body_of}
+use Rattle.vs_shape.specs.Bodies.{body_of}
 use Rattle.vs_lower.specs.Asleep.{AddsSleeper}
 use Rattle.vs_lower.proofs.Sleeping.{asleep_combinational, never_asleep, sleeper_ready}
 use Rattle.vs_lower.proofs.sleepers.sleeper.Goals as goal

@@ -1,8 +1,7 @@
-use Rattle.std.proofs.Common.{◌≡◌, ◌∙◌, ◌+◌, ◌≤◌, ◌^◌, ◌++◌, [], ◌∷◌, ℕ, List, Result, Ok, Err, ap, sym, subst, arith, append_assoc, append-nil}
+use Rattle.std.proofs.Common.{◌∙◌, ◌+◌, ◌≤◌, ◌^◌, ◌++◌, ℕ, List, Result, Ok, Err, ap, sym, subst, append-nil}
 use Rattle.std.specs.Prelude.{OnOk}
 use Rattle.vs_code.specs.Calls.{Call, IsCall, call_cost, length_of}
-use Rattle.vs_reset.specs.Sleepers.{compare_call, mask_call, wake_calls}
-use Rattle.vs_lower.specs.Copies.{copy_call}
+use Rattle.vs_reset.specs.Sleepers.{compare_call}
 use Rattle.vs_lower.proofs.Sleeping.{none_waits, waking, woken_calls, mask_call_is, mask_room}
 use Rattle.vs_lower.proofs.sleepers.wake.Goals as goal
 

@@ -10,18 +10,16 @@ use Rattle.vs_design.specs.Footprints.{contains, statement_bits, arms_bits}
 use Rattle.vs_design.specs.Sizes.{distinct}
 use Rattle.vs_flat.specs.Arena.{bit_count}
 use Rattle.vs_flat.specs.DesignOf.{arena_trees}
-use Rattle.vs_flat.specs.Operators.{case_of}
 use Rattle.vs_flat.specs.declared.statements.Arm as F
 use Rattle.vs_flat.specs.Trees.{arms_tree, branch, target_tree, tree_at}
-use Rattle.vs_length.specs.Bodies.{EachArmNames, HasBodyNames, body_of, body_of_statement, body_place}
+use Rattle.vs_shape.specs.Bodies.{EachArmNames, HasBodyNames, body_of, body_of_statement, body_place}
 use Rattle.vs_lower.specs.Branched.{unwritten, written}
-use Rattle.vs_lower.specs.Coded.{Coding}
-use Rattle.vs_lower.specs.Done.{placed}
+use Rattle.vs_values.specs.Coded.{Coding}
+use Rattle.vs_values.specs.Environments.{placed}
 use Rattle.vs_lower.specs.Joined.{IsJoined}
-use Rattle.vs_lower.specs.Ready.{IsStatementReady}
-use Rattle.vs_lower.specs.Stated.{AddsCases, AddsStatement, AreAmong, AreArmsReady, AreInOrder, AreInside, HasItems}
+use Rattle.vs_lower.specs.Stated.{IsStatementReady, AddsCases, AddsStatement, AreAmong, AreArmsReady, AreInOrder, AreInside, HasItems}
 use Rattle.vs_lower.proofs.Armed.{arm_callable, arm_statement, at_arm, branch_among, items_are_fit, no_arm, ready_branch}
-use Rattle.vs_lower.proofs.Binary.{adds_at, ready_at}
+use Rattle.vs_values.proofs.Binary.{adds_at, ready_at}
 use Rattle.vs_lower.proofs.Branched.{adds_if, if_joins, statement_kept, written_long}
 use Rattle.vs_lower.proofs.Conditional.{ready_if, ready_no, ready_yes}
 use Rattle.vs_lower.proofs.Distinct.{distinct_most}
@@ -31,7 +29,7 @@ use Rattle.vs_lower.proofs.Processes.{member_below}
 use Rattle.vs_lower.proofs.Restoring.{join_callable, left_among, outside, restored, right_among}
 use Rattle.vs_lower.proofs.Sequencing.{adds_empty}
 use Rattle.vs_lower.proofs.Stating.{adds_assign, adds_case, in_order, ready_arms, ready_subject}
-use Rattle.vs_lower.proofs.Values.{both_true}
+use Rattle.vs_values.proofs.Values.{both_true}
 use Rattle.vs_lower.proofs.Widest.{case_sign_is, case_width_is}
 use Rattle.vs_lower.proofs.statements.+statements.Goals as goal
 
@@ -83,7 +81,7 @@ arm-apart-requires t c =
         (
           c.requires.part,
           (
-            arm_statement (bit_count a.signals) c.args.env.now.values c.args.env.now.ahead c.args.subject.now c.args.code.now c.tests.new.code c.args.clocked (case_of c.args.kind) c.args.context.width c.args.context.signed (map (tree_at (arena_trees a)) c.args.items.now) (body_of a c.args.part) c.args.bits.now c.args.behind.items c.in_ok-matches.matches.items
+            arm_statement (bit_count a.signals) c.args.env.now.values c.args.env.now.ahead c.args.subject.now c.args.code.now c.tests.new.code c.args.clocked c.args.kind c.args.context.width c.args.context.signed (map (tree_at (arena_trees a)) c.args.items.now) (body_of a c.args.part) c.args.bits.now c.args.behind.items c.in_ok-matches.matches.items
                 c.requires.ready c.in_ok-matches.ensures.adds,
             (c.requires.inside, c.requires.among),
           ),
@@ -95,7 +93,7 @@ pub arm-join_apart-requires-clause-call : goal.arm-join_apart-requires-clause-ca
 arm-join_apart-requires-clause-call t c =
     let a = c.args.typed.now in
     let items = map (tree_at (arena_trees a)) c.args.items.now in
-    arm_callable c.args.clocked (bit_count a.signals) c.args.env.now.values c.args.env.now.ahead c.apart.new.env.values c.apart.new.env.ahead c.args.subject.now c.args.code.now c.tests.new.code c.apart.new.code (case_of c.args.kind) c.args.context.width c.args.context.signed items (body_of a c.args.part) c.args.bits.now c.args.behind.items c.as_slice-2.result.now c.in_ok-matches.matches.items c.in_ok-first.first.items c.as_slice.result.now
+    arm_callable c.args.clocked (bit_count a.signals) c.args.env.now.values c.args.env.now.ahead c.apart.new.env.values c.apart.new.env.ahead c.args.subject.now c.args.code.now c.tests.new.code c.apart.new.code c.args.kind c.args.context.width c.args.context.signed items (body_of a c.args.part) c.args.bits.now c.args.behind.items c.as_slice-2.result.now c.in_ok-matches.matches.items c.in_ok-first.first.items c.as_slice.result.now
     c.requires.ready c.in_ok-matches.ensures.adds (c.in_ok-matches.ensures.alike ∙ sym (length-map c.args.items.now (tree_at (arena_trees a)))) c.in_ok-first.ensures.adds c.requires.rising c.requires.inside c.requires.among
     c.in_ok-first.ensures.values c.in_ok-first.ensures.ahead c.as_slice.ensures.value c.as_slice-2.ensures.value
 
@@ -127,7 +125,7 @@ branches-loop-k-init t c =
     let T = tree_at (arena_trees a) in
     let B = body_of a in
     let arms = c.args.arms.now in (
-      no_arm c.args.clocked c.args.env.now.values c.args.env.now.ahead c.args.subject.now c.args.code.now c.apart.new.code (case_of c.args.kind) c.args.context.width c.args.context.signed (distinct (arms_bits (arms_tree T B c.args.other arms))) T B c.args.other arms c.args.bits.now c.in_ok-behind.behind.items c.in_ok-behind.ensures.adds,
+      no_arm c.args.clocked c.args.env.now.values c.args.env.now.ahead c.args.subject.now c.args.code.now c.apart.new.code c.args.kind c.args.context.width c.args.context.signed (distinct (arms_bits (arms_tree T B c.args.other arms))) T B c.args.other arms c.args.bits.now c.in_ok-behind.behind.items c.in_ok-behind.ensures.adds,
       c.in_ok-behind.ensures.values,
       c.in_ok-behind.ensures.ahead,
     )
@@ -138,7 +136,7 @@ branches-arm-requires t c =
     let arms = c.args.arms.now in
     let k = c.loop-k.k in
     let n = length arms - 1 - k in
-    let here = at_arm (bit_count a.signals) a c.args.s c.args.clocked c.loop-k.env.values c.loop-k.env.ahead c.args.env.now.values c.args.env.now.ahead c.args.subject.now c.args.code.now c.loop-k.code (case_of c.args.kind) c.args.context.width c.args.context.signed c.args.other arms k n c.index-arms-n.result c.index-arms-n-in-loop-k.result c.as_slice-items.result.now _ c.args.bits.now c.loop-k.behind.items
+    let here = at_arm (bit_count a.signals) a c.args.s c.args.clocked c.loop-k.env.values c.loop-k.env.ahead c.args.env.now.values c.args.env.now.ahead c.args.subject.now c.args.code.now c.loop-k.code c.args.kind c.args.context.width c.args.context.signed c.args.other arms k n c.index-arms-n.result c.index-arms-n-in-loop-k.result c.as_slice-items.result.now _ c.args.bits.now c.loop-k.behind.items
     c.loop-k-test.true refl c.as_slice-items.ensures refl c.loop-k.invariant.1 c.loop-k.invariant.2 c.requires.arms c.requires.items c.requires.ready c.requires.bits c.loop-k.invariant.0 in
     (omega (arith, c.decreases), (c.requires.there, (here.items_there, (here.part_below, (here.ready, (c.requires.bits.rising, (c.requires.bits.inside, here.among)))))))
 
@@ -148,7 +146,7 @@ branches-loop-k-preserved t c =
     let arms = c.args.arms.now in
     let k = c.loop-k.k in
     let n = length arms - 1 - k in
-    let here = at_arm (bit_count a.signals) a c.args.s c.args.clocked c.loop-k.env.values c.loop-k.env.ahead c.args.env.now.values c.args.env.now.ahead c.args.subject.now c.args.code.now c.loop-k.code (case_of c.args.kind) c.args.context.width c.args.context.signed c.args.other arms k n c.index-arms-n.result c.index-arms-n-in-loop-k.result c.as_slice-items.result.now _ c.args.bits.now c.loop-k.behind.items
+    let here = at_arm (bit_count a.signals) a c.args.s c.args.clocked c.loop-k.env.values c.loop-k.env.ahead c.args.env.now.values c.args.env.now.ahead c.args.subject.now c.args.code.now c.loop-k.code c.args.kind c.args.context.width c.args.context.signed c.args.other arms k n c.index-arms-n.result c.index-arms-n-in-loop-k.result c.as_slice-items.result.now _ c.args.bits.now c.loop-k.behind.items
     c.loop-k-test.true refl c.as_slice-items.ensures refl c.loop-k.invariant.1 c.loop-k.invariant.2 c.requires.arms c.requires.items c.requires.ready c.requires.bits c.loop-k.invariant.0 in
     (here.next c.arm.new.code c.in_ok-behind-2.behind.items c.in_ok-behind-2.ensures.adds, c.in_ok-behind-2.ensures.values ∙ c.loop-k.invariant.1, c.in_ok-behind-2.ensures.ahead ∙ c.loop-k.invariant.2)
 
@@ -170,7 +168,7 @@ case-lower-requires-clause-ready t c =
     let subject = T c.args.of in
     let wide : c.case_context-context.result.width ≡ case_width subject arms = c.case_context-context.ensures.width ∙ sym (case_width_is T B c.args.other c.args.arms.now (E.width subject)) in
     ready_at (bit_count a.signals) c.args.env.now.values c.args.code.now subject (case_width subject arms) c.case_context-context.result.width wide
-    (ready_subject (bit_count a.signals) c.args.env.now.values c.args.env.now.ahead c.args.code.now c.args.clocked (case_of c.args.kind) subject arms c.requires.ready)
+    (ready_subject (bit_count a.signals) c.args.env.now.values c.args.env.now.ahead c.args.code.now c.args.clocked c.args.kind subject arms c.requires.ready)
 
 pub case-branches-requires : goal.case-branches-requires
 case-branches-requires t c =
@@ -184,7 +182,7 @@ case-branches-requires t c =
     let wide : w ≡ case_width subject arms = c.case_context-context.ensures.width ∙ sym (case_width_is T B c.args.other c.args.arms.now (E.width subject)) in
     let signed : s ≡ case_sign subject arms = c.case_context-context.ensures.signed ∙ sym (case_sign_is T B c.args.other c.args.arms.now (E.sign subject)) in
     let v = adds_at c.args.env.now.values c.args.code.now.calls c.args.code.now.next c.lower.new.code.calls c.lower.new.code.next subject w (case_width subject arms) s (case_sign subject arms) c.in_ok-subject.subject.items wide signed c.in_ok-subject.ensures in
-    let r = ready_arms (bit_count a.signals) c.args.env.now.values c.args.env.now.ahead c.args.code.now c.lower.new.code c.args.clocked (case_of c.args.kind) subject arms c.in_ok-subject.subject.items c.requires.ready v in (
+    let r = ready_arms (bit_count a.signals) c.args.env.now.values c.args.env.now.ahead c.args.code.now c.lower.new.code c.args.clocked c.args.kind subject arms c.in_ok-subject.subject.items c.requires.ready v in (
       omega (arith, c.decreases),
       (
         c.requires.there,
@@ -219,7 +217,7 @@ case-returns-clause-adds t c =
     let B = body_of a in
     let arms = arms_tree tree B c.args.other c.args.arms.now in
     let subject = tree c.args.of in
-    let kind = case_of c.args.kind in
+    let kind = c.args.kind in
     let w = c.case_context-context.result.width in
     let s = c.case_context-context.result.signed in
     let wide : w ≡ case_width subject arms = c.case_context-context.ensures.width ∙ sym (case_width_is tree B c.args.other c.args.arms.now (E.width subject)) in
@@ -458,7 +456,7 @@ statement-case-requires t c =
               (
                 names.2,
                 (
-                  subst (λ (xs : List F.Arm). IsStatementReady bits c.args.env.now.values c.args.env.now.ahead c.args.code.now c.args.clocked (Case (case_of c.in-Case.kind) (T c.in-Case.of) (arms_tree T B c.in-Case.other xs))) (sym same)
+                  subst (λ (xs : List F.Arm). IsStatementReady bits c.args.env.now.values c.args.env.now.ahead c.args.code.now c.args.clocked (Case c.in-Case.kind (T c.in-Case.of) (arms_tree T B c.in-Case.other xs))) (sym same)
                       (subst (λ (x : Statement). IsStatementReady bits c.args.env.now.values c.args.env.now.ahead c.args.code.now c.args.clocked x) tree c.requires.ready),
                   subst (λ (xs : List F.Arm). AreInOrder bits c.as_slice-in-Case-2.result.now (arms_bits (arms_tree T B c.in-Case.other xs))) (sym same)
                       (in_order bits c.in_ok-bits-in-Case.bits.items c.as_slice-in-Case-2.result.now (arms_bits arms) c.in_ok-bits-in-Case.ensures.rising (λ b. c.in_ok-bits-in-Case.ensures.same b ∙ ap (λ (x : Statement). contains (statement_bits x) b) tree) c.as_slice-in-Case-2.ensures.value

@@ -4,9 +4,8 @@ use Rattle.vs_design.specs.Footprints.{arms_bits}
 use Rattle.vs_design.specs.Sizes.{distinct}
 use Rattle.vs_flat.specs.Arena.{bit_count}
 use Rattle.vs_flat.specs.DesignOf.{arena_trees}
-use Rattle.vs_flat.specs.Operators.{case_of}
 use Rattle.vs_flat.specs.Trees.{arms_tree, tree_at}
-use Rattle.vs_length.specs.Bodies.{body_of}
+use Rattle.vs_shape.specs.Bodies.{body_of}
 use Rattle.vs_lower.specs.Stated.{AddsCases}
 use Rattle.vs_lower.proofs.Ordered.{IsUpTo}
 use Rattle.vs_lower.proofs.statements.+statements.Given as goal
@@ -41,7 +40,7 @@ invariant-in_order-loop-n l =
 
 abbrev pub invariant-branches-loop-k : goal.invariant-branches-loop-k
 invariant-branches-loop-k l =
-    AddsCases l.clocked l.fn.env.values l.fn.env.ahead l.subject l.fn.code l.code (case_of l.kind) l.context.width l.context.signed
+    AddsCases l.clocked l.fn.env.values l.fn.env.ahead l.subject l.fn.code l.code l.kind l.context.width l.context.signed
     (distinct (arms_bits (arms_tree (tree_at (arena_trees l.typed)) (body_of l.typed) l.fn.other l.arms))) (arms_tree (tree_at (arena_trees l.typed)) (body_of l.typed) l.fn.other (drop (length l.arms - l.k) l.arms)) l.bits l.behind.items
     × (l.env.values ≡ l.fn.env.values)
     × (l.env.ahead ≡ l.fn.env.ahead)

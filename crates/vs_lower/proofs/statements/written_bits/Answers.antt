@@ -2,7 +2,7 @@ use Rattle.std.proofs.Common.{◌≡◌, ◌∙◌, ◌++◌, ℕ, List, true, s
 use Rattle.vs_design.specs.Fits.{fits_statement}
 use Rattle.vs_design.specs.Footprints.{contains, statement_bits}
 use Rattle.vs_flat.specs.Arena.{Arena}
-use Rattle.vs_length.specs.Bodies.{body_of}
+use Rattle.vs_shape.specs.Bodies.{body_of}
 use Rattle.vs_lower.proofs.statements.written_bits.Goals as goal
 
 pub push_statement-requires-clause-fits : goal.push_statement-requires-clause-fits

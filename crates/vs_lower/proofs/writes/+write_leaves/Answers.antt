@@ -4,7 +4,7 @@ use Rattle.vs_design.specs.Statements.{Target, target_width}
 use Rattle.vs_flat.specs.Arena.{Arena, bit_count}
 use Rattle.vs_lower.specs.declared.leaves.Leaf.{Leaf}
 use Rattle.vs_lower.specs.declared.leaves.Leaf.TheVariants as L
-use Rattle.vs_lower.specs.Coded.{Coding}
+use Rattle.vs_values.specs.Coded.{Coding}
 use Rattle.vs_lower.specs.Leaves.{joined_target, leaf_target}
 use Rattle.vs_lower.specs.Written.{AddsWrites, write_weight}
 use Rattle.vs_lower.proofs.Rejoined.{rest_ready, rest_as, suffix_is, writes_more}

@@ -9,10 +9,10 @@ use Rattle.vs_flat.specs.Trees.{signal_at}
 use Rattle.vs_kern_select.specs.declared.costs.Kernel.TheVariants as S
 use Rattle.vs_code.specs.declared.kernels.AnyKernel.{AnyKernel}
 use Rattle.vs_code.specs.declared.kernels.AnyKernel.TheVariants as K
-use Rattle.vs_lower.specs.Coded.{Coding, with_call}
-use Rattle.vs_lower.specs.Done.{placed}
-use Rattle.vs_lower.specs.Made.{IsCallable}
-use Rattle.vs_lower.proofs.Named.{length_count}
+use Rattle.vs_values.specs.Coded.{Coding, with_call}
+use Rattle.vs_values.specs.Environments.{placed}
+use Rattle.vs_values.specs.Made.{IsCallable}
+use Rattle.vs_values.proofs.Named.{length_count}
 use Rattle.vs_lower.proofs.writes.call_write.Goals as goal
 
 callable_same : (code : Coding) (k : AnyKernel) (a a' b b' c c' : List ℕ) (w w' : ℕ) → a ≡ a' → b ≡ b' → c ≡ c' → w ≡ w' → IsCallable code k (a ∷ b ∷ c ∷ []) w → IsCallable code k (a' ∷ b' ∷ c' ∷ []) w'

@@ -3,7 +3,7 @@ use Rattle.std.specs.List.{All}
 use Rattle.vs_design.specs.Expressions.{signal_length}
 use Rattle.vs_flat.specs.DesignOf.{arena_signals}
 use Rattle.vs_flat.specs.Trees.{signal_at}
-use Rattle.vs_lower.proofs.Named.{all_run, length_count, signal_within}
+use Rattle.vs_values.proofs.Named.{all_run, length_count, signal_within}
 use Rattle.vs_lower.proofs.writes.place_signal.Goals as goal
 
 pub place-requires-clause-inside : goal.place-requires-clause-inside

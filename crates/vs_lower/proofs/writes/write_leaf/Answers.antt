@@ -13,12 +13,12 @@ use Rattle.vs_kern_select.specs.declared.costs.Kernel.TheVariants as S
 use Rattle.vs_code.specs.declared.kernels.AnyKernel.TheVariants as K
 use Rattle.vs_lower.specs.declared.leaves.Leaf.{Leaf}
 use Rattle.vs_lower.specs.declared.leaves.Leaf.TheVariants as L
-use Rattle.vs_lower.specs.Coded.{Coding, with_call}
-use Rattle.vs_lower.specs.Constants.{AreConstant}
+use Rattle.vs_values.specs.Coded.{Coding, with_call}
+use Rattle.vs_values.specs.Constants.{AreConstant}
 use Rattle.vs_lower.specs.Leaves.{leaf_target, IsInside}
-use Rattle.vs_lower.specs.Made.{IsCallable}
+use Rattle.vs_values.specs.Made.{IsCallable}
 use Rattle.vs_lower.specs.Written.{AddsWrites, HasRoom, IsIndexed, IsIndex, write_weight}
-use Rattle.vs_lower.proofs.Named.{signal_within}
+use Rattle.vs_values.proofs.Named.{signal_within}
 use Rattle.vs_lower.proofs.Partwise.{fit_part, whole_adds, fixed_adds, CanWrite, can_write, called_adds}
 use Rattle.vs_lower.proofs.writes.write_leaf.Goals as goal
 

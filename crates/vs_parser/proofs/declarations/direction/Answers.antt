@@ -1,4 +1,4 @@
-use Rattle.vs_phrase.proofs.Places.{refused_var, refused_former, refused_latter, read_var, read_former, read_latter, parsed, one_true, one_false, answer_more}
+use Rattle.vs_statements.proofs.Places.{refused_var, refused_former, refused_latter, read_var, read_former, read_latter, parsed, one_true, one_false, answer_more}
 use Rattle.vs_parser.proofs.declarations.direction.Goals as goal
 
 pub returns-then-stands : goal.returns-then-stands

@@ -1,6 +1,6 @@
-use Rattle.vs_phrase.proofs.Places.{answer_exit, refused_seq, refused_missing, read_tok, read_seq, parsed}
+use Rattle.vs_statements.proofs.Places.{answer_exit, refused_seq, refused_missing, read_tok, read_seq, parsed}
 use Rattle.vs_grammar.specs.Grammars.Tree.{leaf}
-use Rattle.vs_phrase.specs.Reading.{terminal_at}
+use Rattle.vs_statements.specs.Reading.{terminal_at}
 use Rattle.vs_parser.proofs.Pieces.{input_made}
 use Rattle.vs_parser.proofs.declarations.input_direction.Goals as goal
 

@@ -1,4 +1,4 @@
-use Rattle.vs_phrase.proofs.Places.{answer_more, read_tok, refused_missing, parsed}
+use Rattle.vs_statements.proofs.Places.{answer_more, read_tok, refused_missing, parsed}
 use Rattle.vs_parser.proofs.declarations.name.Goals as goal
 
 pub returns : goal.returns

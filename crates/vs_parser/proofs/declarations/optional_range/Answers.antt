@@ -1,6 +1,6 @@
 use Rattle.std.proofs.Common.{refl, ap}
 use Rattle.std.specs.Prelude.{Some}
-use Rattle.vs_phrase.proofs.Places.{answer_exit, refused_former, read_eps, read_former, read_latter, parsed, one_true, one_false}
+use Rattle.vs_statements.proofs.Places.{answer_exit, refused_former, read_eps, read_former, read_latter, parsed, one_true, one_false}
 use Rattle.vs_parser.proofs.declarations.optional_range.Goals as goal
 
 pub returns-then-not-stands : goal.returns-then-not-stands

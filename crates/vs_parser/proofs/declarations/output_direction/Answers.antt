@@ -1,5 +1,5 @@
-use Rattle.vs_phrase.specs.Reading.{bytes_in, terminal_at}
-use Rattle.vs_phrase.proofs.Places.{answer_exit, refused_seq, refused_then, refused_missing, read_tok, read_seq, parsed}
+use Rattle.vs_statements.specs.Reading.{bytes_in, terminal_at}
+use Rattle.vs_statements.proofs.Places.{answer_exit, refused_seq, refused_then, refused_missing, read_tok, read_seq, parsed}
 use Rattle.vs_grammar.specs.Grammars.Tree.{leaf}
 use Rattle.vs_parser.proofs.Pieces.{output_made}
 use Rattle.vs_parser.proofs.declarations.output_direction.Goals as goal

@@ -1,6 +1,6 @@
 use Rattle.std.proofs.Common.{ap}
 use Rattle.std.specs.Prelude.{None}
-use Rattle.vs_phrase.proofs.Places.{answer_exit, refused_missing, read_tok, parsed}
+use Rattle.vs_statements.proofs.Places.{answer_exit, refused_missing, read_tok, parsed}
 use Rattle.vs_parser.proofs.declarations.plain_declarator.Goals as goal
 
 pub returns-in_err-name : goal.returns-in_err-name

@@ -1,4 +1,4 @@
-use Rattle.vs_phrase.proofs.Places.{answer_exit, refused_seq, refused_then, refused_missing, read_tok, read_seq, parsed}
+use Rattle.vs_statements.proofs.Places.{answer_exit, refused_seq, refused_then, refused_missing, read_tok, read_seq, parsed}
 use Rattle.vs_parser.proofs.declarations.value_behind.Goals as goal
 
 pub returns-in_err-sign : goal.returns-in_err-sign

@@ -1,7 +1,7 @@
 use Rattle.std.proofs.Common.{map}
 use Rattle.vs_ast.specs.Views as view
 use Rattle.vs_parser.specs.Parts as part
-use Rattle.vs_phrase.proofs.Places.{as_items}
+use Rattle.vs_statements.proofs.Places.{as_items}
 use Rattle.vs_parser.proofs.Pieces.{ordered_nothing, ordered_some}
 use Rattle.vs_parser.proofs.instances.by_order.Goals as goal
 

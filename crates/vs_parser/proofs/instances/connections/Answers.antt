@@ -1,8 +1,8 @@
 use Rattle.std.proofs.Common.{sym, ◌∙◌, ap}
 use Rattle.vs_grammar.specs.Trees as tree
 use Rattle.vs_grammar.specs.Meaning as meaning
-use Rattle.vs_phrase.specs.Reading.{bytes_in}
-use Rattle.vs_phrase.proofs.Places.{answer_exit, refused_var, refused_former, refused_latter, read_var, read_former, read_latter, parsed, one_true, one_false}
+use Rattle.vs_statements.specs.Reading.{bytes_in}
+use Rattle.vs_statements.proofs.Places.{answer_exit, refused_var, refused_former, refused_latter, read_var, read_former, read_latter, parsed, one_true, one_false}
 use Rattle.vs_parser.proofs.Pieces.{is_ordered}
 use Rattle.vs_parser.proofs.instances.connections.Goals as goal
 

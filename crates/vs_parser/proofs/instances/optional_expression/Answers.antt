@@ -1,6 +1,6 @@
 use Rattle.std.proofs.Common.{refl, sym, ◌∙◌, ap}
 use Rattle.std.specs.Prelude.{Some}
-use Rattle.vs_phrase.proofs.Places.{answer_exit, refused_former, read_eps, read_former, read_latter, parsed}
+use Rattle.vs_statements.proofs.Places.{answer_exit, refused_former, read_eps, read_former, read_latter, parsed}
 use Rattle.vs_parser.proofs.instances.optional_expression.Goals as goal
 
 pub returns-then-not-is_expression_at : goal.returns-then-not-is_expression_at

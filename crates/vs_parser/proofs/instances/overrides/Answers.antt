@@ -1,5 +1,5 @@
 use Rattle.std.proofs.Common.{refl}
-use Rattle.vs_phrase.proofs.Places.{answer_exit, refused_seq, refused_then, refused_missing, refused_former, read_tok, read_eps, read_seq, read_former, read_latter, parsed, one_true, one_false}
+use Rattle.vs_statements.proofs.Places.{answer_exit, refused_seq, refused_then, refused_missing, refused_former, read_tok, read_eps, read_seq, read_former, read_latter, parsed, one_true, one_false}
 use Rattle.vs_parser.proofs.instances.overrides.Goals as goal
 
 pub returns-then-not-stands : goal.returns-then-not-stands

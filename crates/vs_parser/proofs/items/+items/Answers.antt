@@ -3,13 +3,13 @@ use Rattle.vs_grammar.specs.Trees as tree
 use Rattle.vs_grammar.specs.Verilog.{Rule as rule, r, t}
 use Rattle.vs_grammar.specs.Meaning as meaning
 use Rattle.vs_ast.specs.Views as view
-use Rattle.vs_phrase.specs.declared.error.ParseError.TheVariants.{Memory}
+use Rattle.vs_statements.specs.declared.error.ParseError.TheVariants.{Memory}
 use Rattle.vs_parser.specs.Parts as part
-use Rattle.vs_phrase.specs.Reading.{bytes_in}
-use Rattle.vs_phrase.specs.Reading.Refused.{out_of_memory}
-use Rattle.vs_phrase.proofs.Places.{answer_exit, refused_kept, refused_var, refused_seq, refused_then, refused_missing, refused_level, refused_former, refused_latter, refused_more, refused_within, read_tok, read_eps, read_var, read_seq, read_level, read_former, read_latter, read_without, read_within, parsed, one_true, one_false, stood, ap2, ap3, ap6, answer_more}
-use Rattle.vs_phrase.proofs.Firsts.{too_deep_first, stopped_first}
-use Rattle.vs_phrase.proofs.Lists.{shorter, listing_start, listing_more, pushed_first, listing_behind}
+use Rattle.vs_statements.specs.Reading.{bytes_in}
+use Rattle.vs_statements.specs.Reading.Refused.{out_of_memory}
+use Rattle.vs_statements.proofs.Places.{answer_exit, refused_kept, refused_var, refused_seq, refused_then, refused_missing, refused_level, refused_former, refused_latter, refused_more, refused_within, read_tok, read_eps, read_var, read_seq, read_level, read_former, read_latter, read_without, read_within, parsed, one_true, one_false, stood, ap2, ap3, ap6, answer_more}
+use Rattle.vs_statements.proofs.Firsts.{too_deep_first, stopped_first}
+use Rattle.vs_statements.proofs.Lists.{shorter, listing_start, listing_more, pushed_first, listing_behind}
 use Rattle.vs_grammar.specs.Grammars.Tree.{nothing}
 use Rattle.vs_parser.proofs.Blocks.{items_made, block_default_first, block_arms_alone, block_arms_around}
 use Rattle.vs_parser.proofs.items.+items.Goals as goal

@@ -3,7 +3,7 @@ use Rattle.vs_grammar.specs.Verilog.{Rule as rule, r}
 use Rattle.vs_grammar.specs.Meaning as meaning
 use Rattle.vs_ast.specs.Views as view
 use Rattle.vs_parser.specs.Parts as part
-use Rattle.vs_phrase.specs.Reading.{Listing}
+use Rattle.vs_statements.specs.Reading.{Listing}
 use Rattle.vs_parser.proofs.items.+items.Given as goal
 
 abbrev pub invariant-generate_arms-loop-depth : goal.invariant-generate_arms-loop-depth

@@ -1,9 +1,9 @@
 use Rattle.std.proofs.Common.{sym, ◌∙◌, ap, map}
 use Rattle.vs_ast.specs.Views as view
-use Rattle.vs_phrase.specs.declared.error.ParseError.TheVariants.{Memory}
-use Rattle.vs_phrase.specs.Reading.{bytes_in}
-use Rattle.vs_phrase.specs.Reading.Refused.{out_of_memory}
-use Rattle.vs_phrase.proofs.Places.{answer_exit, refused_var, refused_seq, refused_then, refused_missing, refused_former, refused_latter, read_tok, read_var, read_seq, read_former, read_latter, one_true, one_false}
+use Rattle.vs_statements.specs.declared.error.ParseError.TheVariants.{Memory}
+use Rattle.vs_statements.specs.Reading.{bytes_in}
+use Rattle.vs_statements.specs.Reading.Refused.{out_of_memory}
+use Rattle.vs_statements.proofs.Places.{answer_exit, refused_var, refused_seq, refused_then, refused_missing, refused_former, refused_latter, read_tok, read_var, read_seq, read_former, read_latter, one_true, one_false}
 use Rattle.vs_parser.specs.ItemLists.{items_from}
 use Rattle.vs_parser.proofs.Blocks.{generated, one_more, ports_put, parameters_put, read_item}
 use Rattle.vs_parser.proofs.items.item.Goals as goal

@@ -1,6 +1,6 @@
 use Rattle.std.proofs.Common.{refl, sym, ◌∙◌}
-use Rattle.vs_phrase.proofs.Places.{answer_exit, refused_more}
-use Rattle.vs_phrase.proofs.Lists.{shorter}
+use Rattle.vs_statements.proofs.Places.{answer_exit, refused_more}
+use Rattle.vs_statements.proofs.Lists.{shorter}
 use Rattle.vs_parser.proofs.Blocks.{items_start, items_more, items_done}
 use Rattle.vs_parser.proofs.items.items.Goals as goal
 

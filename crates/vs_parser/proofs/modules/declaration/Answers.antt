@@ -1,9 +1,9 @@
 use Rattle.std.proofs.Common.{refl, ap, map}
 use Rattle.vs_ast.specs.Views as view
-use Rattle.vs_phrase.specs.declared.error.ParseError.TheVariants.{Memory}
-use Rattle.vs_phrase.proofs.Lists.{pushed_first}
+use Rattle.vs_statements.specs.declared.error.ParseError.TheVariants.{Memory}
+use Rattle.vs_statements.proofs.Lists.{pushed_first}
 use Rattle.vs_parser.specs.Headings as part
-use Rattle.vs_phrase.proofs.Places.{answer_exit}
+use Rattle.vs_statements.proofs.Places.{answer_exit}
 use Rattle.vs_parser.proofs.modules.declaration.Goals as goal
 
 pub returns-in_err-push : goal.returns-in_err-push

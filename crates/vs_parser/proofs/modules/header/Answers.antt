@@ -1,6 +1,6 @@
 use Rattle.std.proofs.Common.{refl, ◌∙◌}
-use Rattle.vs_phrase.specs.Reading.{bytes_in, terminal_at}
-use Rattle.vs_phrase.proofs.Places.{answer_exit, refused_seq, refused_then, refused_missing, refused_former, read_tok, read_eps, read_seq, read_former, read_latter, parsed, one_true, one_false}
+use Rattle.vs_statements.specs.Reading.{bytes_in, terminal_at}
+use Rattle.vs_statements.proofs.Places.{answer_exit, refused_seq, refused_then, refused_missing, refused_former, read_tok, read_eps, read_seq, read_former, read_latter, parsed, one_true, one_false}
 use Rattle.vs_grammar.specs.Grammars.Tree.{leaf}
 use Rattle.vs_parser.proofs.Headers.{header_made}
 use Rattle.vs_parser.proofs.modules.header.Goals as goal

@@ -1,6 +1,6 @@
 use Rattle.std.proofs.Common.{sym, ◌∙◌}
-use Rattle.vs_phrase.specs.Reading.{bytes_in}
-use Rattle.vs_phrase.proofs.Places.{answer_exit, refused_memory, refused_var, refused_seq, refused_then, refused_missing, read_tok, read_var, read_seq, parsed, ap3}
+use Rattle.vs_statements.specs.Reading.{bytes_in}
+use Rattle.vs_statements.proofs.Places.{answer_exit, refused_memory, refused_var, refused_seq, refused_then, refused_missing, read_tok, read_var, read_seq, parsed, ap3}
 use Rattle.vs_parser.specs.Headings as part
 use Rattle.vs_grammar.specs.Grammars.Tree.{named, both}
 use Rattle.vs_parser.proofs.Headers.{declared_first}

@@ -2,7 +2,7 @@ use Rattle.std.proofs.Common.{◌-◌, length}
 use Rattle.vs_grammar.specs.Verilog.{Rule as rule, r}
 use Rattle.vs_grammar.specs.Meaning as meaning
 use Rattle.vs_ast.specs.Views as view
-use Rattle.vs_phrase.specs.Reading.{Listing}
+use Rattle.vs_statements.specs.Reading.{Listing}
 use Rattle.vs_parser.proofs.modules.more_modules.Given as goal
 
 abbrev pub invariant-loop-depth : goal.invariant-loop-depth

@@ -1,9 +1,9 @@
 use Rattle.std.proofs.Common.{refl, ap, map}
 use Rattle.vs_ast.specs.Views as view
-use Rattle.vs_phrase.specs.declared.error.ParseError.TheVariants.{Memory}
-use Rattle.vs_phrase.specs.Reading.Refused.{out_of_memory}
-use Rattle.vs_phrase.proofs.Places.{answer_exit, refused_seq, refused_then, refused_missing, refused_more, read_tok, read_seq, one_true, one_false}
-use Rattle.vs_phrase.proofs.Lists.{shorter}
+use Rattle.vs_statements.specs.declared.error.ParseError.TheVariants.{Memory}
+use Rattle.vs_statements.specs.Reading.Refused.{out_of_memory}
+use Rattle.vs_statements.proofs.Places.{answer_exit, refused_seq, refused_then, refused_missing, refused_more, read_tok, read_seq, one_true, one_false}
+use Rattle.vs_statements.proofs.Lists.{shorter}
 use Rattle.vs_parser.proofs.Headers.{ports_start, ports_more, ports_done, map_pushed}
 use Rattle.vs_parser.proofs.modules.more_ports.Goals as goal
 

@@ -1,5 +1,5 @@
 use Rattle.std.proofs.Common.{sym, ◌∙◌}
-use Rattle.vs_phrase.proofs.Places.{answer_exit, refused_memory, refused_var, refused_seq, refused_then, refused_missing, read_tok, read_var, read_seq, parsed, ap3}
+use Rattle.vs_statements.proofs.Places.{answer_exit, refused_memory, refused_var, refused_seq, refused_then, refused_missing, read_tok, read_var, read_seq, parsed, ap3}
 use Rattle.vs_parser.specs.Headings as part
 use Rattle.vs_parser.proofs.modules.next_declaration.Goals as goal
 

@@ -1,5 +1,5 @@
 use Rattle.std.proofs.Common.{refl, sym, ◌∙◌}
-use Rattle.vs_phrase.proofs.Places.{answer_exit, refused_former, read_eps, read_former, read_latter, parsed}
+use Rattle.vs_statements.proofs.Places.{answer_exit, refused_former, read_eps, read_former, read_latter, parsed}
 use Rattle.vs_parser.proofs.modules.optional_ports.Goals as goal
 
 pub returns-then-not-stands_any : goal.returns-then-not-stands_any

@@ -1,8 +1,8 @@
 use Rattle.std.proofs.Common.{map}
 use Rattle.vs_ast.specs.Views as view
-use Rattle.vs_phrase.specs.declared.error.ParseError.TheVariants.{Memory}
-use Rattle.vs_phrase.specs.Reading.Refused.{out_of_memory}
-use Rattle.vs_phrase.proofs.Places.{answer_exit, refused_memory, refused_former, refused_latter, read_former, read_latter, one_true, one_false}
+use Rattle.vs_statements.specs.declared.error.ParseError.TheVariants.{Memory}
+use Rattle.vs_statements.specs.Reading.Refused.{out_of_memory}
+use Rattle.vs_statements.proofs.Places.{answer_exit, refused_memory, refused_former, refused_latter, read_former, read_latter, one_true, one_false}
 use Rattle.vs_parser.proofs.Headers.{declaration_behind, setting_behind, map_pushed}
 use Rattle.vs_parser.proofs.modules.parameter_or_setting.Goals as goal
 

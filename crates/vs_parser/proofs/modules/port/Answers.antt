@@ -1,9 +1,9 @@
 use Rattle.std.proofs.Common.{refl, sym, ◌∙◌, ap, ◌∷◌, ◌++◌, map}
 use Rattle.vs_ast.specs.Views as view
-use Rattle.vs_phrase.specs.declared.error.ParseError.TheVariants.{Memory}
-use Rattle.vs_phrase.specs.Reading.Refused.{out_of_memory}
-use Rattle.vs_phrase.proofs.Places.{answer_exit, refused_var, refused_seq, refused_then, read_var, read_seq, ap5}
-use Rattle.vs_phrase.proofs.Lists.{pushed_first}
+use Rattle.vs_statements.specs.declared.error.ParseError.TheVariants.{Memory}
+use Rattle.vs_statements.specs.Reading.Refused.{out_of_memory}
+use Rattle.vs_statements.proofs.Places.{answer_exit, refused_var, refused_seq, refused_then, read_var, read_seq, ap5}
+use Rattle.vs_statements.proofs.Lists.{pushed_first}
 use Rattle.vs_parser.proofs.Pieces.{first_is}
 use Rattle.vs_parser.specs.Headings as part
 use Rattle.vs_parser.proofs.Headers.{port_read}

@@ -1,6 +1,6 @@
 use Rattle.std.proofs.Common.{ap}
 use Rattle.vs_grammar.specs.Trees as tree
-use Rattle.vs_phrase.proofs.Places.{answer_exit, refused_var, refused_seq, refused_then, refused_former, refused_latter, read_var, read_seq, read_former, read_latter, parsed, one_true, one_false}
+use Rattle.vs_statements.proofs.Places.{answer_exit, refused_var, refused_seq, refused_then, refused_former, refused_latter, read_var, read_seq, read_former, read_latter, parsed, one_true, one_false}
 use Rattle.vs_parser.proofs.modules.ports.Goals as goal
 
 pub returns-in_err-names : goal.returns-in_err-names

@@ -1,9 +1,9 @@
 use Rattle.std.proofs.Common.{ap}
-use Rattle.vs_phrase.specs.declared.error.ParseError.TheVariants.{Memory}
-use Rattle.vs_phrase.specs.Reading.{bytes_in}
-use Rattle.vs_phrase.specs.Reading.Refused.{out_of_memory}
-use Rattle.vs_phrase.proofs.Places.{answer_exit, refused_var, refused_seq, refused_then, read_var, read_seq, parsed}
-use Rattle.vs_phrase.proofs.Lists.{pushed_first}
+use Rattle.vs_statements.specs.declared.error.ParseError.TheVariants.{Memory}
+use Rattle.vs_statements.specs.Reading.{bytes_in}
+use Rattle.vs_statements.specs.Reading.Refused.{out_of_memory}
+use Rattle.vs_statements.proofs.Places.{answer_exit, refused_var, refused_seq, refused_then, read_var, read_seq, parsed}
+use Rattle.vs_statements.proofs.Lists.{pushed_first}
 use Rattle.vs_parser.proofs.Headers.{modules_made}
 use Rattle.vs_parser.proofs.modules.source.Goals as goal
 

@@ -1,8 +1,8 @@
 use Rattle.std.proofs.Common.{refl, ap}
 use Rattle.vs_ast.specs.Views as view
-use Rattle.vs_phrase.specs.declared.error.ParseError.TheVariants.{Memory}
+use Rattle.vs_statements.specs.declared.error.ParseError.TheVariants.{Memory}
 use Rattle.vs_parser.proofs.Headers.{map_pushed}
-use Rattle.vs_phrase.proofs.Places.{answer_exit}
+use Rattle.vs_statements.proofs.Places.{answer_exit}
 use Rattle.vs_parser.proofs.modules.with_setting.Goals as goal
 
 pub returns-in_err-push : goal.returns-in_err-push

@@ -1,6 +1,6 @@
 use Rattle.std.proofs.Common.{ap}
 use Rattle.vs_grammar.specs.Trees as tree
-use Rattle.vs_phrase.proofs.Places.{answer_exit, refused_seq, refused_then, refused_missing, read_tok, read_seq, parsed}
+use Rattle.vs_statements.proofs.Places.{answer_exit, refused_seq, refused_then, refused_missing, read_tok, read_seq, parsed}
 use Rattle.vs_parser.proofs.processes.assigns.Goals as goal
 
 pub returns-in_err-word : goal.returns-in_err-word

@@ -1,4 +1,4 @@
-use Rattle.vs_phrase.proofs.Places.{answer_exit, refused_seq, refused_then, refused_missing, read_tok, read_seq, parsed}
+use Rattle.vs_statements.proofs.Places.{answer_exit, refused_seq, refused_then, refused_missing, read_tok, read_seq, parsed}
 use Rattle.vs_parser.proofs.processes.bracketed_control.Goals as goal
 
 pub returns-in_err-open : goal.returns-in_err-open

@@ -1,5 +1,5 @@
 use Rattle.std.proofs.Common.{refl}
-use Rattle.vs_phrase.proofs.Places.{answer_exit, refused_missing, refused_former, refused_latter, read_tok, read_former, read_latter, parsed, one_true, one_false, answer_more}
+use Rattle.vs_statements.proofs.Places.{answer_exit, refused_missing, refused_former, refused_latter, read_tok, read_former, read_latter, parsed, one_true, one_false, answer_more}
 use Rattle.vs_parser.proofs.processes.control.Goals as goal
 
 pub returns-then-stands : goal.returns-then-stands

@@ -1,5 +1,5 @@
 use Rattle.std.proofs.Common.{refl, sym, ◌∙◌, true, [], ◌∷◌}
-use Rattle.vs_phrase.proofs.Places.{answer_exit, refused_missing, refused_former, refused_latter, read_tok, read_eps, read_former, read_latter, parsed, one_true, one_false, known, stood, neither}
+use Rattle.vs_statements.proofs.Places.{answer_exit, refused_missing, refused_former, refused_latter, read_tok, read_eps, read_former, read_latter, parsed, one_true, one_false, known, stood, neither}
 use Rattle.vs_parser.proofs.processes.edge.Goals as goal
 
 pub returns-in_err-posedge : goal.returns-in_err-posedge

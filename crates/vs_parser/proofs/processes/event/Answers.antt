@@ -1,4 +1,4 @@
-use Rattle.vs_phrase.proofs.Places.{answer_exit, refused_var, refused_seq, refused_then, refused_missing, read_tok, read_var, read_seq, parsed, ap2}
+use Rattle.vs_statements.proofs.Places.{answer_exit, refused_var, refused_seq, refused_then, refused_missing, read_tok, read_var, read_seq, parsed, ap2}
 use Rattle.vs_parser.proofs.processes.event.Goals as goal
 
 pub returns-in_err-edge : goal.returns-in_err-edge

@@ -1,6 +1,6 @@
 use Rattle.std.proofs.Common.{◌∙◌}
-use Rattle.vs_phrase.specs.Reading.{bytes_in, terminal_at}
-use Rattle.vs_phrase.proofs.Places.{answer_exit, refused_var, refused_seq, refused_then, refused_missing, read_tok, read_var, read_seq, parsed}
+use Rattle.vs_statements.specs.Reading.{bytes_in, terminal_at}
+use Rattle.vs_statements.proofs.Places.{answer_exit, refused_var, refused_seq, refused_then, refused_missing, read_tok, read_var, read_seq, parsed}
 use Rattle.vs_grammar.specs.Grammars.Tree.{leaf}
 use Rattle.vs_parser.proofs.Pieces.{control_made}
 use Rattle.vs_parser.proofs.processes.event_control.Goals as goal

@@ -1,8 +1,8 @@
 use Rattle.std.proofs.Common.{◌≡◌, false}
 use Rattle.vs_parser.specs.Parts as part
-use Rattle.vs_phrase.specs.Reading.{kind_at}
+use Rattle.vs_statements.specs.Reading.{kind_at}
 use Rattle.vs_grammar.specs.Predictive.{is_member}
-use Rattle.vs_phrase.proofs.Choices.{option_more}
+use Rattle.vs_statements.proofs.Choices.{option_more}
 use Rattle.vs_parser.proofs.Pieces.{event_picked}
 use Rattle.vs_parser.proofs.processes.event_sign.Goals as goal
 

@@ -1,8 +1,8 @@
-use Rattle.vs_phrase.specs.declared.error.ParseError.TheVariants.{Memory}
-use Rattle.vs_phrase.specs.Reading.{bytes_in}
-use Rattle.vs_phrase.specs.Reading.Refused.{out_of_memory}
-use Rattle.vs_phrase.proofs.Places.{answer_exit, refused_seq, refused_then, read_seq, parsed}
-use Rattle.vs_phrase.proofs.Lists.{pushed_first}
+use Rattle.vs_statements.specs.declared.error.ParseError.TheVariants.{Memory}
+use Rattle.vs_statements.specs.Reading.{bytes_in}
+use Rattle.vs_statements.specs.Reading.Refused.{out_of_memory}
+use Rattle.vs_statements.proofs.Places.{answer_exit, refused_seq, refused_then, read_seq, parsed}
+use Rattle.vs_statements.proofs.Lists.{pushed_first}
 use Rattle.vs_parser.proofs.Pieces.{events_made}
 use Rattle.vs_parser.proofs.processes.events.Goals as goal
 

@@ -1,6 +1,6 @@
 use Rattle.std.proofs.Common.{refl, ap}
 use Rattle.vs_grammar.specs.Trees as tree
-use Rattle.vs_phrase.proofs.Places.{answer_exit, refused_missing, refused_former, refused_latter, read_tok, read_former, read_latter, parsed, one_true, one_false}
+use Rattle.vs_statements.proofs.Places.{answer_exit, refused_missing, refused_former, refused_latter, read_tok, read_former, read_latter, parsed, one_true, one_false}
 use Rattle.vs_parser.proofs.processes.inner_control.Goals as goal
 
 pub returns-in_err-star : goal.returns-in_err-star

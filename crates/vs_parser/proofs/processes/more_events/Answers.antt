@@ -2,12 +2,12 @@ use Rattle.std.proofs.Common.{refl}
 use Rattle.vs_grammar.specs.Verilog.{Rule as rule, r}
 use Rattle.vs_grammar.specs.Meaning as meaning
 use Rattle.vs_ast.specs.Views as view
-use Rattle.vs_phrase.specs.declared.error.ParseError.TheVariants.{Memory}
+use Rattle.vs_statements.specs.declared.error.ParseError.TheVariants.{Memory}
 use Rattle.vs_parser.specs.Parts as part
-use Rattle.vs_phrase.specs.Reading.Refused.{out_of_memory}
-use Rattle.vs_phrase.proofs.Places.{answer_exit, refused_then, refused_more, read_seq}
-use Rattle.vs_phrase.proofs.Tables.{read_chosen}
-use Rattle.vs_phrase.proofs.Lists.{shorter, listing_start, listing_more, listing_behind}
+use Rattle.vs_statements.specs.Reading.Refused.{out_of_memory}
+use Rattle.vs_statements.proofs.Places.{answer_exit, refused_then, refused_more, read_seq}
+use Rattle.vs_statements.proofs.Tables.{read_chosen}
+use Rattle.vs_statements.proofs.Lists.{shorter, listing_start, listing_more, listing_behind}
 use Rattle.vs_grammar.specs.Verilog.{◌⨾◌}
 use Rattle.vs_parser.proofs.processes.more_events.Goals as goal
 

@@ -4,7 +4,7 @@ use Rattle.vs_grammar.specs.Verilog.{◌⨾◌}
 use Rattle.vs_grammar.specs.Meaning as meaning
 use Rattle.vs_ast.specs.Views as view
 use Rattle.vs_parser.specs.Parts as part
-use Rattle.vs_phrase.specs.Reading.{Listing}
+use Rattle.vs_statements.specs.Reading.{Listing}
 use Rattle.vs_parser.proofs.processes.more_events.Given as goal
 
 abbrev pub invariant-loop-sign : goal.invariant-loop-sign

@@ -1,10 +1,10 @@
 use Rattle.std.proofs.Common.{sym, ◌∙◌, ap, [], ◌∷◌, map}
 use Rattle.vs_grammar.specs.Trees as tree
 use Rattle.vs_ast.specs.Views as view
-use Rattle.vs_phrase.specs.declared.error.ParseError.TheVariants.{Memory}
-use Rattle.vs_phrase.specs.Reading.Refused.{out_of_memory}
-use Rattle.vs_phrase.proofs.Places.{answer_exit, refused_missing, read_tok, parsed}
-use Rattle.vs_phrase.proofs.Lists.{pushed_first}
+use Rattle.vs_statements.specs.declared.error.ParseError.TheVariants.{Memory}
+use Rattle.vs_statements.specs.Reading.Refused.{out_of_memory}
+use Rattle.vs_statements.proofs.Places.{answer_exit, refused_missing, read_tok, parsed}
+use Rattle.vs_statements.proofs.Lists.{pushed_first}
 use Rattle.vs_parser.proofs.processes.single_event.Goals as goal
 
 pub returns-in_err-name : goal.returns-in_err-name

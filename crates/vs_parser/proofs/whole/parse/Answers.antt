@@ -1,4 +1,4 @@
-use Rattle.vs_phrase.proofs.Places.{few, ok_part, err_part}
+use Rattle.vs_statements.proofs.Places.{few, ok_part, err_part}
 use Rattle.vs_parser.proofs.Verdicts.{complete_of, syntax_of, deep_of, none_of}
 use Rattle.vs_parser.proofs.whole.parse.Goals as goal
 

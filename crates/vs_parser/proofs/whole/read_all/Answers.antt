@@ -1,5 +1,5 @@
 use Rattle.vs_parser.proofs.Ends.{text_fault, rest_fault, text_read}
-use Rattle.vs_phrase.proofs.Places.{answer_exit}
+use Rattle.vs_statements.proofs.Places.{answer_exit}
 use Rattle.vs_parser.proofs.whole.read_all.Goals as goal
 
 pub returns-in_err-found : goal.returns-in_err-found

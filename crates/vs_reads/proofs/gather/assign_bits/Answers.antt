@@ -2,7 +2,7 @@ use Rattle.std.proofs.Common.{ap, sym, ◌∙◌}
 use Rattle.vs_design.specs.Designs.{Continuous}
 use Rattle.vs_design.specs.Footprints.{ascending, read_bits, target_bits, target_reads}
 use Rattle.vs_flat.specs.Trees.{target_tree}
-use Rattle.vs_length.specs.Nodes.{tree_of}
+use Rattle.vs_shape.specs.Nodes.{tree_of}
 use Rattle.vs_reads.proofs.Gathered.{footprint_is, one_list, two_lists, ascending_none, reads_below, writes_below}
 use Rattle.vs_reads.proofs.gather.assign_bits.Goals as goal
 

@@ -1,7 +1,7 @@
 use Rattle.std.proofs.Common.{ap, sym, ◌∙◌}
 use Rattle.vs_design.specs.Designs.{Always}
 use Rattle.vs_design.specs.Footprints.{ascending, statement_bits, statement_reads}
-use Rattle.vs_length.specs.Bodies.{body_of}
+use Rattle.vs_shape.specs.Bodies.{body_of}
 use Rattle.vs_reads.proofs.Gathered.{footprint_is, one_list, ascending_none, reads_below, writes_below, clocked_reads, clocked_waits}
 use Rattle.vs_reads.proofs.gather.clocked_bits.Goals as goal
 

@@ -3,7 +3,7 @@ use Rattle.vs_design.specs.Designs.{Always}
 use Rattle.vs_design.specs.Footprints.{contains, without, ascending, reads_of, waits_of, statement_bits, statement_reads, signals_bits, wait_signals}
 use Rattle.vs_flat.specs.DesignOf.{event_of, arena_signals}
 use Rattle.vs_flat.specs.Trees.{signal_at}
-use Rattle.vs_length.specs.Bodies.{body_of}
+use Rattle.vs_shape.specs.Bodies.{body_of}
 use Rattle.vs_reads.proofs.Gathered.{footprint_is, one_list, needs_below, writes_below, waits_below, without_same, combinational_reads, combinational_waits}
 use Rattle.vs_reads.proofs.gather.combinational_bits.Goals as goal
 

@@ -1,5 +1,5 @@
 use Rattle.std.proofs.Common.{◌≡◌, map, drop}
-use Rattle.vs_hierarchy.specs.Limits.{the_limits}
+use Rattle.vs_elaborated.specs.Limits.{the_limits}
 use Rattle.vs_scope.specs.Bits.{over}
 use Rattle.vs_scope.specs.Signalled.{placed}
 use Rattle.vs_scope.proofs.bits.bits_fault.Given as goal

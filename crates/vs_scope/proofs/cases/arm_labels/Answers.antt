@@ -3,7 +3,7 @@ use Rattle.vs_ast.specs.Views as view
 use Rattle.vs_ast.specs.declared.expressions.Expr.{Expr}
 use Rattle.vs_ast.specs.declared.items.GenerateArm.{GenerateArm}
 use Rattle.vs_grammar.specs.Shapes.{Each, IsExpr}
-use Rattle.vs_hierarchy.specs.Constructs.{Label, label_of, labels_of}
+use Rattle.vs_elaborated.specs.Constructs.{Label, label_of, labels_of}
 use Rattle.vs_scope.specs.Cases.{AreLabels}
 use Rattle.vs_scope.specs.Frames.{view_env}
 use Rattle.vs_scope.proofs.Steps.{none_left}

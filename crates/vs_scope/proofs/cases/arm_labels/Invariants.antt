@@ -1,6 +1,6 @@
 use Rattle.std.proofs.Common.{map, drop}
 use Rattle.vs_ast.specs.Views as view
-use Rattle.vs_hierarchy.specs.Constructs.{label_of, labels_of}
+use Rattle.vs_elaborated.specs.Constructs.{label_of, labels_of}
 use Rattle.vs_scope.specs.Frames.{view_env}
 use Rattle.vs_scope.proofs.CaseLabels.{AreLabelled}
 use Rattle.vs_scope.proofs.cases.arm_labels.Given as goal

@@ -3,7 +3,7 @@ use Rattle.vs_ast.specs.Views as view
 use Rattle.vs_ast.specs.declared.expressions.Expr.{Expr}
 use Rattle.vs_ast.specs.declared.items.GenerateArm.{GenerateArm}
 use Rattle.vs_grammar.specs.Shapes.{Each}
-use Rattle.vs_hierarchy.specs.Constructs.{arm_of, same_bits}
+use Rattle.vs_elaborated.specs.Constructs.{arm_of, same_bits}
 use Rattle.vs_scope.specs.Cases.{IsFit, has_value}
 use Rattle.vs_scope.specs.Frames.{view_env}
 use Rattle.vs_scope.proofs.CaseLabels.{shifted, arm_fit, arm_start, arm_next, arm_here, arm_end}

@@ -1,6 +1,6 @@
 use Rattle.std.proofs.Common.{◌≡◌, drop}
 use Rattle.vs_ast.specs.Views as view
-use Rattle.vs_hierarchy.specs.Constructs.{arm_of, same_bits}
+use Rattle.vs_elaborated.specs.Constructs.{arm_of, same_bits}
 use Rattle.vs_scope.specs.Frames.{view_env}
 use Rattle.vs_scope.proofs.CaseLabels.{shifted}
 use Rattle.vs_scope.proofs.cases.arm_of.Given as goal

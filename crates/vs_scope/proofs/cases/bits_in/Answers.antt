@@ -3,8 +3,8 @@ use Rattle.vs_ast.specs.Views as view
 use Rattle.vs_design.specs.Expressions.{width}
 use Rattle.vs_const.specs.Expressions.{constant}
 use Rattle.vs_const.proofs.Good.{typed_long}
-use Rattle.vs_hierarchy.specs.Environments.{named}
-use Rattle.vs_hierarchy.specs.Constructs.{length_or_none}
+use Rattle.vs_elaborated.specs.Environments.{named}
+use Rattle.vs_elaborated.specs.Constructs.{length_or_none}
 use Rattle.vs_scope.specs.Frames.{view_env}
 use Rattle.vs_scope.proofs.Fair.{view_fair}
 use Rattle.vs_scope.proofs.Says.{says_good}

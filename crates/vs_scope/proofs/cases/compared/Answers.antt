@@ -3,7 +3,7 @@ use Rattle.vs_ast.specs.Views as view
 use Rattle.vs_const.specs.declared.faults.Fault.{Fault}
 use Rattle.vs_const.specs.Faults.{least, better}
 use Rattle.vs_const.proofs.Least.{least_append}
-use Rattle.vs_hierarchy.specs.Constructs.{label_of}
+use Rattle.vs_elaborated.specs.Constructs.{label_of}
 use Rattle.vs_scope.specs.Cases.{label_faults, own_faults}
 use Rattle.vs_scope.specs.Frames.{view_env}
 use Rattle.vs_scope.proofs.CaseLabels.{unknown_is, case_unclean}

@@ -1,7 +1,7 @@
 use Rattle.std.proofs.Common.{◌≡◌, ◌||◌, ℕ, Bool, suc, List, map, drop, sym, ap, ◌∙◌, subst, add-one}
 use Rattle.vs_ast.specs.Views as view
 use Rattle.vs_ast.specs.declared.expressions.Expr.{Expr}
-use Rattle.vs_hierarchy.specs.Constructs.{same_bits}
+use Rattle.vs_elaborated.specs.Constructs.{same_bits}
 use Rattle.vs_scope.specs.Cases.{IsFit, has_value}
 use Rattle.vs_scope.specs.Frames.{view_env}
 use Rattle.vs_scope.proofs.Steps.{from_place, none_left}

@@ -1,6 +1,6 @@
 use Rattle.std.proofs.Common.{◌≡◌, map, drop}
 use Rattle.vs_ast.specs.Views as view
-use Rattle.vs_hierarchy.specs.Constructs.{same_bits}
+use Rattle.vs_elaborated.specs.Constructs.{same_bits}
 use Rattle.vs_scope.specs.Cases.{has_value}
 use Rattle.vs_scope.specs.Frames.{view_env}
 use Rattle.vs_scope.proofs.cases.has_label.Given as goal

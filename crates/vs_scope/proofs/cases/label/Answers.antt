@@ -2,8 +2,8 @@ use Rattle.std.proofs.Common.{ℕ, refl, ap, ◌∙◌}
 use Rattle.vs_ast.specs.Views as view
 use Rattle.vs_const.specs.Faults.{least}
 use Rattle.vs_const.specs.Expressions.{constant}
-use Rattle.vs_hierarchy.specs.Environments.{named}
-use Rattle.vs_hierarchy.specs.Constructs.{own_unknown, label_of}
+use Rattle.vs_elaborated.specs.Environments.{named}
+use Rattle.vs_elaborated.specs.Constructs.{own_unknown, label_of}
 use Rattle.vs_scope.specs.Frames.{view_env}
 use Rattle.vs_scope.proofs.CaseLabels.{label_alone}
 use Rattle.vs_scope.proofs.cases.label.Goals as goal

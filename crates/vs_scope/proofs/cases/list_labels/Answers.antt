@@ -2,7 +2,7 @@ use Rattle.std.proofs.Common.{ℕ, suc, List, [], ◌∷◌, map, drop, sym, sub
 use Rattle.vs_ast.specs.Views as view
 use Rattle.vs_ast.specs.declared.expressions.Expr.{Expr}
 use Rattle.vs_grammar.specs.Shapes.{IsExpr}
-use Rattle.vs_hierarchy.specs.Constructs.{label_of}
+use Rattle.vs_elaborated.specs.Constructs.{label_of}
 use Rattle.vs_scope.specs.Frames.{view_env}
 use Rattle.vs_scope.proofs.Steps.{from_place, none_left}
 use Rattle.vs_scope.proofs.CaseLabels.{AreLabelled, labelled_start, labelled_more, labelled_end, each_at}

@@ -6,7 +6,7 @@ use Rattle.vs_ast.specs.declared.items.GenerateArm.{GenerateArm}
 use Rattle.vs_grammar.specs.Shapes.{Each}
 use Rattle.vs_const.specs.declared.faults.Fault.{Fault}
 use Rattle.vs_const.specs.Faults.{least}
-use Rattle.vs_hierarchy.specs.Constructs.{label_of, labels_of, unknown_in}
+use Rattle.vs_elaborated.specs.Constructs.{label_of, labels_of, unknown_in}
 use Rattle.vs_scope.specs.Cases.{IsFit}
 use Rattle.vs_scope.specs.Frames.{view_env}
 use Rattle.vs_scope.specs.Sets.{IsFirstSoFar}

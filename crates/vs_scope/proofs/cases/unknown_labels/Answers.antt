@@ -1,7 +1,7 @@
 use Rattle.std.proofs.Common.{ℕ, suc, List, map, flat_map, drop, sym, subst, add-one}
 use Rattle.vs_ast.specs.Views as view
 use Rattle.vs_ast.specs.declared.expressions.Expr.{Expr}
-use Rattle.vs_hierarchy.specs.Constructs.{label_of, unknown_in}
+use Rattle.vs_elaborated.specs.Constructs.{label_of, unknown_in}
 use Rattle.vs_scope.specs.Cases.{IsFit}
 use Rattle.vs_scope.specs.Frames.{view_env}
 use Rattle.vs_scope.specs.Sets.{IsFirstSoFar}

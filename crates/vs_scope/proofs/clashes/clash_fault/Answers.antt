@@ -2,9 +2,10 @@ use Rattle.std.proofs.Common.{◌≡◌, ◌||◌, ℕ, suc, Bool, List, map, dr
 use Rattle.vs_design.specs.Clocks.{same_name}
 use Rattle.vs_const.specs.declared.faults.Fault.{Fault}
 use Rattle.vs_const.specs.Faults.{least, better, fault_if}
+use Rattle.vs_const.specs.declared.rules.Rule.TheVariants.{DuplicateName}
 use Rattle.vs_const.proofs.Least.{least_append}
-use Rattle.vs_hierarchy.specs.Environments.{find_entry}
-use Rattle.vs_hierarchy.specs.Surveys.{clash_with}
+use Rattle.vs_elaborated.specs.Environments.{find_entry}
+use Rattle.vs_elaborated.specs.Surveys.{clash_with}
 use Rattle.vs_scope.specs.declared.clashes.NamedBlock.{NamedBlock}
 use Rattle.vs_scope.specs.Clashes.{block_of}
 use Rattle.vs_scope.specs.Sets.{has}
@@ -24,12 +25,12 @@ loop-b-preserved c =
     let b = block_of c.b-item.result in
     let text : c.as_slice-text.result.now ≡ b.name = c.as_slice-text.ensures.value in
     let one = clash_with b.place (find_entry es b.name) in
-    let two = fault_if (has c.loop-b.seen b.name) 36 b.place in
+    let two = fault_if (has c.loop-b.seen b.name) DuplicateName b.place in
     subst (λ (n : ℕ). AreClashing es (has c.add.new.self) c.first_of-fault.result (map block_of (drop n blocks)) (map block_of blocks)) (sym (add-one i))
     (clashing_more es (has c.loop-b.seen) (has c.add.new.self) b (map block_of (drop (suc i) blocks)) (map block_of blocks) c.loop-b.fault c.first_of-both.result c.first_of-fault.result
     (subst (λ (x : List NamedBlock). AreClashing es (has c.loop-b.seen) c.loop-b.fault (map block_of x) (map block_of blocks)) (from_place blocks i c.b-item.result c.loop-b-test.true c.b-item.is) c.loop-b.invariant)
     (c.first_of-both.ensures ∙ ap (λ (o : Option Fault). better o c.fault_if-again.result) c.declared_fault-declared.ensures
-    ∙ ap (better (least one)) (c.fault_if-again.ensures ∙ ap (λ (x : Bool). least (fault_if x 36 b.place)) (c.contains.ensures ∙ ap (has c.loop-b.seen) text)) ∙ sym (least_append one two))
+    ∙ ap (better (least one)) (c.fault_if-again.ensures ∙ ap (λ (x : Bool). least (fault_if x DuplicateName b.place)) (c.contains.ensures ∙ ap (has c.loop-b.seen) text)) ∙ sym (least_append one two))
     c.first_of-fault.ensures
     (λ n. c.in_ok-add.ensures n ∙ ap (λ (x : List ℕ). same_name x n || has c.loop-b.seen n) text))
 

@@ -1,6 +1,6 @@
 use Rattle.std.proofs.Common.{◌≡◌, ◌++◌, map, flat_map, drop}
 use Rattle.vs_ast.specs.Views as view
-use Rattle.vs_hierarchy.specs.Declarations as spec
+use Rattle.vs_elaborated.specs.Declarations as spec
 use Rattle.vs_scope.specs.Views.{declaration}
 use Rattle.vs_scope.proofs.collect.collect_items.Given as goal
 

@@ -5,10 +5,10 @@ use Rattle.vs_grammar.specs.Trees as tree
 use Rattle.vs_grammar.specs.Shapes.{Given, IsBlock, AreGenerateArms}
 use Rattle.vs_grammar.specs.Depths.{item_depth}
 use Rattle.vs_const.specs.Expressions.{number}
-use Rattle.vs_hierarchy.specs.Environments.{named}
-use Rattle.vs_hierarchy.specs.Generate as generate
-use Rattle.vs_hierarchy.specs.Limits.{the_limits}
-use Rattle.vs_hierarchy.specs.Constructs as spec
+use Rattle.vs_elaborated.specs.Environments.{named}
+use Rattle.vs_elaborated.specs.Generate as generate
+use Rattle.vs_elaborated.specs.Limits.{the_limits}
+use Rattle.vs_elaborated.specs.Constructs as spec
 use Rattle.vs_scope.specs.Chosen.{IsChosen, IsConstruct, block_now, fallback_block, of_if, of_case}
 use Rattle.vs_scope.specs.Frames.{view_env}
 use Rattle.vs_scope.specs.Made.{made, kept}

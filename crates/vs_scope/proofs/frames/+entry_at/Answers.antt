@@ -1,5 +1,5 @@
 use Rattle.std.proofs.Common.{◌≡◌, ℕ, Option, None, Some, MatchOption, sym, ap, ◌∙◌, subst}
-use Rattle.vs_hierarchy.specs.Environments.{Entry, Env, find_name}
+use Rattle.vs_elaborated.specs.Environments.{Entry, Env, find_name}
 use Rattle.vs_scope.specs.Views.{entry_of}
 use Rattle.vs_scope.specs.Frames.{envs, env_at}
 use Rattle.vs_scope.proofs.Scopes.{found_at, found_above, env_past}

@@ -1,5 +1,5 @@
 use Rattle.std.proofs.Common.{ℕ, Option, sym, ap, ◌∙◌}
-use Rattle.vs_hierarchy.specs.Environments.{Env, turn_of}
+use Rattle.vs_elaborated.specs.Environments.{Env, turn_of}
 use Rattle.vs_scope.specs.Frames.{value_or, envs, env_at}
 use Rattle.vs_scope.proofs.Scopes.{turn_step, env_past}
 use Rattle.vs_scope.proofs.frames.+turn_at.Goals as goal

@@ -3,7 +3,8 @@ use Rattle.vs_ast.specs.Views as view
 use Rattle.vs_ast.specs.declared.items.Declarator.{Declarator}
 use Rattle.vs_design.specs.Clocks.{same_name}
 use Rattle.vs_const.specs.Faults.{least, fault_if}
-use Rattle.vs_hierarchy.specs.Ports.{has_direction}
+use Rattle.vs_const.specs.declared.rules.Rule.TheVariants.{UnknownPort}
+use Rattle.vs_elaborated.specs.Ports.{has_direction}
 use Rattle.vs_scope.specs.Headers.{opposed_faults}
 use Rattle.vs_scope.specs.Sets.{has}
 use Rattle.vs_scope.proofs.Steps.{from_place, none_left}
@@ -21,11 +22,11 @@ loop-d-preserved c =
     let i = c.loop-d.d-index in
     let d = view.name c.d-item.result.name in
     let known = has c.args.known.now in
-    let text : c.as_bytes-text.result.now ≡ d.bytes = c.as_bytes-text.ensures in
+    let text : c.as_slice-text.result.now ≡ d.bytes = c.as_slice-text.ensures in
     subst (λ (n : ℕ). AreDirected known (has c.args.directed.now) (has c.add.new.self) c.first_of-fault.result (g (drop n items)) (g items)) (sym (add-one i))
     (directed_more known (has c.args.directed.now) (has c.loop-d.directed) (has c.add.new.self) (f c.d-item.result) (g (drop (suc i) items)) (g items) c.loop-d.fault c.fault_if.result c.first_of-fault.result
     (subst (λ (x : List Declarator). AreDirected known (has c.args.directed.now) (has c.loop-d.directed) c.loop-d.fault (g x) (g items)) (from_place items i c.d-item.result c.loop-d-test.true c.d-item.is) c.loop-d.invariant)
-    (c.fault_if.ensures ∙ ap (λ (b : Bool). least (fault_if (not b) 39 d.place)) (c.contains-unknown.ensures ∙ ap known text))
+    (c.fault_if.ensures ∙ ap (λ (b : Bool). least (fault_if (not b) UnknownPort d.place)) (c.contains-unknown.ensures ∙ ap known text))
     c.first_of-fault.ensures
     (λ n. c.in_ok-add.ensures n ∙ ap (λ (x : List ℕ). same_name x n || has c.loop-d.directed n) text))
 

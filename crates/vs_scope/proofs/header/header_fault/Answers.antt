@@ -5,7 +5,7 @@ use Rattle.vs_grammar.specs.Trees as tree
 use Rattle.vs_const.specs.declared.faults.Fault.{Fault}
 use Rattle.vs_const.specs.Faults.{least, better}
 use Rattle.vs_const.proofs.Least.{least_append}
-use Rattle.vs_hierarchy.specs.Ports.{is_named, has_direction, item_directions, plain_names, repeated, body_directions}
+use Rattle.vs_elaborated.specs.Ports.{is_named, has_direction, item_directions, plain_names, repeated, body_directions}
 use Rattle.vs_scope.specs.Headers.{opposed_faults, undirected_faults}
 use Rattle.vs_scope.specs.Sets.{has}
 use Rattle.vs_scope.proofs.Steps.{items_are}

@@ -1,8 +1,8 @@
 use Rattle.std.proofs.Common.{◌≡◌, ℕ, suc, Bool, [], Option, Some, IfOk, sym, subst}
 use Rattle.vs_ast.specs.Views as view
 use Rattle.vs_ast.specs.Views.{option}
-use Rattle.vs_hierarchy.specs.Limits.{the_limits}
-use Rattle.vs_hierarchy.specs.Loops as spec
+use Rattle.vs_elaborated.specs.Limits.{the_limits}
+use Rattle.vs_elaborated.specs.Loops as spec
 use Rattle.vs_scope.specs.Blocks.{block}
 use Rattle.vs_scope.specs.Frames.{view_env}
 use Rattle.vs_scope.specs.Made.{made, kept}

@@ -3,8 +3,8 @@ use Rattle.vs_ast.specs.Views.{option}
 use Rattle.vs_const.specs.declared.faults.Fault.{Fault}
 use Rattle.vs_const.specs.Faults.{least, better}
 use Rattle.vs_const.proofs.Least.{least_append}
-use Rattle.vs_hierarchy.specs.Generate as generate
-use Rattle.vs_hierarchy.specs.Loops as spec
+use Rattle.vs_elaborated.specs.Generate as generate
+use Rattle.vs_elaborated.specs.Loops as spec
 use Rattle.vs_scope.specs.declared.made.Block.{Block}
 use Rattle.vs_scope.specs.Blocks.{block}
 use Rattle.vs_scope.specs.Made.{Kept, made, kept, nested, block_names}

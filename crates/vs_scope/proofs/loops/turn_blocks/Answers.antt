@@ -1,6 +1,6 @@
 use Rattle.std.proofs.Common.{◌≡◌, ◌++◌, ◌∷◌, ◌+◌, [], ℕ, List, Some, get_or, drop, map, ap, ◌∙◌, add-one}
-use Rattle.vs_hierarchy.specs.Generate as generate
-use Rattle.vs_hierarchy.specs.Loops as spec
+use Rattle.vs_elaborated.specs.Generate as generate
+use Rattle.vs_elaborated.specs.Loops as spec
 use Rattle.vs_scope.specs.declared.made.Nested.{Nested}
 use Rattle.vs_scope.specs.Blocks.{block}
 use Rattle.vs_scope.specs.Contents.{block_items}

@@ -1,5 +1,5 @@
 use Rattle.std.proofs.Common.{◌≡◌, ◌++◌, map, drop}
-use Rattle.vs_hierarchy.specs.Loops as spec
+use Rattle.vs_elaborated.specs.Loops as spec
 use Rattle.vs_scope.specs.Blocks.{block}
 use Rattle.vs_scope.specs.Made.{nested}
 use Rattle.vs_scope.proofs.loops.turn_blocks.Given as goal

@@ -1,8 +1,8 @@
 use Rattle.std.proofs.Common.{List, ℕ, [], ◌∷◌, sym, ap, ◌∙◌}
 use Rattle.vs_ast.specs.Views as view
 use Rattle.vs_const.specs.Faults.{least}
-use Rattle.vs_hierarchy.specs.Environments as environment
-use Rattle.vs_hierarchy.specs.Parameters as spec
+use Rattle.vs_elaborated.specs.Environments as environment
+use Rattle.vs_elaborated.specs.Parameters as spec
 use Rattle.vs_scope.specs.declared.names.Sort.{Sort}
 use Rattle.vs_scope.specs.Views as scope
 use Rattle.vs_scope.specs.Frames.{around_env}
@@ -15,7 +15,7 @@ returns-in_ok-put_value-in-Parameter-clause-entries c =
     let d = c.args.d.now in
     let es = scope.entries c.args.names.now in
     let os = overrides_of c.args.around.frames.now c.args.overrides.now in
-    c.in_ok-put_value-in-Parameter.ensures.entries ∙ ap (λ (n : List ℕ). spec.put_value n (scope.evaluated c.in_ok-s-in-Parameter.s.value) es) c.as_bytes.ensures
+    c.in_ok-put_value-in-Parameter.ensures.entries ∙ ap (λ (n : List ℕ). spec.put_value n (scope.evaluated c.in_ok-s-in-Parameter.s.value) es) c.as_slice.ensures
     ∙ ap (λ (x : environment.Declared). spec.put_value d.name.now.text x es) c.in_ok-s-in-Parameter.ensures.value
     ∙ sym (ap (λ (x : Sort). (spec.said_parameters (around_env c.args.around) os (record { name = view.name d.name.now; sort = scope.sort x } ∷ []) es).entries) c.in-Parameter.is)
 

@@ -1,6 +1,6 @@
 use Rattle.std.proofs.Common.{◌≡◌, List, map, sym, ap, ◌∙◌, subst}
 use Rattle.vs_const.specs.Faults.{least, better}
-use Rattle.vs_hierarchy.specs.Declarations as declarations
+use Rattle.vs_elaborated.specs.Declarations as declarations
 use Rattle.vs_scope.specs.declared.names.Signal.{Signal}
 use Rattle.vs_scope.specs.Contents.{contents_declared}
 use Rattle.vs_scope.specs.Declares.{named_list}

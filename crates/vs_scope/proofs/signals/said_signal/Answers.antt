@@ -1,8 +1,8 @@
 use Rattle.std.proofs.Common.{Bool, not, ◌&&◌, ◌||◌, refl, ap, ◌∙◌}
 use Rattle.vs_ast.specs.Views as view
 use Rattle.vs_const.specs.Faults.{least}
-use Rattle.vs_hierarchy.specs.Parameters.{said_range}
-use Rattle.vs_hierarchy.specs.Signals as spec
+use Rattle.vs_elaborated.specs.Parameters.{said_range}
+use Rattle.vs_elaborated.specs.Signals as spec
 use Rattle.vs_scope.specs.Frames.{view_env}
 use Rattle.vs_scope.specs.Views as scope
 use Rattle.vs_scope.specs.Signalled.{signal_sort}
@@ -20,7 +20,7 @@ returns c = λ header.
     record {
       place = refl;
       meaning = same_meaning c.args.start.scope c.args.start.signal c.args.start.bit _ _ _ _ _ _ _ _ _ _ _ _ _ _
-          c.as_bytes.ensures
+          c.as_slice.ensures
           (c.is_net.ensures ∙ ap (λ k. not (spec.is_reg s.kind || spec.is_reg k)) o.kind)
           (c.is_input_of_top.ensures ∙ ap (λ (b : Bool). b && c.args.start.top) input)
           (c.is_signed.ensures ∙ ap (λ (b : Bool). s.signed || b) o.signed)

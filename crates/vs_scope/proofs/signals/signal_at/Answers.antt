@@ -1,6 +1,6 @@
 use Rattle.std.proofs.Common.{[], ◌∷◌, ap}
 use Rattle.vs_ast.specs.Views as view
-use Rattle.vs_hierarchy.specs.Signals as spec
+use Rattle.vs_elaborated.specs.Signals as spec
 use Rattle.vs_scope.specs.declared.names.Sort.{Sort}
 use Rattle.vs_scope.specs.Frames.{view_env}
 use Rattle.vs_scope.specs.Views as scope

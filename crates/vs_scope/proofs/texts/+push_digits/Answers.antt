@@ -1,5 +1,5 @@
 use Rattle.std.proofs.Common.{◌≡◌, ◌-◌, ◌+◌, ◌/◌, ◌%◌, ℕ, suc, List, [], ◌∷◌, ◌++◌, sym, ap, ◌∙◌, append_assoc, arith}
-use Rattle.vs_hierarchy.specs.Generate.{digits_before}
+use Rattle.vs_elaborated.specs.Generate.{digits_before}
 use Rattle.vs_scope.proofs.Digits.{digits_more, digits_one}
 use Rattle.vs_scope.proofs.texts.+push_digits.Goals as goal
 use Rattle.vs_scope.proofs.texts.+push_digits.Goals.{then-n-ge10+in_ok-push_digits, else-n-ge10}

@@ -1,10 +1,12 @@
 use Rattle.std.proofs.Common.{◌≡◌, ◌+◌, ◌||◌, ℕ, nat_lt, Option, refl, sym, ap, ◌∙◌}
 use Rattle.vs_ast.specs.Views as view
 use Rattle.vs_const.specs.declared.faults.Fault.{Fault}
+use Rattle.vs_const.specs.declared.faults.Flaws.{Flaws}
 use Rattle.vs_const.specs.Faults.{fault, least, better}
+use Rattle.vs_const.specs.declared.rules.Rule.TheVariants.{GenerateTurns}
 use Rattle.vs_const.proofs.Least.{least_append}
-use Rattle.vs_hierarchy.specs.Limits.{the_limits}
-use Rattle.vs_hierarchy.specs.Loops.{step}
+use Rattle.vs_elaborated.specs.Limits.{the_limits}
+use Rattle.vs_elaborated.specs.Loops.{step}
 use Rattle.vs_scope.specs.Frames.{view_env}
 use Rattle.vs_scope.proofs.TurnSteps.{taken_over, taken_within}
 use Rattle.vs_scope.proofs.turns.taken.Goals as goal
@@ -18,7 +20,7 @@ returns-then-is_over c = λ fs h.
       taken = ap (λ t. t.taken) c.ended.ensures;
       next = ap (λ t. t.next) c.ended.ensures;
       fault =
-          ap (λ t. t.fault) c.ended.ensures ∙ c.first_of.ensures ∙ ap (λ (x : Option Fault). better x c.fault_at.result) h ∙ ap (better (least fs)) c.fault_at.ensures ∙ sym (least_append fs (fault 42 head.place));
+          ap (λ t. t.fault) c.ended.ensures ∙ c.first_of.ensures ∙ ap (λ (x : Option Fault). better x c.fault_at.result) h ∙ ap (better (least fs)) c.fault_at.ensures ∙ sym (least_append fs (fault GenerateTurns head.place));
       count = ap (λ t. t.count) c.ended.ensures ∙ n;
     })
 
@@ -31,6 +33,6 @@ returns c = λ fs h.
     (record {
       taken = refl;
       next = c.in_ok-next.ensures.number;
-      fault = c.first_of-2.ensures ∙ ap (λ (x : Option Fault). better x c.in_ok-next.next.fault) h ∙ ap (better (least fs)) c.in_ok-next.ensures.fault ∙ sym (least_append fs next.faults);
+      fault = c.first_of-2.ensures ∙ ap (λ (x : Option Fault). better x c.in_ok-next.next.flaws.first) h ∙ ap (better (least fs)) (ap (λ (f : Flaws). f.first) c.in_ok-next.ensures.flaws) ∙ sym (least_append fs next.faults);
       count = n;
     })

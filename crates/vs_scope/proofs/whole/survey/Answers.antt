@@ -1,10 +1,10 @@
 use Rattle.std.proofs.Common.{List, [], map, sym, ap, ◌∙◌, subst}
 use Rattle.vs_grammar.specs.Shapes.{Each}
 use Rattle.vs_const.specs.Faults.{least}
-use Rattle.vs_hierarchy.specs.Environments.{Entry, find_entry}
-use Rattle.vs_hierarchy.specs.Limits.{the_limits}
-use Rattle.vs_hierarchy.specs.Generate as generate
-use Rattle.vs_hierarchy.specs.Surveys.{block_faults, bits_over, header_of, declarations_of, overrides_of}
+use Rattle.vs_elaborated.specs.Environments.{Entry, find_entry}
+use Rattle.vs_elaborated.specs.Limits.{the_limits}
+use Rattle.vs_elaborated.specs.Generate as generate
+use Rattle.vs_elaborated.specs.Surveys.{block_faults, bits_over, header_of, declarations_of, overrides_of}
 use Rattle.vs_scope.specs.declared.names.Signal.{Signal}
 use Rattle.vs_scope.specs.Bits.{over}
 use Rattle.vs_scope.specs.Chosen.{IsConstruct}

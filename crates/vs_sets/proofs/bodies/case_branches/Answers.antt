@@ -5,7 +5,6 @@ use Rattle.vs_design.specs.Expressions as E
 use Rattle.vs_design.specs.Statements.{arms_width, arms_sign, case_width, case_sign}
 use Rattle.vs_design.specs.Lifted.{lifted}
 use Rattle.vs_design.specs.Sleepers.{arms_at_once}
-use Rattle.vs_flat.specs.Operators.{case_of}
 use Rattle.vs_sets.specs.Branches.{branch_sets, taken_arms}
 use Rattle.vs_sets.specs.Nodes.{tree_of}
 use Rattle.vs_sets.specs.StatementParts.{statement_of, arms_of}
@@ -21,12 +20,12 @@ if_ok (Err e) h k = h
 pub lifted-subject-requires-clause-wide : goal.lifted-subject-requires-clause-wide
 lifted-subject-requires-clause-wide c =
     let a = c.args.lifter.now.shapes.now in
-    omega (arith, c.own_context.ensures.len, c.case_context-context.ensures.len, arms_grow (arms_of a c.args.other c.args.arms.now) c.own_context.result.len)
+    omega (arith, c.own_context.ensures.width, c.case_context-context.ensures.width, arms_grow (arms_of a c.args.other c.args.arms.now) c.own_context.result.width)
 
 pub taken_arms-requires-clause-within : goal.taken_arms-requires-clause-within
 taken_arms-requires-clause-within c k inside =
     let a = c.args.lifter.now.shapes.now in
-    arm_within (tree_of a) (statement_of a) c.args.other c.args.arms.now c.own_context.result.len c.case_context-context.result.len k (omega (arith, c.case_context-context.ensures.len)) inside
+    arm_within (tree_of a) (statement_of a) c.args.other c.args.arms.now c.own_context.result.width c.case_context-context.result.width k (omega (arith, c.case_context-context.ensures.width)) inside
 
 pub returns-clause-taken : goal.returns-clause-taken
 returns-clause-taken c =
@@ -34,11 +33,11 @@ returns-clause-taken c =
     let f = family_of c.args.lifter.now.table.now in
     let subject = tree_of a c.args.of in
     let arms = arms_of a c.args.other c.args.arms.now in
-    let kind = case_of c.args.kind in
-    let w = c.case_context-context.result.len in
+    let kind = c.args.kind in
+    let w = c.case_context-context.result.width in
     let s = c.case_context-context.result.signed in
-    let len : w ≡ case_width subject (arms_at_once arms) = c.case_context-context.ensures.len ∙ ap (arms_width arms) c.own_context.ensures.len ∙ sym (width_at_once arms (E.width subject)) in
-    let sign : s ≡ case_sign subject (arms_at_once arms) = c.case_context-context.ensures.sign ∙ ap (arms_sign arms) c.own_context.ensures.sign ∙ sym (sign_at_once arms (E.sign subject)) in
+    let len : w ≡ case_width subject (arms_at_once arms) = c.case_context-context.ensures.width ∙ ap (arms_width arms) c.own_context.ensures.width ∙ sym (width_at_once arms (E.width subject)) in
+    let sign : s ≡ case_sign subject (arms_at_once arms) = c.case_context-context.ensures.signed ∙ ap (arms_sign arms) c.own_context.ensures.signed ∙ sym (sign_at_once arms (E.sign subject)) in
     let whole =
     ap (λ ss. taken_arms (arms_at_once arms) kind w s ss f) c.lifted-subject.ensures.value
     ∙ ap₂ (λ n t. taken_arms (arms_at_once arms) kind n t (lifted subject n t f) f) len sign

@@ -7,4 +7,4 @@ pub lifted-sets-requires-clause-fit : goal.lifted-sets-requires-clause-fit
 lifted-sets-requires-clause-fit c = each_true is_fit (tree_of c.args.lifter.now.shapes.now) c.args.items.now c.loop-item.item-index c.requires.fit c.loop-item-test.true
 
 pub lifted-sets-requires-clause-wide : goal.lifted-sets-requires-clause-wide
-lifted-sets-requires-clause-wide c = each_within c.args.context.len (tree_of c.args.lifter.now.shapes.now) c.args.items.now c.loop-item.item-index c.requires.within c.loop-item-test.true
+lifted-sets-requires-clause-wide c = each_within c.args.context.width (tree_of c.args.lifter.now.shapes.now) c.args.items.now c.loop-item.item-index c.requires.within c.loop-item-test.true

@@ -5,7 +5,6 @@ use Rattle.vs_design.specs.Fits.{is_fit}
 use Rattle.vs_design.specs.Sets.{Set4, is_only_one}
 use Rattle.vs_design.specs.LiftedBodies.{item_sets}
 use Rattle.vs_design.specs.Sleepers.{at_once, arms_at_once}
-use Rattle.vs_flat.specs.Operators.{case_of}
 use Rattle.vs_sets.specs.Branches.{taken_arms}
 use Rattle.std.proofs.Common.{inl, inr}
 use Rattle.std.proofs.lemmas.List.Elements.{All-push}
@@ -30,7 +29,7 @@ match_items-found-requires-clause-within c =
     let a = c.args.lifter.now.shapes.now in
     let x = c.arm-item.result in
     let k = c.loop-arm.arm-index in
-    ap (λ ns. are_within c.args.context.len (map (tree_of a) ns)) (c.as_slice.ensures ∙ ap (λ y. y.items) c.arm-item.is ∙ sym (items_at-is c.args.arms.now k x c.loop-arm-test.true))
+    ap (λ ns. are_within c.args.context.width (map (tree_of a) ns)) (c.as_slice.ensures ∙ ap (λ y. y.items) c.arm-item.is ∙ sym (items_at-is c.args.arms.now k x c.loop-arm-test.true))
     ∙ c.requires.within k c.loop-arm-test.true
 
 pub returns-then-found-clause-from : goal.returns-then-found-clause-from
@@ -45,8 +44,8 @@ pub loop-arm-preserved : goal.loop-arm-preserved
 loop-arm-preserved c =
     let a = c.args.lifter.now.shapes.now in
     let f = family_of c.args.lifter.now.table.now in
-    let kind = case_of c.args.kind in
-    let w = c.args.context.len in
+    let kind = c.args.kind in
+    let w = c.args.context.width in
     let s = c.args.context.signed in
     let subject = c.args.subject.now in
     let arm = c.arm-item.result in

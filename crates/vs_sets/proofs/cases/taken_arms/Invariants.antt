@@ -1,6 +1,5 @@
 use Rattle.std.proofs.Common.{◌≡◌, ◌++◌, drop}
 use Rattle.vs_design.specs.Sleepers.{arms_at_once}
-use Rattle.vs_flat.specs.Operators.{case_of}
 use Rattle.vs_sets.specs.Branches.{taken_arms}
 use Rattle.std.specs.Prelude.{All}
 use Rattle.vs_sets.specs.Matches.{IsOneOf, branches_of}
@@ -14,6 +13,6 @@ invariant-loop-arm l =
     let f = family_of l.lifter.table.now in
     record {
       from : All (IsOneOf l.arms l.other) l.taken.items;
-      taken : branches_of a l.taken.items ++ taken_arms (arms_at_once (arms_of a l.other (drop l.arm-index l.arms))) (case_of l.kind) l.context.len l.context.signed l.subject f
-          ≡ taken_arms (arms_at_once (arms_of a l.other l.arms)) (case_of l.kind) l.context.len l.context.signed l.subject f;
+      taken : branches_of a l.taken.items ++ taken_arms (arms_at_once (arms_of a l.other (drop l.arm-index l.arms))) l.kind l.context.width l.context.signed l.subject f
+          ≡ taken_arms (arms_at_once (arms_of a l.other l.arms)) l.kind l.context.width l.context.signed l.subject f;
     }

@@ -5,9 +5,9 @@ use Rattle.vs_desk.specs.Desk.{Register}
 use Rattle.vs_flat.specs.DesignOf.{design_of}
 use Rattle.vs_engine.specs.Lanes.{Running}
 use Rattle.vs_stim.specs.Header.{IsInput}
-use Rattle.vs_drive.specs.Opened as drive
-use Rattle.vs_drive.specs.Opened.{with_lanes, HaveHeaders}
-use Rattle.vs_drive.specs.Lanes.{AreLanes, AreAttached}
+use Rattle.vs_feed.specs.Opened as drive
+use Rattle.vs_feed.specs.Opened.{with_lanes, HaveHeaders}
+use Rattle.vs_feed.specs.Lanes.{AreLanes, AreAttached}
 use Rattle.vs_stim.specs.declared.input.Input.{Input}
 use Rattle.vs_setup.specs.DesignText.{with_design}
 use Rattle.vs_setup.specs.Places.{with_texts}
@@ -28,10 +28,10 @@ returns-in_err-drive-clause-unprepared g c =
     let l = c.in_ok-loaded.loaded in
     let e = c.in_err-drive.field-0.0 in
     let tells = g.D.Desk.tells in
-    let unopened : IsUnopened tells c.deref.result.now job.stimuli middle mid now e = c.in_err-drive.ensures.unopened in
-    let behind : IsUnopened tells l.inputs.items job.stimuli (with_design before job.design) mid now e =
-    subst (λ (r : Register). IsUnopened tells l.inputs.items job.stimuli r mid now e) c.in_ok-loaded.ensures.register
-    (subst (λ (is : List Input). IsUnopened tells is job.stimuli middle mid now e) c.deref.ensures.value unopened) in
+    let unopened : IsUnopened tells c.deref.result.now job.stimuli middle mid now new e = c.in_err-drive.ensures.unopened in
+    let behind : IsUnopened tells l.inputs.items job.stimuli (with_design before job.design) mid now new e =
+    subst (λ (r : Register). IsUnopened tells l.inputs.items job.stimuli r mid now new e) c.in_ok-loaded.ensures.register
+    (subst (λ (is : List Input). IsUnopened tells is job.stimuli middle mid now new e) c.deref.ensures.value unopened) in
     err_is (IsUnprepared tells job before old now new) c.from_residual-in_err-drive.result e (search rules)
     (unprepared g.W.Word.lane g.W.Word.LANES tells job before old mid now new l.accepted l.inputs.items l.engine c.in_ok-loaded.ensures.loaded (λ t. (c.in_ok-loaded.ensures.only t).files) e behind)
 

@@ -1,8 +1,10 @@
-use Rattle.std.proofs.Common.{rules, ◌≡◌, ◌++◌, refl, Bool, sym, ◌∙◌, subst, arith}
+use Rattle.std.proofs.Common.{rules, ◌≡◌, ◌++◌, refl, Bool, Global, Vec, sym, ◌∙◌, subst, arith}
 use Rattle.std.proofs.lemmas.Grind.{common_steps}
+use Rattle.vs_stim.specs.declared.input.Column.{Column}
 use Rattle.vs_stim.specs.Fields.{fields}
 use Rattle.vs_stim.specs.Header.{header}
-use Rattle.vs_stim.specs.Source.{open_at, rest_of, says, Passes}
+use Rattle.vs_stim.specs.Source.{open_at, rest_of, says, Passes, PassesHeader}
+use Rattle.vs_stim.proofs.Passed.{header_passed}
 use Rattle.vs_stim.proofs.Turns.{skipped_is, fault_skipped}
 use Rattle.vs_stim.proofs.Untold.{none_passed, passed_more, untold_here}
 use Rattle.vs_stim.proofs.header.find_header.Goals as goal
@@ -58,3 +60,15 @@ returns-in_err-kind-clause-needed g c = λ t e.
     let rest : rest_of new after ≡ after.left c.args.source.now.place =
     (λ i. h.empty (search rules) i ++ after.left ((h.place ∙ inv.place) i)) in
     untold_here _ o p (after.left c.args.source.now.place) (inv.passed t) inv.begins (h.went t (search rules)) h.source.line h.source.bytes rest
+
+pub returns-in-Given-clause-passes : goal.returns-in-Given-clause-passes
+returns-in-Given-clause-passes g c = λ t.
+    let h = c.in_ok-kind.ensures in
+    let inv = c.lines.invariant in
+    let is = c.args.inputs.now in
+    let columns = c.read_heading.new.heading.columns.items in
+    let a = open_at c.args.source.now (g.D.Desk.contents c.args.desk.now) in
+    let o = open_at c.lines.source (g.D.Desk.contents c.lines.desk) in
+    let p = open_at c.read_heading.new.source (g.D.Desk.contents c.read_heading.new.desk) in
+    subst (λ (cs : Vec Column Global). PassesHeader is cs.items a p) (sym c.into_columns.ensures)
+    (header_passed is columns a o p c.in_ok-kind.last (inv.passed t) inv.begins (h.ends t) (h.passes t) (omega (arith, h.source.bytes)) (sym (rw c.in-Given.is at (h.says t))))

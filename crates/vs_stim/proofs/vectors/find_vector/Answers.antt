@@ -1,8 +1,10 @@
-use Rattle.std.proofs.Common.{rules, ◌≡◌, ◌+◌, ◌++◌, Bool, IsTrue, refl, sym, ◌∙◌, ap, subst, arith}
+use Rattle.std.proofs.Common.{rules, ◌≡◌, ◌+◌, ◌++◌, Bool, Global, Vec, IsTrue, refl, sym, ◌∙◌, ap, subst, arith}
+use Rattle.vs_stim.specs.declared.input.Column.{Column}
 use Rattle.vs_stim.specs.Fields.{fields}
 use Rattle.vs_stim.specs.Vectors.{vector}
 use Rattle.vs_stim.specs.Reading.{limits, not_taken, with_vector}
-use Rattle.vs_stim.specs.Source.{open_at, rest_of, in_block, is_told, says, vectors_from, Passes}
+use Rattle.vs_stim.specs.Source.{open_at, rest_of, in_block, is_told, says, vectors_from, Passes, PassesVector}
+use Rattle.vs_stim.proofs.Passed.{vector_passed}
 use Rattle.vs_stim.proofs.Turns.{skipped_is, vectors_skipped, vectors_found, tells_line, tells_on}
 use Rattle.vs_stim.proofs.Untold.{none_passed, passed_more, untold_here}
 use Rattle.vs_stim.proofs.vectors.find_vector.Goals as goal
@@ -56,6 +58,20 @@ returns-in-Given-clause-found g c =
     inv.reading t
     ∙ vectors_found columns.items o p c.args.count values c.in_ok-kind.last inv.begins (h.passes t) (omega (arith, h.source.bytes)) (sym (rw c.in-Given.is at (h.says t))) taken
     ∙ ap (λ cs. with_vector values (vectors_from cs.items (c.args.count + 1) p)) inv.form.columns
+
+pub returns-in-Given-clause-passes : goal.returns-in-Given-clause-passes
+returns-in-Given-clause-passes g c =
+    let h = c.in_ok-kind.ensures in
+    let inv = c.lines.invariant in
+    let columns = c.lines.row.columns in
+    let values = c.read_row.new.row.values.items in
+    let taken = ap (λ cs. not_taken limits cs.items c.lines.source.number c.args.count values) (sym h.form.columns) ∙ c.in_ok-check_vector-in-Given.ensures.ok in
+    λ t _.
+    let o = open_at c.lines.source (g.D.Desk.contents c.lines.desk) in
+    let p = open_at c.read_row.new.source (g.D.Desk.contents c.read_row.new.desk) in
+    let a = open_at c.args.source.now (g.D.Desk.contents c.args.desk.now) in
+    subst (λ (cs : Vec Column Global). PassesVector cs.items c.args.count values a p) inv.form.columns
+    (vector_passed columns.items c.args.count values a o p c.in_ok-kind.last (inv.passed t) inv.begins (h.ends t) (h.passes t) (omega (arith, h.source.bytes)) (sym (rw c.in-Given.is at (h.says t))) taken)
 
 pub lines-init : goal.lines-init
 lines-init g c = record {

@@ -1,4 +1,4 @@
-use Rattle.std.proofs.Common.{rules, ◌≡◌, ◌*◌, ◌<◌, ℕ, List, String, Global, IsTrue, IsNone, length, map, take, sym, subst, ap, ◌∙◌, refl, arith}
+use Rattle.std.proofs.Common.{rules, false, ◌≡◌, ◌*◌, ◌<◌, ℕ, List, String, Global, IsTrue, IsNone, length, map, take, sym, subst, ap, ◌∙◌, refl, arith}
 use Rattle.std.specs.Prelude.{string_bytes, if◌then◌else◌, []}
 use Rattle.std.proofs.lemmas.List.{length-map, take-map}
 use Rattle.vs_desk.specs.declared.desk.Way.TheVariants.{Write}
@@ -7,8 +7,8 @@ use Rattle.vs_desk.specs.Places.{with_places, waveform_place}
 use Rattle.vs_program.specs.Compiled.{IsProgramOf}
 use Rattle.vs_engine.specs.Lanes.{Running}
 use Rattle.vs_design.specs.Sizes.{size as size_of}
-use Rattle.vs_drive.specs.Lanes.{AreAttached}
-use Rattle.vs_drive.specs.Opened.{path_at}
+use Rattle.vs_feed.specs.Lanes.{AreAttached}
+use Rattle.vs_feed.specs.Opened.{path_at}
 use Rattle.vs_waves.specs.Puts.{wave_place}
 use Rattle.vs_waves.specs.Attached.{is_one_of, AreEmptied}
 use Rattle.vs_rounds.specs.Stops.{AreUnrefused, IsLaneOf, HasCause, ReadStops, StopsIn}
@@ -22,6 +22,7 @@ use Rattle.vs_top.proofs.simulation.run_lanes.Given.{Over}
 use Rattle.vs_top.specs.Ended.IsEnd.{setup, first, attached, stopped, whole}
 use Rattle.vs_top.proofs.Places.{with_places-at, still_attached, still_free}
 use Rattle.vs_top.proofs.Lanes.{are_data_inputs, lane_written, accepted_as, run_is}
+use Rattle.vs_top.proofs.Stores.{has_vector, some_settling, are_stores}
 use Rattle.vs_top.proofs.simulation.run_lanes.Goals as goal
 
 pub returns-in-Err-begin-clause-stopped : goal.returns-in-Err-begin-clause-stopped
@@ -35,7 +36,7 @@ returns-in-Err-begin-clause-stopped g c =
       outcome_is = c.stop_outcome.ensures.outcome;
       lane = subst (λ (n : ℕ). IsLaneOf n stop) p.lanes c.in-Err-begin.ensures.lane;
       cause = subst (λ (r : Register). HasCause r (g.D.Desk.register c.begin.new.desk) stop) p.register_is c.in-Err-begin.ensures.cause;
-      stops = λ t. (run, run_is _ _ _ _ _ _ _ _ _ _ p t, subst (λ (n : ℕ). ReadStops run n 0 stop) p.lanes (c.in-Err-begin.ensures.stops t run (p.opened t)));
+      stops = λ t. (run, run_is _ _ _ _ _ _ _ _ _ _ p t, subst (λ (n : ℕ). ReadStops run n 0 (g.D.Desk.contents c.begin.new.desk) stop) p.lanes (c.in-Err-begin.ensures.stops t run (p.opened t)));
       kept = λ t. let begun = c.begin.ensures.others t in record { files = begun.files ∙ (p.kept t).files; put = begun.put ∙ (p.kept t).put };
     })
 
@@ -134,6 +135,13 @@ all_written g c =
     let empty = λ (t : IsTrue g.D.Desk.tells). c.in_default-attach.ensures.bytes t in
     let held = c.in-Ok.prepared.wave_paths.ok.0 in
     let in_round = λ (t : IsTrue g.D.Desk.tells). (c.in_default-begin.ensures.begun t run (p.opened t)).begun (g.D.Desk.contents c.attach.new.desk) (empty t).left (λ i h. (empty t).lanes i (omega (arith, h, held, lanes, paths))) in
+    let counted : IsTrue g.D.Desk.tells → AreCounted run (length job.stimuli) counts.vectors counts.settlings =
+    λ t. subst (λ (n : ℕ). AreCounted run n counts.vectors counts.settlings) lanes (c.in-Ok-rounds.ensures.counted t run (in_round t)) in
+    let engine = c.begin.new.self.engine in
+    let program : IsProgramOf p.design clock engine.program = subst (λ (e : Running _). IsProgramOf p.design clock e.program) (sym c.begin.ensures.engine) p.program in
+    let idle : engine.begun ≡ false = ap (λ (e : Running _). e.begun) c.begin.ensures.engine ∙ p.begun in
+    let ticked = c.in-Ok-rounds.ensures.ticked in
+    let some : 0 < length job.stimuli = omega (arith, c.requires.job.some) in
     let done : IsTrue g.D.Desk.tells → AreDone run (length job.stimuli) new = λ t. subst (λ (n : ℕ). AreDone run n new) lanes (c.in-Ok-rounds.ensures.done t run (in_round t)) in
     record {
       summary = record { lanes = c.len.result; vectors = counts.vectors; settlings = counts.settlings; size = c.in-Ok.prepared.size; operations = counts.operations };
@@ -148,8 +156,10 @@ all_written g c =
         lanes = λ i h. lane_written c.headline_law.ensures.every c.headline_law.ensures.some c.known_law.ensures.some p.design job.clock p.accepted.accepted job.half run.inputs (are_data_inputs p.design clock p.all_inputs)
             (run.texts i) (new.put (wave_place i)) ((done t).valid i h) ((done t).given i h);
         lanes_are = search rules;
-        counted = subst (λ (n : ℕ). AreCounted run n counts.vectors counts.settlings) lanes (c.in-Ok-rounds.ensures.counted t run (in_round t));
+        counted = counted t;
         size_is = p.size_is;
+        stored = are_stores p.design clock engine.program program engine.begun idle ticked.0 counts.settlings counts.operations c.args.steps.now c.rounds.new.steps ticked.1
+            (some_settling run (length job.stimuli) counts.vectors counts.settlings some (has_vector c.known_law.ensures.some run 0 ((done t).valid 0 some)) (counted t)) ticked.2 c.in-Ok-rounds.ensures.operations;
       };
       puts = λ t place other.
           (c.rounds.ensures.others t).others place (λ i h. other i (subst (λ n. i < n) lanes h))

@@ -7,8 +7,8 @@ use Rattle.vs_design.specs.Sets.{only, union}
 use Rattle.vs_design.specs.LiftedBodies.{either}
 use Rattle.vs_sets.specs.Branches.{replaced}
 use Rattle.vs_sets.specs.Tables.{beyond, family_of}
-use Rattle.vs_zero.proofs.Tables.{any_default}
-use Rattle.vs_zero.proofs.BranchSteps.{replace_step, united}
+use Rattle.vs_sets.proofs.Families.{any_default}
+use Rattle.vs_sets.proofs.BranchSteps.{replace_step, united}
 use Rattle.vs_zero.proofs.bits.add_x.Goals as goal
 
 pub loop-i-preserved : goal.loop-i-preserved

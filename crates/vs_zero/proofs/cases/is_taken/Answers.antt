@@ -2,8 +2,8 @@ use Rattle.std.proofs.Common.{get_or}
 use Rattle.vs_design.specs.Expressions.{is_constant}
 use Rattle.vs_design.specs.Fits.{is_fit}
 use Rattle.vs_sets.specs.Nodes.{tree_of}
-use Rattle.vs_zero.proofs.CaseSteps.{each_true, each_within}
-use Rattle.vs_zero.proofs.Fit.{fits-from_fit}
+use Rattle.vs_sets.proofs.CaseSteps.{each_true, each_within}
+use Rattle.vs_sets.proofs.Fit.{fits-from_fit}
 use Rattle.vs_zero.proofs.cases.is_taken.Goals as goal
 
 pub value-value-requires-clause-valued : goal.value-value-requires-clause-valued
@@ -15,4 +15,4 @@ value-value-requires-clause-valued c =
     }
 
 pub value-value-requires-clause-fits : goal.value-value-requires-clause-fits
-value-value-requires-clause-fits c = each_within c.args.context.len (tree_of c.args.shapes.now) c.args.items.now c.loop-item.item-index c.requires.within c.loop-item-test.true
+value-value-requires-clause-fits c = each_within c.args.context.width (tree_of c.args.shapes.now) c.args.items.now c.loop-item.item-index c.requires.within c.loop-item-test.true

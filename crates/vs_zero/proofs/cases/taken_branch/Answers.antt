@@ -5,7 +5,8 @@ use Rattle.vs_sets.specs.Matches.{are_within}
 use Rattle.vs_sets.specs.Nodes.{tree_of}
 use Rattle.vs_sets.specs.StatementParts.{statement_of}
 use Rattle.vs_zero.specs.Constants.{are_constants}
-use Rattle.vs_zero.proofs.CaseSteps.{arm_fit, arm_constant, items_at-is}
+use Rattle.vs_zero.proofs.CaseSteps.{arm_constant}
+use Rattle.vs_sets.proofs.CaseSteps.{arm_fit, items_at-is}
 use Rattle.vs_zero.proofs.cases.taken_branch.Goals as goal
 
 pub is_taken-requires-clause-fit : goal.is_taken-requires-clause-fit
@@ -24,5 +25,5 @@ pub is_taken-requires-clause-within : goal.is_taken-requires-clause-within
 is_taken-requires-clause-within c =
     let a = c.args.shapes.now in
     let k = c.loop-arm.arm-index in
-    ap (λ ns. are_within c.args.context.len (map (tree_of a) ns)) (c.as_slice.ensures ∙ ap (λ y. y.items) c.arm-item.is ∙ sym (items_at-is c.args.arms.now k c.arm-item.result c.loop-arm-test.true))
+    ap (λ ns. are_within c.args.context.width (map (tree_of a) ns)) (c.as_slice.ensures ∙ ap (λ y. y.items) c.arm-item.is ∙ sym (items_at-is c.args.arms.now k c.arm-item.result c.loop-arm-test.true))
     ∙ c.requires.within k c.loop-arm-test.true

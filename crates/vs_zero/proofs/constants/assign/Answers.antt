@@ -7,7 +7,7 @@ use Rattle.vs_design.specs.Values.{assigned_value}
 use Rattle.vs_sets.specs.Nodes.{tree_of}
 use Rattle.vs_sets.specs.TargetsOf.{target_tree}
 use Rattle.vs_zero.specs.States.{state_of, unknown}
-use Rattle.vs_zero.proofs.TargetFacts.{target_few, target_length}
+use Rattle.vs_sets.proofs.TargetFacts.{target_few, target_length}
 use Rattle.vs_zero.proofs.Valued.{last_all}
 use Rattle.vs_zero.proofs.constants.assign.Goals as goal
 

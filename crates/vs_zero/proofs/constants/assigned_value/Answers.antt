@@ -1,6 +1,6 @@
 use Rattle.std.proofs.Common.{ap, arith}
 use Rattle.vs_sets.specs.Nodes.{tree_of}
-use Rattle.vs_zero.proofs.Fit.{fit_width}
+use Rattle.vs_sets.proofs.Fit.{fit_width}
 use Rattle.vs_zero.proofs.constants.assigned_value.Goals as goal
 
 pub value-value-requires-clause-fits : goal.value-value-requires-clause-fits

@@ -5,14 +5,13 @@ use Rattle.vs_design.specs.Bodies.{arms_body}
 use Rattle.vs_design.specs.Values.{value}
 use Rattle.vs_design.specs.Statements.{arms_width, arms_sign, case_width, case_sign}
 use Rattle.vs_flat.specs.declared.statements.Arm.{Arm}
-use Rattle.vs_flat.specs.Operators.{case_of}
 use Rattle.vs_flat.specs.Trees.{branch, sequence, target_tree}
 use Rattle.vs_sets.specs.Nodes.{tree_of}
 use Rattle.vs_sets.specs.StatementParts.{HasStatementNames, arms_of, statement_of, statement_of_node, place_of_statement}
 use Rattle.vs_zero.specs.Constants.{IsFixed, updated, IsFixedBranch, EachIsFixed, taken_arm, arms_are_constants}
 use Rattle.vs_zero.specs.States.{state_of, unknown}
-use Rattle.vs_zero.proofs.CaseSteps.{arms_grow, arm_within}
-use Rattle.vs_zero.proofs.Fit.{fits-from_fit}
+use Rattle.vs_sets.proofs.CaseSteps.{arms_grow, arm_within}
+use Rattle.vs_sets.proofs.Fit.{fits-from_fit}
 use Rattle.vs_zero.proofs.Fixing.{fixed_assign, fixed_if, fixed_case, taken_fixed, parts_fixed, parts_step, updated_nothing, updated_assign, updated_arms}
 use Rattle.vs_zero.proofs.fixed.+running.Goals as goal
 
@@ -54,27 +53,27 @@ run-value-subject-requires-clause-valued t c =
     let a = c.args.shapes.now in
     let made = statement_of_node a (place_of_statement a c.args.s) in
     let tree = c.statement_node.ensures.tree ∙ ap made c.in-Case.is in
-    let f = fixed_case (case_of c.in-Case.kind) (tree_of a c.in-Case.of) (arms_of a c.in-Case.other c.in-Case.arms) (subst IsFixed tree c.requires.fixed) in
+    let f = fixed_case c.in-Case.kind (tree_of a c.in-Case.of) (arms_of a c.in-Case.other c.in-Case.arms) (subst IsFixed tree c.requires.fixed) in
     record { constant = f.constant; fits = fits-from_fit (tree_of a c.in-Case.of) f.fit }
 
 pub run-value-subject-requires-clause-fits : goal.run-value-subject-requires-clause-fits
 run-value-subject-requires-clause-fits t c =
     let a = c.args.shapes.now in
-    omega (arith, c.own_context.ensures.len, c.case_context-context.ensures.len, arms_grow (arms_of a c.in-Case.other c.as_slice.result.now) c.own_context.result.len)
+    omega (arith, c.own_context.ensures.width, c.case_context-context.ensures.width, arms_grow (arms_of a c.in-Case.other c.as_slice.result.now) c.own_context.result.width)
 
 pub run-taken_branch-taken-requires-clause-constant : goal.run-taken_branch-taken-requires-clause-constant
 run-taken_branch-taken-requires-clause-constant t c =
     let a = c.args.shapes.now in
     let made = statement_of_node a (place_of_statement a c.args.s) in
     let tree = c.statement_node.ensures.tree ∙ ap made c.in-Case.is in
-    let f = fixed_case (case_of c.in-Case.kind) (tree_of a c.in-Case.of) (arms_of a c.in-Case.other c.in-Case.arms) (subst IsFixed tree c.requires.fixed) in
+    let f = fixed_case c.in-Case.kind (tree_of a c.in-Case.of) (arms_of a c.in-Case.other c.in-Case.arms) (subst IsFixed tree c.requires.fixed) in
     ap (λ (arms : List Arm). arms_are_constants (arms_of a c.in-Case.other arms)) c.as_slice-in-Case.ensures ∙ f.constants
 
 pub run-taken_branch-taken-requires-clause-within : goal.run-taken_branch-taken-requires-clause-within
 run-taken_branch-taken-requires-clause-within t c k inside =
     let a = c.args.shapes.now in
     let same : c.as_slice-in-Case.result.now ≡ c.as_slice.result.now = c.as_slice-in-Case.ensures ∙ sym c.as_slice.ensures in
-    arm_within (tree_of a) (statement_of a) c.in-Case.other c.as_slice-in-Case.result.now c.own_context.result.len c.case_context-context.result.len k (omega (arith, c.case_context-context.ensures.len, ap (λ (arms : List Arm). arms_width (arms_of a c.in-Case.other arms) c.own_context.result.len) same)) inside
+    arm_within (tree_of a) (statement_of a) c.in-Case.other c.as_slice-in-Case.result.now c.own_context.result.width c.case_context-context.result.width k (omega (arith, c.case_context-context.ensures.width, ap (λ (arms : List Arm). arms_width (arms_of a c.in-Case.other arms) c.own_context.result.width) same)) inside
 
 pub run-run_branch-requires-in-Case : goal.run-run_branch-requires-in-Case
 run-run_branch-requires-in-Case t c =
@@ -82,14 +81,14 @@ run-run_branch-requires-in-Case t c =
     let made = statement_of_node a (place_of_statement a c.args.s) in
     let tree = c.statement_node.ensures.tree ∙ ap made c.in-Case.is in
     let names = subst (HasStatementNames (length a.nodes) c.args.s) c.in-Case.is c.statement_node.ensures.names in
-    let f = fixed_case (case_of c.in-Case.kind) (tree_of a c.in-Case.of) (arms_of a c.in-Case.other c.in-Case.arms) (subst IsFixed tree c.requires.fixed) in
-    let taken = taken_fixed a (length a.nodes) c.args.s (case_of c.in-Case.kind) c.case_context-context.result.len c.case_context-context.result.signed c.value-subject.result c.in-Case.other c.in-Case.arms (f.signals, f.selects, f.fits, f.unmixed) names.1 names.2 in (
+    let f = fixed_case c.in-Case.kind (tree_of a c.in-Case.of) (arms_of a c.in-Case.other c.in-Case.arms) (subst IsFixed tree c.requires.fixed) in
+    let taken = taken_fixed a (length a.nodes) c.args.s c.in-Case.kind c.case_context-context.result.width c.case_context-context.result.signed c.value-subject.result c.in-Case.other c.in-Case.arms (f.signals, f.selects, f.fits, f.unmixed) names.1 names.2 in (
       omega arith,
       (
         c.requires.covers,
         (
           omega (arith, c.requires.there),
-          subst (IsFixedBranch a c.args.s) (sym (c.taken_branch-taken.ensures ∙ ap (λ (arms : List Arm). taken_arm (tree_of a) (case_of c.in-Case.kind) c.case_context-context.result.len c.case_context-context.result.signed c.value-subject.result c.in-Case.other arms) c.as_slice-in-Case.ensures)) taken,
+          subst (IsFixedBranch a c.args.s) (sym (c.taken_branch-taken.ensures ∙ ap (λ (arms : List Arm). taken_arm (tree_of a) c.in-Case.kind c.case_context-context.result.width c.case_context-context.result.signed c.value-subject.result c.in-Case.other arms) c.as_slice-in-Case.ensures)) taken,
         ),
       ),
     )
@@ -127,11 +126,11 @@ run-returns-in-Case t c =
     let other = c.in-Case.other in
     let subject = tree_of a c.in-Case.of in
     let plain = arms_of a other c.in-Case.arms in
-    let kind = case_of c.in-Case.kind in
-    let w = c.case_context-context.result.len in
+    let kind = c.in-Case.kind in
+    let w = c.case_context-context.result.width in
     let g = c.case_context-context.result.signed in
-    let len : w ≡ case_width subject plain = c.case_context-context.ensures.len ∙ ap (λ (arms : List Arm). arms_width (arms_of a other arms) c.own_context.result.len) c.as_slice.ensures ∙ ap (arms_width plain) c.own_context.ensures.len in
-    let sign : g ≡ case_sign subject plain = c.case_context-context.ensures.sign ∙ ap (λ (arms : List Arm). arms_sign (arms_of a other arms) c.own_context.result.signed) c.as_slice.ensures ∙ ap (arms_sign plain) c.own_context.ensures.sign in
+    let len : w ≡ case_width subject plain = c.case_context-context.ensures.width ∙ ap (λ (arms : List Arm). arms_width (arms_of a other arms) c.own_context.result.width) c.as_slice.ensures ∙ ap (arms_width plain) c.own_context.ensures.width in
+    let sign : g ≡ case_sign subject plain = c.case_context-context.ensures.signed ∙ ap (λ (arms : List Arm). arms_sign (arms_of a other arms) c.own_context.result.signed) c.as_slice.ensures ∙ ap (arms_sign plain) c.own_context.ensures.signed in
     let taken = c.taken_branch-taken.ensures ∙ ap (λ (arms : List Arm). taken_arm (tree_of a) kind w g c.value-subject.result other arms) c.as_slice-in-Case.ensures in
     c.run_branch-in-Case.ensures
     ∙ ap (λ b. updated (branch (statement_of a) b) s) taken

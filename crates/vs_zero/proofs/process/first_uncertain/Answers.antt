@@ -5,7 +5,7 @@ use Rattle.vs_flat.specs.Arena.{Arena}
 use Rattle.vs_flat.specs.DesignOf.{design_of}
 use Rattle.vs_sets.specs.Tables.{family_of}
 use Rattle.vs_zero.proofs.Deciding.{none_more, first_is, none_is}
-use Rattle.vs_zero.proofs.Numbered.{process_there}
+use Rattle.vs_reads.proofs.Numbered.{process_there}
 use Rattle.vs_zero.proofs.Settling.{both}
 use Rattle.vs_zero.proofs.process.first_uncertain.Goals as goal
 

@@ -3,7 +3,7 @@ use Rattle.std.specs.Prelude.{slice_get}
 use Rattle.std.proofs.lemmas.Option.{slice_get_within, slice_get-get_or}
 use Rattle.vs_flat.specs.DesignOf.{design_of}
 use Rattle.vs_sets.specs.Tables.{family_of}
-use Rattle.vs_zero.proofs.ByKind.{process_same}
+use Rattle.vs_reads.proofs.ByKind.{process_same}
 use Rattle.vs_zero.proofs.Settling.{along_step}
 use Rattle.vs_zero.proofs.Unrefused.{settling}
 use Rattle.vs_design.specs.Designs.{is_clocked}

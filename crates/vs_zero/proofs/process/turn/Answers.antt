@@ -16,8 +16,9 @@ use Rattle.vs_sets.specs.Nodes.{tree_of}
 use Rattle.vs_sets.specs.StatementParts.{statement_of}
 use Rattle.vs_sets.specs.Tables.{family_of}
 use Rattle.vs_zero.specs.Blocks.{IsBlockOf}
-use Rattle.vs_zero.proofs.ByKind.{target_there, expr_there, assign_target, process_fits}
-use Rattle.vs_zero.proofs.Fit.{and_left, and_right}
+use Rattle.vs_zero.proofs.ByKind.{assign_target, process_fits}
+use Rattle.vs_reads.proofs.ByKind.{target_there, expr_there}
+use Rattle.vs_sets.proofs.Fit.{and_left, and_right}
 use Rattle.vs_zero.proofs.Settling.{assigned_early, assigned_late, block_is, unclocked, ran_early, ran_late}
 use Rattle.vs_zero.proofs.process.turn.Goals as goal
 

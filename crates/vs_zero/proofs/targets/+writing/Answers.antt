@@ -6,7 +6,8 @@ use Rattle.vs_flat.specs.Trees.{joined}
 use Rattle.vs_sets.specs.Nodes.{tree_of}
 use Rattle.vs_sets.specs.TargetsOf.{target_tree}
 use Rattle.vs_zero.specs.States.{state_of, unknown}
-use Rattle.vs_zero.proofs.TargetFacts.{split_facts, first_below, rest_below}
+use Rattle.vs_zero.proofs.TargetFacts.{split_facts}
+use Rattle.vs_sets.proofs.TargetFacts.{first_below, rest_below}
 use Rattle.vs_zero.proofs.targets.+writing.Goals as goal
 
 pub put_parts-put-requires-2 : goal.put_parts-put-requires-2

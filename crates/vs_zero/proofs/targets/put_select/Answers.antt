@@ -10,8 +10,9 @@ use Rattle.vs_sets.specs.Nodes.{tree_of, signal_of}
 use Rattle.vs_sets.specs.Tables.{bits_from}
 use Rattle.vs_sets.specs.TargetsOf.{target_tree}
 use Rattle.vs_zero.specs.States.{state_of, unknown, written}
-use Rattle.vs_zero.proofs.Names.{values_at, counted}
-use Rattle.vs_zero.proofs.TargetFacts.{place_below, part_facts}
+use Rattle.vs_zero.proofs.Counted.{values_at, counted}
+use Rattle.vs_zero.proofs.TargetFacts.{place_below}
+use Rattle.vs_sets.proofs.TargetFacts.{part_facts}
 use Rattle.vs_zero.proofs.Writing.{length-written, select_written}
 use Rattle.vs_zero.proofs.targets.put_select.Goals as goal
 

@@ -7,8 +7,8 @@ use Rattle.vs_sets.specs.Branches.{replaced}
 use Rattle.vs_sets.specs.Tables.{beyond, family_of}
 use Rattle.vs_zero.specs.States.{state_of}
 use Rattle.vs_zero.specs.Values.{joined}
-use Rattle.vs_zero.proofs.BranchSteps.{replace_step}
-use Rattle.vs_zero.proofs.Tables.{any_default}
+use Rattle.vs_sets.proofs.BranchSteps.{replace_step}
+use Rattle.vs_sets.proofs.Families.{any_default}
 use Rattle.vs_zero.proofs.Valued.{any_bit, joined_here}
 use Rattle.vs_zero.proofs.values.join.Goals as goal
 

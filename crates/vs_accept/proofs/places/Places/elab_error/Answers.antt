@@ -1,5 +1,5 @@
 use Rattle.std.proofs.Common.{subst}
-use Rattle.vs_hierarchy.specs.Elaborated.{elaborated}
+use Rattle.vs_elaborated.specs.Elaborated.{elaborated}
 use Rattle.vs_accept.specs.Answers.{IsElabError}
 use Rattle.vs_accept.proofs.Told.{unelaborated}
 use Rattle.vs_accept.proofs.places.Places.elab_error.Goals as goal

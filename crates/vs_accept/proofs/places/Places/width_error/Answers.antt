@@ -1,5 +1,5 @@
 use Rattle.std.proofs.Common.{subst, refl}
-use Rattle.vs_width.specs.Refused.{IsWidthError}
+use Rattle.vs_typed.specs.Refused.{IsWidthError}
 use Rattle.vs_design.specs.Answers.{OfWidth}
 use Rattle.vs_design.specs.Refusals as rule
 use Rattle.vs_accept.specs.declared.error.AcceptError.TheVariants.{Refused}

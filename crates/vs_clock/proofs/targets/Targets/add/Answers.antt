@@ -1,4 +1,4 @@
-use Rattle.vs_clock.proofs.Table.{list_grown}
+use Rattle.vs_reads.proofs.Table.{list_grown}
 use Rattle.vs_clock.proofs.targets.Targets.add.Goals as goal
 
 pub returns : goal.returns

@@ -21,13 +21,13 @@ invariant_of-result c =
     let d = design_of c.args.facts.arena in
     let regs = c.in_ok-registers.registers.items in
     let asleep = ap (λ (a : Arena). length (sleepers (design_of a))) c.typed.ensures.same in
-    table_fits c.list_law.ensures.few c.program_law.ensures.layout d c.bit_count-count.result regs c.in_ok-shadows.shadows.items (4 + c.bit_count-count.result + c.len.result + c.sleeper_count.result)
-    c.in_ok-registers.ensures.are c.bit_count-count.ensures.is c.in_ok-shadows.ensures.long (rw c.as_slice.ensures.value at c.in_ok-shadows.ensures.places) (omega (arith, c.len.ensures, c.sleeper_count.ensures.is, asleep))
+    table_fits c.list_law.ensures.few c.program_law.ensures.layout d c.bit_count-count.result regs c.in_ok-shadows.shadows.items (c.home.result + c.len.result + c.sleeper_count.result)
+    c.in_ok-registers.ensures.are c.bit_count-count.ensures.is c.in_ok-shadows.ensures.long (rw c.as_slice.ensures.value at c.in_ok-shadows.ensures.places) (omega (arith, c.home.ensures, c.len.ensures, c.sleeper_count.ensures.is, asleep))
 
 pub returns-clause-layout : goal.returns-clause-layout
 returns-clause-layout c =
     let d = design_of c.args.facts.arena in
     let regs = c.in_ok-registers.registers.items in
     let asleep = ap (λ (a : Arena). length (sleepers (design_of a))) c.typed.ensures.same in
-    (table_fits c.list_law.ensures.few c.program_law.ensures.layout d c.bit_count-count.result regs c.in_ok-shadows.shadows.items (4 + c.bit_count-count.result + c.len.result + c.sleeper_count.result)
-    c.in_ok-registers.ensures.are c.bit_count-count.ensures.is c.in_ok-shadows.ensures.long (rw c.as_slice.ensures.value at c.in_ok-shadows.ensures.places) (omega (arith, c.len.ensures, c.sleeper_count.ensures.is, asleep))).layout
+    (table_fits c.list_law.ensures.few c.program_law.ensures.layout d c.bit_count-count.result regs c.in_ok-shadows.shadows.items (c.home.result + c.len.result + c.sleeper_count.result)
+    c.in_ok-registers.ensures.are c.bit_count-count.ensures.is c.in_ok-shadows.ensures.long (rw c.as_slice.ensures.value at c.in_ok-shadows.ensures.places) (omega (arith, c.home.ensures, c.len.ensures, c.sleeper_count.ensures.is, asleep))).layout

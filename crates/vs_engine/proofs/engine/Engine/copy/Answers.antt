@@ -1,4 +1,4 @@
-use Rattle.std.proofs.Common.{◌≡◌, ◌+◌, ◌<◌, ◌≤◌, List, length, Some, ◌∙◌, sym, ap, subst, get_or, arith, slice_get}
+use Rattle.std.proofs.Common.{◌≡◌, ℕ, ◌+◌, ◌<◌, ◌≤◌, List, length, Some, ◌∙◌, sym, ap, subst, get_or, arith, slice_get}
 use Rattle.std.proofs.lemmas.Option.{get_or_from_slice_get, slice_get-get_or}
 use Rattle.vs_plane.specs.Lanes.{slot_lane}
 use Rattle.vs_program.specs.declared.compiled.Span.{Span}
@@ -18,7 +18,9 @@ copy_planes-requires-clause-inside g c =
     let long : length c.args.out.now ≡ s.length = subst Q (sym c.self.view_is) c.requires.room s is in
     let fits = span_fits c.self.inside.compiled.bits spans c.args.signal s c.self.invariant.in_range.signals is in
     let room : 4 + s.first + length c.args.out.now ≤ length c.self.inside.file = omega (arith, long, fits.inside, c.self.invariant.in_range.bits, c.self.invariant.slots) in
-    subst (λ (ts : List Span). 4 + (get_or ts c.args.signal none).first + length c.args.out.now ≤ length c.self.inside.file) (sym c.signals.ensures) room
+    let told : 4 + (get_or c.signals.result.now c.args.signal none).first + length c.args.out.now ≤ length c.self.inside.file =
+    subst (λ (ts : List Span). 4 + (get_or ts c.args.signal none).first + length c.args.out.now ≤ length c.self.inside.file) (sym c.signals.ensures) room in
+    omega (arith, told, c.home.ensures)
 
 pub returns-clause-planes : goal.returns-clause-planes
 returns-clause-planes g c = λ s k i.
@@ -26,6 +28,7 @@ returns-clause-planes g c = λ s k i.
     → slot_lane g.W.Word.lane c.copy_planes.new.out k i ≡ state g.W.Word.lane e i (s.first + k) in
     subst P c.self.view_is (λ room e l.
     c.copy_planes.ensures.planes k i (let long : length c.args.out.now ≡ s.length = room s e in omega arith)
+    ∙ ap (λ (z : ℕ). slot_lane g.W.Word.lane c.self.inside.file (z + k) i) c.home.ensures
     ∙ ap (λ (x : Span). slot_lane g.W.Word.lane c.self.inside.file (4 + x.first + k) i)
     (get_or_from_slice_get c.signals.result.now c.args.signal s (record { first = 0; length = 0 }) (ap (λ (spans : List Span). slice_get spans c.args.signal) c.signals.ensures ∙ e))
     ∙ signal_bit c.self.inside.compiled.bits (lane_slots g.W.Word.lane c.self.inside.file i) c.self.inside.compiled.signals c.args.signal s k c.self.invariant.in_range.signals e l)

@@ -1,4 +1,4 @@
-use Rattle.vs_level.proofs.Table.{list_grown}
+use Rattle.vs_reads.proofs.Table.{list_grown}
 use Rattle.vs_level.proofs.writers.Writers.add.Goals as goal
 
 pub returns : goal.returns

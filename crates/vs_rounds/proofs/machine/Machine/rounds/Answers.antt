@@ -92,7 +92,7 @@ returns-in_err-read-clause-stops g c =
     (let before = ran.done t run (inv.in_round t run h) in (
       suc c.loop-round.round,
       stops_in g.W.Word.lane run (suc c.loop-round.round) (length c.args.self.now.stimuli) c.round.new.self (g.D.Desk.contents c.round.new.desk) (g.D.Desk.contents c.read.new.desk) _ (omega arith) lanes (c.in_err-read.ensures.others t).put before.waves
-          (subst (λ (n : ℕ). ReadStops run n (suc c.loop-round.round) c.in_err-read.field-0.0) lanes (c.in_err-read.ensures.stops t run (suc c.loop-round.round) before.next)),
+          (subst (λ (n : ℕ). ReadStops run n (suc c.loop-round.round) (g.D.Desk.contents c.read.new.desk) c.in_err-read.field-0.0) lanes (c.in_err-read.ensures.stops t run (suc c.loop-round.round) before.next)),
     ))
 
 pub loop-round-preserved : goal.loop-round-preserved

@@ -1,6 +1,6 @@
 use Rattle.std.proofs.Common.{◌≡◌, ◌≤◌, ◌<◌, true, ◌*◌, length, IsTrue}
 use Rattle.vs_desk.specs.Places.{most_lanes}
-use Rattle.vs_drive.specs.Lanes.{AreAttached}
+use Rattle.vs_feed.specs.Lanes.{AreAttached}
 use Rattle.vs_waves.specs.Puts.{AreWritable}
 use Rattle.vs_rounds.specs.Lanes.{Run, AreInRound}
 use Rattle.vs_rounds.specs.Ready.{IsReady}

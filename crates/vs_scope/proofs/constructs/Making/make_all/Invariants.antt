@@ -1,6 +1,6 @@
 use Rattle.std.proofs.Common.{ℕ, List, map, drop}
 use Rattle.vs_ast.specs.Views as view
-use Rattle.vs_hierarchy.specs.Generate as generate
+use Rattle.vs_elaborated.specs.Generate as generate
 use Rattle.vs_scope.specs.Chosen.{IsMaking}
 use Rattle.vs_scope.specs.Frames.{view_env}
 use Rattle.vs_scope.proofs.constructs.Making.make_all.Given as goal

@@ -2,7 +2,7 @@ use Rattle.std.proofs.Common.{◌≡◌, ℕ, List, [], map, OnOk, sym, ap, ◌�
 use Rattle.vs_ast.specs.Views as view
 use Rattle.vs_grammar.specs.Trees as tree
 use Rattle.vs_grammar.specs.Shapes.{Each}
-use Rattle.vs_hierarchy.specs.Generate as generate
+use Rattle.vs_elaborated.specs.Generate as generate
 use Rattle.vs_scope.specs.Chosen.{IsConstruct, IsMaking}
 use Rattle.vs_scope.specs.Contents.{contents_items}
 use Rattle.vs_scope.specs.Frames.{view_env}

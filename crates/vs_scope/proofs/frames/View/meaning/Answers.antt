@@ -1,5 +1,5 @@
 use Rattle.std.proofs.Common.{refl, ap}
-use Rattle.vs_hierarchy.specs.Environments.{declared_meaning}
+use Rattle.vs_elaborated.specs.Environments.{declared_meaning}
 use Rattle.vs_scope.specs.declared.names.Declared.{Declared}
 use Rattle.vs_scope.specs.Views.{declared, signal_meaning, unknown_signal}
 use Rattle.vs_scope.specs.Frames.{view_env}

@@ -1,7 +1,7 @@
 use Rattle.std.proofs.Common.{ℕ, Option, sym, ap, ◌∙◌}
 use Rattle.vs_ast.specs.Views.{option}
-use Rattle.vs_hierarchy.specs.Environments.{within}
-use Rattle.vs_hierarchy.specs.Surveys.{turned}
+use Rattle.vs_elaborated.specs.Environments.{within}
+use Rattle.vs_elaborated.specs.Surveys.{turned}
 use Rattle.vs_scope.specs.Views.{entries}
 use Rattle.vs_scope.specs.Frames.{turn, envs, env_at}
 use Rattle.vs_scope.proofs.Scopes.{env_step}

@@ -1,7 +1,7 @@
 use Rattle.std.proofs.Common.{◌≡◌, ◌++◌, ◌∷◌, ℕ, List, [], Some, None, sym, ap, ◌∙◌}
 use Rattle.vs_ast.specs.Views as view
-use Rattle.vs_hierarchy.specs.Environments as environment
-use Rattle.vs_hierarchy.specs.Environments.{find_entry}
+use Rattle.vs_elaborated.specs.Environments as environment
+use Rattle.vs_elaborated.specs.Environments.{find_entry}
 use Rattle.vs_scope.specs.declared.names.Entry.{Entry}
 use Rattle.vs_scope.specs.declared.names.Sort.TheVariants as sorts
 use Rattle.vs_scope.specs.declared.names.Declared.TheVariants as states
@@ -15,33 +15,33 @@ use Rattle.vs_scope.proofs.names.Names.declare_block.Goals as goal
 pub returns-then-is_some-clause-same : goal.returns-then-is_some-clause-same
 returns-then-is_some-clause-same c =
     let ps = pairs c.args.self.now.map in
-    let name = c.as_bytes-name.result.now in
+    let name = c.as_slice-name.result.now in
     let there = copied_some (λ x. x.now) c.get.result (value_at name ps) c.get.ensures.value (sym c.is_some.ensures ∙ c.if-is_some.true) in
     let e = label_entry (view.name c.args.label.now) in
-    same_there (entries c.args.self.now) e (entry_of name there.0) (ap (find_entry (entries c.args.self.now)) (sym c.as_bytes-name.ensures) ∙ value_found name ps there.0 there.1)
+    same_there (entries c.args.self.now) e (entry_of name there.0) (ap (find_entry (entries c.args.self.now)) (sym c.as_slice-name.ensures) ∙ value_found name ps there.0 there.1)
 
 pub returns-then-is_some-clause-new : goal.returns-then-is_some-clause-new
 returns-then-is_some-clause-new c = λ none.
     let ps = pairs c.args.self.now.map in
-    let name = c.as_bytes-name.result.now in
+    let name = c.as_slice-name.result.now in
     let there = copied_some (λ x. x.now) c.get.result (value_at name ps) c.get.ensures.value (sym c.is_some.ensures ∙ c.if-is_some.true) in
-    let found : find_entry (entries c.args.self.now) (view.name c.args.label.now).bytes ≡ Some (entry_of name there.0) = ap (find_entry (entries c.args.self.now)) (sym c.as_bytes-name.ensures) ∙ value_found name ps there.0 there.1 in
+    let found : find_entry (entries c.args.self.now) (view.name c.args.label.now).bytes ≡ Some (entry_of name there.0) = ap (find_entry (entries c.args.self.now)) (sym c.as_slice-name.ensures) ∙ value_found name ps there.0 there.1 in
     let bad : Some (entry_of name there.0) ≡ None = sym found ∙ none in
     cc bad
 
 pub returns-clause-new : goal.returns-clause-new
 returns-clause-new c = λ none.
     let ps = pairs c.args.self.now.map in
-    let name = c.as_bytes-name.result.now in
+    let name = c.as_slice-name.result.now in
     let v : Entry = record { first = record { name = c.args.label; sort = sorts.Scope }; second = None; declared = states.Scope } in
     let out = copied_none (λ x. x.now) c.get.result (value_at name ps) c.get.ensures.value (sym c.is_some.ensures ∙ c.if-is_some.false) in
-    entry_last name v ps (pairs c.put.new.self) c.in_ok-put.ensures.put out ∙ ap (λ (n : List ℕ). entries c.args.self.now ++ entry_of n v ∷ []) c.as_bytes-name.ensures
+    entry_last name v ps (pairs c.put.new.self) c.in_ok-put.ensures.put out ∙ ap (λ (n : List ℕ). entries c.args.self.now ++ entry_of n v ∷ []) c.as_slice-name.ensures
 
 pub returns-clause-same : goal.returns-clause-same
 returns-clause-same c = λ n.
     let ps = pairs c.args.self.now.map in
-    let name = c.as_bytes-name.result.now in
+    let name = c.as_slice-name.result.now in
     let v : Entry = record { first = record { name = c.args.label; sort = sorts.Scope }; second = None; declared = states.Scope } in
     let out = copied_none (λ x. x.now) c.get.result (value_at name ps) c.get.ensures.value (sym c.is_some.ensures ∙ c.if-is_some.false) in
     ap (λ (x : List environment.Entry). find_entry x n)
-    (entry_last name v ps (pairs c.put.new.self) c.in_ok-put.ensures.put out ∙ ap (λ (n : List ℕ). entries c.args.self.now ++ entry_of n v ∷ []) c.as_bytes-name.ensures)
+    (entry_last name v ps (pairs c.put.new.self) c.in_ok-put.ensures.put out ∙ ap (λ (n : List ℕ). entries c.args.self.now ++ entry_of n v ∷ []) c.as_slice-name.ensures)

@@ -1,6 +1,6 @@
 use Rattle.std.proofs.Common.{ℕ, suc, List, drop, sym, subst, add-one}
-use Rattle.vs_hierarchy.specs.Environments.{Entry}
-use Rattle.vs_hierarchy.specs.Surveys.{block_entries}
+use Rattle.vs_elaborated.specs.Environments.{Entry}
+use Rattle.vs_elaborated.specs.Surveys.{block_entries}
 use Rattle.vs_scope.specs.declared.made.Made.{Made}
 use Rattle.vs_scope.specs.Clashes.{blocks_of}
 use Rattle.vs_scope.specs.Made.{block_names}

@@ -1,5 +1,5 @@
 use Rattle.std.proofs.Common.{drop}
-use Rattle.vs_hierarchy.specs.Surveys.{block_entries}
+use Rattle.vs_elaborated.specs.Surveys.{block_entries}
 use Rattle.vs_scope.specs.Clashes.{blocks_of}
 use Rattle.vs_scope.specs.Views.{entries}
 use Rattle.vs_scope.proofs.ClashSteps.{AreDeclared}

@@ -1,5 +1,5 @@
 use Rattle.std.proofs.Common.{◌≡◌, Some, None, map, refl, sym, ap, ◌∙◌, subst}
-use Rattle.vs_hierarchy.specs.Environments as environment
+use Rattle.vs_elaborated.specs.Environments as environment
 use Rattle.vs_scope.specs.declared.names.Entry.{Entry}
 use Rattle.vs_scope.specs.Maps.{with_value}
 use Rattle.vs_scope.specs.MapViews.{pairs}
@@ -14,7 +14,7 @@ returns-clause-named c =
     let name = d.name.now.text in
     let ps = pairs c.args.self.now.map in
     let e : Entry = record { first = d; second = None; declared = c.first_declared-declared.result } in
-    let put : pairs c.put.new.self ≡ with_value name e ps = c.in_ok-put.ensures.put ∙ ap (λ n. with_value n e ps) c.as_bytes.ensures in
+    let put : pairs c.put.new.self ≡ with_value name e ps = c.in_ok-put.ensures.put ∙ ap (λ n. with_value n e ps) c.as_slice.ensures in
     ap (map named_of) put ∙ named_with (declaration d) e ps c.requires.first.each (λ h. refl) (λ (x : Entry) h. let bad : None ≡ Some x = sym c.requires.new ∙ h in cc bad)
 
 pub returns-clause-first : goal.returns-clause-first
@@ -23,6 +23,6 @@ returns-clause-first c =
     let name = d.name.now.text in
     let ps = pairs c.args.self.now.map in
     let e : Entry = record { first = d; second = None; declared = c.first_declared-declared.result } in
-    let put : pairs c.put.new.self ≡ with_value name e ps = c.in_ok-put.ensures.put ∙ ap (λ n. with_value n e ps) c.as_bytes.ensures in
+    let put : pairs c.put.new.self ≡ with_value name e ps = c.in_ok-put.ensures.put ∙ ap (λ n. with_value n e ps) c.as_slice.ensures in
     let first = ap (λ (x : environment.Declared). let q : environment.Entry = record { name = name; place = d.name.now.place; declared = x } in q) c.first_declared-declared.ensures in
     record { each = subst ArePairsFirst (sym put) (first_with name e ps c.requires.first.each (λ h. first) (λ (x : Entry) h. let bad : None ≡ Some x = sym c.requires.new ∙ h in cc bad)) }

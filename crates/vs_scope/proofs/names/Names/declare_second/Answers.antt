@@ -5,7 +5,7 @@ use Rattle.vs_scope.specs.MapViews.{pairs}
 use Rattle.vs_scope.specs.Views.{declaration}
 use Rattle.vs_scope.specs.Declares.{named_of, ArePairsFirst, with_second, is_open}
 use Rattle.vs_scope.proofs.NamedPairs.{named_entry, named_with, first_with}
-use Rattle.vs_hierarchy.specs.Parameters.{first_declared}
+use Rattle.vs_elaborated.specs.Parameters.{first_declared}
 use Rattle.vs_scope.specs.declared.names.Declaration.{Declaration}
 use Rattle.vs_scope.specs.Views.{declared, sort}
 use Rattle.vs_scope.proofs.NamedPairs.{second_at, declared_at}
@@ -25,7 +25,7 @@ returns-clause-named c =
     let s = second_at c.args.first d (value_at name ps) c.requires.open in
     let old : Entry = s.0 in
     let e : Entry = record { first = c.args.first; second = Some d; declared = c.first_declared-declared.result } in
-    let put : pairs c.put.new.self ≡ with_value name e ps = c.in_ok-put.ensures.put ∙ ap (λ n. with_value n e ps) c.as_bytes.ensures in
+    let put : pairs c.put.new.self ≡ with_value name e ps = c.in_ok-put.ensures.put ∙ ap (λ n. with_value n e ps) c.as_slice.ensures in
     let becomes : named_entry name e ≡ with_second (is_open (named_entry name old) (declaration d)) (declaration d) (named_entry name old) =
     ap (λ (x : Declaration). named_entry name (record { first = x; second = Some d; declared = c.first_declared-declared.result })) (sym s.2) ∙ sym (ap (λ (t : Bool). with_second t (declaration d) (named_entry name old)) s.3) in
     ap (map named_of) put
@@ -40,7 +40,7 @@ returns-clause-first c =
     let s = second_at c.args.first d (value_at name ps) c.requires.open in
     let old : Entry = s.0 in
     let e : Entry = record { first = c.args.first; second = Some d; declared = c.first_declared-declared.result } in
-    let put : pairs c.put.new.self ≡ with_value name e ps = c.in_ok-put.ensures.put ∙ ap (λ n. with_value n e ps) c.as_bytes.ensures in
+    let put : pairs c.put.new.self ≡ with_value name e ps = c.in_ok-put.ensures.put ∙ ap (λ n. with_value n e ps) c.as_slice.ensures in
     let known : declared c.first_declared-declared.result ≡ declared old.declared =
     c.first_declared-declared.ensures ∙ sym (ap (λ (x : Declaration). first_declared (sort x.sort)) s.2) ∙ sym (declared_at name ps old c.requires.first.each s.1) in
     record {

@@ -1,5 +1,5 @@
 use Rattle.std.proofs.Common.{◌≡◌, map, refl, sym, ap, ◌∙◌, subst}
-use Rattle.vs_hierarchy.specs.Environments.{OfSignal}
+use Rattle.vs_elaborated.specs.Environments.{OfSignal}
 use Rattle.vs_scope.specs.declared.names.Entry.{Entry}
 use Rattle.vs_scope.specs.declared.names.Declared.TheVariants as states
 use Rattle.vs_scope.specs.Maps.{with_value, AreDistinct}

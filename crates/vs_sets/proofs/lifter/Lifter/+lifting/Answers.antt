@@ -15,7 +15,7 @@ pub lifted-returns-clause-length : goal.lifted-returns-clause-length
 lifted-returns-clause-length t c =
     let a = c.args.self.now.shapes.now in
     ap length c.lifted_node.ensures
-    ∙ length-lifted c.value_law.ensures.length (tree_of a c.args.e) c.args.context.len c.args.context.signed (family_of c.args.self.now.table.now) c.requires.wide
+    ∙ length-lifted c.value_law.ensures.length (tree_of a c.args.e) c.args.context.width c.args.context.signed (family_of c.args.self.now.table.now) c.requires.wide
 
 pub select-surely_inside-sure-requires-clause-some : goal.select-surely_inside-sure-requires-clause-some
 select-surely_inside-sure-requires-clause-some t c =

@@ -1,5 +1,0 @@
-//! Constants of worked texts.
-
-mod names;
-mod rows;
-mod texts;

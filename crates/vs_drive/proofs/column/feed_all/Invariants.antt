@@ -1,5 +1,0 @@
-use Rattle.vs_drive.specs.Fed.{AreFed}
-use Rattle.vs_drive.proofs.column.feed_all.Given as goal
-
-abbrev pub invariant-loop-pair : goal.invariant-loop-pair
-invariant-loop-pair g l = AreFed g.W.Word.lane g.W.Word.LANES l.pair-index l.stimuli l.pairs

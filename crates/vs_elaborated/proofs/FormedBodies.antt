@@ -1,0 +1,289 @@
+-- Targets, statements and event controls without a fault are formed.
+use Rattle.std.proofs.Common.{◌≡◌, ℕ, Bool, true, false, not, ◌&&◌, ◌||◌, List, [], ◌∷◌, ◌++◌, Option, Some, None, is_none, is_some, refl, sym, ap, ◌∙◌, subst}
+use Rattle.std.specs.List.{list_all}
+use Rattle.vs_four.specs.declared.Range.{Range}
+use Rattle.vs_design.specs.Expressions.{Signal, OfSignal}
+use Rattle.vs_design.specs.Designs.{Design, Edge, is_edge}
+use Rattle.vs_design.specs.Footprints.{is_net, is_variable}
+use Rattle.vs_design.specs.Fits.{fits_64}
+use Rattle.vs_design.specs.Elaborated.{is_nil, is_signal, same_range, is_formed, is_formed_select, is_formed_target, has_constant_selects, is_formed_statement, are_formed_arms, is_formed_event, are_formed_events}
+use Rattle.vs_grammar.specs.Trees as tree
+use Rattle.vs_grammar.specs.Trees.{expr_place, target_place}
+use Rattle.vs_grammar.specs.Shapes.{IsExpr, IsSelect, IsTarget, ArePartsOfTarget, AreTargets, IsStatement, IsFallback, AreStatements, AreArms, OneOrMore, Each, IsControl, AreParts, AreExprs}
+use Rattle.vs_const.specs.Meanings.{SignalMeaning, Meaning, AValue, Undefined, ASignal, Another, Unknown, Find}
+use Rattle.vs_const.specs.Selects.{Base, is_scalar, Taken, taken, slice_taken, first_needed}
+use Rattle.vs_const.specs.Expressions.{typed}
+use Rattle.vs_const.specs.Sound.{IsSound, AreSound}
+use Rattle.vs_const.proofs.Formed.{sound_needed, first_sound, both_nil, no_fault, both, IsFineTaken, taken_faults, bit_fine, slice_fine, typed_fine, same_itself}
+use Rattle.vs_elaborated.specs.Targets.{meant_signal, TypedTarget, is_wrong_target, target_base, part_target, selected_target, typed_target, typed_targets, targeted, and_target, as_target, as_targets}
+use Rattle.vs_elaborated.specs.Statements.{TypedStatement, typed_list, typed_statement, typed_fallback, typed_sequence, typed_arms, event_faults, typed_events, typed_control}
+use Rattle.vs_const.specs.declared.rules.Rule.TheVariants.{WrongKind}
+
+-- what a target may write
+abbrev pub allowed : Bool → Signal → Bool
+allowed true s = is_variable s
+allowed false s = is_net s
+
+pub record IsFineTarget (d : Design) (procedural : Bool) (t : TypedTarget) : Type 0 where
+  pub formed : is_formed_target d (allowed procedural) t.target ≡ true
+  pub constant : procedural ≡ false → has_constant_selects t.target ≡ true
+
+-- a signal that may be written, of those that a name means
+right_kind : (procedural input net marked : Bool) → (input || (procedural && net || not procedural && not net)) ≡ false → (marked ≡ true → input ≡ true) → (elim procedural [ true ↦ (not net && not marked) | false ↦ (net && not marked) ]) ≡ true
+right_kind true false false false h k = refl
+right_kind true false false true h k = absurd (no (k refl))
+  where
+    no : false ≡ true → ⊥
+    no e = cc
+right_kind true false true m h k = cc
+right_kind true true net m h k = cc
+right_kind false false true false h k = refl
+right_kind false false true true h k = absurd (no (k refl))
+  where
+    no : false ≡ true → ⊥
+    no e = cc
+right_kind false false false m h k = cc
+right_kind false true net m h k = cc
+
+may_write : (procedural : Bool) (s : SignalMeaning) → is_wrong_target procedural s ≡ false → (s.signal.input ≡ true → s.input ≡ true) → allowed procedural s.signal ≡ true
+may_write true s h k = right_kind true s.input s.signal.net s.signal.input h k
+may_write false s h k = right_kind false s.input s.signal.net s.signal.input h k
+
+either_false : (a b : Bool) → (a || b) ≡ false → (a ≡ false) × (b ≡ false)
+either_false true b h = cc
+either_false false b h = (refl, h)
+
+-- what a name gives to a target
+pub record IsFineName (d : Design) (procedural selected : Bool) (m : Meaning) : Type 0 where
+  pub signal : is_signal d (meant_signal m) ≡ true
+  pub allowed_to : allowed procedural (meant_signal m) ≡ true
+  pub range : selected ≡ true → (r : Range) × ((meant_signal m).range ≡ Some r)
+
+has_range : (s : SignalMeaning) (range : Option Range) → s.signal.range ≡ range → s.known ≡ true → is_scalar s ≡ false → (r : Range) × (s.signal.range ≡ Some r)
+has_range s (Some r) e k h = (r, e)
+has_range s None e k h = absurd (no (scalar s.known s.signal.range k e) h)
+  where
+    scalar : (b : Bool) (r : Option Range) → b ≡ true → r ≡ None → (b && is_none r) ≡ true
+    scalar true None g i = refl
+    scalar true (Some r) g i = cc
+    scalar false r g i = cc
+
+    no : is_scalar s ≡ true → is_scalar s ≡ false → ⊥
+    no g i = cc
+
+name_of_target : (d : Design) (procedural selected : Bool) (place : ℕ) (m : Meaning) → IsSound d false m → (target_base procedural place selected m).faults ≡ [] → IsFineName d procedural selected m
+name_of_target d procedural selected place (AValue v r) s h = cc
+name_of_target d procedural selected place (Undefined r) s h = absurd s
+name_of_target d procedural selected place (ASignal m) s h =
+    let n = either_false (is_wrong_target procedural m) (selected && is_scalar m) (no_fault (is_wrong_target procedural m || (selected && is_scalar m)) WrongKind place h) in
+    record { signal = s.0; allowed_to = may_write procedural m n.0 s.2; range = λ k. has_range m m.signal.range refl s.1 (unselected selected (is_scalar m) k n.1) }
+  where
+    unselected : (a b : Bool) → a ≡ true → (a && b) ≡ false → b ≡ false
+    unselected true b k h = h
+    unselected false b k h = cc
+name_of_target d procedural selected place Another s h = cc
+name_of_target d procedural selected place Unknown s h = cc
+
+base_range : (procedural selected : Bool) (place : ℕ) (m : Meaning) (r : Range) → (target_base procedural place selected m).faults ≡ [] → (meant_signal m).range ≡ Some r → (target_base procedural place selected m).range ≡ Some r
+base_range procedural selected place (AValue v q) r h e = cc
+base_range procedural selected place (Undefined q) r h e = cc
+base_range procedural selected place (ASignal m) r h e = e
+base_range procedural selected place Another r h e = cc
+base_range procedural selected place Unknown r h e = cc
+
+part_target_fine : (d : Design) (procedural : Bool) (m : Meaning) (b : Base) (t : Taken) (r : Range) → IsFineName d procedural true m → (meant_signal m).range ≡ Some r → IsFineTaken d (not procedural) r t → IsFineTarget d procedural (part_target (meant_signal m) b t)
+part_target_fine d procedural m b t r n e f = record {
+  formed = three (is_formed_select d (OfSignal (meant_signal m)) t.part) (allowed procedural (meant_signal m)) (is_formed d t.index) select n.allowed_to f.formed;
+  constant = λ k. f.constant (ap not k);
+}
+  where
+    three : (a b c : Bool) → a ≡ true → b ≡ true → c ≡ true → (a && b && c) ≡ true
+    three true true true h k l = refl
+    three true true false h k l = cc
+    three true false c h k l = cc
+    three false b c h k l = cc
+
+    select : is_formed_select d (OfSignal (meant_signal m)) t.part ≡ true
+    select = three (is_signal d (meant_signal m)) (same_range (meant_signal m).range (Some t.part.range)) (fits_64 t.part.width) n.signal (subst (λ q. same_range q (Some t.part.range) ≡ true) (sym e) (subst (λ q. same_range (Some r) (Some q) ≡ true) (sym f.range) (same_itself r))) f.fits
+
+module _ (d : Design) (find : Find) (s : AreSound d false find) where
+  selected_target_fine : (select : tree.Select) (name : tree.Name) (procedural : Bool) → IsSelect select → (selected_target select name find procedural).faults ≡ [] → IsFineTarget d procedural (selected_target select name find procedural)
+  selected_target_fine tree.Whole name procedural x h =
+      let n = name_of_target d procedural false name.place (find name.bytes) (s name.bytes) h in
+      record { formed = both (is_signal d (meant_signal (find name.bytes))) (allowed procedural (meant_signal (find name.bytes))) n.signal n.allowed_to; constant = λ k. refl }
+  selected_target_fine (tree.BitAt bracket index) name procedural x h =
+      let m = find name.bytes in
+      let b = target_base procedural name.place true m in
+      let i = typed index find (not procedural) in
+      let k = both_nil b.faults (taken b.range true 1 i i.faults).faults h in
+      let n = name_of_target d procedural true name.place m (s name.bytes) k.0 in
+      let r = n.range refl in
+      part_target_fine d procedural m b (taken b.range true 1 i i.faults) r.0 n r.1
+      (bit_fine d (not procedural) b.range r.0 i (base_range procedural true name.place m r.0 k.0 r.1) (typed_fine d find index (not procedural) (weaker (not procedural)) x (sym (taken_faults b.range true 1 i i.faults) ∙ k.1)))
+    where
+      weaker : (b : Bool) → AreSound d b find
+      weaker true = λ name. sound_needed d false (find name) (s name)
+      weaker false = s
+  selected_target_fine (tree.Slice bracket kind e g) name procedural x h =
+      let m = find name.bytes in
+      let b = target_base procedural name.place true m in
+      let t = slice_taken b.range bracket kind (expr_place e) (typed e find (first_needed kind (not procedural))) (expr_place g) (typed g find true) in
+      let k = both_nil b.faults t.faults h in
+      let n = name_of_target d procedural true name.place m (s name.bytes) k.0 in
+      let r = n.range refl in
+      part_target_fine d procedural m b t r.0 n r.1
+      (slice_fine d (not procedural) b.range r.0 bracket kind (expr_place e) (typed e find (first_needed kind (not procedural))) (expr_place g) (typed g find true) (base_range procedural true name.place m r.0 k.0 r.1)
+      (typed_fine d find e (first_needed kind (not procedural)) (first_sound d kind (not procedural) find (weaker (not procedural))) x.0) (typed_fine d find g true (weaker true) x.1) k.1)
+    where
+      weaker : (b : Bool) → AreSound d b find
+      weaker true = λ name. sound_needed d false (find name) (s name)
+      weaker false = s
+
+  mutual
+    pub target_fine : (t : tree.Target) (procedural : Bool) → IsTarget t → (typed_target t find procedural).faults ≡ [] → IsFineTarget d procedural (typed_target t find procedural)
+    target_fine (tree.NamedTarget name select) procedural x h = selected_target_fine select name procedural x.1 h
+    target_fine (tree.Targeted place parts) procedural x h = targets_fine parts procedural x h
+
+    targets_fine : (parts : tree.Targets) (procedural : Bool) → ArePartsOfTarget parts → (typed_targets parts find procedural).faults ≡ [] → IsFineTarget d procedural (typed_targets parts find procedural)
+    targets_fine tree.NoTarget procedural x h = absurd x
+    targets_fine (tree.AndTarget t tree.NoTarget) procedural x h = target_fine t procedural x.0 h
+    targets_fine (tree.AndTarget t (tree.AndTarget u rest)) procedural x h =
+        let a = typed_target t find procedural in
+        let b = typed_targets (tree.AndTarget u rest) find procedural in
+        let n = both_nil a.faults b.faults h in
+        let f = target_fine t procedural x.0 n.0 in
+        let g = targets_fine (tree.AndTarget u rest) procedural x.1 n.1 in
+        record {
+          formed = both (is_formed_target d (allowed procedural) a.target) (is_formed_target d (allowed procedural) b.target) f.formed g.formed;
+          constant = λ k. both (has_constant_selects a.target) (has_constant_selects b.target) (f.constant k) (g.constant k);
+        }
+
+  -- ---- statements
+
+  list_fine : (es : List tree.Expr) → Each IsExpr es → (typed_list es find).faults ≡ [] → list_all (is_formed d) (typed_list es find).expressions ≡ true
+  list_fine [] x h = refl
+  list_fine (e ∷ es) x h =
+      let n = both_nil (typed e find false).faults (typed_list es find).faults h in
+      both (is_formed d (typed e find false).expression) (list_all (is_formed d) (typed_list es find).expressions) (typed_fine d find e false s x.0 n.0).formed (list_fine es x.1 n.1)
+
+  labels_fine : (es : List tree.Expr) → OneOrMore IsExpr es → (typed_list es find).faults ≡ [] → (list_all (is_formed d) (typed_list es find).expressions ≡ true) × (not (is_nil (typed_list es find).expressions) ≡ true)
+  labels_fine [] x h = absurd x
+  labels_fine (e ∷ es) x h = (list_fine (e ∷ es) (x.0, x.1) h, refl)
+
+  mutual
+    pub statement_fine : (st : tree.Statement) → IsStatement st → (typed_statement st find).faults ≡ [] → is_formed_statement d (typed_statement st find).statement ≡ true
+    statement_fine (tree.Empty place) x h = refl
+    statement_fine (tree.Assignment target e blocking) x h =
+        let n = both_nil (typed_target target find true).faults (typed e find false).faults h in
+        both (is_formed_target d is_variable (typed_target target find true).target) (is_formed d (typed e find false).expression) (target_fine target true x.0 n.0).formed (typed_fine d find e false s x.1 n.1).formed
+    statement_fine (tree.If place c taken other) x h =
+        let n = both_nil (typed c find false).faults ((typed_statement taken find).faults ++ (typed_fallback other find).faults) h in
+        let m = both_nil (typed_statement taken find).faults (typed_fallback other find).faults n.1 in
+        three (is_formed d (typed c find false).expression) (is_formed_statement d (typed_statement taken find).statement) (is_formed_statement d (typed_fallback other find).statement) (typed_fine d find c false s x.0 n.0).formed (statement_fine taken x.1 m.0) (fallback_fine other x.2 m.1)
+      where
+        three : (a b c : Bool) → a ≡ true → b ≡ true → c ≡ true → (a && b && c) ≡ true
+        three true true true h k l = refl
+        three true true false h k l = cc
+        three true false c h k l = cc
+        three false b c h k l = cc
+    statement_fine (tree.Case place kind subject arms other) x h =
+        let r = typed_arms arms find (typed_fallback other find) in
+        let n = both_nil (typed subject find false).faults r.faults h in
+        both (is_formed d (typed subject find false).expression) (are_formed_arms d r.arms) (typed_fine d find subject false s x.0 n.0).formed (arms_fine arms (typed_fallback other find) x.1 (λ k. fallback_fine other x.2 k) n.1)
+    statement_fine (tree.Sequence place parts) x h = sequence_fine parts x h
+
+    fallback_fine : (other : tree.Fallback) → IsFallback other → (typed_fallback other find).faults ≡ [] → is_formed_statement d (typed_fallback other find).statement ≡ true
+    fallback_fine tree.NoFallback x h = refl
+    fallback_fine (tree.Otherwise st) x h = statement_fine st x h
+
+    sequence_fine : (parts : tree.Statements) → AreStatements parts → (typed_sequence parts find).faults ≡ [] → is_formed_statement d (typed_sequence parts find).statement ≡ true
+    sequence_fine tree.NoStatement x h = refl
+    sequence_fine (tree.AndStatement st tree.NoStatement) x h = statement_fine st x.0 h
+    sequence_fine (tree.AndStatement st (tree.AndStatement next rest)) x h =
+        let n = both_nil (typed_statement st find).faults (typed_sequence (tree.AndStatement next rest) find).faults h in
+        both (is_formed_statement d (typed_statement st find).statement) (is_formed_statement d (typed_sequence (tree.AndStatement next rest) find).statement) (statement_fine st x.0 n.0) (sequence_fine (tree.AndStatement next rest) x.1 n.1)
+
+    arms_fine : (arms : tree.CaseArms) (other : TypedStatement) → AreArms arms → (other.faults ≡ [] → is_formed_statement d other.statement ≡ true) → (typed_arms arms find other).faults ≡ [] → are_formed_arms d (typed_arms arms find other).arms ≡ true
+    arms_fine tree.NoArm other x k h = k h
+    arms_fine (tree.AndArm labels st rest) other x k h =
+        let es = typed_list labels find in
+        let r = typed_arms rest find other in
+        let n = both_nil es.faults ((typed_statement st find).faults ++ r.faults) h in
+        let m = both_nil (typed_statement st find).faults r.faults n.1 in
+        let l = labels_fine labels x.0 n.0 in
+        four (not (is_nil es.expressions)) (list_all (is_formed d) es.expressions) (is_formed_statement d (typed_statement st find).statement) (are_formed_arms d r.arms) l.1 l.0 (statement_fine st x.1 m.0) (arms_fine rest other x.2 k m.1)
+      where
+        four : (a b c e : Bool) → a ≡ true → b ≡ true → c ≡ true → e ≡ true → (a && b && c && e) ≡ true
+        four true true true true h k l m = refl
+        four true true true false h k l m = cc
+        four true true false e h k l m = cc
+        four true false c e h k l m = cc
+        four false b c e h k l m = cc
+
+  -- ---- events
+
+  event_fine : (place : ℕ) (edge : Edge) (m : Meaning) → IsSound d false m → event_faults place edge m ≡ [] → is_formed_event d (record { signal = meant_signal m; edge = edge }) ≡ true
+  event_fine place edge (AValue v r) q h = cc
+  event_fine place edge (Undefined r) q h = absurd q
+  event_fine place edge (ASignal m) q h = both (is_signal d m.signal) (not (is_edge edge) || is_none m.signal.range) q.0 (scalar (is_edge edge) m.signal.range (no_fault (is_edge edge && is_some m.signal.range) WrongKind place h))
+    where
+      scalar : (a : Bool) (r : Option Range) → (a && is_some r) ≡ false → (not a || is_none r) ≡ true
+      scalar true None k = refl
+      scalar true (Some r) k = cc
+      scalar false r k = refl
+  event_fine place edge Another q h = cc
+  event_fine place edge Unknown q h = cc
+
+  events_fine : (es : List tree.Event) → (typed_events es find).faults ≡ [] → list_all (is_formed_event d) (typed_events es find).events ≡ true
+  events_fine [] h = refl
+  events_fine (e ∷ es) h =
+      let m = find e.name.bytes in
+      let n = both_nil (event_faults e.name.place e.edge m) (typed_events es find).faults h in
+      both (is_formed_event d (record { signal = meant_signal m; edge = e.edge })) (list_all (is_formed_event d) (typed_events es find).events) (event_fine e.name.place e.edge m (s e.name.bytes) n.0) (events_fine es n.1)
+
+  pub control_fine : (c : tree.EventControl) → IsControl c → (typed_control c find).faults ≡ [] → are_formed_events d (typed_control c find).star (typed_control c find).events ≡ true
+  control_fine tree.Star x h = refl
+  control_fine (tree.Listed []) x h = absurd x
+  control_fine (tree.Listed (e ∷ es)) x h = events_fine (e ∷ es) h
+
+-- an expression that is connected to an output is shaped as a target
+targeted_shaped : (place : ℕ) (o : Option tree.Targets) (t : tree.Target) → ((ts : tree.Targets) → o ≡ Some ts → ArePartsOfTarget ts) → targeted place o ≡ Some t → IsTarget t
+targeted_shaped place None t f h = cc
+targeted_shaped place (Some ts) t f h = subst IsTarget (same h) (f ts refl)
+  where
+    same : Some (tree.Targeted place ts) ≡ Some t → tree.Targeted place ts ≡ t
+    same k = cc
+
+parts_shaped : (P : tree.Targets → Type 0) (o : Option tree.Target) (p : Option tree.Targets) (ts : tree.Targets) → ((a : tree.Target) (b : tree.Targets) → o ≡ Some a → p ≡ Some b → P (tree.AndTarget a b)) → and_target o p ≡ Some ts → P ts
+parts_shaped P None p ts f h = cc
+parts_shaped P (Some a) None ts f h = cc
+parts_shaped P (Some a) (Some b) ts f h = subst P (same h) (f a b refl refl)
+  where
+    same : Some (tree.AndTarget a b) ≡ Some ts → tree.AndTarget a b ≡ ts
+    same k = cc
+
+mutual
+  pub as_target_shaped : (e : tree.Expr) (t : tree.Target) → IsExpr e → as_target e ≡ Some t → IsTarget t
+  as_target_shaped (tree.Named name select) t x h = subst IsTarget (same h) (x.0, x.1)
+    where
+      same : Some (tree.NamedTarget name select) ≡ Some t → tree.NamedTarget name select ≡ t
+      same k = cc
+  as_target_shaped (tree.Brackets place e) t x h = as_target_shaped e t x h
+  as_target_shaped (tree.Concatenation place parts) t x h = targeted_shaped place (as_targets parts) t (λ ts k. as_parts_shaped parts ts x k) h
+  as_target_shaped (tree.Number n) t x h = cc
+  as_target_shaped (tree.Unary place op a) t x h = cc
+  as_target_shaped (tree.Binary op a b) t x h = cc
+  as_target_shaped (tree.Choice c p q) t x h = cc
+  as_target_shaped (tree.Replication place count parts) t x h = cc
+  as_target_shaped (tree.Call place function a) t x h = cc
+
+  as_parts_shaped : (parts : tree.Exprs) (ts : tree.Targets) → AreParts parts → as_targets parts ≡ Some ts → ArePartsOfTarget ts
+  as_parts_shaped tree.NoExpr ts x h = absurd x
+  as_parts_shaped (tree.AndExpr e rest) ts x h = parts_shaped ArePartsOfTarget (as_target e) (as_targets rest) ts (λ a b k l. (as_target_shaped e a x.0 k, as_rest_shaped rest b x.1 l)) h
+
+  as_rest_shaped : (parts : tree.Exprs) (ts : tree.Targets) → AreExprs parts → as_targets parts ≡ Some ts → AreTargets ts
+  as_rest_shaped tree.NoExpr ts x h = subst AreTargets (same h) tt
+    where
+      same : Some tree.NoTarget ≡ Some ts → tree.NoTarget ≡ ts
+      same k = cc
+  as_rest_shaped (tree.AndExpr e rest) ts x h = parts_shaped AreTargets (as_target e) (as_targets rest) ts (λ a b k l. (as_target_shaped e a x.0 k, as_rest_shaped rest b x.1 l)) h

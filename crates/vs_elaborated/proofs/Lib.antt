@@ -1,0 +1,19 @@
+mod FormedBodies
+mod SoundNames
+mod NumberedSignals
+mod NestedScopes
+mod FewProcesses
+pub mod ShapedBlocks
+mod SurveyNames
+mod FinePieces
+mod InDesign
+mod FirstNames
+mod PortNames
+mod PortsFormed
+mod LawfulDesigns
+mod LowBlocks
+mod SoundScopes
+mod EnoughFuel
+mod WorkedTexts
+mod WorkedRefusals
+mod WorkedDesigns

@@ -1,0 +1,237 @@
+-- The signals of an elaborated design are numbered from 0, and so are their bits; their scopes never go back, and are scopes of the design.
+use Rattle.std.proofs.Common.{◌≡◌, ℕ, zero, suc, ◌+◌, ◌≤◌, ◌<◌, Bool, true, false, ◌&&◌, List, [], ◌∷◌, ◌++◌, map, length, Option, Some, None, refl, sym, ap, ◌∙◌, subst, subst₂, arith, nat_le, ◌==◌, eq-eqb, is_none, if◌then◌else◌}
+use Rattle.std.specs.Prelude.{Result, Ok, Err, fold, sum_by}
+use Rattle.std.proofs.lemmas.Bool.{le-leb}
+use Rattle.vs_design.specs.Expressions.{Signal, signal_length}
+use Rattle.vs_design.specs.Designs.{Process, Design}
+use Rattle.vs_design.specs.Elaborated.{are_numbered, have_bits_from}
+use Rattle.vs_grammar.specs.Trees.{Name, Module, Source}
+use Rattle.vs_grammar.specs.Shapes.{Each}
+use Rattle.vs_const.specs.declared.faults.Fault.{Fault}
+use Rattle.vs_const.specs.Faults.{least}
+use Rattle.vs_const.proofs.Formed.{both}
+use Rattle.vs_elaborated.specs.Environments.{Env, within}
+use Rattle.vs_elaborated.specs.Limits.{Limits}
+use Rattle.vs_elaborated.specs.Declarations.{Declaration, Named, Sort, SignalOf, ParameterOf, GenvarSort, InstanceSort, names_of}
+use Rattle.vs_elaborated.specs.Parameters.{said_parameters, first_entries}
+use Rattle.vs_elaborated.specs.Signals.{Start, SaidSignal, said_signal, said_signals, after}
+use Rattle.vs_elaborated.specs.Ports.{find_module}
+use Rattle.vs_elaborated.specs.Pieces.{Task, Piece, Own, Instance, Within, is_instance}
+use Rattle.vs_elaborated.specs.Surveys.{Totals, no_totals, Survey, survey, declarations_of, overrides_of}
+use Rattle.vs_elaborated.specs.Elaborated.{both_designs, of_processes, then_do, port_assign, Read, ReadPieces, read_piece, read_pieces, counted, limit_faults, scope_design, read_scope, repeated_modules, top_task, scope_depth, elaborated_top, elaborated_within}
+
+abbrev pub bits_of_all : List Signal → ℕ
+bits_of_all [] = 0
+bits_of_all (s ∷ ss) = signal_length s + bits_of_all ss
+
+-- numbers from n on, bits from b on, scopes from c on
+abbrev pub Numbered : (n b c : ℕ) → List Signal → Type 0
+Numbered n b c [] = Unit {0}
+Numbered n b c (s ∷ ss) = (s.number ≡ n) × (s.first ≡ b) × (c ≤ s.scope) × Numbered (n + 1) (b + signal_length s) s.scope ss
+
+abbrev pub AreBelow : ℕ → List Signal → Type 0
+AreBelow c ss = Each (λ (s : Signal). s.scope < c) ss
+
+from_earlier : (n b c e : ℕ) (ss : List Signal) → e ≤ c → Numbered n b c ss → Numbered n b e ss
+from_earlier n b c e [] h p = tt
+from_earlier n b c e (s ∷ ss) h p = (p.0, p.1, omega (arith, p.2), p.3)
+
+numbered_append : (n b c e : ℕ) (xs ys : List Signal) → c ≤ e → AreBelow e xs → Numbered n b c xs → Numbered (n + length xs) (b + bits_of_all xs) e ys → Numbered n b c (xs ++ ys)
+numbered_append n b c e [] ys h k p q = from_earlier n b e c ys h (subst₂ (λ m a. Numbered m a e ys) (omega arith) (omega arith) q)
+numbered_append n b c e (s ∷ ss) ys h k p q =
+    (p.0, p.1, p.2, numbered_append (n + 1) (b + signal_length s) s.scope e ss ys (omega (arith, k.0)) k.1 p.3 (subst₂ (λ m a. Numbered m a e ys) (omega arith) (omega arith) q))
+
+below_append : (c : ℕ) (xs ys : List Signal) → AreBelow c xs → AreBelow c ys → AreBelow c (xs ++ ys)
+below_append c [] ys p q = q
+below_append c (s ∷ ss) ys p q = (p.0, below_append c ss ys p.1 q)
+
+below_more : (c e : ℕ) (xs : List Signal) → c ≤ e → AreBelow c xs → AreBelow e xs
+below_more c e [] h p = tt
+below_more c e (s ∷ ss) h p = (omega (arith, p.0), below_more c e ss h p.1)
+
+-- ---- one scope
+
+abbrev pub signals_of : List SaidSignal → List Signal
+signals_of ss = map (λ (s : SaidSignal). s.meaning.signal) ss
+
+said_numbered : (env : Env) (names : List Named) (start : Start) → Numbered start.signal start.bit start.scope (signals_of (said_signals env start names))
+said_numbered env [] start = tt
+said_numbered env (n ∷ ns) start = of n.first.name n.first.sort n.second (λ next. said_numbered env ns next)
+  where
+    of : (w : Name) (k : Sort) (second : Option Declaration) → ((next : Start) → Numbered next.signal next.bit next.scope (signals_of (said_signals env next ns)))
+        → Numbered start.signal start.bit start.scope (signals_of (said_signals env start (record { first = record { name = w; sort = k }; second = second } ∷ ns)))
+    of w (SignalOf s) second rest =
+        let m : Named = record { first = record { name = w; sort = SignalOf s }; second = second } in
+        (refl, refl, omega arith, rest (after start (said_signal env start m s).meaning))
+    of w (ParameterOf p) second rest = rest start
+    of w GenvarSort second rest = rest start
+    of w InstanceSort second rest = rest start
+
+said_below : (env : Env) (names : List Named) (start : Start) → AreBelow (start.scope + 1) (signals_of (said_signals env start names))
+said_below env [] start = tt
+said_below env (n ∷ ns) start = of n.first.name n.first.sort n.second (λ next. said_below env ns next)
+  where
+    of : (w : Name) (k : Sort) (second : Option Declaration) → ((next : Start) → AreBelow (next.scope + 1) (signals_of (said_signals env next ns)))
+        → AreBelow (start.scope + 1) (signals_of (said_signals env start (record { first = record { name = w; sort = k }; second = second } ∷ ns)))
+    of w (SignalOf s) second rest =
+        let m : Named = record { first = record { name = w; sort = SignalOf s }; second = second } in
+        (omega arith, rest (after start (said_signal env start m s).meaning))
+    of w (ParameterOf p) second rest = rest start
+    of w GenvarSort second rest = rest start
+    of w InstanceSort second rest = rest start
+
+-- ---- what was read goes on from the totals
+
+pub record GoesOn (t : Totals) (d : Design) (u : Totals) : Type 0 where
+  pub numbered : Numbered t.signals t.bits t.scopes d.signals
+  pub below : AreBelow u.scopes d.signals
+  pub signals : u.signals ≡ t.signals + length d.signals
+  pub bits : u.bits ≡ t.bits + bits_of_all d.signals
+  pub scopes : u.scopes ≡ t.scopes + length d.scopes
+
+abbrev pub GoodRead : Totals → Result Read Fault → Type 0
+GoodRead t (Ok r) = GoesOn t r.design r.totals
+GoodRead t (Err e) = Unit {0}
+
+abbrev pub GoodPieces : Totals → Result ReadPieces Fault → Type 0
+GoodPieces t (Ok r) = GoesOn t r.design r.totals
+GoodPieces t (Err e) = Unit {0}
+
+length_both : {A : Type 0} (xs ys : List A) → length (xs ++ ys) ≡ length xs + length ys
+length_both [] ys = omega arith
+length_both (x ∷ xs) ys = let e = length_both xs ys in omega (arith, e)
+
+bits_both : (xs ys : List Signal) → bits_of_all (xs ++ ys) ≡ bits_of_all xs + bits_of_all ys
+bits_both [] ys = omega arith
+bits_both (x ∷ xs) ys = let e = bits_both xs ys in omega (arith, e)
+
+goes_on_both : (t u v : Totals) (d e : Design) → GoesOn t d u → GoesOn u e v → GoesOn t (both_designs d e) v
+goes_on_both t u v d e g h = record {
+  numbered = numbered_append t.signals t.bits t.scopes u.scopes d.signals e.signals (omega (arith, g.scopes)) g.below g.numbered (subst₂ (λ m c. Numbered m c u.scopes e.signals) g.signals g.bits h.numbered);
+  below = below_append v.scopes d.signals e.signals (below_more u.scopes v.scopes d.signals (omega (arith, h.scopes)) g.below) h.below;
+  signals = omega (arith, g.signals, h.signals, length_both d.signals e.signals);
+  bits = omega (arith, g.bits, h.bits, bits_both d.signals e.signals);
+  scopes = omega (arith, g.scopes, h.scopes, length_both d.scopes e.scopes);
+}
+
+nothing_read : (t : Totals) (ps : List Process) → GoesOn t (of_processes ps) t
+nothing_read t ps = record { numbered = tt; below = tt; signals = omega arith; bits = omega arith; scopes = omega arith }
+
+pub good_piece : (read : Task → Totals → Result Read Fault) → ((k : Task) (t : Totals) → GoodRead t (read k t)) → (p : Piece) (t : Totals) → GoodPieces t (read_piece read p t)
+good_piece read h (Own p) t = nothing_read t (p ∷ [])
+good_piece read h (Instance connections task) t = of (read task t) (h task t)
+  where
+    of : (r : Result Read Fault) → GoodRead t r → GoodPieces t (then_do r λ s. Ok (record { design = both_designs (of_processes (map (port_assign task.place s.entries) connections)) s.design; totals = s.totals }))
+    of (Err e) g = tt
+    of (Ok s) g = goes_on_both t t s.totals (of_processes (map (port_assign task.place s.entries) connections)) s.design (nothing_read t (map (port_assign task.place s.entries) connections)) g
+good_piece read h (Within task) t = of (read task t) (h task t)
+  where
+    of : (r : Result Read Fault) → GoodRead t r → GoodPieces t (then_do r λ s. Ok (record { design = s.design; totals = s.totals }))
+    of (Err e) g = tt
+    of (Ok s) g = g
+
+pub good_pieces : (read : Task → Totals → Result Read Fault) → ((k : Task) (t : Totals) → GoodRead t (read k t)) → (ps : List Piece) (t : Totals) → GoodPieces t (read_pieces read ps t)
+good_pieces read h [] t = nothing_read t []
+good_pieces read h (p ∷ ps) t = of (read_piece read p t) (good_piece read h p t) (λ u. good_pieces read h ps u)
+  where
+    of : (r : Result ReadPieces Fault) → GoodPieces t r → ((u : Totals) → GoodPieces u (read_pieces read ps u)) → GoodPieces t (then_do r λ a. then_do (read_pieces read ps a.totals) λ b. Ok (record { design = both_designs a.design b.design; totals = b.totals }))
+    of (Err e) g k = tt
+    of (Ok a) g k = rest (read_pieces read ps a.totals) (k a.totals)
+      where
+        rest : (q : Result ReadPieces Fault) → GoodPieces a.totals q → GoodPieces t (then_do q λ b. Ok (record { design = both_designs a.design b.design; totals = b.totals }))
+        rest (Err e) l = tt
+        rest (Ok b) l = goes_on_both t a.totals b.totals a.design b.design g l
+
+length_signals : (ss : List SaidSignal) → length (signals_of ss) ≡ length ss
+length_signals [] = refl
+length_signals (s ∷ ss) = ap suc (length_signals ss)
+
+bits_from : (k : ℕ) (ss : List SaidSignal) → fold (λ (n : ℕ) (s : SaidSignal). n + signal_length s.meaning.signal) k ss ≡ k + bits_of_all (signals_of ss)
+bits_from k [] = omega arith
+bits_from k (s ∷ ss) = bits_from (k + signal_length s.meaning.signal) ss ∙ omega arith
+
+pub bits_signals : (ss : List SaidSignal) → bits_of_all (signals_of ss) ≡ sum_by (λ (s : SaidSignal). signal_length s.meaning.signal) ss
+bits_signals ss = sym (bits_from 0 ss ∙ omega arith)
+
+-- a scope's own part
+abbrev pub own_part : Task → Survey → Design
+own_part k s = record { scopes = record { name = k.name; parent = k.parent; instance = is_instance k.contents } ∷ []; signals = s.signals; processes = [] }
+
+pub good_survey : (limits : Limits) (source : Source) (k : Task) (t : Totals) → GoesOn t (own_part k (survey limits source k t)) (survey limits source k t).totals
+good_survey limits source k t =
+    let ds = declarations_of k.contents in
+    let names = names_of ds in
+    let parameters = said_parameters k.env (overrides_of k.contents) ds (first_entries names) in
+    let start : Start = record { scope = t.scopes; top = is_none k.parent; signal = t.signals; bit = t.bits } in
+    let ss = said_signals (within k.env parameters.entries) start names in
+    record {
+      numbered = said_numbered (within k.env parameters.entries) names start;
+      below = said_below (within k.env parameters.entries) names start;
+      signals = ap (λ n. t.signals + n) (sym (length_signals ss));
+      bits = ap (λ n. t.bits + n) (sym (bits_signals ss));
+      scopes = refl;
+    }
+
+counted_goes_on : (k : Task) (t : Totals) (d : Design) (u : Totals) → GoesOn (counted k t) d u → GoesOn t d u
+counted_goes_on k t d u g = of (is_instance k.contents) g
+  where
+    of : (b : Bool) → GoesOn (if b then record t { instances = t.instances + 1 } else t) d u → GoesOn t d u
+    of true g = record { numbered = g.numbered; below = g.below; signals = g.signals; bits = g.bits; scopes = g.scopes }
+    of false g = g
+
+pub unless : {A : Type 0} (P : Result A Fault → Type 0) → ((e : Fault) → P (Err e)) → (o : Option Fault) (f : ℕ → Result A Fault) → ((n : ℕ) → P (f n)) → P (elim o [ None ↦ f 0 | Some a ↦ Err a ])
+unless P e None f h = h 0
+unless P e (Some a) f h = e a
+
+-- a scope with all within it goes on from the totals that it began with
+pub good_scope : (left : ℕ) (limits : Limits) (source : Source) (k : Task) (t : Totals) → GoodRead t (read_scope left limits source k t)
+good_scope zero limits source k t = tt
+good_scope (suc left) limits source k t =
+    unless (GoodRead t) (λ e. tt) (least (limit_faults limits k (counted k t))) _ λ n.
+    let s = survey limits source k (counted k t) in
+    unless (GoodRead t) (λ e. tt) (least s.faults) _ λ m.
+    of s (good_survey limits source k (counted k t)) (read_pieces (read_scope left limits source) s.pieces s.totals) (good_pieces (read_scope left limits source) (good_scope left limits source) s.pieces s.totals)
+  where
+    of : (s : Survey) → GoesOn (counted k t) (own_part k s) s.totals → (r : Result ReadPieces Fault) → GoodPieces s.totals r → GoodRead t (then_do r λ p. Ok (record { entries = s.entries; design = scope_design k s p.design; totals = p.totals }))
+    of s g (Err e) h = tt
+    of s g (Ok p) h = counted_goes_on k t (scope_design k s p.design) p.totals (goes_on_both (counted k t) s.totals p.totals (own_part k s) p.design g h)
+
+-- ---- the whole
+
+pub record IsNumberedDesign (d : Design) : Type 0 where
+  pub numbered : are_numbered 0 0 d.signals ≡ true
+  pub bits_numbered : have_bits_from 0 d.signals ≡ true
+  pub below : AreBelow (length d.scopes) d.signals
+
+numbers_are : (n b c : ℕ) (ss : List Signal) → Numbered n b c ss → are_numbered n c ss ≡ true
+numbers_are n b c [] p = refl
+numbers_are n b c (s ∷ ss) p = three (s.number == n) (nat_le c s.scope) (are_numbered (suc n) s.scope ss) (eq-eqb s.number n p.0) (le-leb c s.scope p.2) (subst (λ m. are_numbered m s.scope ss ≡ true) (omega arith) (numbers_are (n + 1) (b + signal_length s) s.scope ss p.3))
+  where
+    three : (a b c : Bool) → a ≡ true → b ≡ true → c ≡ true → (a && b && c) ≡ true
+    three true true true h k l = refl
+    three true true false h k l = cc
+    three true false c h k l = cc
+    three false b c h k l = cc
+
+bits_are : (n b c : ℕ) (ss : List Signal) → Numbered n b c ss → have_bits_from b ss ≡ true
+bits_are n b c [] p = refl
+bits_are n b c (s ∷ ss) p = both (s.first == b) (have_bits_from (b + signal_length s) ss) (eq-eqb s.first b p.1) (bits_are (n + 1) (b + signal_length s) s.scope ss p.3)
+
+abbrev pub GoodDesign : Result Design Fault → Type 0
+GoodDesign (Ok d) = IsNumberedDesign d
+GoodDesign (Err e) = Unit {0}
+
+pub elaborated_numbered : (limits : Limits) (source : Source) (top : List ℕ) → GoodDesign (elaborated_within limits source top)
+elaborated_numbered limits source top = unless GoodDesign (λ e. tt) (least (repeated_modules [] source.modules)) (λ u. elaborated_top limits source (find_module source top)) (λ u. found (find_module source top))
+  where
+    read : (r : Result Read Fault) → GoodRead no_totals r → GoodDesign (then_do r λ s. Ok s.design)
+    read (Err e) g = tt
+    read (Ok s) g = record {
+      numbered = numbers_are 0 0 0 s.design.signals g.numbered;
+      bits_numbered = bits_are 0 0 0 s.design.signals g.numbered;
+      below = below_more s.totals.scopes (length s.design.scopes) s.design.signals (omega (arith, g.scopes)) g.below;
+    }
+
+    found : (m : Option Module) → GoodDesign (elaborated_top limits source m)
+    found None = tt
+    found (Some m) = read (read_scope (scope_depth limits) limits source (top_task m) no_totals) (good_scope (scope_depth limits) limits source (top_task m) no_totals)

@@ -1,0 +1,233 @@
+-- The assigns that ports imply are formed, and the signals of a scope without a fault are declared as the law has it.
+use Rattle.std.proofs.Common.{◌≡◌, ℕ, ◌+◌, ◌≤◌, Bool, true, false, not, ◌&&◌, ◌||◌, List, [], ◌∷◌, ◌++◌, map, flat_map, Option, Some, None, is_none, if◌then◌else◌, refl, sym, ap, ◌∙◌, subst, arith, nat_lt}
+use Rattle.std.proofs.lemmas.Bool.{ltb-false}
+use Rattle.vs_design.specs.Expressions.{Signal, signal_length, Expression, At, Name as NameOf}
+use Rattle.vs_design.specs.Statements.{Target, Whole}
+use Rattle.vs_design.specs.Designs.{Design, InputPort, OutputPort, Continuous}
+use Rattle.vs_design.specs.Clocks.{same_name}
+use Rattle.vs_design.specs.Footprints.{is_net}
+use Rattle.vs_design.specs.Elaborated.{is_signal, is_formed, is_formed_target, has_constant_selects, is_formed_process, is_lawful_range}
+use Rattle.vs_grammar.specs.Trees as tree
+use Rattle.vs_grammar.specs.Trees.{Source}
+use Rattle.vs_grammar.specs.Shapes.{Each}
+use Rattle.vs_const.specs.Faults.{fault}
+use Rattle.vs_const.specs.declared.rules.Rule.TheVariants.{TooManyBits}
+use Rattle.vs_const.specs.Meanings.{SignalMeaning}
+use Rattle.vs_const.proofs.Formed.{both_nil, split}
+use Rattle.vs_elaborated.specs.Limits.{Limits}
+use Rattle.vs_elaborated.specs.Environments.{Declared, Later, OfSignal, OfParameter, OfGenvar, OfScope, Entry, Env, within, find_entry}
+use Rattle.vs_elaborated.specs.Targets.{no_signal}
+use Rattle.vs_elaborated.specs.Declarations.{Sort, SignalOf, ParameterOf, GenvarSort, InstanceSort, Declaration, Named, are_sorts_of_one, names_of, first_named, repeated_names}
+use Rattle.vs_elaborated.specs.Parameters.{said_range, said_parameters, first_entries}
+use Rattle.vs_elaborated.specs.Signals.{is_input, second_sort, Start, SaidSignal, said_signal, said_signals, after, put_signals, range_faults}
+use Rattle.vs_elaborated.specs.Generate.{Made}
+use Rattle.vs_elaborated.specs.Constructs.{constructs}
+use Rattle.vs_elaborated.specs.Pieces.{Task, Connection, IntoInput, FromOutput}
+use Rattle.vs_elaborated.specs.Instances.{Around}
+use Rattle.vs_elaborated.specs.Surveys.{items_of, declarations_of, overrides_of, header_of, block_entries, block_faults, bits_over, items_said, Totals, survey}
+use Rattle.vs_elaborated.specs.Elaborated.{entry_signal, port_assign}
+use Rattle.vs_elaborated.specs.Sound.{IsSoundDeclared, AreSoundEntries, AreSoundFrames, IsFineConnection, IsSoundTask}
+use Rattle.vs_elaborated.proofs.NumberedSignals.{bits_of_all, signals_of}
+use Rattle.vs_elaborated.proofs.SoundNames.{frames_needed, IsShapedSort, range_fine, first_entries_sound, parameters_good, there}
+use Rattle.vs_elaborated.proofs.SurveyNames.{contents_shaped, names_shaped, names_ranges}
+use Rattle.vs_elaborated.proofs.FirstNames.{same_is, IsFirst, names_first, entry_first, Has, IsFirstOf, first_of, IsDeclaredWith, IsSignalWith, signals_put, parameters_put, entry_within, MayBeInput, sort_may, IsNetNamed, net_of, any_signal, first_with, input_net, said_nets}
+use Rattle.vs_elaborated.proofs.PortNames.{IsPort, IsDirected}
+
+-- ---- the entry of a port
+
+-- what holds of a signal before it is said, and of each one said of this name, holds of the entry of this name
+port_entry : (Q : SignalMeaning → Type 0) → Q (record { signal = no_signal; input = false; known = false }) → (b : Bool) (w : List ℕ) (limits : Limits) (source : Source) (k : Task) (t : Totals)
+    → Has (IsPort w b) (declarations_of k.contents) → (survey limits source k t).faults ≡ []
+    → ((env : Env) (start : Start) (a f : Declaration) → IsPort w b a → IsFirstOf (declarations_of k.contents) a f → start.top ≡ is_none k.parent → Each (λ (s : SaidSignal). same_name w s.meaning.signal.name ≡ true → Q s.meaning) (said_signals env start (names_of (declarations_of k.contents))))
+    → IsSignalWith Q (find_entry (survey limits source k t).entries w)
+port_entry Q q b w limits source k t p h said =
+    let ds = declarations_of k.contents in
+    let names = names_of ds in
+    let parameters = said_parameters k.env (overrides_of k.contents) ds (first_entries names) in
+    let ranged = within k.env parameters.entries in
+    let start : Start = record { scope = t.scopes; top = is_none k.parent; signal = t.signals; bit = t.bits } in
+    let signals = said_signals ranged start names in
+    let entries = put_signals signals parameters.entries in
+    let made = constructs limits (items_of k.contents) (within k.env entries) 1 t.turns in
+    let blocks = flat_map (λ (m : Made). m.names) made in
+    let h1 = (both_nil (header_of k.contents) _ h).1 in
+    let h2 = (both_nil (repeated_names [] ds) _ h1).0 in
+    first_of (IsPort w b) (IsSignalWith Q (find_entry (survey limits source k t).entries w)) [] ds h2 p λ a f g i.
+    let first = ap (λ u. first_named u ds) (sym g.name_is) ∙ i.first in
+    let began = subst (IsSignalWith Q) (sym (entry_first [] ds w f refl first)) (first_with Q q f.sort (any_signal b f.sort a.sort g.sort i.sorts)) in
+    entry_within Q w entries (block_entries blocks) (signals_put Q w signals parameters.entries (said ranged start a f g i refl) (parameters_put Q w k.env (overrides_of k.contents) ds (first_entries names) began))
+
+abbrev pub IsNetMeaning : SignalMeaning → Type 0
+IsNetMeaning m = (m.signal.net ≡ true) × (m.signal.input ≡ false)
+
+nets_named : (w : List ℕ) (ds : List Declaration) (f : Declaration) → first_named w ds ≡ Some f → MayBeInput f.sort → (ns : List Named) → Each (IsFirst [] ds) ns → Each (IsNetNamed w) ns
+nets_named w ds f e m [] h = tt
+nets_named w ds f e m (n ∷ ns) h = ((λ i. net_of n.first.sort n.second (subst (λ (u : Declaration). MayBeInput u.sort) (same (sym e ∙ ap (λ u. first_named u ds) (same_is w n.first.name.bytes i) ∙ h.0.first)) m) h.0.second), nets_named w ds f e m ns h.1)
+  where
+    same : Some f ≡ Some n.first → f ≡ n.first
+    same k = cc
+
+pub input_entry : (w : List ℕ) (limits : Limits) (source : Source) (k : Task) (t : Totals) → Has (IsPort w true) (declarations_of k.contents) → (survey limits source k t).faults ≡ [] → is_none k.parent ≡ false
+    → IsSignalWith IsNetMeaning (find_entry (survey limits source k t).entries w)
+input_entry w limits source k t p h top = port_entry IsNetMeaning (refl, refl) true w limits source k t p h λ env start a f g i e.
+    let ds = declarations_of k.contents in
+    said_nets w env (names_of ds) start (e ∙ top) (nets_named w ds f (ap (λ u. first_named u ds) (sym g.name_is) ∙ i.first) (sort_may f.sort a.sort g.sort i.sorts) (names_of ds) (names_first [] ds))
+
+abbrev pub AnyMeaning : SignalMeaning → Type 0
+AnyMeaning m = Unit {0}
+
+any_said : (w : List ℕ) (ss : List SaidSignal) → Each (λ (s : SaidSignal). same_name w s.meaning.signal.name ≡ true → AnyMeaning s.meaning) ss
+any_said w [] = tt
+any_said w (s ∷ ss) = ((λ e. tt), any_said w ss)
+
+pub port_signal : (b : Bool) (w : List ℕ) (limits : Limits) (source : Source) (k : Task) (t : Totals) → Has (IsPort w b) (declarations_of k.contents) → (survey limits source k t).faults ≡ [] → IsSignalWith AnyMeaning (find_entry (survey limits source k t).entries w)
+port_signal b w limits source k t p h = port_entry AnyMeaning tt b w limits source k t p h λ env start a f g i e. any_said w (said_signals env start (names_of (declarations_of k.contents)))
+
+-- ---- it is a signal of the design
+
+abbrev pub WithIn : Design → (SignalMeaning → Type 0) → SignalMeaning → Type 0
+WithIn d Q m = (is_signal d m.signal ≡ true) × Q m
+
+pub entry_in : (d : Design) (Q : SignalMeaning → Type 0) (es : List Entry) (w : List ℕ) → AreSoundEntries d false es → IsSignalWith Q (find_entry es w) → IsSignalWith (WithIn d Q) (find_entry es w)
+entry_in d Q [] w s h = absurd h
+entry_in d Q (e ∷ es) w s h = of (same_name e.name w) h (λ k. entry_in d Q es w s.1 k)
+  where
+    declared : (x : Declared) → IsSoundDeclared d false x → IsDeclaredWith Q x → IsDeclaredWith (WithIn d Q) x
+    declared Later i k = absurd k
+    declared (OfSignal m) i k = (i.0, k)
+    declared (OfParameter v r) i k = absurd k
+    declared OfGenvar i k = absurd k
+    declared OfScope i k = absurd k
+
+    of : (b : Bool) → IsSignalWith Q (if b then Some e else find_entry es w) → (IsSignalWith Q (find_entry es w) → IsSignalWith (WithIn d Q) (find_entry es w)) → IsSignalWith (WithIn d Q) (if b then Some e else find_entry es w)
+    of true k r = declared e.declared s.0 k
+    of false k r = r k
+
+input_formed : (d : Design) (place : ℕ) (e : Expression) → is_formed d e ≡ true → (o : Option Entry) → IsSignalWith (WithIn d IsNetMeaning) o → is_formed_process d (Continuous place InputPort place (Whole (entry_signal o)) e) ≡ true
+input_formed d place e f None h = absurd h
+input_formed d place e f (Some x) h = of x.name x.place x.declared h
+  where
+    four : (a b c g : Bool) → a ≡ true → b ≡ true → c ≡ false → g ≡ true → ((a && (b && not c)) && true && g && true) ≡ true
+    four true true false true p q r s = refl
+    four true true false false p q r s = cc
+    four true true true g p q r s = cc
+    four true false c g p q r s = cc
+    four false b c g p q r s = cc
+
+    of : (n : List ℕ) (p : ℕ) (y : Declared) → IsDeclaredWith (WithIn d IsNetMeaning) y → is_formed_process d (Continuous place InputPort place (Whole (entry_signal (Some (record { name = n; place = p; declared = y })))) e) ≡ true
+    of n p Later k = absurd k
+    of n p (OfSignal m) k = four (is_signal d m.signal) m.signal.net m.signal.input (is_formed d e) k.0 k.1.0 k.1.1 f
+    of n p (OfParameter v r) k = absurd k
+    of n p OfGenvar k = absurd k
+    of n p OfScope k = absurd k
+
+output_formed : (d : Design) (place target_place : ℕ) (t : Target) → is_formed_target d is_net t ≡ true → has_constant_selects t ≡ true → (o : Option Entry) → IsSignalWith (WithIn d AnyMeaning) o
+    → is_formed_process d (Continuous place OutputPort target_place t (At place (NameOf (entry_signal o)))) ≡ true
+output_formed d place target_place t f g None h = absurd h
+output_formed d place target_place t f g (Some x) h = of x.name x.place x.declared h
+  where
+    four : (a b c : Bool) → a ≡ true → b ≡ true → c ≡ true → (a && b && c && true) ≡ true
+    four true true true p q r = refl
+    four true true false p q r = cc
+    four true false c p q r = cc
+    four false b c p q r = cc
+
+    of : (n : List ℕ) (p : ℕ) (y : Declared) → IsDeclaredWith (WithIn d AnyMeaning) y → is_formed_process d (Continuous place OutputPort target_place t (At place (NameOf (entry_signal (Some (record { name = n; place = p; declared = y })))))) ≡ true
+    of n p Later k = absurd k
+    of n p (OfSignal m) k = four (is_formed_target d is_net t) (has_constant_selects t) (is_signal d m.signal) f g k.0
+    of n p (OfParameter v r) k = absurd k
+    of n p OfGenvar k = absurd k
+    of n p OfScope k = absurd k
+
+-- the assign of a connection without a fault
+pub port_formed : (d : Design) (limits : Limits) (source : Source) (k : Task) (t : Totals) → AreSoundEntries d false (survey limits source k t).entries → (survey limits source k t).faults ≡ [] → is_none k.parent ≡ false
+    → (place : ℕ) (c : Connection) → IsFineConnection d c → IsDirected (declarations_of k.contents) c → is_formed_process d (port_assign place (survey limits source k t).entries c) ≡ true
+port_formed d limits source k t s h top place (IntoInput name e) f g =
+    input_formed d place e f (find_entry (survey limits source k t).entries name) (entry_in d IsNetMeaning (survey limits source k t).entries name s (input_entry name limits source k t g h top))
+port_formed d limits source k t s h top place (FromOutput name target_place target) f g =
+    output_formed d place target_place target f.0 f.1 (find_entry (survey limits source k t).entries name) (entry_in d AnyMeaning (survey limits source k t).entries name s (port_signal false name limits source k t g h))
+
+-- ---- the signals of a scope
+
+pub record IsDeclaredSaid (top : Bool) (scope : ℕ) (s : SaidSignal) : Type 0 where
+  pub known : s.meaning.known ≡ true
+  pub range : is_lawful_range s.meaning.signal.range ≡ true
+  pub input : s.meaning.signal.input ≡ true → (s.meaning.signal.net ≡ true) × (top ≡ true)
+  pub scope_is : s.meaning.signal.scope ≡ scope
+
+said_declared : (d : Design) (env : Env) → AreSoundFrames d true env.frames → (ds : List Declaration) (names : List Named) (start : Start) → Each (IsFirst [] ds) names → Each (λ (n : Named). IsShapedSort n.first.sort) names
+    → range_faults env (map (λ (n : Named). n.first) names) ≡ [] → Each (IsDeclaredSaid start.top start.scope) (said_signals env start names)
+said_declared d env s ds [] start f x h = tt
+said_declared d env s ds (n ∷ ns) start f x h = of n.first.name n.first.sort n.second f.0.second x.0 h (λ next e. said_declared d env s ds ns next f.1 x.1 e)
+  where
+    of : (w : tree.Name) (q : Sort) (second : Option Declaration) → ((b : Declaration) → second ≡ Some b → are_sorts_of_one q b.sort ≡ true) → IsShapedSort q
+        → range_faults env (record { name = w; sort = q } ∷ map (λ (n : Named). n.first) ns) ≡ []
+        → ((next : Start) → range_faults env (map (λ (n : Named). n.first) ns) ≡ [] → Each (IsDeclaredSaid next.top next.scope) (said_signals env next ns))
+        → Each (IsDeclaredSaid start.top start.scope) (said_signals env start (record { first = record { name = w; sort = q }; second = second } ∷ ns))
+    of w (SignalOf t) second g x h rest =
+        let m : Named = record { first = record { name = w; sort = SignalOf t }; second = second } in
+        let k = both_nil (said_range t.range env).faults (range_faults env (map (λ (n : Named). n.first) ns)) h in
+        let r = range_fine d t.range env s x k.0 in (
+          record {
+            known = r.known;
+            range = r.lawful;
+            input = λ e. let i = split (is_input t.kind || is_input (second_sort t second).kind) start.top e in (input_net t second g i.0, i.1);
+            scope_is = refl;
+          },
+          rest (after start (said_signal env start m t).meaning) k.1,
+        )
+    of w (ParameterOf p) second g x h rest = rest start h
+    of w GenvarSort second g x h rest = rest start h
+    of w InstanceSort second g x h rest = rest start h
+
+not_over : (most total : ℕ) (ss : List SaidSignal) (top : Bool) (scope : ℕ) → Each (IsDeclaredSaid top scope) ss → total ≤ most → bits_over most total ss ≡ [] → total + bits_of_all (signals_of ss) ≤ most
+not_over most total [] top scope x b h = omega (arith, b)
+not_over most total (s ∷ ss) top scope x b h =
+    of (total + (if s.meaning.known then signal_length s.meaning.signal else 0)) (ap (λ c. total + (if c then signal_length s.meaning.signal else 0)) x.0.known) h (λ n c i. not_over most n ss top scope x.1 c i)
+  where
+    of : (n : ℕ) → n ≡ total + signal_length s.meaning.signal → (if nat_lt most n then fault TooManyBits s.place else bits_over most n ss) ≡ [] → ((n : ℕ) → n ≤ most → bits_over most n ss ≡ [] → n + bits_of_all (signals_of ss) ≤ most)
+        → total + (signal_length s.meaning.signal + bits_of_all (signals_of ss)) ≤ most
+    of n e i r = by (nat_lt most n) refl i
+      where
+        by : (c : Bool) → nat_lt most n ≡ c → (if c then fault TooManyBits s.place else bits_over most n ss) ≡ [] → total + (signal_length s.meaning.signal + bits_of_all (signals_of ss)) ≤ most
+        by true g j = cc
+        by false g j = let l = r n (ltb-false most n g) j in omega (arith, e, l)
+
+abbrev pub IsDeclaredSignal : Bool → ℕ → Signal → Type 0
+IsDeclaredSignal top scope s = (is_lawful_range s.range ≡ true) × (s.input ≡ true → (s.net ≡ true) × (top ≡ true)) × (s.scope ≡ scope)
+
+pub record AreFineSignals (d : Design) (limits : Limits) (source : Source) (k : Task) (t : Totals) : Type 0 where
+  pub declared : Each (IsDeclaredSignal (is_none k.parent) t.scopes) (survey limits source k t).signals
+  pub bits : t.bits + bits_of_all (survey limits source k t).signals ≤ limits.bits
+
+pub survey_signals : (d : Design) (limits : Limits) (source : Source) (k : Task) (t : Totals) → IsSoundTask d k → t.bits ≤ limits.bits → (survey limits source k t).faults ≡ [] → AreFineSignals d limits source k t
+survey_signals d limits source k t s b h =
+    let ds = declarations_of k.contents in
+    let names = names_of ds in
+    let parameters = said_parameters k.env (overrides_of k.contents) ds (first_entries names) in
+    let ranged = within k.env parameters.entries in
+    let start : Start = record { scope = t.scopes; top = is_none k.parent; signal = t.signals; bit = t.bits } in
+    let signals = said_signals ranged start names in
+    let entries = put_signals signals parameters.entries in
+    let made = constructs limits (items_of k.contents) (within k.env entries) 1 t.turns in
+    let blocks = flat_map (λ (m : Made). m.names) made in
+    let around : Around = record { scope = t.scopes; depth = k.depth; env = within k.env (entries ++ block_entries blocks) } in
+    let said = items_said source around (items_of k.contents) made in
+    let h1 = (both_nil (header_of k.contents) _ h).1 in
+    let h2 = (both_nil (repeated_names [] ds) _ h1).1 in
+    let h3 = both_nil parameters.faults _ h2 in
+    let h4 = both_nil (range_faults ranged ds) _ h3.1 in
+    let h5 = (both_nil (flat_map (λ (s : SaidSignal). s.faults) signals) _ h4.1).1 in
+    let h6 = (both_nil (flat_map (λ (m : Made). m.faults) made) _ h5).1 in
+    let h7 = (both_nil (block_faults entries [] blocks) _ h6).1 in
+    let h8 = (both_nil said.faults _ h7).1 in
+    let h9 = (both_nil (bits_over limits.bits t.bits signals) _ h8).0 in
+    let shaped = contents_shaped k.contents s.shaped in
+    let outer = frames_needed d k.env.frames s.frames in
+    let good = parameters_good d k.env (overrides_of k.contents) signals outer s.overrides ds (first_entries names) shaped (record { sound = first_entries_sound d names; settled = there d ranged names start }) h3.0 in
+    let all = said_declared d ranged (good.sound, outer) ds names start (names_first [] ds) (names_shaped [] ds shaped) (names_ranges ranged [] ds h4.0) in
+    record { declared = each signals all; bits = not_over limits.bits t.bits signals (is_none k.parent) t.scopes all b h9 }
+  where
+    each : (ss : List SaidSignal) → Each (IsDeclaredSaid (is_none k.parent) t.scopes) ss → Each (IsDeclaredSignal (is_none k.parent) t.scopes) (signals_of ss)
+    each [] x = tt
+    each (s ∷ ss) x = ((x.0.range, x.0.input, x.0.scope_is), each ss x.1)

@@ -1,0 +1,413 @@
+-- Where a scope has no fault, each of its names means a known signal of the design, a value, or nothing that an expression can name.
+use Rattle.std.proofs.Common.{◌≡◌, ℕ, zero, suc, ◌*◌, ◌-◌, ◌≤◌, Bool, true, false, ◌&&◌, ◌||◌, List, [], ◌∷◌, Option, Some, None, length, map, nat_lt, nat_le, if◌then◌else◌, ◌==◌, ◌⊎◌, inl, inr, refl, sym, ap, ◌∙◌, subst, arith, eq-eqb}
+use Rattle.std.specs.List.{list_any}
+use Rattle.std.proofs.lemmas.Bool.{leb-true, le-leb, ltb-false}
+use Rattle.vs_four.specs.declared.Bit4.TheVariants.{X}
+use Rattle.vs_four.specs.declared.Range.{Range}
+use Rattle.vs_four.specs.Selects.{Part, range_length}
+use Rattle.vs_design.specs.Expressions.{range_or_one, OfSignal as SignalSource, OfConstant, Expression, Literal, Name, Select, Unary, Binary, Choice, Join, Repeat, At, UnaryOp, Plus, Minus, BitNot, LogicalNot, ReduceAnd, ReduceNand, ReduceOr, ReduceNor, ReduceXor, ReduceXnor, Signed, Unsigned, unary_length, Way, InContext, Own, Compared, Shifted, way, binary_length, width, sign}
+use Rattle.vs_design.specs.Values.{constant_value}
+use Rattle.vs_design.specs.Designs.{Design}
+use Rattle.vs_design.specs.Fits.{fits_64}
+use Rattle.vs_design.specs.Elaborated.{is_signal, is_lawful_range, same_range, is_formed, is_formed_select}
+use Rattle.vs_design.proofs.Lengths.{length_bits_of, length_value, length_assigned}
+use Rattle.vs_design.specs.Clocks.{same_name}
+use Rattle.vs_grammar.specs.Trees as tree
+use Rattle.vs_grammar.specs.Shapes.{Each, Given, IsExpr, IsRange as IsRangeTree}
+use Rattle.vs_const.specs.declared.faults.Fault.{Fault}
+use Rattle.vs_const.specs.Meanings.{ConstantValue, Unknown, Find, IsFairValue}
+use Rattle.vs_const.specs.Typed.{Typed, is_over}
+use Rattle.vs_const.specs.Selects.{bounds}
+use Rattle.vs_grammar.specs.Trees.{expr_place}
+use Rattle.vs_const.specs.Expressions.{constant}
+use Rattle.vs_const.specs.Sound.{IsSound, IsSoundSignal, AreSound}
+use Rattle.vs_const.proofs.Short.{short}
+use Rattle.vs_const.proofs.Formed.{IsRange, both_nil, both, split, bounds_fine, typed_fine, length_some}
+use Rattle.vs_elaborated.specs.Environments.{Declared, Later, OfSignal, OfParameter, OfGenvar, OfScope, Entry, Env, within, up_to, find_entry, find_name, turn_of, is_late, parameter_meaning, turn_meaning, declared_meaning, entry_meaning, named}
+use Rattle.vs_elaborated.specs.Declarations.{SignalSort, ParameterSort, Sort, SignalOf, ParameterOf, GenvarSort, InstanceSort, Declaration, Named}
+use Rattle.vs_elaborated.specs.Parameters.{SaidRange, of_bounds, said_range, Override, override_of, chosen, converted, declared_if, said_parameter, valued, put_value, first_declared, first_entries, said_parameters}
+use Rattle.vs_elaborated.specs.Signals.{Start, said_signal, said_signals, after, SaidSignal, put_signal, put_signals, range_faults}
+use Rattle.vs_elaborated.specs.Sound.{IsSoundDeclared, AreSoundEntries, AreSoundFrames, IsConstantFine, AreFineOverrides}
+
+-- ---- sound names mean sound things
+
+turn_sound : (d : Design) (needed : Bool) (v : Option ℕ) → IsSound d needed (turn_meaning v)
+turn_sound d needed None = tt
+turn_sound d needed (Some v) = (record { some = omega (arith, length_bits_of 32 v); most = omega (arith, length_bits_of 32 v); range = sym (length_bits_of 32 v) }, refl)
+
+parameter_sound : (d : Design) (needed late : Bool) (v : Option ConstantValue) (r : Option Range) → IsSoundDeclared d needed (OfParameter v r) → IsSound d needed (if late then Unknown else parameter_meaning v r)
+parameter_sound d needed true v r s = tt
+parameter_sound d needed false (Some v) (Some r) s = s
+parameter_sound d needed false (Some v) None s = absurd s
+parameter_sound d needed false None r s = absurd s
+
+declared_sound : (d : Design) (needed : Bool) (env : Env) (place : ℕ) (declared : Declared) → IsSoundDeclared d needed declared → IsSound d needed (declared_meaning env place declared)
+declared_sound d needed env place Later s = tt
+declared_sound d needed env place (OfSignal m) s = s
+declared_sound d needed env place (OfParameter v r) s = parameter_sound d needed (is_late env.before place) v r s
+declared_sound d needed env place OfGenvar s = turn_sound d needed (turn_of env.turns place)
+declared_sound d needed env place OfScope s = tt
+
+entry_sound : (d : Design) (needed : Bool) (env : Env) (es : List Entry) (name : List ℕ) → AreSoundEntries d needed es → IsSound d needed (entry_meaning env (find_entry es name))
+entry_sound d needed env [] name s = tt
+entry_sound d needed env (e ∷ es) name s = of (same_name e.name name) (entry_sound d needed env es name s.1)
+  where
+    of : (b : Bool) → IsSound d needed (entry_meaning env (find_entry es name)) → IsSound d needed (entry_meaning env (if b then Some e else find_entry es name))
+    of true k = declared_sound d needed env e.place e.declared s.0
+    of false k = k
+
+name_sound : (d : Design) (needed : Bool) (env : Env) (fs : List (List Entry)) (name : List ℕ) → AreSoundFrames d needed fs → IsSound d needed (entry_meaning env (find_name fs name))
+name_sound d needed env [] name s = tt
+name_sound d needed env (f ∷ fs) name s = of (find_entry f name) (entry_sound d needed env f name s.0) (name_sound d needed env fs name s.1)
+  where
+    of : (o : Option Entry) → IsSound d needed (entry_meaning env o) → IsSound d needed (entry_meaning env (find_name fs name)) → IsSound d needed (entry_meaning env (elim o [ Some e ↦ Some e | None ↦ find_name fs name ]))
+    of None k l = l
+    of (Some e) k l = k
+
+pub named_sound : (d : Design) (needed : Bool) (env : Env) → AreSoundFrames d needed env.frames → AreSound d needed (named env)
+named_sound d needed env s name = name_sound d needed env env.frames name s
+
+-- in a constant less is asked of signals
+declared_needed : (d : Design) (declared : Declared) → IsSoundDeclared d false declared → IsSoundDeclared d true declared
+declared_needed d Later s = s
+declared_needed d (OfSignal m) s = tt
+declared_needed d (OfParameter (Some v) (Some r)) s = s
+declared_needed d (OfParameter (Some v) None) s = s
+declared_needed d (OfParameter None r) s = s
+declared_needed d OfGenvar s = s
+declared_needed d OfScope s = s
+
+entries_needed : (d : Design) (es : List Entry) → AreSoundEntries d false es → AreSoundEntries d true es
+entries_needed d [] s = tt
+entries_needed d (e ∷ es) s = (declared_needed d e.declared s.0, entries_needed d es s.1)
+
+pub frames_needed : (d : Design) (fs : List (List Entry)) → AreSoundFrames d false fs → AreSoundFrames d true fs
+frames_needed d [] s = tt
+frames_needed d (f ∷ fs) s = (entries_needed d f s.0, frames_needed d fs s.1)
+
+-- ---- a formed expression has a bit, and a needed constant at most 64
+
+fits_some : (n : ℕ) → fits_64 n ≡ true → 1 ≤ n
+fits_some n h = leb-true 1 n (split (nat_le 1 n) (nat_le n 64) h).0
+
+range_some : (r : Option Range) → 1 ≤ range_or_one r
+range_some None = omega arith
+range_some (Some r) = leb-true 1 (range_length r) (length_some r)
+
+unary_some : (op : UnaryOp) (n : ℕ) → 1 ≤ n → 1 ≤ unary_length op n
+unary_some Plus n h = h
+unary_some Minus n h = h
+unary_some BitNot n h = h
+unary_some LogicalNot n h = omega arith
+unary_some ReduceAnd n h = omega arith
+unary_some ReduceNand n h = omega arith
+unary_some ReduceOr n h = omega arith
+unary_some ReduceNor n h = omega arith
+unary_some ReduceXor n h = omega arith
+unary_some ReduceXnor n h = omega arith
+unary_some Signed n h = h
+unary_some Unsigned n h = h
+
+binary_some : (w : Way) (m n : ℕ) → 1 ≤ m → 1 ≤ binary_length w m n
+binary_some InContext m n h = omega arith
+binary_some Own m n h = omega arith
+binary_some Compared m n h = omega arith
+binary_some Shifted m n h = h
+
+times_some : (n m : ℕ) → 1 ≤ n → 1 ≤ m → 1 ≤ n * m
+times_some zero m h k = absurd (omega arith)
+times_some (suc n) m h k = omega (arith, k)
+
+select_width : (d : Design) (source : _) (part : Part) → is_formed_select d source part ≡ true → fits_64 part.width ≡ true
+select_width d (SignalSource s) part h = last (is_signal d s) (same_range s.range (Some part.range)) (fits_64 part.width) h
+  where
+    last : (a b c : Bool) → (a && b && c) ≡ true → c ≡ true
+    last true true c h = h
+    last true false c h = cc
+    last false b c h = cc
+select_width d (OfConstant bits) part h = last (is_lawful_range (Some part.range)) (range_length part.range == length bits) (fits_64 part.width) h
+  where
+    last : (a b c : Bool) → (a && b && c) ≡ true → c ≡ true
+    last true true c h = h
+    last true false c h = cc
+    last false b c h = cc
+
+pub wide : (d : Design) (e : Expression) → is_formed d e ≡ true → 1 ≤ width e
+wide d (Literal bits signed sized) h = fits_some (length bits) (split (fits_64 (length bits)) (sized || (length bits == 32)) h).0
+wide d (Name s) h = range_some s.range
+wide d (Select source part index) h = fits_some part.width (select_width d source part (split (is_formed_select d source part) (is_formed d index) h).0)
+wide d (Unary op a) h = unary_some op (width a) (wide d a h)
+wide d (Binary op a b) h = binary_some (way op) (width a) (width b) (wide d a (split (is_formed d a) (is_formed d b) h).0)
+wide d (Choice c p q) h = let k = wide d p (middle (is_formed d c) (is_formed d p) (is_formed d q) h) in omega (arith, k)
+  where
+    middle : (a b c : Bool) → (a && b && c) ≡ true → b ≡ true
+    middle true true c h = refl
+    middle true false c h = cc
+    middle false b c h = cc
+wide d (Join high low) h = let k = wide d high (split (is_formed d high) (is_formed d low) h).0 in omega (arith, k)
+wide d (Repeat count a) h = let k = split (fits_64 count) (is_formed d a) h in times_some count (width a) (fits_some count k.0) (wide d a k.1)
+wide d (At place e) h = wide d e h
+
+pub constant_fine : (d : Design) (e : tree.Expr) (find : Find) → AreSound d true find → IsExpr e → (constant e find).faults ≡ [] → IsConstantFine d (constant e find)
+constant_fine d e find s x h =
+    let f = typed_fine d find e true s x h in
+    record { is_fine = f; most = at_most (width (constant e find).expression) (ap (is_over 64) (sym f.length) ∙ short e find f.good) }
+  where
+    at_most : (n : ℕ) → nat_lt 64 n ≡ false → n ≤ 64
+    at_most n k = ltb-false 64 n k
+
+-- ---- ranges and parameters
+
+pub record IsFineRange (r : SaidRange) : Type 0 where
+  pub known : r.known ≡ true
+  pub lawful : is_lawful_range r.range ≡ true
+
+bounds_range : (o : Option Range) (fs : List Fault) → IsRange o → IsFineRange (of_bounds o fs)
+bounds_range None fs w = absurd (no w.is)
+  where
+    no : {r : Range} → None ≡ Some r → ⊥
+    no k = cc
+bounds_range (Some r) fs w = record { known = refl; lawful = subst (λ o. is_lawful_range o ≡ true) (sym w.is) w.lawful }
+
+bounds_faults : (o : Option Range) (fs : List Fault) → (of_bounds o fs).faults ≡ [] → fs ≡ []
+bounds_faults None fs h = h
+bounds_faults (Some r) fs h = h
+
+pub range_fine : (d : Design) (o : Option tree.RangeTree) (env : Env) → AreSoundFrames d true env.frames → Given IsRangeTree o → (said_range o env).faults ≡ [] → IsFineRange (said_range o env)
+range_fine d None env s x h = record { known = refl; lawful = refl }
+range_fine d (Some t) env s x h =
+    let b = bounds t.bracket (tree.expr_place t.left) (constant t.left (named env)) (tree.expr_place t.right) (constant t.right (named env)) in
+    bounds_range b.range b.faults
+    (bounds_fine d t.bracket (tree.expr_place t.left) (tree.expr_place t.right) (constant t.left (named env)) (constant t.right (named env))
+    (typed_fine d (named env) t.left true (named_sound d true env s) x.0) (typed_fine d (named env) t.right true (named_sound d true env s) x.1) (bounds_faults b.range b.faults h))
+
+override_fine : (d : Design) (os : List Override) (name : List ℕ) (t : Typed) → AreFineOverrides d os → override_of os name ≡ Some t → IsConstantFine d t
+override_fine d [] name t f h = cc
+override_fine d (o ∷ os) name t f h = of (same_name o.name name) h (λ k. override_fine d os name t f.1 k)
+  where
+    of : (b : Bool) → (if b then Some o.typed else override_of os name) ≡ Some t → (override_of os name ≡ Some t → IsConstantFine d t) → IsConstantFine d t
+    of true k g = subst (IsConstantFine d) (same k) f.0
+      where
+        same : Some o.typed ≡ Some t → o.typed ≡ t
+        same i = cc
+    of false k g = g k
+
+chosen_fine : (d : Design) (p : ParameterSort) (os : List Override) (name : List ℕ) (t : Typed) → AreFineOverrides d os → IsConstantFine d t → IsConstantFine d (chosen p os name t)
+chosen_fine d p os name t f g = of p.is_local (override_of os name) refl
+  where
+    of : (b : Bool) (o : Option Typed) → override_of os name ≡ o → IsConstantFine d (elim b [ true ↦ t | false ↦ elim o [ None ↦ t | Some u ↦ u ] ])
+    of true o e = g
+    of false None e = g
+    of false (Some u) e = override_fine d os name u f e
+
+converted_sound : (d : Design) (signed : Bool) (r : Option Range) (t : Typed) → is_lawful_range r ≡ true → IsConstantFine d t → IsSoundDeclared d false (converted signed r t)
+converted_sound d signed (Some r) t h f = (
+  record {
+    some = subst (λ n. 1 ≤ n) (sym (length_assigned t.expression (range_length r) (λ b. X))) (leb-true 1 (range_length r) (length_some r));
+    most = subst (λ n. n ≤ 64) (sym (length_assigned t.expression (range_length r) (λ b. X))) (leb-true (range_length r) 64 (last (nat_le r.left 65535) (nat_le r.right 65535) (nat_le (range_length r) 64) h));
+    range = sym (length_assigned t.expression (range_length r) (λ b. X));
+  },
+  h,
+)
+  where
+    last : (a b c : Bool) → (a && b && c) ≡ true → c ≡ true
+    last true true c h = h
+    last true false c h = cc
+    last false b c h = cc
+converted_sound d signed None t h f = own (width t.expression) (width t.expression - 1) (omega (arith, wide d t.expression f.is_fine.formed)) (length_value t.expression (width t.expression) (sign t.expression) (λ b. X) (omega arith)) f.most
+  where
+    from_zero : (m : ℕ) → range_length (record { left = m; right = 0 }) ≡ suc m
+    from_zero m = by (nat_le 0 m) (le-leb 0 m (omega arith))
+      where
+        by : (b : Bool) → b ≡ true → (if b then suc (m - 0) else suc (0 - m)) ≡ suc m
+        by true e = ap suc (omega arith)
+        by false e = cc
+
+    own : (n m : ℕ) → n ≡ suc m → length (constant_value t.expression) ≡ n → n ≤ 64 → IsFairValue (record { bits = constant_value t.expression; signed = signed || sign t.expression }) (record { left = m; right = 0 }) × (is_lawful_range (Some (record { left = m; right = 0 })) ≡ true)
+    own n m g e b = (
+      record { some = omega (arith, e, g); most = omega (arith, e); range = from_zero m ∙ sym g ∙ sym e },
+      three (nat_le m 65535) (nat_le 0 65535) (nat_le (range_length (record { left = m; right = 0 })) 64) (le-leb m 65535 (omega (arith, g))) refl (le-leb (range_length (record { left = m; right = 0 })) 64 (omega (arith, from_zero m, g))),
+    )
+      where
+        three : (a b c : Bool) → a ≡ true → b ≡ true → c ≡ true → (a && b && c) ≡ true
+        three true true true h k l = refl
+        three true true false h k l = cc
+        three true false c h k l = cc
+        three false b c h k l = cc
+
+-- a parameter without a fault is sound
+parameter_fine : (d : Design) (env : Env) (os : List Override) (name : tree.Name) (p : ParameterSort) → AreSoundFrames d true env.frames → AreFineOverrides d os → Given IsRangeTree p.range → IsExpr p.value
+    → (said_parameter env os name p).faults ≡ [] → IsSoundDeclared d false (said_parameter env os name p).declared
+parameter_fine d env os name p s f x y h =
+    let r = said_range p.range env in
+    let t = constant p.value (named env) in
+    let n = both_nil r.faults t.faults h in
+    let g = range_fine d p.range env s x n.0 in
+    let c = chosen_fine d p os name.bytes t f (constant_fine d p.value (named env) (named_sound d true env s) y n.1) in
+    if_both r.known (chosen p os name.bytes t).good p.signed r.range (chosen p os name.bytes t) g.known c.is_fine.good (converted_sound d p.signed r.range (chosen p os name.bytes t) g.lawful c)
+  where
+    if_both : (a b : Bool) (signed : Bool) (range : Option Range) (u : Typed) → a ≡ true → b ≡ true → IsSoundDeclared d false (converted signed range u) → IsSoundDeclared d false (declared_if a b signed range u)
+    if_both true true signed range u k l q = q
+    if_both true false signed range u k l q = cc
+    if_both false b signed range u k l q = cc
+
+-- ---- putting what is declared
+
+value_kept : (d : Design) (needed : Bool) (value declared : Declared) → IsSoundDeclared d needed value → IsSoundDeclared d needed declared → IsSoundDeclared d needed (valued value declared)
+value_kept d needed value Later k s = k
+value_kept d needed value (OfSignal m) k s = s
+value_kept d needed value (OfParameter v r) k s = s
+value_kept d needed value OfGenvar k s = s
+value_kept d needed value OfScope k s = s
+
+put_sound : (d : Design) (needed : Bool) (name : List ℕ) (value : Declared) (es : List Entry) → IsSoundDeclared d needed value → AreSoundEntries d needed es → AreSoundEntries d needed (put_value name value es)
+put_sound d needed name value [] k s = tt
+put_sound d needed name value (e ∷ es) k s = (of (same_name e.name name), put_sound d needed name value es k s.1)
+  where
+    of : (b : Bool) → IsSoundDeclared d needed (if b then record e { declared = valued value e.declared } else e).declared
+    of true = value_kept d needed value e.declared k s.0
+    of false = s.0
+
+-- the shape of what is declared
+abbrev pub IsShapedSort : Sort → Type 0
+IsShapedSort (SignalOf s) = Given IsRangeTree s.range
+IsShapedSort (ParameterOf p) = Given IsRangeTree p.range × IsExpr p.value
+IsShapedSort GenvarSort = Unit {0}
+IsShapedSort InstanceSort = Unit {0}
+
+abbrev pub AreShapedDeclarations : List Declaration → Type 0
+AreShapedDeclarations ds = Each (λ (x : Declaration). IsShapedSort x.sort) ds
+
+first_sound_declared : (d : Design) (k : Sort) → IsSoundDeclared d true (first_declared k)
+first_sound_declared d (SignalOf s) = tt
+first_sound_declared d (ParameterOf p) = tt
+first_sound_declared d GenvarSort = tt
+first_sound_declared d InstanceSort = tt
+
+pub first_entries_sound : (d : Design) (names : List Named) → AreSoundEntries d true (first_entries names)
+first_entries_sound d [] = tt
+first_entries_sound d (n ∷ ns) = (first_sound_declared d n.first.sort, first_entries_sound d ns)
+
+-- each entry is sound, or one of these signals has its name
+abbrev pub IsSettled : Design → List SaidSignal → Entry → Type 0
+IsSettled d ss e = IsSoundDeclared d false e.declared ⊎ (list_any (λ (s : SaidSignal). same_name e.name s.meaning.signal.name) ss ≡ true)
+
+put_settled : (d : Design) (ss : List SaidSignal) (name : List ℕ) (value : Declared) (es : List Entry) → IsSoundDeclared d false value → Each (IsSettled d ss) es → Each (IsSettled d ss) (put_value name value es)
+put_settled d ss name value [] k s = tt
+put_settled d ss name value (e ∷ es) k s = (of (same_name e.name name) s.0, put_settled d ss name value es k s.1)
+  where
+    of : (b : Bool) → IsSettled d ss e → IsSettled d ss (if b then record e { declared = valued value e.declared } else e)
+    of true (inl a) = inl (value_kept d false value e.declared k a)
+    of true (inr a) = inr a
+    of false a = a
+
+pub record AreGoodEntries (d : Design) (ss : List SaidSignal) (es : List Entry) : Type 0 where
+  pub sound : AreSoundEntries d true es
+  pub settled : Each (IsSettled d ss) es
+
+-- the parameters in text order
+parameter_good : (d : Design) (outer : Env) (os : List Override) (ss : List SaidSignal) (ds : List Declaration) (es : List Entry) → AreSoundFrames d true outer.frames → AreFineOverrides d os → AreGoodEntries d ss es
+    → ((fs : List Entry) → AreGoodEntries d ss fs → (said_parameters outer os ds fs).faults ≡ [] → AreGoodEntries d ss (said_parameters outer os ds fs).entries)
+    → (n : tree.Name) (k : Sort) → IsShapedSort k → (said_parameters outer os (record { name = n; sort = k } ∷ ds) es).faults ≡ [] → AreGoodEntries d ss (said_parameters outer os (record { name = n; sort = k } ∷ ds) es).entries
+parameter_good d outer os ss ds es s f g next n (SignalOf q) x h = next es g h
+parameter_good d outer os ss ds es s f g next n GenvarSort x h = next es g h
+parameter_good d outer os ss ds es s f g next n InstanceSort x h = next es g h
+parameter_good d outer os ss ds es s f g next n (ParameterOf p) x h =
+    let env = up_to (within outer es) n.place in
+    let v = said_parameter env os n p in
+    let fs = put_value n.bytes v.declared es in
+    let k = both_nil v.faults (said_parameters outer os ds fs).faults h in
+    let c = parameter_fine d env os n p (g.sound, s) f x.0 x.1 k.0 in
+    next fs (record { sound = put_sound d true n.bytes v.declared es (declared_needed d v.declared c) g.sound; settled = put_settled d ss n.bytes v.declared es c g.settled }) k.1
+
+pub parameters_good : (d : Design) (outer : Env) (os : List Override) (ss : List SaidSignal) → AreSoundFrames d true outer.frames → AreFineOverrides d os → (ds : List Declaration) (es : List Entry) → AreShapedDeclarations ds → AreGoodEntries d ss es
+    → (said_parameters outer os ds es).faults ≡ [] → AreGoodEntries d ss (said_parameters outer os ds es).entries
+parameters_good d outer os ss s f [] es x g h = g
+parameters_good d outer os ss s f (a ∷ ds) es x g h = parameter_good d outer os ss ds es s f g (λ fs k l. parameters_good d outer os ss s f ds fs x.1 k l) a.name a.sort x.0 h
+
+-- ---- signals
+
+pub same_itself : (xs : List ℕ) → same_name xs xs ≡ true
+same_itself [] = refl
+same_itself (x ∷ xs) = both (x == x) (same_name xs xs) (eq-eqb x x refl) (same_itself xs)
+
+-- at first, each entry of a signal has the name of one that is said
+pub there : (d : Design) (env : Env) (names : List Named) (start : Start) → Each (IsSettled d (said_signals env start names)) (first_entries names)
+there d env [] start = tt
+there d env (n ∷ ns) start = of n.first.name n.first.sort n.second (there d env ns)
+  where
+    of : (w : tree.Name) (k : Sort) (second : Option Declaration) → ((next : Start) → Each (IsSettled d (said_signals env next ns)) (first_entries ns))
+        → Each (IsSettled d (said_signals env start (record { first = record { name = w; sort = k }; second = second } ∷ ns))) (first_entries (record { first = record { name = w; sort = k }; second = second } ∷ ns))
+    of w (SignalOf s) second rest =
+        let m : Named = record { first = record { name = w; sort = SignalOf s }; second = second } in
+        let one = said_signal env start m s in
+        (inr (here w.bytes (list_any (λ (s : SaidSignal). same_name w.bytes s.meaning.signal.name) (said_signals env (after start one.meaning) ns))), more (after start one.meaning) one (first_entries ns) (rest (after start one.meaning)))
+      where
+        here : (p : List ℕ) (b : Bool) → (same_name p p || b) ≡ true
+        here p b = rw_here (same_name p p) b (same_itself p)
+          where
+            rw_here : (a b : Bool) → a ≡ true → (a || b) ≡ true
+            rw_here true b k = refl
+            rw_here false b k = cc
+
+        more : (next : Start) (one : SaidSignal) (es : List Entry) → Each (IsSettled d (said_signals env next ns)) es → Each (IsSettled d (one ∷ said_signals env next ns)) es
+        more next one [] k = tt
+        more next one (e ∷ es) k = (wider k.0, more next one es k.1)
+          where
+            wider : IsSettled d (said_signals env next ns) e → IsSettled d (one ∷ said_signals env next ns) e
+            wider (inl a) = inl a
+            wider (inr a) = inr (either (same_name e.name one.meaning.signal.name) (list_any (λ (s : SaidSignal). same_name e.name s.meaning.signal.name) (said_signals env next ns)) a)
+              where
+                either : (a b : Bool) → b ≡ true → (a || b) ≡ true
+                either true b k = refl
+                either false b k = k
+    of w (ParameterOf p) second rest = (inl tt, rest start)
+    of w GenvarSort second rest = (inl tt, rest start)
+    of w InstanceSort second rest = (inl tt, rest start)
+
+-- once all signals are put, each entry is sound
+pub all_settled : (d : Design) (ss : List SaidSignal) (es : List Entry) → Each (λ (s : SaidSignal). IsSoundSignal d false s.meaning) ss → Each (IsSettled d ss) es → AreSoundEntries d false (put_signals ss es)
+all_settled d [] [] k g = tt
+all_settled d [] (e ∷ es) k g = (of g.0, all_settled d [] es k g.1)
+  where
+    of : IsSettled d [] e → IsSoundDeclared d false e.declared
+    of (inl a) = a
+    of (inr a) = absurd (no a)
+      where
+        no : false ≡ true → ⊥
+        no i = cc
+all_settled d (s ∷ ss) es k g = all_settled d ss (put_signal s.meaning es) k.1 (put es g)
+  where
+    put : (es : List Entry) → Each (IsSettled d (s ∷ ss)) es → Each (IsSettled d ss) (put_signal s.meaning es)
+    put [] g = tt
+    put (e ∷ es) g = (of (same_name e.name s.meaning.signal.name) refl g.0, put es g.1)
+      where
+        of : (b : Bool) → same_name e.name s.meaning.signal.name ≡ b → IsSettled d (s ∷ ss) e → IsSettled d ss (if b then record e { declared = OfSignal s.meaning } else e)
+        of true i q = inl k.0
+        of false i (inl a) = inl a
+        of false i (inr a) = inr (rest (same_name e.name s.meaning.signal.name) (list_any (λ (t : SaidSignal). same_name e.name t.meaning.signal.name) ss) i a)
+          where
+            rest : (a b : Bool) → a ≡ false → (a || b) ≡ true → b ≡ true
+            rest false b i k = k
+            rest true b i k = cc
+
+-- the signals of a scope whose ranges have no fault
+signal_sound : (d : Design) (env : Env) (start : Start) (n : Named) (s : SignalSort) → is_signal d (said_signal env start n s).meaning.signal ≡ true → (said_range s.range env).known ≡ true → IsSoundSignal d false (said_signal env start n s).meaning
+signal_sound d env start n s h k = (h, k, λ i. (split (said_signal env start n s).meaning.input start.top i).0)
+
+pub signals_sound : (d : Design) (env : Env) → AreSoundFrames d true env.frames → (names : List Named) (start : Start) → Each (λ (s : SaidSignal). is_signal d s.meaning.signal ≡ true) (said_signals env start names)
+    → Each (λ (n : Named). IsShapedSort n.first.sort) names → range_faults env (map (λ (n : Named). n.first) names) ≡ [] → Each (λ (s : SaidSignal). IsSoundSignal d false s.meaning) (said_signals env start names)
+signals_sound d env s [] start h x k = tt
+signals_sound d env s (n ∷ ns) start h x k = of n.first.name n.first.sort n.second h x.0 k (λ next g l. signals_sound d env s ns next g x.1 l)
+  where
+    of : (w : tree.Name) (q : Sort) (second : Option Declaration) → Each (λ (s : SaidSignal). is_signal d s.meaning.signal ≡ true) (said_signals env start (record { first = record { name = w; sort = q }; second = second } ∷ ns)) → IsShapedSort q
+        → range_faults env (record { name = w; sort = q } ∷ map (λ (n : Named). n.first) ns) ≡ []
+        → ((next : Start) → Each (λ (s : SaidSignal). is_signal d s.meaning.signal ≡ true) (said_signals env next ns) → range_faults env (map (λ (n : Named). n.first) ns) ≡ [] → Each (λ (s : SaidSignal). IsSoundSignal d false s.meaning) (said_signals env next ns))
+        → Each (λ (s : SaidSignal). IsSoundSignal d false s.meaning) (said_signals env start (record { first = record { name = w; sort = q }; second = second } ∷ ns))
+    of w (SignalOf t) second h x k rest =
+        let m : Named = record { first = record { name = w; sort = SignalOf t }; second = second } in
+        let f = both_nil (said_range t.range env).faults (range_faults env (map (λ (n : Named). n.first) ns)) k in
+        (signal_sound d env start m t h.0 (range_fine d t.range env s x f.0).known, rest (after start (said_signal env start m t).meaning) h.1 f.1)
+    of w (ParameterOf p) second h x k rest = rest start h k
+    of w GenvarSort second h x k rest = rest start h k
+    of w InstanceSort second h x k rest = rest start h k

@@ -1,0 +1,168 @@
+-- Where a scope has no fault, all its names are sound.
+use Rattle.std.proofs.Common.{◌≡◌, ℕ, Bool, true, false, List, [], ◌∷◌, ◌++◌, map, refl, if◌then◌else◌}
+use Rattle.std.specs.Prelude.{is_none}
+use Rattle.std.specs.List.{flat_map, list_any}
+use Rattle.vs_design.specs.Expressions.{Signal}
+use Rattle.vs_design.specs.Designs.{Design}
+use Rattle.vs_design.specs.Clocks.{same_name}
+use Rattle.vs_design.specs.Elaborated.{is_signal}
+use Rattle.vs_grammar.specs.Trees as tree
+use Rattle.vs_grammar.specs.Trees.{Module, Source, items_list}
+use Rattle.vs_grammar.specs.Shapes.{Each, OneOrMore, Given, IsRange, IsSetting, AreParameters, IsItem, AreItems, IsGenerateItem, AreHeaderParameters, ArePorts, IsHeader}
+use Rattle.vs_const.specs.declared.faults.Fault.{Fault}
+use Rattle.vs_const.proofs.Formed.{both_nil}
+use Rattle.vs_elaborated.specs.Limits.{Limits}
+use Rattle.vs_elaborated.specs.Environments.{OfScope, Env, within}
+use Rattle.vs_elaborated.specs.Declarations.{Sort, SignalOf, ParameterOf, GenvarSort, InstanceSort, Declaration, Named, signals_declared, parameters_declared, item_declared, header_declared, second_of, names_after, names_of, repeated_names}
+use Rattle.vs_elaborated.specs.Parameters.{said_range, said_parameters, first_entries}
+use Rattle.vs_elaborated.specs.Signals.{Start, SaidSignal, said_signals, put_signals, range_faults}
+use Rattle.vs_elaborated.specs.Generate.{BlockName, Made}
+use Rattle.vs_elaborated.specs.Constructs.{constructs}
+use Rattle.vs_elaborated.specs.Pieces.{Contents, OfModule, OfBlock, Task}
+use Rattle.vs_elaborated.specs.Surveys.{items_of, declarations_of, overrides_of, header_of, block_entries, Totals, survey}
+use Rattle.vs_elaborated.specs.Sound.{AreSoundEntries, AreSoundFrames, AreFineOverrides, IsShapedContents}
+use Rattle.vs_elaborated.proofs.SoundNames.{frames_needed, IsShapedSort, AreShapedDeclarations, first_entries_sound, parameters_good, there, all_settled, signals_sound}
+
+-- ---- what is declared is shaped
+
+pub each_append : {A : Type 0} (P : A → Type 0) (xs ys : List A) → Each P xs → Each P ys → Each P (xs ++ ys)
+each_append P [] ys h k = k
+each_append P (x ∷ xs) ys h k = (h.0, each_append P xs ys h.1 k)
+
+signals_shaped : (header : Bool) (t : tree.Signals) → Given IsRange t.range → AreShapedDeclarations (signals_declared header t)
+signals_shaped header t h = of t.names
+  where
+    of : (names : List tree.Declarator) → AreShapedDeclarations (map (λ (d : tree.Declarator). record { name = d.name; sort = SignalOf (record { kind = t.kind; signed = t.signed; range = t.range; header = header }) }) names)
+    of [] = tt
+    of (d ∷ ds) = (h, of ds)
+
+parameters_shaped : (t : tree.Parameters) → AreParameters t → AreShapedDeclarations (parameters_declared t)
+parameters_shaped t h = of t.settings (all t.settings h.settings)
+  where
+    all : (ss : List tree.Setting) → OneOrMore IsSetting ss → Each IsSetting ss
+    all [] k = absurd k
+    all (s ∷ ss) k = k
+
+    of : (ss : List tree.Setting) → Each IsSetting ss → AreShapedDeclarations (map (λ (s : tree.Setting). record { name = s.name; sort = ParameterOf (record { is_local = t.is_local; signed = t.signed; range = t.range; value = s.value }) }) ss)
+    of [] k = tt
+    of (s ∷ ss) k = ((h.range, k.0.1), of ss k.1)
+
+genvars_shaped : (ns : List tree.Name) → AreShapedDeclarations (map (λ (n : tree.Name). record { name = n; sort = GenvarSort }) ns)
+genvars_shaped [] = tt
+genvars_shaped (n ∷ ns) = (tt, genvars_shaped ns)
+
+instances_shaped : (is : List tree.Instance) → AreShapedDeclarations (map (λ (i : tree.Instance). record { name = i.name; sort = InstanceSort }) is)
+instances_shaped [] = tt
+instances_shaped (i ∷ is) = (tt, instances_shaped is)
+
+generate_item_shaped : (item : tree.Item) → IsGenerateItem item → AreShapedDeclarations (item_declared item)
+generate_item_shaped (tree.SignalsItem t) x = signals_shaped false t x.0.range
+generate_item_shaped (tree.ParametersItem t) x = parameters_shaped t x.0
+generate_item_shaped (tree.AssignsItem place assigns) x = tt
+generate_item_shaped (tree.AlwaysItem block) x = tt
+generate_item_shaped (tree.GenvarsItem place names) x = genvars_shaped names
+generate_item_shaped (tree.InstancesItem t) x = instances_shaped t.instances
+generate_item_shaped (tree.GenerateFor head block) x = tt
+generate_item_shaped (tree.GenerateIf place c taken other) x = tt
+generate_item_shaped (tree.GenerateCase place subject arms other) x = tt
+
+item_shaped : (item : tree.Item) → IsItem item → AreShapedDeclarations (item_declared item)
+item_shaped (tree.SignalsItem t) x = signals_shaped false t x.range
+item_shaped (tree.ParametersItem t) x = parameters_shaped t x
+item_shaped (tree.AssignsItem place assigns) x = tt
+item_shaped (tree.AlwaysItem block) x = tt
+item_shaped (tree.GenvarsItem place names) x = genvars_shaped names
+item_shaped (tree.InstancesItem t) x = instances_shaped t.instances
+item_shaped (tree.GenerateFor head block) x = tt
+item_shaped (tree.GenerateIf place c taken other) x = tt
+item_shaped (tree.GenerateCase place subject arms other) x = tt
+
+flat_shaped : {A : Type 0} (f : A → List Declaration) (P : A → Type 0) → ((a : A) → P a → AreShapedDeclarations (f a)) → (xs : List A) → Each P xs → AreShapedDeclarations (flat_map f xs)
+flat_shaped f P h [] k = tt
+flat_shaped f P h (x ∷ xs) k = each_append _ (f x) (flat_map f xs) (h x k.0) (flat_shaped f P h xs k.1)
+
+items_shaped : (items : tree.Items) → AreItems items → AreShapedDeclarations (flat_map item_declared (items_list items))
+items_shaped tree.NoItem x = tt
+items_shaped (tree.AndItem item rest) x = each_append _ (item_declared item) (flat_map item_declared (items_list rest)) (item_shaped item x.0) (items_shaped rest x.1)
+
+header_shaped : (h : tree.Header) → IsHeader h → AreShapedDeclarations (header_declared h)
+header_shaped tree.NoPorts x = tt
+header_shaped (tree.PlainPorts names) x = tt
+header_shaped (tree.DeclaredPorts []) x = tt
+header_shaped (tree.DeclaredPorts (p ∷ ps)) x = flat_shaped (signals_declared true) ArePorts (λ t k. signals_shaped true t k.0.range) (p ∷ ps) x
+
+pub contents_shaped : (c : Contents) → IsShapedContents c → AreShapedDeclarations (declarations_of c)
+contents_shaped (OfModule m overrides) x =
+    each_append _ (flat_map parameters_declared m.parameters) (header_declared m.header ++ flat_map item_declared (items_list m.items)) (flat_shaped parameters_declared AreHeaderParameters (λ t k. parameters_shaped t k.0) m.parameters x.parameters)
+    (each_append _ (header_declared m.header) (flat_map item_declared (items_list m.items)) (header_shaped m.header x.header) (items_shaped m.items x.items))
+contents_shaped (OfBlock items) x = flat_shaped item_declared IsGenerateItem generate_item_shaped items x
+
+-- ---- names are declarations
+
+pub names_shaped : (seen : List (List ℕ)) (ds : List Declaration) → AreShapedDeclarations ds → Each (λ (n : Named). IsShapedSort n.first.sort) (names_after seen ds)
+names_shaped seen [] x = tt
+names_shaped seen (a ∷ rest) x = of (list_any (same_name a.name.bytes) seen) (names_shaped seen rest x.1) (names_shaped (a.name.bytes ∷ seen) rest x.1)
+  where
+    of : (b : Bool) → Each (λ (n : Named). IsShapedSort n.first.sort) (names_after seen rest) → Each (λ (n : Named). IsShapedSort n.first.sort) (names_after (a.name.bytes ∷ seen) rest)
+        → Each (λ (n : Named). IsShapedSort n.first.sort) (if b then names_after seen rest else record { first = a; second = second_of a rest } ∷ names_after (a.name.bytes ∷ seen) rest)
+    of true h k = h
+    of false h k = (x.0, k)
+
+nil_append : {A : Type 0} (xs ys : List A) → xs ≡ [] → ys ≡ [] → xs ++ ys ≡ []
+nil_append [] ys h k = k
+nil_append (x ∷ xs) ys h k = cc
+
+pub names_ranges : (env : Env) (seen : List (List ℕ)) (ds : List Declaration) → range_faults env ds ≡ [] → range_faults env (map (λ (n : Named). n.first) (names_after seen ds)) ≡ []
+names_ranges env seen [] h = refl
+names_ranges env seen (a ∷ rest) h =
+    let k = both_nil (range_faults_of a) (range_faults env rest) h in
+    of (list_any (same_name a.name.bytes) seen) k.0 (names_ranges env seen rest k.1) (names_ranges env (a.name.bytes ∷ seen) rest k.1)
+  where
+    range_faults_of : Declaration → List Fault
+    range_faults_of x = range_of_sort x.sort
+      where
+        range_of_sort : Sort → List Fault
+        range_of_sort (SignalOf s) = (said_range s.range env).faults
+        range_of_sort (ParameterOf p) = []
+        range_of_sort GenvarSort = []
+        range_of_sort InstanceSort = []
+
+    of : (b : Bool) → range_faults_of a ≡ [] → range_faults env (map (λ (n : Named). n.first) (names_after seen rest)) ≡ [] → range_faults env (map (λ (n : Named). n.first) (names_after (a.name.bytes ∷ seen) rest)) ≡ []
+        → range_faults env (map (λ (n : Named). n.first) (if b then names_after seen rest else record { first = a; second = second_of a rest } ∷ names_after (a.name.bytes ∷ seen) rest)) ≡ []
+    of true e h k = h
+    of false e h k = nil_append (range_faults_of a) (range_faults env (map (λ (n : Named). n.first) (names_after (a.name.bytes ∷ seen) rest))) e k
+
+blocks_sound : (d : Design) (bs : List BlockName) → AreSoundEntries d false (block_entries bs)
+blocks_sound d [] = tt
+blocks_sound d (b ∷ bs) = of b.written (blocks_sound d bs)
+  where
+    of : (c : Bool) → AreSoundEntries d false (block_entries bs) → AreSoundEntries d false ((if c then (record { name = b.name; place = b.place; declared = OfScope } ∷ []) else []) ++ block_entries bs)
+    of true h = (tt, h)
+    of false h = h
+
+signals_in : (d : Design) (ss : List SaidSignal) → Each (λ (s : Signal). is_signal d s ≡ true) (map (λ (s : SaidSignal). s.meaning.signal) ss) → Each (λ (s : SaidSignal). is_signal d s.meaning.signal ≡ true) ss
+signals_in d [] h = tt
+signals_in d (s ∷ ss) h = (h.0, signals_in d ss h.1)
+
+-- the names of a scope without a fault
+pub survey_names : (d : Design) (limits : Limits) (source : Source) (k : Task) (t : Totals) → AreSoundFrames d false k.env.frames → AreFineOverrides d (overrides_of k.contents) → IsShapedContents k.contents
+    → Each (λ (s : Signal). is_signal d s ≡ true) (survey limits source k t).signals → (survey limits source k t).faults ≡ [] → AreSoundEntries d false (survey limits source k t).entries
+survey_names d limits source k t s f x i h =
+    let ds = declarations_of k.contents in
+    let names = names_of ds in
+    let parameters = said_parameters k.env (overrides_of k.contents) ds (first_entries names) in
+    let ranged = within k.env parameters.entries in
+    let start : Start = record { scope = t.scopes; top = is_none k.parent; signal = t.signals; bit = t.bits } in
+    let signals = said_signals ranged start names in
+    let entries = put_signals signals parameters.entries in
+    let made = constructs limits (items_of k.contents) (within k.env entries) 1 t.turns in
+    let blocks = flat_map (λ (m : Made). m.names) made in
+    let h1 = (both_nil (header_of k.contents) _ h).1 in
+    let h2 = (both_nil (repeated_names [] ds) _ h1).1 in
+    let h3 = both_nil parameters.faults _ h2 in
+    let h4 = both_nil (range_faults ranged ds) _ h3.1 in
+    let shaped = contents_shaped k.contents x in
+    let outer = frames_needed d k.env.frames s in
+    let good = parameters_good d k.env (overrides_of k.contents) signals outer f ds (first_entries names) shaped (record { sound = first_entries_sound d names; settled = there d ranged names start }) h3.0 in
+    let sound = signals_sound d ranged (good.sound, outer) names start (signals_in d signals i) (names_shaped [] ds shaped) (names_ranges ranged [] ds h4.0) in
+    each_append _ entries (block_entries blocks) (all_settled d signals parameters.entries sound good.settled) (blocks_sound d blocks)

@@ -1,0 +1,125 @@
+-- Elaboration of a text from its top: a design, or the first fault (IEEE 1364-2005, clause 12).
+use Rattle.std.specs.Prelude.{ℕ, zero, suc, ◌+◌, ◌*◌, ◌&&◌, List, [], ◌∷◌, ◌++◌, map, if◌then◌else◌, nat_lt, Option, Some, None, Result, Ok, Err}
+use Rattle.vs_design.specs.Expressions.{Signal, At, Name as NameOf}
+use Rattle.vs_design.specs.Statements.{Whole}
+use Rattle.vs_design.specs.Designs.{InputPort, OutputPort, Process, Continuous, Design}
+use Rattle.vs_grammar.specs.Trees.{Name, Module, Source}
+use Rattle.vs_const.specs.declared.faults.Fault.{Fault}
+use Rattle.vs_const.specs.Faults.{fault_if, least}
+use Rattle.vs_const.specs.declared.rules.Rule.TheVariants.{NoTop, DuplicateModule, InstanceDepth, TooManyInstances}
+use Rattle.vs_elaborated.specs.Limits.{Limits, the_limits}
+use Rattle.vs_elaborated.specs.Environments.{Declared, OfSignal, Entry, find_entry, no_env}
+use Rattle.vs_elaborated.specs.Targets.{no_signal}
+use Rattle.vs_elaborated.specs.Ports.{find_module, is_named}
+use Rattle.vs_elaborated.specs.Pieces.{OfModule, Task, is_instance, Connection, IntoInput, FromOutput, Piece, Own, Instance, Within}
+use Rattle.vs_elaborated.specs.Surveys.{Totals, no_totals, Survey, survey}
+
+-- ---- designs one after the other
+
+-- what the first has comes first
+abbrev pub both_designs : Design → Design → Design
+both_designs a b = record { scopes = a.scopes ++ b.scopes; signals = a.signals ++ b.signals; processes = a.processes ++ b.processes }
+
+-- processes alone
+abbrev pub of_processes : List Process → Design
+of_processes ps = record { scopes = []; signals = []; processes = ps }
+
+-- what follows, unless there was a fault
+abbrev pub then_do : {A B : Type 0} → Result A Fault → (A → Result B Fault) → Result B Fault
+then_do (Ok a) f = f a
+then_do (Err e) f = Err e
+
+-- the first fault, or what follows
+abbrev pub unless_fault : {A : Type 0} → List Fault → (ℕ → Result A Fault) → Result A Fault
+unless_fault fs f = elim (least fs) [ None ↦ f 0 | Some a ↦ Err a ]
+
+-- ---- ports (12.3.9.2)
+
+-- the signal that a port's name means in its module
+abbrev pub entry_signal : Option Entry → Signal
+entry_signal None = no_signal
+entry_signal (Some e) = of_declared e.declared
+  where
+    of_declared : Declared → Signal
+    of_declared (OfSignal s) = s.signal
+    of_declared _ = no_signal
+
+-- an assign from the outer expression to the inner net, or from the inner signal to the outer net
+abbrev pub port_assign : (place : ℕ) → List Entry → Connection → Process
+port_assign place inner (IntoInput name e) = Continuous place InputPort place (Whole (entry_signal (find_entry inner name))) e
+port_assign place inner (FromOutput name target_place target) = Continuous place OutputPort target_place target (At place (NameOf (entry_signal (find_entry inner name))))
+
+-- ---- scopes, each before those within it (12.1)
+
+-- what was read: the names of the scope, all that it and the scopes within it have, and the counts then
+pub record Read : Type 0 where
+  pub entries : List Entry
+  pub design : Design
+  pub totals : Totals
+
+-- all that pieces have, and the counts then
+pub record ReadPieces : Type 0 where
+  pub design : Design
+  pub totals : Totals
+
+-- one piece; `read` reads a scope
+abbrev pub read_piece : (Task → Totals → Result Read Fault) → Piece → Totals → Result ReadPieces Fault
+read_piece read (Own p) totals = Ok (record { design = of_processes (p ∷ []); totals = totals })
+read_piece read (Instance connections task) totals =
+    then_do (read task totals) λ r. Ok (record { design = both_designs (of_processes (map (port_assign task.place r.entries) connections)) r.design; totals = r.totals })
+read_piece read (Within task) totals = then_do (read task totals) λ r. Ok (record { design = r.design; totals = r.totals })
+
+-- the pieces in text order
+abbrev pub read_pieces : (Task → Totals → Result Read Fault) → List Piece → Totals → Result ReadPieces Fault
+read_pieces read [] totals = Ok (record { design = of_processes []; totals = totals })
+read_pieces read (p ∷ ps) totals =
+    then_do (read_piece read p totals) λ a. then_do (read_pieces read ps a.totals) λ b. Ok (record { design = both_designs a.design b.design; totals = b.totals })
+
+-- an instance more; its depth and its number come before anything in it
+abbrev pub counted : Task → Totals → Totals
+counted t totals = if is_instance t.contents then record totals { instances = totals.instances + 1 } else totals
+
+-- an instance too deep, or one too many
+abbrev pub limit_faults : Limits → Task → Totals → List Fault
+limit_faults limits t totals = fault_if (is_instance t.contents && nat_lt limits.depth t.depth) InstanceDepth t.place ++ fault_if (is_instance t.contents && nat_lt limits.instances totals.instances) TooManyInstances t.place
+
+-- a scope with its signals, before all within it
+abbrev pub scope_design : Task → Survey → Design → Design
+scope_design t s inner = both_designs (record { scopes = record { name = t.name; parent = t.parent; instance = is_instance t.contents } ∷ []; signals = s.signals; processes = [] }) inner
+
+-- a scope, and then those within it in text order; `left` bounds how deep scopes stand within one another
+abbrev pub read_scope : (left : ℕ) → Limits → Source → Task → Totals → Result Read Fault
+read_scope zero limits source t totals = Err (record { rule = InstanceDepth; place = t.place })
+read_scope (suc left) limits source t totals =
+    unless_fault (limit_faults limits t (counted t totals)) λ u.
+    let s = survey limits source t (counted t totals) in
+    unless_fault s.faults λ v.
+    then_do (read_pieces (read_scope left limits source) s.pieces s.totals) λ r. Ok (record { entries = s.entries; design = scope_design t s r.design; totals = r.totals })
+
+-- ---- the whole
+
+-- each module after the first of its name; `seen` came before
+abbrev pub repeated_modules : List Name → List Module → List Fault
+repeated_modules seen [] = []
+repeated_modules seen (m ∷ ms) = fault_if (is_named m.name.bytes seen) DuplicateModule m.name.place ++ repeated_modules (m.name ∷ seen) ms
+
+-- the top is an instance of its module, without overrides
+abbrev pub top_task : Module → Task
+top_task m = record { name = m.name.bytes; parent = None; contents = OfModule m []; depth = 1; place = 0; env = no_env }
+
+-- each instance has at most 200 blocks around the next one, and there is one instance too many
+abbrev pub scope_depth : Limits → ℕ
+scope_depth limits = suc (limits.depth * 201)
+
+-- the design of a top, if there is one
+abbrev pub elaborated_top : Limits → Source → Option Module → Result Design Fault
+elaborated_top limits source None = Err (record { rule = NoTop; place = 0 })
+elaborated_top limits source (Some m) = then_do (read_scope (scope_depth limits) limits source (top_task m) no_totals) λ r. Ok r.design
+
+-- no module is declared twice, and then the top is read
+abbrev pub elaborated_within : Limits → Source → List ℕ → Result Design Fault
+elaborated_within limits source top = unless_fault (repeated_modules [] source.modules) λ u. elaborated_top limits source (find_module source top)
+
+-- the design of a text's tree from a top, or the first rule that is broken, with its place
+abbrev pub elaborated : Source → List ℕ → Result Design Fault
+elaborated source top = elaborated_within the_limits source top

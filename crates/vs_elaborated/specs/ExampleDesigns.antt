@@ -1,0 +1,233 @@
+-- Worked designs: what each rule of elaboration gives.
+use Rattle.std.specs.Prelude.{◌≡◌, ℕ, true, false, List, [], ◌∷◌, ◌++◌, Option, Some, None, map, codes}
+use Rattle.vs_four.specs.declared.Bit4.TheVariants.{Zero, One}
+use Rattle.vs_four.specs.declared.Range.{Range}
+use Rattle.vs_design.specs.Expressions.{Signal, signal_length, BitNot, BitAnd, Name, Unary, Binary, At}
+use Rattle.vs_design.specs.Values.{assigned_value}
+use Rattle.vs_design.specs.Statements.{Whole}
+use Rattle.vs_design.specs.Designs.{Scope, Written, InputPort, OutputPort, Continuous, Design}
+use Rattle.vs_design.specs.ExampleParts.{input_of, wire_of, reg_of, to_zero, blocking, on_star, top_scope, design_of}
+use Rattle.vs_elaborated.specs.Limits.{the_limits}
+use Rattle.vs_elaborated.specs.Worked.{Elaborates, Shows, AreAlike, unplaced_processes}
+
+-- ---- a whole design, with its places
+
+-- `module top(input a, output reg y, output z); assign z = ~a & y; always @* y = (a); endmodule`
+abbrev pub whole_text : List ℕ
+whole_text = codes "module top(input a, output reg y, output z); assign z = ~a & y; always @* y = (a); endmodule"
+
+-- its signals
+abbrev pub a0 : Signal
+a0 = input_of (codes "a") 0 None 0
+
+abbrev pub y1 : Signal
+y1 = reg_of (codes "y") 1 None 1
+
+abbrev pub z2 : Signal
+z2 = wire_of (codes "z") 2 None 2
+
+-- its design
+abbrev pub whole_design : Design
+whole_design =
+    design_of (a0 ∷ y1 ∷ z2 ∷ [])
+    (Continuous 14 Written 15 (Whole z2) (At 17 (Binary BitAnd (At 17 (Unary BitNot (At 18 (Name a0)))) (At 20 (Name y1)))) ∷ on_star 22 (blocking 25 y1 (At 27 (Name a0))) ∷ [])
+
+-- all of a design
+abbrev pub itself : Design → Design
+itself d = d
+
+-- signals, processes, and the token at which each of them begins
+pub record WholeDesigns : Type 0 where
+  pub whole : Shows itself whole_design whole_text
+
+-- ---- parameters (4.10, 12.2)
+
+-- a design in which `y` has 8 bits and is assigned this, after these items
+abbrev pub with_items : List ℕ → List ℕ
+with_items items = codes "module top(output [7:0] y); " ++ items
+
+-- a parameter has the value of its expression; with a range it is converted to that length and sign, and without one it has the value's length, and its sign unless it is signed itself
+pub record Parameters : Type 0 where
+  pub plain : AreAlike (with_items (codes "parameter P = 4'd9; assign y = P; endmodule")) (with_items (codes "assign y = 4'd9; endmodule"))
+  pub cut : AreAlike (with_items (codes "parameter [3:0] P = 25; assign y = P; endmodule")) (with_items (codes "assign y = 4'd9; endmodule"))
+  pub extended : AreAlike (with_items (codes "parameter [7:0] P = 4'sd9; assign y = P; endmodule")) (with_items (codes "assign y = 8'd249; endmodule"))
+  pub signed_range : AreAlike (with_items (codes "parameter signed [3:0] P = 4'd9; assign y = P; endmodule")) (with_items (codes "assign y = 4'sd9; endmodule"))
+  pub signed_value : AreAlike (with_items (codes "parameter P = 4'sd9; assign y = P; endmodule")) (with_items (codes "assign y = 4'sd9; endmodule"))
+  pub signed_itself : AreAlike (with_items (codes "parameter signed P = 4'd9; assign y = P; endmodule")) (with_items (codes "assign y = 4'sd9; endmodule"))
+  -- the value of a literal without a size isn't extended by its x
+  pub unsized : AreAlike (with_items (codes "parameter P = 'bx; assign y = P; endmodule")) (with_items (codes "assign y = 32'bx; endmodule"))
+  pub local_parameter : AreAlike (with_items (codes "localparam P = 4'd9; assign y = P; endmodule")) (with_items (codes "assign y = 4'd9; endmodule"))
+  -- its bits may be selected, without a range down to 0
+  pub bits : AreAlike (with_items (codes "localparam P = 4'd9, Q = P[3:1]; assign y = Q; endmodule")) (with_items (codes "assign y = 3'd4; endmodule"))
+  pub bits_of_range : AreAlike (with_items (codes "localparam [0:3] P = 9; localparam Q = P[0]; assign y = Q; endmodule")) (with_items (codes "assign y = 1'd1; endmodule"))
+  -- in ranges a parameter may be used before its place
+  pub later : AreAlike (codes "module top(output [P:0] y); localparam P = 7; endmodule") (with_items (codes "endmodule"))
+
+-- an instance of a module whose parameter P is 4'd1 by default, with these overrides, and the same with a value written in
+abbrev pub overridden : List ℕ → List ℕ
+overridden overrides = codes "module m #(parameter P = 4'd1)(output q); assign q = P; endmodule module top; m " ++ (overrides ++ codes " u(); endmodule")
+
+-- the same with this value in the parameter's place
+abbrev pub valued : List ℕ → List ℕ
+valued value = codes "module m(output q); assign q = " ++ (value ++ codes "; endmodule module top; m u(); endmodule")
+
+-- overrides by order and by name, and those that keep the default (12.2.2)
+pub record Overrides : Type 0 where
+  pub none : AreAlike (overridden []) (valued (codes "4'd1"))
+  pub by_order : AreAlike (overridden (codes "#(9)")) (valued (codes "32'sd9"))
+  pub by_name : AreAlike (overridden (codes "#(.P(9))")) (valued (codes "32'sd9"))
+  pub empty : AreAlike (overridden (codes "#()")) (valued (codes "4'd1"))
+  pub empty_name : AreAlike (overridden (codes "#(.P())")) (valued (codes "4'd1"))
+
+-- an override is converted to the declared range and sign, and a default goes by what overrides the parameters before it (12.2.2.1, 12.2.2.2)
+pub record ConvertedOverrides : Type 0 where
+  pub ranged : AreAlike (codes "module m #(parameter signed [2:0] P = 1)(output q); assign q = P; endmodule module top; m #(8'hFF) u(); endmodule") (valued (codes "3'sb111"))
+  pub dependent : AreAlike (codes "module m #(parameter P = 1, Q = P + 1)(output q); assign q = Q; endmodule module top; m #(5) u(); endmodule") (valued (codes "32'sd6"))
+  pub second : AreAlike (codes "module m #(parameter P = 1, Q = P + 1)(output q); assign q = Q; endmodule module top; m #(, 5) u(); endmodule") (valued (codes "32'sd5"))
+
+-- ---- ports and signals (12.3)
+
+-- a port is declared in the header, or in the body in one or two declarations (12.3.3)
+pub record Ports : Type 0 where
+  pub in_body : AreAlike (codes "module top(a, y); input a; output y; assign y = a; endmodule") (codes "module top(input a, output y); assign y = a; endmodule")
+  pub twice : AreAlike (codes "module top(y); output y; reg y; always @* y = 1'b0; endmodule") (codes "module top(output reg y); always @* y = 1'b0; endmodule")
+  -- signed where one of both declarations says so
+  pub signed : AreAlike (codes "module top(y); output [1:0] y; reg signed [1:0] y; endmodule") (codes "module top(output reg signed [1:0] y); endmodule")
+  pub input_wire : AreAlike (codes "module top(a); input a; wire a; endmodule") (codes "module top(input a); endmodule")
+  -- the first declaration counts for the order
+  pub first : AreAlike (codes "module top(a, y); wire y; input a; output y; endmodule") (codes "module top(output y, input a); endmodule")
+  -- a net that is assigned where it is declared (6.1.1)
+  pub declared_assign : AreAlike (codes "module top(input a); wire w = ~a; endmodule") (codes "module top(input a); wire w; assign w = ~a; endmodule")
+
+-- ---- connections (12.3.5, 12.3.6, 12.3.9.2)
+
+-- an instance with these connections
+abbrev pub connected : List ℕ → List ℕ
+connected connections = codes "module m(input [1:0] p, output q); endmodule module top(input a, output y); m u(" ++ (connections ++ codes "); endmodule")
+
+-- a net of a scope
+abbrev pub net_in : (scope : ℕ) → List ℕ → (number : ℕ) → Option Range → (first : ℕ) → Signal
+net_in scope name number range first = record { name = name; scope = scope; number = number; net = true; input = false; range = range; signed = false; first = first }
+
+-- the signals of this design
+abbrev pub y_outside : Signal
+y_outside = net_in 0 (codes "y") 1 None 1
+
+abbrev pub p_inside : Signal
+p_inside = net_in 1 (codes "p") 2 (to_zero 1) 2
+
+abbrev pub q_inside : Signal
+q_inside = net_in 1 (codes "q") 3 None 4
+
+-- a connection is an assign, in the length of its target: into an input's net, or from an output's signal
+pub record Connections : Type 0 where
+  pub processes : Shows unplaced_processes (Continuous 0 InputPort 0 (Whole p_inside) (Unary BitNot (Name a0)) ∷ Continuous 0 OutputPort 0 (Whole y_outside) (Name q_inside) ∷ []) (connected (codes "~a, y"))
+  pub length : assigned_value (Unary BitNot (Name a0)) (signal_length p_inside) (λ b. Zero) ≡ One ∷ One ∷ []
+  -- in the order of the ports
+  pub by_name : AreAlike (connected (codes ".q(y), .p(~a)")) (connected (codes "~a, y"))
+  -- brackets round a port's expression are no matter
+  pub brackets : AreAlike (connected (codes "(a), ((y))")) (connected (codes "a, y"))
+  pub inner_brackets : AreAlike (connected (codes "a, {(y)}")) (connected (codes "a, {y}"))
+  -- open ports
+  pub left_open : Shows unplaced_processes (Continuous 0 InputPort 0 (Whole p_inside) (Unary BitNot (Name a0)) ∷ []) (connected (codes "~a, "))
+  pub named_open : AreAlike (connected (codes ".q(), .p(a)")) (connected (codes "a, "))
+  pub none : AreAlike (connected (codes "")) (connected (codes ", "))
+
+-- ---- scopes, and the numbers of everything (12.1, 12.4)
+
+-- what is seen of a design
+abbrev pub scopes_of : Design → List Scope
+scopes_of d = d.scopes
+
+abbrev pub signals_of : Design → List Signal
+signals_of d = d.signals
+
+-- the names of all scopes, and of all signals
+abbrev pub scope_names : Design → List (List ℕ)
+scope_names d = map (λ (s : Scope). s.name) d.scopes
+
+abbrev pub signal_names : Design → List (List ℕ)
+signal_names d = map (λ (s : Signal). s.name) d.signals
+
+abbrev pub ranges : Design → List (Option Range)
+ranges d = map (λ (s : Signal). s.range) d.signals
+
+-- scopes within another one
+abbrev pub instance_in : ℕ → List ℕ → Scope
+instance_in parent name = record { name = name; parent = Some parent; instance = true }
+
+abbrev pub block_in : ℕ → List ℕ → Scope
+block_in parent name = record { name = name; parent = Some parent; instance = false }
+
+-- in the order of the text, all within a scope before what stands behind it
+abbrev pub nested_text : List ℕ
+nested_text = codes "module m(input p); wire w = p; endmodule module top(input a); if (1) begin : g wire [1:0] x; m u(a); end m v(~a); wire y = a; endmodule"
+
+-- its signals
+abbrev pub y1_net : Signal
+y1_net = net_in 0 (codes "y") 1 None 1
+
+abbrev pub p_of_u : Signal
+p_of_u = net_in 2 (codes "p") 3 None 4
+
+abbrev pub w_of_u : Signal
+w_of_u = net_in 2 (codes "w") 4 None 5
+
+abbrev pub p_of_v : Signal
+p_of_v = net_in 3 (codes "p") 5 None 6
+
+abbrev pub w_of_v : Signal
+w_of_v = net_in 3 (codes "w") 6 None 7
+
+-- all is numbered in the order of the text, what stands within a scope before what stands behind it
+pub record Numbered : Type 0 where
+  pub scopes : Shows scopes_of (top_scope ∷ block_in 0 (codes "g") ∷ instance_in 1 (codes "u") ∷ instance_in 0 (codes "v") ∷ []) nested_text
+  pub signals : Shows signals_of (a0 ∷ y1_net ∷ net_in 1 (codes "x") 2 (to_zero 1) 2 ∷ p_of_u ∷ w_of_u ∷ p_of_v ∷ w_of_v ∷ []) nested_text
+  pub processes :
+      Shows unplaced_processes (
+      Continuous 0 InputPort 0 (Whole p_of_u) (Name a0)
+      ∷ Continuous 0 Written 0 (Whole w_of_u) (Name p_of_u)
+      ∷ Continuous 0 InputPort 0 (Whole p_of_v) (Unary BitNot (Name a0))
+      ∷ Continuous 0 Written 0 (Whole w_of_v) (Name p_of_v)
+      ∷ Continuous 0 Written 0 (Whole y1_net) (Name a0)
+      ∷ []) nested_text
+
+-- a top of these items
+abbrev pub items : List ℕ → List ℕ
+items text = codes "module top; " ++ (text ++ codes " endmodule")
+
+-- generate constructs, their scopes and their names (12.4)
+pub record Blocks : Type 0 where
+  pub loop : Shows scopes_of (top_scope ∷ block_in 0 (codes "g[1]") ∷ block_in 0 (codes "g[2]") ∷ []) (items (codes "genvar i; for (i = 1; i < 3; i = i + 1) begin : g wire w; end"))
+  pub unnamed_loop : Shows scope_names (codes "top" ∷ codes "genblk1[9]" ∷ codes "genblk1[10]" ∷ []) (items (codes "genvar i; for (i = 9; i < 11; i = i + 1) wire w;"))
+  -- a genvar is a constant of 32 bits, whose bits may be selected
+  pub genvar : Shows ranges (to_zero 1 ∷ to_zero 2 ∷ []) (items (codes "genvar i; for (i = 1; i < 3; i = i + 1) wire [i:0] w;"))
+  pub genvar_bits : Shows ranges (to_zero 3 ∷ []) (items (codes "genvar i; for (i = 6; i < 7; i = i + 1) wire [i[2:1]:i[31]] w;"))
+  -- by the numbers of the constructs, named ones and those without a block too
+  pub numbered : Shows scope_names (codes "top" ∷ codes "genblk2" ∷ codes "g" ∷ codes "genblk4" ∷ []) (items (codes "if (0) wire v; if (1) wire w; generate if (1) begin : g end endgenerate if (1) wire z;"))
+  -- an `if` or `case` alone in a branch makes no scope of its own, and a `;` makes none
+  pub alone : Shows scopes_of (top_scope ∷ block_in 0 (codes "genblk1") ∷ []) (items (codes "if (1) if (1) wire w;"))
+  pub alone_case : Shows scopes_of (top_scope ∷ block_in 0 (codes "genblk1") ∷ []) (items (codes "if (0) ; else case (1) 1: wire w; endcase"))
+  pub enclosed : Shows scopes_of (top_scope ∷ block_in 0 (codes "genblk1") ∷ block_in 1 (codes "genblk1") ∷ []) (items (codes "if (1) begin if (1) wire w; end"))
+  pub empty : Shows scopes_of (top_scope ∷ []) (items (codes "if (1) ;"))
+  -- the first arm with an equal label, in the greatest length, as signed only if all are
+  pub arm : Shows signal_names (codes "v" ∷ []) (items (codes "case (2'd2) 1: wire u; 2, 3: wire v; 2: wire w; default: wire x; endcase"))
+  pub no_arm : Shows signal_names (codes "x" ∷ []) (items (codes "case (0) default: wire x; 1: wire u; endcase"))
+  pub signed_arm : Shows signal_names (codes "u" ∷ []) (items (codes "case (4'sd15) 8'sd255: wire u; default: wire x; endcase"))
+  pub unsigned_arm : Shows signal_names (codes "x" ∷ []) (items (codes "case (4'd15) 8'sd255: wire u; default: wire x; endcase"))
+
+-- what names mean (12.7), and what is only parsed
+pub record Names : Type 0 where
+  pub outside : Shows ranges (to_zero 1 ∷ []) (items (codes "if (1) wire [P:0] w; localparam P = 1;"))
+  pub nearest : Shows ranges (to_zero 2 ∷ []) (items (codes "localparam P = 1; if (1) begin wire [P:0] w; localparam P = 2; end"))
+  -- a scope's constants don't see its own blocks, and an unnamed block hides nothing
+  pub own_block : Shows signal_names (codes "w" ∷ []) (items (codes "localparam g = 1; if (1) begin if (0) ; else begin : g end if (g) wire w; end"))
+  pub unnamed_block : Shows scope_names (codes "top" ∷ codes "genblk2" ∷ codes "genblk1" ∷ []) (items (codes "wire genblk1; if (0) ; if (1) begin if (1) begin end wire w = genblk1; end"))
+  -- the same name in two branches
+  pub branches : Shows scope_names (codes "top" ∷ codes "g" ∷ []) (items (codes "if (0) begin : g end else begin : g end"))
+  pub module_apart : Elaborates the_limits (codes "module m; wire w = z; n u(); endmodule module top; endmodule")
+  pub branch_apart : Elaborates the_limits (items (codes "if (0) wire w = z; else ;"))
+  -- a write by an index with x bits is no fault, and writes nothing
+  pub unknown_index : Elaborates the_limits (items (codes "wire [1:0] w; assign w[1'bx] = 1'b0;"))
+  -- a loop without a turn: neither its block nor its step is looked at
+  pub no_turn : Elaborates the_limits (items (codes "wire g; genvar i; for (i = 0; i < 0; i = z) begin : g wire w = z; end"))

@@ -1,0 +1,146 @@
+-- What holds of a scope without a fault, in every design that has its signals: what its names mean, and what its pieces are.
+use Rattle.std.specs.Prelude.{◌≡◌, ◌≤◌, ◌+◌, ℕ, Bool, true, false, List, [], ◌∷◌, Option, Some, None}
+use Rattle.vs_design.specs.Expressions.{Signal, signal_length, width}
+use Rattle.vs_design.specs.Designs.{Design}
+use Rattle.vs_design.specs.Footprints.{is_net}
+use Rattle.vs_design.specs.Elaborated.{is_signal, is_lawful_range, is_formed, is_formed_target, has_constant_selects, is_formed_process}
+use Rattle.vs_grammar.specs.Trees.{Name, Connections, Item, Module, Source}
+use Rattle.vs_grammar.specs.Trees as tree
+use Rattle.vs_grammar.specs.Shapes.{Each, AreConnections, IsGenerateItem, IsModule}
+use Rattle.vs_grammar.specs.Depths.{deepest, item_depth}
+use Rattle.vs_const.specs.Meanings.{SignalMeaning, IsFairValue}
+use Rattle.vs_const.specs.Typed.{Typed}
+use Rattle.vs_const.specs.Sound.{IsSoundSignal, AreSound, IsFine}
+use Rattle.vs_elaborated.specs.Limits.{Limits}
+use Rattle.vs_elaborated.specs.Environments.{Declared, Later, OfSignal, OfParameter, OfGenvar, OfScope, Entry, Env, find_entry, named}
+use Rattle.vs_elaborated.specs.Parameters.{Override}
+use Rattle.vs_elaborated.specs.Instances.{Around, connection_name, said_overrides, instance_said}
+use Rattle.vs_elaborated.specs.Generate.{Nested, Made}
+use Rattle.vs_elaborated.specs.Constructs.{constructs}
+use Rattle.vs_elaborated.specs.Pieces.{Contents, OfModule, OfBlock, Task, Connection, IntoInput, FromOutput, Piece, Own, Instance, Within}
+use Rattle.vs_elaborated.specs.Surveys.{Totals, overrides_of, survey}
+
+-- ---- names
+
+-- a known signal of the design, a value, or nothing that an expression can name
+abbrev pub IsSoundDeclared : Design → Bool → Declared → Type 0
+IsSoundDeclared d needed Later = Unit {0}
+IsSoundDeclared d needed (OfSignal s) = IsSoundSignal d needed s
+IsSoundDeclared d needed (OfParameter (Some v) (Some r)) = IsFairValue v r × (is_lawful_range (Some r) ≡ true)
+IsSoundDeclared d needed (OfParameter (Some v) None) = ⊥
+IsSoundDeclared d needed (OfParameter None r) = ⊥
+IsSoundDeclared d needed OfGenvar = Unit {0}
+IsSoundDeclared d needed OfScope = Unit {0}
+
+-- those of a scope
+abbrev pub AreSoundEntries : Design → Bool → List Entry → Type 0
+AreSoundEntries d needed es = Each (λ (e : Entry). IsSoundDeclared d needed e.declared) es
+
+-- those of a scope and of the scopes around it
+abbrev pub AreSoundFrames : Design → Bool → List (List Entry) → Type 0
+AreSoundFrames d needed fs = Each (AreSoundEntries d needed) fs
+
+-- ---- what is still to be read
+
+-- a constant without a fault
+pub record IsConstantFine (d : Design) (t : Typed) : Type 0 where
+  pub is_fine : IsFine d true t
+  pub most : width t.expression ≤ 64
+
+-- what overrides parameters
+abbrev pub AreFineOverrides : Design → List Override → Type 0
+AreFineOverrides d os = Each (λ (o : Override). IsConstantFine d o.typed) os
+
+-- it is as the grammar has it
+abbrev pub IsShapedContents : Contents → Type 0
+IsShapedContents (OfModule m overrides) = IsModule m
+IsShapedContents (OfBlock items) = Each IsGenerateItem items
+
+-- a connection without a fault
+abbrev pub IsFineConnection : Design → Connection → Type 0
+IsFineConnection d (IntoInput name e) = is_formed d e ≡ true
+IsFineConnection d (FromOutput name place target) = (is_formed_target d is_net target ≡ true) × (has_constant_selects target ≡ true)
+
+-- a scope of which all that comes from outside is without a fault
+pub record IsSoundTask (d : Design) (k : Task) : Type 0 where
+  pub frames : AreSoundFrames d false k.env.frames
+  pub overrides : AreFineOverrides d (overrides_of k.contents)
+  pub shaped : IsShapedContents k.contents
+
+-- a piece without a fault
+abbrev pub IsFinePiece : Design → Piece → Type 0
+IsFinePiece d (Own p) = is_formed_process d p ≡ true
+IsFinePiece d (Instance connections task) = Each (IsFineConnection d) connections × IsSoundTask d task
+IsFinePiece d (Within task) = IsSoundTask d task
+
+abbrev pub AreFinePieces : Design → List Piece → Type 0
+AreFinePieces d ps = Each (IsFinePiece d) ps
+
+-- modules of a text
+abbrev pub AreModules : List Module → Type 0
+AreModules ms = Each IsModule ms
+
+-- ---- the signals of a scope
+
+-- they are numbered from `n` on, have their bits from `b` on, and stand in this scope
+abbrev pub AreCounted : (scope n b : ℕ) → List Signal → Type 0
+AreCounted scope n b [] = Unit {0}
+AreCounted scope n b (s ∷ ss) = (s.number ≡ n) × (s.first ≡ b) × (s.scope ≡ scope) × AreCounted scope (n + 1) (b + signal_length s) ss
+
+-- a name means a signal of the design
+pub record MeansSignal (d : Design) (es : List Entry) (name : List ℕ) : Type 0 where
+  pub entry : Entry
+  pub meaning : SignalMeaning
+  pub found : find_entry es name ≡ Some entry
+  pub declared : entry.declared ≡ OfSignal meaning
+  pub there : is_signal d meaning.signal ≡ true
+
+-- each port that an instance connects is a signal in it, if there is no fault in it (12.3.3)
+abbrev pub HasPorts : Design → Limits → Source → Piece → Type 0
+HasPorts d limits source (Own p) = Unit {0}
+HasPorts d limits source (Instance connections task) =
+    (totals : Totals) → (survey limits source task totals).faults ≡ [] → AreSoundEntries d false (survey limits source task totals).entries
+    → Each (λ (c : Connection). MeansSignal d (survey limits source task totals).entries (connection_name c)) connections
+HasPorts d limits source (Within task) = Unit {0}
+
+-- ---- laws
+
+-- sound names have sound meanings
+abbrev pub NamesAreSound : Type 0
+NamesAreSound = (d : Design) (needed : Bool) (env : Env) → AreSoundFrames d needed env.frames → AreSound d needed (named env)
+
+-- what is said of a scope that has no fault: in a design that has its signals its names and its pieces are sound, and its bits are within the limit
+pub record IsFair (d : Design) (limits : Limits) (source : Source) (t : Task) (totals : Totals) : Type 0 where
+  pub names : AreSoundEntries d false (survey limits source t totals).entries
+  pub pieces : AreFinePieces d (survey limits source t totals).pieces
+  pub bits : totals.bits ≤ limits.bits → (survey limits source t totals).totals.bits ≤ limits.bits
+
+-- a scope without a fault is fair
+abbrev pub FaultlessIsFair : Type 0
+FaultlessIsFair = (d : Design) (limits : Limits) (source : Source) (t : Task) (totals : Totals) → AreModules source.modules → IsSoundTask d t
+    → Each (λ (s : Signal). is_signal d s ≡ true) (survey limits source t totals).signals → (survey limits source t totals).faults ≡ [] → IsFair d limits source t totals
+
+-- the signals of every scope follow on
+abbrev pub SignalsAreCounted : Type 0
+SignalsAreCounted = (limits : Limits) (source : Source) (t : Task) (totals : Totals) → AreCounted totals.scopes totals.signals totals.bits (survey limits source t totals).signals
+
+-- the instances of every scope are connected to signals
+abbrev pub PortsAreSignals : Type 0
+PortsAreSignals = (d : Design) (limits : Limits) (source : Source) (t : Task) (totals : Totals) → Each (HasPorts d limits source) (survey limits source t totals).pieces
+
+-- the blocks that items make nest less deep than the items (12.4)
+abbrev pub BlocksAreLower : Type 0
+BlocksAreLower = (most : ℕ) (limits : Limits) (items : List Item) (env : Env) (n total : ℕ) → deepest item_depth items ≤ most
+    → Each (λ (m : Made). Each (λ (b : Nested). deepest item_depth b.items + 1 ≤ most) m.blocks) (constructs limits items env n total)
+
+-- ---- of an instance by itself
+
+-- what overrides its parameters is without a fault, where nothing that it says is
+abbrev pub OverridesAreFine : Type 0
+OverridesAreFine = (d : Design) (env : Env) (of : Name) (m : Option Module) (c : Connections) → AreSoundFrames d false env.frames → AreConnections c → (said_overrides of m c env).faults ≡ []
+    → AreFineOverrides d (said_overrides of m c env).overrides
+
+-- its ports are connected to signals
+abbrev pub InstancesHavePorts : Type 0
+InstancesHavePorts = (d : Design) (limits : Limits) (source : Source) (around : Around) (place : ℕ) (m : Option Module) (os : List Override) (i : tree.Instance)
+    → Each (HasPorts d limits source) (instance_said around place m os i).pieces

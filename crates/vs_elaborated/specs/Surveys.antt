@@ -1,0 +1,194 @@
+-- All that one scope says: its names, its signals, its pieces in text order, and its faults (IEEE 1364-2005, clause 12).
+use Rattle.std.specs.Prelude.{ℕ, ◌+◌, Bool, false, List, [], ◌∷◌, ◌++◌, map, flat_map, length, max, sum_by, if◌then◌else◌, nat_lt, is_none, Option, Some, None}
+use Rattle.std.specs.List.{list_any}
+use Rattle.vs_design.specs.Expressions.{Signal, signal_length}
+use Rattle.vs_design.specs.Designs.{Written, Continuous, Always, process_place}
+use Rattle.vs_design.specs.Clocks.{same_name}
+use Rattle.vs_grammar.specs.Trees as tree
+use Rattle.vs_grammar.specs.Trees.{Source, items_list, target_place}
+use Rattle.vs_const.specs.declared.faults.Fault.{Fault}
+use Rattle.vs_const.specs.Faults.{fault, fault_if}
+use Rattle.vs_const.specs.declared.rules.Rule.TheVariants.{DuplicateName, TooManyBits, TooManyProcesses}
+use Rattle.vs_const.specs.Expressions.{typed}
+use Rattle.vs_elaborated.specs.Limits.{Limits}
+use Rattle.vs_elaborated.specs.Environments.{OfScope, Entry, Env, within, with_turn, find_entry, named, Turn}
+use Rattle.vs_elaborated.specs.Targets.{typed_target}
+use Rattle.vs_elaborated.specs.Statements.{typed_statement, typed_control}
+use Rattle.vs_elaborated.specs.Declarations.{Declaration, item_declared, module_declared, names_of, repeated_names}
+use Rattle.vs_elaborated.specs.Parameters.{Override, first_entries, said_parameters}
+use Rattle.vs_elaborated.specs.Signals.{SaidSignal, said_signals, range_faults, put_signals}
+use Rattle.vs_elaborated.specs.Generate.{Nested, BlockName, Made}
+use Rattle.vs_elaborated.specs.Constructs.{constructs}
+use Rattle.vs_elaborated.specs.Ports.{header_faults}
+use Rattle.vs_elaborated.specs.Pieces.{Contents, OfModule, OfBlock, Task, Piece, Own, Instance, Within, Said, nothing_said, one_said, both_said, all_said}
+use Rattle.vs_elaborated.specs.Instances.{Around, instances_said}
+
+-- ---- the items that aren't declarations
+
+-- `target = e` of an assign at this place (6.1)
+abbrev pub assign_said : Env → (place : ℕ) → tree.Assign → Said
+assign_said env place a =
+    let t = typed_target a.target (named env) false in
+    let e = typed a.e (named env) false in
+    one_said (Own (Continuous place Written (target_place a.target) t.target e.expression)) (t.faults ++ e.faults)
+
+-- `wire w = e` is an assign too (6.1.1)
+abbrev pub wire_said : Env → (place : ℕ) → tree.Declarator → Said
+wire_said env place d = of_value d.value
+  where
+    of_value : Option tree.Expr → Said
+    of_value None = nothing_said []
+    of_value (Some e) = assign_said env place (record { target = tree.NamedTarget d.name tree.Whole; e = e })
+
+-- an always block (9.9.2)
+abbrev pub block_said : Env → tree.AlwaysBlock → Said
+block_said env b =
+    let c = typed_control b.control (named env) in
+    let s = typed_statement b.statement (named env) in
+    one_said (Own (Always b.place c.star c.events s.statement)) (c.faults ++ s.faults)
+
+-- a block's loop value is known within it
+abbrev pub turned : Env → Option Turn → Env
+turned env None = env
+turned env (Some t) = with_turn env t
+
+-- a generate block is a scope within this one
+abbrev pub nested_piece : Around → Nested → Piece
+nested_piece around b = Within (record { name = b.name; parent = Some around.scope; contents = OfBlock b.items; depth = around.depth; place = 0; env = turned around.env b.turn })
+
+-- `made` is what the item makes if it is a generate construct
+abbrev pub item_said : Source → Around → tree.Item → Made → Said
+item_said source around (tree.SignalsItem t) made = all_said (wire_said around.env t.place) t.names
+item_said source around (tree.AssignsItem place assigns) made = all_said (assign_said around.env place) assigns
+item_said source around (tree.AlwaysItem block) made = block_said around.env block
+item_said source around (tree.InstancesItem t) made = instances_said source around t
+item_said source around item made = record { pieces = map (nested_piece around) made.blocks; faults = [] }
+
+-- each item with what it makes
+abbrev pub items_said : Source → Around → List tree.Item → List Made → Said
+items_said source around (i ∷ is) (m ∷ ms) = both_said (item_said source around i m) (items_said source around is ms)
+items_said source around _ _ = nothing_said []
+
+-- ---- the names of blocks
+
+-- the later of a block's name and a declared one is at fault
+abbrev pub clash_with : ℕ → Option Entry → List Fault
+clash_with place None = []
+clash_with place (Some e) = fault DuplicateName (max place e.place)
+
+-- whether a block before has this name
+abbrev pub has_name : List ℕ → List BlockName → Bool
+has_name name bs = list_any (λ (b : BlockName). same_name b.name name) bs
+
+-- of two things of one name the later has the fault; `seen` are the blocks before
+abbrev pub block_faults : List Entry → List BlockName → List BlockName → List Fault
+block_faults es seen [] = []
+block_faults es seen (b ∷ bs) = (clash_with b.place (find_entry es b.name) ++ fault_if (has_name b.name seen) DuplicateName b.place) ++ block_faults es (b ∷ seen) bs
+
+-- the names that are written
+abbrev pub block_entries : List BlockName → List Entry
+block_entries bs = flat_map (λ (b : BlockName). if b.written then (record { name = b.name; place = b.place; declared = OfScope } ∷ []) else []) bs
+
+-- ---- counts
+
+-- so far, in the order in which scopes are read
+pub record Totals : Type 0 where
+  pub scopes : ℕ
+  pub signals : ℕ
+  pub bits : ℕ
+  pub instances : ℕ
+  pub turns : ℕ
+  pub processes : ℕ
+
+-- before the top
+abbrev pub no_totals : Totals
+no_totals = record { scopes = 0; signals = 0; bits = 0; instances = 0; turns = 0; processes = 0 }
+
+-- the first signal with whose bits there are more than the most
+abbrev pub bits_over : (most total : ℕ) → List SaidSignal → List Fault
+bits_over most total [] = []
+bits_over most total (s ∷ ss) =
+    let sum = total + (if s.meaning.known then signal_length s.meaning.signal else 0) in
+    if nat_lt most sum then fault TooManyBits s.place else bits_over most sum ss
+
+-- where its processes begin in the text
+abbrev pub piece_place : Piece → ℕ
+piece_place (Own p) = process_place p
+piece_place (Instance connections task) = task.place
+piece_place (Within task) = 0
+
+-- an instance has one for each connected port (12.3.9.2)
+abbrev pub piece_processes : Piece → ℕ
+piece_processes (Own p) = 1
+piece_processes (Instance connections task) = length connections
+piece_processes (Within task) = 0
+
+-- the first piece with whose processes there are more than the most
+abbrev pub processes_over : (most total : ℕ) → List Piece → List Fault
+processes_over most total [] = []
+processes_over most total (p ∷ ps) = let sum = total + piece_processes p in if nat_lt most sum then fault TooManyProcesses (piece_place p) else processes_over most sum ps
+
+-- the count behind the last construct
+abbrev pub turns_after : ℕ → List Made → ℕ
+turns_after total [] = total
+turns_after total (m ∷ ms) = turns_after m.turns ms
+
+-- ---- the whole scope
+
+-- what is known of a scope before those within it are read
+pub record Survey : Type 0 where
+  pub entries : List Entry
+  pub signals : List Signal
+  pub pieces : List Piece
+  pub faults : List Fault
+  pub totals : Totals
+
+-- a module's items, or a block's
+abbrev pub items_of : Contents → List tree.Item
+items_of (OfModule m overrides) = items_list m.items
+items_of (OfBlock items) = items
+
+-- a module declares in its header too
+abbrev pub declarations_of : Contents → List Declaration
+declarations_of (OfModule m overrides) = module_declared m
+declarations_of (OfBlock items) = flat_map item_declared items
+
+-- a block has no parameters to override
+abbrev pub overrides_of : Contents → List Override
+overrides_of (OfModule m overrides) = overrides
+overrides_of (OfBlock items) = []
+
+-- a block has no header
+abbrev pub header_of : Contents → List Fault
+header_of (OfModule m overrides) = header_faults m
+header_of (OfBlock items) = []
+
+-- parameters don't see ranges, nor ranges and generate constructs the names of the scope's own blocks
+abbrev pub survey : Limits → Source → Task → Totals → Survey
+survey limits source t totals =
+    let ds = declarations_of t.contents in
+    let names = names_of ds in
+    let parameters = said_parameters t.env (overrides_of t.contents) ds (first_entries names) in
+    let ranged = within t.env parameters.entries in
+    let signals = said_signals ranged (record { scope = totals.scopes; top = is_none t.parent; signal = totals.signals; bit = totals.bits }) names in
+    let entries = put_signals signals parameters.entries in
+    let made = constructs limits (items_of t.contents) (within t.env entries) 1 totals.turns in
+    let blocks = flat_map (λ (m : Made). m.names) made in
+    let whole = entries ++ block_entries blocks in
+    let said = items_said source (record { scope = totals.scopes; depth = t.depth; env = within t.env whole }) (items_of t.contents) made in
+    record {
+      entries = whole;
+      signals = map (λ (s : SaidSignal). s.meaning.signal) signals;
+      pieces = said.pieces;
+      faults =
+          header_of t.contents ++ (repeated_names [] ds ++ (parameters.faults ++ (range_faults ranged ds ++ (flat_map (λ (s : SaidSignal). s.faults) signals
+          ++ (flat_map (λ (m : Made). m.faults) made ++ (block_faults entries [] blocks ++ (said.faults ++ (bits_over limits.bits totals.bits signals ++ processes_over limits.processes totals.processes said.pieces))))))));
+      totals =
+          record totals {
+            scopes = totals.scopes + 1;
+            signals = totals.signals + length signals;
+            bits = totals.bits + sum_by (λ (s : SaidSignal). signal_length s.meaning.signal) signals;
+            turns = turns_after totals.turns made;
+            processes = totals.processes + sum_by piece_processes said.pieces;
+          };
+    }

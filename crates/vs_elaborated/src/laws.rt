@@ -1,0 +1,57 @@
+//! What holds of every elaborated design, and worked texts.
+
+ghost use Rattle.vs_elaborated.specs.ExampleDesigns.{WholeDesigns, Parameters, Overrides, ConvertedOverrides, Ports, Connections, Numbered, Blocks, Names};
+ghost use Rattle.vs_elaborated.specs.ExampleRefusals.{NotConstants, UnknownConstants, WrongModules, UnknownNames, RepeatedNames, BadRanges, WrongConnections, WrongKinds, OtherKinds, FirstFaults, Limited};
+ghost use Rattle.vs_elaborated.specs.Laws.{DepthIsEnough, ElaboratedIsLawful};
+ghost use Rattle.vs_elaborated.specs.Sound.{BlocksAreLower, FaultlessIsFair, InstancesHavePorts, NamesAreSound, OverridesAreFine, PortsAreSignals, SignalsAreCounted};
+
+/// Every design that a text elaborates to is lawful (IEEE 1364-2005, clause 12), and no text has scopes deeper within one another than are read.
+pub fn elaborated_law()
+    ensures lawful { ElaboratedIsLawful }
+    ensures depth { DepthIsEnough }
+{}
+
+/// What holds of a scope without a fault, in every design that has its signals: its names mean known signals, values or nothing, its pieces are
+/// formed, the ports that its instances connect are signals, and its signals are numbered one after the other; and what generate constructs make nests less deep than they do (IEEE 1364-2005, clause 12).
+pub fn scope_law()
+    ensures names { NamesAreSound }
+    ensures fair { FaultlessIsFair }
+    ensures counted { SignalsAreCounted }
+    ensures ports { PortsAreSignals }
+    ensures blocks { BlocksAreLower }
+{}
+
+/// What holds of one instance by itself, in every design: what overrides its parameters is without a fault where it breaks no rule, and the ports that
+/// it connects are signals of its module (IEEE 1364-2005, 12.2 and 12.3).
+pub fn instance_law()
+    ensures overrides { OverridesAreFine }
+    ensures ports { InstancesHavePorts }
+{}
+
+/// Worked designs: what each rule of elaboration gives.
+pub fn design_examples()
+    ensures whole_designs { WholeDesigns }
+    ensures parameters { Parameters }
+    ensures overrides { Overrides }
+    ensures converted_overrides { ConvertedOverrides }
+    ensures ports { Ports }
+    ensures connections { Connections }
+    ensures numbered { Numbered }
+    ensures blocks { Blocks }
+    ensures names { Names }
+{}
+
+/// Worked refusals: each rule of elaboration, and where it is broken.
+pub fn refusal_examples()
+    ensures not_constants { NotConstants }
+    ensures unknown_constants { UnknownConstants }
+    ensures wrong_modules { WrongModules }
+    ensures unknown_names { UnknownNames }
+    ensures repeated_names { RepeatedNames }
+    ensures bad_ranges { BadRanges }
+    ensures wrong_connections { WrongConnections }
+    ensures wrong_kinds { WrongKinds }
+    ensures other_kinds { OtherKinds }
+    ensures first_faults { FirstFaults }
+    ensures limited { Limited }
+{}

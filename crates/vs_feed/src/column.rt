@@ -1,0 +1,94 @@
+//! The bits of all lanes, packed into pairs of planes.
+
+ghost use Rattle.std.specs.Prelude.{◌≡◌, ℕ, ◌+◌, ◌*◌, ◌<◌, ◌≤◌, [], length, map, slice_index, slice_index_or};
+ghost use Rattle.vs_desk.specs.Places.{most_lanes};
+ghost use Rattle.vs_four.specs.Planes.{bits_of_planes};
+ghost use Rattle.vs_plane.specs.Lanes.{pair_lane};
+ghost use Rattle.vs_feed.specs.Lanes.{lane_at, AreLanes};
+ghost use Rattle.vs_feed.specs.Fed.{driven, driven_value, HaveBits, IsWide, AreFed};
+
+use vs_four::Bit4;
+use vs_plane::{Columns, Lanes, Pair};
+use vs_stim::Stimulus;
+
+/// Whether there is a stimulus of this lane that hasn't ended.
+#[inline]
+fn is_live(stimuli: &[Stimulus], lane: usize) -> bool
+    ensures { result ≡ (lane_at stimuli.now lane).live }
+{
+    lane < stimuli.len() && stimuli[lane].live()
+}
+
+/// The planes of an input in a lane; x where its stimulus has ended, or isn't there.
+#[inline]
+fn planes_of(stimuli: &[Stimulus], input: usize, lane: usize) -> (u64, u64)
+    requires { lane < length stimuli.now → input < length (lane_at stimuli.now lane).vector }
+    ensures { (count : ℕ) → IsWide input count stimuli.now → count ≤ 64
+        → bits_of_planes count result.0 result.1 ≡ driven_value count (lane_at stimuli.now lane) input }
+{
+    if is_live(stimuli, lane) {
+        stimuli[lane].vector()[input].planes()
+    } else {
+        (u64::MAX, u64::MAX)
+    }
+}
+
+/// The planes of an input in the 64 lanes from `64 * k` on.
+fn columns_of(stimuli: &[Stimulus], input: usize, k: u32) -> Columns
+    requires { (i : ℕ) → i < length stimuli.now → input < length (lane_at stimuli.now i).vector }
+    ensures { (count i : ℕ) → IsWide input count stimuli.now → count ≤ 64 → i < 64
+        → bits_of_planes count (slice_index result.value i) (slice_index result.unknown i) ≡ driven_value count (lane_at stimuli.now (64 * k + i)) input }
+{
+    let mut value = [0; 64];
+    let mut unknown = [0; 64];
+    for i in 0..64 {
+        (value[i], unknown[i]) = planes_of(stimuli, input, 64 * k as usize + i);
+    }
+    Columns { value, unknown }
+}
+
+/// Packs an input into its pairs, one for each bit, 64 lanes at a time.
+fn feed_input<W: Lanes>(stimuli: &[Stimulus], input: usize, pairs: &mut [Pair<W>])
+    requires input { IsWide input (length pairs.old) stimuli.now }
+    requires most { length pairs.old ≤ 64 }
+    ensures count { length pairs.new ≡ length pairs.old }
+    ensures packed { (i : ℕ) → i < W.LANES → map (λ p. pair_lane W.lane p i) pairs.new ≡ driven_value (length pairs.old) (lane_at stimuli.now i) input }
+{
+    for k in 0..W::LANES / 64 {
+        Pair::pack(pairs, k, &columns_of(stimuli, input, k));
+    }
+}
+
+/// Packs all inputs of the stimuli, of which there is one at least.
+fn feed_inputs<W: Lanes>(stimuli: &[Stimulus], pairs: &mut [Pair<W>])
+    requires width { W.LANES ≤ most_lanes }
+    requires few { length stimuli.now ≤ W.LANES }
+    requires some { 0 < length stimuli.now }
+    requires lanes { AreLanes stimuli.now }
+    requires bits { HaveBits (length pairs.old) stimuli.now }
+    ensures { AreFed W.lane W.LANES (length pairs.old) stimuli.now pairs.new }
+{
+    let mut first = 0;
+    for (input, value) in stimuli[0].vector().iter().enumerate() {
+        let count = value.len() as usize;
+        feed_input(stimuli, input, &mut pairs[first..first + count]);
+        first += count;
+    }
+}
+
+/// Packs the vectors of the stimuli that haven't ended.
+pub(crate) fn feed_all<W: Lanes>(stimuli: &[Stimulus], pairs: &mut [Pair<W>])
+    requires width { W.LANES ≤ most_lanes }
+    requires few { length stimuli.now ≤ W.LANES }
+    requires lanes { AreLanes stimuli.now }
+    requires bits { HaveBits (length pairs.old) stimuli.now }
+    ensures { (i : ℕ) → i < W.LANES → map (λ p. pair_lane W.lane p i) pairs.new ≡ driven (length pairs.old) (lane_at stimuli.now i) }
+{
+    if stimuli.is_empty() {
+        for pair in pairs.iter_mut() {
+            *pair = Pair::of_bit(Bit4::X);
+        }
+    } else {
+        feed_inputs(stimuli, pairs);
+    }
+}

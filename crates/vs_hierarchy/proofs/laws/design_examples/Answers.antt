@@ -1,5 +1,0 @@
-use Rattle.vs_hierarchy.proofs.WorkedDesigns.{whole_designs, parameters, overrides, converted_overrides, ports, connections, numbered, blocks, names}
-use Rattle.vs_hierarchy.proofs.laws.design_examples.Goals as goal
-
-pub returns : goal.returns
-returns c = record { whole_designs = whole_designs; parameters = parameters; overrides = overrides; converted_overrides = converted_overrides; ports = ports; connections = connections; numbered = numbered; blocks = blocks; names = names }

@@ -1,5 +1,0 @@
-use Rattle.vs_hierarchy.proofs.SoundScopes.{overrides_are_fine, instances_have_ports}
-use Rattle.vs_hierarchy.proofs.laws.instance_law.Goals as goal
-
-pub returns : goal.returns
-returns c = record { overrides = overrides_are_fine; ports = instances_have_ports }

@@ -1,6 +1,0 @@
-use Rattle.vs_hierarchy.proofs.SoundNames.{named_sound}
-use Rattle.vs_hierarchy.proofs.SoundScopes.{faultless_fair, signals_counted, ports_signals, blocks_lower}
-use Rattle.vs_hierarchy.proofs.laws.scope_law.Goals as goal
-
-pub returns : goal.returns
-returns c = record { names = named_sound; fair = faultless_fair; counted = signals_counted; ports = ports_signals; blocks = blocks_lower }

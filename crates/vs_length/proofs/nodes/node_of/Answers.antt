@@ -1,5 +1,0 @@
-use Rattle.vs_length.proofs.Names.{names_of_node}
-use Rattle.vs_length.proofs.nodes.node_of.Goals as goal
-
-pub returns-clause-names : goal.returns-clause-names
-returns-clause-names c = names_of_node c.names_law.ensures.expressions c.args.flat.now c.requires.lawful c.args.e c.expr.result.now c.expr.ensures

@@ -1,7 +1,0 @@
-use Rattle.std.proofs.Common.{◌≡◌, ◌++◌, map, drop}
-use Rattle.vs_length.specs.Nodes.{tree_of}
-use Rattle.vs_length.specs.Gathered.{walked_items}
-use Rattle.vs_length.proofs.shapes.Shapes.push_in_items.Given as goal
-
-abbrev pub invariant-loop-item : goal.invariant-loop-item
-invariant-loop-item l = l.out.items ++ walked_items l.walk (map (tree_of l.self) (drop l.item-index l.items)) ≡ l.initial.out.items ++ walked_items l.walk (map (tree_of l.self) l.items)

@@ -1,5 +1,0 @@
-use Rattle.vs_lower.proofs.Environments.{none_moved}
-use Rattle.vs_lower.proofs.environment.Environment.at_home.Goals as goal
-
-pub returns : goal.returns
-returns c = none_moved c.args.bits c.new.result c.new.ensures.empty

@@ -1,9 +1,0 @@
-use Rattle.std.proofs.Common.{◌≡◌, false}
-use Rattle.vs_grammar.specs.Predictive.{is_member}
-use Rattle.vs_phrase.specs.Parts as part
-use Rattle.vs_phrase.specs.Reading.{kind_at}
-use Rattle.vs_phrase.proofs.Choices.{option_more, unary_picked}
-use Rattle.vs_phrase.proofs.expressions.unary_operator.Goals as goal
-
-pub returns : goal.returns
-returns c = option_more (is_member (kind_at c.args.input.now.tokens.now c.args.at) part.unary_kinds ≡ false) c.choose.result c.choose.ensures (λ y w. unary_picked w)

@@ -1,0 +1,16 @@
+pub mod Names
+pub mod Joined
+pub mod ValueLengths
+pub mod PartValues
+pub mod Widths
+pub mod Selected
+pub mod Runs
+pub mod BodyNames
+pub mod SignalBits
+pub mod Gathering
+pub mod Sources
+pub mod TargetParts
+pub mod Walking
+pub mod Rising
+pub mod PlaceSteps
+pub mod Among

@@ -1,0 +1,59 @@
+use Rattle.std.proofs.Common.{arith, rules, ◌∙◌, ◌++◌, refl}
+use Rattle.std.proofs.lemmas.Grind.{common_steps}
+use Rattle.vs_four.specs.Selects.{one_bit}
+use Rattle.vs_flat.specs.Targets.{source_of}
+use Rattle.vs_flat.specs.declared.expressions.Node.TheVariants as N
+use Rattle.vs_shape.specs.Nodes.{tree_of}
+use Rattle.vs_shape.specs.Gathered.{gathered}
+use Rattle.vs_shape.proofs.Gathering.{with_part, two_added, gathered_node, gathered_select, binary_gathered, choice_gathered, part_fits}
+use Rattle.vs_shape.proofs.shapes.Shapes.+push_reads.Goals as goal
+
+pub push_reads-requires-in-loop-part : goal.push_reads-requires-in-loop-part
+push_reads-requires-in-loop-part t c = (
+  first_of (search rules, grind (arith, common_steps)),
+  (
+    first_of (search rules, grind (arith, common_steps)),
+    part_fits c.args.self.now c.flat-flat.result.now c.args.e c.loop-part.part-index c.node_of.result.now c.in-Join.parts c.as_slice.result.now c.first_copy-part-items.result.now c.flat-flat.ensures.same c.node_of.ensures.tree c.in-Join.is
+        c.first_copy-part-items.ensures.copy c.as_slice.ensures c.requires.fits c.loop-part-test.true,
+  ),
+)
+
+pub loop-part-preserved : goal.loop-part-preserved
+loop-part-preserved t c =
+    with_part c.args.whole (tree_of c.args.self.now) c.first_copy-part-items.result.now c.loop-part.part-index c.loop-part.out.items c.push_reads-in-loop-part.new.out.items _ c.loop-part-test.true c.loop-part.invariant
+    c.in_ok-push_reads-in-Join.ensures
+
+pub returns-in_ok-push_source-in-Bit : goal.returns-in_ok-push_source-in-Bit
+returns-in_ok-push_source-in-Bit t c =
+    let a = c.args.self.now in
+    let w = c.args.whole in
+    two_added c.push_reads.result c.args.out.now.items c.push_source.new.out.items c.push_reads.new.out.items _ _ (gathered w (tree_of a c.args.e)) c.in_ok-push_source-in-Bit.ensures c.push_reads.ensures
+    (gathered_node a c.flat-flat.result.now c.args.e c.node_of.result.now w c.flat-flat.ensures.same c.node_of.ensures.tree (N.Bit c.in-Bit.of c.in-Bit.range c.in-Bit.index) c.in-Bit.is
+    ∙ gathered_select w (source_of (tree_of a c.in-Bit.of)) (one_bit c.in-Bit.range) (tree_of a c.in-Bit.index))
+
+pub returns-in_ok-push_source-in-Part : goal.returns-in_ok-push_source-in-Part
+returns-in_ok-push_source-in-Part t c =
+    let a = c.args.self.now in
+    let w = c.args.whole in
+    two_added c.push_reads-in-Part.result c.args.out.now.items c.push_source-in-Part.new.out.items c.push_reads-in-Part.new.out.items _ _ (gathered w (tree_of a c.args.e)) c.in_ok-push_source-in-Part.ensures c.push_reads-in-Part.ensures
+    (gathered_node a c.flat-flat.result.now c.args.e c.node_of.result.now w c.flat-flat.ensures.same c.node_of.ensures.tree (N.Part c.in-Part.of c.in-Part.range c.in-Part.base c.in-Part.up c.in-Part.width) c.in-Part.is
+    ∙ gathered_select w (source_of (tree_of a c.in-Part.of)) (record { range = c.in-Part.range; up = c.in-Part.up; width = c.in-Part.width }) (tree_of a c.in-Part.base))
+
+pub returns-in_ok-push_reads-in-Binary : goal.returns-in_ok-push_reads-in-Binary
+returns-in_ok-push_reads-in-Binary t c =
+    let a = c.args.self.now in
+    let w = c.args.whole in
+    two_added c.push_reads-in-Binary-2.result c.args.out.now.items c.push_reads-in-Binary.new.out.items c.push_reads-in-Binary-2.new.out.items _ _ (gathered w (tree_of a c.args.e)) c.in_ok-push_reads-in-Binary.ensures
+    c.push_reads-in-Binary-2.ensures
+    (gathered_node a c.flat-flat.result.now c.args.e c.node_of.result.now w c.flat-flat.ensures.same c.node_of.ensures.tree (N.Binary c.in-Binary.op c.in-Binary.a c.in-Binary.b) c.in-Binary.is
+    ∙ binary_gathered w c.in-Binary.op (tree_of a c.in-Binary.a) (tree_of a c.in-Binary.b))
+
+pub returns-in_ok-push_reads-in-Choice-2 : goal.returns-in_ok-push_reads-in-Choice-2
+returns-in_ok-push_reads-in-Choice-2 t c =
+    let a = c.args.self.now in
+    let w = c.args.whole in
+    two_added c.push_reads-in-Choice-3.result c.args.out.now.items c.push_reads-in-Choice.new.out.items c.push_reads-in-Choice-3.new.out.items _ _ (gathered w (tree_of a c.args.e)) c.in_ok-push_reads-in-Choice.ensures
+    (two_added c.push_reads-in-Choice-3.result c.push_reads-in-Choice.new.out.items c.push_reads-in-Choice-2.new.out.items c.push_reads-in-Choice-3.new.out.items (gathered w (tree_of a c.in-Choice.p)) (gathered w (tree_of a c.in-Choice.q))
+    (gathered w (tree_of a c.in-Choice.p) ++ gathered w (tree_of a c.in-Choice.q)) c.in_ok-push_reads-in-Choice-2.ensures c.push_reads-in-Choice-3.ensures refl)
+    (gathered_node a c.flat-flat.result.now c.args.e c.node_of.result.now w c.flat-flat.ensures.same c.node_of.ensures.tree (N.Choice c.in-Choice.c c.in-Choice.p c.in-Choice.q) c.in-Choice.is
+    ∙ choice_gathered w (tree_of a c.in-Choice.c) (tree_of a c.in-Choice.p) (tree_of a c.in-Choice.q))

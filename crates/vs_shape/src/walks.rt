@@ -1,0 +1,172 @@
+//! Walks over expressions and targets that gather bits (IEEE 1364-2005, 9.7.5 and 11.6.1).
+
+ghost use Rattle.std.specs.Prelude.{◌≡◌, ◌<◌, ◌≤◌, ◌++◌, ◌+◌, ◌^◌, true, length, map, is_some, OnOk};
+ghost use Rattle.vs_four.specs.Selects.{range_length};
+ghost use Rattle.vs_design.specs.Expressions.{range_or_one};
+ghost use Rattle.vs_design.specs.Fits.{fits, fits_64};
+ghost use Rattle.vs_design.specs.Values.{bits_of_signal};
+ghost use Rattle.vs_design.specs.Footprints.{target_bits};
+ghost use Rattle.vs_flat.specs.Lawful.{IsLawful};
+ghost use Rattle.vs_flat.specs.Targets.{source_of};
+ghost use Rattle.vs_flat.specs.Trees.{signal_at, target_tree};
+ghost use Rattle.vs_flat.specs.DesignOf.{arena_signals};
+ghost use Rattle.vs_shape.specs.Nodes.{EachBelow, tree_of};
+ghost use Rattle.vs_shape.specs.Walked.{IsSourceFit, IsTarget};
+ghost use Rattle.vs_shape.specs.Gathered.{gathered, gathered_source, gathered_target};
+
+use crate::bits::{push_places, push_run};
+use crate::nodes::{first_copy, node_of};
+use crate::places::{Part, places_of};
+use crate::shapes::Shapes;
+use std::alloc::AllocError;
+use vs_flat::{Flat, Node, length_of, trees_law};
+use vs_four::Range;
+
+/// Adds the bits of a signal, the least significant one first.
+fn push_signal(flat: &Flat, signal: u32, out: &mut Vec<u32>) -> Result<(), AllocError>
+    requires lawful { IsLawful flat.now }
+    requires there { signal < length flat.now.signals }
+    ensures { OnOk result (out.new.items ≡ out.old.items ++ bits_of_signal (signal_at (arena_signals flat.now) signal)) }
+{
+    trees_law();
+    let s = flat.signal(signal);
+    push_run(out, s.first_bit, length_of(s.range))
+}
+
+impl Shapes {
+    /// Adds the bits of a signal, the least significant one first.
+    pub fn push_signal(&self, signal: u32, out: &mut Vec<u32>) -> Result<(), AllocError>
+        requires { signal < length self.now.signals }
+        ensures { OnOk result (out.new.items ≡ out.old.items ++ bits_of_signal (signal_at (arena_signals self.now) signal)) }
+    {
+        push_signal(self.flat(), signal, out)
+    }
+
+    /// Adds the bits of a select that its source has; `whole` adds all bits of the signal whatever the index.
+    fn push_source(
+        &self,
+        of: u32,
+        index: u32,
+        range: Range,
+        up: bool,
+        width: u32,
+        whole: bool,
+        out: &mut Vec<u32>,
+    ) -> Result<(), AllocError>
+        requires source { of < length self.now.nodes }
+        requires there { index < length self.now.nodes }
+        requires fit { IsSourceFit (source_of (tree_of self.now of)) (record { range = range; up = up; width = width }) (tree_of self.now index) }
+        ensures { OnOk result (out.new.items ≡ out.old.items ++ gathered_source whole (source_of (tree_of self.now of)) (record { range = range; up = up; width = width }) (tree_of self.now index)) }
+    {
+        let flat = self.flat();
+        let Node::Name { signal } = node_of(flat, of) else {
+            return Ok(());
+        };
+        let shape = self.shape(index);
+        if whole || !shape.constant {
+            return push_signal(flat, *signal, out);
+        }
+        trees_law();
+        let first = flat.signal(*signal).first_bit;
+        let part = Part { range, up, width };
+        let places = places_of(part, shape.signed, self.constant_value(index));
+        push_places(out, first, &places)
+    }
+
+    /// Adds the bits that expression e reads; `whole` adds all bits of each signal that it names.
+    pub fn push_reads(&self, e: u32, whole: bool, out: &mut Vec<u32>) -> Result<(), AllocError>
+        requires there { e < length self.now.nodes }
+        requires fits { fits (tree_of self.now e) ≡ true }
+        ensures { OnOk result (out.new.items ≡ out.old.items ++ gathered whole (tree_of self.now e)) }
+    {
+        let flat = self.flat();
+        match node_of(flat, e) {
+            Node::Literal { .. } => Ok(()),
+            Node::Name { signal } => push_signal(flat, *signal, out),
+            Node::Bit { of, range, index } => {
+                self.push_source(*of, *index, *range, true, 1, whole, out)?;
+                self.push_reads(*index, whole, out)
+            }
+            Node::Part {
+                of,
+                range,
+                base,
+                up,
+                width,
+            } => {
+                self.push_source(*of, *base, *range, *up, *width, whole, out)?;
+                self.push_reads(*base, whole, out)
+            }
+            Node::Unary { op: _, a } => self.push_reads(*a, whole, out),
+            Node::Binary { op: _, a, b } => {
+                self.push_reads(*a, whole, out)?;
+                self.push_reads(*b, whole, out)
+            }
+            Node::Choice { c, p, q } => {
+                self.push_reads(*c, whole, out)?;
+                self.push_reads(*p, whole, out)?;
+                self.push_reads(*q, whole, out)
+            }
+            Node::Join { parts } => {
+                for part in first_copy(parts.as_slice()) {
+                    self.push_reads(*part, whole, out)?;
+                }
+                Ok(())
+            }
+        }
+    }
+
+    /// Adds the bits that target e writes; a bit that it has twice is added twice.
+    pub fn push_target(&self, e: u32, out: &mut Vec<u32>) -> Result<(), AllocError>
+        requires there { e < length self.now.nodes }
+        requires target { IsTarget (tree_of self.now e) }
+        ensures { OnOk result (out.new.items ≡ out.old.items ++ target_bits (target_tree (tree_of self.now e))) }
+    {
+        let flat = self.flat();
+        match node_of(flat, e) {
+            Node::Name { signal } => push_signal(flat, *signal, out),
+            Node::Bit { of, range, index } => {
+                self.push_source(*of, *index, *range, true, 1, false, out)
+            }
+            Node::Part {
+                of,
+                range,
+                base,
+                up,
+                width,
+            } => self.push_source(*of, *base, *range, *up, *width, false, out),
+            Node::Join { parts } => {
+                for part in first_copy(parts.as_slice()) {
+                    self.push_target(*part, out)?;
+                }
+                Ok(())
+            }
+            _ => Ok(()),
+        }
+    }
+
+    /// Adds the bits that the indices of target e read; `whole` adds all bits of each signal that they name.
+    pub fn push_target_reads(
+        &self,
+        e: u32,
+        whole: bool,
+        out: &mut Vec<u32>,
+    ) -> Result<(), AllocError>
+        requires there { e < length self.now.nodes }
+        requires target { IsTarget (tree_of self.now e) }
+        ensures { OnOk result (out.new.items ≡ out.old.items ++ gathered_target whole (target_tree (tree_of self.now e))) }
+    {
+        let flat = self.flat();
+        match node_of(flat, e) {
+            Node::Bit { index, .. } => self.push_reads(*index, whole, out),
+            Node::Part { base, .. } => self.push_reads(*base, whole, out),
+            Node::Join { parts } => {
+                for part in first_copy(parts.as_slice()) {
+                    self.push_target_reads(*part, whole, out)?;
+                }
+                Ok(())
+            }
+            _ => Ok(()),
+        }
+    }
+}

@@ -1,0 +1,9 @@
+use Rattle.std.proofs.Common.{◌≡◌, false}
+use Rattle.vs_grammar.specs.Predictive.{is_member}
+use Rattle.vs_statements.specs.Parts as part
+use Rattle.vs_statements.specs.Reading.{kind_at}
+use Rattle.vs_statements.proofs.Choices.{option_more, slice_picked}
+use Rattle.vs_statements.proofs.expressions.slice_sign.Goals as goal
+
+pub returns : goal.returns
+returns c = option_more (is_member (kind_at c.args.input.now.tokens.now c.args.at) part.slice_kinds ≡ false) c.choose.result c.choose.ensures (λ y w. slice_picked w)

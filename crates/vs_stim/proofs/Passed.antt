@@ -1,0 +1,186 @@
+-- What lines that were passed give, whatever stands behind them.
+use Rattle.std.proofs.Common.{◌≡◌, ℕ, ◌+◌, ◌≤◌, Bool, true, false, List, [], ◌∷◌, ◌++◌, length, refl, ap, sym, ◌∙◌, append_assoc, append-nil, zero-add}
+use Rattle.std.proofs.lemmas.List.{length_push}
+use Rattle.std.specs.Prelude.{Option, Some, None, ◌==◌}
+use Rattle.std.proofs.lemmas.Bool.{cond-true, eq-eqb}
+use Rattle.vs_desk.specs.declared.desk.Way.TheVariants.{Read}
+use Rattle.vs_desk.specs.Desk.{Contents, with_attached}
+use Rattle.vs_four.specs.declared.Bit4.{Bit4}
+use Rattle.vs_stim.specs.declared.error.StimError.{StimError}
+use Rattle.vs_stim.specs.declared.error.StimError.TheVariants.{BadHeader, BadVector}
+use Rattle.vs_stim.specs.declared.input.Column.{Column}
+use Rattle.vs_stim.specs.declared.input.Input.{Input}
+use Rattle.vs_stim.specs.Known.{IsReadTo}
+use Rattle.vs_stim.specs.Lines.{lines, all_lines, content}
+use Rattle.vs_stim.specs.Reading.{limits, Place, behind, too_long, Reading, Said, refused, with_vector, with_vectors, header_line, vector_line, not_taken, first_place, reading, read_vectors, read_header}
+use Rattle.vs_stim.specs.Reading.Said.{Skipped, Malformed, Given}
+use Rattle.vs_stim.specs.declared.source.Source.{Source}
+use Rattle.vs_stim.specs.Source.{Open, line_length, says, rest_of, PassesLf, Passes, PassesVector, PassesHeader}
+use Rattle.vs_stim.proofs.Turns.{vectors_found, header_last}
+use Rattle.vs_stim.proofs.Untold.{IsPassed, lines_closed}
+
+-- what lines behind the header give, by the first one's refusal, what it says, and whether its vector is taken
+vectors_turn : Place → Option StimError → Said (List (List Bit4)) → (List (List Bit4) → Option StimError) → Reading → Reading → Reading
+vectors_turn at r s taken skipped given =
+    elim r [
+      | Some e ↦ refused e
+      | None ↦ elim s [
+        | Skipped ↦ skipped
+        | Malformed ↦ refused (BadVector at.number)
+        | Given v ↦ elim (taken v) [ Some e ↦ refused e | None ↦ with_vector v given ]
+      ]
+    ]
+
+-- the vector's line has its LF
+vector_ended : (cs : List Column) (count : ℕ) (v : List (List Bit4)) (o p : Open) → o.taken ≡ 0 → PassesLf o p → Passes false o p → vector_line cs (says o) ≡ Given v
+    → not_taken limits cs o.at.number count v ≡ None → PassesVector cs count v o p
+unfolding vectors_turn
+vector_ended cs count v o p z h k s n =
+    let first : lines o.rest ≡ record { first = record { bytes = h.bytes; ended = true }; later = all_lines (lines p.rest) } =
+    ap lines h.rest ∙ lines_closed h.bytes p.rest h.inner in
+    let long : line_length o ≡ length h.bytes = (λ i. z i + length (first i).first.bytes) ∙ zero-add (length h.bytes) in
+    let kept : too_long limits o.at (length h.bytes) true ≡ None = (λ i. too_long limits o.at (sym long i) (sym first i).first.ended) ∙ k.kept in
+    let given : vector_line cs (content (record { bytes = h.bytes; ended = true })) ≡ Given v = (λ i. vector_line cs (content (sym first i).first)) ∙ s in
+    record {
+      bytes = h.bytes ++ 10 ∷ [];
+      rest = h.rest ∙ sym (append_assoc h.bytes (10 ∷ []) p.rest);
+      gives = λ more _.
+          let next = behind o.at (length h.bytes) in
+          let later = all_lines (lines more) in
+          let skipped = read_vectors limits cs next count later in
+          let taken = read_vectors limits cs next (count + 1) later in
+          ap (λ bs. read_vectors limits cs o.at count (all_lines (lines bs))) (append_assoc h.bytes (10 ∷ []) more)
+          ∙ ap (λ t. read_vectors limits cs o.at count (all_lines t)) (lines_closed h.bytes more h.inner)
+          ∙ (λ i. vectors_turn o.at (kept i) (given i) (not_taken limits cs o.at.number count) skipped taken)
+          ∙ (λ i. vectors_turn o.at None (Given v) (λ _. n i) skipped taken)
+          ∙ ap (λ at. with_vector v (read_vectors limits cs at (count + 1) later)) (sym (k.at refl ∙ ap (behind o.at) long));
+    }
+
+-- the text ends with the vector's line
+vector_last : (cs : List Column) (count : ℕ) (v : List (List Bit4)) (o p : Open) → o.taken ≡ 0 → Passes true o p → p.at.start ≤ 4294967296
+    → vector_line cs (says o) ≡ Given v → not_taken limits cs o.at.number count v ≡ None → PassesVector cs count v o p
+vector_last cs count v o p z k b s n =
+    let nothing : p.rest ≡ [] = k.nothing refl in
+    record {
+      bytes = o.rest;
+      rest = sym (ap (λ r. o.rest ++ r) nothing ∙ append-nil o.rest);
+      gives = λ more none.
+          let e : more ≡ [] = none nothing in
+          ap (λ bs. read_vectors limits cs o.at count (all_lines (lines bs))) (ap (λ m. o.rest ++ m) e ∙ append-nil o.rest)
+          ∙ vectors_found cs o p count v true z k b s n
+          ∙ ap (λ r. with_vector v (read_vectors limits cs p.at (count + 1) (all_lines (lines r)))) (nothing ∙ sym e);
+    }
+
+vector_here : (cs : List Column) (count : ℕ) (v : List (List Bit4)) (o p : Open) (last : Bool) → o.taken ≡ 0 → (last ≡ false → PassesLf o p) → Passes last o p
+    → p.at.start ≤ 4294967296 → vector_line cs (says o) ≡ Given v → not_taken limits cs o.at.number count v ≡ None → PassesVector cs count v o p
+vector_here cs count v o p true z h k b s n = vector_last cs count v o p z k b s n
+vector_here cs count v o p false z h k b s n = vector_ended cs count v o p z (h refl) k s n
+
+-- A vector was read, behind whole lines.
+pub vector_passed : (cs : List Column) (count : ℕ) (v : List (List Bit4)) (a o p : Open) (last : Bool) → IsPassed a o → o.taken ≡ 0 → (last ≡ false → PassesLf o p)
+    → Passes last o p → p.at.start ≤ 4294967296 → vector_line cs (says o) ≡ Given v → not_taken limits cs o.at.number count v ≡ None → PassesVector cs count v a p
+unfolding IsPassed
+vector_passed cs count v a o p last h z f k b s n =
+    let here = vector_here cs count v o p last z f k b s n in
+    record {
+      bytes = h.bytes ++ here.bytes;
+      rest = h.rest ∙ ap (λ r. h.bytes ++ r) here.rest ∙ sym (append_assoc h.bytes here.bytes p.rest);
+      gives = λ more none.
+          ap (λ bs. read_vectors limits cs a.at count (all_lines (lines bs))) (append_assoc h.bytes here.bytes more)
+          ∙ h.vectors cs count (here.bytes ++ more)
+          ∙ here.gives more none;
+    }
+
+-- what lines before the vectors give, by the first one's refusal, and what it says
+header_turn : Option StimError → Said (List Column) → Reading → (List Column → Reading) → Reading
+header_turn r s skipped given = elim r [ Some e ↦ refused e | None ↦ elim s [ Skipped ↦ skipped | Malformed ↦ refused BadHeader | Given cs ↦ given cs ] ]
+
+header_ended : (is : List Input) (cs : List Column) (o p : Open) → o.taken ≡ 0 → PassesLf o p → Passes false o p → header_line is (says o) ≡ Given cs → PassesHeader is cs o p
+unfolding header_turn
+header_ended is cs o p z h k s =
+    let first : lines o.rest ≡ record { first = record { bytes = h.bytes; ended = true }; later = all_lines (lines p.rest) } =
+    ap lines h.rest ∙ lines_closed h.bytes p.rest h.inner in
+    let long : line_length o ≡ length h.bytes = (λ i. z i + length (first i).first.bytes) ∙ zero-add (length h.bytes) in
+    let kept : too_long limits o.at (length h.bytes) true ≡ None = (λ i. too_long limits o.at (sym long i) (sym first i).first.ended) ∙ k.kept in
+    let given : header_line is (content (record { bytes = h.bytes; ended = true })) ≡ Given cs = (λ i. header_line is (content (sym first i).first)) ∙ s in
+    record {
+      bytes = h.bytes ++ 10 ∷ [];
+      rest = h.rest ∙ sym (append_assoc h.bytes (10 ∷ []) p.rest);
+      gives = λ more _.
+          let next = behind o.at (length h.bytes) in
+          let later = all_lines (lines more) in
+          ap (λ bs. read_header limits is o.at (all_lines (lines bs))) (append_assoc h.bytes (10 ∷ []) more)
+          ∙ ap (λ t. read_header limits is o.at (all_lines t)) (lines_closed h.bytes more h.inner)
+          ∙ (λ i. header_turn (kept i) (given i) (read_header limits is next later) (λ ds. read_vectors limits ds next 0 later))
+          ∙ ap (λ at. read_vectors limits cs at 0 later) (sym (k.at refl ∙ ap (behind o.at) long));
+    }
+
+header_ends : (is : List Input) (cs : List Column) (o p : Open) → o.taken ≡ 0 → Passes true o p → p.at.start ≤ 4294967296 → header_line is (says o) ≡ Given cs
+    → PassesHeader is cs o p
+header_ends is cs o p z k b s =
+    let nothing : p.rest ≡ [] = k.nothing refl in
+    record {
+      bytes = o.rest;
+      rest = sym (ap (λ r. o.rest ++ r) nothing ∙ append-nil o.rest);
+      gives = λ more none.
+          let e : more ≡ [] = none nothing in
+          ap (λ bs. read_header limits is o.at (all_lines (lines bs))) (ap (λ m. o.rest ++ m) e ∙ append-nil o.rest)
+          ∙ header_last is cs o p z k b s
+          ∙ ap (λ r. read_vectors limits cs p.at 0 (all_lines (lines r))) (nothing ∙ sym e);
+    }
+
+header_here : (is : List Input) (cs : List Column) (o p : Open) (last : Bool) → o.taken ≡ 0 → (last ≡ false → PassesLf o p) → Passes last o p → p.at.start ≤ 4294967296
+    → header_line is (says o) ≡ Given cs → PassesHeader is cs o p
+header_here is cs o p true z h k b s = header_ends is cs o p z k b s
+header_here is cs o p false z h k b s = header_ended is cs o p z (h refl) k s
+
+-- A header was read, behind whole lines.
+pub header_passed : (is : List Input) (cs : List Column) (a o p : Open) (last : Bool) → IsPassed a o → o.taken ≡ 0 → (last ≡ false → PassesLf o p) → Passes last o p
+    → p.at.start ≤ 4294967296 → header_line is (says o) ≡ Given cs → PassesHeader is cs a p
+unfolding IsPassed
+header_passed is cs a o p last h z f k b s =
+    let here = header_here is cs o p last z f k b s in
+    record {
+      bytes = h.bytes ++ here.bytes;
+      rest = h.rest ∙ ap (λ r. h.bytes ++ r) here.rest ∙ sym (append_assoc h.bytes here.bytes p.rest);
+      gives = λ more none.
+          ap (λ bs. read_header limits is a.at (all_lines (lines bs))) (append_assoc h.bytes here.bytes more) ∙ h.headers is (here.bytes ++ more) ∙ here.gives more none;
+    }
+
+-- the text was read up to behind its header
+pub read_first : (is : List Input) (cs : List Column) (o p : Open) → o.at ≡ first_place → PassesHeader is cs o p → IsReadTo is o.rest 0 cs p.at p.rest
+read_first is cs o p e h = record {
+  given = h.bytes;
+  text_is = h.rest;
+  vectors = [];
+  count_is = refl;
+  goes_on = λ more none. (λ i. read_header limits is (sym e i) (all_lines (lines (h.bytes ++ more)))) ∙ h.gives more none;
+}
+
+-- and then up to behind one more vector
+none_before : (xs ys : List ℕ) → xs ++ ys ≡ [] → (xs ≡ []) × (ys ≡ [])
+none_before [] ys e = (refl, e)
+none_before (x ∷ xs) ys e = absurd (cc)
+
+pub read_more : (is : List Input) (text : List ℕ) (cs : List Column) (count : ℕ) (v : List (List Bit4)) (o p : Open) → PassesVector cs count v o p
+    → IsReadTo is text count cs o.at o.rest → IsReadTo is text (count + 1) cs p.at p.rest
+read_more is text cs count v o p h r = record {
+  given = r.given ++ h.bytes;
+  text_is = r.text_is ∙ ap (λ rest. r.given ++ rest) h.rest ∙ sym (append_assoc r.given h.bytes p.rest);
+  vectors = r.vectors ++ v ∷ [];
+  count_is = length_push r.vectors v ∙ ap (λ n. n + 1) r.count_is;
+  goes_on = λ more none.
+      let no_more : o.rest ≡ [] → h.bytes ++ more ≡ [] =
+      λ e. let parts = none_before h.bytes p.rest (sym h.rest ∙ e) in (λ i. parts.0 i ++ none parts.1 i) in
+      let later = read_vectors limits cs p.at (count + 1) (all_lines (lines more)) in
+      ap (reading is) (append_assoc r.given h.bytes more)
+      ∙ r.goes_on (h.bytes ++ more) no_more
+      ∙ ap (with_vectors r.vectors) (h.gives more none)
+      ∙ (λ i. record { vectors = sym (append_assoc r.vectors (v ∷ []) later.vectors) i; refusal = later.refusal });
+}
+
+-- what is left of a text whose place was attached, where nothing was taken
+pub opened_rest : (s : Source) (old mid : Contents) (place : ℕ) (path : List ℕ) → s.block ≡ [] → s.place ≡ place → mid ≡ with_attached old place Read path
+    → rest_of s mid ≡ old.files path
+opened_rest s old mid place path b p m =
+    (λ i. b i ++ (m i).left (p i)) ∙ cond-true (place == place) (old.files path) (old.left place) (eq-eqb place place refl)

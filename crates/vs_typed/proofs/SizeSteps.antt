@@ -1,0 +1,113 @@
+-- Sums over processes and signals, step by step.
+use Rattle.std.proofs.Common.{◌≡◌, ℕ, zero, suc, ◌+◌, ◌<◌, ◌≤◌, Bool, true, false, not, if◌then◌else◌, List, [], ◌∷◌, ◌++◌, length, take, drop, get_or, Option, Some, refl, sym, ap, ap₂, ◌∙◌, arith}
+use Rattle.std.specs.Prelude.{sum_by, filter, slice_get}
+use Rattle.std.proofs.lemmas.List.{take_more, take_all, append-nil}
+use Rattle.std.proofs.lemmas.List.Sums.{sum_by-cons}
+use Rattle.std.proofs.lemmas.Option.{slice_get_within, slice_get-get_or, get_or_from_slice_get}
+use Rattle.vs_design.specs.Expressions.{Signal, signal_length}
+use Rattle.std.specs.List.{list_any}
+use Rattle.vs_design.specs.Statements.{Statement}
+use Rattle.vs_design.specs.Designs.{Event, Process, Always, Design, has_edge, is_clocked, bit_count}
+use Rattle.vs_design.specs.Elaborated.{IsLawfulDesign}
+use Rattle.vs_design.specs.Footprints.{statement_bits, writes_of, waits_of, ascending}
+use Rattle.vs_design.specs.Sizes.{distinct, statement_weight, process_weight, sleeper_weight, register_bits}
+use Rattle.vs_design.specs.Sleepers.{is_sleeping}
+use Rattle.vs_reads.specs.Footprint.{footprints_of, waits_at, writes_at}
+use Rattle.vs_reads.specs.Laws.{HasBitsOf, EachIsOfItsProcess, EachHasItsBits}
+use Rattle.vs_typed.proofs.Distinct.{ascending_count}
+use Rattle.vs_design.specs.Refusals.{WidthRefusal, first_found, otherwise}
+use Rattle.vs_flat.specs.Trees.{signal_at, no_signal}
+
+next_process : (ps : List Process) (p : ℕ) (x : Process) → slice_get ps p ≡ Some x → take (p + 1) ps ≡ take p ps ++ x ∷ []
+next_process ps p x h = take_more ps p x (slice_get_within ps p x h) ∙ ap (λ y. take p ps ++ y ∷ []) (get_or_from_slice_get ps p x x h)
+
+sum_more : {A : Type 0} (f : A → ℕ) (xs : List A) (x : A) → sum_by f (xs ++ x ∷ []) ≡ sum_by f xs + f x
+sum_more f [] x = sum_by-cons f x [] ∙ omega arith
+sum_more f (y ∷ ys) x =
+    let e = sum_by-cons f y (ys ++ x ∷ []) in
+    let g = sum_by-cons f y ys in
+    let k = sum_more f ys x in
+    omega (arith, e, g, k)
+
+-- one process more
+pub sum_step : (f : Process → ℕ) (ps : List Process) (p start sum after : ℕ) → p < length ps → sum ≡ start + sum_by f (take p ps) → ((x : Process) → slice_get ps p ≡ Some x → after ≡ sum + f x) → after ≡ start + sum_by f (take (p + 1) ps)
+sum_step f [] p start sum after inside e h = absurd (omega arith)
+sum_step f (y ∷ ys) p start sum after inside e h =
+    let ps = y ∷ ys in
+    let x = get_or ps p y in
+    let at : slice_get ps p ≡ Some x = slice_get-get_or ps p y inside in
+    let whole : sum_by f (take (p + 1) ps) ≡ sum_by f (take p ps) + f x = ap (sum_by f) (next_process ps p x at) ∙ sum_more f (take p ps) x in
+    omega (arith, e, h x at, whole)
+
+pub sum_all : (f : Process → ℕ) (ps : List Process) (p start sum : ℕ) → length ps ≤ p → sum ≡ start + sum_by f (take p ps) → sum ≡ start + sum_by f ps
+sum_all f ps p start sum h e = e ∙ ap (λ qs. start + sum_by f qs) (take_all p ps h)
+
+-- ---- register bits
+
+registers_more : (ps : List Process) (x : Process) → register_bits (ps ++ x ∷ []) ≡ register_bits ps ++ (if is_clocked x then writes_of x else [])
+registers_more [] x = append-nil (if is_clocked x then writes_of x else [])
+registers_more (p ∷ ps) x = ap (λ bs. (if is_clocked p then writes_of p else []) ++ bs) (registers_more ps x) ∙ assoc (if is_clocked p then writes_of p else []) (register_bits ps) (if is_clocked x then writes_of x else []) where
+  assoc : (xs ys zs : List ℕ) → xs ++ (ys ++ zs) ≡ (xs ++ ys) ++ zs
+  assoc [] ys zs = refl
+  assoc (x ∷ xs) ys zs = ap (λ ws. x ∷ ws) (assoc xs ys zs)
+
+pub registers_noted : (ps : List Process) (p : ℕ) (x : Process) (old new : List ℕ) → slice_get ps p ≡ Some x → old ≡ register_bits (take p ps) → new ≡ old ++ (if is_clocked x then writes_of x else []) → new ≡ register_bits (take (p + 1) ps)
+registers_noted ps p x old new at e h =
+    h ∙ ap (λ bs. bs ++ (if is_clocked x then writes_of x else [])) e ∙ sym (registers_more (take p ps) x) ∙ ap register_bits (sym (next_process ps p x at))
+
+pub registers_all : (ps : List Process) (p : ℕ) → length ps ≤ p → register_bits (take p ps) ≡ register_bits ps
+registers_all ps p h = ap register_bits (take_all p ps h)
+
+-- ---- inputs
+
+inputs_more : (ss : List Signal) (s : Signal) → sum_by signal_length (filter (λ (t : Signal). t.input) (ss ++ s ∷ [])) ≡ sum_by signal_length (filter (λ (t : Signal). t.input) ss) + (if s.input then signal_length s else 0)
+inputs_more [] s = at s.input where
+  at : (k : Bool) → sum_by signal_length (if k then s ∷ [] else []) ≡ 0 + (if k then signal_length s else 0)
+  at true = sum_by-cons signal_length s [] ∙ omega arith
+  at false = refl
+inputs_more (x ∷ ss) s = at x.input (inputs_more ss s) where
+  at : (k : Bool) → sum_by signal_length (filter (λ (t : Signal). t.input) (ss ++ s ∷ [])) ≡ sum_by signal_length (filter (λ (t : Signal). t.input) ss) + (if s.input then signal_length s else 0)
+      → sum_by signal_length (if k then x ∷ filter (λ (t : Signal). t.input) (ss ++ s ∷ []) else filter (λ (t : Signal). t.input) (ss ++ s ∷ []))
+      ≡ sum_by signal_length (if k then x ∷ filter (λ (t : Signal). t.input) ss else filter (λ (t : Signal). t.input) ss) + (if s.input then signal_length s else 0)
+  at true rest =
+      let e = sum_by-cons signal_length x (filter (λ (t : Signal). t.input) (ss ++ s ∷ [])) in
+      let g = sum_by-cons signal_length x (filter (λ (t : Signal). t.input) ss) in
+      omega (arith, e, g, rest)
+  at false rest = rest
+
+pub input_step : (ss : List Signal) (n start sum after : ℕ) (s : Signal) → n < length ss → signal_at ss n ≡ s → sum ≡ start + sum_by signal_length (filter (λ (t : Signal). t.input) (take n ss)) → after ≡ sum + (if s.input then signal_length s else 0)
+    → after ≡ start + sum_by signal_length (filter (λ (t : Signal). t.input) (take (n + 1) ss))
+input_step ss n start sum after s inside at e h =
+    let whole = ap (λ ts. sum_by signal_length (filter (λ (t : Signal). t.input) ts)) (take_more ss n no_signal inside ∙ ap (λ t. take n ss ++ t ∷ []) at) ∙ inputs_more (take n ss) s in
+    omega (arith, e, h, whole)
+
+pub inputs_all : (ss : List Signal) (n start sum : ℕ) → length ss ≤ n → sum ≡ start + sum_by signal_length (filter (λ (t : Signal). t.input) (take n ss)) → sum ≡ start + sum_by signal_length (filter (λ (t : Signal). t.input) ss)
+inputs_all ss n start sum h e = e ∙ ap (λ ts. start + sum_by signal_length (filter (λ (t : Signal). t.input) ts)) (take_all n ss h)
+
+-- ---- the first process that is refused
+
+pub found_from : (find : ℕ → Process → Option WidthRefusal) (ps : List Process) (p from : ℕ) (x : Process) → slice_get ps p ≡ Some x → first_found find from (drop p ps) ≡ otherwise (find from x) (first_found find (suc from) (drop (p + 1) ps))
+found_from find [] p from x e = absurd (let z : ⊥ = cc in z)
+found_from find (y ∷ ps) zero from x e = let same : y ≡ x = cc in ap (λ z. otherwise (find from z) (first_found find (suc from) ps)) same
+found_from find (y ∷ ps) (suc p) from x e = let on : suc p + 1 ≡ suc (p + 1) = omega arith in found_from find ps p from x e ∙ ap (λ n. otherwise (find from x) (first_found find (suc from) (drop n (y ∷ ps)))) (sym on)
+
+-- ---- single processes
+
+pub process_clocked : (place : ℕ) (star : Bool) (events : List Event) (s : Statement) → list_any has_edge events ≡ true → process_weight (Always place star events s) ≡ statement_weight s
+process_clocked place star events s edge = ap (λ k. (if not k then distinct (statement_bits s) else 0) + statement_weight s) edge ∙ omega arith
+
+pub process_combinational : (place : ℕ) (star : Bool) (events : List Event) (s : Statement) → list_any has_edge events ≡ false → process_weight (Always place star events s) ≡ distinct (statement_bits s) + statement_weight s
+process_combinational place star events s level = ap (λ k. (if not k then distinct (statement_bits s) else 0) + statement_weight s) level
+
+-- ---- sleeping blocks
+
+has_count : (n : ℕ) (bits all : List ℕ) → HasBitsOf n bits all → bits ≡ ascending n all → length bits ≡ distinct all
+has_count n bits all h e = ap length e ∙ ascending_count n all (λ b k. h.below b (h.same b ∙ k))
+
+pub sleeper_is : EachIsOfItsProcess → EachHasItsBits → (d : Design) → IsLawfulDesign d → (p : ℕ) (x : Process) → slice_get d.processes p ≡ Some x → (asleep : Bool) → asleep ≡ is_sleeping d x
+    → (if asleep then (length (waits_at (footprints_of d) p) + 1 + length (writes_at (footprints_of d) p)) else 0) ≡ sleeper_weight d x
+sleeper_is lists bits d lawful p x at asleep e =
+    let f = lists d p x at in
+    let h = bits d lawful p x at in
+    ap (λ k. if k then (length (waits_at (footprints_of d) p) + 1 + length (writes_at (footprints_of d) p)) else 0) e
+    ∙ ap₂ (λ m n. if is_sleeping d x then (m + 1 + n) else 0) (has_count (bit_count d) (waits_at (footprints_of d) p) (waits_of x) h.waits f.waits) (has_count (bit_count d) (writes_at (footprints_of d) p) (writes_of x) h.writes f.writes)

@@ -1,0 +1,104 @@
+use Rattle.std.proofs.Common.{◌≡◌, ◌*◌, ℕ, List, map, sym, ap, ◌∙◌}
+use Rattle.vs_design.specs.Expressions as E
+use Rattle.vs_flat.specs.declared.expressions.Node.TheVariants as N
+use Rattle.vs_flat.specs.Trees.{joined, first_copy, copy_count}
+use Rattle.vs_shape.specs.Nodes.{tree_of, place_of, tree_of_node}
+use Rattle.vs_typed.specs.Places.{least_from, part_places, places_of}
+use Rattle.vs_typed.proofs.LeastSteps.{from_none, from_append, two_more, node_done, part_step, joined_places, copies_absorb, some_copies, more_copies, drop_none}
+use Rattle.vs_typed.proofs.places.+least_in.Goals as goal
+
+pub loop-part-preserved : goal.loop-part-preserved
+loop-part-preserved t c at =
+    part_step c.args.rule at (tree_of c.args.shapes.now) c.first_copy-part-items.result.now c.loop-part.part-index c.loop-part.least c.least_in-least-in-loop-part.result c.loop-part-test.true (c.least_in-least-in-loop-part.ensures at) ∙ c.loop-part.invariant at
+
+pub returns-in-Literal : goal.returns-in-Literal
+returns-in-Literal t c at =
+    let a = c.args.shapes.now in
+    let rule = c.args.rule in
+    let place = place_of a c.args.e in
+    let head = c.least_head-least.result in
+    let x = tree_of_node a (N.Literal c.in-Literal.bits c.in-Literal.signed c.in-Literal.sized) in
+    let tree : tree_of a c.args.e ≡ E.At place x = c.node.ensures.tree ∙ ap (λ n. E.At place (tree_of_node a n)) c.in-Literal.is in
+    node_done rule at place c.args.best head _ (tree_of a c.args.e) x tree tt (c.least_head-least.ensures x tree) (sym (from_none head))
+
+pub returns-in-Name : goal.returns-in-Name
+returns-in-Name t c at =
+    let a = c.args.shapes.now in
+    let rule = c.args.rule in
+    let place = place_of a c.args.e in
+    let head = c.least_head-least.result in
+    let x = tree_of_node a (N.Name c.in-Name.signal) in
+    let tree : tree_of a c.args.e ≡ E.At place x = c.node.ensures.tree ∙ ap (λ n. E.At place (tree_of_node a n)) c.in-Name.is in
+    node_done rule at place c.args.best head _ (tree_of a c.args.e) x tree tt (c.least_head-least.ensures x tree) (sym (from_none head))
+
+pub returns-in-Bit : goal.returns-in-Bit
+returns-in-Bit t c at =
+    let a = c.args.shapes.now in
+    let rule = c.args.rule in
+    let place = place_of a c.args.e in
+    let head = c.least_head-least.result in
+    let x = tree_of_node a (N.Bit c.in-Bit.of c.in-Bit.range c.in-Bit.index) in
+    let tree : tree_of a c.args.e ≡ E.At place x = c.node.ensures.tree ∙ ap (λ n. E.At place (tree_of_node a n)) c.in-Bit.is in
+    node_done rule at place c.args.best head _ (tree_of a c.args.e) x tree tt (c.least_head-least.ensures x tree) (c.least_in.ensures place)
+
+pub returns-in-Part : goal.returns-in-Part
+returns-in-Part t c at =
+    let a = c.args.shapes.now in
+    let rule = c.args.rule in
+    let place = place_of a c.args.e in
+    let head = c.least_head-least.result in
+    let x = tree_of_node a (N.Part c.in-Part.of c.in-Part.range c.in-Part.base c.in-Part.up c.in-Part.width) in
+    let tree : tree_of a c.args.e ≡ E.At place x = c.node.ensures.tree ∙ ap (λ n. E.At place (tree_of_node a n)) c.in-Part.is in
+    node_done rule at place c.args.best head _ (tree_of a c.args.e) x tree tt (c.least_head-least.ensures x tree) (c.least_in-in-Part.ensures place)
+
+pub returns-in-Unary : goal.returns-in-Unary
+returns-in-Unary t c at =
+    let a = c.args.shapes.now in
+    let rule = c.args.rule in
+    let place = place_of a c.args.e in
+    let head = c.least_head-least.result in
+    let x = tree_of_node a (N.Unary c.in-Unary.op c.in-Unary.a) in
+    let tree : tree_of a c.args.e ≡ E.At place x = c.node.ensures.tree ∙ ap (λ n. E.At place (tree_of_node a n)) c.in-Unary.is in
+    node_done rule at place c.args.best head _ (tree_of a c.args.e) x tree tt (c.least_head-least.ensures x tree) (c.least_in-in-Unary.ensures place)
+
+pub returns-in-Binary : goal.returns-in-Binary
+returns-in-Binary t c at =
+    let a = c.args.shapes.now in
+    let rule = c.args.rule in
+    let place = place_of a c.args.e in
+    let head = c.least_head-least.result in
+    let x = tree_of_node a (N.Binary c.in-Binary.op c.in-Binary.a c.in-Binary.b) in
+    let tree : tree_of a c.args.e ≡ E.At place x = c.node.ensures.tree ∙ ap (λ n. E.At place (tree_of_node a n)) c.in-Binary.is in
+    node_done rule at place c.args.best head _ (tree_of a c.args.e) x tree tt (c.least_head-least.ensures x tree) (c.least_in-in-Binary.ensures place ∙ ap (λ b. least_from b (places_of rule place (tree_of a c.in-Binary.b))) (c.least_in-least.ensures place) ∙ sym (from_append head (places_of rule place (tree_of a c.in-Binary.a)) (places_of rule place (tree_of a c.in-Binary.b))))
+
+pub returns-in-Choice : goal.returns-in-Choice
+returns-in-Choice t c at =
+    let a = c.args.shapes.now in
+    let rule = c.args.rule in
+    let place = place_of a c.args.e in
+    let head = c.least_head-least.result in
+    let x = tree_of_node a (N.Choice c.in-Choice.c c.in-Choice.p c.in-Choice.q) in
+    let tree : tree_of a c.args.e ≡ E.At place x = c.node.ensures.tree ∙ ap (λ n. E.At place (tree_of_node a n)) c.in-Choice.is in
+    node_done rule at place c.args.best head _ (tree_of a c.args.e) x tree tt (c.least_head-least.ensures x tree) (c.least_in-in-Choice.ensures place
+    ∙ ap (λ b. least_from b (places_of rule place (tree_of a c.in-Choice.q))) (c.least_in-least-in-Choice-2.ensures place ∙ ap (λ b. least_from b (places_of rule place (tree_of a c.in-Choice.p))) (c.least_in-least-in-Choice.ensures place))
+    ∙ two_more head (places_of rule place (tree_of a c.in-Choice.c)) (places_of rule place (tree_of a c.in-Choice.p)) (places_of rule place (tree_of a c.in-Choice.q)))
+
+pub returns-after-loop-part : goal.returns-after-loop-part
+returns-after-loop-part t c at =
+    let a = c.args.shapes.now in
+    let rule = c.args.rule in
+    let place = place_of a c.args.e in
+    let head = c.least_head-least.result in
+    let parts = c.in-Join.parts in
+    let copy = c.first_copy-part-items.result.now in
+    let copied = c.first_copy-part-items.ensures.copy ∙ ap first_copy c.as_slice.ensures in
+    let es = map (tree_of a) (first_copy parts) in
+    let x = tree_of_node a (N.Join parts) in
+    let tree : tree_of a c.args.e ≡ E.At place x = c.node.ensures.tree ∙ ap (λ n. E.At place (tree_of_node a n)) c.in-Join.is in
+    let head_is = c.least_head-least.ensures x tree in
+    let whole =
+    sym (from_none c.loop-part.least) ∙ ap (λ (ps : List ℕ). least_from c.loop-part.least (part_places rule place (map (tree_of a) ps))) (sym (drop_none copy c.loop-part.part-index c.loop-part-test.false)) ∙ c.loop-part.invariant place
+    ∙ ap (λ (ps : List ℕ). least_from head (part_places rule place (map (tree_of a) ps))) copied
+    ∙ sym (joined_places rule place (copy_count parts * E.width (joined es)) es head (more_copies (copy_count parts) (E.width (joined es)) (some_copies parts)) (copies_absorb rule place (copy_count parts) (joined es) c.args.best head head_is))
+    in
+    node_done rule at place c.args.best head _ (tree_of a c.args.e) x tree tt head_is whole

@@ -1,0 +1,46 @@
+-- Weights of several expressions, and of arms, one after the other.
+use Rattle.std.specs.Prelude.{◌≡◌, ◌<◌, ◌+◌, ◌*◌, ◌&&◌, ℕ, Bool, true, List, [], ◌∷◌, length, if◌then◌else◌, Option, Some, slice_get, slice_index}
+use Rattle.vs_four.specs.Selects.{range_length}
+use Rattle.vs_four.specs.declared.Range.{Range}
+use Rattle.vs_design.specs.Expressions.{Expression, BinaryOp, way, width, is_constant}
+use Rattle.vs_design.specs.Fits.{is_fit}
+use Rattle.vs_design.specs.Sizes.{weight, binary_weight, is_shift}
+use Rattle.vs_design.specs.Fits.{fits_statement}
+use Rattle.vs_design.specs.Statements.{Arms}
+use Rattle.vs_flat.specs.declared.statements.Arm.{Arm}
+use Rattle.vs_flat.specs.Arena.{Arena}
+use Rattle.vs_flat.specs.Trees.{arms_tree}
+use Rattle.vs_shape.specs.Bodies.{body_of}
+use Rattle.vs_shape.specs.Nodes.{tree_of}
+
+-- by itself
+abbrev pub own_weight : Expression → ℕ
+own_weight e = weight e (width e)
+
+abbrev pub own_weights : List Expression → ℕ
+own_weights [] = 0
+own_weights (e ∷ es) = own_weight e + own_weights es
+
+-- of a select of so many bits
+abbrev pub select_weight : ℕ → Range → Expression → ℕ
+select_weight n range index = if is_constant index then 0 else (n * (range_length range * width index) + weight index (width index))
+
+-- what an operator itself costs, by the lengths of its operands and whether they are constant
+abbrev pub binary_own : BinaryOp → ℕ → ℕ → Bool → ℕ → Bool → ℕ
+binary_own op w m k n l = if k && l then 0 else (if is_shift (way op) && l then 0 else binary_weight op w m n)
+
+-- of expressions below e, all of which fit
+abbrev pub EachFits : Arena → ℕ → List ℕ → Type 0
+EachFits a e parts = (k : ℕ) → k < length parts → (slice_index parts k < e) × (is_fit (tree_of a (slice_index parts k)) ≡ true)
+
+-- what a target's select by this index adds
+abbrev pub index_weight : ℕ → Range → Expression → ℕ
+index_weight n range index = if is_constant index then 0 else (n * (range_length range * (width index + 1)) + weight index (width index))
+
+-- of arms with earlier statements, all of which fit
+abbrev pub EachArmFits : Arena → ℕ → List Arm → Type 0
+EachArmFits a s arms = (k : ℕ) (arm : Arm) → slice_get arms k ≡ Some arm → EachFits a (length a.nodes) arm.items × (arm.statement < s) × (fits_statement (body_of a arm.statement) ≡ true)
+
+-- the arms of a case with its default
+abbrev pub arms_of : Arena → Option ℕ → List Arm → Arms
+arms_of a other arms = arms_tree (tree_of a) (body_of a) other arms

@@ -1,0 +1,14 @@
+//! What holds of every design that no length refuses.
+
+ghost use Rattle.vs_typed.specs.Laws.{EachProcessFits, SizeIsSmall, UnrefusedFits};
+
+/// In a design that elaboration gives and that no length refuses, every expression and every target of a process has 1 to 64 bits, nothing divides at run time, and the size is at most 16,777,216.
+pub fn fits_law()
+    ensures fits { EachProcessFits }
+    ensures small { SizeIsSmall }
+{}
+
+/// In a design that elaboration gives, where no process is refused, each of them fits.
+pub(crate) fn unrefused_law()
+    ensures { UnrefusedFits }
+{}

@@ -1,0 +1,100 @@
+//! The first process of which a length or a division is refused.
+
+ghost use Rattle.std.specs.Prelude.{◌≡◌, ◌<◌, ◌+◌, length, drop, true, slice_get, Some, None, IfErr, OnOk};
+ghost use Rattle.std.specs.List.{list_all};
+ghost use Rattle.vs_design.specs.Fits.{fits_process};
+ghost use Rattle.vs_design.specs.Designs as D;
+ghost use Rattle.vs_design.specs.Refusals.{least, earlier, first_found};
+ghost use Rattle.vs_flat.specs.DesignOf.{design_of};
+ghost use Rattle.vs_typed.specs.Places.{process_places};
+ghost use Rattle.vs_typed.specs.Refused.{IsFound, IsWidthError, first_refused, refused_in};
+
+use crate::least::{least_assignment, least_statement};
+use crate::nodes::{expression_place, process};
+use crate::places::Rule;
+use crate::{WidthError, unrefused_law};
+use vs_flat::{Kind, trees_law};
+use vs_shape::Shapes;
+
+/// The least place of process p.
+fn least_process(shapes: &Shapes, rule: Rule, p: u32) -> Option<u32>
+    requires { p < length shapes.now.processes }
+    ensures { (x : D.Process) → slice_get (design_of shapes.now).processes p ≡ Some x → result ≡ least (process_places rule x) }
+{
+    trees_law();
+    match &process(shapes, p).kind {
+        Kind::Assign {
+            target,
+            expr,
+            port: _,
+        } => {
+            let _ = shapes.node(*target);
+            let at = expression_place(shapes, *target);
+            least_assignment(shapes, rule, *target, *expr, at, None)
+        }
+        Kind::Block {
+            star: _,
+            events: _,
+            statement,
+        } => least_statement(shapes, rule, *statement, None),
+    }
+}
+
+/// The one with the lesser place; at one place it is TooWide.
+fn earlier(wide: Option<u32>, division: Option<u32>) -> Result<(), WidthError>
+    ensures passes { OnOk result (earlier wide division ≡ None) }
+    ensures refused { IfErr result (IsFound (earlier wide division)) }
+{
+    match (wide, division) {
+        (None, None) => Ok(()),
+        (Some(at), None) => Err(WidthError::TooWide { at }),
+        (None, Some(at)) => Err(WidthError::Division { at }),
+        (Some(at), Some(other)) => {
+            if at <= other {
+                Err(WidthError::TooWide { at })
+            } else {
+                Err(WidthError::Division { at: other })
+            }
+        }
+    }
+}
+
+/// Whether no length and no division of process p is refused.
+fn check_process(shapes: &Shapes, p: u32) -> Result<(), WidthError>
+    requires { p < length shapes.now.processes }
+    ensures passes { OnOk result ((x : D.Process) → slice_get (design_of shapes.now).processes p ≡ Some x → refused_in p x ≡ None) }
+    ensures refused { IfErr result (λ e. (x : D.Process) → slice_get (design_of shapes.now).processes p ≡ Some x → IsFound (refused_in p x) e) }
+{
+    earlier(
+        least_process(shapes, Rule::Wide, p),
+        least_process(shapes, Rule::Division, p),
+    )
+}
+
+/// Whether process p, before which none is refused, isn't either.
+fn check_next(shapes: &Shapes, p: u32) -> Result<(), WidthError>
+    requires there { p < length shapes.now.processes }
+    requires so_far { first_found refused_in p (drop p (design_of shapes.now).processes) ≡ first_refused (design_of shapes.now) }
+    ensures passes { OnOk result (first_found refused_in (p + 1) (drop (p + 1) (design_of shapes.now).processes) ≡ first_refused (design_of shapes.now)) }
+    ensures refused { IfErr result (IsWidthError (design_of shapes.now)) }
+{
+    trees_law();
+    check_process(shapes, p)
+}
+
+/// Whether no length and no division of a process is refused: then all fits.
+pub(crate) fn check_processes(shapes: &Shapes) -> Result<(), WidthError>
+    ensures passes { OnOk result (first_refused (design_of shapes.now) ≡ None) }
+    ensures fits { OnOk result (list_all fits_process (design_of shapes.now).processes ≡ true) }
+    ensures refused { IfErr result (IsWidthError (design_of shapes.now)) }
+{
+    trees_law();
+    unrefused_law();
+    for p in 0..shapes.flat().process_count() {
+        match check_next(shapes, p) {
+            Ok(()) => {}
+            Err(error) => return Err(error),
+        }
+    }
+    Ok(())
+}

@@ -1,0 +1,184 @@
+//! The size of a design.
+
+ghost use Rattle.std.specs.Prelude.{◌≡◌, ◌<◌, ◌+◌, ◌*◌, ◌++◌, Bool, length, map, false, slice_index_or, sum_by, take, true, slice_get, Some, IfOk, if◌then◌else◌, OnOk};
+ghost use Rattle.std.specs.List.{list_all};
+ghost use Rattle.vs_design.specs.Designs as D;
+ghost use Rattle.vs_design.specs.Expressions as E;
+ghost use Rattle.vs_design.specs.Fits.{fits_process};
+ghost use Rattle.vs_design.specs.Sizes as S;
+ghost use Rattle.vs_design.specs.Sleepers.{is_sleeping};
+ghost use Rattle.vs_flat.specs.DesignOf.{design_of};
+ghost use Rattle.vs_flat.specs.DesignOf.{arena_signals};
+ghost use Rattle.vs_flat.specs.Trees.{signal_at};
+ghost use Rattle.vs_reads.specs.Footprint.{footprints_of, waits_at, writes_at};
+
+use crate::statements::add_statement;
+use crate::sums::{plus, times};
+use crate::targets::add_assignment;
+use crate::written::{distinct, written_count};
+use std::alloc::{AllocError, Global};
+use vs_flat::{Kind, has_edge, signal_length, trees_law};
+use vs_reads::{Footprints, fit_process, footprint_law};
+use vs_shape::{Shapes, Walk};
+
+/// The total with what process p costs.
+fn add_process(alloc: Global, shapes: &Shapes, p: u32, total: u64) -> Result<u64, AllocError>
+    requires there { p < length shapes.now.processes }
+    requires fits { list_all fits_process (design_of shapes.now).processes ≡ true }
+    ensures { IfOk result (λ t. (x : D.Process) → slice_get (design_of shapes.now).processes p ≡ Some x → t ≡ total + S.process_weight x) }
+{
+    trees_law();
+    match &fit_process(shapes, p).kind {
+        Kind::Assign {
+            target,
+            expr,
+            port: _,
+        } => add_assignment(shapes, *target, *expr, total),
+        Kind::Block {
+            star: _,
+            events,
+            statement,
+        } => {
+            if has_edge(events.as_slice()) {
+                return add_statement(alloc, shapes, *statement, total);
+            }
+            let written = written_count(alloc, shapes, *statement)?;
+            add_statement(alloc, shapes, *statement, plus(total, written)?)
+        }
+    }
+}
+
+/// The total with what all processes cost.
+fn add_processes(alloc: Global, shapes: &Shapes, total: u64) -> Result<u64, AllocError>
+    requires fits { list_all fits_process (design_of shapes.now).processes ≡ true }
+    ensures { IfOk result (λ t. t ≡ total + sum_by S.process_weight (design_of shapes.now).processes) }
+{
+    trees_law();
+    let mut sum = total;
+    for p in 0..shapes.flat().process_count() {
+        sum = add_process(alloc, shapes, p, sum)?;
+    }
+    Ok(sum)
+}
+
+/// Adds the bits that process p writes if it is a clocked block.
+fn push_registers(shapes: &Shapes, p: u32, bits: &mut Vec<u32>) -> Result<(), AllocError>
+    requires there { p < length shapes.now.processes }
+    requires fits { list_all fits_process (design_of shapes.now).processes ≡ true }
+    requires so_far { bits.old.items ≡ S.register_bits (take p (design_of shapes.now).processes) }
+    ensures { OnOk result (bits.new.items ≡ S.register_bits (take (p + 1) (design_of shapes.now).processes)) }
+{
+    trees_law();
+    match &fit_process(shapes, p).kind {
+        Kind::Assign { .. } => Ok(()),
+        Kind::Block {
+            star: _,
+            events,
+            statement,
+        } => {
+            if has_edge(events.as_slice()) {
+                shapes.push_statement(*statement, Walk::Writes, bits)
+            } else {
+                Ok(())
+            }
+        }
+    }
+}
+
+/// How many register bits there are: bits that clocked blocks write.
+fn register_count(alloc: Global, shapes: &Shapes) -> Result<u64, AllocError>
+    requires fits { list_all fits_process (design_of shapes.now).processes ≡ true }
+    ensures { IfOk result (λ n. n ≡ S.distinct (S.register_bits (design_of shapes.now).processes)) }
+{
+    trees_law();
+    let mut bits = Vec::new(alloc);
+    for p in 0..shapes.flat().process_count() {
+        push_registers(shapes, p, &mut bits)?;
+    }
+    Ok(distinct(bits))
+}
+
+/// How many bits signal n has if it is an input of the top.
+fn input_bits(shapes: &Shapes, n: u32) -> u64
+    requires { n < length shapes.now.signals }
+    ensures { result ≡ (if (signal_at (arena_signals shapes.now) n).input then E.signal_length (signal_at (arena_signals shapes.now) n) else 0) }
+{
+    trees_law();
+    let signal = shapes.flat().signal(n);
+    if signal.input {
+        signal_length(signal.range)
+    } else {
+        0
+    }
+}
+
+/// The total with the bits of the top's inputs.
+fn add_inputs(shapes: &Shapes, total: u64) -> Result<u64, AllocError>
+    ensures { IfOk result (λ t. t ≡ total + sum_by E.signal_length (D.top_inputs (design_of shapes.now))) }
+{
+    trees_law();
+    let mut sum = total;
+    for n in 0..shapes.flat().signal_count() {
+        sum = plus(sum, input_bits(shapes, n))?;
+    }
+    Ok(sum)
+}
+
+/// The total with what process p costs if it sleeps: the bits that it waits on, 1, and the bits that it writes.
+fn add_sleeper(
+    footprints: &Footprints,
+    p: u32,
+    sleeping: &[bool],
+    total: u64,
+) -> Result<u64, AllocError>
+    requires there { p < length footprints.now }
+    requires flags { p < length sleeping.now }
+    ensures { IfOk result (λ t. t ≡ total + (if slice_index_or sleeping.now p false then (length (waits_at footprints.now p) + 1 + length (writes_at footprints.now p)) else 0)) }
+{
+    if !sleeping[p as usize] {
+        return Ok(total);
+    }
+    let waits = footprints.waits(p);
+    let writes = footprints.writes(p);
+    let own = plus(plus(waits.len() as u64, 1)?, writes.len() as u64)?;
+    plus(total, own)
+}
+
+/// The total with what sleeping blocks cost.
+fn add_sleepers(
+    shapes: &Shapes,
+    footprints: &Footprints,
+    sleeping: &[bool],
+    total: u64,
+) -> Result<u64, AllocError>
+    requires footprints { footprints.now ≡ footprints_of (design_of shapes.now) }
+    requires sleeping { sleeping.now ≡ map (is_sleeping (design_of shapes.now)) (design_of shapes.now).processes }
+    ensures { IfOk result (λ t. t ≡ total + sum_by (S.sleeper_weight (design_of shapes.now)) (design_of shapes.now).processes) }
+{
+    trees_law();
+    footprint_law();
+    let _ = shapes.flat();
+    let mut sum = total;
+    for p in 0..footprints.count() {
+        sum = add_sleeper(footprints, p, sleeping, sum)?;
+    }
+    Ok(sum)
+}
+
+/// The size of the design: what the stores into a plane in one clock half-period are measured by. Want of memory is the only error; a sum that no `u64` holds would be answered so too.
+pub(crate) fn size(
+    alloc: Global,
+    shapes: &Shapes,
+    footprints: &Footprints,
+    sleeping: &[bool],
+) -> Result<u64, AllocError>
+    requires fits { list_all fits_process (design_of shapes.now).processes ≡ true }
+    requires footprints { footprints.now ≡ footprints_of (design_of shapes.now) }
+    requires sleeping { sleeping.now ≡ map (is_sleeping (design_of shapes.now)) (design_of shapes.now).processes }
+    ensures { IfOk result (λ n. n ≡ S.size (design_of shapes.now)) }
+{
+    let processes = add_processes(alloc, shapes, 0)?;
+    let registers = times(2, register_count(alloc, shapes)?)?;
+    let inputs = add_inputs(shapes, plus(processes, registers)?)?;
+    add_sleepers(shapes, footprints, sleeping, inputs)
+}

@@ -1,0 +1,9 @@
+pub mod Added
+pub mod Choices
+pub mod Coded
+pub mod Constants
+pub mod Environments
+pub mod Made
+pub mod Products
+pub mod Ready
+pub mod Valued

@@ -1,0 +1,26 @@
+//! Expressions of a design lowered to calls of kernels.
+#![tactic(auto)]
+
+mod applying;
+mod arguments;
+mod code;
+mod environment;
+mod expressions;
+mod joins;
+mod names;
+mod products;
+mod selects;
+mod shifts;
+mod slots;
+mod sources;
+mod typed;
+
+pub use applying::applied;
+pub use arguments::{pair, single, triple};
+pub use code::Code;
+pub use environment::{Environment, picked, place};
+pub use expressions::lower;
+pub use joins::appended;
+pub use names::{signal_bits, signal_slots};
+pub use slots::{are_constant, constant_bits};
+pub use typed::own;

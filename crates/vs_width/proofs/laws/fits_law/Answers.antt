@@ -1,5 +1,0 @@
-use Rattle.vs_width.proofs.Unrefused.{each_fits, size_small}
-use Rattle.vs_width.proofs.laws.fits_law.Goals as goal
-
-pub returns : goal.returns
-returns c = record { fits = each_fits; small = size_small }

@@ -1,5 +1,0 @@
-use Rattle.vs_width.proofs.Unrefused.{unrefused_fit}
-use Rattle.vs_width.proofs.laws.unrefused_law.Goals as goal
-
-pub returns : goal.returns
-returns c = unrefused_fit

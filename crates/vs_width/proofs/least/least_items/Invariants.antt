@@ -1,8 +1,0 @@
-use Rattle.std.proofs.Common.{◌≡◌, ℕ, map, drop}
-use Rattle.vs_length.specs.Nodes.{tree_of}
-use Rattle.vs_width.specs.Places.{least_from, item_places}
-use Rattle.vs_width.proofs.least.least_items.Given as goal
-
-abbrev pub invariant-loop-item : goal.invariant-loop-item
-invariant-loop-item l =
-    (at : ℕ) → least_from l.least (item_places l.rule at (map (tree_of l.shapes) (drop l.item-index l.items))) ≡ least_from l.initial.least (item_places l.rule at (map (tree_of l.shapes) l.items))

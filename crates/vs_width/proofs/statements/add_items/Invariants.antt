@@ -1,7 +1,0 @@
-use Rattle.std.proofs.Common.{◌≡◌, ◌+◌, map, drop}
-use Rattle.vs_design.specs.Sizes.{items_weight}
-use Rattle.vs_length.specs.Nodes.{tree_of}
-use Rattle.vs_width.proofs.statements.add_items.Given as goal
-
-abbrev pub invariant-loop-item : goal.invariant-loop-item
-invariant-loop-item l = l.sum + items_weight (map (tree_of l.shapes) (drop l.item-index l.items)) l.w ≡ l.initial.sum + items_weight (map (tree_of l.shapes) l.items) l.w
