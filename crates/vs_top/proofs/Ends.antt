@@ -1,5 +1,5 @@
 -- What stays of a run once its line was reported.
-use Rattle.std.proofs.Common.{◌≡◌, ◌≢◌, ℕ, List, inl, inr, IsTrue, Bool, true, false, Some, if◌then◌else◌, sym, ap, ◌∙◌, subst, arith}
+use Rattle.std.proofs.Common.{◌≡◌, ◌≢◌, ℕ, List, inl, inr, IsTrue, Bool, true, false, Option, None, Some, if◌then◌else◌, sym, ap, ◌∙◌, subst, arith}
 use Rattle.std.proofs.lemmas.Bool.{ne_eqb, cond-false}
 use Rattle.vs_desk.specs.Desk.{Register, Contents, with_put}
 use Rattle.vs_desk.specs.Places.{stimulus_place}
@@ -13,14 +13,16 @@ use Rattle.vs_stim.specs.declared.error.StimError.{StimError}
 use Rattle.vs_stim.specs.declared.error.StimError.TheVariants as E
 use Rattle.vs_lexer.specs.declared.token.LexError.{LexError}
 use Rattle.vs_lexer.specs.declared.token.LexError.TheVariants as lexer
+use Rattle.vs_pre.specs.declared.error.PreError.{PreError}
+use Rattle.vs_pre.specs.declared.error.PreError.TheVariants as macro
 use Rattle.vs_design.specs.Answers.{DesignRefusal, OfWidth, OfBlock, OfDriver, OfClock, Cycle, OfZero}
 use Rattle.vs_design.specs.Refusals as rule
 use Rattle.vs_refusal.specs.declared.refusal.Refusal.{Refusal}
 use Rattle.vs_refusal.specs.declared.refusal.Refusal.TheVariants.{Bare, SamePath, At}
 use Rattle.vs_refusal.specs.declared.names.AtName.{AtName}
 use Rattle.vs_refusal.specs.declared.names.BareName.TheVariants.{NoTop, Usage}
-use Rattle.vs_accept.specs.Refused.{token_refusal, TreeFault, OutOfLanguage, OutOfGrammar, OutOfDepth, tree_refusal, rule_name, told_by, design_refusal}
-use Rattle.vs_accept.specs.Accepted.{IsRefusedText, ByTokens, ByTree, ByElaboration, ByRule}
+use Rattle.vs_accept.specs.Refused.{token_refusal, macro_refusal, TreeFault, OutOfLanguage, OutOfGrammar, OutOfDepth, tree_refusal, rule_name, told_by, design_refusal}
+use Rattle.vs_accept.specs.Accepted.{IsRefusedText, ByTokens, ByMacros, ByTree, ByElaboration, ByRule}
 use Rattle.vs_rounds.specs.declared.stop.Stop.{Stop}
 use Rattle.vs_rounds.specs.declared.stop.Stop.TheVariants as R
 use Rattle.vs_setup.specs.declared.error.SetupError.{SetupError}
@@ -87,6 +89,14 @@ token_usage (lexer.BadLiteral at) h = cc
 token_usage (lexer.TooManyTokens at) h = cc
 token_usage lexer.Memory h = cc
 
+macro_usage : (e : PreError) → macro_refusal e ≡ Some (Bare Usage) → ⊥
+macro_usage (macro.BadDirective at) h = cc
+macro_usage (macro.UnknownMacro at) h = cc
+macro_usage (macro.MacroLoop at) h = cc
+macro_usage (macro.MacroArguments at) h = cc
+macro_usage (macro.MacroLimit at) h = cc
+macro_usage macro.Memory h = cc
+
 tree_usage : (byte : ℕ → ℕ) (x : TreeFault) → tree_refusal byte x ≡ Bare Usage → ⊥
 tree_usage byte (OutOfLanguage k) h = cc
 tree_usage byte (OutOfGrammar k) h = cc
@@ -113,7 +123,8 @@ design_usage byte (OfZero (rule.TimeZero p at)) h = cc
 
 text_usage : (text top clock : List ℕ) (r : Refusal) → IsRefusedText text top clock r → r ≡ Bare Usage → ⊥
 text_usage text top clock r (ByTokens e cut told) h = token_usage e (told ∙ ap (λ (q : Refusal). Some q) h)
-text_usage text top clock r (ByTree tokens x cut fault told) h = tree_usage _ x (told ∙ h)
+text_usage text top clock r (ByMacros written e cut faulty told) h = macro_usage e (told ∙ ap (λ (q : Refusal). Some q) h)
+text_usage text top clock r (ByTree tokens x reads fault told) h = tree_usage _ x (told ∙ h)
 text_usage text top clock r (ByElaboration tokens source f read fault told) h = told_usage (rule_name f.rule) _ (told ∙ h)
 text_usage text top clock r (ByRule tokens source d x read elaborates broken told) h = design_usage _ x (told ∙ h)
 
