@@ -14,7 +14,7 @@ use Rattle.vs_scope.specs.Frames.{env_at, envs}
 use Rattle.vs_scope.specs.Views.{entries}
 use Rattle.vs_elab.specs.declared.pending.Part.{Part}
 use Rattle.vs_elab.specs.declared.reading.Reading.{Reading}
-use Rattle.vs_elab.specs.Overriding.{AreAlike}
+use Rattle.vs_items.specs.Overriding.{AreAlike}
 use Rattle.vs_elab.specs.Fine.{AreFineParts}
 use Rattle.vs_elab.specs.Pending.{parts_pieces, scope_around}
 use Rattle.vs_elab.specs.Reading.{FailsBy, IsOpened, design_so_far, totals_of}

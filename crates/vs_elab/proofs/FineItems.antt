@@ -18,7 +18,7 @@ use Rattle.vs_elaborated.specs.Pieces.{Said, all_said}
 use Rattle.vs_elaborated.specs.Instances.{Around, said_overrides, instance_said, unknown_module}
 use Rattle.vs_elaborated.specs.Surveys.{wire_said, assign_said, item_said, items_said}
 use Rattle.vs_elab.specs.Fine.{IsFineAssign, IsFineWire, IsFineBlock, IsFineInstance, IsFineItem, AreFineItems}
-use Rattle.vs_elab.proofs.ItemLists.{made_at}
+use Rattle.vs_elab.proofs.PartItems.{made_at}
 
 -- each of a list that says no fault
 all_fine : {A : Type 0} (said : A → Said) (shaped fine : A → Type 0) (depth : A → ℕ) → ((a : A) → shaped a → depth a ≤ depth_limit → (said a).faults ≡ [] → fine a)

@@ -19,7 +19,7 @@ use Rattle.vs_scope.specs.declared.made.Made as constructs
 use Rattle.vs_scope.specs.Frames.{env_at, envs}
 use Rattle.vs_scope.specs.Made as code
 use Rattle.vs_scope.specs.Surveys.{IsOfParts, declared_in, faults_in, items_faults, made_in, said_in, start_at}
-use Rattle.vs_elab.specs.Stated.{AreStated}
+use Rattle.vs_items.specs.Stated.{AreStated}
 use Rattle.vs_elab.specs.declared.pending.Part.{Part}
 use Rattle.vs_elab.specs.Fine.{AreFineInside, AreFineItems, MakesFine}
 use Rattle.vs_elab.specs.Pending.{parts_pieces, scope_around}

@@ -23,21 +23,22 @@ use Rattle.vs_scope.specs.Frames.{env_at, envs}
 use Rattle.vs_scope.specs.Maps.{Pair, AreDistinct}
 use Rattle.vs_scope.specs.Views.{entries}
 use Rattle.vs_scope.specs.declared.parameters.Override.{Override as CodeOverride}
-use Rattle.vs_elab.specs.declared.connections.Connection.{Connection}
+use Rattle.vs_items.specs.declared.connections.Connection.{Connection}
 use Rattle.vs_elab.specs.declared.error.ElabError.{ElabError}
 use Rattle.vs_elab.specs.declared.error.ElabError.TheVariants.{Broken}
-use Rattle.vs_elab.specs.declared.modules.Known.{Known}
+use Rattle.vs_items.specs.declared.modules.Known.{Known}
 use Rattle.vs_elab.specs.declared.stack.Pending.{Pending}
 use Rattle.vs_elab.specs.declared.pending.Part.{Part}
 use Rattle.vs_elab.specs.declared.pending.Part.TheVariants as part
 use Rattle.vs_elab.specs.declared.steps.Standing.{Standing}
 use Rattle.vs_elab.specs.declared.reading.Text.{Text}
 use Rattle.vs_elab.specs.declared.reading.Reading.{Reading}
-use Rattle.vs_elab.specs.Connections.{said}
-use Rattle.vs_elab.specs.Fine.{AreFineParts, IsFineConnected}
-use Rattle.vs_elab.specs.Interfaces.{IsInterface}
-use Rattle.vs_elab.specs.Overriding.{AreAlike, said_override}
-use Rattle.vs_elab.specs.Modules.{IsOf}
+use Rattle.vs_items.specs.Connections.{said}
+use Rattle.vs_items.specs.Fine.{IsFineConnected}
+use Rattle.vs_elab.specs.Fine.{AreFineParts}
+use Rattle.vs_items.specs.Interfaces.{IsInterface}
+use Rattle.vs_items.specs.Overriding.{AreAlike, said_override}
+use Rattle.vs_items.specs.Modules.{IsOf}
 use Rattle.vs_elab.specs.Pending.{parts_pieces, scope_around, stack_pieces}
 use Rattle.vs_elab.specs.Reading.{IsText, source_of, totals_of, design_so_far, surveyed, FailsBy, IsOpened, IsPending, ArePending, IsReading, IsStep, Tells, outcome, pending_at}
 use Rattle.vs_elab.specs.Stacks as stacks

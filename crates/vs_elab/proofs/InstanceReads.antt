@@ -23,10 +23,10 @@ use Rattle.vs_elaborated.specs.Sound.{AreSoundFrames, InstancesHavePorts, NamesA
 use Rattle.vs_scope.specs.declared.frames.Frame.{Frame}
 use Rattle.vs_scope.specs.Frames.{env_at, envs}
 use Rattle.vs_scope.specs.Views.{entries}
-use Rattle.vs_elab.specs.declared.connections.Connection.{Connection}
+use Rattle.vs_items.specs.declared.connections.Connection.{Connection}
 use Rattle.vs_elab.specs.declared.error.ElabError.{ElabError}
 use Rattle.vs_elab.specs.declared.error.ElabError.TheVariants.{Broken, Memory}
-use Rattle.vs_elab.specs.declared.modules.Known.{Known}
+use Rattle.vs_items.specs.declared.modules.Known.{Known}
 use Rattle.vs_elab.specs.declared.stack.Pending.{Pending}
 use Rattle.vs_elab.specs.declared.pending.Part.{Part}
 use Rattle.vs_elab.specs.declared.pending.Part.TheVariants as part
@@ -34,11 +34,12 @@ use Rattle.vs_elab.specs.declared.steps.Standing.{Standing}
 use Rattle.vs_elab.specs.declared.reading.Text.{Text}
 use Rattle.vs_elab.specs.declared.reading.Counts.{Counts}
 use Rattle.vs_elab.specs.declared.reading.Reading.{Reading}
-use Rattle.vs_elab.specs.Connections.{said}
-use Rattle.vs_elab.specs.Fine.{IsFinePart, AreFineParts, IsFineInstance, IsFineConnected}
-use Rattle.vs_elab.specs.Interfaces.{IsInterface}
-use Rattle.vs_elab.specs.Overriding.{AreAlike}
-use Rattle.vs_elab.specs.Modules.{IsKnownOf, IsOf}
+use Rattle.vs_items.specs.Connections.{said}
+use Rattle.vs_items.specs.Fine.{IsFineConnected}
+use Rattle.vs_elab.specs.Fine.{IsFinePart, AreFineParts, IsFineInstance}
+use Rattle.vs_items.specs.Interfaces.{IsInterface}
+use Rattle.vs_items.specs.Overriding.{AreAlike}
+use Rattle.vs_items.specs.Modules.{IsKnownOf, IsOf}
 use Rattle.vs_elab.specs.Pending.{parts_pieces, scope_around, stack_pieces, AreWithin}
 use Rattle.vs_elab.specs.Reading.{source_of, totals_of, design_so_far, surveyed, FailsBy, IsOpened, IsPending, ArePending, IsReading, IsStep, outcome, Tells, pending_at, pending_processes, work_left}
 use Rattle.vs_elab.specs.Stacks as stacks

@@ -6,8 +6,8 @@ use Rattle.vs_elaborated.specs.Ports.{find_module}
 use Rattle.vs_scope.specs.declared.maps.NameMap.{NameMap}
 use Rattle.vs_scope.specs.Maps.{value_at}
 use Rattle.vs_scope.specs.MapViews.{pairs}
-use Rattle.vs_elab.specs.declared.modules.Known.{Known}
-use Rattle.vs_elab.specs.Modules.{IsOf, AreOf}
+use Rattle.vs_items.specs.declared.modules.Known.{Known}
+use Rattle.vs_items.specs.Modules.{IsOf, AreOf}
 
 -- what is found is what is known of it
 pub found_known : (source : tree.Source) (names : NameMap Known) (key name : List ℕ) (r : Option (Bor Known)) (k : Bor Known) → AreOf names source

@@ -25,7 +25,7 @@ use Rattle.vs_elab.specs.Fine.{AreFineItems, AreFineParts}
 use Rattle.vs_elab.specs.Opening.{signal, Follow, and_signals}
 use Rattle.vs_elab.specs.Pending.{parts_pieces}
 use Rattle.vs_elab.specs.Reading.{IsRead, IsOpened, IsSurveyed, totals_of, design_so_far}
-use Rattle.vs_elab.specs.Stated.{AreStated}
+use Rattle.vs_items.specs.Stated.{AreStated}
 use Rattle.vs_elab.proofs.FineScopes.{items_around, items_made, scope_fine, scope_pieces}
 use Rattle.vs_elab.proofs.OpenedScopes.{recounted, counted_read, IsWell, well, signals_follow, scope_added, scope_read, opened_by}
 

@@ -1,17 +1,22 @@
 -- The parts of items and of generate blocks, one after the other.
-use Rattle.std.proofs.Common.{◌≡◌, ℕ, zero, suc, ◌+◌, ◌<◌, List, [], ◌∷◌, ◌++◌, length, get_or, take, map, refl, sym, ap, ◌∙◌, append_assoc, arith}
-use Rattle.std.proofs.lemmas.List.{append-nil, map-append}
+use Rattle.std.proofs.Common.{◌≡◌, ℕ, zero, suc, ◌+◌, ◌<◌, ◌≤◌, List, [], ◌∷◌, ◌++◌, length, get_or, take, map, Vec, Global, refl, sym, ap, ◌∙◌, append_assoc, arith, add-one, take-suc}
+use Rattle.std.proofs.lemmas.List.{append-nil, map-append, length-map, length-take-le}
 use Rattle.vs_grammar.specs.Trees as tree
+use Rattle.vs_grammar.specs.Trees.{items_list}
 use Rattle.vs_ast.specs.declared.items.Item.{Item}
+use Rattle.vs_ast.specs.declared.items.Item as kind
+use Rattle.vs_ast.specs.declared.items.Signals.{Signals}
+use Rattle.vs_ast.specs.declared.items.Assign.{Assign}
+use Rattle.vs_ast.specs.declared.items.AlwaysBlock.{AlwaysBlock}
+use Rattle.vs_ast.specs.declared.items.Instances.{Instances}
 use Rattle.vs_ast.specs.Views as view
-use Rattle.vs_elaborated.specs.Generate.{Made}
+use Rattle.vs_elaborated.specs.Generate.{Made, nothing_made}
 use Rattle.vs_elaborated.specs.Pieces.{Piece}
 use Rattle.vs_elaborated.specs.Instances.{Around}
 use Rattle.vs_elaborated.specs.Surveys.{nested_piece, item_said, items_said}
 use Rattle.vs_scope.specs.declared.made.Nested.{Nested}
 use Rattle.vs_scope.specs.Made as code
-use Rattle.vs_elab.proofs.ItemLists.{IsOther, pieces_behind, made_at, made_more, length_taken, mapped}
-use Rattle.vs_elab.proofs.Repeats.{one_more}
+use Rattle.vs_elab.proofs.Sequences.{one_more}
 
 -- one block more
 pub block_more : (around : Around) (xs : List Nested) (i : ℕ) (x : Nested) (before done more : List Piece) → i < length xs → x ≡ get_or xs i x
@@ -22,17 +27,18 @@ block_more around xs i x before done more h e is pushed =
     pushed ∙ ap (λ r. r ++ f (code.nested x) ∷ []) is ∙ append_assoc before (map f (map code.nested (take i xs))) (f (code.nested x) ∷ [])
     ∙ ap (λ r. before ++ r) (sym (ap (map f) (one_more code.nested xs i x h e) ∙ map-append f (map code.nested (take i xs)) (code.nested x ∷ [])))
 
--- what is made of an item that is neither of the other kinds
-pub other_pieces : (source : tree.Source) (around : Around) (item : tree.Item) (made : Made) → IsOther item → (item_said source around item made).pieces ≡ map (nested_piece around) made.blocks
-other_pieces source around (tree.SignalsItem t) made o = absurd o
-other_pieces source around (tree.AssignsItem place assigns) made o = absurd o
-other_pieces source around (tree.AlwaysItem b) made o = absurd o
-other_pieces source around (tree.InstancesItem t) made o = absurd o
-other_pieces source around (tree.ParametersItem t) made o = refl
-other_pieces source around (tree.GenvarsItem place names) made o = refl
-other_pieces source around (tree.GenerateFor head block) made o = refl
-other_pieces source around (tree.GenerateIf place e taken other) made o = refl
-other_pieces source around (tree.GenerateCase place subject arms other) made o = refl
+-- what is made of an item of another kind
+pub other_pieces : (source : tree.Source) (around : Around) (x : Item) (made : Made) → ((s : Signals) → x ≡ kind.Signals s → ⊥) → ((place : ℕ) (all : Vec Assign Global) → x ≡ kind.Assigns place all → ⊥)
+    → ((b : AlwaysBlock) → x ≡ kind.Always b → ⊥) → ((t : Instances) → x ≡ kind.Instances t → ⊥) → (item_said source around (view.item x) made).pieces ≡ map (nested_piece around) made.blocks
+other_pieces source around (kind.Signals s) made f g h k = absurd (f s refl)
+other_pieces source around (kind.Parameters p) made f g h k = refl
+other_pieces source around (kind.Assigns place all) made f g h k = absurd (g place all refl)
+other_pieces source around (kind.Always b) made f g h k = absurd (h b refl)
+other_pieces source around (kind.Genvars place names) made f g h k = refl
+other_pieces source around (kind.Instances t) made f g h k = absurd (k t refl)
+other_pieces source around (kind.GenerateFor' head p b) made f g h k = refl
+other_pieces source around (kind.GenerateIf' place e p b other) made f g h k = refl
+other_pieces source around (kind.GenerateCase' place e shape all other) made f g h k = refl
 
 -- ---- lists that are alike
 
@@ -49,9 +55,29 @@ alike_at f g d (a ∷ xs) (b ∷ ys) zero x e h k = ap f k ∙ heads (f a) (g b)
 alike_at f g d (a ∷ xs) (b ∷ ys) (suc i) x e h k = alike_at f g d xs ys i x (tails (f a) (g b) (map f xs) (map g ys) e) (omega (arith, h)) k
 
 pub alike_length : {A B C : Type 0} (f : A → C) (g : B → C) (xs : List A) (ys : List B) → map f xs ≡ map g ys → length ys ≡ length xs
-alike_length f g xs ys e = sym (mapped g ys) ∙ ap (λ zs. length zs) (sym e) ∙ mapped f xs
+alike_length f g xs ys e = sym (length-map ys g) ∙ ap (λ zs. length zs) (sym e) ∙ length-map xs f
 
 -- ---- items
+
+pub items_are : (is : List Item) → items_list (view.items is) ≡ map view.item is
+items_are [] = refl
+items_are (i ∷ is) = ap (λ r. view.item i ∷ r) (items_are is)
+
+-- the i-th item makes this
+abbrev pub made_at : List Made → ℕ → Made
+made_at ms i = get_or ms i (nothing_made [] 0)
+
+made_more : (ms : List Made) (i : ℕ) → i < length ms → take (i + 1) ms ≡ take i ms ++ made_at ms i ∷ []
+made_more ms i h = ap (λ n. take n ms) (add-one i) ∙ take-suc ms i (nothing_made [] 0) h
+
+pieces_behind : (source : tree.Source) (around : Around) (is : List tree.Item) (i : tree.Item) (ms : List Made) (m : Made) → length is ≡ length ms
+    → (items_said source around (is ++ i ∷ []) (ms ++ m ∷ [])).pieces ≡ (items_said source around is ms).pieces ++ (item_said source around i m).pieces
+pieces_behind source around [] i [] m h = append-nil (item_said source around i m).pieces
+pieces_behind source around [] i (n ∷ ms) m h = absurd (let no : ⊥ = omega (arith, h) in no)
+pieces_behind source around (j ∷ is) i [] m h = absurd (let no : ⊥ = omega (arith, h) in no)
+pieces_behind source around (j ∷ is) i (n ∷ ms) m h =
+    ap (λ r. (item_said source around j n).pieces ++ r) (pieces_behind source around is i ms m (omega (arith, h)))
+    ∙ sym (append_assoc (item_said source around j n).pieces (items_said source around is ms).pieces (item_said source around i m).pieces)
 
 -- one item more
 pub item_more : (source : tree.Source) (around : Around) (items : List Item) (made : List Made) (i : ℕ) (x : Item) (before done more : List Piece) → i < length items → x ≡ get_or items i x → length made ≡ length items
@@ -59,9 +85,9 @@ pub item_more : (source : tree.Source) (around : Around) (items : List Item) (ma
     → more ≡ before ++ (items_said source around (map view.item (take (i + 1) items)) (take (i + 1) made)).pieces
 item_more source around items made i x before done more h e same is pushed =
     let within : i < length made = omega (arith, h, same) in
-    let a = mapped view.item (take i items) in
-    let b = length_taken items i h in
-    let d = length_taken made i within in
+    let a = length-map (take i items) view.item in
+    let b = length-take-le i items (omega (arith, h)) in
+    let d = length-take-le i made (omega (arith, within)) in
     pushed ∙ ap (λ r. r ++ (item_said source around (view.item x) (made_at made i)).pieces) is
     ∙ append_assoc before (items_said source around (map view.item (take i items)) (take i made)).pieces (item_said source around (view.item x) (made_at made i)).pieces
     ∙ ap (λ qs. before ++ qs) (sym (pieces_behind source around (map view.item (take i items)) (view.item x) (take i made) (made_at made i) (a ∙ b ∙ sym d)))

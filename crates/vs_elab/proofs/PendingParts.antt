@@ -7,7 +7,7 @@ use Rattle.vs_elaborated.specs.Pieces.{Piece, Said, all_said}
 use Rattle.vs_elaborated.specs.Instances.{Around}
 use Rattle.vs_elab.specs.declared.pending.Part.{Part}
 use Rattle.vs_elab.specs.Pending.{part_pieces, parts_pieces}
-use Rattle.vs_elab.proofs.Repeats.{one_more}
+use Rattle.vs_elab.proofs.Sequences.{one_more}
 
 pub part_more : (source : tree.Source) (around : Around) (ps qs : List Part) (p : Part) → qs ≡ ps ++ p ∷ [] → parts_pieces source around qs ≡ parts_pieces source around ps ++ part_pieces source around p
 part_more source around ps qs p e =

@@ -23,11 +23,11 @@ use Rattle.vs_build.specs.Writable.{input_process}
 use Rattle.vs_build.specs.Outputs.{IsOutput, output_of, output_process}
 use Rattle.vs_build.proofs.SignalNames.{signal_is, signal_within}
 use Rattle.vs_build.proofs.Wider.{same_signals}
-use Rattle.vs_elab.specs.declared.connections.Connection.{Connection}
-use Rattle.vs_elab.specs.Connections.{said, said_one}
+use Rattle.vs_items.specs.declared.connections.Connection.{Connection}
+use Rattle.vs_items.specs.Connections.{said, said_one}
 use Rattle.vs_elab.specs.Wiring.{IsSignalOf, IsWirable, AreWirable, and_processes}
 use Rattle.vs_elab.proofs.Wider.{wirable_wider}
-use Rattle.vs_elab.proofs.FaultLists.{each_at}
+use Rattle.vs_elab.proofs.Sequences.{each_at}
 
 -- ---- the signal inside
 

@@ -14,7 +14,7 @@ use Rattle.vs_elaborated.specs.Generate.{Made}
 use Rattle.vs_elaborated.specs.Constructs.{constructs}
 use Rattle.vs_elaborated.specs.Pieces.{OfModule}
 use Rattle.vs_elaborated.specs.Surveys.{items_said, block_faults, block_entries, Totals, bits_over, piece_processes, processes_over, turns_after, items_of, declarations_of, header_of, Survey, survey}
-use Rattle.vs_elab.specs.Overriding.{AreAlike}
+use Rattle.vs_items.specs.Overriding.{AreAlike}
 
 -- all that an instance of a module says, by its names with the values of its parameters
 abbrev surveyed : Limits → Source → Option ℕ → Module → ℕ → Env → Totals → SaidEntries → Survey

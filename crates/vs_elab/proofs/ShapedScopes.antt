@@ -9,7 +9,7 @@ use Rattle.vs_scope.specs.declared.contents.Contents.{Contents}
 use Rattle.vs_scope.specs.declared.contents.Contents.TheVariants.{Module, Block}
 use Rattle.vs_scope.specs.Contents.{contents_items}
 use Rattle.vs_scope.specs.Surveys.{IsShapedScope}
-use Rattle.vs_elab.specs.Stated.{IsStated, AreStated}
+use Rattle.vs_items.specs.Stated.{IsStated, AreStated}
 
 -- ---- declarations
 

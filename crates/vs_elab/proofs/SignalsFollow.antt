@@ -9,7 +9,7 @@ use Rattle.vs_design.specs.Designs.{bit_count}
 use Rattle.vs_build.specs.Drafts.{Draft, and_signal}
 use Rattle.vs_scope.specs.declared.names.Signal.{Signal}
 use Rattle.vs_elab.specs.Opening.{signal, Follow, and_signals}
-use Rattle.vs_elab.proofs.Repeats.{one_more}
+use Rattle.vs_elab.proofs.Sequences.{one_more}
 
 -- the i-th of them
 abbrev no_signal : Signal

@@ -34,8 +34,8 @@ use Rattle.vs_elab.specs.declared.pending.Part.{Part}
 use Rattle.vs_elab.specs.declared.reading.Text.{Text}
 use Rattle.vs_elab.specs.declared.reading.Reading.{Reading}
 use Rattle.vs_elab.specs.declared.stack.Pending.{Pending}
-use Rattle.vs_elab.specs.declared.modules.Known.{Known}
-use Rattle.vs_elab.specs.Modules.{AreOf, IsOf}
+use Rattle.vs_items.specs.declared.modules.Known.{Known}
+use Rattle.vs_items.specs.Modules.{AreOf, IsOf}
 use Rattle.vs_elab.specs.Fine.{AreFineParts}
 use Rattle.vs_elab.specs.Pending.{parts_pieces, scope_around, stack_pieces}
 use Rattle.vs_elab.specs.declared.error.ElabError.{ElabError}

@@ -8,7 +8,7 @@ use Rattle.vs_elaborated.specs.Environments.{Entry}
 use Rattle.vs_build.specs.Buildable.{IsBuildable}
 use Rattle.vs_build.specs.Outputs.{IsOutput}
 use Rattle.vs_build.proofs.Wider.{IsWider}
-use Rattle.vs_elab.specs.declared.connections.Connection.{Connection}
+use Rattle.vs_items.specs.declared.connections.Connection.{Connection}
 use Rattle.vs_elab.specs.Wiring.{IsWirable}
 
 pub signal_wider : (c d : Design) → IsWider c d → (needed : Bool) (s : SignalMeaning) → IsSoundSignal c needed s → IsSoundSignal d needed s

@@ -19,7 +19,7 @@ use Rattle.vs_elaborated.specs.Instances.{directed, output_target}
 use Rattle.vs_elaborated.specs.Sound.{MeansSignal}
 use Rattle.vs_build.specs.Writable.{IsWritable}
 use Rattle.vs_build.specs.Outputs.{IsOutput, output_of}
-use Rattle.vs_elab.specs.declared.connections.Connection.{Connection}
+use Rattle.vs_items.specs.declared.connections.Connection.{Connection}
 use Rattle.vs_elab.specs.Wiring.{IsWirable}
 
 -- ---- an expression as a target: it is shaped as one, and nests no deeper

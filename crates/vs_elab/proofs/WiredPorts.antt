@@ -16,9 +16,9 @@ use Rattle.vs_elaborated.specs.Targets.{as_target}
 use Rattle.vs_elaborated.specs.Instances.{directed, output_target, connection_name}
 use Rattle.vs_elaborated.specs.Pieces as pieces
 use Rattle.vs_elaborated.specs.Sound.{MeansSignal}
-use Rattle.vs_elab.specs.declared.connections.Connection.{Connection}
-use Rattle.vs_elab.specs.Connections.{said, said_one}
-use Rattle.vs_elab.specs.Fine.{IsFineConnected}
+use Rattle.vs_items.specs.declared.connections.Connection.{Connection}
+use Rattle.vs_items.specs.Connections.{said, said_one}
+use Rattle.vs_items.specs.Fine.{IsFineConnected}
 use Rattle.vs_elab.specs.Wiring.{AreWirable}
 use Rattle.vs_elab.proofs.WirablePorts.{wirable}
 

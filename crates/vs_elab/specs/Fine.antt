@@ -1,8 +1,8 @@
 -- Parts of a scope that break no rule, whatever the design that they are built in.
-use Rattle.std.specs.Prelude.{◌≡◌, ◌≤◌, ◌++◌, ℕ, suc, false, List, [], ◌∷◌, slice_get, Option, Some}
+use Rattle.std.specs.Prelude.{◌≡◌, ◌≤◌, ◌++◌, false, List, [], Some}
 use Rattle.vs_grammar.specs.Trees as tree
-use Rattle.vs_grammar.specs.Shapes.{Each, Given, IsExpr, IsAssign, IsStatement, AreConnections, IsGenerateItem}
-use Rattle.vs_grammar.specs.Depths.{deepest, option_depth, expr_depth, assign_depth, statement_depth, connections_depth, item_depth}
+use Rattle.vs_grammar.specs.Shapes.{Each, Given, IsAssign, IsStatement, AreConnections, IsGenerateItem}
+use Rattle.vs_grammar.specs.Depths.{deepest, assign_depth, statement_depth, connections_depth, item_depth}
 use Rattle.vs_grammar.specs.Spelled.{depth_limit}
 use Rattle.vs_ast.specs.Views as view
 use Rattle.vs_const.specs.Expressions.{typed}
@@ -10,15 +10,14 @@ use Rattle.vs_elaborated.specs.Environments.{Env, named}
 use Rattle.vs_elaborated.specs.Targets.{typed_target}
 use Rattle.vs_elaborated.specs.Statements.{typed_control, typed_statement}
 use Rattle.vs_elaborated.specs.Generate.{Nested, Made}
-use Rattle.vs_elaborated.specs.Ports.{Port, find_port, find_module}
-use Rattle.vs_elaborated.specs.Instances.{Around, directed, connected, said_overrides, said_connections}
+use Rattle.vs_elaborated.specs.Ports.{find_module}
+use Rattle.vs_elaborated.specs.Instances.{Around, said_overrides, said_connections}
 use Rattle.vs_elaborated.specs.Surveys.{item_said, items_said}
 use Rattle.vs_build.specs.Writable.{wire_assign}
 use Rattle.vs_scope.specs.Contents.{block_items}
-use Rattle.vs_elab.specs.declared.connections.Connection.{Connection}
+use Rattle.vs_items.specs.Stated.{IsStated, AreStated}
 use Rattle.vs_elab.specs.declared.pending.Part.{Part}
 use Rattle.vs_elab.specs.declared.pending.Part.TheVariants.{Wire, Assigned, Always, Instance, Block}
-use Rattle.vs_elab.specs.Stated.{IsStated, AreStated}
 
 -- ---- parts
 
@@ -83,26 +82,3 @@ pub record AreFineItems (source : tree.Source) (around : Around) (items : List t
   pub shallow : deepest item_depth items ≤ depth_limit
   pub made : Each MakesFine ms
   pub clean : (items_said source around items ms).faults ≡ []
-
--- ---- connections
-
--- a connection of a port, where the instance stands in this
-pub record IsFineConnected (env : Env) (c : Connection) : Type 0 where
-  pub shaped : IsExpr (view.expr c.e.now)
-  pub clean : (directed c.name.now (Some c.input) (view.expr c.e.now) env).faults ≡ []
-  pub shallow : expr_depth (view.expr c.e.now) ≤ depth_limit
-
--- what stands for this port, if it is open or not
-pub record IsFineValue (env : Env) (port : Option Port) (e : Option tree.Expr) : Type 0 where
-  pub shaped : Given IsExpr e
-  pub clean : (connected port e env).faults ≡ []
-  pub shallow : option_depth expr_depth e ≤ depth_limit
-
--- by order, for the ports from the n-th on
-abbrev pub AreFineOrdered : List Port → ℕ → Env → List (Option tree.Expr) → Type 0
-AreFineOrdered ports n env [] = Unit {0}
-AreFineOrdered ports n env (e ∷ es) = IsFineValue env (slice_get ports n) e × AreFineOrdered ports (suc n) env es
-
--- by name
-abbrev pub IsFineNamed : List Port → Env → tree.NamedConnection → Type 0
-IsFineNamed ports env c = IsFineValue env (find_port ports c.name.bytes) c.e

@@ -28,7 +28,7 @@ use Rattle.vs_elab.specs.declared.surveyed.SurveyedScope.{SurveyedScope}
 use Rattle.vs_elab.specs.declared.stack.Pending.{Pending}
 use Rattle.vs_elab.specs.declared.pending.Part.{Part}
 use Rattle.vs_elab.specs.declared.steps.Standing.{Standing}
-use Rattle.vs_elab.specs.Modules.{AreOf}
+use Rattle.vs_items.specs.Modules.{AreOf}
 use Rattle.vs_elab.specs.Opening.{signal}
 use Rattle.vs_elab.specs.Fine.{IsFinePart, AreFineParts}
 use Rattle.vs_elab.specs.Pending.{parts_pieces, scope_around, stack_pieces}

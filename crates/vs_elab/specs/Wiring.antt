@@ -9,7 +9,7 @@ use Rattle.vs_elaborated.specs.Environments.{OfSignal, Entry, find_entry}
 use Rattle.vs_build.specs.Drafts.{Draft}
 use Rattle.vs_build.specs.Buildable.{IsBuildable}
 use Rattle.vs_build.specs.Outputs.{IsOutput}
-use Rattle.vs_elab.specs.declared.connections.Connection.{Connection}
+use Rattle.vs_items.specs.declared.connections.Connection.{Connection}
 
 -- a name is this signal
 pub record IsSignalOf (es : List Entry) (name : List ℕ) (m : SignalMeaning) : Type 0 where

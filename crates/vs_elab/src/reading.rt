@@ -1,8 +1,8 @@
 //! What has been read of a text, scope by scope (IEEE 1364-2005, 12.1).
 
-use crate::modules::Known;
 use vs_ast::Source;
 use vs_build::Builder;
+use vs_items::Known;
 use vs_scope::{Contents, Frame, NameMap, Override, Start, Turn};
 
 /// A text: its tree, and its modules by their names.

@@ -7,18 +7,15 @@ ghost use Rattle.vs_elaborated.specs.Sound.{AreSoundFrames};
 ghost use Rattle.vs_scope.specs.Frames.{env_at, envs};
 ghost use Rattle.vs_build.specs.Growth.{draft};
 ghost use Rattle.vs_build.specs.Items.{and_processes};
-ghost use Rattle.vs_elab.specs.Modules.{IsOf};
+ghost use Rattle.vs_items.specs.Modules.{IsOf};
 ghost use Rattle.vs_elab.specs.OwnParts.{IsFineOwn, own_processes};
 ghost use Rattle.vs_elab.specs.Reading.{IsReading, IsStep, IsText, Tells, design_so_far, outcome, pending_at, source_of};
 ghost use Rattle.vs_const.specs.declared.rules.Rule.TheVariants.{InstanceDepth};
 ghost use Rattle.vs_elab.specs.declared.error.ElabError.TheVariants.{Broken};
 ghost use Rattle.vs_elab.specs.declared.pending.Part.TheVariants as parts;
 
-use crate::connections::connections_of;
 use crate::error::ElabError;
-use crate::modules::Known;
 use crate::opened::open_scope;
-use crate::overriding::overriding;
 use crate::pending::Part;
 use crate::reading::{NewScope, Reading, Text};
 use crate::stack::{Pending, push_parts};
@@ -28,6 +25,7 @@ use vs_ast::{Instance, Instances};
 use vs_build::{always, assign, wire};
 use vs_const::{Fault, Rule};
 use vs_elaborated::{instance_law, scope_law};
+use vs_items::{Known, connections_of, overrides_of};
 use vs_scope::{BlockItems, Contents, NameMap, Turn, View};
 
 /// Where a part stands: the number of its scope, the instances around it, and how deep scopes may stand within one another in it.
@@ -138,7 +136,7 @@ fn read_instance<'a>(
     instance_law();
     let place = item.of.place;
     let left = one_deeper(at.left, place)?;
-    let overrides = overriding(alloc, &known.seen, &item.overrides, at.frame)?;
+    let overrides = overrides_of(alloc, &known.seen, &item.overrides, at.frame)?;
     let connections = connections_of(alloc, &known.seen, &instance.connections)?;
     let depth = at.depth + 1;
     let number = reading.counts.start.scope as usize;

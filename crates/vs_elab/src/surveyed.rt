@@ -5,10 +5,10 @@ ghost use Rattle.vs_scope.specs.Overrides.{AreOverrides};
 ghost use Rattle.vs_scope.specs.Surveys.{IsShapedScope};
 ghost use Rattle.vs_elab.specs.Reading.{IsSurveyed, IsText, source_of, task_of, totals_of};
 
-use crate::bodies::{SaidItems, said_items};
 use crate::reading::{Counts, NewScope, Text};
 use std::alloc::{AllocError, Global};
 use vs_const::{Fault, first_of};
+use vs_items::{SaidItems, said_items};
 use vs_scope::{Around, Frame, Made, Signal, Surveyed, View, survey, survey_law};
 
 /// What is found of a scope: its signals, what each of its items makes, its first fault, and the counts behind it.

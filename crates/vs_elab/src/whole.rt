@@ -14,7 +14,6 @@ ghost use Rattle.vs_flat.specs.Lawful.{IsLawful};
 ghost use Rattle.vs_elab.specs.Reading.{IsRead, IsReading, IsText, Tells, design_so_far, outcome, source_of, totals_of};
 
 use crate::error::ElabError;
-use crate::modules::{Known, Modules, by_names};
 use crate::opened::open_scope;
 use crate::reading::{Counts, NewScope, Reading, Text};
 use crate::stack::{Pending, push_parts};
@@ -25,6 +24,7 @@ use vs_build::Builder;
 use vs_const::{Fault, Rule};
 use vs_elaborated::elaborated_law;
 use vs_flat::Flat;
+use vs_items::{Known, Modules, modules_of};
 use vs_scope::{Contents, NameMap, Start};
 
 /// How many scopes may stand within one another: the top, and at most 201 for each of 32 instances.
@@ -125,7 +125,7 @@ pub fn flatten(alloc: Global, source: &Source, top: &[u8]) -> Result<Flat, ElabE
     ensures lawful { IfOk result IsLawful }
     ensures broken { IfErr result (λ e. Tells e (λ f. elaborated (view.source source.now) top.now ≡ Err f)) }
 {
-    let Modules { by_name, repeated } = by_names(alloc, source)?;
+    let Modules { by_name, repeated } = modules_of(alloc, source)?;
     if let Some(fault) = repeated {
         return Err(ElabError::Broken(fault));
     }

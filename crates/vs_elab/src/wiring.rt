@@ -7,12 +7,12 @@ ghost use Rattle.vs_elaborated.specs.Environments.{named};
 ghost use Rattle.vs_build.specs.Growth.{draft};
 ghost use Rattle.vs_scope.specs.Frames.{view_env};
 ghost use Rattle.vs_scope.specs.Views.{entries};
-ghost use Rattle.vs_elab.specs.Connections.{said, said_one};
+ghost use Rattle.vs_items.specs.Connections.{said, said_one};
 ghost use Rattle.vs_elab.specs.Wiring.{AreWirable, IsSignalOf, IsWirable, and_processes};
 
-use crate::connections::Connection;
 use std::alloc::{AllocError, Global};
 use vs_build::{Builder, input_port, output_port};
+use vs_items::Connection;
 use vs_scope::{Declared, Names, View};
 
 /// The number of the signal that a name of a scope means, where it means one.

@@ -9,7 +9,7 @@ use Rattle.vs_scope.specs.Frames.{turn}
 use Rattle.vs_scope.specs.Made as code
 use Rattle.vs_elab.specs.Fine.{AreFineInside}
 use Rattle.vs_elab.specs.Pending.{parts_pieces}
-use Rattle.vs_elab.proofs.FaultLists.{each_at}
+use Rattle.vs_elab.proofs.Sequences.{each_at}
 use Rattle.vs_elab.proofs.FineParts.{part_fine}
 use Rattle.vs_elab.proofs.PendingParts.{part_more}
 use Rattle.vs_elab.proofs.PartItems.{block_more}

@@ -1,4 +1,5 @@
 use Rattle.std.proofs.Common.{◌≡◌, ◌++◌, List, OnOk, length, map, sym, ap, ◌∙◌, subst}
+use Rattle.std.proofs.lemmas.List.{length-map}
 use Rattle.vs_grammar.specs.Trees as tree
 use Rattle.vs_ast.specs.Views as view
 use Rattle.vs_elaborated.specs.Surveys.{items_said}
@@ -6,15 +7,14 @@ use Rattle.vs_scope.specs.declared.contents.Contents.{Contents}
 use Rattle.vs_scope.specs.Contents.{contents_items}
 use Rattle.vs_elab.specs.Fine.{AreFineItems}
 use Rattle.vs_elab.specs.Pending.{parts_pieces}
-use Rattle.vs_elab.proofs.Repeats.{items_are}
-use Rattle.vs_elab.proofs.ItemLists.{mapped}
+use Rattle.vs_elab.proofs.PartItems.{items_are}
 use Rattle.vs_elab.proofs.parts.push_contents.Goals as goal
 
 pub push_items-requires : goal.push_items-requires
 push_items-requires c =
     c.requires
     ∙ ap (λ (is : List tree.Item). length is) (ap contents_items c.in-Module.is ∙ items_are c.in-Module.m.now.items.items ∙ ap (map view.item) (sym c.deref.ensures.value))
-    ∙ mapped view.item c.deref.result.now
+    ∙ length-map c.deref.result.now view.item
 
 pub returns-in-Module : goal.returns-in-Module
 returns-in-Module c =

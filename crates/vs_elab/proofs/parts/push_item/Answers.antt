@@ -12,7 +12,6 @@ use Rattle.vs_elab.specs.Fine.{IsFineAssign, IsFineWire, AreFineInside, IsFineIt
 use Rattle.vs_elab.specs.Pending.{parts_pieces}
 use Rattle.vs_elab.proofs.FineItems.{wires_fine, assigns_fine, block_fine, instances_fine}
 use Rattle.vs_elab.proofs.FineParts.{part_fine}
-use Rattle.vs_elab.proofs.ItemLists.{are_others}
 use Rattle.vs_elab.proofs.PartItems.{other_pieces}
 use Rattle.vs_elab.proofs.parts.push_item.Goals as goal
 
@@ -58,10 +57,9 @@ returns-in-Instances c = record {
 pub returns-in_default : goal.returns-in_default
 returns-in_default c = record {
   pieces = λ source around m same.
-      let other = are_others c.args.item.now c.in_default.not-Signals c.in_default.not-Assigns c.in_default.not-Always c.in_default.not-Instances in
       let blocks : map code.nested c.deref-in_default.result.now ≡ m.blocks = ap (map code.nested) c.deref-in_default.ensures.value ∙ ap (λ (k : code.Kept). k.blocks) same in
       subst (λ (ps : List Piece). OnOk c.push_blocks.result (parts_pieces source around c.push_blocks.new.parts.items ≡ parts_pieces source around c.args.parts.now.items ++ ps))
-      (ap (map (nested_piece around)) blocks ∙ sym (other_pieces source around (view.item c.args.item.now) m other)) (c.push_blocks.ensures.pieces source around);
+      (ap (map (nested_piece around)) blocks ∙ sym (other_pieces source around c.args.item.now m c.in_default.not-Signals c.in_default.not-Assigns c.in_default.not-Always c.in_default.not-Instances)) (c.push_blocks.ensures.pieces source around);
   fine = λ source around m same f.
       let blocks : map code.nested c.deref-in_default.result.now ≡ m.blocks = ap (map code.nested) c.deref-in_default.ensures.value ∙ ap (λ (k : code.Kept). k.blocks) same in
       c.push_blocks.ensures.fine source around.env (subst (Each (λ (b : Nested). AreFineInside b.items)) (sym blocks) f.made);

@@ -7,8 +7,7 @@ use Rattle.vs_elaborated.specs.Surveys.{items_said}
 use Rattle.vs_scope.specs.Made as code
 use Rattle.vs_elab.specs.Pending.{parts_pieces}
 use Rattle.vs_elab.proofs.FineItems.{item_at}
-use Rattle.vs_elab.proofs.ItemLists.{made_at, all_made}
-use Rattle.vs_elab.proofs.PartItems.{alike_at, alike_length, item_more}
+use Rattle.vs_elab.proofs.PartItems.{alike_at, alike_length, made_at, item_more}
 use Rattle.vs_elab.proofs.parts.push_items.Goals as goal
 
 pub loop-i-init : goal.loop-i-init
@@ -35,7 +34,7 @@ returns c = record {
   pieces = λ source around ms same.
       let many : length ms ≡ length c.args.items.now = alike_length code.made code.kept c.args.made.now ms same ∙ c.requires in
       c.loop-i.invariant.pieces source around ms same
-      ∙ ap (λ (xs : List Made). parts_pieces source around c.args.parts.now.items ++ (items_said source around (map view.item (take c.loop-i.i c.args.items.now)) xs).pieces) (all_made ms c.loop-i.i (omega (arith, many, c.loop-i-test.false)))
+      ∙ ap (λ (xs : List Made). parts_pieces source around c.args.parts.now.items ++ (items_said source around (map view.item (take c.loop-i.i c.args.items.now)) xs).pieces) (take_all c.loop-i.i ms (omega (arith, many, c.loop-i-test.false)))
       ∙ ap (λ (xs : List Item). parts_pieces source around c.args.parts.now.items ++ (items_said source around (map view.item xs) ms).pieces) (take_all c.loop-i.i c.args.items.now c.loop-i-test.false);
   fine = c.loop-i.invariant.fine;
 }

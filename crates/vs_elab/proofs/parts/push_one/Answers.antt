@@ -5,8 +5,7 @@ use Rattle.vs_elaborated.specs.Pieces.{Piece}
 use Rattle.vs_scope.specs.Made as code
 use Rattle.vs_elab.specs.Pending.{parts_pieces}
 use Rattle.vs_elab.proofs.FineItems.{one_fine}
-use Rattle.vs_elab.proofs.ItemLists.{made_at}
-use Rattle.vs_elab.proofs.PartItems.{alike_at, alike_length, one_item}
+use Rattle.vs_elab.proofs.PartItems.{alike_at, alike_length, made_at, one_item}
 use Rattle.vs_elab.proofs.parts.push_one.Goals as goal
 
 pub returns : goal.returns

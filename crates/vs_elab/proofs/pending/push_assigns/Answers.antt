@@ -6,7 +6,7 @@ use Rattle.vs_elaborated.specs.Pieces.{all_said}
 use Rattle.vs_elaborated.specs.Surveys.{assign_said}
 use Rattle.vs_elab.specs.Fine.{IsFineAssign}
 use Rattle.vs_elab.specs.Pending.{parts_pieces}
-use Rattle.vs_elab.proofs.FaultLists.{each_at}
+use Rattle.vs_elab.proofs.Sequences.{each_at}
 use Rattle.vs_elab.proofs.FineParts.{part_fine}
 use Rattle.vs_elab.proofs.PendingParts.{part_more, said_more}
 use Rattle.vs_elab.proofs.pending.push_assigns.Goals as goal

@@ -8,7 +8,7 @@ use Rattle.vs_elaborated.specs.Ports.{find_module}
 use Rattle.vs_elaborated.specs.Instances.{instance_said, said_overrides}
 use Rattle.vs_elab.specs.Fine.{IsFineInstance}
 use Rattle.vs_elab.specs.Pending.{parts_pieces}
-use Rattle.vs_elab.proofs.FaultLists.{each_at}
+use Rattle.vs_elab.proofs.Sequences.{each_at}
 use Rattle.vs_elab.proofs.FineParts.{part_fine}
 use Rattle.vs_elab.proofs.PendingParts.{part_more, said_more}
 use Rattle.vs_elab.proofs.pending.push_instances.Goals as goal

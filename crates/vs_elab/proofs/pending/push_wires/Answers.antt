@@ -6,7 +6,7 @@ use Rattle.vs_elaborated.specs.Pieces.{all_said}
 use Rattle.vs_elaborated.specs.Surveys.{wire_said}
 use Rattle.vs_elab.specs.Fine.{IsFineWire}
 use Rattle.vs_elab.specs.Pending.{parts_pieces}
-use Rattle.vs_elab.proofs.FaultLists.{each_at}
+use Rattle.vs_elab.proofs.Sequences.{each_at}
 use Rattle.vs_elab.proofs.PendingParts.{said_more}
 use Rattle.vs_elab.proofs.pending.push_wires.Goals as goal
 

@@ -14,8 +14,8 @@ returns-in_err-left-clause-broken c =
     let p = err_from_is_err_and c.from_residual.result c.from_residual.ensures.1 in
     deepest_told c.args.text.now c.requires.text c.args.reading.now c.args.stack.now.items c.args.at c.args.item c.args.instance c.args.known.now c.requires.reading c.requires.known c.from_residual.result p.0 c.in_err-left.field-0.0 p.1 p.2 c.in_err-left.ensures.none c.in_err-left.ensures.fault
 
-pub overriding-requires : goal.overriding-requires
-overriding-requires c =
+pub overrides_of-requires : goal.overrides_of-requires
+overrides_of-requires c =
     overrides_shaped c.args.text.now c.requires.text c.args.reading.now c.args.stack.now.items c.args.at c.args.item c.args.instance c.args.known.now c.requires.reading c.requires.known
 
 pub overflow_add-depth : goal.overflow_add-depth

@@ -53,10 +53,10 @@ returns c =
           ∙ ap (λ (n : ℕ). env_at (envs new) (Some n)) number;
       names = is.names;
       found = names.fault;
-      said = said.fault;
+      said = said;
       first = c.first_of.ensures;
       found_is = is.fault;
-      said_is = λ a ms h k. items.fault source a ms known h k;
+      said_is = λ a ms h k. items source a ms known h k;
       entries_are = is.entries;
       signals = is.signals;
       made = is.made;
@@ -64,7 +64,6 @@ returns c =
       next = is.next;
       instances = refl;
       turns = is.turns;
-      processes = λ a ms h. items.processes source a ms known h;
-      few = λ a ms h. items.few source a ms known h;
+      processes = refl;
     })
     (c.survey_law.ensures source task (totals_of counts)))

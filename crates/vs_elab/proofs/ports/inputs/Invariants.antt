@@ -1,8 +1,0 @@
-use Rattle.std.proofs.Common.{map, take}
-use Rattle.vs_scope.specs.MapViews.{pairs}
-use Rattle.vs_elab.specs.Noted.{AreFirst}
-use Rattle.vs_elab.specs.Ports.{named_port, port_of}
-use Rattle.vs_elab.proofs.ports.inputs.Given as goal
-
-abbrev pub invariant-loop-port : goal.invariant-loop-port
-invariant-loop-port l = AreFirst (pairs l.inputs) (map named_port (map port_of (take l.port-index l.list)))

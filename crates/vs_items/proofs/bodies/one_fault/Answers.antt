@@ -1,0 +1,7 @@
+use Rattle.vs_ast.specs.Views as view
+use Rattle.vs_items.proofs.ItemLists.{made_at}
+use Rattle.vs_items.proofs.BodyFaults.{one_found}
+use Rattle.vs_items.proofs.bodies.one_fault.Goals as goal
+
+pub returns : goal.returns
+returns c = λ source around made a names same. one_found source around (view.item c.args.item.now) made _ same (c.in_ok-fault.ensures source around (made_at made 0) a names)

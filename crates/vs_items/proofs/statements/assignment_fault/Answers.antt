@@ -1,0 +1,16 @@
+use Rattle.std.proofs.Common.{true, false, ap, sym, ◌∙◌}
+use Rattle.vs_ast.specs.Views as view
+use Rattle.vs_const.specs.Faults.{least, better}
+use Rattle.vs_const.specs.Expressions.{typed}
+use Rattle.vs_const.proofs.Least.{least_append}
+use Rattle.vs_elaborated.specs.Environments.{named}
+use Rattle.vs_elaborated.specs.Targets.{typed_target}
+use Rattle.vs_scope.specs.Frames.{view_env}
+use Rattle.vs_items.proofs.statements.assignment_fault.Goals as goal
+
+pub returns : goal.returns
+returns c =
+    let find = named (view_env c.args.here.now) in
+    let t = (typed_target (view.target c.args.target.now) find true).faults in
+    c.first_of.ensures ∙ ap (λ x. better x c.in_ok-value.value) c.in_ok-written.ensures ∙ ap (better (least t)) c.in_ok-value.ensures
+    ∙ sym (least_append t (typed (view.expr c.args.value.now) find false).faults)

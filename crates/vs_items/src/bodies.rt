@@ -1,0 +1,143 @@
+//! The faults of all items of a scope, and how many processes they have (IEEE 1364-2005, A.1.4).
+
+ghost use Rattle.std.specs.Prelude.{◌≡◌, ◌≤◌, [], ◌∷◌, List, IfOk, map, length};
+ghost use Rattle.vs_grammar.specs.Trees as tree;
+ghost use Rattle.vs_ast.specs.Views as view;
+ghost use Rattle.vs_const.specs.Faults.{least};
+ghost use Rattle.vs_elaborated.specs.Environments.{named};
+ghost use Rattle.vs_elaborated.specs.Generate.{Made};
+ghost use Rattle.vs_elaborated.specs.Instances.{Around};
+ghost use Rattle.vs_elaborated.specs.Surveys.{item_said, items_said};
+ghost use Rattle.vs_scope.specs.Contents.{contents_items};
+ghost use Rattle.vs_scope.specs.Frames.{view_env};
+ghost use Rattle.vs_items.specs.Modules.{AreOf};
+ghost use Rattle.vs_items.specs.Said.{IsSaid};
+ghost use Rattle.vs_items.specs.Stated.{AreStated, IsStated};
+
+use crate::counts::{Count, count_contents};
+use crate::instances::instances_fault;
+use crate::items::{assigns_fault, wires_fault};
+use crate::modules::{Known, seen_by};
+use crate::statements::block_fault;
+use std::alloc::{AllocError, Global};
+use vs_ast::Item;
+use vs_const::{Fault, first_of};
+use vs_scope::{BlockItems, Contents, NameMap, View};
+
+/// The first rule that an item breaks, but for those of its generate blocks and their heads.
+fn item_fault<'a>(
+    alloc: Global,
+    modules: &NameMap<'a, Known<'a>>,
+    item: &'a Item,
+    here: &View<'_, '_>,
+) -> Result<Option<Fault>, AllocError>
+    requires { IsStated (view.item item.now) }
+    ensures { (source : tree.Source) (around : Around) (made : Made) → AreOf modules.now source → named around.env ≡ named (view_env here.now)
+        → IfOk result (λ f. f ≡ least (item_said source around (view.item item.now) made).faults) }
+{
+    match item {
+        Item::Signals(s) => wires_fault(alloc, &s.names, here),
+        Item::Assigns { assigns, .. } => assigns_fault(alloc, assigns, here),
+        Item::Always(b) => block_fault(alloc, b, here),
+        Item::Instances(t) => instances_fault(alloc, seen_by(modules, &t.of), t, here),
+        _ => Ok(None),
+    }
+}
+
+/// The first rule that any of these items breaks.
+fn items_fault<'a>(
+    alloc: Global,
+    modules: &NameMap<'a, Known<'a>>,
+    items: &'a [Item],
+    here: &View<'_, '_>,
+) -> Result<Option<Fault>, AllocError>
+    requires { AreStated (map view.item items.now) }
+    ensures { (source : tree.Source) (around : Around) (made : List Made) → AreOf modules.now source → named around.env ≡ named (view_env here.now) → length made ≡ length items.now
+        → IfOk result (λ f. f ≡ least (items_said source around (map view.item items.now) made).faults) }
+{
+    let mut fault = None;
+    for item in items {
+        let found = item_fault(alloc, modules, item, here)?;
+        fault = first_of(fault, found);
+    }
+    Ok(fault)
+}
+
+/// The first rule that the one item of a block breaks.
+fn one_fault<'a>(
+    alloc: Global,
+    modules: &NameMap<'a, Known<'a>>,
+    item: &'a Item,
+    here: &View<'_, '_>,
+) -> Result<Option<Fault>, AllocError>
+    requires { AreStated (view.item item.now ∷ []) }
+    ensures { (source : tree.Source) (around : Around) (made : List Made) → AreOf modules.now source → named around.env ≡ named (view_env here.now) → length made ≡ 1
+        → IfOk result (λ f. f ≡ least (items_said source around (view.item item.now ∷ []) made).faults) }
+{
+    let fault = item_fault(alloc, modules, item, here)?;
+    Ok(fault)
+}
+
+/// The first rule that an item of a scope breaks: what its generate constructs make is no matter.
+fn contents_fault<'a>(
+    alloc: Global,
+    modules: &NameMap<'a, Known<'a>>,
+    contents: Contents<'a>,
+    here: &View<'_, '_>,
+) -> Result<Option<Fault>, AllocError>
+    requires { AreStated (contents_items contents) }
+    ensures { (source : tree.Source) (around : Around) (made : List Made) → AreOf modules.now source → named around.env ≡ named (view_env here.now) → length made ≡ length (contents_items contents.entry)
+        → IfOk result (λ f. f ≡ least (items_said source around (contents_items contents.entry) made).faults) }
+{
+    match contents {
+        Contents::Module(m) => items_fault(alloc, modules, &m.items, here),
+        Contents::Block(BlockItems::One(item)) => one_fault(alloc, modules, item, here),
+        Contents::Block(BlockItems::Many(items)) => items_fault(alloc, modules, items, here),
+    }
+}
+
+/// What is found of the items of a scope.
+#[derive(Clone, Copy)]
+pub struct SaidItems {
+    /// The first rule that they break.
+    pub fault: Option<Fault>,
+    /// How many processes there are in the whole design so far with theirs, where they break no rule; else it says nothing, and is within the limit.
+    pub processes: u32,
+}
+
+/// What is found of the items of a scope, in a text of these modules. `here` is the scope with its own names, `total` how many processes there are
+/// before it and `most` how many there may be. What generate constructs make is no matter: neither their faults nor those of their blocks are looked for.
+///
+/// The fault is the first of these, where an expression, a target or a statement may break any rule on them (clauses 4, 5, 6 and 9):
+/// - `UnknownModule`: an instance of a module that the text doesn't have (12.1.2).
+/// - `DuplicateName`, `PortCount`, `UnknownPort`: a name that is connected or overridden twice, a wrong number of connections or too many overrides, and
+///   a name that the module doesn't have (12.2.2, 12.3.5, 12.3.6).
+/// - `WrongKind`: what is assigned to, or connected to an output, is no net where it has to be one, or no variable (6.1, 9.2, 12.3.9.2).
+/// - `TooManyProcesses`: where the first piece begins with which there are more than `most`.
+///
+/// An error is want of memory.
+pub fn said_items<'a>(
+    alloc: Global,
+    modules: &NameMap<'a, Known<'a>>,
+    contents: Contents<'a>,
+    here: &View<'_, '_>,
+    most: u32,
+    total: u32,
+) -> Result<SaidItems, AllocError>
+    requires stated { AreStated (contents_items contents) }
+    requires few { total ≤ most }
+    ensures { (source : tree.Source) (around : Around) (made : List Made) → AreOf modules.now source → named around.env ≡ named (view_env here.now) → length made ≡ length (contents_items contents.entry)
+        → IfOk result (λ r. IsSaid r most total (items_said source around (contents_items contents.entry) made)) }
+{
+    let found = contents_fault(alloc, modules, contents, here)?;
+    let mut count = Count {
+        most,
+        total,
+        over: None,
+    };
+    count_contents(alloc, modules, contents, &mut count)?;
+    Ok(SaidItems {
+        fault: first_of(found, count.over),
+        processes: count.total,
+    })
+}
