@@ -13,7 +13,7 @@ use Rattle.vs_lexer.specs.Cuts.{cut, cut_text}
 use Rattle.vs_lexer.specs.LeftOut.{is_left_out}
 
 token : TokenKind → ℕ → ℕ → Token
-token kind start end = record { kind = kind; start = start; end = end }
+token kind start end = record { kind = kind; start = start; end = end; at = start }
 
 -- the number of each token that is left out
 left_from : ℕ → List Token → List Token → List ℕ

@@ -1,10 +1,11 @@
 -- What each token of a text is.
-use Rattle.std.proofs.Common.{◌≡◌, ℕ, zero, suc, ◌+◌, ◌-◌, ◌<◌, ◌≤◌, Bool, true, false, cond, List, [], ◌∷◌, refl, sym, ◌∙◌, ap, subst, length, take, drop, arith, length-drop}
+use Rattle.std.proofs.Common.{◌≡◌, ℕ, zero, suc, ◌+◌, ◌-◌, ◌<◌, ◌≤◌, Bool, true, false, cond, List, [], ◌∷◌, refl, sym, ◌∙◌, ap, subst, length, take, drop, get_or, arith, length-drop}
 use Rattle.std.specs.Prelude.{Option, Some, None, Result, Ok, Err, not, slice_get, unwrap_or}
 use Rattle.std.specs.List.{list_all}
 use Rattle.std.specs.Str.{bytes_eq}
 use Rattle.std.proofs.lemmas.Bool.{and_parts, not-true}
 use Rattle.std.proofs.lemmas.List.{drop-drop}
+use Rattle.std.proofs.lemmas.Option.{slice_get-get_or, get_or_from_slice_get, slice_get_within}
 use Rattle.vs_lexer.specs.declared.token.Token.{Token}
 use Rattle.vs_lexer.specs.declared.token.TokenKind.{TokenKind}
 use Rattle.vs_lexer.specs.declared.token.TokenKind.TheVariants as kind
@@ -17,7 +18,7 @@ use Rattle.vs_lexer.specs.Spellings.{Spelling, signs, keywords, left_out_words, 
 use Rattle.vs_lexer.specs.Literals.{lacks_digits, is_in_range}
 use Rattle.vs_lexer.specs.Tokens.{token_kind, kind_from, start_of, longest, longest_within, here, begins_number, checked, if_so, is_number_kind, word_kind, system_kind, sign_kind}
 use Rattle.vs_lexer.specs.Cuts.{skipped, cut, cut_text, token_limit, token_at, with_token}
-use Rattle.vs_lexer.specs.Laws.{StandsIn, TokensStand}
+use Rattle.vs_lexer.specs.Laws.{StandsIn, AreTokens as AreAll, TokensStand}
 use Rattle.vs_lexer.proofs.Longest.{lexeme}
 use Rattle.vs_lexer.proofs.Progress.{cut_by, here_by, here_longest, here_some, here_inside}
 
@@ -200,4 +201,11 @@ stands text t i = record {
 
 pub tokens_stand : TokensStand
 unfolding cut_text
-tokens_stand text tokens e = (few_of (length text) token_limit 0 text tokens e, λ n t g. stands text t (token_of text tokens n t e g))
+tokens_stand text tokens e = record { few = few_of (length text) token_limit 0 text tokens e; each = λ n d h. stands text (get_or tokens n d) (token_of text tokens n (get_or tokens n d) e (slice_get-get_or tokens n d h)) }
+
+-- a token of the text is one, counted from its first byte
+pub is_token : (text : List ℕ) (tokens : List Token) (n : ℕ) (t : Token) → AreAll text tokens → slice_get tokens n ≡ Some t → IsToken 0 text t
+is_token text tokens n t a g =
+    let s = subst (StandsIn text) (get_or_from_slice_get tokens n t t g) (a.each n t (slice_get_within tokens n t g)) in
+    let z : t.start - 0 ≡ t.start = omega arith in
+    record { low = omega arith; some = s.some; found = ap (λ m. here (drop m text)) z ∙ s.taken }

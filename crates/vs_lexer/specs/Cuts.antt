@@ -1,5 +1,5 @@
 -- How a text is cut into tokens and skipped pieces (IEEE 1364-2005, 3.1 to 3.3, 19.2 and 19.8).
-use Rattle.std.specs.Prelude.{ℕ, zero, suc, ◌+◌, ◌-◌, Bool, true, false, ◌&&◌, ◌==◌, List, [], ◌∷◌, take, drop, length, codes, slice_get, slice_index, Option, Some, None, Result, Ok, Err}
+use Rattle.std.specs.Prelude.{ℕ, zero, suc, ◌+◌, ◌-◌, Bool, true, false, not, ◌&&◌, if◌then◌else◌, ◌==◌, List, [], ◌∷◌, take, drop, length, codes, slice_get, slice_index, Option, Some, None, Result, Ok, Err}
 use Rattle.std.specs.List.{prefix_len}
 use Rattle.vs_lexer.specs.declared.bytes.ByteClass.TheVariants as class
 use Rattle.vs_lexer.specs.declared.scan.Lexeme.{Lexeme}
@@ -39,7 +39,14 @@ begins_skipped_directive text = is_skipped_directive (word_of (drop 1 text))
 abbrev pub line_length : List ℕ → ℕ
 line_length text = prefix_len (is_in class.Line) text
 
--- How many bytes at the front are skipped in one piece, a blank, a comment or a directive (a backquote is 96): 0 where none are, and nothing
+-- the bytes of a `\` at a line's end and of that end, LF or CR LF (19.3.1): the line goes on; 0 where there is none; `\` is 92, LF is 10, CR is 13
+abbrev pub continuation : List ℕ → ℕ
+continuation text =
+    if not (slice_index text 0 == 92) then 0
+    else (if slice_index text 1 == 10 then 2
+    else (if slice_index text 1 == 13 && slice_index text 2 == 10 then 3 else 0))
+
+-- How many bytes at the front are skipped in one piece, a blank, a comment, a directive (a backquote is 96) or a line's end that ends no line: 0 where none are, and nothing
 -- where an open comment begins.
 abbrev pub skipped : List ℕ → Option ℕ
 skipped text =
@@ -51,7 +58,7 @@ skipped text =
         | true ↦ Some (line_length text)
         | false ↦ elim (a == 47 && b == 42) [
           | true ↦ block_comment text
-          | false ↦ elim (a == 96 && begins_skipped_directive text) [ true ↦ Some (line_length text) | false ↦ Some 0 ]
+          | false ↦ elim (a == 96 && begins_skipped_directive text) [ true ↦ Some (line_length text) | false ↦ Some (continuation text) ]
         ]
       ]
     ]
@@ -72,7 +79,7 @@ with_token t (Ok ts) = Ok (t ∷ ts)
 with_token t (Err e) = Err e
 
 abbrev pub token_at : Lexeme → ℕ → Token
-token_at lexeme at = record { kind = lexeme.kind; start = at; end = at + lexeme.length }
+token_at lexeme at = record { kind = lexeme.kind; start = at; end = at + lexeme.length; at = at }
 
 -- The text that begins at place `at` is cut so, where at most `left` tokens may still come: at each place a piece is skipped, or else
 -- the longest token is taken. Each step takes a byte at least, so as many steps as the text has bytes are enough.

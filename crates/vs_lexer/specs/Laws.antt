@@ -1,5 +1,6 @@
 -- What the definitions of tokens give together.
-use Rattle.std.specs.Prelude.{◌≡◌, ℕ, ◌-◌, ◌<◌, ◌≤◌, List, take, drop, length, slice_get, Some, None, Ok, MatchOption}
+use Rattle.std.specs.Prelude.{◌≡◌, ℕ, ◌-◌, ◌<◌, ◌≤◌, List, take, drop, length, Some, None, Ok, MatchOption}
+use Rattle.std.specs.List.{All}
 use Rattle.vs_lexer.specs.declared.token.Token.{Token}
 use Rattle.vs_lexer.specs.Tokens.{token_kind, longest, here}
 use Rattle.vs_lexer.specs.Cuts.{cut_text, token_limit}
@@ -17,6 +18,12 @@ pub record StandsIn (text : List ℕ) (token : Token) : Type 0 where
   pub inside : token.end ≤ length text
   pub taken : here (drop token.start text) ≡ Ok (record { kind = token.kind; length = token.end - token.start })
 
--- a text that is cut has no more tokens than the limit, and each stands in it
+-- Tokens of the text: no more than the limit, and each stands in it, wherever a reader finds it. Those that the text is cut into are such, and so
+-- is what macros make of them (19.3).
+pub record AreTokens (text : List ℕ) (tokens : List Token) : Type 0 where
+  pub few : length tokens ≤ token_limit
+  pub each : All (StandsIn text) tokens
+
+-- what a text is cut into are tokens of it
 abbrev pub TokensStand : Type 0
-TokensStand = (text : List ℕ) (tokens : List Token) → cut_text text ≡ Ok tokens → (length tokens ≤ token_limit) × ((n : ℕ) (token : Token) → slice_get tokens n ≡ Some token → StandsIn text token)
+TokensStand = (text : List ℕ) (tokens : List Token) → cut_text text ≡ Ok tokens → AreTokens text tokens

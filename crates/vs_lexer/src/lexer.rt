@@ -39,6 +39,22 @@ fn is_skipped_directive(text: &[u8]) -> bool
     is_among(&SKIPPED_DIRECTIVES, &text[1..end])
 }
 
+/// How many bytes at the front are a `\` at a line's end and that end; 0 where there is none.
+fn continuation(text: &[u8]) -> usize
+    ensures value { result ≡ spec.continuation text.now }
+    ensures within { result ≤ length text.now }
+{
+    if byte_at(text, 0) != b'\\' {
+        0
+    } else if byte_at(text, 1) == b'\n' {
+        2
+    } else if byte_at(text, 1) == b'\r' && byte_at(text, 2) == b'\n' {
+        3
+    } else {
+        0
+    }
+}
+
 /// How many bytes at the front are skipped in one piece; `None` where a comment stays open.
 fn skipped(text: &[u8]) -> Option<usize>
     ensures value { result ≡ spec.skipped text.now }
@@ -55,7 +71,7 @@ fn skipped(text: &[u8]) -> Option<usize>
     } else if first == b'`' && is_skipped_directive(text) {
         Some(run_length(ByteClass::Line, text, 0))
     } else {
-        Some(0)
+        Some(continuation(text))
     }
 }
 
@@ -102,6 +118,7 @@ pub fn lex(alloc: Global, text: &[u8]) -> Result<Vec<Token>, LexError>
             kind: lexeme.kind,
             start: place,
             end: at as u32,
+            at: place,
         };
         if tokens.push(token).is_err() {
             return Err(LexError::Memory);

@@ -176,12 +176,14 @@ pub enum TokenKind {
     Arrow,
 }
 
-/// One token: the bytes `start..end` of the text.
+/// One token: the bytes `start..end` of the text spell it. `at` is the byte at which a reader of the text finds it: where it begins,
+/// or, of a token that a macro gave, where the outermost use of a macro begins that it came from (IEEE 1364-2005, 19.3).
 #[derive(Clone, Copy, Debug, PartialEq, Eq)]
 pub struct Token {
     pub kind: TokenKind,
     pub start: u32,
     pub end: u32,
+    pub at: u32,
 }
 
 /// Why a text is not cut into tokens. Each number is the place of a byte of the text.

@@ -1,9 +1,10 @@
 //! What a number stands for (IEEE 1364-2005, 3.5.1).
 
-ghost use Rattle.std.specs.Prelude.{◌≡◌, ◌≢◌, ◌<◌, ◌≤◌, ◌+◌, ◌*◌, ◌%◌, ◌^◌, ◌++◌, Ok, Some, length, take, drop, replicate, slice_index, true, false};
+ghost use Rattle.std.specs.Prelude.{◌≡◌, ◌≢◌, ◌<◌, ◌≤◌, ◌+◌, ◌*◌, ◌%◌, ◌^◌, ◌++◌, Some, length, take, drop, replicate, slice_index, true, false};
 ghost use Rattle.vs_four.specs.Planes.{bits_of_planes};
 ghost use Rattle.vs_lexer.specs.Literals as spec;
-ghost use Rattle.vs_lexer.specs.Cuts.{cut_text, spelling_of, is_number};
+ghost use Rattle.vs_lexer.specs.Cuts.{spelling_of, is_number};
+ghost use Rattle.vs_lexer.specs.Laws.{AreTokens};
 
 use crate::bytes::{Base, byte_at, digit_value, is_x, is_z};
 use crate::number::{LiteralHead, decimal_value, head_of, is_decimal_number};
@@ -218,7 +219,7 @@ fn literal_of(text: &[u8]) -> Literal
 
 /// The bytes of token n.
 pub fn spelling<'a>(text: &'a [u8], tokens: &[Token], n: usize) -> &'a [u8]
-    requires lexed { cut_text text.now ≡ Ok tokens.now }
+    requires lexed { AreTokens text.now tokens.now }
     requires inside { n < length tokens.now }
     ensures { result.now ≡ spelling_of text.now tokens.now n }
 {
@@ -236,7 +237,7 @@ pub fn is_number(tokens: &[Token], n: usize) -> bool
 
 /// What token n stands for, which is a number (IEEE 1364-2005, 3.5.1).
 pub fn read_literal(text: &[u8], tokens: &[Token], n: usize) -> Literal
-    requires lexed { cut_text text.now ≡ Ok tokens.now }
+    requires lexed { AreTokens text.now tokens.now }
     requires inside { n < length tokens.now }
     requires number { is_number tokens.now n ≡ true }
     ensures bits { bits_of_planes result.size result.value result.unknown ≡ spec.literal_bits (spelling_of text.now tokens.now n) }
