@@ -1,0 +1,13 @@
+pub mod Words
+pub mod Lines
+pub mod Roles
+pub mod Macros
+pub mod Arguments
+pub mod Expansion
+pub mod Conditions
+pub mod Preprocessing
+pub mod Reads
+pub mod Views
+pub mod Worked
+pub mod Reading
+pub mod Laws
