@@ -1,13 +1,12 @@
 -- From places to whole texts.
 use Rattle.std.proofs.Common.{◌≡◌, ℕ, zero, suc, ◌+◌, ◌<◌, ◌≤◌, ◌≢◌, true, false, List, [], ◌∷◌, ◌++◌, drop, length, get_or, refl, sym, ◌∙◌, ap, subst, arith, ◌⊎◌, inl, inr}
-use Rattle.std.specs.Prelude.{Result, Ok, IfErr, IsErrAnd, Option, Some, None, ltb}
+use Rattle.std.specs.Prelude.{Result, IfErr, IsErrAnd, Option, Some, None, ltb}
 use Rattle.std.proofs.lemmas.Bool.Decides.{nat_tests}
 use Rattle.std.proofs.lemmas.List.{drop_all}
 use Rattle.std.proofs.lemmas.Result.{err_from_is_err_and}
 use Rattle.vs_lexer.specs.declared.token.Token.{Token}
 use Rattle.vs_lexer.specs.declared.token.TokenKind.{TokenKind}
 use Rattle.vs_lexer.specs.declared.token.TokenKind.TheVariants as kind
-use Rattle.vs_lexer.specs.Cuts.{cut_text}
 use Rattle.vs_lexer.specs.LeftOut as out
 use Rattle.vs_grammar.specs.Grammars.{Terminal, SyntaxAt, TooDeepAt}
 use Rattle.vs_grammar.specs.Grammars.Phrase.{tok}
@@ -21,7 +20,7 @@ use Rattle.vs_grammar.specs.Verilog.{verilog, phrase_of, r}
 use Rattle.vs_grammar.specs.Verilog.{Rule as rule}
 use Rattle.vs_grammar.specs.Trees.{Source}
 use Rattle.vs_grammar.specs.Meaning as meaning
-use Rattle.vs_grammar.specs.Spelled.{NoneLeftOut, Spells}
+use Rattle.vs_grammar.specs.Spelled.{NoneLeftOut, SpelledBy}
 use Rattle.vs_grammar.proofs.Stopped.{stopping, sinking}
 use Rattle.vs_grammar.proofs.Whole.{derived, stops, sinks}
 use Rattle.vs_grammar.proofs.Decided.{verilog_is_predictive}
@@ -39,7 +38,7 @@ below_not : (a b c : ℕ) → a ≡ b → ltb a c ≡ true → b ≢ c
 below_not a b c e l = grind (arith, nat_tests)
 
 kind_not_end : (ts : List Token) (i : ℕ) → i < length ts → kind_at ts i ≢ end_of_text
-kind_not_end ts i h = let d : Token = record { kind = kind.Identifier; start = 0; end = 0 } in below_not (number_of (get_or ts i d).kind) (kind_at ts i) end_of_text (kind_in ts i d h) (below_end (get_or ts i d).kind)
+kind_not_end ts i h = let d : Token = record { kind = kind.Identifier; start = 0; end = 0; at = 0 } in below_not (number_of (get_or ts i d).kind) (kind_at ts i) end_of_text (kind_in ts i d h) (below_end (get_or ts i d).kind)
 
 from_zero : (ts : List Token) → from ts 0 ≡ terminals ts
 unfolding from
@@ -99,19 +98,15 @@ pub rest_fault : {input : Input} {value : Source} {j : ℕ} → NoneLeftOut inpu
 rest_fault {input} {value} {j} kept p h = record { kept = kept; fault = text_stops input.tokens.now j (s_then (p.read).reads (at_head input.tokens.now j (λ l. Stops verilog (tok end_of_text) l l) (s_tok (kind_not_end input.tokens.now j h)))) }
 
 -- nothing does
-pub text_read : {input : Input} {value : Source} {j : ℕ} → cut_text input.text.now ≡ Ok input.tokens.now → NoneLeftOut input.tokens.now → Parsed input (r rule.Source) meaning.source_of 0 0 value j → length input.tokens.now ≤ j → Spells input.text.now value
-text_read {input} {value} {j} cut kept p h =
+pub text_read : {input : Input} {value : Source} {j : ℕ} → NoneLeftOut input.tokens.now → Parsed input (r rule.Source) meaning.source_of 0 0 value j → length input.tokens.now ≤ j → SpelledBy input.text.now input.tokens.now value
+text_read {input} {value} {j} kept p h =
     let w : Reads verilog (phrase_of rule.Text) (from input.tokens.now 0) (both p.tree (leaf (terminal_at input.tokens.now j))) [] = r_seq (p.read).reads (subst (λ (l : List Terminal). Reads verilog (tok end_of_text) l (leaf (terminal_at input.tokens.now j)) []) (sym (from_end input.tokens.now j h)) (r_tok (kind_end input.tokens.now j h))) in
     record {
-      tokens = input.tokens.now;
-      cut = cut;
-      spelled = record {
-        kept = kept;
-        derivation = both p.tree (leaf (terminal_at input.tokens.now j));
-        derived = derived verilog (r rule.Source) end_of_text verilog_is_predictive (terminals input.tokens.now) (both p.tree (leaf (terminal_at input.tokens.now j))) (subst (λ (l : List Terminal). Reads verilog (phrase_of rule.Text) l (both p.tree (leaf (terminal_at input.tokens.now j))) []) (from_zero input.tokens.now) w);
-        stands = p.made;
-        shallow = let f = (p.read).fits in omega arith;
-      };
+      kept = kept;
+      derivation = both p.tree (leaf (terminal_at input.tokens.now j));
+      derived = derived verilog (r rule.Source) end_of_text verilog_is_predictive (terminals input.tokens.now) (both p.tree (leaf (terminal_at input.tokens.now j))) (subst (λ (l : List Terminal). Reads verilog (phrase_of rule.Text) l (both p.tree (leaf (terminal_at input.tokens.now j))) []) (from_zero input.tokens.now) w);
+      stands = p.made;
+      shallow = let f = (p.read).fits in omega arith;
     }
 
 -- ---- tokens that are left out

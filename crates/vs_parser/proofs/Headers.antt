@@ -18,8 +18,9 @@ use Rattle.vs_statements.specs.declared.error.ParseError.TheVariants.{Memory}
 use Rattle.vs_statements.specs.declared.input.Input.{Input}
 use Rattle.vs_parser.specs.Headings as part
 use Rattle.vs_parser.specs.Headings.{PortRead, PortsStep, PortsGrown, PortsRead, ParametersStep, ParametersGrown, ParametersRead}
-use Rattle.vs_statements.specs.Reading.{kind_at, bytes_in, Read}
-use Rattle.vs_statements.proofs.Places.{read_eps, read_many, grown_start, grown_more}
+use Rattle.vs_statements.specs.Reading.{kind_at, bytes_in, Read, Parsed}
+use Rattle.vs_parser.proofs.Fronts.{read_front}
+use Rattle.vs_statements.proofs.Places.{parsed, read_eps, read_many, read_var, grown_start, grown_more}
 
 names_nil : (s : Signals) → part.with_names s [] ≡ s
 names_nil s = ap (λ z. record s { names = z }) (append-nil s.names)
@@ -109,3 +110,10 @@ modules_made b m l first begun list p q e = ap (λ z. z ∷ meaning.each_onto (m
 
 pub memory_exit : {A : Type 0} (r : Result A ParseError) (e : ParseError) → IsErrAnd r (λ y. y ≡ e) → e ≡ Memory → IfErr r (λ y. y ≡ Memory)
 memory_exit {A} r e h q = let p = err_from_is_err_and r h in rw p.1 (p.2 ∙ q)
+
+-- the parameters of a header, by its first declaration
+pub header_parameters_read : {input : Input} {d i : ℕ} {first : Parameters} {j : ℕ} {list : List Parameters} {k : ℕ} → Parsed input part.next_declaration part.next_declaration_of d i first j → ParametersRead input first d j list k → Parsed input (r rule.HeaderParameters) meaning.header_parameters d i list k
+header_parameters_read {input} {d} {i} {first} {j} {list} {k} p q = go p.tree p.read p.made
+  where
+    go : (a : D part.next_declaration) → Read input.tokens.now d part.next_declaration a i j → part.next_declaration_of (bytes_in input) a ≡ first → Parsed input (r rule.HeaderParameters) meaning.header_parameters d i list k
+    go (both (leaf u) (both y s)) w m = parsed (read_var (read_front w q.read)) (q.made u.place y s (declared_first (bytes_in input) u.place y s first m))

@@ -3,28 +3,20 @@ use Rattle.std.proofs.Common.{◌≡◌, ℕ, suc, ◌<◌, ◌≤◌, Bool, tru
 use Rattle.std.specs.Prelude.{Result, Ok, Err, IfOk, IfErr, IsErrAnd, MatchResult}
 use Rattle.std.proofs.lemmas.List.{take-append-drop, take-take}
 use Rattle.vs_lexer.specs.declared.token.Token.{Token}
-use Rattle.vs_lexer.specs.Cuts.{cut_text}
 use Rattle.vs_grammar.specs.Grammars.{Terminal, Phrase, Begins, SyntaxAt, TooDeepAt}
 use Rattle.vs_grammar.specs.Kinds.{terminals}
 use Rattle.vs_grammar.specs.Verilog.{verilog, phrase_of, Rule as rule}
 use Rattle.vs_grammar.specs.Trees as tree
-use Rattle.vs_grammar.specs.Spelled.{NoneLeftOut, Spells, SpelledBy, LeftOutAt, HasSyntaxFault, IsTooDeep}
-use Rattle.vs_grammar.specs.SpelledLaws.{OneSource, SpelledHasNoFault, OneFaultOfTokens}
+use Rattle.vs_grammar.specs.Spelled.{NoneLeftOut, SpelledBy, LeftOutAt, HasSyntaxFault, IsTooDeep}
+use Rattle.vs_grammar.specs.SpelledLaws.{OneSourceOfTokens, SpelledHasNoFault, OneFaultOfTokens}
 use Rattle.vs_ast.specs.declared.modules.Source.{Source}
 use Rattle.vs_ast.specs.Views as view
 use Rattle.vs_statements.specs.declared.error.ParseError.{ParseError}
 use Rattle.vs_statements.specs.declared.error.ParseError.TheVariants.{LeftOut, Syntax, TooDeep, Memory}
 use Rattle.vs_parser.specs.Faults.{Fault, IsSyntaxAnswer, IsDepthAnswer}
 
-same_tokens : {A E : Type 0} {a b : A} {x : Result A E} → x ≡ Ok a → x ≡ Ok b → a ≡ b
-same_tokens p q = cc
-
 out_and_kept : {b : Bool} → b ≡ true → b ≡ false → ⊥
 out_and_kept p q = cc
-
--- the tokens that a text is cut into spell what it spells
-spelled_by : (text : List ℕ) (tokens : List Token) (source : tree.Source) → cut_text text ≡ Ok tokens → Spells text source → SpelledBy text tokens source
-spelled_by text tokens source cut s = subst (λ (ts : List Token). SpelledBy text ts source) (same_tokens s.cut cut) s.spelled
 
 -- nothing but want of memory is told of a text that spells a tree
 only_memory : SpelledHasNoFault → (text : List ℕ) (tokens : List Token) (source : tree.Source) → SpelledBy text tokens source → (e : ParseError) → Fault tokens e → e ≡ Memory
@@ -64,17 +56,17 @@ depth_answer tokens k s Memory f = tt
 
 -- ---- the clauses of an answer, by what is found and by its fault
 
-pub complete_of : OneSource → SpelledHasNoFault → (text : List ℕ) (tokens : List Token) → cut_text text ≡ Ok tokens → (r : Result Source ParseError) → IfOk r (λ s. Spells text (view.source s)) → IfErr r (λ e. Fault tokens e) → (source : tree.Source) → Spells text source → MatchResult r (λ s. view.source s ≡ source) (λ e. e ≡ Memory)
-complete_of one none text tokens cut (Ok s) found fault source h = one text (view.source s) source found h
-complete_of one none text tokens cut (Err e) found fault source h = only_memory none text tokens source (spelled_by text tokens source cut h) e fault
+pub complete_of : OneSourceOfTokens → SpelledHasNoFault → (text : List ℕ) (tokens : List Token) (r : Result Source ParseError) → IfOk r (λ s. SpelledBy text tokens (view.source s)) → IfErr r (λ e. Fault tokens e) → (source : tree.Source) → SpelledBy text tokens source → MatchResult r (λ s. view.source s ≡ source) (λ e. e ≡ Memory)
+complete_of one none text tokens (Ok s) found fault source h = one text tokens (view.source s) source found h
+complete_of one none text tokens (Err e) found fault source h = only_memory none text tokens source h e fault
 
-pub syntax_of : SpelledHasNoFault → OneFaultOfTokens → (text : List ℕ) (tokens : List Token) → cut_text text ≡ Ok tokens → (r : Result Source ParseError) → IfOk r (λ s. Spells text (view.source s)) → IfErr r (λ e. Fault tokens e) → (k : ℕ) → HasSyntaxFault tokens k → IsErrAnd r (λ e. IsSyntaxAnswer k e)
-syntax_of none one text tokens cut (Ok s) found fault k h = (none text tokens (view.source s) (spelled_by text tokens (view.source s) cut found) k).1 h
-syntax_of none one text tokens cut (Err e) found fault k h = syntax_answer one tokens k h e fault
+pub syntax_of : SpelledHasNoFault → OneFaultOfTokens → (text : List ℕ) (tokens : List Token) (r : Result Source ParseError) → IfOk r (λ s. SpelledBy text tokens (view.source s)) → IfErr r (λ e. Fault tokens e) → (k : ℕ) → HasSyntaxFault tokens k → IsErrAnd r (λ e. IsSyntaxAnswer k e)
+syntax_of none one text tokens (Ok s) found fault k h = (none text tokens (view.source s) found k).1 h
+syntax_of none one text tokens (Err e) found fault k h = syntax_answer one tokens k h e fault
 
-pub deep_of : SpelledHasNoFault → (text : List ℕ) (tokens : List Token) → cut_text text ≡ Ok tokens → (r : Result Source ParseError) → IfOk r (λ s. Spells text (view.source s)) → IfErr r (λ e. Fault tokens e) → (k : ℕ) → IsTooDeep tokens k → IsErrAnd r (λ e. IsDepthAnswer e)
-deep_of none text tokens cut (Ok s) found fault k h = (none text tokens (view.source s) (spelled_by text tokens (view.source s) cut found) k).2 h
-deep_of none text tokens cut (Err e) found fault k h = depth_answer tokens k h e fault
+pub deep_of : SpelledHasNoFault → (text : List ℕ) (tokens : List Token) (r : Result Source ParseError) → IfOk r (λ s. SpelledBy text tokens (view.source s)) → IfErr r (λ e. Fault tokens e) → (k : ℕ) → IsTooDeep tokens k → IsErrAnd r (λ e. IsDepthAnswer e)
+deep_of none text tokens (Ok s) found fault k h = (none text tokens (view.source s) found k).2 h
+deep_of none text tokens (Err e) found fault k h = depth_answer tokens k h e fault
 
 -- ---- tokens that are left out
 

@@ -17,7 +17,7 @@ use vs_statements::ParseError;
 use vs_statements::commas::{Part, comma_list};
 use vs_statements::depth::Depth;
 use vs_statements::expressions::expression;
-use vs_statements::input::{Found, Input};
+use vs_statements::input::{Found, Input, both};
 use vs_statements::tokens::{optional, stands, take};
 use vs_statements::words::identifier;
 
@@ -27,13 +27,17 @@ fn range(input: &Input<'_>, at: u32, depth: Depth) -> Result<Found<Range>, Parse
 {
     let open = take(input, at, TokenKind::OpenBracket)?;
     let left = expression(input, open, depth)?;
-    let colon = take(input, left.to, TokenKind::Colon)?;
-    let right = expression(input, colon, depth)?;
-    let close = take(input, right.to, TokenKind::CloseBracket)?;
+    let colon = take(input, left.to, TokenKind::Colon);
+    let (left, colon) = both(left, colon)?;
+    let right = expression(input, colon, depth);
+    let (left, right) = both(left, right)?;
+    let close = take(input, right.to, TokenKind::CloseBracket);
+    let (ends, close) = both((left.value, right.value), close)?;
+    let (left, right) = ends;
     let value = Range {
         bracket: at,
-        left: left.value,
-        right: right.value,
+        left,
+        right,
     };
     Ok(Found { value, to: close })
 }
@@ -182,7 +186,8 @@ fn wire_declarator(
     ensures { Answers input.now grammar.wire_name meaning.wire_of view.declarator depth at result }
 {
     let name = identifier(input, at)?;
-    let value = optional_value(input, name.to, depth)?;
+    let value = optional_value(input, name.to, depth);
+    let (name, value) = both(name, value)?;
     Ok(Found {
         value: Declarator {
             name: name.value,
@@ -227,14 +232,17 @@ pub(crate) fn regs(input: &Input<'_>, at: u32, depth: Depth) -> Result<Found<Ite
     let word = take(input, at, TokenKind::KeywordReg)?;
     let signed = optional(input, word, depth, TokenKind::KeywordSigned);
     let range = optional_range(input, signed.to, depth)?;
-    let names = plain_declarators(input, range.to, depth)?;
-    let end = take(input, names.to, TokenKind::Semicolon)?;
+    let names = plain_declarators(input, range.to, depth);
+    let (range, names) = both(range, names)?;
+    let end = take(input, names.to, TokenKind::Semicolon);
+    let (declared, end) = both((range.value, names.value), end)?;
+    let (range, names) = declared;
     let value = Item::Signals(Signals {
         place: at,
         kind: SignalKind::Reg,
         signed: signed.value,
-        range: range.value,
-        names: names.value,
+        range,
+        names,
     });
     Ok(Found { value, to: end })
 }
@@ -246,14 +254,17 @@ pub(crate) fn wires(input: &Input<'_>, at: u32, depth: Depth) -> Result<Found<It
     let word = take(input, at, TokenKind::KeywordWire)?;
     let signed = optional(input, word, depth, TokenKind::KeywordSigned);
     let range = optional_range(input, signed.to, depth)?;
-    let names = wire_declarators(input, range.to, depth)?;
-    let end = take(input, names.to, TokenKind::Semicolon)?;
+    let names = wire_declarators(input, range.to, depth);
+    let (range, names) = both(range, names)?;
+    let end = take(input, names.to, TokenKind::Semicolon);
+    let (declared, end) = both((range.value, names.value), end)?;
+    let (range, names) = declared;
     let value = Item::Signals(Signals {
         place: at,
         kind: SignalKind::Wire,
         signed: signed.value,
-        range: range.value,
-        names: names.value,
+        range,
+        names,
     });
     Ok(Found { value, to: end })
 }
@@ -351,29 +362,34 @@ pub(crate) fn ports_item(
     let kind = direction(input, at, depth)?;
     let signed = optional(input, kind.to, depth, TokenKind::KeywordSigned);
     let range = optional_range(input, signed.to, depth)?;
-    let names = plain_declarators(input, range.to, depth)?;
-    let end = take(input, names.to, TokenKind::Semicolon)?;
+    let names = plain_declarators(input, range.to, depth);
+    let (range, names) = both(range, names)?;
+    let end = take(input, names.to, TokenKind::Semicolon);
+    let (declared, end) = both((range.value, names.value), end)?;
+    let (range, names) = declared;
     let value = Item::Signals(Signals {
         place: at,
         kind: kind.value,
         signed: signed.value,
-        range: range.value,
-        names: names.value,
+        range,
+        names,
     });
     Ok(Found { value, to: end })
 }
 
 /// A name and the value that it is given.
-pub(crate) fn setting(
+pub(crate) fn assigned(
     input: &Input<'_>,
     at: u32,
     depth: Depth,
 ) -> Result<Found<Setting>, ParseError>
-    ensures { Answers input.now (r rule.ParameterSetting) meaning.setting_of view.setting depth at result }
+    ensures { Answers input.now part.assigned part.assigned_of view.setting depth at result }
 {
     let name = identifier(input, at)?;
-    let sign = take(input, name.to, TokenKind::Assign)?;
-    let value = expression(input, sign, depth)?;
+    let sign = take(input, name.to, TokenKind::Assign);
+    let (name, sign) = both(name, sign)?;
+    let value = expression(input, sign, depth);
+    let (name, value) = both(name, value)?;
     Ok(Found {
         value: Setting {
             name: name.value,
@@ -381,6 +397,17 @@ pub(crate) fn setting(
         },
         to: value.to,
     })
+}
+
+/// A parameter and its value.
+pub(crate) fn setting(
+    input: &Input<'_>,
+    at: u32,
+    depth: Depth,
+) -> Result<Found<Setting>, ParseError>
+    ensures { Answers input.now (r rule.ParameterSetting) meaning.setting_of view.setting depth at result }
+{
+    assigned(input, at, depth)
 }
 
 /// A setting, as a part of a list.
@@ -418,14 +445,17 @@ pub(crate) fn parameters(
     let word = take(input, at, TokenKind::KeywordParameter)?;
     let signed = optional(input, word, depth, TokenKind::KeywordSigned);
     let range = optional_range(input, signed.to, depth)?;
-    let settings = settings(input, range.to, depth)?;
-    let end = take(input, settings.to, TokenKind::Semicolon)?;
+    let settings = settings(input, range.to, depth);
+    let (range, settings) = both(range, settings)?;
+    let end = take(input, settings.to, TokenKind::Semicolon);
+    let (declared, end) = both((range.value, settings.value), end)?;
+    let (range, settings) = declared;
     let value = Item::Parameters(Parameters {
         place: at,
         is_local: false,
         signed: signed.value,
-        range: range.value,
-        settings: settings.value,
+        range,
+        settings,
     });
     Ok(Found { value, to: end })
 }
@@ -441,14 +471,17 @@ pub(crate) fn local_parameters(
     let word = take(input, at, TokenKind::KeywordLocalParam)?;
     let signed = optional(input, word, depth, TokenKind::KeywordSigned);
     let range = optional_range(input, signed.to, depth)?;
-    let settings = settings(input, range.to, depth)?;
-    let end = take(input, settings.to, TokenKind::Semicolon)?;
+    let settings = settings(input, range.to, depth);
+    let (range, settings) = both(range, settings)?;
+    let end = take(input, settings.to, TokenKind::Semicolon);
+    let (declared, end) = both((range.value, settings.value), end)?;
+    let (range, settings) = declared;
     let value = Item::Parameters(Parameters {
         place: at,
         is_local: true,
         signed: signed.value,
-        range: range.value,
-        settings: settings.value,
+        range,
+        settings,
     });
     Ok(Found { value, to: end })
 }

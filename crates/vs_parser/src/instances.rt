@@ -16,7 +16,7 @@ use vs_statements::ParseError;
 use vs_statements::commas::{Part, comma_list};
 use vs_statements::depth::Depth;
 use vs_statements::expressions::{expression, is_expression_at};
-use vs_statements::input::{Found, Input};
+use vs_statements::input::{Found, Input, both};
 use vs_statements::tokens::{stands, take};
 use vs_statements::words::identifier;
 
@@ -79,14 +79,15 @@ fn named_connection(
 {
     let dot = take(input, at, TokenKind::Dot)?;
     let name = identifier(input, dot)?;
-    let open = take(input, name.to, TokenKind::OpenParen)?;
-    let value = optional_expression(input, open, depth)?;
-    let close = take(input, value.to, TokenKind::CloseParen)?;
+    let open = take(input, name.to, TokenKind::OpenParen);
+    let (name, open) = both(name, open)?;
+    let value = optional_expression(input, open, depth);
+    let (name, value) = both(name, value)?;
+    let close = take(input, value.to, TokenKind::CloseParen);
+    let (parts, close) = both((name.value, value.value), close)?;
+    let (name, value) = parts;
     Ok(Found {
-        value: NamedConnection {
-            name: name.value,
-            value: value.value,
-        },
+        value: NamedConnection { name, value },
         to: close,
     })
 }
@@ -168,7 +169,8 @@ fn overrides(input: &Input<'_>, at: u32, depth: Depth) -> Result<Found<Connectio
     let hash = take(input, at, TokenKind::Hash)?;
     let open = take(input, hash, TokenKind::OpenParen)?;
     let list = connections(input, open, depth)?;
-    let close = take(input, list.to, TokenKind::CloseParen)?;
+    let close = take(input, list.to, TokenKind::CloseParen);
+    let (list, close) = both(list, close)?;
     Ok(Found {
         value: list.value,
         to: close,
@@ -180,14 +182,15 @@ fn instance(input: &Input<'_>, at: u32, depth: Depth) -> Result<Found<Instance>,
     ensures { Answers input.now (r rule.Instance) meaning.instance_of view.instance depth at result }
 {
     let name = identifier(input, at)?;
-    let open = take(input, name.to, TokenKind::OpenParen)?;
-    let list = connections(input, open, depth)?;
-    let close = take(input, list.to, TokenKind::CloseParen)?;
+    let open = take(input, name.to, TokenKind::OpenParen);
+    let (name, open) = both(name, open)?;
+    let list = connections(input, open, depth);
+    let (name, list) = both(name, list)?;
+    let close = take(input, list.to, TokenKind::CloseParen);
+    let (parts, close) = both((name.value, list.value), close)?;
+    let (name, connections) = parts;
     Ok(Found {
-        value: Instance {
-            name: name.value,
-            connections: list.value,
-        },
+        value: Instance { name, connections },
         to: close,
     })
 }
@@ -225,13 +228,18 @@ pub(crate) fn instances(input: &Input<'_>, at: u32, depth: Depth) -> Result<Foun
     ensures { Answers input.now grammar.instance_item meaning.instance_item_of view.item depth at result }
 {
     let module = identifier(input, at)?;
-    let overrides = overrides(input, module.to, depth)?;
-    let list = instance_list(input, overrides.to, depth)?;
-    let end = take(input, list.to, TokenKind::Semicolon)?;
+    let overrides = overrides(input, module.to, depth);
+    let (module, overrides) = both(module, overrides)?;
+    let list = instance_list(input, overrides.to, depth);
+    let (head, list) = both((module.value, overrides.value), list)?;
+    let end = take(input, list.to, TokenKind::Semicolon);
+    let (parts, end) = both((head, list.value), end)?;
+    let (head, instances) = parts;
+    let (of, overrides) = head;
     let value = Item::Instances(Instances {
-        of: module.value,
-        overrides: overrides.value,
-        instances: list.value,
+        of,
+        overrides,
+        instances,
     });
     Ok(Found { value, to: end })
 }

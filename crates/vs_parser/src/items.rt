@@ -12,7 +12,9 @@ ghost use Rattle.vs_parser.specs.Parts as part;
 ghost use Rattle.vs_parser.specs.ItemLists.{ItemRead};
 ghost use Rattle.vs_statements.specs.Reading.{Refused, kind_at, Answers};
 
-use crate::declarations::{identifiers, local_parameters, parameters, ports_item, regs, wires};
+use crate::declarations::{
+    assigned, identifiers, local_parameters, parameters, ports_item, regs, wires,
+};
 use crate::instances::instances;
 use crate::processes::{always, assigns};
 use vs_ast::{GenerateArm, GenerateBlock, GenerateHead, Item};
@@ -20,9 +22,9 @@ use vs_lexer::TokenKind;
 use vs_statements::ParseError;
 use vs_statements::depth::Depth;
 use vs_statements::expressions::{expression, expressions, is_expression_at};
-use vs_statements::input::{Found, Input};
+use vs_statements::input::{Found, Input, both, longer, one};
 use vs_statements::tokens::{optional, stands, stands_any, take};
-use vs_statements::words::{identifier, label};
+use vs_statements::words::label;
 
 /// What an item begins with that may stand in a generate block.
 const GENERATE_ITEM_KINDS: [TokenKind; 10] = [
@@ -120,7 +122,8 @@ fn genvars(input: &Input<'_>, at: u32, depth: Depth) -> Result<Found<Item>, Pars
 {
     let word = take(input, at, TokenKind::KeywordGenvar)?;
     let names = identifiers(input, word, depth)?;
-    let end = take(input, names.to, TokenKind::Semicolon)?;
+    let end = take(input, names.to, TokenKind::Semicolon);
+    let (names, end) = both(names, end)?;
     let value = Item::Genvars {
         place: at,
         names: names.value,
@@ -135,24 +138,28 @@ fn generate_for(input: &Input<'_>, at: u32, depth: Depth) -> Result<Found<Item>,
 {
     let word = take(input, at, TokenKind::KeywordFor)?;
     let open = take(input, word, TokenKind::OpenParen)?;
-    let variable = identifier(input, open)?;
-    let first_sign = take(input, variable.to, TokenKind::Assign)?;
-    let first = expression(input, first_sign, depth)?;
-    let first_end = take(input, first.to, TokenKind::Semicolon)?;
-    let test = expression(input, first_end, depth)?;
-    let test_end = take(input, test.to, TokenKind::Semicolon)?;
-    let again = identifier(input, test_end)?;
-    let next_sign = take(input, again.to, TokenKind::Assign)?;
-    let next = expression(input, next_sign, depth)?;
-    let close = take(input, next.to, TokenKind::CloseParen)?;
-    let block = block(input, close, depth)?;
+    let start = assigned(input, open, depth)?;
+    let start_end = take(input, start.to, TokenKind::Semicolon);
+    let (start, start_end) = both(start, start_end)?;
+    let test = expression(input, start_end, depth);
+    let (start, test) = both(start, test)?;
+    let test_end = take(input, test.to, TokenKind::Semicolon);
+    let (tested, test_end) = both((start.value, test.value), test_end)?;
+    let step = assigned(input, test_end, depth);
+    let (tested, step) = both(tested, step)?;
+    let close = take(input, step.to, TokenKind::CloseParen);
+    let (head, close) = both((tested, step.value), close)?;
+    let block = block(input, close, depth);
+    let (head, block) = both(head, block)?;
+    let (tested, step) = head;
+    let (start, test) = tested;
     let head = GenerateHead {
         place: at,
-        variable: variable.value,
-        first: first.value,
-        test: test.value,
-        again: again.value,
-        next: next.value,
+        variable: start.name,
+        first: start.value,
+        test,
+        again: step.name,
+        next: step.value,
     };
     let value = Item::new_for(input.alloc, head, block.value)?;
     Ok(Found {
@@ -169,10 +176,14 @@ fn generate_if(input: &Input<'_>, at: u32, depth: Depth) -> Result<Found<Item>, 
     let word = take(input, at, TokenKind::KeywordIf)?;
     let open = take(input, word, TokenKind::OpenParen)?;
     let condition = expression(input, open, depth)?;
-    let close = take(input, condition.to, TokenKind::CloseParen)?;
-    let taken = block(input, close, depth)?;
-    let other = other_block(input, taken.to, depth)?;
-    let value = Item::new_if(input.alloc, at, condition.value, taken.value, other.value)?;
+    let close = take(input, condition.to, TokenKind::CloseParen);
+    let (condition, close) = both(condition, close)?;
+    let taken = block(input, close, depth);
+    let (condition, taken) = both(condition, taken)?;
+    let other = other_block(input, taken.to, depth);
+    let (branch, other) = both((condition.value, taken.value), other)?;
+    let (condition, taken) = branch;
+    let value = Item::new_if(input.alloc, at, condition, taken, other.value)?;
     Ok(Found {
         value,
         to: other.to,
@@ -210,16 +221,14 @@ fn generate_case(input: &Input<'_>, at: u32, depth: Depth) -> Result<Found<Item>
     let word = take(input, at, TokenKind::KeywordCase)?;
     let open = take(input, word, TokenKind::OpenParen)?;
     let subject = expression(input, open, depth)?;
-    let close = take(input, subject.to, TokenKind::CloseParen)?;
-    let cases = generate_cases(input, close, depth)?;
-    let end = take(input, cases.to, TokenKind::KeywordEndCase)?;
-    let value = Item::new_case(
-        input.alloc,
-        at,
-        subject.value,
-        cases.value.arms,
-        cases.value.other,
-    )?;
+    let close = take(input, subject.to, TokenKind::CloseParen);
+    let (subject, close) = both(subject, close)?;
+    let cases = generate_cases(input, close, depth);
+    let (subject, cases) = both(subject, cases)?;
+    let end = take(input, cases.to, TokenKind::KeywordEndCase);
+    let (parts, end) = both((subject.value, cases.value), end)?;
+    let (subject, cases) = parts;
+    let value = Item::new_case(input.alloc, at, subject, cases.arms, cases.other)?;
     Ok(Found { value, to: end })
 }
 
@@ -241,7 +250,8 @@ fn generate_cases(
 {
     if stands(input, at, TokenKind::KeywordDefault) {
         let other = generate_default(input, at, depth)?;
-        let list = generate_arms(input, other.to, depth, Vec::new(input.alloc))?;
+        let list = generate_arms(input, other.to, depth, Vec::new(input.alloc));
+        let (other, list) = both(other, list)?;
         return Ok(Found {
             value: GenerateParts {
                 arms: list.value,
@@ -251,8 +261,7 @@ fn generate_cases(
         });
     }
     let first = generate_arm(input, at, depth)?;
-    let mut start = Vec::new(input.alloc);
-    start.push(first.value)?;
+    let start = one(input.alloc, first.value)?;
     let before = generate_arms(input, first.to, depth, start)?;
     if !stands(input, before.to, TokenKind::KeywordDefault) {
         return Ok(Found {
@@ -263,8 +272,10 @@ fn generate_cases(
             to: before.to,
         });
     }
-    let default = generate_default(input, before.to, depth)?;
-    let arms = generate_arms(input, default.to, depth, before.value)?;
+    let default = generate_default(input, before.to, depth);
+    let (before, default) = both(before, default)?;
+    let arms = generate_arms(input, default.to, depth, before.value);
+    let (default, arms) = both(default, arms)?;
     Ok(Found {
         value: GenerateParts {
             arms: arms.value,
@@ -287,8 +298,9 @@ fn generate_arms(
     let mut list = before;
     let mut to = at;
     while is_expression_at(input, to) {
-        let next = generate_arm(input, to, depth)?;
-        list.push(next.value)?;
+        let next = generate_arm(input, to, depth);
+        let (before, next) = both(list, next)?;
+        list = longer(before, next.value)?;
         to = next.to;
     }
     Ok(Found { value: list, to })
@@ -300,8 +312,10 @@ fn generate_arm(input: &Input<'_>, at: u32, depth: Depth) -> Result<Found<Genera
     ensures { Answers input.now (r rule.GenerateCaseItem) part.generate_arm_of part.generate_arm_view depth at result }
 {
     let labels = expressions(input, at, depth)?;
-    let colon = take(input, labels.to, TokenKind::Colon)?;
-    let block = block(input, colon, depth)?;
+    let colon = take(input, labels.to, TokenKind::Colon);
+    let (labels, colon) = both(labels, colon)?;
+    let block = block(input, colon, depth);
+    let (labels, block) = both(labels, block)?;
     Ok(Found {
         value: GenerateArm {
             labels: labels.value,
@@ -357,9 +371,12 @@ fn enclosed(input: &Input<'_>, at: u32, depth: Depth) -> Result<Found<GenerateBl
 {
     let begin = take(input, at, TokenKind::KeywordBegin)?;
     let label = label(input, begin, depth)?;
-    let list = generate_items(input, label.to, depth, Vec::new(input.alloc))?;
-    let end = take(input, list.to, TokenKind::KeywordEnd)?;
-    let value = GenerateBlock::new_enclosed(at, label.value, list.value);
+    let list = generate_items(input, label.to, depth, Vec::new(input.alloc));
+    let (label, list) = both(label, list)?;
+    let end = take(input, list.to, TokenKind::KeywordEnd);
+    let (parts, end) = both((label.value, list.value), end)?;
+    let (label, list) = parts;
+    let value = GenerateBlock::new_enclosed(at, label, list);
     Ok(Found { value, to: end })
 }
 
@@ -376,8 +393,9 @@ fn generate_items(
     let mut list = before;
     let mut to = at;
     while is_generate_item_at(input, to) {
-        let next = generate_item(input, to, depth)?;
-        list.push(next.value)?;
+        let next = generate_item(input, to, depth);
+        let (before, next) = both(list, next)?;
+        list = longer(before, next.value)?;
         to = next.to;
     }
     Ok(Found { value: list, to })
@@ -392,36 +410,40 @@ fn item(
 ) -> Result<Found<Vec<Item>>, ParseError>
     ensures { MatchResult result (λ f. ItemRead input.now before.items depth.value at f.value.items f.to) (λ e. Refused input.now.tokens.now depth.value (r rule.Item) at e) }
 {
-    let mut list = before;
     if stands_any(
         input,
         at,
         &[TokenKind::KeywordInput, TokenKind::KeywordOutput],
     ) {
-        let ports = ports_item(input, at, depth)?;
-        list.push(ports.value)?;
+        let ports = ports_item(input, at, depth);
+        let (before, ports) = both(before, ports)?;
+        let list = longer(before, ports.value)?;
         Ok(Found {
             value: list,
             to: ports.to,
         })
     } else if stands(input, at, TokenKind::KeywordParameter) {
-        let constants = parameters(input, at, depth)?;
-        list.push(constants.value)?;
+        let constants = parameters(input, at, depth);
+        let (before, constants) = both(before, constants)?;
+        let list = longer(before, constants.value)?;
         Ok(Found {
             value: list,
             to: constants.to,
         })
     } else if stands(input, at, TokenKind::KeywordGenerate) {
-        let word = take(input, at, TokenKind::KeywordGenerate)?;
-        let items = generate_items(input, word, depth, list)?;
-        let end = take(input, items.to, TokenKind::KeywordEndGenerate)?;
+        let word = take(input, at, TokenKind::KeywordGenerate);
+        let (before, word) = both(before, word)?;
+        let items = generate_items(input, word, depth, before)?;
+        let end = take(input, items.to, TokenKind::KeywordEndGenerate);
+        let (items, end) = both(items, end)?;
         Ok(Found {
             value: items.value,
             to: end,
         })
     } else {
-        let other = generate_item(input, at, depth)?;
-        list.push(other.value)?;
+        let other = generate_item(input, at, depth);
+        let (before, other) = both(before, other)?;
+        let list = longer(before, other.value)?;
         Ok(Found {
             value: list,
             to: other.to,

@@ -17,7 +17,7 @@ use vs_ast::{Declarator, Header, Module, Parameters, Range, Setting, Signals, So
 use vs_lexer::TokenKind;
 use vs_statements::ParseError;
 use vs_statements::depth::Depth;
-use vs_statements::input::{Found, Input};
+use vs_statements::input::{Found, Input, both, longer, one};
 use vs_statements::tokens::{optional, stands, stands_any, take};
 use vs_statements::words::identifier;
 
@@ -29,12 +29,8 @@ fn header_parameters(
 ) -> Result<Found<Vec<Parameters>>, ParseError>
     ensures { Answers input.now (r rule.HeaderParameters) meaning.header_parameters (λ v. map view.parameters v.items) depth at result }
 {
-    let word = take(input, at, TokenKind::KeywordParameter)?;
-    let signed = optional(input, word, depth, TokenKind::KeywordSigned);
-    let range = optional_range(input, signed.to, depth)?;
-    let first = setting(input, range.to, depth)?;
-    let last = declaration(input.alloc, at, signed.value, range.value, first.value)?;
-    let list = more_parameters(input, first.to, depth, last)?;
+    let first = next_declaration(input, at, depth)?;
+    let list = more_parameters(input, first.to, depth, first.value)?;
     Ok(Found {
         value: list.value,
         to: list.to,
@@ -51,8 +47,8 @@ fn declaration(
 ) -> Result<Parameters, ParseError>
     ensures { MatchResult result (λ p. view.parameters p ≡ part.declaration place signed (view.option view.range range) (view.setting first)) (λ e. e ≡ ParseError.Memory) }
 {
-    let mut settings = Vec::new(alloc);
-    settings.push(first)?;
+    let settings = one(alloc, first);
+    let (range, settings) = both(range, settings)?;
     Ok(Parameters {
         place,
         is_local: false,
@@ -73,8 +69,8 @@ fn with_setting(declared: Parameters, setting: Setting) -> Result<Parameters, Pa
         range,
         settings,
     } = declared;
-    let mut settings = settings;
-    settings.push(setting)?;
+    let settings = longer(settings, setting);
+    let (range, settings) = both(range, settings)?;
     Ok(Parameters {
         place,
         is_local,
@@ -95,7 +91,8 @@ fn next_declaration(
     let word = take(input, at, TokenKind::KeywordParameter)?;
     let signed = optional(input, word, depth, TokenKind::KeywordSigned);
     let range = optional_range(input, signed.to, depth)?;
-    let first = setting(input, range.to, depth)?;
+    let first = setting(input, range.to, depth);
+    let (range, first) = both(range, first)?;
     let value = declaration(input.alloc, at, signed.value, range.value, first.value)?;
     Ok(Found {
         value,
@@ -122,17 +119,22 @@ fn parameter_or_setting(
 {
     let ParametersSoFar { list, last, .. } = state;
     if stands(input, at, TokenKind::KeywordParameter) {
-        let next = next_declaration(input, at, depth)?;
-        let mut longer = list;
-        longer.push(last)?;
+        let next = next_declaration(input, at, depth);
+        let (before, next) = both((list, last), next)?;
+        let (list, last) = before;
+        let list = longer(list, last);
+        let (next, list) = both(next, list)?;
         Ok(ParametersSoFar {
-            list: longer,
+            list,
             last: next.value,
             to: next.to,
         })
     } else {
-        let more = setting(input, at, depth)?;
-        let last = with_setting(last, more.value)?;
+        let more = setting(input, at, depth);
+        let (before, more) = both((list, last), more)?;
+        let (list, last) = before;
+        let last = with_setting(last, more.value);
+        let (list, last) = both(list, last)?;
         Ok(ParametersSoFar {
             list,
             last,
@@ -156,12 +158,12 @@ fn more_parameters(
         to: at,
     };
     while stands(input, state.to, TokenKind::Comma) {
-        let comma = take(input, state.to, TokenKind::Comma)?;
-        state = parameter_or_setting(input, comma, depth, state)?;
+        let comma = take(input, state.to, TokenKind::Comma);
+        let (before, comma) = both(state, comma)?;
+        state = parameter_or_setting(input, comma, depth, before)?;
     }
     let ParametersSoFar { list, last, to } = state;
-    let mut list = list;
-    list.push(last)?;
+    let list = longer(list, last)?;
     Ok(Found { value: list, to })
 }
 
@@ -182,7 +184,8 @@ fn module_parameters(
     let hash = take(input, at, TokenKind::Hash)?;
     let open = take(input, hash, TokenKind::OpenParen)?;
     let list = header_parameters(input, open, depth)?;
-    let close = take(input, list.to, TokenKind::CloseParen)?;
+    let close = take(input, list.to, TokenKind::CloseParen);
+    let (list, close) = both(list, close)?;
     Ok(Found {
         value: list.value,
         to: close,
@@ -196,14 +199,15 @@ fn port(input: &Input<'_>, at: u32, depth: Depth) -> Result<Found<Signals>, Pars
     let kind = direction(input, at, depth)?;
     let signed = optional(input, kind.to, depth, TokenKind::KeywordSigned);
     let range = optional_range(input, signed.to, depth)?;
-    let name = plain_declarator(input, range.to, depth)?;
-    let mut names = Vec::new(input.alloc);
-    names.push(name.value)?;
+    let name = plain_declarator(input, range.to, depth);
+    let (range, name) = both(range, name)?;
+    let names = one(input.alloc, name.value);
+    let (range, names) = both(range.value, names)?;
     let value = Signals {
         place: at,
         kind: kind.value,
         signed: signed.value,
-        range: range.value,
+        range,
         names,
     };
     Ok(Found { value, to: name.to })
@@ -220,8 +224,8 @@ fn with_name(declared: Signals, name: Declarator) -> Result<Signals, ParseError>
         range,
         names,
     } = declared;
-    let mut names = names;
-    names.push(name)?;
+    let names = longer(names, name);
+    let (range, names) = both(range, names)?;
     Ok(Signals {
         place,
         kind,
@@ -254,17 +258,22 @@ fn port_or_name(
         at,
         &[TokenKind::KeywordInput, TokenKind::KeywordOutput],
     ) {
-        let next = port(input, at, depth)?;
-        let mut longer = list;
-        longer.push(last)?;
+        let next = port(input, at, depth);
+        let (before, next) = both((list, last), next)?;
+        let (list, last) = before;
+        let list = longer(list, last);
+        let (next, list) = both(next, list)?;
         Ok(PortsSoFar {
-            list: longer,
+            list,
             last: next.value,
             to: next.to,
         })
     } else {
-        let more = plain_declarator(input, at, depth)?;
-        let last = with_name(last, more.value)?;
+        let more = plain_declarator(input, at, depth);
+        let (before, more) = both((list, last), more)?;
+        let (list, last) = before;
+        let last = with_name(last, more.value);
+        let (list, last) = both(list, last)?;
         Ok(PortsSoFar {
             list,
             last,
@@ -288,12 +297,12 @@ fn more_ports(
         to: at,
     };
     while stands(input, state.to, TokenKind::Comma) {
-        let comma = take(input, state.to, TokenKind::Comma)?;
-        state = port_or_name(input, comma, depth, state)?;
+        let comma = take(input, state.to, TokenKind::Comma);
+        let (before, comma) = both(state, comma)?;
+        state = port_or_name(input, comma, depth, before)?;
     }
     let PortsSoFar { list, last, to } = state;
-    let mut list = list;
-    list.push(last)?;
+    let list = longer(list, last)?;
     Ok(Found { value: list, to })
 }
 
@@ -354,7 +363,8 @@ fn header(input: &Input<'_>, at: u32, depth: Depth) -> Result<Found<Header>, Par
     }
     let open = take(input, at, TokenKind::OpenParen)?;
     let list = optional_ports(input, open, depth)?;
-    let close = take(input, list.to, TokenKind::CloseParen)?;
+    let close = take(input, list.to, TokenKind::CloseParen);
+    let (list, close) = both(list, close)?;
     Ok(Found {
         value: list.value,
         to: close,
@@ -367,17 +377,25 @@ fn module(input: &Input<'_>, at: u32, depth: Depth) -> Result<Found<Module>, Par
 {
     let word = take(input, at, TokenKind::KeywordModule)?;
     let name = identifier(input, word)?;
-    let parameters = module_parameters(input, name.to, depth)?;
-    let header = header(input, parameters.to, depth)?;
-    let semicolon = take(input, header.to, TokenKind::Semicolon)?;
-    let items = items(input, semicolon, depth)?;
-    let end = take(input, items.to, TokenKind::KeywordEndModule)?;
+    let parameters = module_parameters(input, name.to, depth);
+    let (name, parameters) = both(name, parameters)?;
+    let header = header(input, parameters.to, depth);
+    let (named, header) = both((name.value, parameters.value), header)?;
+    let semicolon = take(input, header.to, TokenKind::Semicolon);
+    let (head, semicolon) = both((named, header.value), semicolon)?;
+    let items = items(input, semicolon, depth);
+    let (head, items) = both(head, items)?;
+    let end = take(input, items.to, TokenKind::KeywordEndModule);
+    let (parts, end) = both((head, items.value), end)?;
+    let (head, items) = parts;
+    let (named, header) = head;
+    let (name, parameters) = named;
     let value = Module {
         place: at,
-        name: name.value,
-        parameters: parameters.value,
-        header: header.value,
-        items: items.value,
+        name,
+        parameters,
+        header,
+        items,
     };
     Ok(Found { value, to: end })
 }
@@ -394,8 +412,9 @@ fn more_modules(
     let mut list = before;
     let mut to = at;
     while stands(input, to, TokenKind::KeywordModule) {
-        let next = module(input, to, depth)?;
-        list.push(next.value)?;
+        let next = module(input, to, depth);
+        let (before, next) = both(list, next)?;
+        list = longer(before, next.value)?;
         to = next.to;
     }
     Ok(Found { value: list, to })
@@ -406,8 +425,7 @@ pub(crate) fn source(input: &Input<'_>, at: u32, depth: Depth) -> Result<Found<S
     ensures { Answers input.now (r rule.Source) meaning.source_of view.source depth at result }
 {
     let first = module(input, at, depth)?;
-    let mut begun = Vec::new(input.alloc);
-    begun.push(first.value)?;
+    let begun = one(input.alloc, first.value)?;
     let modules = more_modules(input, first.to, depth, begun)?;
     Ok(Found {
         value: Source {

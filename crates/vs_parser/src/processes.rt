@@ -19,7 +19,7 @@ use vs_statements::ParseError;
 use vs_statements::commas::{Part, comma_list};
 use vs_statements::depth::Depth;
 use vs_statements::expressions::expression;
-use vs_statements::input::{Found, Input};
+use vs_statements::input::{Found, Input, both, longer, one};
 use vs_statements::statements::{statement, target};
 use vs_statements::tokens::{choose, stands, take};
 use vs_statements::words::identifier;
@@ -32,8 +32,10 @@ fn assign(input: &Input<'_>, at: u32, depth: Depth) -> Result<Found<Assign>, Par
     ensures { Answers input.now grammar.assignment meaning.assign_of view.assign depth at result }
 {
     let target = target(input, at, depth)?;
-    let sign = take(input, target.to, TokenKind::Assign)?;
-    let value = expression(input, sign, depth)?;
+    let sign = take(input, target.to, TokenKind::Assign);
+    let (target, sign) = both(target, sign)?;
+    let value = expression(input, sign, depth);
+    let (target, value) = both(target, value)?;
     Ok(Found {
         value: Assign {
             target: target.value,
@@ -73,7 +75,8 @@ pub(crate) fn assigns(input: &Input<'_>, at: u32, depth: Depth) -> Result<Found<
 {
     let word = take(input, at, TokenKind::KeywordAssign)?;
     let list = assign_list(input, word, depth)?;
-    let end = take(input, list.to, TokenKind::Semicolon)?;
+    let end = take(input, list.to, TokenKind::Semicolon);
+    let (list, end) = both(list, end)?;
     let value = Item::Assigns {
         place: at,
         assigns: list.value,
@@ -139,8 +142,9 @@ fn more_events(
     let mut list = before;
     let mut to = at;
     while let Some(sign) = event_sign(input, to) {
-        let next = event(input, sign.to, depth)?;
-        list.push(next.value)?;
+        let next = event(input, sign.to, depth);
+        let (before, next) = both(list, next)?;
+        list = longer(before, next.value)?;
         to = next.to;
     }
     Ok(Found { value: list, to })
@@ -151,8 +155,7 @@ fn events(input: &Input<'_>, at: u32, depth: Depth) -> Result<Found<Vec<Event>>,
     ensures { Answers input.now (part.events) part.events_of (λ v. map view.event v.items) depth at result }
 {
     let first = event(input, at, depth)?;
-    let mut begun = Vec::new(input.alloc);
-    begun.push(first.value)?;
+    let begun = one(input.alloc, first.value)?;
     let list = more_events(input, first.to, depth, begun)?;
     Ok(Found {
         value: list.value,
@@ -165,11 +168,11 @@ fn single_event(input: &Input<'_>, at: u32, depth: Depth) -> Result<Found<EventC
     ensures { Answers input.now (t kind.Identifier) part.single_event view.event_control depth at result }
 {
     let name = identifier(input, at)?;
-    let mut list = Vec::new(input.alloc);
-    list.push(Event {
+    let event = Event {
         edge: Edge::Any,
         name: name.value,
-    })?;
+    };
+    let list = one(input.alloc, event)?;
     Ok(Found {
         value: EventControl::Listed(list),
         to: name.to,
@@ -209,7 +212,8 @@ fn bracketed_control(
 {
     let open = take(input, at, TokenKind::OpenParen)?;
     let control = inner_control(input, open, depth)?;
-    let close = take(input, control.to, TokenKind::CloseParen)?;
+    let close = take(input, control.to, TokenKind::CloseParen);
+    let (control, close) = both(control, close)?;
     Ok(Found {
         value: control.value,
         to: close,
@@ -255,7 +259,8 @@ pub(crate) fn always(input: &Input<'_>, at: u32, depth: Depth) -> Result<Found<I
 {
     let word = take(input, at, TokenKind::KeywordAlways)?;
     let control = event_control(input, word, depth)?;
-    let statement = statement(input, control.to, depth)?;
+    let statement = statement(input, control.to, depth);
+    let (control, statement) = both(control, statement)?;
     let value = Item::Always(AlwaysBlock {
         place: at,
         control: control.value,

@@ -1,9 +1,9 @@
 -- Lists of targets, statements and arms, as the plain tree has them.
-use Rattle.std.proofs.Common.{◌≡◌, ℕ, List, [], ◌∷◌, ◌++◌, map, append-nil, refl, sym, ◌∙◌, ap}
+use Rattle.std.proofs.Common.{◌≡◌, ℕ, Bool, List, [], ◌∷◌, ◌++◌, map, append-nil, refl, sym, ◌∙◌, ap}
 use Rattle.vs_lexer.specs.declared.token.TokenKind.TheVariants as kind
 use Rattle.vs_grammar.specs.Grammars.{Terminal, star}
 use Rattle.vs_grammar.specs.Grammars.Phrase.{eps}
-use Rattle.vs_grammar.specs.Grammars.Tree.{leaf, both, nested, start, grown, named, former, latter}
+use Rattle.vs_grammar.specs.Grammars.Tree.{leaf, both, nested, start, grown, behind, named, former, latter}
 use Rattle.vs_grammar.specs.Verilog.{◌⨾◌, t, r, separated}
 use Rattle.vs_grammar.specs.Verilog.{Rule as rule}
 use Rattle.vs_grammar.specs.Trees as tree
@@ -17,8 +17,10 @@ use Rattle.vs_ast.specs.declared.statements.CaseArm.{CaseArm}
 use Rattle.vs_ast.specs.Views as view
 use Rattle.vs_statements.specs.declared.input.Input.{Input}
 use Rattle.vs_statements.specs.Parts as part
+use Rattle.vs_statements.specs.Tails as tail
 use Rattle.vs_statements.specs.Reading.{bytes_in, MeasuredList}
 use Rattle.vs_statements.proofs.Places.{ap2}
+use Rattle.vs_statements.proofs.Chains.{exprs_from, exprs_of_list, exprs_viewed}
 
 abbrev targets_from : List Target → Targets → Targets
 targets_from [] tail = tail
@@ -99,3 +101,17 @@ arms_around b a l d n first begun before list s p q m e o = ap2 (λ x y. (x, y))
 
 pub listed_exprs : {input : Input} {d i : ℕ} {first rest : List ExprNode} {h j height : ℕ} (e : D (r rule.Expression)) (value : ExprNode) → meaning.expr_of (bytes_in input) e ≡ view.expr value → first ≡ value ∷ [] → (m : MeasuredList input first h d i rest j height) → list_of (meaning.expr_of (bytes_in input)) (both e m.tree) ≡ map view.expr rest
 listed_exprs {input} {first = first} {rest = rest} e value p q m = ap (λ z. z ∷ each_onto (behind_sign (meaning.expr_of (bytes_in input))) m.tree []) p ∙ ap (λ z. map view.expr z ++ each_onto (behind_sign (meaning.expr_of (bytes_in input))) m.tree []) (sym q) ∙ m.made [] ∙ append-nil (map view.expr rest)
+
+exprs_made : (b : ℕ → List ℕ) (l : D (separated (r rule.Expression))) (list : List ExprNode) → list_of (meaning.expr_of b) l ≡ map view.expr list → meaning.exprs_of b l ≡ view.exprs list
+exprs_made b (both x l) list m = ap (λ w. tree.AndExpr (meaning.expr_of b x) w) (sym (exprs_of_list b l [] tree.NoExpr)) ∙ ap (λ w. exprs_from w tree.NoExpr) m ∙ sym (exprs_viewed list)
+
+pub replication_made : (b : ℕ → List ℕ) (u : Terminal) (e : D (r rule.Expression)) (w : D tail.repeated) (list : List ExprNode) {value : Expr} → meaning.expr_of b e ≡ value → tail.repeated_of b w ≡ map view.expr list → part.braces_tree b (nested (both (leaf u) (both e (former w)))) ≡ tree.Replication u.place value (view.exprs list)
+replication_made b u e (both (leaf o) (both l (both c z))) list p m = ap2 (tree.Replication u.place) p (exprs_made b l list m)
+
+pub choice_made : (b : ℕ → List ℕ) (a : D (r rule.LogicalOr)) (w : D tail.choice) {value : Expr} {ends : Expr × Expr} → meaning.logical_or_of b a ≡ value → tail.choice_of b w ≡ ends → meaning.expr_of b (named (behind a w)) ≡ tree.Choice value ends.0 ends.1
+choice_made b a (both q (both y (both c n))) p m = ap2 (λ v (z : Expr × Expr). tree.Choice v z.0 z.1) p m
+
+-- ---- assignments
+
+pub assignment_made : (b : ℕ → List ℕ) (x : D (r rule.Target)) (w : D tail.right_side) {target : Target} {side : Bool × Expr} → meaning.target_of b x ≡ target → tail.right_side_of b w ≡ side → part.assignment_tree b (both x w) ≡ tree.Assignment target side.1 side.0
+assignment_made b x (both o (both e z)) p m = ap2 (λ v (s : Bool × Expr). tree.Assignment v s.1 s.0) p m

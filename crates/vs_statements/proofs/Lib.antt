@@ -1,4 +1,5 @@
 pub mod Places
+pub mod Pairs
 pub mod Firsts
 pub mod Tables
 pub mod Chains

@@ -8,8 +8,8 @@ use Rattle.std.proofs.lemmas.Result.{err_from_is_err_and}
 use Rattle.vs_lexer.specs.declared.token.Token.{Token}
 use Rattle.vs_lexer.specs.declared.token.TokenKind.{TokenKind}
 use Rattle.vs_lexer.specs.declared.token.TokenKind.TheVariants as kind
-use Rattle.vs_lexer.specs.Cuts.{cut_text, token_limit}
-use Rattle.vs_lexer.proofs.Spans.{tokens_stand}
+use Rattle.vs_lexer.specs.Cuts.{token_limit}
+use Rattle.vs_lexer.specs.Laws.{AreTokens}
 use Rattle.vs_grammar.specs.Grammars.{Phrase, Terminal, depth}
 use Rattle.vs_grammar.specs.Grammars.Phrase.{tok, eps, seq, alt, last, many, post, level, var}
 use Rattle.vs_grammar.specs.Grammars.Tree.{leaf, nothing, both, former, latter, without, within, start, grown, alone, nested, named}
@@ -115,8 +115,8 @@ below_of k (x ∷ ks) m b =
 pub inside_of : (ts : List Token) (i : ℕ) (ks : List ℕ) → is_member (kind_at ts i) ks ≡ true → all_below ks ≡ true → i < length ts
 inside_of ts i ks m b = inside_at ts i (below_of (kind_at ts i) ks m b)
 
-pub few : (text : List ℕ) (ts : List Token) → cut_text text ≡ Ok ts → length ts ≤ token_limit
-few text ts h = (tokens_stand text ts h).0
+pub few : (text : List ℕ) (ts : List Token) → AreTokens text ts → length ts ≤ token_limit
+few text ts h = h.few
 
 pub took : (ts : List Token) (k i : ℕ) → kind_at ts i ≡ k → i < length ts → Took ts k i (i + 1)
 took ts k i e h = record { reads = subst (λ (l : List Terminal). Reads verilog (tok k) l (leaf (terminal_at ts i)) (from ts (i + 1))) (sym (from_step ts i h)) (r_tok e); next = refl }

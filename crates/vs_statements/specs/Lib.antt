@@ -1,3 +1,4 @@
 pub mod Reading
 pub mod Levels
 pub mod Parts
+pub mod Tails

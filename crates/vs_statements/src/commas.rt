@@ -9,7 +9,7 @@ ghost use Rattle.vs_statements.specs.Reading.{Answers};
 
 use crate::depth::Depth;
 use crate::error::ParseError;
-use crate::input::{Found, Input};
+use crate::input::{Found, Input, both, longer, one};
 use crate::tokens::{stands, take};
 use vs_lexer::TokenKind;
 
@@ -52,13 +52,13 @@ pub fn comma_list<P: Part, F: Fn(u32, Depth) -> Result<Found<P::Value>, ParseErr
     requires reads { (i : ℕ) (r : _) → i < 2 ^ 32 → F.post read i depth r → Answers input.now P.phrase P.meaning P.view depth i r }
     ensures { Answers input.now (separated P.phrase) (λ b d. list_of (P.meaning b) d) (λ v. map P.view v.items) depth at result }
 {
-    let mut list = Vec::new(input.alloc);
     let first = read(at, depth)?;
-    list.push(first.value)?;
+    let mut list = one(input.alloc, first.value)?;
     let mut to = first.to;
     while stands(input, to, TokenKind::Comma) {
-        let next = behind_comma::<P, F>(input, to, depth, &read)?;
-        list.push(next.value)?;
+        let next = behind_comma::<P, F>(input, to, depth, &read);
+        let (before, next) = both(list, next)?;
+        list = longer(before, next.value)?;
         to = next.to;
     }
     Ok(Found { value: list, to })

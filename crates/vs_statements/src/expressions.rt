@@ -1,6 +1,6 @@
 //! Expressions (IEEE 1364-2005, A.8).
 
-ghost use Rattle.std.specs.Prelude.{◌≡◌, ◌+◌, ◌≤◌, MatchOption, Ok, true, false, [], ◌∷◌, map, MatchResult};
+ghost use Rattle.std.specs.Prelude.{◌≡◌, ◌+◌, ◌≤◌, MatchOption, Ok, true, false, map, MatchResult};
 ghost use Rattle.vs_grammar.specs.Grammars.{opt, star};
 ghost use Rattle.vs_grammar.specs.Predictive.{is_member};
 ghost use Rattle.vs_grammar.specs.Verilog.{Rule as rule, r, t, ◌⨾◌, expression_firsts, separated};
@@ -12,16 +12,16 @@ ghost use Rattle.vs_grammar.specs.Meaning as meaning;
 ghost use Rattle.vs_ast.specs.Views as view;
 ghost use Rattle.vs_statements.specs.Levels.{level_of, level_op, level_operator, level_phrase, table_of};
 ghost use Rattle.vs_statements.specs.Parts as part;
+ghost use Rattle.vs_statements.specs.Tails as tail;
 ghost use Rattle.vs_statements.specs.Reading.{Answers, Chosen, MeasuredList, Refused, kind_at, kinds_in, AnswersNested};
 
 use crate::commas::{Part, comma_list};
 use crate::depth::Depth;
 use crate::error::ParseError;
-use crate::input::{Found, Input, Nested};
+use crate::input::{Found, Input, Nested, both, longer, one};
 use crate::levels::{Level, below, is_unary, operators};
 use crate::tokens::{choose, larger, stands, stands_any, take};
 use crate::words::{identifier, literal};
-use std::alloc::Global;
 use vs_ast::{Expr, Select, SliceKind, SystemFunction};
 use vs_base::{BinaryOp, UnaryOp};
 use vs_lexer::TokenKind;
@@ -92,17 +92,35 @@ pub fn expression(input: &Input<'_>, at: u32, depth: Depth) -> Result<Nested<Exp
     if !stands(input, condition.to, TokenKind::Question) {
         return Ok(condition);
     }
-    let question = take(input, condition.to, TokenKind::Question)?;
-    let inner = depth.around(condition.height, condition.to)?;
-    let yes = expression(input, question, inner)?;
-    let colon = take(input, yes.to, TokenKind::Colon)?;
-    let no = expression(input, colon, inner)?;
-    let height = 1 + larger(condition.height, larger(yes.height, no.height));
-    let value = Expr::new_choice(input.alloc, condition.value, yes.value, no.value)?;
+    let inner = depth.around(condition.height, condition.to);
+    let (condition, inner) = both(condition, inner)?;
+    let choice = choice(input, condition.to, inner);
+    let (condition, choice) = both(condition, choice)?;
+    let height = 1 + larger(condition.height, choice.height);
+    let (yes, no) = choice.value;
+    let value = Expr::new_choice(input.alloc, condition.value, yes, no)?;
     Ok(Nested {
         value,
-        to: no.to,
+        to: choice.to,
         height,
+    })
+}
+
+/// What a choice is between, behind its condition.
+#[cycle(expressions)]
+fn choice(input: &Input<'_>, at: u32, depth: Depth) -> Result<Nested<(Expr, Expr)>, ParseError>
+    ensures { AnswersNested input.now tail.choice tail.choice_of tail.choice_view depth at result }
+{
+    let question = take(input, at, TokenKind::Question)?;
+    let yes = expression(input, question, depth)?;
+    let colon = take(input, yes.to, TokenKind::Colon);
+    let (yes, colon) = both(yes, colon)?;
+    let no = expression(input, colon, depth);
+    let (yes, no) = both(yes, no)?;
+    Ok(Nested {
+        value: (yes.value, no.value),
+        to: no.to,
+        height: larger(yes.height, no.height),
     })
 }
 
@@ -121,10 +139,12 @@ fn operations(
     }
     let mut left = operations(input, at, depth, below(level))?;
     while let Some(op) = operator(input, left.to, level) {
-        let inner = depth.around(left.height, left.to)?;
-        let right = operations(input, op.to, inner, below(level))?;
-        let height = 1 + larger(left.height, right.height);
-        let value = Expr::new_binary(input.alloc, op.value, left.value, right.value)?;
+        let inner = depth.around(left.height, left.to);
+        let (operand, inner) = both(left, inner)?;
+        let right = operations(input, op.to, inner, below(level));
+        let (operand, right) = both(operand, right)?;
+        let height = 1 + larger(operand.height, right.height);
+        let value = Expr::new_binary(input.alloc, op.value, operand.value, right.value)?;
         left = Nested {
             value,
             to: right.to,
@@ -197,7 +217,8 @@ fn named(input: &Input<'_>, at: u32, depth: Depth) -> Result<Nested<Expr>, Parse
     ensures { AnswersNested input.now grammar.selected_name part.name_tree view.expr depth at result }
 {
     let name = identifier(input, at)?;
-    let select = select(input, name.to, depth)?;
+    let select = select(input, name.to, depth);
+    let (name, select) = both(name, select)?;
     Ok(Nested {
         value: Expr::Named(name.value, select.value),
         to: select.to,
@@ -221,7 +242,8 @@ pub fn select(input: &Input<'_>, at: u32, depth: Depth) -> Result<Nested<Select>
     let inner = depth.deeper(at)?;
     let left = expression(input, open, inner)?;
     let Some(sign) = slice_sign(input, left.to) else {
-        let close = take(input, left.to, TokenKind::CloseBracket)?;
+        let close = take(input, left.to, TokenKind::CloseBracket);
+        let (left, close) = both(left, close)?;
         let height = 1 + left.height;
         let value = Select::new_bit(input.alloc, at, left.value)?;
         return Ok(Nested {
@@ -230,10 +252,13 @@ pub fn select(input: &Input<'_>, at: u32, depth: Depth) -> Result<Nested<Select>
             height,
         });
     };
-    let right = expression(input, sign.to, inner)?;
-    let end = take(input, right.to, TokenKind::CloseBracket)?;
+    let right = expression(input, sign.to, inner);
+    let (left, right) = both(left, right)?;
     let height = 1 + larger(left.height, right.height);
-    let value = Select::new_slice(input.alloc, at, sign.value, left.value, right.value)?;
+    let end = take(input, right.to, TokenKind::CloseBracket);
+    let (ends, end) = both((left.value, right.value), end)?;
+    let (left, right) = ends;
+    let value = Select::new_slice(input.alloc, at, sign.value, left, right)?;
     Ok(Nested {
         value,
         to: end,
@@ -249,7 +274,8 @@ fn brackets(input: &Input<'_>, at: u32, depth: Depth) -> Result<Nested<Expr>, Pa
     let open = take(input, at, TokenKind::OpenParen)?;
     let inner = depth.deeper(at)?;
     let operand = expression(input, open, inner)?;
-    let close = take(input, operand.to, TokenKind::CloseParen)?;
+    let close = take(input, operand.to, TokenKind::CloseParen);
+    let (operand, close) = both(operand, close)?;
     let height = 1 + operand.height;
     let value = Expr::new_brackets(input.alloc, at, operand.value)?;
     Ok(Nested {
@@ -268,33 +294,20 @@ fn braces(input: &Input<'_>, at: u32, depth: Depth) -> Result<Nested<Expr>, Pars
     let inner = depth.deeper(at)?;
     let first = expression(input, open, inner)?;
     if stands(input, first.to, TokenKind::OpenBrace) {
-        let brace = take(input, first.to, TokenKind::OpenBrace)?;
-        let part = expression(input, brace, inner)?;
-        let parts = more_expressions(
-            input,
-            part.to,
-            inner,
-            one(input.alloc, part.value)?,
-            part.height,
-        )?;
-        let close = take(input, parts.to, TokenKind::CloseBrace)?;
-        let end = take(input, close, TokenKind::CloseBrace)?;
+        let parts = repeated(input, first.to, inner);
+        let (first, parts) = both(first, parts)?;
         let height = 1 + larger(first.height, parts.height);
         let value = Expr::new_replication(input.alloc, at, first.value, parts.value)?;
         Ok(Nested {
             value,
-            to: end,
+            to: parts.to,
             height,
         })
     } else {
-        let list = more_expressions(
-            input,
-            first.to,
-            inner,
-            one(input.alloc, first.value)?,
-            first.height,
-        )?;
-        let last = take(input, list.to, TokenKind::CloseBrace)?;
+        let start = one(input.alloc, first.value)?;
+        let list = more_expressions(input, first.to, inner, start, first.height)?;
+        let last = take(input, list.to, TokenKind::CloseBrace);
+        let (list, last) = both(list, last)?;
         let value = Expr::new_concatenation(at, list.value);
         Ok(Nested {
             value,
@@ -304,13 +317,24 @@ fn braces(input: &Input<'_>, at: u32, depth: Depth) -> Result<Nested<Expr>, Pars
     }
 }
 
-/// The list of one expression.
-fn one(alloc: Global, value: Expr) -> Result<Vec<Expr>, ParseError>
-    ensures { MatchResult result (λ v. v.items ≡ value ∷ []) (λ e. e ≡ ParseError.Memory) }
+/// What is repeated by a replication, from its own brace to the end of both.
+#[cycle(expressions)]
+fn repeated(input: &Input<'_>, at: u32, depth: Depth) -> Result<Nested<Vec<Expr>>, ParseError>
+    ensures { AnswersNested input.now tail.repeated tail.repeated_of (λ v. map view.expr v.items) depth at result }
 {
-    let mut list = Vec::new(alloc);
-    list.push(value)?;
-    Ok(list)
+    let brace = take(input, at, TokenKind::OpenBrace)?;
+    let first = expression(input, brace, depth)?;
+    let start = one(input.alloc, first.value)?;
+    let parts = more_expressions(input, first.to, depth, start, first.height)?;
+    let close = take(input, parts.to, TokenKind::CloseBrace);
+    let (parts, close) = both(parts, close)?;
+    let end = take(input, close, TokenKind::CloseBrace);
+    let (parts, end) = both(parts, end)?;
+    Ok(Nested {
+        value: parts.value,
+        to: end,
+        height: parts.height,
+    })
 }
 
 /// The expressions of a list behind the first ones, each after a comma.
@@ -329,9 +353,11 @@ fn more_expressions(
     let mut to = at;
     let mut height = first_height;
     while stands(input, to, TokenKind::Comma) {
-        let comma = take(input, to, TokenKind::Comma)?;
-        let next = expression(input, comma, depth)?;
-        list.push(next.value)?;
+        let comma = take(input, to, TokenKind::Comma);
+        let (before, comma) = both(list, comma)?;
+        let next = expression(input, comma, depth);
+        let (before, next) = both(before, next)?;
+        list = longer(before, next.value)?;
         height = larger(height, next.height);
         to = next.to;
     }
@@ -353,7 +379,8 @@ fn call(input: &Input<'_>, at: u32, depth: Depth) -> Result<Nested<Expr>, ParseE
     let inner = depth.deeper(at)?;
     let open = take(input, function.to, TokenKind::OpenParen)?;
     let operand = expression(input, open, inner)?;
-    let close = take(input, operand.to, TokenKind::CloseParen)?;
+    let close = take(input, operand.to, TokenKind::CloseParen);
+    let (operand, close) = both(operand, close)?;
     let height = 1 + operand.height;
     let value = Expr::new_call(input.alloc, at, function.value, operand.value)?;
     Ok(Nested {

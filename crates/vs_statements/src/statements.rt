@@ -9,16 +9,17 @@ ghost use Rattle.vs_grammar.specs.Trees as tree;
 ghost use Rattle.vs_grammar.specs.Predictive.{is_member};
 ghost use Rattle.vs_ast.specs.Views as view;
 ghost use Rattle.vs_statements.specs.Parts as part;
+ghost use Rattle.vs_statements.specs.Tails as tail;
 ghost use Rattle.vs_statements.specs.Reading.{Answers, Chosen, kind_at};
 
 use crate::commas::{Part, comma_list};
 use crate::depth::Depth;
 use crate::error::ParseError;
 use crate::expressions::{expression, expressions, is_expression_at, select};
-use crate::input::{Found, Input};
+use crate::input::{Found, Input, both, longer, one};
 use crate::tokens::{choose, optional, stands, stands_any, take};
 use crate::words::{identifier, label};
-use vs_ast::{CaseArm, Statement, Target};
+use vs_ast::{CaseArm, Expr, Statement, Target};
 use vs_base::CaseKind;
 use vs_lexer::TokenKind;
 
@@ -85,7 +86,8 @@ fn named_target(input: &Input<'_>, at: u32, depth: Depth) -> Result<Found<Target
     ensures { Answers input.now grammar.selected_name part.named_target_tree view.target depth at result }
 {
     let name = identifier(input, at)?;
-    let select = select(input, name.to, depth)?;
+    let select = select(input, name.to, depth);
+    let (name, select) = both(name, select)?;
     Ok(Found {
         value: Target::Named(name.value, select.value),
         to: select.to,
@@ -100,7 +102,8 @@ fn targets(input: &Input<'_>, at: u32, depth: Depth) -> Result<Found<Target>, Pa
     let open = take(input, at, TokenKind::OpenBrace)?;
     let inner = depth.deeper(at)?;
     let list = target_list(input, open, inner)?;
-    let close = take(input, list.to, TokenKind::CloseBrace)?;
+    let close = take(input, list.to, TokenKind::CloseBrace);
+    let (list, close) = both(list, close)?;
     let value = Target::new_concatenation(at, list.value);
     Ok(Found { value, to: close })
 }
@@ -173,10 +176,14 @@ fn conditional(input: &Input<'_>, at: u32, depth: Depth) -> Result<Found<Stateme
     let word = take(input, at, TokenKind::KeywordIf)?;
     let open = take(input, word, TokenKind::OpenParen)?;
     let condition = expression(input, open, depth)?;
-    let close = take(input, condition.to, TokenKind::CloseParen)?;
-    let taken = statement(input, close, depth)?;
-    let other = alternative(input, taken.to, depth)?;
-    let value = Statement::new_if(input.alloc, at, condition.value, taken.value, other.value)?;
+    let close = take(input, condition.to, TokenKind::CloseParen);
+    let (condition, close) = both(condition, close)?;
+    let taken = statement(input, close, depth);
+    let (condition, taken) = both(condition, taken)?;
+    let other = alternative(input, taken.to, depth);
+    let (branch, other) = both((condition.value, taken.value), other)?;
+    let (condition, taken) = branch;
+    let value = Statement::new_if(input.alloc, at, condition, taken, other.value)?;
     Ok(Found {
         value,
         to: other.to,
@@ -213,8 +220,9 @@ fn sequence(input: &Input<'_>, at: u32, depth: Depth) -> Result<Found<Statement>
 {
     let begin = take(input, at, TokenKind::KeywordBegin)?;
     let label = label(input, begin, depth)?;
-    let parts = statements(input, label.to, depth)?;
-    let end = take(input, parts.to, TokenKind::KeywordEnd)?;
+    let parts = statements(input, label.passed(), depth)?;
+    let end = take(input, parts.to, TokenKind::KeywordEnd);
+    let (parts, end) = both(parts, end)?;
     let value = Statement::new_sequence(at, parts.value);
     Ok(Found { value, to: end })
 }
@@ -227,8 +235,9 @@ fn statements(input: &Input<'_>, at: u32, depth: Depth) -> Result<Found<Vec<Stat
     let mut list = Vec::new(input.alloc);
     let mut to = at;
     while is_statement_at(input, to) {
-        let next = statement(input, to, depth)?;
-        list.push(next.value)?;
+        let next = statement(input, to, depth);
+        let (before, next) = both(list, next)?;
+        list = longer(before, next.value)?;
         to = next.to;
     }
     Ok(Found { value: list, to })
@@ -239,17 +248,34 @@ fn assignment(input: &Input<'_>, at: u32, depth: Depth) -> Result<Found<Statemen
     ensures { Answers input.now grammar.assigned part.assignment_tree view.statement depth at result }
 {
     let target = target(input, at, depth)?;
-    let Some(sign) = assignment_sign(input, target.to) else {
-        return Err(ParseError::Syntax(target.to));
-    };
-    let source = expression(input, sign.to, depth)?;
-    let end = take(input, source.to, TokenKind::Semicolon)?;
+    let right = right_side(input, target.to, depth);
+    let (target, right) = both(target, right)?;
+    let (blocking, source) = right.value;
     let value = Statement::Assignment {
         target: target.value,
-        value: source.value,
-        blocking: sign.value,
+        value: source,
+        blocking,
     };
-    Ok(Found { value, to: end })
+    Ok(Found {
+        value,
+        to: right.to,
+    })
+}
+
+/// The sign of an assignment, and what is assigned: whether it is blocking, and the value.
+fn right_side(input: &Input<'_>, at: u32, depth: Depth) -> Result<Found<(bool, Expr)>, ParseError>
+    ensures { Answers input.now tail.right_side tail.right_side_of tail.right_side_view depth at result }
+{
+    let Some(sign) = assignment_sign(input, at) else {
+        return Err(ParseError::Syntax(at));
+    };
+    let source = expression(input, sign.to, depth)?;
+    let end = take(input, source.to, TokenKind::Semicolon);
+    let (source, end) = both(source, end)?;
+    Ok(Found {
+        value: (sign.value, source.value),
+        to: end,
+    })
 }
 
 /// A `case`, `casez` or `casex`.
@@ -262,16 +288,20 @@ fn case(input: &Input<'_>, at: u32, depth: Depth) -> Result<Found<Statement>, Pa
     };
     let open = take(input, word.to, TokenKind::OpenParen)?;
     let subject = expression(input, open, depth)?;
-    let close = take(input, subject.to, TokenKind::CloseParen)?;
-    let cases = cases(input, close, depth)?;
-    let end = take(input, cases.to, TokenKind::KeywordEndCase)?;
+    let close = take(input, subject.to, TokenKind::CloseParen);
+    let (subject, close) = both(subject, close)?;
+    let cases = cases(input, close, depth);
+    let (subject, cases) = both(subject, cases)?;
+    let end = take(input, cases.to, TokenKind::KeywordEndCase);
+    let (parts, end) = both((subject.value, cases.value), end)?;
+    let (subject, cases) = parts;
     let value = Statement::new_case(
         input.alloc,
         at,
         word.value,
-        subject.value,
-        cases.value.arms,
-        cases.value.other,
+        subject,
+        cases.arms,
+        cases.other,
     )?;
     Ok(Found { value, to: end })
 }
@@ -290,7 +320,8 @@ fn cases(input: &Input<'_>, at: u32, depth: Depth) -> Result<Found<CaseParts>, P
 {
     if stands(input, at, TokenKind::KeywordDefault) {
         let other = case_default(input, at, depth)?;
-        let list = case_arms(input, other.to, depth, Vec::new(input.alloc))?;
+        let list = case_arms(input, other.to, depth, Vec::new(input.alloc));
+        let (other, list) = both(other, list)?;
         return Ok(Found {
             value: CaseParts {
                 arms: list.value,
@@ -300,8 +331,7 @@ fn cases(input: &Input<'_>, at: u32, depth: Depth) -> Result<Found<CaseParts>, P
         });
     }
     let first = case_arm(input, at, depth)?;
-    let mut start = Vec::new(input.alloc);
-    start.push(first.value)?;
+    let start = one(input.alloc, first.value)?;
     let before = case_arms(input, first.to, depth, start)?;
     if !stands(input, before.to, TokenKind::KeywordDefault) {
         return Ok(Found {
@@ -312,8 +342,10 @@ fn cases(input: &Input<'_>, at: u32, depth: Depth) -> Result<Found<CaseParts>, P
             to: before.to,
         });
     }
-    let default = case_default(input, before.to, depth)?;
-    let arms = case_arms(input, default.to, depth, before.value)?;
+    let default = case_default(input, before.to, depth);
+    let (before, default) = both(before, default)?;
+    let arms = case_arms(input, default.to, depth, before.value);
+    let (default, arms) = both(default, arms)?;
     Ok(Found {
         value: CaseParts {
             arms: arms.value,
@@ -336,8 +368,9 @@ fn case_arms(
     let mut list = before;
     let mut to = at;
     while is_expression_at(input, to) {
-        let next = case_arm(input, to, depth)?;
-        list.push(next.value)?;
+        let next = case_arm(input, to, depth);
+        let (before, next) = both(list, next)?;
+        list = longer(before, next.value)?;
         to = next.to;
     }
     Ok(Found { value: list, to })
@@ -349,8 +382,10 @@ fn case_arm(input: &Input<'_>, at: u32, depth: Depth) -> Result<Found<CaseArm>, 
     ensures { Answers input.now (r rule.CaseItem) part.arm_of part.arm_view depth at result }
 {
     let labels = expressions(input, at, depth)?;
-    let colon = take(input, labels.to, TokenKind::Colon)?;
-    let statement = statement(input, colon, depth)?;
+    let colon = take(input, labels.to, TokenKind::Colon);
+    let (labels, colon) = both(labels, colon)?;
+    let statement = statement(input, colon, depth);
+    let (labels, statement) = both(labels, statement)?;
     Ok(Found {
         value: CaseArm {
             labels: labels.value,

@@ -5,13 +5,15 @@ use Rattle.vs_grammar.specs.Meaning as meaning
 use Rattle.vs_ast.specs.Views as view
 use Rattle.vs_statements.specs.declared.error.ParseError.TheVariants.{Memory}
 use Rattle.vs_parser.specs.Parts as part
-use Rattle.vs_statements.specs.Reading.{bytes_in}
+use Rattle.vs_statements.specs.Reading.{bytes_in, terminal_at}
 use Rattle.vs_statements.specs.Reading.Refused.{out_of_memory}
-use Rattle.vs_statements.proofs.Places.{answer_exit, refused_kept, refused_var, refused_seq, refused_then, refused_missing, refused_level, refused_former, refused_latter, refused_more, refused_within, read_tok, read_eps, read_var, read_seq, read_level, read_former, read_latter, read_without, read_within, parsed, one_true, one_false, stood, ap2, ap3, ap6, answer_more}
+use Rattle.vs_statements.proofs.Places.{answer_exit, refused_memory, refused_kept, refused_var, refused_seq, refused_then, refused_missing, refused_level, refused_former, refused_latter, refused_more, refused_within, read_tok, read_eps, read_var, read_seq, read_level, read_former, read_latter, read_without, read_within, parsed, one_true, one_false, stood, ap2, ap3, answer_more}
 use Rattle.vs_statements.proofs.Firsts.{too_deep_first, stopped_first}
 use Rattle.vs_statements.proofs.Lists.{shorter, listing_start, listing_more, pushed_first, listing_behind}
-use Rattle.vs_grammar.specs.Grammars.Tree.{nothing}
-use Rattle.vs_parser.proofs.Blocks.{items_made, block_default_first, block_arms_alone, block_arms_around}
+use Rattle.vs_grammar.specs.Grammars.Tree.{leaf, nothing}
+use Rattle.vs_statements.proofs.Pairs.{ok_at, err_at}
+use Rattle.vs_parser.proofs.Fronts.{read_front, refused_front, refused_after_front}
+use Rattle.vs_parser.proofs.Blocks.{for_made, items_made, block_default_first, block_arms_alone, block_arms_around}
 use Rattle.vs_parser.proofs.items.+items.Goals as goal
 
 pub generate_item-returns-then-stands : goal.generate_item-returns-then-stands
@@ -50,44 +52,32 @@ generate_for-returns-in_err-word t c = answer_exit _ _ c.from_residual.result c.
 pub generate_for-returns-in_err-open : goal.generate_for-returns-in_err-open
 generate_for-returns-in_err-open t c = answer_exit _ _ c.from_residual-in_err-open.result c.in_err-open.field-0.0 c.from_residual-in_err-open.ensures.1 (refused_then (read_tok c.args.depth.limit c.in_ok-word.ensures) (refused_seq (refused_missing c.in_err-open.ensures)))
 
-pub generate_for-returns-in_err-variable : goal.generate_for-returns-in_err-variable
-generate_for-returns-in_err-variable t c = answer_exit _ _ c.from_residual-in_err-variable.result c.in_err-variable.field-0.0 c.from_residual-in_err-variable.ensures.1 (refused_then (read_tok c.args.depth.limit c.in_ok-word.ensures) (refused_then (read_tok c.args.depth.limit c.in_ok-open.ensures) (refused_seq (refused_missing c.in_err-variable.ensures))))
+pub generate_for-returns-in_err-start : goal.generate_for-returns-in_err-start
+generate_for-returns-in_err-start t c = answer_exit _ _ c.from_residual-in_err-start.result c.in_err-start.field-0.0 c.from_residual-in_err-start.ensures.1 (refused_then (read_tok c.args.depth.limit c.in_ok-word.ensures) (refused_then (read_tok c.args.depth.limit c.in_ok-open.ensures) (refused_front c.in_err-start.ensures)))
 
-pub generate_for-returns-in_err-first_sign : goal.generate_for-returns-in_err-first_sign
-generate_for-returns-in_err-first_sign t c = answer_exit _ _ c.from_residual-in_err-first_sign.result c.in_err-first_sign.field-0.0 c.from_residual-in_err-first_sign.ensures.1 (refused_then (read_tok c.args.depth.limit c.in_ok-word.ensures) (refused_then (read_tok c.args.depth.limit c.in_ok-open.ensures) (refused_then (read_tok c.args.depth.limit c.in_ok-variable.ensures.took) (refused_seq (refused_missing c.in_err-first_sign.ensures)))))
+pub generate_for-returns-in_err-start-2 : goal.generate_for-returns-in_err-start-2
+generate_for-returns-in_err-start-2 t c = answer_exit _ _ c.from_residual-in_err-start-2.result c.in_err-start-2.field-0.0 c.from_residual-in_err-start-2.ensures.1 (refused_then (read_tok c.args.depth.limit c.in_ok-word.ensures) (refused_then (read_tok c.args.depth.limit c.in_ok-open.ensures) (refused_after_front c.in_ok-start.ensures.read (refused_seq (refused_missing (err_at _ _ c.in_err-start-2.ensures c.take-start_end.ensures))))))
 
-pub generate_for-returns-in_err-first : goal.generate_for-returns-in_err-first
-generate_for-returns-in_err-first t c = answer_exit _ _ c.from_residual-in_err-first.result c.in_err-first.field-0.0 c.from_residual-in_err-first.ensures.1 (refused_then (read_tok c.args.depth.limit c.in_ok-word.ensures) (refused_then (read_tok c.args.depth.limit c.in_ok-open.ensures) (refused_then (read_tok c.args.depth.limit c.in_ok-variable.ensures.took) (refused_then (read_tok c.args.depth.limit c.in_ok-first_sign.ensures) (refused_seq c.in_err-first.ensures)))))
+pub generate_for-returns-in_err-start-3 : goal.generate_for-returns-in_err-start-3
+generate_for-returns-in_err-start-3 t c = answer_exit _ _ c.from_residual-in_err-start-3.result c.in_err-start-3.field-0.0 c.from_residual-in_err-start-3.ensures.1 (refused_then (read_tok c.args.depth.limit c.in_ok-word.ensures) (refused_then (read_tok c.args.depth.limit c.in_ok-open.ensures) (refused_after_front c.in_ok-start.ensures.read (refused_then (read_tok c.args.depth.limit (ok_at _ _ c.in_ok-start-2.ensures.1 c.take-start_end.ensures)) (refused_seq (err_at _ _ c.in_err-start-3.ensures c.expression-test.ensures))))))
 
-pub generate_for-returns-in_err-first_end : goal.generate_for-returns-in_err-first_end
-generate_for-returns-in_err-first_end t c = answer_exit _ _ c.from_residual-in_err-first_end.result c.in_err-first_end.field-0.0 c.from_residual-in_err-first_end.ensures.1 (refused_then (read_tok c.args.depth.limit c.in_ok-word.ensures) (refused_then (read_tok c.args.depth.limit c.in_ok-open.ensures) (refused_then (read_tok c.args.depth.limit c.in_ok-variable.ensures.took) (refused_then (read_tok c.args.depth.limit c.in_ok-first_sign.ensures) (refused_then c.in_ok-first.ensures.read (refused_seq (refused_missing c.in_err-first_end.ensures)))))))
+pub generate_for-returns-in_err-tested : goal.generate_for-returns-in_err-tested
+generate_for-returns-in_err-tested t c = answer_exit _ _ c.from_residual-in_err-tested.result c.in_err-tested.field-0.0 c.from_residual-in_err-tested.ensures.1 (refused_then (read_tok c.args.depth.limit c.in_ok-word.ensures) (refused_then (read_tok c.args.depth.limit c.in_ok-open.ensures) (refused_after_front c.in_ok-start.ensures.read (refused_then (read_tok c.args.depth.limit (ok_at _ _ c.in_ok-start-2.ensures.1 c.take-start_end.ensures)) (refused_then (ok_at _ _ c.in_ok-start-3.ensures.1 c.expression-test.ensures).read (refused_seq (refused_missing (err_at _ _ c.in_err-tested.ensures c.take-test_end.ensures))))))))
 
-pub generate_for-returns-in_err-test : goal.generate_for-returns-in_err-test
-generate_for-returns-in_err-test t c = answer_exit _ _ c.from_residual-in_err-test.result c.in_err-test.field-0.0 c.from_residual-in_err-test.ensures.1 (refused_then (read_tok c.args.depth.limit c.in_ok-word.ensures) (refused_then (read_tok c.args.depth.limit c.in_ok-open.ensures) (refused_then (read_tok c.args.depth.limit c.in_ok-variable.ensures.took) (refused_then (read_tok c.args.depth.limit c.in_ok-first_sign.ensures) (refused_then c.in_ok-first.ensures.read (refused_then (read_tok c.args.depth.limit c.in_ok-first_end.ensures) (refused_seq c.in_err-test.ensures)))))))
+pub generate_for-returns-in_err-tested-2 : goal.generate_for-returns-in_err-tested-2
+generate_for-returns-in_err-tested-2 t c = answer_exit _ _ c.from_residual-in_err-tested-2.result c.in_err-tested-2.field-0.0 c.from_residual-in_err-tested-2.ensures.1 (refused_then (read_tok c.args.depth.limit c.in_ok-word.ensures) (refused_then (read_tok c.args.depth.limit c.in_ok-open.ensures) (refused_after_front c.in_ok-start.ensures.read (refused_then (read_tok c.args.depth.limit (ok_at _ _ c.in_ok-start-2.ensures.1 c.take-start_end.ensures)) (refused_then (ok_at _ _ c.in_ok-start-3.ensures.1 c.expression-test.ensures).read (refused_then (read_tok c.args.depth.limit (ok_at _ _ c.in_ok-tested.ensures.1 c.take-test_end.ensures)) (refused_front (err_at _ _ c.in_err-tested-2.ensures c.assigned-step.ensures))))))))
 
-pub generate_for-returns-in_err-test_end : goal.generate_for-returns-in_err-test_end
-generate_for-returns-in_err-test_end t c = answer_exit _ _ c.from_residual-in_err-test_end.result c.in_err-test_end.field-0.0 c.from_residual-in_err-test_end.ensures.1 (refused_then (read_tok c.args.depth.limit c.in_ok-word.ensures) (refused_then (read_tok c.args.depth.limit c.in_ok-open.ensures) (refused_then (read_tok c.args.depth.limit c.in_ok-variable.ensures.took) (refused_then (read_tok c.args.depth.limit c.in_ok-first_sign.ensures) (refused_then c.in_ok-first.ensures.read (refused_then (read_tok c.args.depth.limit c.in_ok-first_end.ensures) (refused_then c.in_ok-test.ensures.read (refused_seq (refused_missing c.in_err-test_end.ensures)))))))))
+pub generate_for-returns-in_err-head : goal.generate_for-returns-in_err-head
+generate_for-returns-in_err-head t c = answer_exit _ _ c.from_residual-in_err-head.result c.in_err-head.field-0.0 c.from_residual-in_err-head.ensures.1 (refused_then (read_tok c.args.depth.limit c.in_ok-word.ensures) (refused_then (read_tok c.args.depth.limit c.in_ok-open.ensures) (refused_after_front c.in_ok-start.ensures.read (refused_then (read_tok c.args.depth.limit (ok_at _ _ c.in_ok-start-2.ensures.1 c.take-start_end.ensures)) (refused_then (ok_at _ _ c.in_ok-start-3.ensures.1 c.expression-test.ensures).read (refused_then (read_tok c.args.depth.limit (ok_at _ _ c.in_ok-tested.ensures.1 c.take-test_end.ensures)) (refused_after_front (ok_at _ _ c.in_ok-tested-2.ensures.1 c.assigned-step.ensures).read (refused_seq (refused_missing (err_at _ _ c.in_err-head.ensures c.take-close.ensures))))))))))
 
-pub generate_for-returns-in_err-again : goal.generate_for-returns-in_err-again
-generate_for-returns-in_err-again t c = answer_exit _ _ c.from_residual-in_err-again.result c.in_err-again.field-0.0 c.from_residual-in_err-again.ensures.1 (refused_then (read_tok c.args.depth.limit c.in_ok-word.ensures) (refused_then (read_tok c.args.depth.limit c.in_ok-open.ensures) (refused_then (read_tok c.args.depth.limit c.in_ok-variable.ensures.took) (refused_then (read_tok c.args.depth.limit c.in_ok-first_sign.ensures) (refused_then c.in_ok-first.ensures.read (refused_then (read_tok c.args.depth.limit c.in_ok-first_end.ensures) (refused_then c.in_ok-test.ensures.read (refused_then (read_tok c.args.depth.limit c.in_ok-test_end.ensures) (refused_seq (refused_missing c.in_err-again.ensures))))))))))
-
-pub generate_for-returns-in_err-next_sign : goal.generate_for-returns-in_err-next_sign
-generate_for-returns-in_err-next_sign t c = answer_exit _ _ c.from_residual-in_err-next_sign.result c.in_err-next_sign.field-0.0 c.from_residual-in_err-next_sign.ensures.1 (refused_then (read_tok c.args.depth.limit c.in_ok-word.ensures) (refused_then (read_tok c.args.depth.limit c.in_ok-open.ensures) (refused_then (read_tok c.args.depth.limit c.in_ok-variable.ensures.took) (refused_then (read_tok c.args.depth.limit c.in_ok-first_sign.ensures) (refused_then c.in_ok-first.ensures.read (refused_then (read_tok c.args.depth.limit c.in_ok-first_end.ensures) (refused_then c.in_ok-test.ensures.read (refused_then (read_tok c.args.depth.limit c.in_ok-test_end.ensures) (refused_then (read_tok c.args.depth.limit c.in_ok-again.ensures.took) (refused_seq (refused_missing c.in_err-next_sign.ensures)))))))))))
-
-pub generate_for-returns-in_err-next : goal.generate_for-returns-in_err-next
-generate_for-returns-in_err-next t c = answer_exit _ _ c.from_residual-in_err-next.result c.in_err-next.field-0.0 c.from_residual-in_err-next.ensures.1 (refused_then (read_tok c.args.depth.limit c.in_ok-word.ensures) (refused_then (read_tok c.args.depth.limit c.in_ok-open.ensures) (refused_then (read_tok c.args.depth.limit c.in_ok-variable.ensures.took) (refused_then (read_tok c.args.depth.limit c.in_ok-first_sign.ensures) (refused_then c.in_ok-first.ensures.read (refused_then (read_tok c.args.depth.limit c.in_ok-first_end.ensures) (refused_then c.in_ok-test.ensures.read (refused_then (read_tok c.args.depth.limit c.in_ok-test_end.ensures) (refused_then (read_tok c.args.depth.limit c.in_ok-again.ensures.took) (refused_then (read_tok c.args.depth.limit c.in_ok-next_sign.ensures) (refused_seq c.in_err-next.ensures)))))))))))
-
-pub generate_for-returns-in_err-close : goal.generate_for-returns-in_err-close
-generate_for-returns-in_err-close t c = answer_exit _ _ c.from_residual-in_err-close.result c.in_err-close.field-0.0 c.from_residual-in_err-close.ensures.1 (refused_then (read_tok c.args.depth.limit c.in_ok-word.ensures) (refused_then (read_tok c.args.depth.limit c.in_ok-open.ensures) (refused_then (read_tok c.args.depth.limit c.in_ok-variable.ensures.took) (refused_then (read_tok c.args.depth.limit c.in_ok-first_sign.ensures) (refused_then c.in_ok-first.ensures.read (refused_then (read_tok c.args.depth.limit c.in_ok-first_end.ensures) (refused_then c.in_ok-test.ensures.read (refused_then (read_tok c.args.depth.limit c.in_ok-test_end.ensures) (refused_then (read_tok c.args.depth.limit c.in_ok-again.ensures.took) (refused_then (read_tok c.args.depth.limit c.in_ok-next_sign.ensures) (refused_then c.in_ok-next.ensures.read (refused_seq (refused_missing c.in_err-close.ensures)))))))))))))
-
-pub generate_for-returns-in_err-block : goal.generate_for-returns-in_err-block
-generate_for-returns-in_err-block t c = answer_exit _ _ c.from_residual-in_err-block.result c.in_err-block.field-0.0 c.from_residual-in_err-block.ensures.1 (refused_then (read_tok c.args.depth.limit c.in_ok-word.ensures) (refused_then (read_tok c.args.depth.limit c.in_ok-open.ensures) (refused_then (read_tok c.args.depth.limit c.in_ok-variable.ensures.took) (refused_then (read_tok c.args.depth.limit c.in_ok-first_sign.ensures) (refused_then c.in_ok-first.ensures.read (refused_then (read_tok c.args.depth.limit c.in_ok-first_end.ensures) (refused_then c.in_ok-test.ensures.read (refused_then (read_tok c.args.depth.limit c.in_ok-test_end.ensures) (refused_then (read_tok c.args.depth.limit c.in_ok-again.ensures.took) (refused_then (read_tok c.args.depth.limit c.in_ok-next_sign.ensures) (refused_then c.in_ok-next.ensures.read (refused_then (read_tok c.args.depth.limit c.in_ok-close.ensures) c.in_err-block.ensures))))))))))))
+pub generate_for-returns-in_err-head-2 : goal.generate_for-returns-in_err-head-2
+generate_for-returns-in_err-head-2 t c = answer_exit _ _ c.from_residual-in_err-head-2.result c.in_err-head-2.field-0.0 c.from_residual-in_err-head-2.ensures.1 (refused_then (read_tok c.args.depth.limit c.in_ok-word.ensures) (refused_then (read_tok c.args.depth.limit c.in_ok-open.ensures) (refused_after_front c.in_ok-start.ensures.read (refused_then (read_tok c.args.depth.limit (ok_at _ _ c.in_ok-start-2.ensures.1 c.take-start_end.ensures)) (refused_then (ok_at _ _ c.in_ok-start-3.ensures.1 c.expression-test.ensures).read (refused_then (read_tok c.args.depth.limit (ok_at _ _ c.in_ok-tested.ensures.1 c.take-test_end.ensures)) (refused_after_front (ok_at _ _ c.in_ok-tested-2.ensures.1 c.assigned-step.ensures).read (refused_then (read_tok c.args.depth.limit (ok_at _ _ c.in_ok-head.ensures.1 c.take-close.ensures)) (err_at _ _ c.in_err-head-2.ensures c.block-block.ensures)))))))))
 
 pub generate_for-returns-in_err-value : goal.generate_for-returns-in_err-value
-generate_for-returns-in_err-value t c = answer_exit _ _ c.from_residual-in_err-value.result Memory c.from_residual-in_err-value.ensures.1 out_of_memory
+generate_for-returns-in_err-value t c = answer_exit _ _ c.from_residual-in_err-value.result Memory c.from_residual-in_err-value.ensures.1 (out_of_memory)
 
 pub generate_for-returns : goal.generate_for-returns
-generate_for-returns t c = parsed (read_seq (read_tok c.args.depth.limit c.in_ok-word.ensures) (read_seq (read_tok c.args.depth.limit c.in_ok-open.ensures) (read_seq (read_tok c.args.depth.limit c.in_ok-variable.ensures.took) (read_seq (read_tok c.args.depth.limit c.in_ok-first_sign.ensures) (read_seq c.in_ok-first.ensures.read (read_seq (read_tok c.args.depth.limit c.in_ok-first_end.ensures) (read_seq c.in_ok-test.ensures.read (read_seq (read_tok c.args.depth.limit c.in_ok-test_end.ensures) (read_seq (read_tok c.args.depth.limit c.in_ok-again.ensures.took) (read_seq (read_tok c.args.depth.limit c.in_ok-next_sign.ensures) (read_seq c.in_ok-next.ensures.read (read_seq (read_tok c.args.depth.limit c.in_ok-close.ensures) c.in_ok-block.ensures.read)))))))))))) (ap6 (λ v e f w h x. tree.GenerateFor (record { place = c.args.at; variable = v; first = e; test = f; again = w; next = h }) x) c.in_ok-variable.ensures.made c.in_ok-first.ensures.made c.in_ok-test.ensures.made c.in_ok-again.ensures.made c.in_ok-next.ensures.made c.in_ok-block.ensures.made ∙ sym c.in_ok-value.ensures)
+generate_for-returns t c = let s = c.in_ok-start.ensures in let q = (ok_at _ _ c.in_ok-start-3.ensures.1 c.expression-test.ensures) in let u = (ok_at _ _ c.in_ok-tested-2.ensures.1 c.assigned-step.ensures) in let k = (ok_at _ _ c.in_ok-head-2.ensures.1 c.block-block.ensures) in parsed (read_seq (read_tok c.args.depth.limit c.in_ok-word.ensures) (read_seq (read_tok c.args.depth.limit c.in_ok-open.ensures) (read_front s.read (read_seq (read_tok c.args.depth.limit (ok_at _ _ c.in_ok-start-2.ensures.1 c.take-start_end.ensures)) (read_seq q.read (read_seq (read_tok c.args.depth.limit (ok_at _ _ c.in_ok-tested.ensures.1 c.take-test_end.ensures)) (read_front u.read (read_seq (read_tok c.args.depth.limit (ok_at _ _ c.in_ok-head.ensures.1 c.take-close.ensures)) k.read)))))))) (for_made (bytes_in c.args.input.now) (terminal_at c.args.input.now.tokens.now c.args.at) (leaf (terminal_at c.args.input.now.tokens.now c.in_ok-word.word)) s.tree _ q.tree _ u.tree _ k.tree s.made q.made u.made k.made ∙ sym (rw (c.in_ok-head-2.ensures.0, c.in_ok-head.ensures.0, c.in_ok-tested-2.ensures.0, c.in_ok-tested.ensures.0, c.in_ok-start-3.ensures.0, c.in_ok-start-2.ensures.0) at c.in_ok-value.ensures))
 
 pub generate_if-returns-in_err-word : goal.generate_if-returns-in_err-word
 generate_if-returns-in_err-word t c = answer_exit _ _ c.from_residual.result c.in_err-word.field-0.0 c.from_residual.ensures.1 (refused_seq (refused_missing c.in_err-word.ensures))
@@ -98,20 +88,20 @@ generate_if-returns-in_err-open t c = answer_exit _ _ c.from_residual-in_err-ope
 pub generate_if-returns-in_err-condition : goal.generate_if-returns-in_err-condition
 generate_if-returns-in_err-condition t c = answer_exit _ _ c.from_residual-in_err-condition.result c.in_err-condition.field-0.0 c.from_residual-in_err-condition.ensures.1 (refused_then (read_tok c.args.depth.limit c.in_ok-word.ensures) (refused_then (read_tok c.args.depth.limit c.in_ok-open.ensures) (refused_seq c.in_err-condition.ensures)))
 
-pub generate_if-returns-in_err-close : goal.generate_if-returns-in_err-close
-generate_if-returns-in_err-close t c = answer_exit _ _ c.from_residual-in_err-close.result c.in_err-close.field-0.0 c.from_residual-in_err-close.ensures.1 (refused_then (read_tok c.args.depth.limit c.in_ok-word.ensures) (refused_then (read_tok c.args.depth.limit c.in_ok-open.ensures) (refused_then c.in_ok-condition.ensures.read (refused_seq (refused_missing c.in_err-close.ensures)))))
+pub generate_if-returns-in_err-condition-2 : goal.generate_if-returns-in_err-condition-2
+generate_if-returns-in_err-condition-2 t c = answer_exit _ _ c.from_residual-in_err-condition-2.result c.in_err-condition-2.field-0.0 c.from_residual-in_err-condition-2.ensures.1 (refused_then (read_tok c.args.depth.limit c.in_ok-word.ensures) (refused_then (read_tok c.args.depth.limit c.in_ok-open.ensures) (refused_then c.in_ok-condition.ensures.read (refused_seq (refused_missing (err_at _ _ c.in_err-condition-2.ensures c.take-close.ensures))))))
 
-pub generate_if-returns-in_err-taken : goal.generate_if-returns-in_err-taken
-generate_if-returns-in_err-taken t c = answer_exit _ _ c.from_residual-in_err-taken.result c.in_err-taken.field-0.0 c.from_residual-in_err-taken.ensures.1 (refused_then (read_tok c.args.depth.limit c.in_ok-word.ensures) (refused_then (read_tok c.args.depth.limit c.in_ok-open.ensures) (refused_then c.in_ok-condition.ensures.read (refused_then (read_tok c.args.depth.limit c.in_ok-close.ensures) (refused_seq c.in_err-taken.ensures)))))
+pub generate_if-returns-in_err-condition-3 : goal.generate_if-returns-in_err-condition-3
+generate_if-returns-in_err-condition-3 t c = answer_exit _ _ c.from_residual-in_err-condition-3.result c.in_err-condition-3.field-0.0 c.from_residual-in_err-condition-3.ensures.1 (refused_then (read_tok c.args.depth.limit c.in_ok-word.ensures) (refused_then (read_tok c.args.depth.limit c.in_ok-open.ensures) (refused_then c.in_ok-condition.ensures.read (refused_then (read_tok c.args.depth.limit (ok_at _ _ c.in_ok-condition-2.ensures.1 c.take-close.ensures)) (refused_seq (err_at _ _ c.in_err-condition-3.ensures c.block-taken.ensures))))))
 
-pub generate_if-returns-in_err-other : goal.generate_if-returns-in_err-other
-generate_if-returns-in_err-other t c = answer_exit _ _ c.from_residual-in_err-other.result c.in_err-other.field-0.0 c.from_residual-in_err-other.ensures.1 (refused_then (read_tok c.args.depth.limit c.in_ok-word.ensures) (refused_then (read_tok c.args.depth.limit c.in_ok-open.ensures) (refused_then c.in_ok-condition.ensures.read (refused_then (read_tok c.args.depth.limit c.in_ok-close.ensures) (refused_then c.in_ok-taken.ensures.read c.in_err-other.ensures)))))
+pub generate_if-returns-in_err-branch : goal.generate_if-returns-in_err-branch
+generate_if-returns-in_err-branch t c = answer_exit _ _ c.from_residual-in_err-branch.result c.in_err-branch.field-0.0 c.from_residual-in_err-branch.ensures.1 (refused_then (read_tok c.args.depth.limit c.in_ok-word.ensures) (refused_then (read_tok c.args.depth.limit c.in_ok-open.ensures) (refused_then c.in_ok-condition.ensures.read (refused_then (read_tok c.args.depth.limit (ok_at _ _ c.in_ok-condition-2.ensures.1 c.take-close.ensures)) (refused_then (ok_at _ _ c.in_ok-condition-3.ensures.1 c.block-taken.ensures).read (err_at _ _ c.in_err-branch.ensures c.other_block-other.ensures))))))
 
 pub generate_if-returns-in_err-value : goal.generate_if-returns-in_err-value
-generate_if-returns-in_err-value t c = answer_exit _ _ c.from_residual-in_err-value.result Memory c.from_residual-in_err-value.ensures.1 out_of_memory
+generate_if-returns-in_err-value t c = answer_exit _ _ c.from_residual-in_err-value.result Memory c.from_residual-in_err-value.ensures.1 (out_of_memory)
 
 pub generate_if-returns : goal.generate_if-returns
-generate_if-returns t c = parsed (read_seq (read_tok c.args.depth.limit c.in_ok-word.ensures) (read_seq (read_tok c.args.depth.limit c.in_ok-open.ensures) (read_seq c.in_ok-condition.ensures.read (read_seq (read_tok c.args.depth.limit c.in_ok-close.ensures) (read_seq c.in_ok-taken.ensures.read c.in_ok-other.ensures.read))))) (ap3 (tree.GenerateIf c.args.at) c.in_ok-condition.ensures.made c.in_ok-taken.ensures.made c.in_ok-other.ensures.made ∙ sym c.in_ok-value.ensures)
+generate_if-returns t c = parsed (read_seq (read_tok c.args.depth.limit c.in_ok-word.ensures) (read_seq (read_tok c.args.depth.limit c.in_ok-open.ensures) (read_seq c.in_ok-condition.ensures.read (read_seq (read_tok c.args.depth.limit (ok_at _ _ c.in_ok-condition-2.ensures.1 c.take-close.ensures)) (read_seq (ok_at _ _ c.in_ok-condition-3.ensures.1 c.block-taken.ensures).read (ok_at _ _ c.in_ok-branch.ensures.1 c.other_block-other.ensures).read))))) (ap3 (tree.GenerateIf c.args.at) c.in_ok-condition.ensures.made (ok_at _ _ c.in_ok-condition-3.ensures.1 c.block-taken.ensures).made (ok_at _ _ c.in_ok-branch.ensures.1 c.other_block-other.ensures).made ∙ sym (rw (c.in_ok-branch.ensures.0, c.in_ok-condition-3.ensures.0, c.in_ok-condition-2.ensures.0) at c.in_ok-value.ensures))
 
 pub other_block-returns-then-not-stands : goal.other_block-returns-then-not-stands
 other_block-returns-then-not-stands t c = parsed (read_without 27 c.args.depth.limit (sym c.stands.ensures ∙ c.if-not-stands.true)) refl
@@ -134,35 +124,35 @@ generate_case-returns-in_err-open t c = answer_exit _ _ c.from_residual-in_err-o
 pub generate_case-returns-in_err-subject : goal.generate_case-returns-in_err-subject
 generate_case-returns-in_err-subject t c = answer_exit _ _ c.from_residual-in_err-subject.result c.in_err-subject.field-0.0 c.from_residual-in_err-subject.ensures.1 (refused_then (read_tok c.args.depth.limit c.in_ok-word.ensures) (refused_then (read_tok c.args.depth.limit c.in_ok-open.ensures) (refused_seq c.in_err-subject.ensures)))
 
-pub generate_case-returns-in_err-close : goal.generate_case-returns-in_err-close
-generate_case-returns-in_err-close t c = answer_exit _ _ c.from_residual-in_err-close.result c.in_err-close.field-0.0 c.from_residual-in_err-close.ensures.1 (refused_then (read_tok c.args.depth.limit c.in_ok-word.ensures) (refused_then (read_tok c.args.depth.limit c.in_ok-open.ensures) (refused_then c.in_ok-subject.ensures.read (refused_seq (refused_missing c.in_err-close.ensures)))))
+pub generate_case-returns-in_err-subject-2 : goal.generate_case-returns-in_err-subject-2
+generate_case-returns-in_err-subject-2 t c = answer_exit _ _ c.from_residual-in_err-subject-2.result c.in_err-subject-2.field-0.0 c.from_residual-in_err-subject-2.ensures.1 (refused_then (read_tok c.args.depth.limit c.in_ok-word.ensures) (refused_then (read_tok c.args.depth.limit c.in_ok-open.ensures) (refused_then c.in_ok-subject.ensures.read (refused_seq (refused_missing (err_at _ _ c.in_err-subject-2.ensures c.take-close.ensures))))))
 
-pub generate_case-returns-in_err-cases : goal.generate_case-returns-in_err-cases
-generate_case-returns-in_err-cases t c = answer_exit _ _ c.from_residual-in_err-cases.result c.in_err-cases.field-0.0 c.from_residual-in_err-cases.ensures.1 (refused_then (read_tok c.args.depth.limit c.in_ok-word.ensures) (refused_then (read_tok c.args.depth.limit c.in_ok-open.ensures) (refused_then c.in_ok-subject.ensures.read (refused_then (read_tok c.args.depth.limit c.in_ok-close.ensures) (refused_seq c.in_err-cases.ensures)))))
+pub generate_case-returns-in_err-subject-3 : goal.generate_case-returns-in_err-subject-3
+generate_case-returns-in_err-subject-3 t c = answer_exit _ _ c.from_residual-in_err-subject-3.result c.in_err-subject-3.field-0.0 c.from_residual-in_err-subject-3.ensures.1 (refused_then (read_tok c.args.depth.limit c.in_ok-word.ensures) (refused_then (read_tok c.args.depth.limit c.in_ok-open.ensures) (refused_then c.in_ok-subject.ensures.read (refused_then (read_tok c.args.depth.limit (ok_at _ _ c.in_ok-subject-2.ensures.1 c.take-close.ensures)) (refused_seq (err_at _ _ c.in_err-subject-3.ensures c.generate_cases-cases.ensures))))))
 
-pub generate_case-returns-in_err-end : goal.generate_case-returns-in_err-end
-generate_case-returns-in_err-end t c = answer_exit _ _ c.from_residual-in_err-end.result c.in_err-end.field-0.0 c.from_residual-in_err-end.ensures.1 (refused_then (read_tok c.args.depth.limit c.in_ok-word.ensures) (refused_then (read_tok c.args.depth.limit c.in_ok-open.ensures) (refused_then c.in_ok-subject.ensures.read (refused_then (read_tok c.args.depth.limit c.in_ok-close.ensures) (refused_then c.in_ok-cases.ensures.read (refused_missing c.in_err-end.ensures))))))
+pub generate_case-returns-in_err-parts : goal.generate_case-returns-in_err-parts
+generate_case-returns-in_err-parts t c = answer_exit _ _ c.from_residual-in_err-parts.result c.in_err-parts.field-0.0 c.from_residual-in_err-parts.ensures.1 (refused_then (read_tok c.args.depth.limit c.in_ok-word.ensures) (refused_then (read_tok c.args.depth.limit c.in_ok-open.ensures) (refused_then c.in_ok-subject.ensures.read (refused_then (read_tok c.args.depth.limit (ok_at _ _ c.in_ok-subject-2.ensures.1 c.take-close.ensures)) (refused_then (ok_at _ _ c.in_ok-subject-3.ensures.1 c.generate_cases-cases.ensures).read (refused_missing (err_at _ _ c.in_err-parts.ensures c.take-end.ensures)))))))
 
 pub generate_case-returns-in_err-value : goal.generate_case-returns-in_err-value
-generate_case-returns-in_err-value t c = answer_exit _ _ c.from_residual-in_err-value.result Memory c.from_residual-in_err-value.ensures.1 out_of_memory
+generate_case-returns-in_err-value t c = answer_exit _ _ c.from_residual-in_err-value.result Memory c.from_residual-in_err-value.ensures.1 (out_of_memory)
 
 pub generate_case-returns : goal.generate_case-returns
-generate_case-returns t c = parsed (read_seq (read_tok c.args.depth.limit c.in_ok-word.ensures) (read_seq (read_tok c.args.depth.limit c.in_ok-open.ensures) (read_seq c.in_ok-subject.ensures.read (read_seq (read_tok c.args.depth.limit c.in_ok-close.ensures) (read_seq c.in_ok-cases.ensures.read (read_tok c.args.depth.limit c.in_ok-end.ensures)))))) (ap3 (tree.GenerateCase c.args.at) c.in_ok-subject.ensures.made (ap (λ z. z.0) c.in_ok-cases.ensures.made) (ap (λ z. z.1) c.in_ok-cases.ensures.made) ∙ sym c.in_ok-value.ensures)
+generate_case-returns t c = parsed (read_seq (read_tok c.args.depth.limit c.in_ok-word.ensures) (read_seq (read_tok c.args.depth.limit c.in_ok-open.ensures) (read_seq c.in_ok-subject.ensures.read (read_seq (read_tok c.args.depth.limit (ok_at _ _ c.in_ok-subject-2.ensures.1 c.take-close.ensures)) (read_seq (ok_at _ _ c.in_ok-subject-3.ensures.1 c.generate_cases-cases.ensures).read (read_tok c.args.depth.limit (ok_at _ _ c.in_ok-parts.ensures.1 c.take-end.ensures))))))) (ap3 (tree.GenerateCase c.args.at) c.in_ok-subject.ensures.made (ap (λ z. z.0) (ok_at _ _ c.in_ok-subject-3.ensures.1 c.generate_cases-cases.ensures).made) (ap (λ z. z.1) (ok_at _ _ c.in_ok-subject-3.ensures.1 c.generate_cases-cases.ensures).made) ∙ sym (rw (c.in_ok-parts.ensures.0, c.in_ok-subject-3.ensures.0, c.in_ok-subject-2.ensures.0) at c.in_ok-value.ensures))
 
 pub generate_arms-loop-depth-init : goal.generate_arms-loop-depth-init
 generate_arms-loop-depth-init t c = listing_start c.args.input.now (r rule.GenerateCaseItem) part.generate_arm_of part.generate_arm_view c.args.depth.value c.args.before.items c.args.at c.args.depth.limit
 
-pub generate_arms-returns-in_err-next : goal.generate_arms-returns-in_err-next
-generate_arms-returns-in_err-next t c = answer_exit _ _ c.from_residual.result c.in_err-next.field-0.0 c.from_residual.ensures.1 (refused_more c.loop-depth.invariant.grown (sym c.is_expression_at.ensures ∙ c.loop-depth-test.true) c.in_err-next.ensures)
+pub generate_arms-returns-in_err-before : goal.generate_arms-returns-in_err-before
+generate_arms-returns-in_err-before t c = answer_exit _ _ c.from_residual.result c.in_err-before.field-0.0 c.from_residual.ensures.1 (refused_more c.loop-depth.invariant.grown (sym c.is_expression_at.ensures ∙ c.loop-depth-test.true) (err_at _ _ c.in_err-before.ensures c.generate_arm-next.ensures))
 
-pub generate_arms-returns-in_err-push : goal.generate_arms-returns-in_err-push
-generate_arms-returns-in_err-push t c = answer_exit _ _ c.from_residual-in_err-push.result Memory c.from_residual-in_err-push.ensures.1 out_of_memory
+pub generate_arms-returns-in_err-list : goal.generate_arms-returns-in_err-list
+generate_arms-returns-in_err-list t c = answer_exit _ _ c.from_residual-in_err-list.result c.in_err-list.field-0.0 c.from_residual-in_err-list.ensures.1 (refused_memory c.in_err-list.ensures)
 
 pub generate_arms-loop-depth-smaller : goal.generate_arms-loop-depth-smaller
-generate_arms-loop-depth-smaller t c = shorter c.in_ok-next.ensures.read refl
+generate_arms-loop-depth-smaller t c = shorter (ok_at _ _ c.in_ok-before.ensures.1 c.generate_arm-next.ensures).read refl
 
 pub generate_arms-loop-depth-preserved : goal.generate_arms-loop-depth-preserved
-generate_arms-loop-depth-preserved t c = listing_more c.in_ok-next.next.value _ c.loop-depth.invariant (sym c.is_expression_at.ensures ∙ c.loop-depth-test.true) c.in_ok-next.ensures.read c.in_ok-next.ensures.made c.in_ok-push.ensures.items
+generate_arms-loop-depth-preserved t c = listing_more c.in_ok-before.next.value _ c.loop-depth.invariant (sym c.is_expression_at.ensures ∙ c.loop-depth-test.true) (ok_at _ _ c.in_ok-before.ensures.1 c.generate_arm-next.ensures).read (ok_at _ _ c.in_ok-before.ensures.1 c.generate_arm-next.ensures).made (rw c.in_ok-before.ensures.0 at c.in_ok-list.ensures)
 
 pub generate_arms-returns : goal.generate_arms-returns
 generate_arms-returns t c = listing_behind c.loop-depth.invariant (sym c.is_expression_at.ensures ∙ c.loop-depth-test.false)
@@ -170,14 +160,14 @@ generate_arms-returns t c = listing_behind c.loop-depth.invariant (sym c.is_expr
 pub generate_arm-returns-in_err-labels : goal.generate_arm-returns-in_err-labels
 generate_arm-returns-in_err-labels t c = answer_exit _ _ c.from_residual.result c.in_err-labels.field-0.0 c.from_residual.ensures.1 (refused_var (refused_seq c.in_err-labels.ensures))
 
-pub generate_arm-returns-in_err-colon : goal.generate_arm-returns-in_err-colon
-generate_arm-returns-in_err-colon t c = answer_exit _ _ c.from_residual-in_err-colon.result c.in_err-colon.field-0.0 c.from_residual-in_err-colon.ensures.1 (refused_var (refused_then c.in_ok-labels.ensures.read (refused_seq (refused_missing c.in_err-colon.ensures))))
+pub generate_arm-returns-in_err-labels-2 : goal.generate_arm-returns-in_err-labels-2
+generate_arm-returns-in_err-labels-2 t c = answer_exit _ _ c.from_residual-in_err-labels-2.result c.in_err-labels-2.field-0.0 c.from_residual-in_err-labels-2.ensures.1 (refused_var (refused_then c.in_ok-labels.ensures.read (refused_seq (refused_missing (err_at _ _ c.in_err-labels-2.ensures c.take-colon.ensures)))))
 
-pub generate_arm-returns-in_err-block : goal.generate_arm-returns-in_err-block
-generate_arm-returns-in_err-block t c = answer_exit _ _ c.from_residual-in_err-block.result c.in_err-block.field-0.0 c.from_residual-in_err-block.ensures.1 (refused_var (refused_then c.in_ok-labels.ensures.read (refused_then (read_tok c.args.depth.limit c.in_ok-colon.ensures) c.in_err-block.ensures)))
+pub generate_arm-returns-in_err-labels-3 : goal.generate_arm-returns-in_err-labels-3
+generate_arm-returns-in_err-labels-3 t c = answer_exit _ _ c.from_residual-in_err-labels-3.result c.in_err-labels-3.field-0.0 c.from_residual-in_err-labels-3.ensures.1 (refused_var (refused_then c.in_ok-labels.ensures.read (refused_then (read_tok c.args.depth.limit (ok_at _ _ c.in_ok-labels-2.ensures.1 c.take-colon.ensures)) (err_at _ _ c.in_err-labels-3.ensures c.block-block.ensures))))
 
 pub generate_arm-returns : goal.generate_arm-returns
-generate_arm-returns t c = parsed (read_var (read_seq c.in_ok-labels.ensures.read (read_seq (read_tok c.args.depth.limit c.in_ok-colon.ensures) c.in_ok-block.ensures.read))) (ap2 (λ x y. (x, y)) c.in_ok-labels.ensures.made c.in_ok-block.ensures.made)
+generate_arm-returns t c = rw (c.in_ok-labels-3.ensures.0, c.in_ok-labels-2.ensures.0) (parsed (read_var (read_seq c.in_ok-labels.ensures.read (read_seq (read_tok c.args.depth.limit (ok_at _ _ c.in_ok-labels-2.ensures.1 c.take-colon.ensures)) (ok_at _ _ c.in_ok-labels-3.ensures.1 c.block-block.ensures).read))) (ap2 (λ x y. (x, y)) c.in_ok-labels.ensures.made (ok_at _ _ c.in_ok-labels-3.ensures.1 c.block-block.ensures).made))
 
 pub generate_default-returns-in_err-word : goal.generate_default-returns-in_err-word
 generate_default-returns-in_err-word t c = answer_exit _ _ c.from_residual.result c.in_err-word.field-0.0 c.from_residual.ensures.1 (refused_var (refused_seq (refused_missing c.in_err-word.ensures)))
@@ -191,32 +181,32 @@ generate_default-returns t c = parsed (read_var (read_seq (read_tok c.args.depth
 pub generate_cases-returns-in_err-other : goal.generate_cases-returns-in_err-other
 generate_cases-returns-in_err-other t c = answer_exit _ _ c.from_residual.result c.in_err-other.field-0.0 c.from_residual.ensures.1 (refused_var (refused_former (one_true _ c.stands.result c.stands.ensures c.if-stands.true) (refused_seq c.in_err-other.ensures)))
 
-pub generate_cases-returns-in_err-list : goal.generate_cases-returns-in_err-list
-generate_cases-returns-in_err-list t c = answer_exit _ _ c.from_residual-in_err-list.result c.in_err-list.field-0.0 c.from_residual-in_err-list.ensures.1 (refused_var (refused_former (one_true _ c.stands.result c.stands.ensures c.if-stands.true) (refused_then c.in_ok-other.ensures.read c.in_err-list.ensures)))
+pub generate_cases-returns-in_err-other-2 : goal.generate_cases-returns-in_err-other-2
+generate_cases-returns-in_err-other-2 t c = answer_exit _ _ c.from_residual-in_err-other-2.result c.in_err-other-2.field-0.0 c.from_residual-in_err-other-2.ensures.1 (refused_var (refused_former (one_true _ c.stands.result c.stands.ensures c.if-stands.true) (refused_then c.in_ok-other.ensures.read (err_at _ _ c.in_err-other-2.ensures c.generate_arms-list.ensures))))
 
 pub generate_cases-returns-then-stands : goal.generate_cases-returns-then-stands
-generate_cases-returns-then-stands t c = parsed (read_var (read_former (one_true _ c.stands.result c.stands.ensures c.if-stands.true) (read_seq c.in_ok-other.ensures.read c.in_ok-list.ensures.read))) (block_default_first (bytes_in c.args.input.now) c.in_ok-other.ensures.tree c.in_ok-list.ensures.tree _ c.in_ok-list.list.value.items c.in_ok-other.other.value c.in_ok-other.ensures.made c.new.ensures.items c.in_ok-list.ensures.made)
+generate_cases-returns-then-stands t c = rw c.in_ok-other-2.ensures.0 (parsed (read_var (read_former (one_true _ c.stands.result c.stands.ensures c.if-stands.true) (read_seq c.in_ok-other.ensures.read (ok_at _ _ c.in_ok-other-2.ensures.1 c.generate_arms-list.ensures).read))) (block_default_first (bytes_in c.args.input.now) c.in_ok-other.ensures.tree (ok_at _ _ c.in_ok-other-2.ensures.1 c.generate_arms-list.ensures).tree _ c.in_ok-other-2.list.value.items c.in_ok-other.other.value c.in_ok-other.ensures.made c.new.ensures.items (ok_at _ _ c.in_ok-other-2.ensures.1 c.generate_arms-list.ensures).made))
 
 pub generate_cases-returns-in_err-first : goal.generate_cases-returns-in_err-first
 generate_cases-returns-in_err-first t c = answer_exit _ _ c.from_residual-in_err-first.result c.in_err-first.field-0.0 c.from_residual-in_err-first.ensures.1 (refused_var (refused_latter (one_false _ c.stands.result c.stands.ensures c.if-stands.false) (refused_seq c.in_err-first.ensures)))
 
-pub generate_cases-returns-in_err-push : goal.generate_cases-returns-in_err-push
-generate_cases-returns-in_err-push t c = answer_exit _ _ c.from_residual-in_err-push.result Memory c.from_residual-in_err-push.ensures.1 out_of_memory
+pub generate_cases-returns-in_err-start : goal.generate_cases-returns-in_err-start
+generate_cases-returns-in_err-start t c = answer_exit _ _ c.from_residual-in_err-start.result c.in_err-start.field-0.0 c.from_residual-in_err-start.ensures.1 (refused_memory c.in_err-start.ensures)
 
 pub generate_cases-returns-in_err-before : goal.generate_cases-returns-in_err-before
 generate_cases-returns-in_err-before t c = answer_exit _ _ c.from_residual-in_err-before.result c.in_err-before.field-0.0 c.from_residual-in_err-before.ensures.1 (refused_var (refused_latter (one_false _ c.stands.result c.stands.ensures c.if-stands.false) (refused_then c.in_ok-first.ensures.read (refused_seq c.in_err-before.ensures))))
 
 pub generate_cases-returns-then-not-stands : goal.generate_cases-returns-then-not-stands
-generate_cases-returns-then-not-stands t c = parsed (read_var (read_latter (one_false _ c.stands.result c.stands.ensures c.if-stands.false) (read_seq c.in_ok-first.ensures.read (read_seq c.in_ok-before.ensures.read (read_latter (one_false _ c.stands-2.result c.stands-2.ensures c.if-not-stands.true) (read_eps c.args.input.now.tokens.now _ c.in_ok-before.before.to c.args.depth.limit)))))) (block_arms_alone (bytes_in c.args.input.now) c.in_ok-first.ensures.tree c.in_ok-before.ensures.tree nothing c.in_ok-first.first.value _ c.in_ok-before.before.value.items c.in_ok-first.ensures.made (pushed_first c.new-start.ensures.items c.in_ok-push.ensures.items) c.in_ok-before.ensures.made)
+generate_cases-returns-then-not-stands t c = parsed (read_var (read_latter (one_false _ c.stands.result c.stands.ensures c.if-stands.false) (read_seq c.in_ok-first.ensures.read (read_seq c.in_ok-before.ensures.read (read_latter (one_false _ c.stands-2.result c.stands-2.ensures c.if-not-stands.true) (read_eps c.args.input.now.tokens.now _ c.in_ok-before.before.to c.args.depth.limit)))))) (block_arms_alone (bytes_in c.args.input.now) c.in_ok-first.ensures.tree c.in_ok-before.ensures.tree nothing c.in_ok-first.first.value _ c.in_ok-before.before.value.items c.in_ok-first.ensures.made c.in_ok-start.ensures c.in_ok-before.ensures.made)
+
+pub generate_cases-returns-in_err-before-2 : goal.generate_cases-returns-in_err-before-2
+generate_cases-returns-in_err-before-2 t c = answer_exit _ _ c.from_residual-in_err-before-2.result c.in_err-before-2.field-0.0 c.from_residual-in_err-before-2.ensures.1 (refused_var (refused_latter (one_false _ c.stands.result c.stands.ensures c.if-stands.false) (refused_then c.in_ok-first.ensures.read (refused_then c.in_ok-before.ensures.read (refused_former (one_true _ c.stands-2.result c.stands-2.ensures c.if-not-stands.false) (refused_seq (err_at _ _ c.in_err-before-2.ensures c.generate_default-default.ensures)))))))
 
 pub generate_cases-returns-in_err-default : goal.generate_cases-returns-in_err-default
-generate_cases-returns-in_err-default t c = answer_exit _ _ c.from_residual-in_err-default.result c.in_err-default.field-0.0 c.from_residual-in_err-default.ensures.1 (refused_var (refused_latter (one_false _ c.stands.result c.stands.ensures c.if-stands.false) (refused_then c.in_ok-first.ensures.read (refused_then c.in_ok-before.ensures.read (refused_former (one_true _ c.stands-2.result c.stands-2.ensures c.if-not-stands.false) (refused_seq c.in_err-default.ensures))))))
-
-pub generate_cases-returns-in_err-arms : goal.generate_cases-returns-in_err-arms
-generate_cases-returns-in_err-arms t c = answer_exit _ _ c.from_residual-in_err-arms.result c.in_err-arms.field-0.0 c.from_residual-in_err-arms.ensures.1 (refused_var (refused_latter (one_false _ c.stands.result c.stands.ensures c.if-stands.false) (refused_then c.in_ok-first.ensures.read (refused_then c.in_ok-before.ensures.read (refused_former (one_true _ c.stands-2.result c.stands-2.ensures c.if-not-stands.false) (refused_then c.in_ok-default.ensures.read c.in_err-arms.ensures))))))
+generate_cases-returns-in_err-default t c = answer_exit _ _ c.from_residual-in_err-default.result c.in_err-default.field-0.0 c.from_residual-in_err-default.ensures.1 (refused_var (refused_latter (one_false _ c.stands.result c.stands.ensures c.if-stands.false) (refused_then c.in_ok-first.ensures.read (refused_then c.in_ok-before.ensures.read (refused_former (one_true _ c.stands-2.result c.stands-2.ensures c.if-not-stands.false) (refused_then (ok_at _ _ c.in_ok-before-2.ensures.1 c.generate_default-default.ensures).read (err_at _ _ c.in_err-default.ensures c.generate_arms-arms.ensures)))))))
 
 pub generate_cases-returns : goal.generate_cases-returns
-generate_cases-returns t c = parsed (read_var (read_latter (one_false _ c.stands.result c.stands.ensures c.if-stands.false) (read_seq c.in_ok-first.ensures.read (read_seq c.in_ok-before.ensures.read (read_former (one_true _ c.stands-2.result c.stands-2.ensures c.if-not-stands.false) (read_seq c.in_ok-default.ensures.read c.in_ok-arms.ensures.read)))))) (block_arms_around (bytes_in c.args.input.now) c.in_ok-first.ensures.tree c.in_ok-before.ensures.tree c.in_ok-default.ensures.tree c.in_ok-arms.ensures.tree c.in_ok-first.first.value _ c.in_ok-before.before.value.items c.in_ok-arms.arms.value.items c.in_ok-default.default.value c.in_ok-first.ensures.made (pushed_first c.new-start.ensures.items c.in_ok-push.ensures.items) c.in_ok-before.ensures.made c.in_ok-default.ensures.made c.in_ok-arms.ensures.made)
+generate_cases-returns t c = let a = rw c.in_ok-before-2.ensures.0 at (ok_at _ _ c.in_ok-default.ensures.1 c.generate_arms-arms.ensures) in rw c.in_ok-default.ensures.0 (parsed (read_var (read_latter (one_false _ c.stands.result c.stands.ensures c.if-stands.false) (read_seq c.in_ok-first.ensures.read (read_seq c.in_ok-before.ensures.read (read_former (one_true _ c.stands-2.result c.stands-2.ensures c.if-not-stands.false) (read_seq (ok_at _ _ c.in_ok-before-2.ensures.1 c.generate_default-default.ensures).read a.read)))))) (block_arms_around (bytes_in c.args.input.now) c.in_ok-first.ensures.tree c.in_ok-before.ensures.tree (ok_at _ _ c.in_ok-before-2.ensures.1 c.generate_default-default.ensures).tree a.tree c.in_ok-first.first.value _ c.in_ok-before.before.value.items c.in_ok-default.arms.value.items c.in_ok-before-2.default.value c.in_ok-first.ensures.made c.in_ok-start.ensures c.in_ok-before.ensures.made (ok_at _ _ c.in_ok-before-2.ensures.1 c.generate_default-default.ensures).made a.made))
 
 pub block-returns-then-not-stands_any : goal.block-returns-then-not-stands_any
 block-returns-then-not-stands_any t c = stopped_first 3 part.block_kinds (sym c.stands_any.ensures ∙ c.if-not-stands_any.true) refl
@@ -248,29 +238,29 @@ enclosed-returns-in_err-begin t c = answer_exit _ _ c.from_residual.result c.in_
 pub enclosed-returns-in_err-label : goal.enclosed-returns-in_err-label
 enclosed-returns-in_err-label t c = answer_exit _ _ c.from_residual-in_err-label.result c.in_err-label.field-0.0 c.from_residual-in_err-label.ensures.1 (refused_then (read_tok c.args.depth.limit c.in_ok-begin.ensures) (refused_seq c.in_err-label.ensures))
 
-pub enclosed-returns-in_err-list : goal.enclosed-returns-in_err-list
-enclosed-returns-in_err-list t c = answer_exit _ _ c.from_residual-in_err-list.result c.in_err-list.field-0.0 c.from_residual-in_err-list.ensures.1 (refused_then (read_tok c.args.depth.limit c.in_ok-begin.ensures) (refused_then c.in_ok-label.ensures.read (refused_seq c.in_err-list.ensures)))
+pub enclosed-returns-in_err-label-2 : goal.enclosed-returns-in_err-label-2
+enclosed-returns-in_err-label-2 t c = answer_exit _ _ c.from_residual-in_err-label-2.result c.in_err-label-2.field-0.0 c.from_residual-in_err-label-2.ensures.1 (refused_then (read_tok c.args.depth.limit c.in_ok-begin.ensures) (refused_then c.in_ok-label.ensures.read (refused_seq (err_at _ _ c.in_err-label-2.ensures c.generate_items-list.ensures))))
 
-pub enclosed-returns-in_err-end : goal.enclosed-returns-in_err-end
-enclosed-returns-in_err-end t c = answer_exit _ _ c.from_residual-in_err-end.result c.in_err-end.field-0.0 c.from_residual-in_err-end.ensures.1 (refused_then (read_tok c.args.depth.limit c.in_ok-begin.ensures) (refused_then c.in_ok-label.ensures.read (refused_then c.in_ok-list.ensures.read (refused_missing c.in_err-end.ensures))))
+pub enclosed-returns-in_err-parts : goal.enclosed-returns-in_err-parts
+enclosed-returns-in_err-parts t c = answer_exit _ _ c.from_residual-in_err-parts.result c.in_err-parts.field-0.0 c.from_residual-in_err-parts.ensures.1 (refused_then (read_tok c.args.depth.limit c.in_ok-begin.ensures) (refused_then c.in_ok-label.ensures.read (refused_then (ok_at _ _ c.in_ok-label-2.ensures.1 c.generate_items-list.ensures).read (refused_missing (err_at _ _ c.in_err-parts.ensures c.take-end.ensures)))))
 
 pub enclosed-returns : goal.enclosed-returns
-enclosed-returns t c = parsed (read_seq (read_tok c.args.depth.limit c.in_ok-begin.ensures) (read_seq c.in_ok-label.ensures.read (read_seq c.in_ok-list.ensures.read (read_tok c.args.depth.limit c.in_ok-end.ensures)))) (ap2 (tree.Enclosed c.args.at) c.in_ok-label.ensures.made (items_made (bytes_in c.args.input.now) c.in_ok-list.ensures.tree _ c.in_ok-list.list.value.items c.new.ensures.items c.in_ok-list.ensures.made) ∙ sym c.new_enclosed-value.ensures)
+enclosed-returns t c = parsed (read_seq (read_tok c.args.depth.limit c.in_ok-begin.ensures) (read_seq c.in_ok-label.ensures.read (read_seq (ok_at _ _ c.in_ok-label-2.ensures.1 c.generate_items-list.ensures).read (read_tok c.args.depth.limit (ok_at _ _ c.in_ok-parts.ensures.1 c.take-end.ensures))))) (ap2 (tree.Enclosed c.args.at) c.in_ok-label.ensures.made (items_made (bytes_in c.args.input.now) (ok_at _ _ c.in_ok-label-2.ensures.1 c.generate_items-list.ensures).tree _ c.in_ok-label-2.list.value.items c.new.ensures.items (ok_at _ _ c.in_ok-label-2.ensures.1 c.generate_items-list.ensures).made) ∙ sym (rw (c.in_ok-parts.ensures.0, c.in_ok-label-2.ensures.0) at c.new_enclosed-value.ensures))
 
 pub generate_items-loop-depth-init : goal.generate_items-loop-depth-init
 generate_items-loop-depth-init t c = listing_start c.args.input.now (r rule.GenerateItem) meaning.item_of view.item c.args.depth.value c.args.before.items c.args.at c.args.depth.limit
 
-pub generate_items-returns-in_err-next : goal.generate_items-returns-in_err-next
-generate_items-returns-in_err-next t c = answer_exit _ _ c.from_residual.result c.in_err-next.field-0.0 c.from_residual.ensures.1 (refused_more c.loop-depth.invariant.grown (sym c.is_generate_item_at.ensures ∙ c.loop-depth-test.true) c.in_err-next.ensures)
+pub generate_items-returns-in_err-before : goal.generate_items-returns-in_err-before
+generate_items-returns-in_err-before t c = answer_exit _ _ c.from_residual.result c.in_err-before.field-0.0 c.from_residual.ensures.1 (refused_more c.loop-depth.invariant.grown (sym c.is_generate_item_at.ensures ∙ c.loop-depth-test.true) (err_at _ _ c.in_err-before.ensures c.generate_item-next.ensures))
 
-pub generate_items-returns-in_err-push : goal.generate_items-returns-in_err-push
-generate_items-returns-in_err-push t c = answer_exit _ _ c.from_residual-in_err-push.result Memory c.from_residual-in_err-push.ensures.1 out_of_memory
+pub generate_items-returns-in_err-list : goal.generate_items-returns-in_err-list
+generate_items-returns-in_err-list t c = answer_exit _ _ c.from_residual-in_err-list.result c.in_err-list.field-0.0 c.from_residual-in_err-list.ensures.1 (refused_memory c.in_err-list.ensures)
 
 pub generate_items-loop-depth-smaller : goal.generate_items-loop-depth-smaller
-generate_items-loop-depth-smaller t c = shorter c.in_ok-next.ensures.read refl
+generate_items-loop-depth-smaller t c = shorter (ok_at _ _ c.in_ok-before.ensures.1 c.generate_item-next.ensures).read refl
 
 pub generate_items-loop-depth-preserved : goal.generate_items-loop-depth-preserved
-generate_items-loop-depth-preserved t c = listing_more c.in_ok-next.next.value _ c.loop-depth.invariant (sym c.is_generate_item_at.ensures ∙ c.loop-depth-test.true) c.in_ok-next.ensures.read c.in_ok-next.ensures.made c.in_ok-push.ensures.items
+generate_items-loop-depth-preserved t c = listing_more c.in_ok-before.next.value _ c.loop-depth.invariant (sym c.is_generate_item_at.ensures ∙ c.loop-depth-test.true) (ok_at _ _ c.in_ok-before.ensures.1 c.generate_item-next.ensures).read (ok_at _ _ c.in_ok-before.ensures.1 c.generate_item-next.ensures).made (rw c.in_ok-before.ensures.0 at c.in_ok-list.ensures)
 
 pub generate_items-returns : goal.generate_items-returns
 generate_items-returns t c = listing_behind c.loop-depth.invariant (sym c.is_generate_item_at.ensures ∙ c.loop-depth-test.false)

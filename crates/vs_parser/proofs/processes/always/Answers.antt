@@ -1,5 +1,6 @@
 use Rattle.vs_grammar.specs.Trees as tree
 use Rattle.vs_statements.proofs.Places.{answer_exit, refused_seq, refused_then, refused_missing, read_tok, read_seq, parsed, ap2}
+use Rattle.vs_statements.proofs.Pairs.{ok_at, err_at}
 use Rattle.vs_parser.proofs.processes.always.Goals as goal
 
 pub returns-in_err-word : goal.returns-in_err-word
@@ -8,8 +9,8 @@ returns-in_err-word c = answer_exit _ _ c.from_residual.result c.in_err-word.fie
 pub returns-in_err-control : goal.returns-in_err-control
 returns-in_err-control c = answer_exit _ _ c.from_residual-in_err-control.result c.in_err-control.field-0.0 c.from_residual-in_err-control.ensures.1 (refused_then (read_tok c.args.depth.limit c.in_ok-word.ensures) (refused_seq c.in_err-control.ensures))
 
-pub returns-in_err-statement : goal.returns-in_err-statement
-returns-in_err-statement c = answer_exit _ _ c.from_residual-in_err-statement.result c.in_err-statement.field-0.0 c.from_residual-in_err-statement.ensures.1 (refused_then (read_tok c.args.depth.limit c.in_ok-word.ensures) (refused_then c.in_ok-control.ensures.read c.in_err-statement.ensures))
+pub returns-in_err-control-2 : goal.returns-in_err-control-2
+returns-in_err-control-2 c = answer_exit _ _ c.from_residual-in_err-control-2.result c.in_err-control-2.field-0.0 c.from_residual-in_err-control-2.ensures.1 (refused_then (read_tok c.args.depth.limit c.in_ok-word.ensures) (refused_then c.in_ok-control.ensures.read (err_at _ _ c.in_err-control-2.ensures c.statement-statement.ensures)))
 
 pub returns : goal.returns
-returns c = parsed (read_seq (read_tok c.args.depth.limit c.in_ok-word.ensures) (read_seq c.in_ok-control.ensures.read c.in_ok-statement.ensures.read)) (ap2 (λ x y. tree.AlwaysItem (record { place = c.args.at; control = x; statement = y })) c.in_ok-control.ensures.made c.in_ok-statement.ensures.made)
+returns c = rw c.in_ok-control-2.ensures.0 (parsed (read_seq (read_tok c.args.depth.limit c.in_ok-word.ensures) (read_seq c.in_ok-control.ensures.read (ok_at _ _ c.in_ok-control-2.ensures.1 c.statement-statement.ensures).read)) (ap2 (λ x y. tree.AlwaysItem (record { place = c.args.at; control = x; statement = y })) c.in_ok-control.ensures.made (ok_at _ _ c.in_ok-control-2.ensures.1 c.statement-statement.ensures).made))

@@ -1,4 +1,5 @@
 use Rattle.vs_statements.proofs.Places.{answer_exit, refused_seq, refused_then, refused_missing, read_tok, read_seq, parsed}
+use Rattle.vs_statements.proofs.Pairs.{ok_at, err_at}
 use Rattle.vs_parser.proofs.processes.bracketed_control.Goals as goal
 
 pub returns-in_err-open : goal.returns-in_err-open
@@ -7,8 +8,8 @@ returns-in_err-open c = answer_exit _ _ c.from_residual.result c.in_err-open.fie
 pub returns-in_err-control : goal.returns-in_err-control
 returns-in_err-control c = answer_exit _ _ c.from_residual-in_err-control.result c.in_err-control.field-0.0 c.from_residual-in_err-control.ensures.1 (refused_then (read_tok c.args.depth.limit c.in_ok-open.ensures) (refused_seq c.in_err-control.ensures))
 
-pub returns-in_err-close : goal.returns-in_err-close
-returns-in_err-close c = answer_exit _ _ c.from_residual-in_err-close.result c.in_err-close.field-0.0 c.from_residual-in_err-close.ensures.1 (refused_then (read_tok c.args.depth.limit c.in_ok-open.ensures) (refused_then c.in_ok-control.ensures.read (refused_missing c.in_err-close.ensures)))
+pub returns-in_err-control-2 : goal.returns-in_err-control-2
+returns-in_err-control-2 c = answer_exit _ _ c.from_residual-in_err-control-2.result c.in_err-control-2.field-0.0 c.from_residual-in_err-control-2.ensures.1 (refused_then (read_tok c.args.depth.limit c.in_ok-open.ensures) (refused_then c.in_ok-control.ensures.read (refused_missing (err_at _ _ c.in_err-control-2.ensures c.take-close.ensures))))
 
 pub returns : goal.returns
-returns c = parsed (read_seq (read_tok c.args.depth.limit c.in_ok-open.ensures) (read_seq c.in_ok-control.ensures.read (read_tok c.args.depth.limit c.in_ok-close.ensures))) (c.in_ok-control.ensures.made)
+returns c = rw c.in_ok-control-2.ensures.0 (parsed (read_seq (read_tok c.args.depth.limit c.in_ok-open.ensures) (read_seq c.in_ok-control.ensures.read (read_tok c.args.depth.limit (ok_at _ _ c.in_ok-control-2.ensures.1 c.take-close.ensures)))) (c.in_ok-control.ensures.made))

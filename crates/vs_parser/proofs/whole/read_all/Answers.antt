@@ -9,4 +9,4 @@ pub returns-then-found-input : goal.returns-then-found-input
 returns-then-found-input c = rest_fault c.requires.kept c.in_ok-found.ensures c.if-found-input.true
 
 pub returns : goal.returns
-returns c = text_read c.args.input.now.lexed c.requires.kept c.in_ok-found.ensures c.if-found-input.false
+returns c = text_read c.requires.kept c.in_ok-found.ensures c.if-found-input.false

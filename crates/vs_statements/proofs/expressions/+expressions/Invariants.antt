@@ -7,6 +7,9 @@ use Rattle.vs_statements.proofs.expressions.+expressions.Given as goal
 abbrev pub decreases-expression : goal.decreases-expression
 decreases-expression l = 32 * (201 - l.depth.value) + 20
 
+abbrev pub decreases-choice : goal.decreases-choice
+decreases-choice l = 32 * (201 - l.depth.value) + 21
+
 abbrev pub decreases-operations : goal.decreases-operations
 decreases-operations l = 32 * (201 - l.depth.value) + (4 + rank_of l.level)
 
@@ -27,6 +30,9 @@ decreases-brackets l = 32 * (201 - l.depth.value) + 1
 
 abbrev pub decreases-braces : goal.decreases-braces
 decreases-braces l = 32 * (201 - l.depth.value) + 1
+
+abbrev pub decreases-repeated : goal.decreases-repeated
+decreases-repeated l = 32 * (201 - l.depth.value) + 22
 
 abbrev pub decreases-call : goal.decreases-call
 decreases-call l = 32 * (201 - l.depth.value) + 1

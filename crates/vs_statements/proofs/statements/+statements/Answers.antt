@@ -7,7 +7,8 @@ use Rattle.vs_statements.specs.declared.error.ParseError.TheVariants.{Memory}
 use Rattle.vs_statements.specs.Parts as part
 use Rattle.vs_statements.specs.Reading.{bytes_in}
 use Rattle.vs_statements.specs.Reading.Refused.{out_of_memory}
-use Rattle.vs_statements.proofs.Places.{answer_exit, refused_kept, refused_var, refused_seq, refused_then, refused_missing, refused_level, refused_former, refused_latter, refused_more, refused_within, read_tok, read_eps, read_var, read_seq, read_level, read_former, read_latter, read_without, read_within, parsed, one_true, one_false, stood, ap2, ap3, ap5, answer_more}
+use Rattle.vs_statements.proofs.Pairs.{ok_at, err_at}
+use Rattle.vs_statements.proofs.Places.{answer_exit, refused_memory, refused_kept, refused_var, refused_seq, refused_then, refused_missing, refused_level, refused_former, refused_latter, refused_more, refused_within, read_tok, read_eps, read_var, read_seq, read_level, read_former, read_latter, read_without, read_within, parsed, one_true, one_false, stood, ap2, ap3, ap5, answer_more}
 use Rattle.vs_statements.proofs.Firsts.{too_deep_first, stopped_first}
 use Rattle.vs_statements.proofs.Tables.{read_chosen}
 use Rattle.vs_statements.proofs.Lists.{shorter, listing_start, listing_more, listing_done, pushed_first, listing_from, listing_behind}
@@ -48,20 +49,20 @@ conditional-returns-in_err-open t c = answer_exit _ _ c.from_residual-in_err-ope
 pub conditional-returns-in_err-condition : goal.conditional-returns-in_err-condition
 conditional-returns-in_err-condition t c = answer_exit _ _ c.from_residual-in_err-condition.result c.in_err-condition.field-0.0 c.from_residual-in_err-condition.ensures.1 (refused_then (read_tok c.args.depth.limit c.in_ok-word.ensures) (refused_then (read_tok c.args.depth.limit c.in_ok-open.ensures) (refused_seq c.in_err-condition.ensures)))
 
-pub conditional-returns-in_err-close : goal.conditional-returns-in_err-close
-conditional-returns-in_err-close t c = answer_exit _ _ c.from_residual-in_err-close.result c.in_err-close.field-0.0 c.from_residual-in_err-close.ensures.1 (refused_then (read_tok c.args.depth.limit c.in_ok-word.ensures) (refused_then (read_tok c.args.depth.limit c.in_ok-open.ensures) (refused_then c.in_ok-condition.ensures.read (refused_seq (refused_missing c.in_err-close.ensures)))))
+pub conditional-returns-in_err-condition-2 : goal.conditional-returns-in_err-condition-2
+conditional-returns-in_err-condition-2 t c = answer_exit _ _ c.from_residual-in_err-condition-2.result c.in_err-condition-2.field-0.0 c.from_residual-in_err-condition-2.ensures.1 (refused_then (read_tok c.args.depth.limit c.in_ok-word.ensures) (refused_then (read_tok c.args.depth.limit c.in_ok-open.ensures) (refused_then c.in_ok-condition.ensures.read (refused_seq (refused_missing (err_at _ _ c.in_err-condition-2.ensures c.take-close.ensures))))))
 
-pub conditional-returns-in_err-taken : goal.conditional-returns-in_err-taken
-conditional-returns-in_err-taken t c = answer_exit _ _ c.from_residual-in_err-taken.result c.in_err-taken.field-0.0 c.from_residual-in_err-taken.ensures.1 (refused_then (read_tok c.args.depth.limit c.in_ok-word.ensures) (refused_then (read_tok c.args.depth.limit c.in_ok-open.ensures) (refused_then c.in_ok-condition.ensures.read (refused_then (read_tok c.args.depth.limit c.in_ok-close.ensures) (refused_seq c.in_err-taken.ensures)))))
+pub conditional-returns-in_err-condition-3 : goal.conditional-returns-in_err-condition-3
+conditional-returns-in_err-condition-3 t c = answer_exit _ _ c.from_residual-in_err-condition-3.result c.in_err-condition-3.field-0.0 c.from_residual-in_err-condition-3.ensures.1 (refused_then (read_tok c.args.depth.limit c.in_ok-word.ensures) (refused_then (read_tok c.args.depth.limit c.in_ok-open.ensures) (refused_then c.in_ok-condition.ensures.read (refused_then (read_tok c.args.depth.limit (ok_at _ _ c.in_ok-condition-2.ensures.1 c.take-close.ensures)) (refused_seq (err_at _ _ c.in_err-condition-3.ensures c.statement-taken.ensures))))))
 
-pub conditional-returns-in_err-other : goal.conditional-returns-in_err-other
-conditional-returns-in_err-other t c = answer_exit _ _ c.from_residual-in_err-other.result c.in_err-other.field-0.0 c.from_residual-in_err-other.ensures.1 (refused_then (read_tok c.args.depth.limit c.in_ok-word.ensures) (refused_then (read_tok c.args.depth.limit c.in_ok-open.ensures) (refused_then c.in_ok-condition.ensures.read (refused_then (read_tok c.args.depth.limit c.in_ok-close.ensures) (refused_then c.in_ok-taken.ensures.read c.in_err-other.ensures)))))
+pub conditional-returns-in_err-branch : goal.conditional-returns-in_err-branch
+conditional-returns-in_err-branch t c = answer_exit _ _ c.from_residual-in_err-branch.result c.in_err-branch.field-0.0 c.from_residual-in_err-branch.ensures.1 (refused_then (read_tok c.args.depth.limit c.in_ok-word.ensures) (refused_then (read_tok c.args.depth.limit c.in_ok-open.ensures) (refused_then c.in_ok-condition.ensures.read (refused_then (read_tok c.args.depth.limit (ok_at _ _ c.in_ok-condition-2.ensures.1 c.take-close.ensures)) (refused_then (ok_at _ _ c.in_ok-condition-3.ensures.1 c.statement-taken.ensures).read (err_at _ _ c.in_err-branch.ensures c.alternative-other.ensures))))))
 
 pub conditional-returns-in_err-value : goal.conditional-returns-in_err-value
-conditional-returns-in_err-value t c = answer_exit _ _ c.from_residual-in_err-value.result Memory c.from_residual-in_err-value.ensures.1 out_of_memory
+conditional-returns-in_err-value t c = answer_exit _ _ c.from_residual-in_err-value.result Memory c.from_residual-in_err-value.ensures.1 (out_of_memory)
 
 pub conditional-returns : goal.conditional-returns
-conditional-returns t c = parsed (read_seq (read_tok c.args.depth.limit c.in_ok-word.ensures) (read_seq (read_tok c.args.depth.limit c.in_ok-open.ensures) (read_seq c.in_ok-condition.ensures.read (read_seq (read_tok c.args.depth.limit c.in_ok-close.ensures) (read_seq c.in_ok-taken.ensures.read c.in_ok-other.ensures.read))))) (ap3 (tree.If c.args.at) c.in_ok-condition.ensures.made c.in_ok-taken.ensures.made c.in_ok-other.ensures.made ∙ sym c.in_ok-value.ensures)
+conditional-returns t c = parsed (read_seq (read_tok c.args.depth.limit c.in_ok-word.ensures) (read_seq (read_tok c.args.depth.limit c.in_ok-open.ensures) (read_seq c.in_ok-condition.ensures.read (read_seq (read_tok c.args.depth.limit (ok_at _ _ c.in_ok-condition-2.ensures.1 c.take-close.ensures)) (read_seq (ok_at _ _ c.in_ok-condition-3.ensures.1 c.statement-taken.ensures).read (ok_at _ _ c.in_ok-branch.ensures.1 c.alternative-other.ensures).read))))) (ap3 (tree.If c.args.at) c.in_ok-condition.ensures.made (ok_at _ _ c.in_ok-condition-3.ensures.1 c.statement-taken.ensures).made (ok_at _ _ c.in_ok-branch.ensures.1 c.alternative-other.ensures).made ∙ sym (rw (c.in_ok-branch.ensures.0, c.in_ok-condition-3.ensures.0, c.in_ok-condition-2.ensures.0) at c.in_ok-value.ensures))
 
 pub alternative-returns-then-not-stands : goal.alternative-returns-then-not-stands
 alternative-returns-then-not-stands t c = parsed (read_without 27 c.args.depth.limit (sym c.stands.ensures ∙ c.if-not-stands.true)) refl
@@ -82,28 +83,28 @@ pub sequence-returns-in_err-label : goal.sequence-returns-in_err-label
 sequence-returns-in_err-label t c = answer_exit _ _ c.from_residual-in_err-label.result c.in_err-label.field-0.0 c.from_residual-in_err-label.ensures.1 (refused_then (read_tok c.args.depth.limit c.in_ok-begin.ensures) (refused_seq c.in_err-label.ensures))
 
 pub sequence-returns-in_err-parts : goal.sequence-returns-in_err-parts
-sequence-returns-in_err-parts t c = answer_exit _ _ c.from_residual-in_err-parts.result c.in_err-parts.field-0.0 c.from_residual-in_err-parts.ensures.1 (refused_then (read_tok c.args.depth.limit c.in_ok-begin.ensures) (refused_then c.in_ok-label.ensures.read (refused_seq c.in_err-parts.ensures)))
+sequence-returns-in_err-parts t c = answer_exit _ _ c.from_residual-in_err-parts.result c.in_err-parts.field-0.0 c.from_residual-in_err-parts.ensures.1 (refused_then (read_tok c.args.depth.limit c.in_ok-begin.ensures) (refused_then c.in_ok-label.ensures.read (refused_seq (rw c.passed.ensures at c.in_err-parts.ensures))))
 
-pub sequence-returns-in_err-end : goal.sequence-returns-in_err-end
-sequence-returns-in_err-end t c = answer_exit _ _ c.from_residual-in_err-end.result c.in_err-end.field-0.0 c.from_residual-in_err-end.ensures.1 (refused_then (read_tok c.args.depth.limit c.in_ok-begin.ensures) (refused_then c.in_ok-label.ensures.read (refused_then c.in_ok-parts.ensures.read (refused_missing c.in_err-end.ensures))))
+pub sequence-returns-in_err-parts-2 : goal.sequence-returns-in_err-parts-2
+sequence-returns-in_err-parts-2 t c = answer_exit _ _ c.from_residual-in_err-parts-2.result c.in_err-parts-2.field-0.0 c.from_residual-in_err-parts-2.ensures.1 (let s = rw c.passed.ensures at c.in_ok-parts.ensures in refused_then (read_tok c.args.depth.limit c.in_ok-begin.ensures) (refused_then c.in_ok-label.ensures.read (refused_then s.read (refused_missing (err_at _ _ c.in_err-parts-2.ensures c.take-end.ensures)))))
 
 pub sequence-returns : goal.sequence-returns
-sequence-returns t c = parsed (read_seq (read_tok c.args.depth.limit c.in_ok-begin.ensures) (read_seq c.in_ok-label.ensures.read (read_seq c.in_ok-parts.ensures.read (read_tok c.args.depth.limit c.in_ok-end.ensures)))) (ap (λ z. tree.Sequence c.args.at z) (statements_made (bytes_in c.args.input.now) c.in_ok-parts.ensures.tree c.in_ok-parts.parts.value.items c.in_ok-parts.ensures.made) ∙ sym c.new_sequence-value.ensures)
+sequence-returns t c = let s = rw c.passed.ensures at c.in_ok-parts.ensures in parsed (read_seq (read_tok c.args.depth.limit c.in_ok-begin.ensures) (read_seq c.in_ok-label.ensures.read (read_seq s.read (read_tok c.args.depth.limit (ok_at _ _ c.in_ok-parts-2.ensures.1 c.take-end.ensures))))) (ap (λ z. tree.Sequence c.args.at z) (statements_made (bytes_in c.args.input.now) s.tree c.in_ok-parts.parts.value.items s.made) ∙ sym (rw c.in_ok-parts-2.ensures.0 at c.new_sequence-value.ensures))
 
 pub statements-loop-depth-init : goal.statements-loop-depth-init
 statements-loop-depth-init t c = listing_from (r rule.Statement) meaning.statement_of view.statement c.args.input.now _ c.args.at c.args.depth.limit c.new-list.ensures.items
 
-pub statements-returns-in_err-next : goal.statements-returns-in_err-next
-statements-returns-in_err-next t c = answer_exit _ _ c.from_residual.result c.in_err-next.field-0.0 c.from_residual.ensures.1 (refused_more c.loop-depth.invariant.grown (sym c.is_statement_at.ensures ∙ c.loop-depth-test.true) c.in_err-next.ensures)
+pub statements-returns-in_err-before : goal.statements-returns-in_err-before
+statements-returns-in_err-before t c = answer_exit _ _ c.from_residual.result c.in_err-before.field-0.0 c.from_residual.ensures.1 (refused_more c.loop-depth.invariant.grown (sym c.is_statement_at.ensures ∙ c.loop-depth-test.true) (err_at _ _ c.in_err-before.ensures c.statement-next.ensures))
 
-pub statements-returns-in_err-push : goal.statements-returns-in_err-push
-statements-returns-in_err-push t c = answer_exit _ _ c.from_residual-in_err-push.result Memory c.from_residual-in_err-push.ensures.1 out_of_memory
+pub statements-returns-in_err-list : goal.statements-returns-in_err-list
+statements-returns-in_err-list t c = answer_exit _ _ c.from_residual-in_err-list.result c.in_err-list.field-0.0 c.from_residual-in_err-list.ensures.1 (refused_memory c.in_err-list.ensures)
 
 pub statements-loop-depth-smaller : goal.statements-loop-depth-smaller
-statements-loop-depth-smaller t c = shorter c.in_ok-next.ensures.read refl
+statements-loop-depth-smaller t c = shorter (ok_at _ _ c.in_ok-before.ensures.1 c.statement-next.ensures).read refl
 
 pub statements-loop-depth-preserved : goal.statements-loop-depth-preserved
-statements-loop-depth-preserved t c = listing_more c.in_ok-next.next.value _ c.loop-depth.invariant (sym c.is_statement_at.ensures ∙ c.loop-depth-test.true) c.in_ok-next.ensures.read c.in_ok-next.ensures.made c.in_ok-push.ensures.items
+statements-loop-depth-preserved t c = listing_more c.in_ok-before.next.value _ c.loop-depth.invariant (sym c.is_statement_at.ensures ∙ c.loop-depth-test.true) (ok_at _ _ c.in_ok-before.ensures.1 c.statement-next.ensures).read (ok_at _ _ c.in_ok-before.ensures.1 c.statement-next.ensures).made (rw c.in_ok-before.ensures.0 at c.in_ok-list.ensures)
 
 pub statements-returns : goal.statements-returns
 statements-returns t c = listing_done c.loop-depth.invariant (sym c.is_statement_at.ensures ∙ c.loop-depth-test.false)
@@ -111,17 +112,17 @@ statements-returns t c = listing_done c.loop-depth.invariant (sym c.is_statement
 pub case_arms-loop-depth-init : goal.case_arms-loop-depth-init
 case_arms-loop-depth-init t c = listing_start c.args.input.now (r rule.CaseItem) part.arm_of part.arm_view c.args.depth.value c.args.before.items c.args.at c.args.depth.limit
 
-pub case_arms-returns-in_err-next : goal.case_arms-returns-in_err-next
-case_arms-returns-in_err-next t c = answer_exit _ _ c.from_residual.result c.in_err-next.field-0.0 c.from_residual.ensures.1 (refused_more c.loop-depth.invariant.grown (sym c.is_expression_at.ensures ∙ c.loop-depth-test.true) c.in_err-next.ensures)
+pub case_arms-returns-in_err-before : goal.case_arms-returns-in_err-before
+case_arms-returns-in_err-before t c = answer_exit _ _ c.from_residual.result c.in_err-before.field-0.0 c.from_residual.ensures.1 (refused_more c.loop-depth.invariant.grown (sym c.is_expression_at.ensures ∙ c.loop-depth-test.true) (err_at _ _ c.in_err-before.ensures c.case_arm-next.ensures))
 
-pub case_arms-returns-in_err-push : goal.case_arms-returns-in_err-push
-case_arms-returns-in_err-push t c = answer_exit _ _ c.from_residual-in_err-push.result Memory c.from_residual-in_err-push.ensures.1 out_of_memory
+pub case_arms-returns-in_err-list : goal.case_arms-returns-in_err-list
+case_arms-returns-in_err-list t c = answer_exit _ _ c.from_residual-in_err-list.result c.in_err-list.field-0.0 c.from_residual-in_err-list.ensures.1 (refused_memory c.in_err-list.ensures)
 
 pub case_arms-loop-depth-smaller : goal.case_arms-loop-depth-smaller
-case_arms-loop-depth-smaller t c = shorter c.in_ok-next.ensures.read refl
+case_arms-loop-depth-smaller t c = shorter (ok_at _ _ c.in_ok-before.ensures.1 c.case_arm-next.ensures).read refl
 
 pub case_arms-loop-depth-preserved : goal.case_arms-loop-depth-preserved
-case_arms-loop-depth-preserved t c = listing_more c.in_ok-next.next.value _ c.loop-depth.invariant (sym c.is_expression_at.ensures ∙ c.loop-depth-test.true) c.in_ok-next.ensures.read c.in_ok-next.ensures.made c.in_ok-push.ensures.items
+case_arms-loop-depth-preserved t c = listing_more c.in_ok-before.next.value _ c.loop-depth.invariant (sym c.is_expression_at.ensures ∙ c.loop-depth-test.true) (ok_at _ _ c.in_ok-before.ensures.1 c.case_arm-next.ensures).read (ok_at _ _ c.in_ok-before.ensures.1 c.case_arm-next.ensures).made (rw c.in_ok-before.ensures.0 at c.in_ok-list.ensures)
 
 pub case_arms-returns : goal.case_arms-returns
 case_arms-returns t c = listing_behind c.loop-depth.invariant (sym c.is_expression_at.ensures ∙ c.loop-depth-test.false)
@@ -135,32 +136,32 @@ case-returns-in_err-open t c = answer_exit _ _ c.from_residual.result c.in_err-o
 pub case-returns-in_err-subject : goal.case-returns-in_err-subject
 case-returns-in_err-subject t c = answer_exit _ _ c.from_residual-in_err-subject.result c.in_err-subject.field-0.0 c.from_residual-in_err-subject.ensures.1 (refused_then (read_chosen c.args.depth.limit c.in-Some.ensures) (refused_then (read_tok c.args.depth.limit c.in_ok-open.ensures) (refused_seq c.in_err-subject.ensures)))
 
-pub case-returns-in_err-close : goal.case-returns-in_err-close
-case-returns-in_err-close t c = answer_exit _ _ c.from_residual-in_err-close.result c.in_err-close.field-0.0 c.from_residual-in_err-close.ensures.1 (refused_then (read_chosen c.args.depth.limit c.in-Some.ensures) (refused_then (read_tok c.args.depth.limit c.in_ok-open.ensures) (refused_then c.in_ok-subject.ensures.read (refused_seq (refused_missing c.in_err-close.ensures)))))
+pub case-returns-in_err-subject-2 : goal.case-returns-in_err-subject-2
+case-returns-in_err-subject-2 t c = answer_exit _ _ c.from_residual-in_err-subject-2.result c.in_err-subject-2.field-0.0 c.from_residual-in_err-subject-2.ensures.1 (refused_then (read_chosen c.args.depth.limit c.in-Some.ensures) (refused_then (read_tok c.args.depth.limit c.in_ok-open.ensures) (refused_then c.in_ok-subject.ensures.read (refused_seq (refused_missing (err_at _ _ c.in_err-subject-2.ensures c.take-close.ensures))))))
 
-pub case-returns-in_err-cases : goal.case-returns-in_err-cases
-case-returns-in_err-cases t c = answer_exit _ _ c.from_residual-in_err-cases.result c.in_err-cases.field-0.0 c.from_residual-in_err-cases.ensures.1 (refused_then (read_chosen c.args.depth.limit c.in-Some.ensures) (refused_then (read_tok c.args.depth.limit c.in_ok-open.ensures) (refused_then c.in_ok-subject.ensures.read (refused_then (read_tok c.args.depth.limit c.in_ok-close.ensures) (refused_seq c.in_err-cases.ensures)))))
+pub case-returns-in_err-subject-3 : goal.case-returns-in_err-subject-3
+case-returns-in_err-subject-3 t c = answer_exit _ _ c.from_residual-in_err-subject-3.result c.in_err-subject-3.field-0.0 c.from_residual-in_err-subject-3.ensures.1 (refused_then (read_chosen c.args.depth.limit c.in-Some.ensures) (refused_then (read_tok c.args.depth.limit c.in_ok-open.ensures) (refused_then c.in_ok-subject.ensures.read (refused_then (read_tok c.args.depth.limit (ok_at _ _ c.in_ok-subject-2.ensures.1 c.take-close.ensures)) (refused_seq (err_at _ _ c.in_err-subject-3.ensures c.cases-cases.ensures))))))
 
-pub case-returns-in_err-end : goal.case-returns-in_err-end
-case-returns-in_err-end t c = answer_exit _ _ c.from_residual-in_err-end.result c.in_err-end.field-0.0 c.from_residual-in_err-end.ensures.1 (refused_then (read_chosen c.args.depth.limit c.in-Some.ensures) (refused_then (read_tok c.args.depth.limit c.in_ok-open.ensures) (refused_then c.in_ok-subject.ensures.read (refused_then (read_tok c.args.depth.limit c.in_ok-close.ensures) (refused_then c.in_ok-cases.ensures.read (refused_missing c.in_err-end.ensures))))))
+pub case-returns-in_err-parts : goal.case-returns-in_err-parts
+case-returns-in_err-parts t c = answer_exit _ _ c.from_residual-in_err-parts.result c.in_err-parts.field-0.0 c.from_residual-in_err-parts.ensures.1 (refused_then (read_chosen c.args.depth.limit c.in-Some.ensures) (refused_then (read_tok c.args.depth.limit c.in_ok-open.ensures) (refused_then c.in_ok-subject.ensures.read (refused_then (read_tok c.args.depth.limit (ok_at _ _ c.in_ok-subject-2.ensures.1 c.take-close.ensures)) (refused_then (ok_at _ _ c.in_ok-subject-3.ensures.1 c.cases-cases.ensures).read (refused_missing (err_at _ _ c.in_err-parts.ensures c.take-end.ensures)))))))
 
 pub case-returns-in_err-value : goal.case-returns-in_err-value
-case-returns-in_err-value t c = answer_exit _ _ c.from_residual-in_err-value.result Memory c.from_residual-in_err-value.ensures.1 out_of_memory
+case-returns-in_err-value t c = answer_exit _ _ c.from_residual-in_err-value.result Memory c.from_residual-in_err-value.ensures.1 (out_of_memory)
 
 pub case-returns : goal.case-returns
-case-returns t c = parsed (read_seq (read_chosen c.args.depth.limit c.in-Some.ensures) (read_seq (read_tok c.args.depth.limit c.in_ok-open.ensures) (read_seq c.in_ok-subject.ensures.read (read_seq (read_tok c.args.depth.limit c.in_ok-close.ensures) (read_seq c.in_ok-cases.ensures.read (read_tok c.args.depth.limit c.in_ok-end.ensures)))))) (ap5 tree.Case c.in-Some.ensures.first c.in-Some.ensures.made c.in_ok-subject.ensures.made (ap (λ z. z.0) c.in_ok-cases.ensures.made) (ap (λ z. z.1) c.in_ok-cases.ensures.made) ∙ sym c.in_ok-value.ensures)
+case-returns t c = parsed (read_seq (read_chosen c.args.depth.limit c.in-Some.ensures) (read_seq (read_tok c.args.depth.limit c.in_ok-open.ensures) (read_seq c.in_ok-subject.ensures.read (read_seq (read_tok c.args.depth.limit (ok_at _ _ c.in_ok-subject-2.ensures.1 c.take-close.ensures)) (read_seq (ok_at _ _ c.in_ok-subject-3.ensures.1 c.cases-cases.ensures).read (read_tok c.args.depth.limit (ok_at _ _ c.in_ok-parts.ensures.1 c.take-end.ensures))))))) (ap5 tree.Case c.in-Some.ensures.first c.in-Some.ensures.made c.in_ok-subject.ensures.made (ap (λ z. z.0) (ok_at _ _ c.in_ok-subject-3.ensures.1 c.cases-cases.ensures).made) (ap (λ z. z.1) (ok_at _ _ c.in_ok-subject-3.ensures.1 c.cases-cases.ensures).made) ∙ sym (rw (c.in_ok-parts.ensures.0, c.in_ok-subject-3.ensures.0, c.in_ok-subject-2.ensures.0) at c.in_ok-value.ensures))
 
 pub case_arm-returns-in_err-labels : goal.case_arm-returns-in_err-labels
 case_arm-returns-in_err-labels t c = answer_exit _ _ c.from_residual.result c.in_err-labels.field-0.0 c.from_residual.ensures.1 (refused_var (refused_seq c.in_err-labels.ensures))
 
-pub case_arm-returns-in_err-colon : goal.case_arm-returns-in_err-colon
-case_arm-returns-in_err-colon t c = answer_exit _ _ c.from_residual-in_err-colon.result c.in_err-colon.field-0.0 c.from_residual-in_err-colon.ensures.1 (refused_var (refused_then c.in_ok-labels.ensures.read (refused_seq (refused_missing c.in_err-colon.ensures))))
+pub case_arm-returns-in_err-labels-2 : goal.case_arm-returns-in_err-labels-2
+case_arm-returns-in_err-labels-2 t c = answer_exit _ _ c.from_residual-in_err-labels-2.result c.in_err-labels-2.field-0.0 c.from_residual-in_err-labels-2.ensures.1 (refused_var (refused_then c.in_ok-labels.ensures.read (refused_seq (refused_missing (err_at _ _ c.in_err-labels-2.ensures c.take-colon.ensures)))))
 
-pub case_arm-returns-in_err-statement : goal.case_arm-returns-in_err-statement
-case_arm-returns-in_err-statement t c = answer_exit _ _ c.from_residual-in_err-statement.result c.in_err-statement.field-0.0 c.from_residual-in_err-statement.ensures.1 (refused_var (refused_then c.in_ok-labels.ensures.read (refused_then (read_tok c.args.depth.limit c.in_ok-colon.ensures) c.in_err-statement.ensures)))
+pub case_arm-returns-in_err-labels-3 : goal.case_arm-returns-in_err-labels-3
+case_arm-returns-in_err-labels-3 t c = answer_exit _ _ c.from_residual-in_err-labels-3.result c.in_err-labels-3.field-0.0 c.from_residual-in_err-labels-3.ensures.1 (refused_var (refused_then c.in_ok-labels.ensures.read (refused_then (read_tok c.args.depth.limit (ok_at _ _ c.in_ok-labels-2.ensures.1 c.take-colon.ensures)) (err_at _ _ c.in_err-labels-3.ensures c.statement-statement.ensures))))
 
 pub case_arm-returns : goal.case_arm-returns
-case_arm-returns t c = parsed (read_var (read_seq c.in_ok-labels.ensures.read (read_seq (read_tok c.args.depth.limit c.in_ok-colon.ensures) c.in_ok-statement.ensures.read))) (ap2 (λ x y. (x, y)) c.in_ok-labels.ensures.made c.in_ok-statement.ensures.made)
+case_arm-returns t c = rw (c.in_ok-labels-3.ensures.0, c.in_ok-labels-2.ensures.0) (parsed (read_var (read_seq c.in_ok-labels.ensures.read (read_seq (read_tok c.args.depth.limit (ok_at _ _ c.in_ok-labels-2.ensures.1 c.take-colon.ensures)) (ok_at _ _ c.in_ok-labels-3.ensures.1 c.statement-statement.ensures).read))) (ap2 (λ x y. (x, y)) c.in_ok-labels.ensures.made (ok_at _ _ c.in_ok-labels-3.ensures.1 c.statement-statement.ensures).made))
 
 pub case_default-returns-in_err-word : goal.case_default-returns-in_err-word
 case_default-returns-in_err-word t c = answer_exit _ _ c.from_residual.result c.in_err-word.field-0.0 c.from_residual.ensures.1 (refused_var (refused_seq (refused_missing c.in_err-word.ensures)))
@@ -174,29 +175,29 @@ case_default-returns t c = parsed (read_var (read_seq (read_tok c.args.depth.lim
 pub cases-returns-in_err-other : goal.cases-returns-in_err-other
 cases-returns-in_err-other t c = answer_exit _ _ c.from_residual.result c.in_err-other.field-0.0 c.from_residual.ensures.1 (refused_var (refused_former (one_true _ c.stands.result c.stands.ensures c.if-stands.true) (refused_seq c.in_err-other.ensures)))
 
-pub cases-returns-in_err-list : goal.cases-returns-in_err-list
-cases-returns-in_err-list t c = answer_exit _ _ c.from_residual-in_err-list.result c.in_err-list.field-0.0 c.from_residual-in_err-list.ensures.1 (refused_var (refused_former (one_true _ c.stands.result c.stands.ensures c.if-stands.true) (refused_then c.in_ok-other.ensures.read c.in_err-list.ensures)))
+pub cases-returns-in_err-other-2 : goal.cases-returns-in_err-other-2
+cases-returns-in_err-other-2 t c = answer_exit _ _ c.from_residual-in_err-other-2.result c.in_err-other-2.field-0.0 c.from_residual-in_err-other-2.ensures.1 (refused_var (refused_former (one_true _ c.stands.result c.stands.ensures c.if-stands.true) (refused_then c.in_ok-other.ensures.read (err_at _ _ c.in_err-other-2.ensures c.case_arms-list.ensures))))
 
 pub cases-returns-then-stands : goal.cases-returns-then-stands
-cases-returns-then-stands t c = parsed (read_var (read_former (one_true _ c.stands.result c.stands.ensures c.if-stands.true) (read_seq c.in_ok-other.ensures.read c.in_ok-list.ensures.read))) (default_first (bytes_in c.args.input.now) c.in_ok-other.ensures.tree c.in_ok-list.ensures.tree _ c.in_ok-list.list.value.items c.in_ok-other.other.value c.in_ok-other.ensures.made c.new.ensures.items c.in_ok-list.ensures.made)
+cases-returns-then-stands t c = rw c.in_ok-other-2.ensures.0 (parsed (read_var (read_former (one_true _ c.stands.result c.stands.ensures c.if-stands.true) (read_seq c.in_ok-other.ensures.read (ok_at _ _ c.in_ok-other-2.ensures.1 c.case_arms-list.ensures).read))) (default_first (bytes_in c.args.input.now) c.in_ok-other.ensures.tree (ok_at _ _ c.in_ok-other-2.ensures.1 c.case_arms-list.ensures).tree _ c.in_ok-other-2.list.value.items c.in_ok-other.other.value c.in_ok-other.ensures.made c.new.ensures.items (ok_at _ _ c.in_ok-other-2.ensures.1 c.case_arms-list.ensures).made))
 
 pub cases-returns-in_err-first : goal.cases-returns-in_err-first
 cases-returns-in_err-first t c = answer_exit _ _ c.from_residual-in_err-first.result c.in_err-first.field-0.0 c.from_residual-in_err-first.ensures.1 (refused_var (refused_latter (one_false _ c.stands.result c.stands.ensures c.if-stands.false) (refused_seq c.in_err-first.ensures)))
 
-pub cases-returns-in_err-push : goal.cases-returns-in_err-push
-cases-returns-in_err-push t c = answer_exit _ _ c.from_residual-in_err-push.result Memory c.from_residual-in_err-push.ensures.1 out_of_memory
+pub cases-returns-in_err-start : goal.cases-returns-in_err-start
+cases-returns-in_err-start t c = answer_exit _ _ c.from_residual-in_err-start.result c.in_err-start.field-0.0 c.from_residual-in_err-start.ensures.1 (refused_memory c.in_err-start.ensures)
 
 pub cases-returns-in_err-before : goal.cases-returns-in_err-before
 cases-returns-in_err-before t c = answer_exit _ _ c.from_residual-in_err-before.result c.in_err-before.field-0.0 c.from_residual-in_err-before.ensures.1 (refused_var (refused_latter (one_false _ c.stands.result c.stands.ensures c.if-stands.false) (refused_then c.in_ok-first.ensures.read (refused_seq c.in_err-before.ensures))))
 
 pub cases-returns-then-not-stands : goal.cases-returns-then-not-stands
-cases-returns-then-not-stands t c = parsed (read_var (read_latter (one_false _ c.stands.result c.stands.ensures c.if-stands.false) (read_seq c.in_ok-first.ensures.read (read_seq c.in_ok-before.ensures.read (read_latter (one_false _ c.stands-2.result c.stands-2.ensures c.if-not-stands.true) (read_eps c.args.input.now.tokens.now _ c.in_ok-before.before.to c.args.depth.limit)))))) (arms_alone (bytes_in c.args.input.now) c.in_ok-first.ensures.tree c.in_ok-before.ensures.tree nothing c.in_ok-first.first.value _ c.in_ok-before.before.value.items c.in_ok-first.ensures.made (pushed_first c.new-start.ensures.items c.in_ok-push.ensures.items) c.in_ok-before.ensures.made)
+cases-returns-then-not-stands t c = parsed (read_var (read_latter (one_false _ c.stands.result c.stands.ensures c.if-stands.false) (read_seq c.in_ok-first.ensures.read (read_seq c.in_ok-before.ensures.read (read_latter (one_false _ c.stands-2.result c.stands-2.ensures c.if-not-stands.true) (read_eps c.args.input.now.tokens.now _ c.in_ok-before.before.to c.args.depth.limit)))))) (arms_alone (bytes_in c.args.input.now) c.in_ok-first.ensures.tree c.in_ok-before.ensures.tree nothing c.in_ok-first.first.value _ c.in_ok-before.before.value.items c.in_ok-first.ensures.made c.in_ok-start.ensures c.in_ok-before.ensures.made)
+
+pub cases-returns-in_err-before-2 : goal.cases-returns-in_err-before-2
+cases-returns-in_err-before-2 t c = answer_exit _ _ c.from_residual-in_err-before-2.result c.in_err-before-2.field-0.0 c.from_residual-in_err-before-2.ensures.1 (refused_var (refused_latter (one_false _ c.stands.result c.stands.ensures c.if-stands.false) (refused_then c.in_ok-first.ensures.read (refused_then c.in_ok-before.ensures.read (refused_former (one_true _ c.stands-2.result c.stands-2.ensures c.if-not-stands.false) (refused_seq (err_at _ _ c.in_err-before-2.ensures c.case_default-default.ensures)))))))
 
 pub cases-returns-in_err-default : goal.cases-returns-in_err-default
-cases-returns-in_err-default t c = answer_exit _ _ c.from_residual-in_err-default.result c.in_err-default.field-0.0 c.from_residual-in_err-default.ensures.1 (refused_var (refused_latter (one_false _ c.stands.result c.stands.ensures c.if-stands.false) (refused_then c.in_ok-first.ensures.read (refused_then c.in_ok-before.ensures.read (refused_former (one_true _ c.stands-2.result c.stands-2.ensures c.if-not-stands.false) (refused_seq c.in_err-default.ensures))))))
-
-pub cases-returns-in_err-arms : goal.cases-returns-in_err-arms
-cases-returns-in_err-arms t c = answer_exit _ _ c.from_residual-in_err-arms.result c.in_err-arms.field-0.0 c.from_residual-in_err-arms.ensures.1 (refused_var (refused_latter (one_false _ c.stands.result c.stands.ensures c.if-stands.false) (refused_then c.in_ok-first.ensures.read (refused_then c.in_ok-before.ensures.read (refused_former (one_true _ c.stands-2.result c.stands-2.ensures c.if-not-stands.false) (refused_then c.in_ok-default.ensures.read c.in_err-arms.ensures))))))
+cases-returns-in_err-default t c = answer_exit _ _ c.from_residual-in_err-default.result c.in_err-default.field-0.0 c.from_residual-in_err-default.ensures.1 (refused_var (refused_latter (one_false _ c.stands.result c.stands.ensures c.if-stands.false) (refused_then c.in_ok-first.ensures.read (refused_then c.in_ok-before.ensures.read (refused_former (one_true _ c.stands-2.result c.stands-2.ensures c.if-not-stands.false) (refused_then (ok_at _ _ c.in_ok-before-2.ensures.1 c.case_default-default.ensures).read (err_at _ _ c.in_err-default.ensures c.case_arms-arms.ensures)))))))
 
 pub cases-returns : goal.cases-returns
-cases-returns t c = parsed (read_var (read_latter (one_false _ c.stands.result c.stands.ensures c.if-stands.false) (read_seq c.in_ok-first.ensures.read (read_seq c.in_ok-before.ensures.read (read_former (one_true _ c.stands-2.result c.stands-2.ensures c.if-not-stands.false) (read_seq c.in_ok-default.ensures.read c.in_ok-arms.ensures.read)))))) (arms_around (bytes_in c.args.input.now) c.in_ok-first.ensures.tree c.in_ok-before.ensures.tree c.in_ok-default.ensures.tree c.in_ok-arms.ensures.tree c.in_ok-first.first.value _ c.in_ok-before.before.value.items c.in_ok-arms.arms.value.items c.in_ok-default.default.value c.in_ok-first.ensures.made (pushed_first c.new-start.ensures.items c.in_ok-push.ensures.items) c.in_ok-before.ensures.made c.in_ok-default.ensures.made c.in_ok-arms.ensures.made)
+cases-returns t c = let a = rw c.in_ok-before-2.ensures.0 at (ok_at _ _ c.in_ok-default.ensures.1 c.case_arms-arms.ensures) in rw c.in_ok-default.ensures.0 (parsed (read_var (read_latter (one_false _ c.stands.result c.stands.ensures c.if-stands.false) (read_seq c.in_ok-first.ensures.read (read_seq c.in_ok-before.ensures.read (read_former (one_true _ c.stands-2.result c.stands-2.ensures c.if-not-stands.false) (read_seq (ok_at _ _ c.in_ok-before-2.ensures.1 c.case_default-default.ensures).read a.read)))))) (arms_around (bytes_in c.args.input.now) c.in_ok-first.ensures.tree c.in_ok-before.ensures.tree (ok_at _ _ c.in_ok-before-2.ensures.1 c.case_default-default.ensures).tree a.tree c.in_ok-first.first.value _ c.in_ok-before.before.value.items c.in_ok-default.arms.value.items c.in_ok-before-2.default.value c.in_ok-first.ensures.made c.in_ok-start.ensures c.in_ok-before.ensures.made (ok_at _ _ c.in_ok-before-2.ensures.1 c.case_default-default.ensures).made a.made))

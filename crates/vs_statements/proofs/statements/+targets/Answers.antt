@@ -4,6 +4,7 @@ use Rattle.vs_statements.specs.declared.error.ParseError.TheVariants.{Memory}
 use Rattle.vs_statements.specs.Reading.{bytes_in}
 use Rattle.vs_statements.specs.Reading.Refused.{out_of_memory}
 use Rattle.vs_statements.proofs.Places.{answer_exit, refused_var, refused_seq, refused_then, refused_missing, refused_level, refused_former, refused_latter, read_tok, read_var, read_seq, read_level, read_former, read_latter, parsed, one_true, one_false, first_took, answer_more}
+use Rattle.vs_statements.proofs.Pairs.{ok_at, err_at}
 use Rattle.vs_statements.proofs.Firsts.{too_deep_first}
 use Rattle.vs_statements.proofs.Lists.{shorter, listed_start, listed_more, listed_done, pushed_first}
 use Rattle.vs_statements.proofs.Arms.{targets_made}
@@ -24,8 +25,8 @@ targets-returns-in_err-inner t c = answer_exit _ _ c.from_residual-in_err-inner.
 pub targets-returns-in_err-list : goal.targets-returns-in_err-list
 targets-returns-in_err-list t c = answer_exit _ _ c.from_residual-in_err-list.result c.in_err-list.field-0.0 c.from_residual-in_err-list.ensures.1 (refused_level c.in_ok-inner.ensures (refused_then (read_tok c.in_ok-inner.inner.limit c.in_ok-open.ensures) (refused_seq c.in_err-list.ensures)))
 
-pub targets-returns-in_err-close : goal.targets-returns-in_err-close
-targets-returns-in_err-close t c = answer_exit _ _ c.from_residual-in_err-close.result c.in_err-close.field-0.0 c.from_residual-in_err-close.ensures.1 (refused_level c.in_ok-inner.ensures (refused_then (read_tok c.in_ok-inner.inner.limit c.in_ok-open.ensures) (refused_then c.in_ok-list.ensures.read (refused_missing c.in_err-close.ensures))))
+pub targets-returns-in_err-list-2 : goal.targets-returns-in_err-list-2
+targets-returns-in_err-list-2 t c = answer_exit _ _ c.from_residual-in_err-list-2.result c.in_err-list-2.field-0.0 c.from_residual-in_err-list-2.ensures.1 (refused_level c.in_ok-inner.ensures (refused_then (read_tok c.in_ok-inner.inner.limit c.in_ok-open.ensures) (refused_then c.in_ok-list.ensures.read (refused_missing (err_at _ _ c.in_err-list-2.ensures c.take-close.ensures)))))
 
 pub targets-returns : goal.targets-returns
-targets-returns t c = parsed (read_level c.in_ok-inner.ensures (read_seq (read_tok c.in_ok-inner.inner.limit c.in_ok-open.ensures) (read_seq c.in_ok-list.ensures.read (read_tok c.in_ok-inner.inner.limit c.in_ok-close.ensures)))) (targets_made (bytes_in c.args.input.now) _ c.in_ok-list.ensures.tree _ c.in_ok-list.list.value.items c.in_ok-list.ensures.made ∙ sym c.new_concatenation-value.ensures)
+targets-returns t c = parsed (read_level c.in_ok-inner.ensures (read_seq (read_tok c.in_ok-inner.inner.limit c.in_ok-open.ensures) (read_seq c.in_ok-list.ensures.read (read_tok c.in_ok-inner.inner.limit (ok_at _ _ c.in_ok-list-2.ensures.1 c.take-close.ensures))))) (targets_made (bytes_in c.args.input.now) _ c.in_ok-list.ensures.tree _ c.in_ok-list.list.value.items c.in_ok-list.ensures.made ∙ sym (rw c.in_ok-list-2.ensures.0 at c.new_concatenation-value.ensures))

@@ -1,0 +1,39 @@
+-- What stands behind the first part of a rule, where it is read alone, and what it stands for.
+use Rattle.std.specs.Prelude.{ℕ, Bool, List}
+use Rattle.vs_lexer.specs.declared.token.TokenKind.TheVariants as kind
+use Rattle.vs_grammar.specs.Grammars.{Phrase}
+use Rattle.vs_grammar.specs.Grammars.Tree.{both}
+use Rattle.vs_grammar.specs.Verilog.{◌⨾◌, t, r, separated}
+use Rattle.vs_grammar.specs.Verilog.{Rule as rule}
+use Rattle.vs_grammar.specs.Trees.{Expr}
+use Rattle.vs_grammar.specs.Meaning.{D, list_of, expr_of, is_blocking}
+use Rattle.vs_ast.specs.declared.expressions.Expr.{Expr as ExprNode}
+use Rattle.vs_ast.specs.Views as view
+use Rattle.vs_statements.specs.Parts.{assignment_sign}
+
+-- what a choice is between, behind its condition
+abbrev pub choice : Phrase
+choice = t kind.Question ⨾ r rule.Expression ⨾ t kind.Colon ⨾ r rule.Expression
+
+abbrev pub choice_of : (ℕ → List ℕ) → D choice → Expr × Expr
+choice_of b (both q (both y (both c n))) = (expr_of b y, expr_of b n)
+
+abbrev pub choice_view : ExprNode × ExprNode → Expr × Expr
+choice_view p = (view.expr p.0, view.expr p.1)
+
+-- what a replication repeats, behind the number of times
+abbrev pub repeated : Phrase
+repeated = t kind.OpenBrace ⨾ separated (r rule.Expression) ⨾ t kind.CloseBrace ⨾ t kind.CloseBrace
+
+abbrev pub repeated_of : (ℕ → List ℕ) → D repeated → List Expr
+repeated_of b (both o (both l z)) = list_of (expr_of b) l
+
+-- whether an assignment is blocking, and what is assigned, behind its target
+abbrev pub right_side : Phrase
+right_side = assignment_sign ⨾ r rule.Expression ⨾ t kind.Semicolon
+
+abbrev pub right_side_of : (ℕ → List ℕ) → D right_side → Bool × Expr
+right_side_of b (both s (both e z)) = (is_blocking s, expr_of b e)
+
+abbrev pub right_side_view : Bool × ExprNode → Bool × Expr
+right_side_view p = (p.0, view.expr p.1)
