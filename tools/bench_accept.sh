@@ -15,16 +15,22 @@ use std::rt::CpuClock;
 use vs_accept::accept;
 use vs_elab::flatten;
 use vs_grammar::laws::shaped_law;
-use vs_lexer::{MAX_BYTES, lex};
+use vs_lexer::{MAX_BYTES, lex, tokens_law};
 use vs_parser::parse;
+use vs_pre::{kept_law, preprocess};
 
 /// How many processes the flat design of a text has; 0 where it has none.
 fn processes(alloc: Global, text: &[u8]) -> u32 {
     if text.len() > MAX_BYTES {
         return 0;
     }
+    tokens_law();
+    kept_law();
     shaped_law();
-    let Ok(tokens) = lex(alloc, text) else {
+    let Ok(written) = lex(alloc, text) else {
+        return 0;
+    };
+    let Ok(tokens) = preprocess(alloc, text, written) else {
         return 0;
     };
     let Ok(source) = parse(alloc, text, &tokens) else {
