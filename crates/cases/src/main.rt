@@ -27,19 +27,18 @@ struct Counts {
     different: u64,
 }
 
-/// Runs a case, and prints how it differs from what it says, if it does. Answers whether it is as expected.
+/// Runs a case, and prints how it differs from what it says, or that it doesn't though it has to. Answers whether it is as expected.
 fn is_as_expected(rt: &impl Print, alloc: Global, case: &Case, piece: usize) -> io::Result<bool>
     requires { 0 < piece }
 {
     let left = run_case(alloc, case, piece)?;
+    let name = case.name.as_str();
     match first_difference(case, &left) {
-        None => Ok(true),
-        Some(difference) => {
-            let name = case.name.as_str();
-            println!(rt; "{name}: {difference}")?;
-            Ok(false)
-        }
+        Some(difference) if !case.is_wrong => println!(rt; "{name}: {difference}")?,
+        None if case.is_wrong => println!(rt; "{name}: no difference")?,
+        _ => return Ok(true),
     }
+    Ok(false)
 }
 
 /// Runs cases, and counts them beside those before.

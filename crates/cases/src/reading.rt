@@ -55,13 +55,15 @@ pub struct Part {
 #[derive(Drop)]
 pub struct Case {
     pub name: String,
+    /// Whether the run has to differ from what the case says: such a case tries the comparison itself.
+    pub is_wrong: bool,
     pub words: Vec<String>,
     pub parts: Vec<Part>,
 }
 
 /// A line of a text of cases, without what marks it.
 enum Line<'a> {
-    Name(&'a str),
+    Name { name: &'a str, is_wrong: bool },
     File(&'a str),
     Answer(&'a str),
     Waveform(&'a str),
@@ -73,7 +75,15 @@ impl Line<'_> {
     /// What a line is.
     fn of(line: &str) -> Line<'_> {
         if let Some(name) = line.strip_prefix("==== ") {
-            Line::Name(name)
+            Line::Name {
+                name,
+                is_wrong: false,
+            }
+        } else if let Some(name) = line.strip_prefix("!!!! ") {
+            Line::Name {
+                name,
+                is_wrong: true,
+            }
         } else if let Some(path) = line.strip_prefix("---- ") {
             Line::File(path)
         } else if let Some(numbers) = line.strip_prefix(">>>> ") {
@@ -157,9 +167,10 @@ impl Part {
 
 impl Case {
     /// A case of this name without words and parts.
-    fn new(alloc: Global, name: &str) -> Result<Case, ReadError> {
+    fn new(alloc: Global, name: &str, is_wrong: bool) -> Result<Case, ReadError> {
         Ok(Case {
             name: String::from_str(alloc, name)?,
+            is_wrong,
             words: Vec::new(alloc),
             parts: Vec::new(alloc),
         })
@@ -178,8 +189,8 @@ impl Case {
 /// Adds a line to the cases before it. Text in front of the first case says nothing.
 fn add_line(alloc: Global, cases: &mut Vec<Case>, line: &str) -> Result<(), ReadError> {
     let kind = match Line::of(line) {
-        Line::Name(name) => {
-            cases.push(Case::new(alloc, name)?)?;
+        Line::Name { name, is_wrong } => {
+            cases.push(Case::new(alloc, name, is_wrong)?)?;
             return Ok(());
         }
         Line::Text(text) => {
