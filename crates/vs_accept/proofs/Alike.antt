@@ -10,10 +10,10 @@ use Rattle.vs_refusal.specs.declared.names.AtName.{AtName}
 use Rattle.vs_refusal.specs.declared.names.AtName.TheVariants as name
 use Rattle.vs_refusal.specs.declared.refusal.Refusal.{Refusal}
 use Rattle.vs_refusal.specs.declared.refusal.Refusal.TheVariants.{At}
-use Rattle.vs_accept.specs.Accepted.{IsRefusedText, ByTokens, ByTree, ByElaboration, ByRule, tells_tree, is_open, AreAlike, OneRefusal}
-use Rattle.vs_accept.specs.Refused.{byte_of, token_refusal, TreeFault, OutOfLanguage, OutOfGrammar, OutOfDepth, IsTreeFault, tree_refusal, fault_refusal, design_refusal}
+use Rattle.vs_accept.specs.Accepted.{IsRefusedText, ByTokens, ByMacros, ByTree, ByElaboration, ByRule, tells_tree, is_open, AreAlike, OneRefusal}
+use Rattle.vs_accept.specs.Refused.{byte_of, token_refusal, macro_refusal, TreeFault, OutOfLanguage, OutOfGrammar, OutOfDepth, IsTreeFault, tree_refusal, fault_refusal, design_refusal}
 use Rattle.vs_accept.proofs.AlikeDesign.{AreAlikeRefusals, Same, Cycles, alike_of_design}
-use Rattle.vs_accept.proofs.Answered.{same_ok, same_err, ok_or_err, of_design, of_fault, not_of_both, same_result, no_fault_read}
+use Rattle.vs_accept.proofs.Answered.{same_err, ok_or_err, of_design, of_fault, not_of_both, same_result, same_err_of, same_read, read_or_fault, no_fault_read}
 
 two : {A B C : Type 0} (f : A → B → C) {a b : A} {c d : B} → a ≡ b → c ≡ d → f a c ≡ f b d
 two f p q = cc
@@ -56,23 +56,32 @@ one_refusal one no_fault one_fault decided text top clock r q x y = go x y
 
     go : IsRefusedText text top clock r → IsRefusedText text top clock q → Answer
     go (ByTokens e cut told) (ByTokens f dut also) = inl (same_told (ap token_refusal (same_err cut dut)) told also)
-    go (ByTokens e cut told) (ByTree others x dut fault also) = absurd (ok_or_err dut cut)
-    go (ByTokens e cut told) (ByElaboration others other f read broken also) = absurd (ok_or_err read.cut cut)
-    go (ByTokens e cut told) (ByRule others other d z read elaborates broken also) = absurd (ok_or_err read.cut cut)
-    go (ByTree tokens x cut fault told) (ByTokens f dut also) = absurd (ok_or_err cut dut)
-    go (ByTree tokens x cut fault told) (ByTree others y dut other also) = alike_trees one_fault (byte_of text tokens) tokens x y r q fault (subst (λ (ts : List Token). IsTreeFault ts y) (same_ok dut cut) other)
-        told (subst (λ (ts : List Token). tree_refusal (byte_of text ts) y ≡ q) (same_ok dut cut) also)
-    go (ByTree tokens x cut fault told) (ByElaboration others other f read broken also) = absurd (no_fault_read no_fault text others tokens other read cut x fault)
-    go (ByTree tokens x cut fault told) (ByRule others other d z read elaborates broken also) = absurd (no_fault_read no_fault text others tokens other read cut x fault)
-    go (ByElaboration tokens source f read broken told) (ByTokens e dut also) = absurd (ok_or_err read.cut dut)
-    go (ByElaboration tokens source f read broken told) (ByTree others x dut fault also) = absurd (no_fault_read no_fault text tokens others source read dut x fault)
+    go (ByTokens e cut told) (ByMacros others f dut faulty also) = absurd (ok_or_err dut cut)
+    go (ByTokens e cut told) (ByTree others x reads fault also) = absurd (ok_or_err reads.cut cut)
+    go (ByTokens e cut told) (ByElaboration others other f read broken also) = absurd (ok_or_err read.reads.cut cut)
+    go (ByTokens e cut told) (ByRule others other d z read elaborates broken also) = absurd (ok_or_err read.reads.cut cut)
+    go (ByMacros written e cut faulty told) (ByTokens f dut also) = absurd (ok_or_err cut dut)
+    go (ByMacros written e cut faulty told) (ByMacros others f dut also_faulty also) = inl (same_told (ap macro_refusal (same_err (same_err_of text written others e cut dut faulty) also_faulty)) told also)
+    go (ByMacros written e cut faulty told) (ByTree others x reads fault also) = absurd (read_or_fault text others written e reads cut faulty)
+    go (ByMacros written e cut faulty told) (ByElaboration others other f read broken also) = absurd (read_or_fault text others written e read.reads cut faulty)
+    go (ByMacros written e cut faulty told) (ByRule others other d z read elaborates broken also) = absurd (read_or_fault text others written e read.reads cut faulty)
+    go (ByTree tokens x reads fault told) (ByTokens f dut also) = absurd (ok_or_err reads.cut dut)
+    go (ByTree tokens x reads fault told) (ByMacros others f dut faulty also) = absurd (read_or_fault text tokens others f reads dut faulty)
+    go (ByTree tokens x reads fault told) (ByTree others y rereads other also) = alike_trees one_fault (byte_of text tokens) tokens x y r q fault (subst (λ (ts : List Token). IsTreeFault ts y) (same_read text others tokens rereads reads) other)
+        told (subst (λ (ts : List Token). tree_refusal (byte_of text ts) y ≡ q) (same_read text others tokens rereads reads) also)
+    go (ByTree tokens x reads fault told) (ByElaboration others other f read broken also) = absurd (no_fault_read no_fault text others tokens other read reads x fault)
+    go (ByTree tokens x reads fault told) (ByRule others other d z read elaborates broken also) = absurd (no_fault_read no_fault text others tokens other read reads x fault)
+    go (ByElaboration tokens source f read broken told) (ByTokens e dut also) = absurd (ok_or_err read.reads.cut dut)
+    go (ByElaboration tokens source f read broken told) (ByMacros others e dut faulty also) = absurd (read_or_fault text tokens others e read.reads dut faulty)
+    go (ByElaboration tokens source f read broken told) (ByTree others x reads fault also) = absurd (no_fault_read no_fault text tokens others source read reads x fault)
     go (ByElaboration tokens source f read broken told) (ByElaboration others other g reading also_broken also) =
-        inl (sym told ∙ two (λ (ts : List Token) (h : Fault). fault_refusal (byte_of text ts) h) (same_ok read.cut reading.cut) (of_fault (same_result one text top tokens others source other read reading) broken also_broken) ∙ also)
+        inl (sym told ∙ two (λ (ts : List Token) (h : Fault). fault_refusal (byte_of text ts) h) (same_read text tokens others read.reads reading.reads) (of_fault (same_result one text top tokens others source other read reading) broken also_broken) ∙ also)
     go (ByElaboration tokens source f read broken told) (ByRule others other d z reading elaborates breaks also) = absurd (not_of_both (same_result one text top others tokens other source reading read) elaborates broken)
-    go (ByRule tokens source d z read elaborates broken told) (ByTokens e dut also) = absurd (ok_or_err read.cut dut)
-    go (ByRule tokens source d z read elaborates broken told) (ByTree others x dut fault also) = absurd (no_fault_read no_fault text tokens others source read dut x fault)
+    go (ByRule tokens source d z read elaborates broken told) (ByTokens e dut also) = absurd (ok_or_err read.reads.cut dut)
+    go (ByRule tokens source d z read elaborates broken told) (ByMacros others e dut faulty also) = absurd (read_or_fault text tokens others e read.reads dut faulty)
+    go (ByRule tokens source d z read elaborates broken told) (ByTree others x reads fault also) = absurd (no_fault_read no_fault text tokens others source read reads x fault)
     go (ByRule tokens source d z read elaborates broken told) (ByElaboration others other g reading breaks also) = absurd (not_of_both (same_result one text top tokens others source other read reading) elaborates breaks)
     go (ByRule tokens source d z read elaborates broken told) (ByRule others other e w reading elaborated_too breaks also) =
         alike_told (byte_of text tokens) z w r q
         (alike_of_design decided d clock z w broken (subst (λ (c : Design). IsRefusedBy c clock w) (of_design (same_result one text top others tokens other source reading read) elaborated_too elaborates) breaks))
-        told (subst (λ (ts : List Token). design_refusal (byte_of text ts) w ≡ q) (same_ok reading.cut read.cut) also)
+        told (subst (λ (ts : List Token). design_refusal (byte_of text ts) w ≡ q) (same_read text others tokens reading.reads read.reads) also)

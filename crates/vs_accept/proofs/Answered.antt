@@ -3,6 +3,9 @@ use Rattle.std.proofs.Common.{◌≡◌, ℕ, List, refl, subst, Option, Some, N
 use Rattle.std.specs.Prelude.{Result, Ok, Err}
 use Rattle.vs_lexer.specs.declared.token.Token.{Token}
 use Rattle.vs_lexer.specs.Cuts.{cut_text}
+use Rattle.vs_pre.specs.declared.error.PreError.{PreError}
+use Rattle.vs_pre.specs.Preprocessing.{pre}
+use Rattle.vs_pre.specs.Reads.{ReadsAs}
 use Rattle.vs_grammar.specs.Trees.{Source}
 use Rattle.vs_grammar.specs.Spelled.{Spells, SpelledBy}
 use Rattle.vs_grammar.specs.SpelledLaws.{OneSource, SpelledHasNoFault}
@@ -11,7 +14,7 @@ use Rattle.vs_elaborated.specs.Elaborated.{elaborated}
 use Rattle.vs_design.specs.Designs.{Design}
 use Rattle.vs_design.specs.Answers as D
 use Rattle.vs_design.specs.Answers.{IsRefusedBy}
-use Rattle.vs_accept.specs.Accepted.{IsRead, IsRefusedText, ByTokens, ByTree, ByElaboration, ByRule, OneDesign, NotBoth}
+use Rattle.vs_accept.specs.Accepted.{IsRead, IsRefusedText, ByTokens, ByMacros, ByTree, ByElaboration, ByRule, OneDesign, NotBoth}
 use Rattle.vs_accept.specs.Refused.{TreeFault, OutOfLanguage, OutOfGrammar, OutOfDepth, IsTreeFault}
 
 pub same_ok : {A E : Type 0} {a b : A} {x : Result A E} → x ≡ Ok a → x ≡ Ok b → a ≡ b
@@ -30,11 +33,25 @@ pub none_some : {A : Type 0} {a : A} {x : Option A} → x ≡ None → x ≡ Som
 none_some p q = cc
 
 pub spells : (text : List ℕ) (tokens : List Token) (source : Source) → IsRead text tokens source → Spells text source
-spells text tokens source r = record { tokens = tokens; cut = r.cut; spelled = r.spelled }
+spells text tokens source r = record { tokens = tokens; read = r.reads; spelled = r.spelled }
+
+-- a text is cut once, and read as one list of tokens
+pub same_err_of : (text : List ℕ) (written others : List Token) (e : PreError) → cut_text text ≡ Ok written → cut_text text ≡ Ok others → pre text written ≡ Err e → pre text others ≡ Err e
+same_err_of text written others e cut dut faulty = subst (λ (ts : List Token). pre text ts ≡ Err e) (same_ok cut dut) faulty
+
+resolved_of : (text : List ℕ) (tokens written : List Token) → ReadsAs text tokens → cut_text text ≡ Ok written → pre text written ≡ Ok tokens
+resolved_of text tokens written r cut = subst (λ (ts : List Token). pre text ts ≡ Ok tokens) (same_ok r.cut cut) r.resolved
+
+pub same_read : (text : List ℕ) (tokens others : List Token) → ReadsAs text tokens → ReadsAs text others → tokens ≡ others
+same_read text tokens others r s = same_ok (resolved_of text tokens s.written r s.cut) s.resolved
+
+-- a text that is read has no fault in its macros
+pub read_or_fault : (text : List ℕ) (tokens written : List Token) (e : PreError) → ReadsAs text tokens → cut_text text ≡ Ok written → pre text written ≡ Err e → ⊥
+read_or_fault text tokens written e r cut faulty = ok_or_err (resolved_of text tokens written r cut) faulty
 
 -- the tokens of a text that is read spell its tree
-spelled_by : (text : List ℕ) (tokens others : List Token) (source : Source) → IsRead text tokens source → cut_text text ≡ Ok others → SpelledBy text others source
-spelled_by text tokens others source r cut = subst (λ (ts : List Token). SpelledBy text ts source) (same_ok r.cut cut) r.spelled
+spelled_by : (text : List ℕ) (tokens others : List Token) (source : Source) → IsRead text tokens source → ReadsAs text others → SpelledBy text others source
+spelled_by text tokens others source r reads = subst (λ (ts : List Token). SpelledBy text ts source) (same_read text tokens others r.reads reads) r.spelled
 
 -- two readings are the same
 same_source : OneSource → (text : List ℕ) (tokens others : List Token) (source other : Source) → IsRead text tokens source → IsRead text others other → source ≡ other
@@ -70,16 +87,17 @@ no_fault_of none text tokens source s (OutOfGrammar k) f = (none text tokens sou
 no_fault_of none text tokens source s (OutOfDepth k) f = (none text tokens source s k).2 f
 
 -- nor in another reading
-pub no_fault_read : SpelledHasNoFault → (text : List ℕ) (tokens others : List Token) (source : Source) → IsRead text tokens source → cut_text text ≡ Ok others
+pub no_fault_read : SpelledHasNoFault → (text : List ℕ) (tokens others : List Token) (source : Source) → IsRead text tokens source → ReadsAs text others
     → (x : TreeFault) → IsTreeFault others x → ⊥
-no_fault_read none text tokens others source read cut x f = no_fault_of none text others source (spelled_by text tokens others source read cut) x f
+no_fault_read none text tokens others source read reads x f = no_fault_of none text others source (spelled_by text tokens others source read reads) x f
 
 pub not_both : OneSource → SpelledHasNoFault → D.NotBoth → NotBoth
 not_both one none judged text top clock d r a refused = go refused
   where
     go : IsRefusedText text top clock r → ⊥
-    go (ByTokens e cut told) = ok_or_err a.read.cut cut
-    go (ByTree tokens x cut fault told) = no_fault_read none text a.tokens tokens a.source a.read cut x fault
+    go (ByTokens e cut told) = ok_or_err a.read.reads.cut cut
+    go (ByMacros written e cut faulty told) = read_or_fault text a.tokens written e a.read.reads cut faulty
+    go (ByTree tokens x reads fault told) = no_fault_read none text a.tokens tokens a.source a.read reads x fault
     go (ByElaboration tokens source f read broken told) = not_of_both (same_result one text top a.tokens tokens a.source source a.read read) a.elaborates broken
     go (ByRule tokens source e x read elaborates broken told) =
         judged d clock a.accepted x (subst (λ (z : Design). IsRefusedBy z clock x) (of_design (same_result one text top tokens a.tokens source a.source read a.read) elaborates a.elaborates) broken)

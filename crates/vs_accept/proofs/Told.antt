@@ -5,18 +5,24 @@ use Rattle.vs_lexer.specs.declared.token.Token.{Token}
 use Rattle.vs_lexer.specs.declared.token.LexError.{LexError}
 use Rattle.vs_lexer.specs.declared.token.LexError.TheVariants as lexer
 use Rattle.vs_lexer.specs.Cuts.{cut_text}
+use Rattle.vs_lexer.specs.Laws.{AreTokens, TokensStand}
+use Rattle.vs_pre.specs.declared.error.PreError.{PreError}
+use Rattle.vs_pre.specs.declared.error.PreError.TheVariants as macro
+use Rattle.vs_pre.specs.Preprocessing.{pre}
+use Rattle.vs_pre.specs.Laws.{KeptAreTokens}
+use Rattle.vs_pre.specs.Reads.{ReadsAs}
 use Rattle.vs_grammar.specs.Trees.{Source}
-use Rattle.vs_grammar.specs.Spelled.{Spells, SpelledBy}
+use Rattle.vs_grammar.specs.Spelled.{SpelledBy}
 use Rattle.vs_const.specs.declared.faults.Fault.{Fault}
 use Rattle.vs_elaborated.specs.Elaborated.{elaborated}
 use Rattle.vs_design.specs.Designs.{Design}
 use Rattle.vs_design.specs.Answers.{DesignRefusal, IsRefusedBy}
 use Rattle.vs_accept.specs.declared.error.AcceptError.{AcceptError}
 use Rattle.vs_accept.specs.declared.error.AcceptError.TheVariants.{Refused, Memory}
-use Rattle.vs_accept.specs.Accepted.{IsRead, ByTokens, ByTree, ByElaboration, ByRule}
-use Rattle.vs_accept.specs.Refused.{byte_of, token_refusal, TreeFault, IsTreeFault, tree_refusal, fault_refusal, design_refusal}
+use Rattle.vs_accept.specs.Accepted.{IsRead, ByTokens, ByMacros, ByTree, ByElaboration, ByRule}
+use Rattle.vs_accept.specs.Refused.{byte_of, token_refusal, macro_refusal, TreeFault, IsTreeFault, tree_refusal, fault_refusal, design_refusal}
 use Rattle.vs_accept.specs.Answers.{refusal_in, IsRefusalOf, IsVerdict}
-use Rattle.vs_accept.proofs.Answered.{same_ok, none_some}
+use Rattle.vs_accept.proofs.Answered.{none_some}
 
 -- ---- tokens and tree
 
@@ -29,14 +35,24 @@ uncut text top clock l (Refused r) (inl cut) told = ByTokens l cut (sym told)
 uncut text top clock l (Refused r) (inr out) told = absurd (some_none told (ap token_refusal out))
 uncut text top clock l Memory h told = tt
 
+-- macros or conditional parts that aren't resolved
+pub unresolved : (text top clock : List ℕ) (written : List Token) (p : PreError) (e : AcceptError) → cut_text text ≡ Ok written → (pre text written ≡ Err p) ⊎ (p ≡ macro.Memory) → refusal_in e ≡ macro_refusal p → IsRefusalOf text top clock e
+unresolved text top clock written p (Refused r) cut (inl faulty) told = ByMacros written p cut faulty (sym told)
+unresolved text top clock written p (Refused r) cut (inr out) told = absurd (some_none told (ap macro_refusal out))
+unresolved text top clock written p Memory cut h told = tt
+
 -- tokens that spell no tree
-pub unspelled : (text top clock : List ℕ) (tokens : List Token) (x : TreeFault) (e : AcceptError) → cut_text text ≡ Ok tokens → IsTreeFault tokens x
+pub unspelled : (text top clock : List ℕ) (tokens : List Token) (x : TreeFault) (e : AcceptError) → ReadsAs text tokens → IsTreeFault tokens x
     → e ≡ Refused (tree_refusal (byte_of text tokens) x) → IsRefusalOf text top clock e
-unspelled text top clock tokens x e cut fault is = subst (IsRefusalOf text top clock) (sym is) (ByTree tokens x cut fault refl)
+unspelled text top clock tokens x e reads fault is = subst (IsRefusalOf text top clock) (sym is) (ByTree tokens x reads fault refl)
+
+-- a text is read as tokens of it
+pub tokens_are : TokensStand → KeptAreTokens → (text : List ℕ) (tokens : List Token) → ReadsAs text tokens → AreTokens text tokens
+tokens_are stand kept text tokens r = kept text r.written tokens (stand text r.written r.cut) r.resolved
 
 -- the tokens of a text spell its tree
-pub read_by : (text : List ℕ) (tokens : List Token) (source : Source) → cut_text text ≡ Ok tokens → Spells text source → IsRead text tokens source
-read_by text tokens source cut s = record { cut = cut; spelled = subst (λ (ts : List Token). SpelledBy text ts source) (same_ok s.cut cut) s.spelled }
+pub read_by : (text : List ℕ) (tokens : List Token) (source : Source) → ReadsAs text tokens → SpelledBy text tokens source → IsRead text tokens source
+read_by text tokens source reads s = record { reads = reads; spelled = s }
 
 -- ---- elaboration
 

@@ -3,6 +3,9 @@ use Rattle.std.specs.Prelude.{◌≡◌, ◌≤◌, ℕ, Bool, true, false, ◌&
 use Rattle.vs_lexer.specs.declared.token.Token.{Token}
 use Rattle.vs_lexer.specs.declared.token.LexError.{LexError}
 use Rattle.vs_lexer.specs.Cuts.{cut_text}
+use Rattle.vs_pre.specs.declared.error.PreError.{PreError}
+use Rattle.vs_pre.specs.Preprocessing.{pre}
+use Rattle.vs_pre.specs.Reads.{ReadsAs}
 use Rattle.vs_grammar.specs.Trees.{Source}
 use Rattle.vs_grammar.specs.Spelled.{SpelledBy}
 use Rattle.vs_const.specs.declared.faults.Fault.{Fault}
@@ -14,11 +17,11 @@ use Rattle.vs_refusal.specs.declared.names.AtName.{AtName}
 use Rattle.vs_refusal.specs.declared.names.AtName.TheVariants as name
 use Rattle.vs_refusal.specs.declared.refusal.Refusal.{Refusal}
 use Rattle.vs_refusal.specs.declared.refusal.Refusal.TheVariants.{At, Cycle}
-use Rattle.vs_accept.specs.Refused.{byte_of, token_refusal, TreeFault, IsTreeFault, tree_refusal, fault_refusal, design_refusal}
+use Rattle.vs_accept.specs.Refused.{byte_of, token_refusal, macro_refusal, TreeFault, IsTreeFault, tree_refusal, fault_refusal, design_refusal}
 
--- the text is cut into these tokens (clause 3), and they spell this tree (annex A)
+-- the text is read as these tokens (clauses 3 and 19), and they spell this tree (annex A)
 pub record IsRead (text : List ℕ) (tokens : List Token) (source : Source) : Type 0 where
-  pub cut : cut_text text ≡ Ok tokens
+  pub reads : ReadsAs text tokens
   pub spelled : SpelledBy text tokens source
 
 -- the greatest number of bytes in a text
@@ -39,8 +42,10 @@ pub record IsAcceptedText (text top clock : List ℕ) (d : Design) : Type 0 wher
 pub data IsRefusedText (text top clock : List ℕ) (r : Refusal) : Type 0 where
   -- it isn't cut into tokens
   ByTokens : (e : LexError) → cut_text text ≡ Err e → token_refusal e ≡ Some r → IsRefusedText text top clock r
+  -- its macros or conditional parts aren't resolved
+  ByMacros : (written : List Token) (e : PreError) → cut_text text ≡ Ok written → pre text written ≡ Err e → macro_refusal e ≡ Some r → IsRefusedText text top clock r
   -- its tokens spell no tree
-  ByTree : (tokens : List Token) (x : TreeFault) → cut_text text ≡ Ok tokens → IsTreeFault tokens x → tree_refusal (byte_of text tokens) x ≡ r → IsRefusedText text top clock r
+  ByTree : (tokens : List Token) (x : TreeFault) → ReadsAs text tokens → IsTreeFault tokens x → tree_refusal (byte_of text tokens) x ≡ r → IsRefusedText text top clock r
   -- its tree doesn't elaborate
   ByElaboration : (tokens : List Token) (source : Source) (f : Fault) → IsRead text tokens source → elaborated source top ≡ Err f
       → fault_refusal (byte_of text tokens) f ≡ r → IsRefusedText text top clock r

@@ -1,8 +1,11 @@
--- Which refusal tells that a rule is broken. The stages tell a place by the number of its token; a refusal tells the byte at which that token begins.
+-- Which refusal tells that a rule is broken. The stages tell a place by the number of its token; a refusal tells the byte at which a reader of the text
+-- finds that token.
 use Rattle.std.specs.Prelude.{ℕ, List, length, slice_get, Option, Some, None}
 use Rattle.vs_lexer.specs.declared.token.Token.{Token}
 use Rattle.vs_lexer.specs.declared.token.LexError.{LexError}
 use Rattle.vs_lexer.specs.declared.token.LexError.TheVariants as lexer
+use Rattle.vs_pre.specs.declared.error.PreError.{PreError}
+use Rattle.vs_pre.specs.declared.error.PreError.TheVariants as macro
 use Rattle.vs_grammar.specs.Spelled.{LeftOutAt, HasSyntaxFault, IsTooDeep}
 use Rattle.vs_const.specs.declared.faults.Fault.{Fault}
 use Rattle.vs_const.specs.declared.rules.Rule.{Rule}
@@ -16,9 +19,10 @@ use Rattle.vs_refusal.specs.declared.names.ProcessName.TheVariants as process
 use Rattle.vs_refusal.specs.declared.refusal.Refusal.{Refusal}
 use Rattle.vs_refusal.specs.declared.refusal.Refusal.TheVariants as refusal
 
--- where a token of the text begins; behind the last one stands the end of the text
+-- where a token is found: where it begins, or, where a macro gave it, where the outermost use begins that it came from; behind the last one stands the
+-- end of the text
 abbrev pub byte_of : List ℕ → List Token → ℕ → ℕ
-byte_of text tokens k = elim (slice_get tokens k) [ Some t ↦ t.start | None ↦ length text ]
+byte_of text tokens k = elim (slice_get tokens k) [ Some t ↦ t.at | None ↦ length text ]
 
 -- of the tokens of a text (clause 3); want of memory is no refusal
 abbrev pub token_refusal : LexError → Option Refusal
@@ -27,6 +31,15 @@ token_refusal (lexer.OpenComment at) = Some (refusal.At name.OpenComment at)
 token_refusal (lexer.BadLiteral at) = Some (refusal.At name.BadLiteral at)
 token_refusal (lexer.TooManyTokens at) = Some (refusal.At name.TooManyTokens at)
 token_refusal lexer.Memory = None
+
+-- of its macros and conditional parts (clause 19)
+abbrev pub macro_refusal : PreError → Option Refusal
+macro_refusal (macro.BadDirective at) = Some (refusal.At name.BadDirective at)
+macro_refusal (macro.UnknownMacro at) = Some (refusal.At name.UnknownMacro at)
+macro_refusal (macro.MacroLoop at) = Some (refusal.At name.MacroLoop at)
+macro_refusal (macro.MacroArguments at) = Some (refusal.At name.MacroArguments at)
+macro_refusal (macro.MacroLimit at) = Some (refusal.At name.MacroLimit at)
+macro_refusal macro.Memory = None
 
 -- why the tokens of a text spell no tree (annex A), with the token that tells it
 pub data TreeFault : Type 0 where

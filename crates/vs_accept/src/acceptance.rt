@@ -1,7 +1,7 @@
 //! The acceptance of a text.
 
 ghost use Rattle.std.specs.Prelude.{◌≡◌, ◌≤◌, ℕ, List, Ok, IfOk, IfErr, IsErrAnd, MatchResult, length};
-ghost use Rattle.vs_lexer.specs.Cuts.{cut_text};
+ghost use Rattle.vs_pre.specs.Reads.{ReadsAs};
 ghost use Rattle.vs_ast.specs.Views as view;
 ghost use Rattle.vs_elaborated.specs.Elaborated.{elaborated};
 ghost use Rattle.vs_design.specs.Designs.{Design};
@@ -21,15 +21,30 @@ use vs_ast::Source;
 use vs_elab::flatten;
 use vs_flat::Flat;
 use vs_grammar::laws::shaped_law;
-use vs_lexer::{MAX_BYTES, lex};
+use vs_lexer::{MAX_BYTES, Token, lex, tokens_law};
 use vs_parser::parse;
+use vs_pre::{kept_law, preprocess};
+
+/// The tokens as which a text is read: those that it is cut into, with its macros and conditional parts resolved.
+fn tokens_of(alloc: Global, text: &[u8]) -> Result<Vec<Token>, AcceptError>
+    requires { length text.now ≤ MAX_BYTES }
+    ensures read { IfOk result (λ v. ReadsAs text.now v.items) }
+    ensures refused { (top clock : List ℕ) → IfErr result (IsRefusalOf text.now top clock) }
+{
+    tokens_law();
+    let written = lex(alloc, text)?;
+    let tokens = preprocess(alloc, text, written)?;
+    Ok(tokens)
+}
 
 /// The tree that the tokens of a text spell.
 fn tree_of(alloc: Global, places: &Places<'_>) -> Result<Source, AcceptError>
-    requires { cut_text places.now.text.now ≡ Ok places.now.tokens.now }
+    requires { ReadsAs places.now.text.now places.now.tokens.now }
     ensures read { IfOk result (λ s. IsRead places.now.text.now places.now.tokens.now (view.source s)) }
     ensures refused { (top clock : List ℕ) → IfErr result (IsRefusalOf places.now.text.now top clock) }
 {
+    tokens_law();
+    kept_law();
     match parse(alloc, places.text, places.tokens) {
         Ok(source) => Ok(source),
         Err(error) => Err(places.tree_error(error)),
@@ -48,6 +63,8 @@ fn flat_of(
     ensures lawful { IfOk result IsLawful }
     ensures refused { (clock : List ℕ) → IfErr result (IsRefusalOf places.now.text.now top.now clock) }
 {
+    tokens_law();
+    kept_law();
     shaped_law();
     match flatten(alloc, source, top) {
         Ok(flat) => Ok(flat),
@@ -62,7 +79,7 @@ fn answer(alloc: Global, text: &[u8], top: &[u8], clock: &[u8]) -> Result<Accept
     ensures lent { IfOk result (IsAcceptance clock.now) }
     ensures refused { IfErr result (IsRefusalOf text.now top.now clock.now) }
 {
-    let tokens = lex(alloc, text)?;
+    let tokens = tokens_of(alloc, text)?;
     let places = Places {
         text,
         tokens: tokens.as_slice(),
@@ -73,9 +90,9 @@ fn answer(alloc: Global, text: &[u8], top: &[u8], clock: &[u8]) -> Result<Accept
 }
 
 /// Accepts a text of at most `MAX_BYTES` bytes as a design whose top module and whose clock input have these names, or refuses it by the
-/// first rule that it breaks (IEEE 1364-2005, clauses 3 and 12, annex A, and the rules of an accepted design).
+/// first rule that it breaks (IEEE 1364-2005, clauses 3, 12 and 19, annex A, and the rules of an accepted design).
 ///
-/// The stages are tokens, tree, elaboration, lengths and size, blocks, drivers, the clock, the level order and time zero; each is tried only
+/// The stages are tokens, macros, tree, elaboration, lengths and size, blocks, drivers, the clock, the level order and time zero; each is tried only
 /// where none before it refuses. `Memory` may be the answer to any text.
 pub fn accept(alloc: Global, text: &[u8], top: &[u8], clock: &[u8]) -> Result<Accepted, AcceptError>
     requires { length text.now ≤ MAX_BYTES }

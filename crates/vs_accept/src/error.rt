@@ -2,12 +2,13 @@
 
 ghost use Rattle.std.specs.Prelude.{◌≡◌};
 ghost use Rattle.vs_accept.specs.declared.error.AcceptError.TheVariants.{Memory};
-ghost use Rattle.vs_accept.specs.Refused.{token_refusal};
+ghost use Rattle.vs_accept.specs.Refused.{macro_refusal, token_refusal};
 ghost use Rattle.vs_accept.specs.Answers.{refusal_in};
 
 use std::alloc::AllocError;
 use thiserror::Error;
 use vs_lexer::LexError;
+use vs_pre::PreError;
 use vs_refusal::{AtName, Refusal};
 
 /// Why a text is not accepted.
@@ -41,6 +42,27 @@ impl From<LexError> for AcceptError {
                 AcceptError::Refused(Refusal::At(AtName::TooManyTokens, at))
             }
             LexError::Memory => AcceptError::Memory,
+        }
+    }
+}
+
+impl From<PreError> for AcceptError {
+    ghost from_gives = { λ p e. refusal_in e ≡ macro_refusal p };
+
+    fn from(error: PreError) -> AcceptError {
+        match error {
+            PreError::BadDirective(at) => {
+                AcceptError::Refused(Refusal::At(AtName::BadDirective, at))
+            }
+            PreError::UnknownMacro(at) => {
+                AcceptError::Refused(Refusal::At(AtName::UnknownMacro, at))
+            }
+            PreError::MacroLoop(at) => AcceptError::Refused(Refusal::At(AtName::MacroLoop, at)),
+            PreError::MacroArguments(at) => {
+                AcceptError::Refused(Refusal::At(AtName::MacroArguments, at))
+            }
+            PreError::MacroLimit(at) => AcceptError::Refused(Refusal::At(AtName::MacroLimit, at)),
+            PreError::Memory => AcceptError::Memory,
         }
     }
 }

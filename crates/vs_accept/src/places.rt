@@ -9,8 +9,8 @@ use crate::AcceptError;
 use vs_lexer::Token;
 use vs_refusal::{AtName, ProcessName, Refusal};
 
-/// A text of at most 4,194,304 bytes, and its tokens. The stages tell a place by the number of its token, and a refusal tells the byte at
-/// which that token begins.
+/// A text of at most 4,194,304 bytes, and the tokens as which it is read. The stages tell a place by the number of its token, and a refusal
+/// tells the byte at which a reader of the text finds that token.
 #[derive(Drop)]
 pub(crate) struct Places<'a> {
     pub(crate) text: &'a [u8],
@@ -19,12 +19,12 @@ pub(crate) struct Places<'a> {
 }
 
 impl Places<'_> {
-    /// The byte at which a token begins; behind the last one stands the end of the text.
+    /// The byte at which a token is found; behind the last one stands the end of the text.
     pub(crate) fn byte(&self, token: u32) -> u32
         ensures { result ≡ byte_of self.now.text.now self.now.tokens.now token }
     {
         match self.tokens.get(token as usize) {
-            Some(token) => token.start,
+            Some(token) => token.at,
             None => self.text.len() as u32,
         }
     }

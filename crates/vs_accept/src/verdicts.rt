@@ -1,7 +1,7 @@
 //! The refusals of stages.
 
 ghost use Rattle.std.specs.Prelude.{◌≡◌, ℕ, true, List, Ok, None};
-ghost use Rattle.vs_lexer.specs.Cuts.{cut_text};
+ghost use Rattle.vs_pre.specs.Reads.{ReadsAs};
 ghost use Rattle.vs_grammar.specs.Trees.{Source};
 ghost use Rattle.vs_elaborated.specs.Elaborated.{elaborated};
 ghost use Rattle.vs_parser.specs.Faults.{Fault as TreeFault};
@@ -61,7 +61,7 @@ fn rule_name(rule: Rule) -> Option<AtName>
 impl Places<'_> {
     /// The tokens spell no tree.
     pub(crate) fn tree_error(&self, error: ParseError) -> AcceptError
-        ensures { (top clock : List ℕ) → cut_text self.now.text.now ≡ Ok self.now.tokens.now → TreeFault self.now.tokens.now error → IsRefusalOf self.now.text.now top clock result }
+        ensures { (top clock : List ℕ) → ReadsAs self.now.text.now self.now.tokens.now → TreeFault self.now.tokens.now error → IsRefusalOf self.now.text.now top clock result }
     {
         match error {
             ParseError::LeftOut(token) => self.refused_at(AtName::LeftOut, token),

@@ -16,7 +16,7 @@ use Rattle.vs_grammar.proofs.Decided.{verilog_is_predictive}
 use Rattle.vs_grammar.proofs.Whole.{derived}
 use Rattle.vs_grammar.proofs.Runner.{Run, is_kind}
 use Rattle.vs_grammar.proofs.Runner.Run.{read, stopped, gave_up}
-use Rattle.vs_grammar.proofs.Worked.{is_kept, none_left_out, reading, shallow_by}
+use Rattle.vs_grammar.proofs.Worked.{is_kept, none_left_out, read_as, reading, shallow_by}
 use Rattle.vs_const.specs.declared.faults.Fault.{Fault}
 use Rattle.vs_const.specs.declared.rules.Rule.{Rule}
 use Rattle.vs_const.specs.Rules.{rule_number}
@@ -69,7 +69,7 @@ reading_gives f text tokens (read a [] p) what cut kept h =
       source = text_of (spelling_of text tokens) a;
       spelled = record {
         tokens = tokens;
-        cut = cut;
+        read = read_as text tokens cut (none_left_out tokens kept);
         spelled = record {
           kept = none_left_out tokens kept;
           derivation = a;

@@ -1,7 +1,7 @@
--- A tree that a text spells has the shape of one.
+-- A tree that tokens spell has the shape of one.
 use Rattle.std.proofs.Common.{List, [], subst, sym}
 use Rattle.vs_lexer.specs.Cuts.{spelling_of}
-use Rattle.vs_lexer.specs.Laws.{LongestIsTaken, TokensStand}
+use Rattle.vs_lexer.specs.Laws.{LongestIsTaken}
 use Rattle.vs_grammar.specs.Grammars.{Terminal, onto}
 use Rattle.vs_grammar.specs.Trees.{Source}
 use Rattle.vs_grammar.specs.Shapes.{IsModule, OneOrMore, Each, SpelledIsShaped}
@@ -10,12 +10,12 @@ use Rattle.vs_grammar.proofs.ItemShapes.{modules_ok}
 use Rattle.vs_grammar.proofs.TokenFacts.{literals_are, terminals_are}
 use Rattle.vs_grammar.proofs.SpelledFacts.{spelled_is_shallow}
 
-pub spelled_is_shaped : LongestIsTaken → TokensStand → SpelledIsShaped
-spelled_is_shaped law stand text source p =
-    let d = p.spelled.derivation in
-    let well : Each (IsWell (spelling_of text p.tokens)) (onto d []) = subst (λ (ts : List Terminal). Each (IsWell (spelling_of text p.tokens)) ts) (sym p.spelled.derived.0) (terminals_are law stand text p.tokens p.cut) in
-    let sound = sound_by (spelling_of text p.tokens) d [] p.spelled.derived.1 well in
+pub spelled_is_shaped : LongestIsTaken → SpelledIsShaped
+spelled_is_shaped law text tokens source are p =
+    let d = p.derivation in
+    let well : Each (IsWell (spelling_of text tokens)) (onto d []) = subst (λ (ts : List Terminal). Each (IsWell (spelling_of text tokens)) ts) (sym p.derived.0) (terminals_are law text tokens are) in
+    let sound = sound_by (spelling_of text tokens) d [] p.derived.1 well in
     record {
-      modules = subst (λ (s : Source). OneOrMore IsModule s.modules) p.spelled.stands (modules_ok (spelling_of text p.tokens) (literals_are law stand text p.tokens p.cut) d sound);
-      shallow = spelled_is_shallow text source p;
+      modules = subst (λ (s : Source). OneOrMore IsModule s.modules) p.stands (modules_ok (spelling_of text tokens) (literals_are law text tokens are) d sound);
+      shallow = spelled_is_shallow text tokens source p;
     }

@@ -3,6 +3,7 @@ use Rattle.std.proofs.Common.{◌≡◌, ℕ, zero, suc, ◌<◌, ◌≤◌, ◌
 use Rattle.std.specs.Prelude.{Option, Some, None, Result, Ok, MatchOption, slice_get, slice_index, replicate, if◌then◌else◌, ◌==◌}
 use Rattle.std.proofs.lemmas.List.{length-take-le, length-append, length-replicate}
 use Rattle.std.proofs.lemmas.Bool.{and_parts}
+use Rattle.std.proofs.lemmas.Option.{get_or_from_slice_get, slice_get_within}
 use Rattle.std.proofs.lemmas.Bool.Decides.{nat_tests}
 use Rattle.vs_four.specs.declared.Bit4.{Bit4}
 use Rattle.vs_lexer.specs.Literals.{head_of, lacks_digits, literal_bits, literal_size, has_size, is_in_range, is_good_size, decimal_value, number_bits, fitted, fill_bit, digits_bits}
@@ -11,8 +12,8 @@ use Rattle.vs_lexer.specs.Tokens.{token_kind, longest, here, number_here, other_
 use Rattle.vs_lexer.specs.declared.token.Token.{Token}
 use Rattle.vs_lexer.specs.declared.token.TokenKind.{TokenKind}
 use Rattle.vs_lexer.specs.declared.token.TokenKind.TheVariants as kind
-use Rattle.vs_lexer.specs.Cuts.{cut_text, spelling_of}
-use Rattle.vs_lexer.specs.Laws.{LongestIsTaken, TokensStand, StandsIn}
+use Rattle.vs_lexer.specs.Cuts.{spelling_of}
+use Rattle.vs_lexer.specs.Laws.{LongestIsTaken, StandsIn, AreTokens}
 use Rattle.vs_grammar.specs.Grammars.{Terminal}
 use Rattle.vs_grammar.specs.Kinds.{number_of, terminals, terminals_from}
 use Rattle.vs_grammar.specs.Meaning as meaning
@@ -168,10 +169,10 @@ stands_as law text token s =
     let m = matched (longest (drop token.start text)) _ _ _ (law (drop token.start text)) f.long in
     record { kind = m.0; good = f.good }
 
-module _ (law : LongestIsTaken) (stand : TokensStand) (text : List ℕ) (tokens : List Token) (cut : cut_text text ≡ Ok tokens) where
+module _ (law : LongestIsTaken) (text : List ℕ) (tokens : List Token) (are : AreTokens text tokens) where
   pub token_is : (n : ℕ) (token : Token) → slice_get tokens n ≡ Some token → IsToken (spelling_of text tokens n) token.kind
   token_is n token e =
-      subst (λ (o : Option Token). IsToken (bytes_by text o) token.kind) (sym e) (stands_as law text token ((stand text tokens cut).1 n token e))
+      subst (λ (o : Option Token). IsToken (bytes_by text o) token.kind) (sym e) (stands_as law text token (subst (StandsIn text) (get_or_from_slice_get tokens n token token e) (are.each n token (slice_get_within tokens n token e))))
 
   good_at : (n : ℕ) (o : Option Token) → slice_get tokens n ≡ o → size_is_good (spelling_of text tokens n) ≡ true
   good_at n None e = subst (λ (o : Option Token). size_is_good (bytes_by text o) ≡ true) (sym e) refl

@@ -1,13 +1,19 @@
 -- The worked texts, by computation.
-use Rattle.std.proofs.Common.{◌≡◌, ℕ, zero, suc, ◌<◌, ◌≤◌, Bool, true, false, not, ◌&&◌, List, [], refl, length, arith, ap, drop, ◌⊎◌, inl, inr}
-use Rattle.std.specs.Prelude.{◌+◌, is_ok, Result, Ok, Err, Option, None, Some, nat_le}
+use Rattle.std.proofs.Common.{◌≡◌, ℕ, zero, suc, ◌<◌, ◌≤◌, Bool, true, false, not, ◌&&◌, List, [], ◌∷◌, refl, sym, ◌∙◌, length, arith, ap, drop, ◌⊎◌, inl, inr}
+use Rattle.std.specs.Prelude.{◌+◌, is_ok, Result, Ok, Err, Option, None, Some, nat_le, slice_get, ◌||◌}
 use Rattle.std.proofs.lemmas.Bool.{and_parts}
 use Rattle.std.proofs.lemmas.Option.{slice_get_past}
 use Rattle.vs_lexer.specs.declared.token.Token.{Token}
 use Rattle.vs_lexer.specs.declared.token.LexError.{LexError}
 use Rattle.vs_lexer.specs.declared.token.TokenKind.{TokenKind}
+use Rattle.vs_lexer.specs.declared.token.TokenKind.TheVariants as kind
 use Rattle.vs_lexer.specs.Cuts.{cut_text, spelling_of}
 use Rattle.vs_lexer.specs.LeftOut.{is_left_out, is_left_out_between, kind_at, kind_before}
+use Rattle.std.specs.List.{list_any}
+use Rattle.vs_lexer.proofs.Spans.{tokens_stand}
+use Rattle.vs_pre.specs.Words.{is_directive}
+use Rattle.vs_pre.specs.Reads.{ReadsAs}
+use Rattle.vs_pre.proofs.ReadSteps.{plain_stays}
 use Rattle.vs_grammar.specs.Grammars.{depth}
 use Rattle.vs_grammar.specs.Kinds.{terminals, end_of_text}
 use Rattle.vs_grammar.specs.Verilog.{verilog, phrase_of, r, Rule as rule}
@@ -69,6 +75,27 @@ none_left_out ts e n = elim (inside n (length ts)) [
   | inr h ↦ ap (out_by ts n) (slice_get_past ts n h)
 ]
 
+-- ---- a text of which no token is left out is read as it is written
+
+no_directive : (before : Option TokenKind) (k : TokenKind) (next after : Option TokenKind) → is_left_out_between before k next after ≡ false → is_directive k ≡ false
+no_directive before kind.Directive next after e = cc
+no_directive before k next after e = refl
+
+neither : (a b : Bool) → a ≡ false → b ≡ false → (a || b) ≡ false
+neither false b p q = q
+neither true b p q = cc
+
+none_is : (ts : List Token) → ((n : ℕ) (t : Token) → slice_get ts n ≡ Some t → is_directive t.kind ≡ false) → list_any (λ (t : Token). is_directive t.kind) ts ≡ false
+none_is [] h = refl
+none_is (t ∷ ts) h = neither (is_directive t.kind) (list_any (λ (u : Token). is_directive u.kind) ts) (h 0 t refl) (none_is ts (λ n u e. h (suc n) u e))
+
+pub read_as : (text : List ℕ) (ts : List Token) → cut_text text ≡ Ok ts → NoneLeftOut ts → ReadsAs text ts
+read_as text ts cut kept = record {
+  written = ts;
+  cut = cut;
+  resolved = plain_stays text ts (none_is ts (λ n t e. no_directive (kind_before ts n) t.kind (kind_at ts (n + 1)) (kind_at ts (n + 2)) (sym (ap (out_by ts n) e) ∙ kept n))) (tokens_stand text ts cut).few;
+}
+
 -- ---- what is found of a text
 
 abbrev pub reading : (ts : List Token) → Run verilog (phrase_of rule.Text) (terminals ts)
@@ -87,7 +114,7 @@ found_by text cut kept w h =
       source = text_of (spelling_of text (tokens_of (cut_text text))) w.tree;
       spelled = record {
         tokens = tokens_of (cut_text text);
-        cut = was_ok (cut_text text) cut;
+        read = read_as text (tokens_of (cut_text text)) (was_ok (cut_text text) cut) (none_left_out (tokens_of (cut_text text)) kept);
         spelled = record {
           kept = none_left_out (tokens_of (cut_text text)) kept;
           derivation = w.tree;
@@ -112,7 +139,7 @@ stops_at text k s =
     let ts = tokens_of (cut_text text) in
     record {
       tokens = ts;
-      cut = was_ok (cut_text text) s.cut;
+      read = read_as text ts (was_ok (cut_text text) s.cut) (none_left_out ts s.kept);
       fault = record {
         kept = none_left_out ts s.kept;
         fault = stops verilog (r rule.Source) end_of_text verilog_is_predictive (terminals ts) k (subst (λ (us : List Terminal). Stops verilog (phrase_of rule.Text) (terminals ts) us) s.left (stopped_by verilog (reading ts) s.stopped));

@@ -1,8 +1,8 @@
 -- Worked texts: the trees that they spell, how operators are grouped (IEEE 1364-2005, table 5-4), what counts as depth, and where texts stop.
-use Rattle.std.specs.Prelude.{◌≡◌, ℕ, ◌+◌, true, false, List, [], ◌∷◌, ◌++◌, map, codes, Some, None, Ok}
+use Rattle.std.specs.Prelude.{◌≡◌, ℕ, ◌+◌, true, false, List, [], ◌∷◌, ◌++◌, map, codes, Some, None}
 use Rattle.std.specs.List.{flat_map}
 use Rattle.vs_lexer.specs.declared.token.Token.{Token}
-use Rattle.vs_lexer.specs.Cuts.{cut_text}
+use Rattle.vs_pre.specs.Reads.{ReadsAs}
 use Rattle.vs_four.specs.declared.Bit4.TheVariants.{Zero, One, X}
 use Rattle.vs_lexer.specs.Literals.{number_bits}
 use Rattle.vs_grammar.specs.Grammars.{depth}
@@ -430,10 +430,10 @@ pub record DepthsAre : Type 0 where
 
 -- ---- texts that spell nothing
 
--- the text is cut into tokens, of which this one is the first with which no list goes on
+-- the text is read as tokens, of which this one is the first with which no list goes on
 pub record StopsAt (text : List ℕ) (k : ℕ) : Type 0 where
   pub tokens : List Token
-  pub cut : cut_text text ≡ Ok tokens
+  pub read : ReadsAs text tokens
   pub fault : HasSyntaxFault tokens k
 
 pub record FaultsAre : Type 0 where

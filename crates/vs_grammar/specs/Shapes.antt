@@ -1,10 +1,12 @@
 -- What every syntax tree of a text has: names that are identifiers, numbers of 1 to 64 bits, lists that are not empty, and in each place only the
 -- kinds of declarations that the grammar has there.
 use Rattle.std.specs.Prelude.{◌≡◌, ◌≤◌, ℕ, Bool, true, false, List, [], ◌∷◌, length, Option, Some, None}
+use Rattle.vs_lexer.specs.declared.token.Token.{Token}
 use Rattle.vs_lexer.specs.declared.token.TokenKind.TheVariants as kind
 use Rattle.vs_lexer.specs.Tokens.{token_kind}
+use Rattle.vs_lexer.specs.Laws.{AreTokens}
 use Rattle.vs_grammar.specs.Depths.{source_depth}
-use Rattle.vs_grammar.specs.Spelled.{Spells, depth_limit}
+use Rattle.vs_grammar.specs.Spelled.{SpelledBy, depth_limit}
 use Rattle.vs_grammar.specs.Trees.{Name, Literal, Expr, Exprs, Select, Target, Targets, Statement, Fallback, Statements, CaseArms, RangeTree, SignalKind, Declarator, Signals, Setting, Parameters, Assign, Event, EventControl, NamedConnection, Connections, Instance, Instances, GenerateHead, Item, GenerateBlock, BlockFallback, GenerateArms, Items, Header, Module, Source}
 use Rattle.vs_grammar.specs.Trees.{Number, Named, Unary, Binary, Choice, Concatenation, Replication, Call, Brackets, NoExpr, AndExpr, Whole, BitAt, Slice, NamedTarget, Targeted, NoTarget, AndTarget, Empty, Assignment, If, Case, Sequence, NoFallback, Otherwise, NoStatement, AndStatement, NoArm, AndArm, Reg, Wire, Star, Listed, Unconnected, ByOrder, ByName, SignalsItem, ParametersItem, AssignsItem, AlwaysItem, GenvarsItem, InstancesItem, GenerateFor, GenerateIf, GenerateCase, NoBlock, Alone, Enclosed, NoBlockFallback, OtherwiseBlock, NoGenerateArm, AndGenerateArm, NoItem, AndItem, NoPorts, PlainPorts, DeclaredPorts}
 
@@ -246,4 +248,4 @@ pub record IsShaped (source : Source) : Type 0 where
   pub shallow : source_depth source ≤ depth_limit
 
 abbrev pub SpelledIsShaped : Type 0
-SpelledIsShaped = (text : List ℕ) (source : Source) → Spells text source → IsShaped source
+SpelledIsShaped = (text : List ℕ) (tokens : List Token) (source : Source) → AreTokens text tokens → SpelledBy text tokens source → IsShaped source

@@ -1,8 +1,9 @@
--- Which tree a text spells, and what is wrong with a text that spells none (IEEE 1364-2005, clauses 3 and annex A).
-use Rattle.std.specs.Prelude.{◌≡◌, ℕ, ◌<◌, ◌≤◌, true, false, List, Ok}
+-- Which tree a text spells, and what is wrong with a text that spells none (IEEE 1364-2005, clauses 3 and 19, and annex A).
+use Rattle.std.specs.Prelude.{◌≡◌, ℕ, ◌<◌, ◌≤◌, true, false, List}
 use Rattle.vs_lexer.specs.declared.token.Token.{Token}
-use Rattle.vs_lexer.specs.Cuts.{cut_text, spelling_of}
+use Rattle.vs_lexer.specs.Cuts.{spelling_of}
 use Rattle.vs_lexer.specs.LeftOut.{is_left_out}
+use Rattle.vs_pre.specs.Reads.{ReadsAs}
 use Rattle.vs_grammar.specs.Grammars.{depth, Derives, SyntaxAt, TooDeepAt}
 use Rattle.vs_grammar.specs.Kinds.{terminals}
 use Rattle.vs_grammar.specs.Verilog.{verilog, phrase_of, Rule as rule}
@@ -26,10 +27,10 @@ pub record SpelledBy (text : List ℕ) (tokens : List Token) (source : Source) :
   pub stands : text_of (spelling_of text tokens) derivation ≡ source
   pub shallow : depth derivation ≤ depth_limit
 
--- The text spells this tree: it is cut into tokens, no more than the limit, and they spell it.
+-- The text spells this tree: it is read as tokens, with its macros and conditional parts resolved, and they spell it.
 pub record Spells (text : List ℕ) (source : Source) : Type 0 where
   pub tokens : List Token
-  pub cut : cut_text text ≡ Ok tokens
+  pub read : ReadsAs text tokens
   pub spelled : SpelledBy text tokens source
 
 -- ---- what may be wrong with the tokens of a text; behind the last one stands the end of the text, which counts as one more

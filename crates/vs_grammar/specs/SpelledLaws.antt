@@ -9,6 +9,10 @@ use Rattle.vs_grammar.specs.Spelled.{depth_limit, SpelledBy, Spells, LeftOutAt, 
 abbrev pub OneSource : Type 0
 OneSource = (text : List ℕ) (a b : Source) → Spells text a → Spells text b → a ≡ b
 
+-- and so do tokens
+abbrev pub OneSourceOfTokens : Type 0
+OneSourceOfTokens = (text : List ℕ) (tokens : List Token) (a b : Source) → SpelledBy text tokens a → SpelledBy text tokens b → a ≡ b
+
 -- where the tokens spell a tree, none of them is at fault
 abbrev pub SpelledHasNoFault : Type 0
 SpelledHasNoFault =
@@ -20,6 +24,6 @@ abbrev pub OneFaultOfTokens : Type 0
 OneFaultOfTokens =
     (tokens : List Token) (j k : ℕ) → (HasSyntaxFault tokens j → HasSyntaxFault tokens k → j ≡ k) × (LeftOutAt tokens j → LeftOutAt tokens k → j ≡ k)
 
--- a tree that a text spells is within the limit on depth
+-- a tree that tokens spell is within the limit on depth
 abbrev pub SpelledIsShallow : Type 0
-SpelledIsShallow = (text : List ℕ) (source : Source) → Spells text source → source_depth source ≤ depth_limit
+SpelledIsShallow = (text : List ℕ) (tokens : List Token) (source : Source) → SpelledBy text tokens source → source_depth source ≤ depth_limit

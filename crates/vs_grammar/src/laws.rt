@@ -7,10 +7,10 @@ ghost use Rattle.vs_grammar.specs.Laws.{NoFault, OneFault, OneTree, ReadIsDerive
 ghost use Rattle.vs_grammar.specs.Precedence.{PrecedenceIs};
 ghost use Rattle.vs_grammar.specs.Predictive.{IsPredictive};
 ghost use Rattle.vs_grammar.specs.Shapes.{SpelledIsShaped};
-ghost use Rattle.vs_grammar.specs.SpelledLaws.{OneFaultOfTokens, OneSource, SpelledHasNoFault, SpelledIsShallow};
+ghost use Rattle.vs_grammar.specs.SpelledLaws.{OneFaultOfTokens, OneSource, OneSourceOfTokens, SpelledHasNoFault, SpelledIsShallow};
 ghost use Rattle.vs_grammar.specs.Verilog.{Rule as rule, r, verilog};
 
-use vs_lexer::{longest_law, tokens_law};
+use vs_lexer::longest_law;
 
 /// A list of tokens has one derivation at most, in every grammar that one token of look-ahead decides.
 pub fn one_tree_law()
@@ -44,22 +44,22 @@ pub fn verilog_law()
     ensures { IsPredictive verilog (r rule.Source) end_of_text }
 {}
 
-/// A text spells one tree at most, within the limit on depth; where it spells one no token of it is at fault, and otherwise the first fault is
+/// A text spells one tree at most, within the limit on depth, and so do its tokens; where it spells one no token of it is at fault, and otherwise the first fault is
 /// determined.
 pub fn spelled_law()
     ensures one { OneSource }
+    ensures same { OneSourceOfTokens }
     ensures none { SpelledHasNoFault }
     ensures fault { OneFaultOfTokens }
     ensures shallow { SpelledIsShallow }
 {}
 
-/// Every tree that a text spells has identifiers as names, numbers of 1 to 64 bits, no empty list where the grammar has none, and in each place
+/// Every tree that tokens of a text spell has identifiers as names, numbers of 1 to 64 bits, no empty list where the grammar has none, and in each place
 /// only the declarations that the grammar has there.
 pub fn shaped_law()
     ensures { SpelledIsShaped }
 {
     longest_law();
-    tokens_law();
 }
 
 /// A syntax tree is as deep as each derivation that stands for it.

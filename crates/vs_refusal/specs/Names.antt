@@ -3,7 +3,7 @@ use Rattle.std.specs.Prelude.{ℕ, List, codes}
 use Rattle.vs_refusal.specs.declared.names.BareName.{BareName}
 use Rattle.vs_refusal.specs.declared.names.BareName.TheVariants.{Usage, TooLong, NoTop, NoClock}
 use Rattle.vs_refusal.specs.declared.names.AtName.{AtName}
-use Rattle.vs_refusal.specs.declared.names.AtName.TheVariants.{NoToken, OpenComment, BadLiteral, TooManyTokens, LeftOut, Syntax, TooDeep, NotConstant, UnknownConstant, DuplicateModule, UnknownModule, UnknownName, DuplicateName, BadRange, PortCount, UnknownPort, InstanceDepth, TooManyInstances, GenerateTurns, WrongKind, TooManyBits, TooManyProcesses, TooWide, Division, MixedAssign}
+use Rattle.vs_refusal.specs.declared.names.AtName.TheVariants.{NoToken, OpenComment, BadLiteral, TooManyTokens, BadDirective, UnknownMacro, MacroLoop, MacroArguments, MacroLimit, LeftOut, Syntax, TooDeep, NotConstant, UnknownConstant, DuplicateModule, UnknownModule, UnknownName, DuplicateName, BadRange, PortCount, UnknownPort, InstanceDepth, TooManyInstances, GenerateTurns, WrongKind, TooManyBits, TooManyProcesses, TooWide, Division, MixedAssign}
 use Rattle.vs_refusal.specs.declared.names.ProcessName.{ProcessName}
 use Rattle.vs_refusal.specs.declared.names.ProcessName.TheVariants.{ClockRead, NotTheClock, TimeZero, ResetForm}
 use Rattle.vs_refusal.specs.declared.names.LaneName.{LaneName}
@@ -28,6 +28,11 @@ at_number NoToken = 10
 at_number OpenComment = 11
 at_number BadLiteral = 12
 at_number TooManyTokens = 13
+at_number BadDirective = 14
+at_number UnknownMacro = 15
+at_number MacroLoop = 16
+at_number MacroArguments = 17
+at_number MacroLimit = 18
 at_number LeftOut = 20
 at_number Syntax = 21
 at_number TooDeep = 22
@@ -55,6 +60,11 @@ at_text NoToken = codes "NoToken"
 at_text OpenComment = codes "OpenComment"
 at_text BadLiteral = codes "BadLiteral"
 at_text TooManyTokens = codes "TooManyTokens"
+at_text BadDirective = codes "BadDirective"
+at_text UnknownMacro = codes "UnknownMacro"
+at_text MacroLoop = codes "MacroLoop"
+at_text MacroArguments = codes "MacroArguments"
+at_text MacroLimit = codes "MacroLimit"
 at_text LeftOut = codes "LeftOut"
 at_text Syntax = codes "Syntax"
 at_text TooDeep = codes "TooDeep"

@@ -26,6 +26,16 @@ pub enum AtName {
     BadLiteral,
     /// The text has more than 1,048,576 tokens.
     TooManyTokens,
+    /// A directive of the preprocessor is out of form or out of place, or a conditional isn't closed (19.3, 19.4).
+    BadDirective,
+    /// A macro that isn't defined is used (19.3.1).
+    UnknownMacro,
+    /// A macro is used in its own replacement (19.3.1).
+    MacroLoop,
+    /// A macro is used without the arguments that it has (19.3.1).
+    MacroArguments,
+    /// The uses of macros are too many, nested too deep, or make too many tokens.
+    MacroLimit,
     /// The token belongs to a part of the language that is left out.
     LeftOut,
     /// No text of the grammar goes on with this token.
@@ -145,6 +155,11 @@ impl AtName {
             AtName::OpenComment => 11,
             AtName::BadLiteral => 12,
             AtName::TooManyTokens => 13,
+            AtName::BadDirective => 14,
+            AtName::UnknownMacro => 15,
+            AtName::MacroLoop => 16,
+            AtName::MacroArguments => 17,
+            AtName::MacroLimit => 18,
             AtName::LeftOut => 20,
             AtName::Syntax => 21,
             AtName::TooDeep => 22,
@@ -178,6 +193,11 @@ impl AtName {
             AtName::OpenComment => "OpenComment",
             AtName::BadLiteral => "BadLiteral",
             AtName::TooManyTokens => "TooManyTokens",
+            AtName::BadDirective => "BadDirective",
+            AtName::UnknownMacro => "UnknownMacro",
+            AtName::MacroLoop => "MacroLoop",
+            AtName::MacroArguments => "MacroArguments",
+            AtName::MacroLimit => "MacroLimit",
             AtName::LeftOut => "LeftOut",
             AtName::Syntax => "Syntax",
             AtName::TooDeep => "TooDeep",

@@ -1,14 +1,13 @@
 use Rattle.vs_ast.specs.Views as view
 use Rattle.vs_flat.specs.DesignOf.{design_of}
 use Rattle.vs_accept.specs.Answers.{IsRefusalOf}
-use Rattle.vs_accept.proofs.Judged.{passed_on, turned, accepted_text, refused_text}
-use Rattle.vs_accept.proofs.Told.{uncut}
+use Rattle.vs_accept.proofs.Judged.{passed_on, accepted_text, refused_text}
 use Rattle.vs_accept.proofs.acceptance.answer.Goals as goal
 
 pub returns-in_err-tokens-clause-refused : goal.returns-in_err-tokens-clause-refused
 returns-in_err-tokens-clause-refused c =
-    turned (IsRefusalOf c.args.text.now c.args.top.now c.args.clock.now) c.from_residual.result c.from_residual.ensures.1
-    (λ e told. uncut c.args.text.now c.args.top.now c.args.clock.now c.in_err-tokens.field-0.0 e c.in_err-tokens.ensures.fault told)
+    passed_on (IsRefusalOf c.args.text.now c.args.top.now c.args.clock.now) c.from_residual.result c.in_err-tokens.field-0.0 c.from_residual.ensures.1
+    (c.in_err-tokens.ensures.refused c.args.top.now c.args.clock.now)
 
 pub returns-in_err-source-clause-refused : goal.returns-in_err-source-clause-refused
 returns-in_err-source-clause-refused c =

@@ -1,4 +1,4 @@
-use Rattle.vs_grammar.proofs.SpelledFacts.{one_source}
+use Rattle.vs_grammar.proofs.SpelledFacts.{one_source, one_source_of_tokens}
 use Rattle.vs_grammar.proofs.SpelledFacts.{spelled_has_no_fault}
 use Rattle.vs_grammar.proofs.SpelledFacts.{one_fault_of_tokens}
 use Rattle.vs_grammar.proofs.SpelledFacts.{spelled_is_shallow}
@@ -15,3 +15,6 @@ returns-clause-fault c = one_fault_of_tokens
 
 pub returns-clause-shallow : goal.returns-clause-shallow
 returns-clause-shallow c = spelled_is_shallow
+
+pub returns-clause-same : goal.returns-clause-same
+returns-clause-same c = one_source_of_tokens
