@@ -5,7 +5,7 @@ use Rattle.vs_net.specs.Network as N
 use Rattle.vs_design.specs.Statements.{Statement}
 use Rattle.vs_design.specs.Designs.{is_edge, Process, Always, Design}
 use Rattle.vs_design.specs.Clocks.{Events, ByBoth, events_of, clock_nets, root_of}
-use Rattle.vs_design.specs.Resets.{net_edge, branch_updates, reset_branch, reset_of}
+use Rattle.vs_design.specs.Resets.{net_edge, branch_writes, branch_updates, reset_branch, reset_of}
 use Rattle.vs_flat.specs.Arena.{Arena}
 use Rattle.vs_flat.specs.Trees.{statement_at}
 use Rattle.vs_flat.specs.DesignOf.{arena_statements, design_of}
@@ -25,7 +25,7 @@ abbrev pub plain_branch : Arena → Reset → Statement
 plain_branch a r = statement_at (arena_statements a) r.branch
 
 abbrev pub plain_reset : Arena → Reset → N.Reset
-plain_reset a r = record { net = r.net; edge = net_edge r.edge; input = r.input; updates = branch_updates (plain_branch a r) }
+plain_reset a r = record { net = r.net; edge = net_edge r.edge; input = r.input; writes = branch_writes (plain_branch a r); updates = branch_updates (plain_branch a r) }
 
 -- the reset of a process, in the design that has this clock
 pub record IsResetOf (a : Arena) (clock : ℕ) (x : Process) (r : Reset) : Type 0 where

@@ -8,7 +8,7 @@ use Rattle.vs_design.specs.Statements.{Statement, Empty, Assignment, Then, If, C
 use Rattle.vs_design.specs.Designs.{Edge, Any, Posedge, Negedge, Event, Process, Continuous, Always, has_edge, is_clocked, Design}
 use Rattle.vs_design.specs.Footprints.{contains, statement_bits, writes_of}
 use Rattle.vs_design.specs.Clocks.{name_of, Events, ByClock, ByBoth, is_clock_event, is_reset_event, events_of, clock_nets, root_of}
-use Rattle.vs_design.specs.Resets.{is_signal, inverted, is_condition, is_fixed, net_edge, branch_updates, reset_branch, reset_with, reset_of}
+use Rattle.vs_design.specs.Resets.{is_signal, inverted, is_condition, is_fixed, net_edge, branch_writes, branch_updates, reset_branch, reset_with, reset_of}
 use Rattle.vs_design.specs.Sizes.{distinct, process_weight, statement_weight, weight}
 use Rattle.vs_cone.specs.Lists.{AscendingIsOnce, FewAreApart}
 use Rattle.vs_clock.specs.Resets.{branch_of}
@@ -117,7 +117,7 @@ has_branch d clock (Always place star events s) r t h k = by_events (events_of (
     edge_is : (e : Event) (i : Option ℕ) → reset_with e i (Some t) ≡ Some r → net_edge e.edge ≡ r.edge
     edge_is e None h = cc
     edge_is e (Some i) h =
-        let same : record { net = e.signal.first; edge = net_edge e.edge; input = i; updates = branch_updates t } ≡ r = cc in
+        let same : record { net = e.signal.first; edge = net_edge e.edge; input = i; writes = branch_writes t; updates = branch_updates t } ≡ r = cc in
         ap (λ (z : N.Reset). z.edge) same
 
     by_statement : (e : Event) (i : Option ℕ) (s : Statement) → list_any has_edge events ≡ true → reset_branch e.edge e.signal.first s ≡ Some t → reset_with e i (reset_branch e.edge e.signal.first s) ≡ Some r

@@ -5,7 +5,7 @@ use Rattle.vs_design.specs.Accepted.{is_empty}
 use Rattle.vs_design.specs.Designs.{Edge, Any, Posedge, Negedge, Process, Always, is_clocked, Design, bit_count}
 use Rattle.vs_design.specs.Fits.{is_fit, fits_statement, fits_process}
 use Rattle.vs_design.specs.Footprints.{contains, statement_bits, writes_of}
-use Rattle.vs_design.specs.Resets.{branch_updates, net_edge, reset_of}
+use Rattle.vs_design.specs.Resets.{branch_writes, branch_updates, net_edge, reset_of}
 use Rattle.vs_design.specs.Rules.{mixed_assigns, mixed_in}
 use Rattle.vs_design.specs.Statements.{Statement, If}
 use Rattle.vs_design.specs.TreeLaws.{BodyReads}
@@ -31,7 +31,7 @@ use Rattle.vs_compile.specs.Laid.{IsTable, Laid, laid_layout, table_layout}
 use Rattle.vs_compile.specs.Resets.{falls}
 use Rattle.vs_compile.proofs.Accepted.{there}
 use Rattle.vs_compile.proofs.Blocks.{HasBranch, has_branch, has_room, left_has}
-use Rattle.vs_compile.proofs.Fixed.{fixed_updates}
+use Rattle.vs_compile.proofs.Fixed.{fixed_writes, fixed_updates}
 use Rattle.vs_compile.proofs.Laying.{registers_below, temps_fit}
 use Rattle.vs_compile.proofs.Lists.{and_true, at_process, is_none}
 use Rattle.vs_compile.proofs.Lowering.{stores_left, writes_in}
@@ -76,8 +76,8 @@ pub record CanReset (d : Design) (x : Process) (low : Bool) (r : N.Reset) (taken
   pub room : HasResetRoom x low r.input taken
 
 can_reset : BodyReads → AscendingIsOnce → FewAreApart → SourcesOfDesign → (d : Design) (clock : ℕ) → IsAcceptedAt d clock → (p : ℕ) (x : Process) → slice_get d.processes p ≡ Some x
-    → (r : N.Reset) (taken : Statement) (low : Bool) → reset_of d clock x ≡ Some r → branch_of d clock x ≡ Some taken → r.edge ≡ (if low then N.Negedge else N.Posedge) → r.updates ≡ branch_updates taken → CanReset d x low r taken
-can_reset reads once few sources d clock at p x e r taken low is branch edge updates =
+    → (r : N.Reset) (taken : Statement) (low : Bool) → reset_of d clock x ≡ Some r → branch_of d clock x ≡ Some taken → r.edge ≡ (if low then N.Negedge else N.Posedge) → r.writes ≡ branch_writes taken → r.updates ≡ branch_updates taken → CanReset d x low r taken
+can_reset reads once few sources d clock at p x e r taken low is branch edge writes updates =
     let h = branch_is d clock at p x e r taken is branch in
     let source : SourcesAre d clock = subst (λ c. SourcesAre d c) at.clock_is (sources d at.name at.accepted) in
     let inside : AreInside (bit_count d) (statement_bits taken) = λ b m. registers_below sources d clock at b (writes_in d.processes p x e h.block.clocked b (h.within b m)) in
@@ -85,7 +85,7 @@ can_reset reads once few sources d clock at p x e r taken low is branch edge upd
       fixed = h.fixed;
       there = source.data_below r.input (source.reset_input x r is);
       inside = inside;
-      is = record { input_is = refl; edge_is = edge; updates_are = λ s. fixed_updates reads taken h.fixed.fixed s ∙ sym updates };
+      is = record { input_is = refl; edge_is = edge; writes_are = λ s. fixed_writes reads taken h.fixed.fixed s ∙ sym writes; updates_are = λ s. fixed_updates reads taken h.fixed.fixed s ∙ sym updates };
       room = has_room once few (bit_count d) x low r.input taken (subst (λ (g : N.Edge). HasBranch x g taken) edge h.block) inside;
     }
 
@@ -97,7 +97,7 @@ edge_falls Any = refl
 pub resets : BodyReads → AscendingIsOnce → FewAreApart → SourcesOfDesign → (a : Arena) (clock : ℕ) → IsAcceptedAt (design_of a) clock → (p : ℕ) (x : Process) → slice_get (design_of a).processes p ≡ Some x
     → (r : Reset) → C.IsResetOf a clock x r → CanReset (design_of a) x (falls r.edge) (plain_reset a r) (plain_branch a r)
 resets reads once few sources a clock at p x e r i =
-    can_reset reads once few sources (design_of a) clock at p x e (plain_reset a r) (plain_branch a r) (falls r.edge) i.is i.branch (edge_falls r.edge) refl
+    can_reset reads once few sources (design_of a) clock at p x e (plain_reset a r) (plain_branch a r) (falls r.edge) i.is i.branch (edge_falls r.edge) refl refl
 
 ready : (d : Design) (x : Process) (low : Bool) (r : N.Reset) (taken : Statement) (count first : ℕ) (calls : List Call) → CanReset d x low r taken → count ≡ bit_count d → 4 + count ≤ first
     → first + Rattle.vs_program.specs.Lowered.process_stores x < 2 ^ 32 → length_of calls + Rattle.vs_program.specs.Lowered.process_stores x ≤ 2 ^ 32 → IsResetReady count (record { calls = calls; next = first }) low r.input taken

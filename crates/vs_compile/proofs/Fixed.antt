@@ -1,11 +1,12 @@
--- A reset's branch, which names no signal but as a target, gives the same updates whatever the values of the bits are.
+-- A reset's branch, which names no signal but as a target, gives the same writes and updates whatever the values of the bits are.
 use Rattle.std.proofs.Common.{◌≡◌, ℕ, true, List, [], ◌∷◌, ◌++◌, refl, ap, ◌∙◌, subst}
-use Rattle.vs_net.specs.Network.{State, Effect, Update}
+use Rattle.vs_four.specs.declared.Bit4.TheVariants.{X}
+use Rattle.vs_net.specs.Network.{State, Effect, Write, Update}
 use Rattle.vs_design.specs.Expressions.{Signal, OfSignal, OfConstant, Expression, Literal, Name, Select, Unary, Binary, Choice, Join, Repeat, At}
 use Rattle.vs_design.specs.Statements.{Target, Whole, PartOf, Both, Statement, Empty, Assignment, Then, If, Case, Arms, Arm, Default}
 use Rattle.vs_design.specs.Bodies.{body}
 use Rattle.vs_design.specs.Footprints.{contains, read_bits, read_signals, target_reads, target_signals, items_reads, items_signals, statement_reads, statement_signals, arms_reads, arms_signals}
-use Rattle.vs_design.specs.Resets.{has_none, are_constant, branch_updates, is_fixed}
+use Rattle.vs_design.specs.Resets.{has_none, are_constant, branch_writes, branch_updates, is_fixed}
 use Rattle.vs_design.specs.TreeLaws.{BodyReads}
 use Rattle.vs_compile.proofs.Lists.{and_true}
 
@@ -69,7 +70,13 @@ mutual
       (both_empty (statement_reads statement) (arms_reads rest) (statement_read statement (none_left (statement_signals statement) (arms_signals rest) behind)) (arms_read rest (none_right (statement_signals statement) (arms_signals rest) behind)))
   arms_read (Default statement) h = statement_read statement h
 
-pub fixed_updates : BodyReads → (s : Statement) → is_fixed s ≡ true → (state : State) → (body s state).updates ≡ branch_updates s
-fixed_updates law s h state =
+same_body : BodyReads → (s : Statement) → is_fixed s ≡ true → (state : State) → body s state ≡ body s (λ b. X)
+same_body law s h state =
     let none : statement_reads s ≡ [] = statement_read s (and_true (has_none (statement_signals s)) (are_constant s) h).0 in
-    ap {B = List Update} (λ (x : Effect). x.updates) (law s state (λ b. Rattle.vs_four.specs.declared.Bit4.TheVariants.X) (λ b m. absurd (let z : contains [] b ≡ true = subst (λ bs. contains bs b ≡ true) none m in let y : ⊥ = cc in y)))
+    law s state (λ b. X) (λ b m. absurd (let z : contains [] b ≡ true = subst (λ bs. contains bs b ≡ true) none m in let y : ⊥ = cc in y))
+
+pub fixed_writes : BodyReads → (s : Statement) → is_fixed s ≡ true → (state : State) → (body s state).writes ≡ branch_writes s
+fixed_writes law s h state = ap {B = List Write} (λ (x : Effect). x.writes) (same_body law s h state)
+
+pub fixed_updates : BodyReads → (s : Statement) → is_fixed s ≡ true → (state : State) → (body s state).updates ≡ branch_updates s
+fixed_updates law s h state = ap {B = List Update} (λ (x : Effect). x.updates) (same_body law s h state)

@@ -1,14 +1,16 @@
--- The bits that a reset sets are those that its branch gives an update.
-use Rattle.std.proofs.Common.{◌≡◌, ℕ, zero, suc, ◌+◌, ◌<◌, Bool, true, false, ◌&&◌, ◌||◌, ◌==◌, List, [], ◌∷◌, ◌++◌, map, if◌then◌else◌, length, Option, Some, None, slice_get, refl, sym, ap, ◌∙◌, subst, arith, inr}
+-- The bits that a reset sets are those that its branch writes, at once or by an update.
+use Rattle.std.proofs.Common.{◌≡◌, ℕ, zero, suc, ◌+◌, ◌<◌, Bool, true, false, ◌&&◌, ◌||◌, ◌==◌, List, [], ◌∷◌, ◌++◌, map, if◌then◌else◌, length, Option, Some, None, slice_get, refl, sym, ap, ◌∙◌, subst, arith, ◌⊎◌}
 use Rattle.std.specs.Prelude.{slice_index_or}
 use Rattle.std.specs.List.{All, filter}
 use Rattle.std.proofs.lemmas.Bool.{both_ways}
 use Rattle.std.proofs.lemmas.List.Elements.{All-nil}
-use Rattle.vs_net.specs.Network.{Write, flatten, is_written}
+use Rattle.vs_net.specs.Network.{Write, branch, flatten, is_written}
 use Rattle.vs_net.specs.Network as N
+use Rattle.vs_net.proofs.Beginning.{written_or}
 use Rattle.vs_design.specs.Designs.{Process, is_clocked, Design, bit_count}
 use Rattle.vs_design.specs.Footprints.{contains, writes_of}
-use Rattle.vs_design.specs.Resets.{branch_updates, reset_of}
+use Rattle.vs_design.specs.Resets.{branch_writes, branch_updates, reset_of}
+use Rattle.vs_design.specs.Statements.{Statement}
 use Rattle.vs_design.specs.TreeLaws.{BodyWritesWithin}
 use Rattle.vs_flat.specs.Arena.{Arena}
 use Rattle.vs_flat.specs.DesignOf.{design_of}
@@ -70,17 +72,21 @@ written (w ∷ ws) b = ap (λ c. (b == w.bit) || c) (written ws b)
 set_of : (d : Design) (clock : ℕ) (x : Process) (r : N.Reset) → is_clocked x ≡ true → reset_of d clock x ≡ Some r → reset_bits_or d clock (Some x) ≡ bits_of_reset (Some r)
 set_of d clock x r clocked is = ap (λ (t : Bool). if t then bits_of_reset (reset_of d clock x) else []) clocked ∙ ap bits_of_reset is
 
-pub are_set : BodyWritesWithin → (a : Arena) (clock p : ℕ) (r : Reset) (bits list : List ℕ) → CanSet a clock p r bits → list ≡ [] ++ filter (is_written (flatten (branch_updates (plain_branch a r)))) bits
+written_either : (st : Statement) (b : ℕ) → is_written (flatten (branch_writes st ∷ branch_updates st)) b ≡ true → (is_written (branch_writes st) b ≡ true) ⊎ (is_written (flatten (branch_updates st)) b ≡ true)
+unfolding flatten
+written_either st b h = written_or (branch_writes st) (flatten (branch_updates st)) b h
+
+pub are_set : BodyWritesWithin → (a : Arena) (clock p : ℕ) (r : Reset) (bits list : List ℕ) → CanSet a clock p r bits → list ≡ [] ++ filter (is_written (flatten (branch (plain_reset a r)))) bits
     → HasBitsOf (bit_count (design_of a)) list (reset_bits_or (design_of a) clock (slice_get (design_of a).processes p))
 are_set law a clock p r bits list can is =
     let d = design_of a in
-    let ws = flatten (branch_updates (plain_branch a r)) in
+    let ws = flatten (branch (plain_reset a r)) in
     let all : reset_bits_or d clock (slice_get d.processes p) ≡ bits_of_reset (Some (plain_reset a r)) =
     ap (reset_bits_or d clock) can.at ∙ set_of d clock can.process (plain_reset a r) can.branch.block.clocked can.reset.is in
     let has : (b : ℕ) → contains list b ≡ (contains bits b && is_written ws b) = λ b. ap (λ (bs : List ℕ). contains bs b) is ∙ contains_filter (is_written ws) bits b in
     subst (λ (bs : List ℕ). HasBitsOf (bit_count d) list bs) (sym all) (record {
       same = λ b. has b ∙ by_test (is_written ws b)
-          (λ w. let here = can.covers b (law (plain_branch a r) can.branch.fixed.fits (λ n. Rattle.vs_four.specs.declared.Bit4.TheVariants.X) b (inr w)) in
+          (λ w. let here = can.covers b (law (plain_branch a r) can.branch.fixed.fits (λ n. Rattle.vs_four.specs.declared.Bit4.TheVariants.X) b (written_either (plain_branch a r) b w)) in
           ap (λ c. c && is_written ws b) here ∙ sym (written ws b))
           (λ w. ap (λ (c : Bool). contains bits b && c) w ∙ and_false (contains bits b) ∙ sym (written ws b ∙ w));
       below = all_from (λ b. b < bit_count d) list (λ b m. can.own.below b (left (contains bits b) (is_written ws b) (sym (has b) ∙ m)));

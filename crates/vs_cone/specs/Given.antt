@@ -1,9 +1,9 @@
 -- What inputs, registers and clock nets have in a slot before its processes run, and what that slot then comes to.
 use Rattle.std.specs.Prelude.{◌≡◌, ℕ, true, false, List, [], ◌∷◌, ◌++◌, map, if◌then◌else◌, Option, Some, None, slice_get}
 use Rattle.vs_four.specs.declared.Bit4.TheVariants.{Zero, One}
-use Rattle.vs_net.specs.Network.{State, Write, write_all, flatten, updates, Reset}
+use Rattle.vs_net.specs.Network.{State, Write, write_all, flatten, effects, branch, Reset}
 use Rattle.vs_net.specs.Queue.{Fall, Rise}
-use Rattle.vs_net.specs.Solution.{reset_updates, IsSlotEnd}
+use Rattle.vs_net.specs.Solution.{reset_effects, IsSlotEnd}
 use Rattle.vs_net.specs.Settle.{settle}
 use Rattle.vs_design.specs.Designs.{Process, is_clocked, Design}
 use Rattle.vs_design.specs.Footprints.{contains, without, input_bits, writes_of}
@@ -20,10 +20,10 @@ use Rattle.vs_cone.specs.Laws.{IsSettled, HaveClock}
 abbrev pub data_bits : Design → ℕ → List ℕ
 data_bits d clock = without (input_bits d) (clock ∷ [])
 
--- the bits to which this reset's branch gives an update
+-- the bits that this reset's branch writes, at once or by an update
 abbrev pub bits_of_reset : Option Reset → List ℕ
 bits_of_reset None = []
-bits_of_reset (Some r) = map (λ (w : Write). w.bit) (flatten r.updates)
+bits_of_reset (Some r) = map (λ (w : Write). w.bit) (flatten (branch r))
 
 -- those of the resets of all clocked blocks of the list
 abbrev pub bits_of_resets : Design → ℕ → List Process → List ℕ
@@ -43,14 +43,14 @@ pub record HasFallen (d : Design) (clock : ℕ) (vector before s : State) : Type
   pub inputs : (b : ℕ) → contains (data_bits d clock) b ≡ true → s b ≡ vector b
   pub resets : (p : ℕ) (x : Process) → slice_get d.processes p ≡ Some x → is_clocked x ≡ true
       → (b : ℕ) → contains (bits_of_reset (reset_of d clock x)) b ≡ true
-      → s b ≡ write_all before (flatten (reset_updates (reset_of d clock x) vector)) b
+      → s b ≡ write_all before (flatten (reset_effects (reset_of d clock x) vector)) b
   pub clock_is : HaveClock d clock Zero s
   pub others : (b : ℕ) → contains (fall_bits d clock) b ≡ false → contains (clock_nets d clock) b ≡ false → s b ≡ before b
 
--- The clock has risen: each register has what the updates of its block give from the values before, the clock nets are 1, and all else is as before.
+-- The clock has risen: each register has what a run of its block gives from the values before, first what it writes at once and then its updates, the clock nets are 1, and all else is as before.
 pub record HasRisen (d : Design) (clock : ℕ) (before s : State) : Type 0 where
   pub registers : (p : ℕ) (x : Process) → slice_get d.processes p ≡ Some x → is_clocked x ≡ true
-      → (b : ℕ) → contains (writes_of x) b ≡ true → s b ≡ write_all before (flatten (updates (process_of d clock x) before)) b
+      → (b : ℕ) → contains (writes_of x) b ≡ true → s b ≡ write_all before (flatten (effects (process_of d clock x) before)) b
   pub clock_is : HaveClock d clock One s
   pub others : (b : ℕ) → contains (register_bits d.processes) b ≡ false → contains (clock_nets d clock) b ≡ false → s b ≡ before b
 

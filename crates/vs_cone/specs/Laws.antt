@@ -17,7 +17,7 @@ use Rattle.vs_cone.specs.Cones.{cone, but_ports}
 -- so it is at the end of every slot: each assign's target has the value of its right side, and each combinational block's bits have what its statement gives, or x where it sleeps on from some values before
 pub record IsSettled (n : Network) (s : State) : Type 0 where
   pub from : State
-  pub each : (p : ℕ) → write_all s (given n from p s) ≡ s
+  pub each : (p : ℕ) → Settles (kind (n.process p)) → write_all s (given n from p s) ≡ s
 
 -- all clock nets have this value
 pub record HaveClock (d : Design) (clock : ℕ) (v : Bit4) (s : State) : Type 0 where

@@ -41,7 +41,7 @@ pub fn fall_law()
     clock_law();
 }
 
-/// What a slot comes to in which the clock rises: each register has what the updates of its block give from the values before (9.2.2).
+/// What a slot comes to in which the clock rises: each register has what a run of its block gives from the values before, first its blocking writes (9.2.1) and then its updates (9.2.2).
 pub fn rise_law()
     ensures { LaterRise }
 {

@@ -1,8 +1,9 @@
 -- A slot of an accepted design has few steps.
+use Rattle.vs_net.specs.Bound.{written_at_once}
 use Rattle.std.proofs.Common.{◌≡◌, ℕ, ◌+◌, ◌≤◌, Bool, true, false, List, [], ◌∷◌, ◌++◌, ◌||◌, ◌==◌, eqb-true, not, if◌then◌else◌, refl, subst, length, map, Option, Some, None, arith, length-append}
 use Rattle.std.specs.Prelude.{slice_get}
 use Rattle.std.specs.List.{list_any}
-use Rattle.vs_net.specs.Network.{Reset, reset_of, State, Update, Effect, write_all, Network, Kind, AnInput, TheClock, AnAssign, AComb, AClocked, kind, writes, listens, clock_net, updates}
+use Rattle.vs_net.specs.Network.{Reset, reset_of, State, Update, Effect, write_all, Network, Kind, AnInput, TheClock, AnAssign, AComb, AClocked, kind, writes, listens, clock_net, updates, made}
 use Rattle.vs_net.specs.Network as N
 use Rattle.vs_net.specs.Lawful.{IsLawful}
 use Rattle.vs_net.proofs.Bounded.{slots_end}
@@ -26,32 +27,45 @@ use Rattle.vs_design.proofs.Parts.{by_kind, at_process}
 use Rattle.vs_design.proofs.Lawful.{lawful}
 use Rattle.vs_design.proofs.Weights.{weight, runs, weighed}
 
--- ---- a run leaves at most one update for each assignment
+-- ---- a run writes and leaves at most as much as it has assignments
 
-effect_few : (blocking : Bool) (ws : List N.Write) → length (effect_of blocking ws).updates ≤ 1
-effect_few true ws = omega arith
+-- what it writes at once counts as one
+abbrev effect_count : Effect → ℕ
+effect_count x = written_at_once x.writes + length x.updates
+
+once_most : (ws : List N.Write) → written_at_once ws ≤ 1
+once_most [] = omega arith
+once_most (w ∷ ws) = omega arith
+
+once_append : (xs ys : List N.Write) → written_at_once (xs ++ ys) ≤ written_at_once xs + written_at_once ys
+once_append [] ys = omega arith
+once_append (x ∷ xs) ys = omega arith
+
+effect_few : (blocking : Bool) (ws : List N.Write) → effect_count (effect_of blocking ws) ≤ 1
+effect_few true ws = let m = once_most ws in omega (arith, m)
 effect_few false ws = omega arith
 
 mutual
-  body_few : (st : Statement) (s : State) → length (body st s).updates ≤ assignments st
+  body_few : (st : Statement) (s : State) → effect_count (body st s) ≤ assignments st
   body_few Empty s = omega arith
   body_few (Assignment place target e blocking) s = effect_few blocking (assignment_writes target e s)
   body_few (Then first rest) s =
       let a = body_few first s in
       let b = body_few rest (write_all s (body first s).writes) in
+      let m = once_append (body first s).writes (body rest (write_all s (body first s).writes)).writes in
       let l = length-append (body first s).updates (body rest (write_all s (body first s).writes)).updates in
-      omega (arith, a, b, l)
+      omega (arith, a, b, l, m)
   body_few (If c taken other) s =
       let a = body_few taken s in
       let b = body_few other s in
-      cond_of (λ (x : Effect). length x.updates ≤ assignments taken + assignments other) (is_one (truth (own_value c s))) (body taken s) (body other s) (omega (arith, a)) (omega (arith, b))
+      cond_of (λ (x : Effect). effect_count x ≤ assignments taken + assignments other) (is_one (truth (own_value c s))) (body taken s) (body other s) (omega (arith, a)) (omega (arith, b))
   body_few (Case kind subject arms) s = arms_few arms kind (case_width subject arms) (case_sign subject arms) (value subject (case_width subject arms) (case_sign subject arms) s) s
 
-  arms_few : (arms : Arms) (kind : CaseKind) (w : ℕ) (g : Bool) (v : BitList) (s : State) → length (arms_body arms kind w g v s).updates ≤ arms_assignments arms
+  arms_few : (arms : Arms) (kind : CaseKind) (w : ℕ) (g : Bool) (v : BitList) (s : State) → effect_count (arms_body arms kind w g v s) ≤ arms_assignments arms
   arms_few (Arm items statement rest) kind w g v s =
       let a = body_few statement s in
       let b = arms_few rest kind w g v s in
-      cond_of (λ (x : Effect). length x.updates ≤ assignments statement + arms_assignments rest) (is_taken kind w g v items s) (body statement s) (arms_body rest kind w g v s) (omega (arith, a)) (omega (arith, b))
+      cond_of (λ (x : Effect). effect_count x ≤ assignments statement + arms_assignments rest) (is_taken kind w g v items s) (body statement s) (arms_body rest kind w g v s) (omega (arith, a)) (omega (arith, b))
   arms_few (Default statement) kind w g v s = body_few statement s
 
 any_of : (test : ℕ → Bool) (bs : List ℕ) (b : ℕ) → contains bs b ≡ true → test b ≡ true → list_any test bs ≡ true
@@ -93,8 +107,8 @@ module _ (d : Design) (name : List ℕ) (a : IsAcceptedDesign d name) where
   fed_only : (p q : ℕ) → feeds_of d a.clock.first q p ≡ true → (b : ℕ) × (listens (net_work.process p) b ≡ true) × (writes (net_work.process q) b ≡ true)
   fed_only p q h = let r = any_bit (writes (net_work.process q)) (wakers (slice_get d.processes p)) h in (r.0, woken_by p (slice_get d.processes p) refl r.0 r.1, r.2)
 
-  few : (p : ℕ) (s : State) → kind (net_work.process p) ≡ AClocked → length (updates (net_work.process p) s) ≤ size_of d p
-  few p s = by_kind d a.clock.first (λ p x. kind x ≡ AClocked → length (updates x s) ≤ size_of d p) (record {
+  few : (p : ℕ) (s : State) → kind (net_work.process p) ≡ AClocked → written_at_once (made (net_work.process p) s) + length (updates (net_work.process p) s) ≤ size_of d p
+  few p s = by_kind d a.clock.first (λ p x. kind x ≡ AClocked → written_at_once (made x s) + length (updates x s) ≤ size_of d p) (record {
     assigns = λ p place port target_place target e h w. cc;
     combs = λ p place star events st h k w. cc;
     clocked = λ p place star events st h k w. rw h (body_few st s);

@@ -1,15 +1,18 @@
 -- The clock nets of an accepted design's network.
-use Rattle.std.proofs.Common.{◌≡◌, ℕ, Bool, true, false, List, [], ◌∷◌, ◌++◌, ◌||◌, ◌&&◌, ◌==◌, eqb-true, eq-eqb, not, if◌then◌else◌, ◌⊎◌, inl, inr, refl, sym, ap, ◌∙◌, subst, map, length, Option, Some, None}
+use Rattle.vs_design.proofs.Facts.{block_facts}
+use Rattle.vs_design.proofs.RaceLaws.{body_once, stir_grows, closed_stir, no_race_at}
+use Rattle.vs_design.specs.Races.{blocking_bits, at_once_bits, stirred}
+use Rattle.std.proofs.Common.{◌≡◌, ℕ, Bool, true, false, List, [], ◌∷◌, ◌++◌, ◌||◌, ◌&&◌, ◌==◌, eqb-true, eq-eqb, not, if◌then◌else◌, ◌⊎◌, inl, inr, refl, sym, ap, ◌∙◌, subst, map, length, Option, Some, None, ◌≢◌}
 use Rattle.std.specs.Prelude.{slice_get, is_some}
 use Rattle.std.specs.List.{list_any}
-use Rattle.vs_net.specs.Network.{State, Update, Effect, Network, Kind, TheClock, AnAssign, AComb, AClocked, kind, writes, listens, updates, clock_net}
-use Rattle.vs_net.specs.Lawful.{IsClockPort}
+use Rattle.vs_net.specs.Network.{State, Update, Effect, Network, Kind, TheClock, AnAssign, AComb, AClocked, kind, writes, listens, clock_net, effects, made, is_written}
+use Rattle.vs_net.specs.Lawful.{IsClockPort, Settles}
 use Rattle.vs_design.specs.Expressions.{Expression}
 use Rattle.vs_design.specs.Statements.{Target, Statement}
 use Rattle.vs_design.specs.Designs.{Event, Process, Continuous, Always, is_clocked, Design}
 use Rattle.vs_design.specs.Footprints.{contains, read_bits, target_reads, target_bits, statement_bits, statement_reads, writes_of, reads_of, waits_of, without}
 use Rattle.vs_design.specs.Clocks.{edge_bit, is_clock_net, port_target, port_targets, clock_nets, root_of, is_clock_port, reads_clock, is_clock_event, is_reset_event, ByClock, ByBoth, both_events, events_of, clock_bit, has_other_clock}
-use Rattle.vs_design.specs.Levels.{level_order}
+use Rattle.vs_design.specs.Levels.{level_order, needs}
 use Rattle.vs_design.specs.Networks.{network_of}
 use Rattle.vs_design.specs.Accepted.{IsAcceptedDesign}
 use Rattle.vs_design.proofs.Lists.{by_test, and_both, or_left, or_neither, contains-append, contains-left, contains-right}
@@ -25,6 +28,14 @@ use Rattle.vs_design.proofs.ClockNets.{clock_number, clock_process, clock_in, ne
 not_both : (a : Bool) → (not a) ≡ false → a ≡ true
 not_both true h = refl
 not_both false h = cc
+
+-- the bits that the process of this number stirs
+abbrev pub stirs_of : Design → Option Process → ℕ → Bool
+stirs_of d None b = false
+stirs_of d (Some p) b = contains (stirred d (level_order d) p) b
+
+abbrev pub stirs_at : Design → ℕ → ℕ → Bool
+stirs_at d p b = stirs_of d (slice_get d.processes p) b
 
 module _ (d : Design) (name : List ℕ) (a : IsAcceptedDesign d name) where
   abbrev pub nets : List ℕ
@@ -167,11 +178,11 @@ module _ (d : Design) (name : List ℕ) (a : IsAcceptedDesign d name) where
     none = λ p w n. refl;
   }) p
 
-  pub clocked_local : (p : ℕ) (s t : State) → kind (net_work.process p) ≡ AClocked → ((b : ℕ) → contains nets b ≡ false → s b ≡ t b) → updates (net_work.process p) s ≡ updates (net_work.process p) t
-  clocked_local p s t = by_kind d a.clock.first (λ p x. kind x ≡ AClocked → ((b : ℕ) → contains nets b ≡ false → s b ≡ t b) → updates x s ≡ updates x t) (record {
-    assigns = λ p place port target_place target e h w z. refl;
+  pub clocked_local : (p : ℕ) (s t : State) → kind (net_work.process p) ≡ AClocked → ((b : ℕ) → contains nets b ≡ false → ((r : ℕ) → r ≢ p → kind (net_work.process r) ≡ AClocked → stirs_at d r b ≡ false) → s b ≡ t b) → effects (net_work.process p) s ≡ effects (net_work.process p) t
+  clocked_local p s t = by_kind d a.clock.first (λ p x. kind x ≡ AClocked → ((b : ℕ) → contains nets b ≡ false → ((r : ℕ) → r ≢ p → kind (net_work.process r) ≡ AClocked → stirs_at d r b ≡ false) → s b ≡ t b) → effects x s ≡ effects x t) (record {
+    assigns = λ p place port target_place target e h w z. cc;
     combs = λ p place star events st h k w z. cc;
-    clocked = λ p place star events st h k w z. ap {B = List Update} (λ (x : Effect). x.updates) (body_reads st s t (λ b q. z b (not_a_net p place star events st h k b q)));
+    clocked = λ p place star events st h k w z. ap {B = List Update} (λ (x : Effect). x.writes ∷ x.updates) (body_reads st s t (λ b q. z b (not_a_net p place star events st h k b q) (λ r ne kr. unstirred p r b place star events st h k ne q)));
     inputs = λ p i r l e f w z. refl;
     clock = λ p i r l e f w z. refl;
     none = λ p w z. refl;
@@ -184,6 +195,46 @@ module _ (d : Design) (name : List ℕ) (a : IsAcceptedDesign d name) where
           let r : contains (reads_of (Always place star events st)) b ≡ false = first_part (reads_of (Always place star events st)) (waits_of (Always place star events st)) b (unread p (Always place star events st) b h refl n) in
           absurd (either_way (contains (statement_reads st) b) q (subst (λ (c : Bool). contains (if not c then without (statement_reads st) (statement_bits st) else statement_reads st) b ≡ false) k r)))
           (λ n. n)
+
+      -- it reads nothing that another block stirs
+      unstirred : (p r b place : ℕ) (star : Bool) (events : List Event) (st : Statement) → slice_get d.processes p ≡ Some (Always place star events st) → is_clocked (Always place star events st) ≡ true → r ≢ p → contains (statement_reads st) b ≡ true → stirs_at d r b ≡ false
+      unstirred p r b place star events st h k ne q = by_process (slice_get d.processes r) refl
+        where
+          by_process : (o : Option Process) → slice_get d.processes r ≡ o → stirs_of d o b ≡ false
+          by_process None e = refl
+          by_process (Some y) e = no_race_at d (level_order d) p r (Always place star events st) y b a.no_race h k e ne
+              (subst (λ (c : Bool). contains (if not c then without (statement_reads st) (statement_bits st) else statement_reads st) b ≡ true) (sym k) q)
+
+  -- what a process writes at once it stirs
+  pub stirs_own : (p b : ℕ) (s : State) → kind (net_work.process p) ≡ AClocked → is_written (made (net_work.process p) s) b ≡ true → stirs_at d p b ≡ true
+  stirs_own p b s = by_kind d a.clock.first (λ p x. kind x ≡ AClocked → is_written (made x s) b ≡ true → stirs_at d p b ≡ true) (record {
+    assigns = λ p place port target_place target e h w. cc;
+    combs = λ p place star events st h k w. cc;
+    clocked = λ p place star events st h k w z. subst (λ (o : Option Process). stirs_of d o b ≡ true) (sym h)
+        (stir_grows d (level_order d) (at_once_bits (Always place star events st)) b
+        (subst (λ (c : Bool). contains (if c then blocking_bits st else []) b ≡ true) (sym k) (body_once st s (block_facts d name a p place star events st h).fit b z)));
+    inputs = λ p i r l e f w. cc;
+    clock = λ p i r l e f w. cc;
+    none = λ p w. cc;
+  }) p
+
+  -- and so it does what is made of it
+  pub stirs_on : (p r b c : ℕ) → stirs_at d p b ≡ true → listens (net_work.process r) b ≡ true → Settles (kind (net_work.process r)) → writes (net_work.process r) c ≡ true → stirs_at d p c ≡ true
+  stirs_on p r b c g = by_kind d a.clock.first (λ r x. listens x b ≡ true → Settles (kind x) → writes x c ≡ true → stirs_at d p c ≡ true) (record {
+    assigns = λ r place port target_place target e h l k w. on r (Continuous place port target_place target e) h refl (contains-left (reads_of (Continuous place port target_place target e)) (waits_of (Continuous place port target_place target e)) b l) w;
+    combs = λ r place star events st h k l z w. on r (Always place star events st) h k (contains-right (reads_of (Always place star events st)) (waits_of (Always place star events st)) b l) w;
+    clocked = λ r place star events st h k l z w. absurd z;
+    inputs = λ r i s l e f m z w. absurd z;
+    clock = λ r i s l e f m z w. absurd z;
+    none = λ r m z w. absurd z;
+  }) r
+    where
+      on : (r : ℕ) (x : Process) → slice_get d.processes r ≡ Some x → is_clocked x ≡ false → contains (needs x) b ≡ true → contains (writes_of x) c ≡ true → stirs_at d p c ≡ true
+      on r x h k n w = by_process (slice_get d.processes p) refl g
+        where
+          by_process : (o : Option Process) → slice_get d.processes p ≡ o → stirs_of d o b ≡ true → stirs_of d o c ≡ true
+          by_process None e f = cc
+          by_process (Some y) e f = closed_stir d (level_order d) [] (at_once_bits y) a.no_cycle (λ q z m o i. cc) (λ q z m o y i. cc) r x b c h k f n w
 
   pub assign_nets : (p : ℕ) → kind (net_work.process p) ≡ AnAssign → IsClockPort (contains nets) (net_work.process p) ⊎ ((b : ℕ) → contains nets b ≡ true → (listens (net_work.process p) b ≡ false) × (writes (net_work.process p) b ≡ false))
   assign_nets p = by_kind d a.clock.first (λ p x. kind x ≡ AnAssign → IsClockPort (contains nets) x ⊎ ((b : ℕ) → contains nets b ≡ true → (listens x b ≡ false) × (writes x b ≡ false))) (record {

@@ -16,6 +16,7 @@ use Rattle.vs_design.specs.Accepted.{is_empty, IsAcceptedDesign}
 use Rattle.vs_design.specs.Refusals.{least, otherwise, first_found, where_true, TooWide, Division, TooLarge, wide_in, divisions_in, earlier, too_large, MixedAssign, Sensitivity, Latch, signal_of, block_refusal_of, ClockRead, NotTheClock, ResetForm, clock_refusal_by, TimeZero, zero_refusal_by, IsUnrefused}
 use Rattle.vs_design.specs.Laws.{AcceptedExactly}
 use Rattle.vs_design.proofs.Lists.{and_both, or_false, or_neither}
+use Rattle.vs_design.proofs.RaceLaws.{unmixed_has_no_race}
 use Rattle.vs_design.proofs.Drivers.{empty_is}
 use Rattle.vs_design.proofs.WidthExact.{and_true, process_clear, wide_none, divisions_none}
 
@@ -203,11 +204,12 @@ accepted_exactly d name lawful = (there, back)
     back u =
         let w = otherwise_none (first_found (λ p process. earlier (least (wide_in process)) (least (divisions_in process))) 0 d.processes) (too_large d) u.widths in
         let c = clock_clear d (clock_input d name) u.clocks u.zero in
+        let unmixed = found_none (block_refusal_of d) (λ x. is_empty (mixed_assigns x)) 0 d.processes (λ p x f. (block_clear d p x f).0) u.blocks in
         record {
           lawful = lawful;
           fit = all_fit d 0 d.processes lawful.formed w.0;
           small = small_is (size d) 16777216 (true_where (nat_lt 16777216 (size d)) (TooLarge (size d)) w.1);
-          unmixed = found_none (block_refusal_of d) (λ x. is_empty (mixed_assigns x)) 0 d.processes (λ p x f. (block_clear d p x f).0) u.blocks;
+          unmixed = unmixed;
           sensitive = found_none (block_refusal_of d) (λ x. is_empty (missing_bits x)) 0 d.processes (λ p x f. (block_clear d p x f).1) u.blocks;
           no_latch = found_none (block_refusal_of d) (λ x. is_empty (latches x)) 0 d.processes (λ p x f. (block_clear d p x f).2) u.blocks;
           one_driver = least_mapped _ (shared_bits d) u.drivers;
@@ -217,5 +219,6 @@ accepted_exactly d name lawful = (there, back)
           one_clock = c.2.one;
           reset_forms = c.2.forms;
           no_cycle = u.no_cycle;
+          no_race = unmixed_has_no_race d unmixed;
           awake = c.2.awake;
         }

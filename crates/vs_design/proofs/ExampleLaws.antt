@@ -23,6 +23,7 @@ and_gate_is_accepted = record {
   one_clock = refl;
   reset_forms = refl;
   no_cycle = refl;
+  no_race = refl;
   awake = refl;
 }
 
@@ -41,6 +42,7 @@ counter_is_accepted = record {
   one_clock = refl;
   reset_forms = refl;
   no_cycle = refl;
+  no_race = refl;
   awake = refl;
 }
 
@@ -59,6 +61,7 @@ if_and_choice_is_accepted = record {
   one_clock = refl;
   reset_forms = refl;
   no_cycle = refl;
+  no_race = refl;
   awake = refl;
 }
 
@@ -77,6 +80,7 @@ three_registers_is_accepted = record {
   one_clock = refl;
   reset_forms = refl;
   no_cycle = refl;
+  no_race = refl;
   awake = refl;
 }
 
@@ -95,6 +99,7 @@ woken_is_accepted = record {
   one_clock = refl;
   reset_forms = refl;
   no_cycle = refl;
+  no_race = refl;
   awake = refl;
 }
 
@@ -113,6 +118,7 @@ set_once_is_accepted = record {
   one_clock = refl;
   reset_forms = refl;
   no_cycle = refl;
+  no_race = refl;
   awake = refl;
 }
 
@@ -131,6 +137,7 @@ chain_is_accepted = record {
   one_clock = refl;
   reset_forms = refl;
   no_cycle = refl;
+  no_race = refl;
   awake = refl;
 }
 
@@ -149,6 +156,7 @@ sleeper_is_accepted = record {
   one_clock = refl;
   reset_forms = refl;
   no_cycle = refl;
+  no_race = refl;
   awake = refl;
 }
 
@@ -167,6 +175,7 @@ never_run_is_accepted = record {
   one_clock = refl;
   reset_forms = refl;
   no_cycle = refl;
+  no_race = refl;
   awake = refl;
 }
 
@@ -185,6 +194,7 @@ resettable_is_accepted = record {
   one_clock = refl;
   reset_forms = refl;
   no_cycle = refl;
+  no_race = refl;
   awake = refl;
 }
 
@@ -203,6 +213,7 @@ reset_through_port_is_accepted = record {
   one_clock = refl;
   reset_forms = refl;
   no_cycle = refl;
+  no_race = refl;
   awake = refl;
 }
 
@@ -221,6 +232,7 @@ quiet_is_accepted = record {
   one_clock = refl;
   reset_forms = refl;
   no_cycle = refl;
+  no_race = refl;
   awake = refl;
 }
 
@@ -239,6 +251,7 @@ port_is_accepted = record {
   one_clock = refl;
   reset_forms = refl;
   no_cycle = refl;
+  no_race = refl;
   awake = refl;
 }
 
@@ -257,6 +270,7 @@ adder_is_accepted = record {
   one_clock = refl;
   reset_forms = refl;
   no_cycle = refl;
+  no_race = refl;
   awake = refl;
 }
 
@@ -275,6 +289,7 @@ clocked_instance_is_accepted = record {
   one_clock = refl;
   reset_forms = refl;
   no_cycle = refl;
+  no_race = refl;
   awake = refl;
 }
 
@@ -293,6 +308,7 @@ sum_is_accepted = record {
   one_clock = refl;
   reset_forms = refl;
   no_cycle = refl;
+  no_race = refl;
   awake = refl;
 }
 

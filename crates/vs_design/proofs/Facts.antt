@@ -93,6 +93,3 @@ comb_facts d name a p place star events st h k = comb_facts_by place star events
     (empty_is (mixed_assigns (Always place star events st)) (all_at (λ p. is_empty (mixed_assigns p)) d.processes p (Always place star events st) a.unmixed h))
     (empty_is (latches (Always place star events st)) (all_at (λ p. is_empty (latches p)) d.processes p (Always place star events st) a.no_latch h))
     (empty_is (missing_bits (Always place star events st)) (all_at (λ p. is_empty (missing_bits p)) d.processes p (Always place star events st) a.sensitive h))
-
-pub clocked_unmixed : (d : Design) (name : List ℕ) → IsAcceptedDesign d name → (p place : ℕ) (star : Bool) (events : List Event) (st : Statement) → slice_get d.processes p ≡ Some (Always place star events st) → is_clocked (Always place star events st) ≡ true → mixed_in true st ≡ []
-clocked_unmixed d name a p place star events st h k = subst (λ c. mixed_in c st ≡ []) k (empty_is (mixed_assigns (Always place star events st)) (all_at (λ p. is_empty (mixed_assigns p)) d.processes p (Always place star events st) a.unmixed h))

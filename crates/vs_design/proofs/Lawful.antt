@@ -1,5 +1,13 @@
 -- An accepted design's network is lawful.
-use Rattle.std.proofs.Common.{[]}
+use Rattle.std.proofs.Common.{◌≡◌, ℕ, true, false, List, [], ◌∷◌, refl, sym, ◌∙◌, subst}
+use Rattle.vs_net.specs.Network.{State, flatten, branch}
+use Rattle.vs_net.specs.Queue.{Slot, Fall, Rise}
+use Rattle.vs_net.specs.Solution.{beginning}
+use Rattle.vs_net.specs.Laws.{AreKnownSelects}
+use Rattle.vs_net.proofs.Basics.{write_all_at, none_written}
+use Rattle.vs_net.proofs.Beginning.{begins_none, first_none}
+use Rattle.vs_design.specs.Designs.{Design}
+use Rattle.vs_design.specs.Accepted.{IsAcceptedDesign}
 use Rattle.vs_design.specs.Clocks.{root_of}
 use Rattle.vs_design.proofs.ResetLaws.{roots_written, input_roots, assign_roots, reset_net_is, reset_run}
 use Rattle.vs_net.proofs.Runs.{every_order}
@@ -16,11 +24,15 @@ use Rattle.vs_design.specs.Networks.{network_of, all_processes}
 use Rattle.vs_design.specs.Laws.{SleepersOfDesign, AcceptedIsLawful, EveryOrderOfDesign, OneSolutionOfDesign, LevelRunOfDesign, OnePassOfDesign}
 use Rattle.vs_design.proofs.Parts.{beyond_count}
 use Rattle.vs_design.proofs.Order.{is_ordered}
-use Rattle.vs_design.proofs.LawfulParts.{exact, local, apart, comb_updates, clocked_writes, clocked_own, one_writer, idle_x, idle_xz}
+use Rattle.vs_design.proofs.LawfulParts.{exact, local, apart, comb_updates, clocked_own, one_writer, idle_x, idle_xz}
 use Rattle.vs_design.proofs.ClockNets.{clock_number}
-use Rattle.vs_design.proofs.ClockLaws.{clock_is, clock_bit_is, clock_net_is, nets_written, assign_nets, comb_nets, clocked_local}
+use Rattle.vs_design.proofs.ClockLaws.{clock_is, clock_bit_is, clock_net_is, nets_written, assign_nets, comb_nets, stirs_at, stirs_own, stirs_on, clocked_local}
 use Rattle.vs_design.proofs.SleepLaws.{is_sleeper}
 use Rattle.vs_design.proofs.TimeLaws.{early_idle, early_comb, early_made, late_idle, late_reset, late_asleep, late_input, late_clock, late_made, quiet_or_woken}
+
+-- no initial process writes
+begins : (d : Design) (clock b : ℕ) → beginning (network_of d clock) b ≡ (network_of d clock).idle b
+begins d clock b = begins_none (network_of d clock) (λ p. refl) b
 
 pub lawful : AcceptedIsLawful
 lawful d name a = record {
@@ -28,11 +40,17 @@ lawful d name a = record {
   one_writer = λ p q b g h. one_writer d name a a.clock.first p q b g h;
   idle_x = λ p b g h. idle_x d name a a.clock.first p b g h;
   idle_xz = λ b. idle_xz d name a a.clock.first b;
-  exact = λ p b s h. exact d name a a.clock.first p b s h;
+  initial_own = λ p b h. absurd (none_written b h);
+  initial_clocked = λ p k. (refl, refl);
+  initial_apart = λ p b s h. absurd (none_written b h);
+  selects = λ b. false;
+  select_driven = λ b h. cc;
+  select_made = λ p b s t h k w known. cc;
+  own = λ p b s h w. sym (exact d name a a.clock.first p b s h) ∙ w;
+  exact = λ p b s h known w. exact d name a a.clock.first p b s h ∙ w;
   local = λ p s t h k. local d name a a.clock.first p s t h k;
   apart = λ p b h. apart d name a a.clock.first p b h;
   comb_updates = λ p s h. comb_updates d name a a.clock.first p s h;
-  clocked_writes = λ p s h. clocked_writes d name a a.clock.first p s h;
   clocked_own = λ p b s h k. clocked_own d name a a.clock.first p b s h k;
   order = level_order d;
   ordered = is_ordered d a.clock.first (level_order d) [] (λ p. ⊥) a.no_cycle (λ p h. cc);
@@ -44,6 +62,9 @@ lawful d name a = record {
   clock_bit_is = λ p b h k. clock_bit_is d name a p b h k;
   assign_nets = λ p h. assign_nets d name a p h;
   comb_nets = λ p b h k. comb_nets d name a p b h k;
+  stirs = stirs_at d;
+  stirs_own = λ p b s h w. stirs_own d name a p b s h w;
+  stirs_on = λ p r b c h l st w. stirs_on d name a p r b c h l st w;
   clocked_local = λ p s t h k. clocked_local d name a p s t h k;
   roots = root_of d a.clock.first;
   roots_written = λ b i h. roots_written d name a b i h;
@@ -55,11 +76,11 @@ lawful d name a = record {
   early = λ b. has ((families d a.clock.first (level_order d)).early b);
   late = λ b. has ((families d a.clock.first (level_order d)).late b);
   time_zero = record {
-    early_idle = λ b h. early_idle d name a b h;
+    early_idle = λ b h. subst (λ v. has ((families d a.clock.first (level_order d)).early b) v ≡ true) (sym (first_none (network_of d a.clock.first) (λ p. refl) b)) (early_idle d name a b h);
     early_comb = λ p b h k. early_comb d name a p b h k;
     early_made = λ p h n s k. early_made d name a p h n s k;
-    late_idle = λ b h. late_idle d name a b h;
-    late_reset = λ p b r h w. late_reset d name a p b r h w;
+    late_idle = λ b h. subst (λ v. has ((families d a.clock.first (level_order d)).late b) v ≡ true) (sym (begins d a.clock.first b)) (late_idle d name a b h);
+    late_reset = λ p b r h w. subst (λ v. has ((families d a.clock.first (level_order d)).late b) v ≡ true) (sym (write_all_at (flatten (branch r)) (beginning (network_of d a.clock.first)) (network_of d a.clock.first).idle b (begins d a.clock.first b))) (late_reset d name a p b r h w);
     late_asleep = λ p b x h w. late_asleep d name a p b x h w;
     late_input = λ p b v h k l. late_input d name a p b v h k l;
     late_clock = λ p b h k. late_clock d name a p b h k;
@@ -72,8 +93,15 @@ lawful d name a = record {
 pub every_order_of : EveryOrderOfDesign
 every_order_of d name a = every_order (network_of d a.clock.first) (lawful d name a)
 
+-- no net is a select net
+none_select : (d : Design) (name : List ℕ) (a : IsAcceptedDesign d name) (before : State) (slots : List Slot) → AreKnownSelects (network_of d a.clock.first) (lawful d name a) before slots
+unfolding lawful
+none_select d name a before [] = tt
+none_select d name a before (Fall v ∷ slots) = ((λ p b k w h. cc), none_select d name a v slots)
+none_select d name a before (Rise ∷ slots) = ((λ p b k w h. cc), none_select d name a before slots)
+
 pub one_solution_of : OneSolutionOfDesign
-one_solution_of d name a = one_solution (network_of d a.clock.first) (lawful d name a)
+one_solution_of d name a before slots xs ys = one_solution (network_of d a.clock.first) (lawful d name a) before slots xs ys (none_select d name a before slots)
 
 pub level_run_of : LevelRunOfDesign
 level_run_of d name a order h = level_run_is_one (network_of d a.clock.first) (lawful d name a) order (is_ordered d a.clock.first order [] (λ p. ⊥) h (λ p h. cc))

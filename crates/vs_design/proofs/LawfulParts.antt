@@ -1,14 +1,16 @@
 -- An accepted design's processes write their own bits alone, by what they listen to.
-use Rattle.std.proofs.Common.{◌≡◌, ◌≢◌, ℕ, zero, suc, ◌+◌, ◌≤◌, Bool, true, false, List, [], ◌++◌, ◌&&◌, ◌==◌, eqb-true, eq-eqb, not, inl, inr, refl, sym, ap, ◌∙◌, subst, length, Option, Some, None, arith}
+use Rattle.vs_net.proofs.Beginning.{written_or}
+use Rattle.vs_net.proofs.Basics.{flat_cons}
+use Rattle.std.proofs.Common.{◌≡◌, ◌≢◌, ℕ, zero, suc, ◌+◌, ◌≤◌, Bool, true, false, List, [], ◌++◌, ◌&&◌, ◌==◌, eqb-true, eq-eqb, not, inl, inr, refl, sym, ap, ◌∙◌, subst, length, Option, Some, None, arith, ◌∷◌, ◌⊎◌}
 use Rattle.std.specs.Prelude.{slice_get}
 use Rattle.std.specs.List.{list_any}
 use Rattle.vs_four.specs.declared.Bit4.TheVariants.{X}
-use Rattle.vs_net.specs.Network.{State, Write, Effect, is_written, flatten, AnAssign, AComb, AClocked, kind, writes, listens, made, updates}
+use Rattle.vs_net.specs.Network.{State, Write, Effect, is_written, flatten, AnAssign, AComb, AClocked, kind, writes, listens, made, updates, effects, Update}
 use Rattle.vs_net.specs.Lawful.{Settles, IsUnknown}
 use Rattle.vs_design.specs.Expressions.{Signal, signal_length, Expression}
 use Rattle.vs_design.specs.Values.{count_from, bits_of_signal}
 use Rattle.vs_design.specs.Statements.{Target}
-use Rattle.vs_design.specs.Bodies.{assignment_writes}
+use Rattle.vs_design.specs.Bodies.{assignment_writes, body}
 use Rattle.vs_design.specs.Designs.{Process, Continuous, Always, Design, top_inputs}
 use Rattle.vs_design.specs.Footprints.{contains, read_bits, target_reads, target_bits, writes_of, net_bits, input_bits, variable_bits, is_input, is_net, is_variable}
 use Rattle.vs_design.specs.Levels.{level_order}
@@ -16,7 +18,7 @@ use Rattle.vs_design.specs.Networks.{network_of, idle_value}
 use Rattle.vs_design.specs.Accepted.{IsAcceptedDesign}
 use Rattle.vs_design.proofs.Lists.{by_test, or_left, contains-left}
 use Rattle.vs_design.proofs.Writes.{either_way, assignment_within, assignment_assigns}
-use Rattle.vs_design.proofs.BodyExact.{body_within, body_updates, body_writes}
+use Rattle.vs_design.proofs.BodyExact.{body_within, body_updates}
 use Rattle.vs_design.proofs.BodyLocal.{assignment_local}
 use Rattle.vs_design.proofs.Blocks.{block_writes, block_reads}
 use Rattle.vs_design.proofs.Drivers.{one_process}
@@ -24,7 +26,11 @@ use Rattle.vs_design.proofs.Signals.{kinds_apart, member_bits, one_signal}
 use Rattle.vs_design.proofs.Order.{no_loop}
 use Rattle.vs_design.proofs.Along.{constant_assigns}
 use Rattle.vs_design.proofs.Parts.{by_kind}
-use Rattle.vs_design.proofs.Facts.{assign_facts, block_facts, comb_facts, clocked_unmixed}
+use Rattle.vs_design.proofs.Facts.{assign_facts, block_facts, comb_facts}
+
+-- what a run gives is written at once or by an update
+given_within : (ws : List Write) (us : List Update) (b : ℕ) → is_written (flatten (ws ∷ us)) b ≡ true → (is_written ws b ≡ true) ⊎ (is_written (flatten us) b ≡ true)
+given_within ws us b h = written_or ws (flatten us) b (subst (λ (xs : List Write). is_written xs b ≡ true) (flat_cons ws us) h)
 
 pub assign_exact : (t : Target) (e : Expression) (s : State) (b : ℕ) → Rattle.vs_design.specs.Elaborated.has_constant_selects t ≡ true → Rattle.vs_design.specs.Fits.fits_target t ≡ true → is_written (assignment_writes t e s) b ≡ contains (target_bits t) b
 assign_exact t e s b c f =
@@ -80,21 +86,11 @@ module _ (d : Design) (name : List ℕ) (a : IsAcceptedDesign d name) (c : ℕ) 
     none = λ p w. refl;
   }) p
 
-  pub clocked_writes : (p : ℕ) (s : State) → kind ((network_of d c).process p) ≡ AClocked → made ((network_of d c).process p) s ≡ []
-  clocked_writes p s = by_kind d c (λ p x. kind x ≡ AClocked → made x s ≡ []) (record {
+  pub clocked_own : (p b : ℕ) (s : State) → kind ((network_of d c).process p) ≡ AClocked → is_written (flatten (effects ((network_of d c).process p) s)) b ≡ true → writes ((network_of d c).process p) b ≡ true
+  clocked_own p b s = by_kind d c (λ p x. kind x ≡ AClocked → is_written (flatten (effects x s)) b ≡ true → writes x b ≡ true) (record {
     assigns = λ p place port target_place target e h w. cc;
     combs = λ p place star events st h k w. cc;
-    clocked = λ p place star events st h k w. body_writes st s (clocked_unmixed d name a p place star events st h k);
-    inputs = λ p i r l e f w. refl;
-    clock = λ p i r l e f w. refl;
-    none = λ p w. refl;
-  }) p
-
-  pub clocked_own : (p b : ℕ) (s : State) → kind ((network_of d c).process p) ≡ AClocked → is_written (flatten (updates ((network_of d c).process p) s)) b ≡ true → writes ((network_of d c).process p) b ≡ true
-  clocked_own p b s = by_kind d c (λ p x. kind x ≡ AClocked → is_written (flatten (updates x s)) b ≡ true → writes x b ≡ true) (record {
-    assigns = λ p place port target_place target e h w. cc;
-    combs = λ p place star events st h k w. cc;
-    clocked = λ p place star events st h k w q. body_within st s (block_facts d name a p place star events st h).fit b (inr q);
+    clocked = λ p place star events st h k w q. body_within st s (block_facts d name a p place star events st h).fit b (given_within (body st s).writes (body st s).updates b q);
     inputs = λ p i r l e f w. cc;
     clock = λ p i r l e f w. cc;
     none = λ p w. cc;

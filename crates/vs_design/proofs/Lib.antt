@@ -28,6 +28,7 @@ pub mod SleepLaws
 pub mod TimeLaws
 pub mod Lawful
 pub mod WidthExact
+pub mod RaceLaws
 pub mod Exactly
 pub mod Named
 pub mod TreeFacts
@@ -48,3 +49,4 @@ pub mod Weights
 pub mod Bounded
 pub mod ClosedNets
 pub mod ExampleLaws
+pub mod ExampleBlocking

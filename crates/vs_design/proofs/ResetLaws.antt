@@ -6,7 +6,7 @@ use Rattle.vs_four.specs.declared.Bit4.{Bit4}
 use Rattle.vs_four.specs.declared.Bit4.TheVariants.{Zero, One, X, Z}
 use Rattle.vs_four.specs.Tables.{is_one, not_bit}
 use Rattle.vs_four.specs.Logic.{BitList, truth}
-use Rattle.vs_net.specs.Network.{State, Update, Effect, to_value, Network, Kind, AnInput, AnAssign, kind, writes, updates}
+use Rattle.vs_net.specs.Network.{State, Update, Effect, to_value, Network, Kind, AnInput, AnAssign, kind, writes, effects}
 use Rattle.vs_net.specs.Network as N
 use Rattle.vs_net.specs.Lawful.{IsClockPort, IsResetPort}
 use Rattle.vs_design.specs.Expressions.{Signal, signal_length, Expression, Literal, Name, Select, Unary, BitNot, LogicalNot, Binary, Choice, Join, Repeat, At, sign}
@@ -17,7 +17,7 @@ use Rattle.vs_design.specs.Designs.{Edge, Any, Posedge, Negedge, Event, Port, In
 use Rattle.vs_design.specs.Footprints.{contains, read_bits, target_reads, target_bits, statement_signals, writes_of, signals_bits}
 use Rattle.vs_design.specs.Elaborated.{is_formed, is_formed_statement, is_formed_process, are_formed_events}
 use Rattle.vs_design.specs.Clocks.{name_of, is_one_of, port_target, clock_nets, is_clock_port, may_reset, first_of, one_bit_inputs, root_of, Events, ByClock, ByBoth}
-use Rattle.vs_design.specs.Resets.{is_signal, inverted, is_condition, has_none, is_fixed, reset_branch, branch_updates, net_edge, reset_with, reset_by}
+use Rattle.vs_design.specs.Resets.{is_signal, inverted, is_condition, has_none, is_fixed, reset_branch, branch_writes, branch_updates, net_edge, reset_with, reset_by}
 use Rattle.vs_design.specs.Levels.{level_order}
 use Rattle.vs_design.specs.Networks.{network_of, process_of, writer_of, events_in}
 use Rattle.vs_design.specs.Accepted.{IsAcceptedDesign}
@@ -152,14 +152,18 @@ fixed_body d s r t f h =
     let none = and_both (has_none (statement_signals s)) (Rattle.vs_design.specs.Resets.are_constant s) h in
     body_reads s r t (λ b m. absurd (either_way (contains (signals_bits (statement_signals s)) b) (statement_named d s b f m) (has_nothing (statement_signals s) b none.0)))
 
-if_runs : (d : Design) (edge : Edge) (b : ℕ) (c : Expression) (taken other taken' : Statement) (r : State) → is_formed_statement d taken ≡ true → (if is_condition edge b c && is_fixed taken then Some taken else None) ≡ Some taken' → r b ≡ to_value (net_edge edge) → (body (If c taken other) r).updates ≡ branch_updates taken'
+-- all that a run gives, in order
+abbrev given : Effect → List Update
+given x = x.writes ∷ x.updates
+
+if_runs : (d : Design) (edge : Edge) (b : ℕ) (c : Expression) (taken other taken' : Statement) (r : State) → is_formed_statement d taken ≡ true → (if is_condition edge b c && is_fixed taken then Some taken else None) ≡ Some taken' → r b ≡ to_value (net_edge edge) → given (body (If c taken other) r) ≡ given (body taken' (λ m. X))
 if_runs d edge b c taken other taken' r f h e = by_test (is_condition edge b c && is_fixed taken)
     (λ q. let p = and_both (is_condition edge b c) (is_fixed taken) q in
     let same : taken ≡ taken' = (let z = subst (λ (g : Bool). (if g then Some taken else None) ≡ Some taken') q h in cc) in
-    rw (condition_holds edge b c r p.0 e) (ap {B = List Update} (λ (x : Effect). x.updates) (fixed_body d taken r (λ m. X) f p.1) ∙ ap branch_updates same))
+    rw (condition_holds edge b c r p.0 e) (ap {B = List Update} given (fixed_body d taken r (λ m. X) f p.1) ∙ ap {B = List Update} (λ t. given (body t (λ m. X))) same))
     (λ q. absurd (let z = subst (λ (g : Bool). (if g then Some taken else None) ≡ Some taken') q h in cc))
 
-branch_runs : (d : Design) (edge : Edge) (b : ℕ) (st taken : Statement) (r : State) → is_formed_statement d st ≡ true → reset_branch edge b st ≡ Some taken → r b ≡ to_value (net_edge edge) → (body st r).updates ≡ branch_updates taken
+branch_runs : (d : Design) (edge : Edge) (b : ℕ) (st taken : Statement) (r : State) → is_formed_statement d st ≡ true → reset_branch edge b st ≡ Some taken → r b ≡ to_value (net_edge edge) → given (body st r) ≡ given (body taken (λ m. X))
 branch_runs d edge b (If c first other) taken r f h e = if_runs d edge b c first other taken r (formed_taken f) h e
   where
     formed_taken : is_formed_statement d (If c first other) ≡ true → is_formed_statement d first ≡ true
@@ -172,7 +176,7 @@ branch_runs d edge b (Then first rest) taken r f h e = cc
 -- a reset is on a reset net, and gives what its branch gives
 record ResetIs (d : Design) (roots : ℕ → Option ℕ) (st : Statement) (reset : N.Reset) : Type 0 where
   on_net : roots reset.net ≡ Some reset.input
-  run : is_formed_statement d st ≡ true → (r : State) → r reset.net ≡ to_value reset.edge → (body st r).updates ≡ reset.updates
+  run : is_formed_statement d st ≡ true → (r : State) → r reset.net ≡ to_value reset.edge → given (body st r) ≡ N.branch reset
 
 reset_is : (d : Design) (roots : ℕ → Option ℕ) (o : Option Events) (st : Statement) (reset : N.Reset) → reset_by roots o st ≡ Some reset → ResetIs d roots st reset
 reset_is d roots None st reset h = cc
@@ -183,7 +187,7 @@ reset_is d roots (Some (ByBoth c e)) st reset h = by_parts (roots e.signal.first
     by_parts None p t q h = cc
     by_parts (Some i) p None q h = cc
     by_parts (Some i) p (Some taken) q h =
-        let same : record { net = e.signal.first; edge = net_edge e.edge; input = i; updates = branch_updates taken } ≡ reset = cc in
+        let same : record { net = e.signal.first; edge = net_edge e.edge; input = i; writes = branch_writes taken; updates = branch_updates taken } ≡ reset = cc in
         subst (λ (x : N.Reset). ResetIs d roots st x) same (record { on_net = p; run = λ f r g. branch_runs d e.edge e.signal.first st taken r f q g })
 
 -- ---- the reset nets of an accepted design
@@ -471,8 +475,8 @@ module _ (d : Design) (name : List ℕ) (a : IsAcceptedDesign d name) where
     none = λ p k. cc;
   }) p
 
-  pub reset_run : (p : ℕ) (r : N.Reset) (s : State) → N.reset_of (net_work.process p) ≡ Some r → s r.net ≡ to_value r.edge → updates (net_work.process p) s ≡ r.updates
-  reset_run p r s = by_kind d c (λ p y. N.reset_of y ≡ Some r → s r.net ≡ to_value r.edge → updates y s ≡ r.updates) (record {
+  pub reset_run : (p : ℕ) (r : N.Reset) (s : State) → N.reset_of (net_work.process p) ≡ Some r → s r.net ≡ to_value r.edge → effects (net_work.process p) s ≡ N.branch r
+  reset_run p r s = by_kind d c (λ p y. N.reset_of y ≡ Some r → s r.net ≡ to_value r.edge → effects y s ≡ N.branch r) (record {
     assigns = λ p place port target_place target e h k. cc;
     combs = λ p place star events st h k l. cc;
     clocked = λ p place star events st h k l g. (reset_is d roots (events_in d c events) st r l).run (formed_at p place star events st h) s g;

@@ -1,13 +1,14 @@
 -- Sleeping blocks of an accepted design.
-use Rattle.std.proofs.Common.{◌≡◌, ℕ, zero, suc, ◌≤◌, Bool, true, false, List, [], ◌∷◌, ◌++◌, ◌||◌, ◌&&◌, ◌==◌, not, if◌then◌else◌, nat_lt, max, map, refl, sym, ap, ◌∙◌, subst, eqb-true, Option, Some, None, arith}
+use Rattle.vs_net.proofs.Basics.{flat_cons}
+use Rattle.std.proofs.Common.{◌≡◌, ℕ, zero, suc, ◌≤◌, Bool, true, false, List, [], ◌∷◌, ◌++◌, ◌||◌, ◌&&◌, ◌==◌, not, if◌then◌else◌, nat_lt, max, map, refl, sym, ap, ◌∙◌, subst, eqb-true, Option, Some, None, arith, ◌+◌}
 use Rattle.std.specs.Prelude.{slice_get}
 use Rattle.std.specs.List.{list_all}
 use Rattle.vs_four.specs.Logic.{BitList, truth}
 use Rattle.vs_four.specs.Tables.{is_one}
 use Rattle.vs_four.specs.declared.Bit4.TheVariants.{X}
-use Rattle.vs_net.specs.Network.{State, Write, Update, write_all, is_written, flatten, Sleeper, Network, Kind, AComb, AClocked, kind, writes, listens, updates}
+use Rattle.vs_net.specs.Network.{State, Write, Update, write_all, is_written, flatten, Sleeper, Network, Kind, AComb, AClocked, kind, writes, listens, updates, effects, Effect}
 use Rattle.vs_net.specs.Network as N
-use Rattle.vs_net.specs.Lawful.{times, IsSleeper}
+use Rattle.vs_net.specs.Lawful.{times, IsSleeper, Settles}
 use Rattle.vs_net.proofs.Asleep.{times-append}
 use Rattle.vs_design.specs.Statements.{CaseKind, Statement, Empty, Assignment, Then, If, Case, Arms, Arm, Default, case_width, case_sign}
 use Rattle.vs_design.specs.Values.{own_value, value}
@@ -23,7 +24,7 @@ use Rattle.vs_design.proofs.Lists.{by_test, and_both, contains-left, contains-ri
 use Rattle.vs_design.proofs.Writes.{either_way, written_last, assignment_within}
 use Rattle.vs_design.proofs.Parts.{all_at, by_kind, at_process}
 use Rattle.vs_design.proofs.Signals.{member_bits}
-use Rattle.vs_design.proofs.LawfulParts.{first_bit, variables_not_nets, variables_not_inputs}
+use Rattle.vs_design.proofs.LawfulParts.{first_bit, variables_not_nets, variables_not_inputs, exact}
 use Rattle.vs_design.proofs.Facts.{assign_facts, block_facts}
 use Rattle.vs_design.proofs.TimeBits.{all_of_bits, some_is}
 
@@ -74,24 +75,32 @@ left_most k m n h = grind arith
 right_most : (k m n : ℕ) → k ≤ n → k ≤ max m n
 right_most k m n h = grind arith
 
+-- how often a run writes the bit, at once and by updates
+abbrev run_count : Effect → ℕ → ℕ
+run_count x b = times x.writes b + times (flatten x.updates) b
+
+no_write : (b : ℕ) → times [] b ≤ 0
+unfolding times
+no_write b = omega arith
+
+target_times : (target : Rattle.vs_design.specs.Statements.Target) (e : Rattle.vs_design.specs.Expressions.Expression) (s : State) (b : ℕ) → fits_target target ≡ true → times (assignment_writes target e s) b ≤ (if contains (target_bits target) b then 1 else 0)
+target_times target e s b f =
+    by_test (contains (target_bits target) b)
+    (λ k. rw k (last_times (Rattle.vs_design.specs.Bodies.target_writes target (Rattle.vs_design.specs.Values.assigned_value e (Rattle.vs_design.specs.Statements.target_width target) s) s) b))
+    (λ k. rw k (never_times (assignment_writes target e s) b (by_test (is_written (assignment_writes target e s) b) (λ w. absurd (either_way (contains (target_bits target) b) (assignment_within target e s b f w) k)) (λ w. w))))
+
 mutual
-  pub run_times : (st : Statement) (s : State) (b : ℕ) → fits_statement st ≡ true → times (flatten (body st s).updates) b ≤ most_writes st b
-  run_times Empty s b f = no_update b
-  run_times (Assignment place target e true) s b f = let n = no_update b in omega (arith, n)
-  run_times (Assignment place target e false) s b f =
-      let o = one_update (assignment_writes target e s) b in
-      by_test (contains (target_bits target) b)
-      (λ k. rw k (let n = last_times (Rattle.vs_design.specs.Bodies.target_writes target (Rattle.vs_design.specs.Values.assigned_value e (Rattle.vs_design.specs.Statements.target_width target) s) s) b in omega (arith, o, n)))
-      (λ k. rw k (let n = never_times (assignment_writes target e s) b (unwritten k) in omega (arith, o, n)))
-    where
-      unwritten : contains (target_bits target) b ≡ false → is_written (assignment_writes target e s) b ≡ false
-      unwritten k = by_test (is_written (assignment_writes target e s) b) (λ w. absurd (either_way (contains (target_bits target) b) (assignment_within target e s b (and_both (fits_target target) (is_fit e) f).0 w) k)) (λ w. w)
+  pub run_times : (st : Statement) (s : State) (b : ℕ) → fits_statement st ≡ true → run_count (body st s) b ≤ most_writes st b
+  run_times Empty s b f = let m = no_write b in let n = no_update b in omega (arith, m, n)
+  run_times (Assignment place target e true) s b f = let m = no_update b in let n = target_times target e s b (and_both (fits_target target) (is_fit e) f).0 in omega (arith, m, n)
+  run_times (Assignment place target e false) s b f = let m = no_write b in let o = one_update (assignment_writes target e s) b in let n = target_times target e s b (and_both (fits_target target) (is_fit e) f).0 in omega (arith, m, n, o)
   run_times (Then first rest) s b f =
       let g = and_both (fits_statement first) (fits_statement rest) f in
       let m = run_times first s b g.0 in
       let n = run_times rest (write_all s (body first s).writes) b g.1 in
       let a = ap (λ (ws : List Write). times ws b) (flatten-append (body first s).updates (body rest (write_all s (body first s).writes)).updates) in
-      let c = times-append (flatten (body first s).updates) (flatten (body rest (write_all s (body first s).writes)).updates) b in omega (arith, a, c, m, n)
+      let c = times-append (flatten (body first s).updates) (flatten (body rest (write_all s (body first s).writes)).updates) b in
+      let o = times-append (body first s).writes (body rest (write_all s (body first s).writes)).writes b in omega (arith, a, c, m, n, o)
   run_times (If c taken other) s b f =
       let g = and_both (is_fit c && fits_statement taken) (fits_statement other) f in
       by_test (is_one (truth (own_value c s)))
@@ -99,7 +108,7 @@ mutual
       (λ k. rw k (right_most _ (most_writes taken b) (most_writes other b) (run_times other s b g.1)))
   run_times (Case kind subject arms) s b f = arms_times arms kind (case_width subject arms) (case_sign subject arms) (value subject (case_width subject arms) (case_sign subject arms) s) s b (and_both (is_fit subject) (fits_arms arms) f).1
 
-  arms_times : (arms : Arms) (kind : CaseKind) (w : ℕ) (g : Bool) (v : BitList) (s : State) (b : ℕ) → fits_arms arms ≡ true → times (flatten (arms_body arms kind w g v s).updates) b ≤ arms_most arms b
+  arms_times : (arms : Arms) (kind : CaseKind) (w : ℕ) (g : Bool) (v : BitList) (s : State) (b : ℕ) → fits_arms arms ≡ true → run_count (arms_body arms kind w g v s) b ≤ arms_most arms b
   arms_times (Arm items statement rest) kind w g v s b f =
       let h = and_both (list_all is_fit items && fits_statement statement) (fits_arms rest) f in
       by_test (is_taken kind w g v items s)
@@ -107,8 +116,12 @@ mutual
       (λ k. rw k (right_most _ (most_writes statement b) (arms_most rest b) (arms_times rest kind w g v s b h.1)))
   arms_times (Default statement) kind w g v s b f = run_times statement s b f
 
+unset_flat : (b : ℕ) → is_written (flatten []) b ≡ false
+unfolding is_written flatten
+unset_flat b = refl
+
 -- no clocked block writes such a bit twice in a run
-pub once_in : (ps : List Process) (n : ℕ) (place : ℕ) (star : Bool) (events : List Event) (st : Statement) (s : State) (b : ℕ) → is_once ps b ≡ true → slice_get ps n ≡ Some (Always place star events st) → is_clocked (Always place star events st) ≡ true → fits_statement st ≡ true → times (flatten (body st s).updates) b ≤ 1
+pub once_in : (ps : List Process) (n : ℕ) (place : ℕ) (star : Bool) (events : List Event) (st : Statement) (s : State) (b : ℕ) → is_once ps b ≡ true → slice_get ps n ≡ Some (Always place star events st) → is_clocked (Always place star events st) ≡ true → fits_statement st ≡ true → run_count (body st s) b ≤ 1
 once_in ps n place star events st s b o e c f =
     let k : nat_lt (if is_clocked (Always place star events st) then most_writes st b else 0) 2 ≡ true = all_at (λ p. nat_lt (process_most p b) 2) ps n (Always place star events st) o e in
     let m : nat_lt (most_writes st b) 2 ≡ true = subst (λ (t : Bool). nat_lt (if t then most_writes st b else 0) 2 ≡ true) c k in
@@ -203,11 +216,14 @@ module _ (d : Design) (name : List ℕ) (a : IsAcceptedDesign d name) where
   }) r
 
   -- and each of them at most once in a run
-  still_writes : (b r : ℕ) (s : State) → is_still d b ≡ true → kind (net_work.process r) ≡ AClocked → times (flatten (updates (net_work.process r) s)) b ≤ 1
-  still_writes b r s h = by_kind d a.clock.first (λ p x. kind x ≡ AClocked → times (flatten (updates x s)) b ≤ 1) (record {
+  still_writes : (b r : ℕ) (s : State) → is_still d b ≡ true → kind (net_work.process r) ≡ AClocked → times (flatten (effects (net_work.process r) s)) b ≤ 1
+  still_writes b r s h = by_kind d a.clock.first (λ p x. kind x ≡ AClocked → times (flatten (effects x s)) b ≤ 1) (record {
     assigns = λ p place port target_place target e i k. cc;
     combs = λ p place star events st i c k. cc;
-    clocked = λ p place star events st i c k. once_in d.processes p place star events st s b (still_once b h) i c (block_facts d name a p place star events st i).fit;
+    clocked = λ p place star events st i c k.
+        let n = once_in d.processes p place star events st s b (still_once b h) i c (block_facts d name a p place star events st i).fit in
+        let m = ap (λ (ws : List Write). times ws b) (flat_cons (body st s).writes (body st s).updates) in
+        let o = times-append (body st s).writes (flatten (body st s).updates) b in omega (arith, m, n, o);
     inputs = λ p i t l e f k. cc;
     clock = λ p i t l e f k. cc;
     none = λ p k. cc;
@@ -224,6 +240,8 @@ module _ (d : Design) (name : List ℕ) (a : IsAcceptedDesign d name) where
     comb = ap {B = Kind} kind process;
     on_is = λ b. ap {B = Bool} (λ (y : Sleeper). contains y.on b) f.is ∙ sym (ap {B = Bool} (λ y. listens y b) process);
     bits_is = λ b. ap {B = Bool} (λ (y : Sleeper). contains y.bits b) f.is ∙ sym (ap {B = Bool} (λ y. writes y b) process);
+    exact = λ b s w. exact d name a a.clock.first p b s (subst Settles (sym (ap {B = Kind} kind process)) tt) ∙ w;
+    unset = λ b r l. unset_flat b;
     idle = λ b w. still_idle b (still b w);
     register = λ b r w v. still_register b r (still b w) v;
     once = λ b r s w k. still_writes b r s (still b w) k;

@@ -57,7 +57,7 @@ mutual
 reset_keeps : (o : Option N.Reset) (b : ℕ) (s : Set4) → has s X ≡ true → has (with_reset o b s) X ≡ true
 reset_keeps None b s h = h
 reset_keeps (Some r) b s h =
-    by_test (is_written (flatten r.updates) b)
+    by_test (is_written (flatten (N.branch r)) b)
     (λ e. rw e (union_right (only _) s X h))
     (λ e. rw e h)
 

@@ -1,4 +1,5 @@
 -- The equations of a slot on a design are those of its network.
+use Rattle.vs_net.specs.Lawful.{Settles}
 use Rattle.std.proofs.Common.{◌≡◌, ℕ, ◌+◌, Bool, true, false, List, [], ◌∷◌, ◌++◌, ◌||◌, ◌&&◌, ◌==◌, if◌then◌else◌, refl, sym, ap, ◌∙◌, subst, map, length, Some, eqb-true, eq-eqb, None, Option}
 use Rattle.std.specs.Prelude.{slice_get}
 use Rattle.vs_four.specs.declared.Bit4.{Bit4}
@@ -21,11 +22,9 @@ use Rattle.vs_design.specs.Accepted.{IsAcceptedDesign}
 use Rattle.vs_design.specs.SlotValues.{clock_value, input_value, register_value, IsSlotValues, SlotValuesAre}
 use Rattle.vs_design.proofs.Lists.{by_test, and_both}
 use Rattle.vs_design.proofs.Writes.{either_way}
-use Rattle.vs_design.proofs.BodyExact.{body_writes}
 use Rattle.vs_design.proofs.Signals.{member_bits}
 use Rattle.vs_design.proofs.Parts.{by_kind, at_process, at_writer}
 use Rattle.vs_design.proofs.LawfulParts.{first_bit}
-use Rattle.vs_design.proofs.Facts.{clocked_unmixed}
 use Rattle.vs_design.proofs.ClockNets.{clock_at, one_listed, find_test}
 use Rattle.vs_design.proofs.TimeBits.{signal_with}
 use Rattle.vs_design.proofs.TimeLaws.{clock_signal}
@@ -109,8 +108,8 @@ module _ (d : Design) (name : List ℕ) (a : IsAcceptedDesign d name) (before : 
 
   there : IsSlotEnd net_work before slot s → IsSlotValues d a.clock.first before slot s
   there h = record {
-    assign = λ p place port target_place target e i. subst (λ o. write_all s (given_by o (process_of d a.clock.first (Continuous place port target_place target e))) ≡ s) (awake_assign p place port target_place target e i) (subst (λ x. write_all s (given_by (sleeper_at d p) x) ≡ s) (process_at p (Continuous place port target_place target e) i) (h.settled p));
-    block = λ p st i. subst (λ x. write_all s (given_by (sleeper_at d p) x) ≡ s) (process_at p (Always i.place i.star i.events st) i.is ∙ block_is i.place i.star i.events st false i.combinational) (h.settled p);
+    assign = λ p place port target_place target e i. subst (λ o. write_all s (given_by o (process_of d a.clock.first (Continuous place port target_place target e))) ≡ s) (awake_assign p place port target_place target e i) (subst (λ x. write_all s (given_by (sleeper_at d p) x) ≡ s) (process_at p (Continuous place port target_place target e) i) (h.settled p (subst (λ x. Settles (kind x)) (sym (process_at p (Continuous place port target_place target e) i)) tt)));
+    block = λ p st i. subst (λ x. write_all s (given_by (sleeper_at d p) x) ≡ s) (process_at p (Always i.place i.star i.events st) i.is ∙ block_is i.place i.star i.events st false i.combinational) (h.settled p (subst (λ x. Settles (kind x)) (sym (process_at p (Always i.place i.star i.events st) i.is ∙ block_is i.place i.star i.events st false i.combinational)) tt));
     register = λ p place star events st i k b w.
         let e = process_at p (Always place star events st) i ∙ block_is place star events st true k in
         registered p (clock_bit (events_in d a.clock.first events)) (reset_of d a.clock.first (Always place star events st)) st e b w;
@@ -154,13 +153,13 @@ module _ (d : Design) (name : List ℕ) (a : IsAcceptedDesign d name) (before : 
 
   back : IsSlotValues d a.clock.first before slot s → IsSlotEnd net_work before slot s
   back h = record {
-    settled = by_kind d a.clock.first (λ p x. write_all s (given_by (sleeper_at d p) x) ≡ s) (record {
-      assigns = λ p place port target_place target e i. subst (λ o. write_all s (given_by o (process_of d a.clock.first (Continuous place port target_place target e))) ≡ s) (sym (awake_assign p place port target_place target e i)) (h.assign p place port target_place target e i);
-      combs = λ p place star events st i k. h.block p st (record { place = place; star = star; events = events; is = i; combinational = k });
-      clocked = λ p place star events st i k. nothing_given (sleeper_at d p) (N.Clocked (clock_bit (events_in d a.clock.first events)) (reset_of d a.clock.first (Always place star events st)) (contains (statement_bits st)) (body st)) (body_writes st s (clocked_unmixed d name a p place star events st i k));
-      inputs = λ p j r l e f. nothing_given (sleeper_at d p) (N.Input (bits_of_signal r)) refl;
-      clock = λ p j r l e f. nothing_given (sleeper_at d p) (N.Clock a.clock.first) refl;
-      none = λ p. nothing_given (sleeper_at d p) (N.Input []) refl;
+    settled = by_kind d a.clock.first (λ p x. Settles (kind x) → write_all s (given_by (sleeper_at d p) x) ≡ s) (record {
+      assigns = λ p place port target_place target e i z. subst (λ o. write_all s (given_by o (process_of d a.clock.first (Continuous place port target_place target e))) ≡ s) (sym (awake_assign p place port target_place target e i)) (h.assign p place port target_place target e i);
+      combs = λ p place star events st i k z. h.block p st (record { place = place; star = star; events = events; is = i; combinational = k });
+      clocked = λ p place star events st i k z. absurd z;
+      inputs = λ p j r l e f z. absurd z;
+      clock = λ p j r l e f z. absurd z;
+      none = λ p z. absurd z;
     });
     updated = λ p b. by_kind d a.clock.first (λ p x. IsWriter (kind x) → writes x b ≡ true → s b ≡ driven x slot before b) (record {
       assigns = λ p place port target_place target e i w z. absurd w;

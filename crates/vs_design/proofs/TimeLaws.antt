@@ -193,28 +193,28 @@ module _ (d : Design) (name : List ℕ) (a : IsAcceptedDesign d name) where
   -- a reset adds to the sets of a bit
   reset_keeps : (o : Option N.Reset) (b : ℕ) (s : Set4) (v : Bit4) → has s v ≡ true → has (with_reset o b s) v ≡ true
   reset_keeps None b s v h = h
-  reset_keeps (Some r) b s v h = by_test (is_written (flatten r.updates) b)
-      (λ e. rw e (union_right (only (write_all (λ m. X) (flatten r.updates) b)) s v h))
+  reset_keeps (Some r) b s v h = by_test (is_written (flatten (N.branch r)) b)
+      (λ e. rw e (union_right (only (write_all (λ m. X) (flatten (N.branch r)) b)) s v h))
       (λ e. rw e h)
 
   resets_keep : (ps : List Process) (b : ℕ) (s : Set4) (v : Bit4) → has s v ≡ true → has (with_resets d a.clock.first ps b s) v ≡ true
   resets_keep [] b s v h = h
   resets_keep (x ∷ ps) b s v h = reset_keeps (reset_of d a.clock.first x) b (with_resets d a.clock.first ps b s) v (resets_keep ps b s v h)
 
-  resets_have : (ps : List Process) (p : ℕ) (x : Process) (r : N.Reset) (b : ℕ) (s : Set4) → slice_get ps p ≡ Some x → reset_of d a.clock.first x ≡ Some r → is_written (flatten r.updates) b ≡ true → has (with_resets d a.clock.first ps b s) (write_all (λ m. X) (flatten r.updates) b) ≡ true
+  resets_have : (ps : List Process) (p : ℕ) (x : Process) (r : N.Reset) (b : ℕ) (s : Set4) → slice_get ps p ≡ Some x → reset_of d a.clock.first x ≡ Some r → is_written (flatten (N.branch r)) b ≡ true → has (with_resets d a.clock.first ps b s) (write_all (λ m. X) (flatten (N.branch r)) b) ≡ true
   resets_have [] p x r b s h e w = cc
   resets_have (y ∷ ps) zero x r b s h e w =
       let same : y ≡ x = cc in
-      ap (λ z. has (with_reset (reset_of d a.clock.first z) b (with_resets d a.clock.first ps b s)) (write_all (λ m. X) (flatten r.updates) b)) same
-      ∙ ap (λ o. has (with_reset o b (with_resets d a.clock.first ps b s)) (write_all (λ m. X) (flatten r.updates) b)) e
-      ∙ rw w (union_left (only (write_all (λ m. X) (flatten r.updates) b)) (with_resets d a.clock.first ps b s) (write_all (λ m. X) (flatten r.updates) b) (only_has (write_all (λ m. X) (flatten r.updates) b)))
+      ap (λ z. has (with_reset (reset_of d a.clock.first z) b (with_resets d a.clock.first ps b s)) (write_all (λ m. X) (flatten (N.branch r)) b)) same
+      ∙ ap (λ o. has (with_reset o b (with_resets d a.clock.first ps b s)) (write_all (λ m. X) (flatten (N.branch r)) b)) e
+      ∙ rw w (union_left (only (write_all (λ m. X) (flatten (N.branch r)) b)) (with_resets d a.clock.first ps b s) (write_all (λ m. X) (flatten (N.branch r)) b) (only_has (write_all (λ m. X) (flatten (N.branch r)) b)))
     where
       only_has : (v : Bit4) → has (only v) v ≡ true
       only_has Zero = refl
       only_has One = refl
       only_has X = refl
       only_has Z = refl
-  resets_have (y ∷ ps) (suc p) x r b s h e w = reset_keeps (reset_of d a.clock.first y) b (with_resets d a.clock.first ps b s) (write_all (λ m. X) (flatten r.updates) b) (resets_have ps p x r b s h e w)
+  resets_have (y ∷ ps) (suc p) x r b s h e w = reset_keeps (reset_of d a.clock.first y) b (with_resets d a.clock.first ps b s) (write_all (λ m. X) (flatten (N.branch r)) b) (resets_have ps p x r b s h e w)
 
   source_other : (b : ℕ) → (b == a.clock.first) ≡ false → contains (input_bits d) b ≡ false → has (late_source d a.clock.first b) (idle_value d b) ≡ true
   source_other b e h = rw e (rw h (resets_keep d.processes b (early_source d b) (idle_value d b) (source_idle b)))
@@ -292,17 +292,17 @@ module _ (d : Design) (name : List ℕ) (a : IsAcceptedDesign d name) where
   late_idle b h = let r = late_register b h in subst (λ s. has s (idle_value d b) ≡ true) (sym r.2) (source_other b r.0 r.1)
 
   -- what a reset gives a register last
-  pub late_reset : (p b : ℕ) (r : N.Reset) → N.reset_of (net_work.process p) ≡ Some r → writes (net_work.process p) b ≡ true → has (sets.late b) (write_all net_work.idle (flatten r.updates) b) ≡ true
+  pub late_reset : (p b : ℕ) (r : N.Reset) → N.reset_of (net_work.process p) ≡ Some r → writes (net_work.process p) b ≡ true → has (sets.late b) (write_all net_work.idle (flatten (N.branch r)) b) ≡ true
   late_reset p b r e w =
       let clocked = reset_clocked (net_work.process p) r e in
       let only_clocked : (q : ℕ) → writes (net_work.process q) b ≡ true → kind (net_work.process q) ≡ AClocked = λ q v. subst (λ m. kind (net_work.process m) ≡ AClocked) (sym (one_writer d name a a.clock.first p q b w v)) clocked in
       let g = late_register b only_clocked in
-      by_test (is_written (flatten r.updates) b)
+      by_test (is_written (flatten (N.branch r)) b)
       (λ z. let m = has_reset p e in
-      subst (λ s. has s (write_all net_work.idle (flatten r.updates) b) ≡ true) (sym (g.2 ∙ (rw g.0 (rw g.1 refl))))
-      (subst (λ v. has (with_resets d a.clock.first d.processes b (early_source d b)) v ≡ true) (write_all_covered (flatten r.updates) (λ m. X) net_work.idle b z)
+      subst (λ s. has s (write_all net_work.idle (flatten (N.branch r)) b) ≡ true) (sym (g.2 ∙ (rw g.0 (rw g.1 refl))))
+      (subst (λ v. has (with_resets d a.clock.first d.processes b (early_source d b)) v ≡ true) (write_all_covered (flatten (N.branch r)) (λ m. X) net_work.idle b z)
       (resets_have d.processes p m.0 r b (early_source d b) m.1 m.2 z)))
-      (λ z. subst (λ v. has (sets.late b) v ≡ true) (sym (write_all_other (flatten r.updates) net_work.idle b z)) (late_idle b only_clocked))
+      (λ z. subst (λ v. has (sets.late b) v ≡ true) (sym (write_all_other (flatten (N.branch r)) net_work.idle b z)) (late_idle b only_clocked))
     where
       has_reset : (p : ℕ) → N.reset_of (net_work.process p) ≡ Some r → (x : Process) × (slice_get d.processes p ≡ Some x) × (reset_of d a.clock.first x ≡ Some r)
       has_reset = by_kind d a.clock.first (λ p y. N.reset_of y ≡ Some r → (x : Process) × (slice_get d.processes p ≡ Some x) × (reset_of d a.clock.first x ≡ Some r)) (record {

@@ -1,10 +1,10 @@
 -- Each lawful network has weights, so its slots have a bound.
 use Rattle.std.proofs.Common.{◌≡◌, ℕ, zero, suc, ◌+◌, ◌*◌, ◌≤◌, ◌<◌, Bool, true, false, List, [], ◌∷◌, ◌==◌, eqb-true, eq-eqb, if◌then◌else◌, ◌⊎◌, inl, inr, refl, sym, ap, ◌∙◌, subst, length, Option, Some, None, arith}
-use Rattle.vs_net.specs.Network.{Reset, reset_of, State, Network, Kind, AnInput, TheClock, AnAssign, AComb, AClocked, kind, writes, listens, clock_net, updates}
+use Rattle.vs_net.specs.Network.{Reset, reset_of, State, Network, Kind, AnInput, TheClock, AnAssign, AComb, AClocked, kind, writes, listens, clock_net, updates, made}
 use Rattle.vs_net.specs.Lawful.{Settles, IsOrdered, IsLawful}
 use Rattle.vs_net.proofs.Nets.{Family, IsInput, IsPort, nets, net_writer, port_of, clock_net_family, reset_net_family, reset_clocked}
 use Rattle.vs_net.proofs.Counted.{extra}
-use Rattle.vs_net.specs.Bound.{fed_by, IsWeighed}
+use Rattle.vs_net.specs.Bound.{fed_by, IsWeighed, written_at_once}
 use Rattle.vs_net.proofs.Sums.{sum_same}
 use Rattle.vs_design.proofs.Lists.{by_test}
 
@@ -49,7 +49,7 @@ less_one a b i h k = omega arith
 module _ (n : Network) (L : IsLawful n) (feeds : ℕ → ℕ → Bool) (size : ℕ → ℕ) (master : ℕ → ℕ)
     (fed : (p q b : ℕ) → listens (n.process p) b ≡ true → writes (n.process q) b ≡ true → feeds q p ≡ true)
     (fed_only : (p q : ℕ) → feeds q p ≡ true → (b : ℕ) × (listens (n.process p) b ≡ true) × (writes (n.process q) b ≡ true))
-    (few : (p : ℕ) (s : State) → kind (n.process p) ≡ AClocked → length (updates (n.process p) s) ≤ size p)
+    (few : (p : ℕ) (s : State) → kind (n.process p) ≡ AClocked → written_at_once (made (n.process p) s) + length (updates (n.process p) s) ≤ size p)
     (mastered : (p : ℕ) → kind (n.process p) ≡ AClocked → writes (n.process (master p)) (clock_net (n.process p)) ≡ true)
     (second : ℕ → ℕ) (seconded : (p : ℕ) (r : Reset) → reset_of (n.process p) ≡ Some r → writes (n.process (second p)) r.net ≡ true) where
   abbrev weigh : Kind → (ℕ → ℕ) → ℕ → ℕ
@@ -57,7 +57,7 @@ module _ (n : Network) (L : IsLawful n) (feeds : ℕ → ℕ → Bool) (size : �
   weigh TheClock w p = 1
   weigh AnAssign w p = 1 + fed_by n.count feeds w p
   weigh AComb w p = fed_by n.count feeds w p
-  weigh AClocked w p = (w (master p) + extra (reset_of (n.process p)) (w (second p))) * size p
+  weigh AClocked w p = (w (master p) + extra (reset_of (n.process p)) (w (second p))) * size p + (length (n.initial p) + length (n.initial_updates p))
 
   weight_at : ℕ → ℕ → ℕ
   weight_at zero p = 0
@@ -165,7 +165,7 @@ module _ (n : Network) (L : IsLawful n) (feeds : ℕ → ℕ → Bool) (size : �
       let l = master_below (master p) (clock_net (n.process p)) None (clock_net_family n L p e) (mastered p e) (kind (n.process (master p))) refl in
       let same = weights_same i j (master p) (kind (n.process (master p))) refl (less_one _ _ i l g) (less_one _ _ j l h) in
       let other = by_reset (reset_of (n.process p)) refl (λ x o. let m = master_below (second p) x.net (Some x.input) (reset_net_family n L p x o) (seconded p x o) (kind (n.process (second p))) refl in weights_same i j (second p) (kind (n.process (second p))) refl (less_one _ _ i m g) (less_one _ _ j m h)) in
-      rw e (ap (λ m. (m + extra (reset_of (n.process p)) (weight_at i (second p))) * size p) same ∙ ap (λ m. (weight_at j (master p) + m) * size p) other)
+      rw e (ap (λ m. (m + extra (reset_of (n.process p)) (weight_at i (second p))) * size p + (length (n.initial p) + length (n.initial_updates p))) same ∙ ap (λ m. (weight_at j (master p) + m) * size p + (length (n.initial p) + length (n.initial_updates p))) other)
     where
       by_reset : (o : Option Reset) → reset_of (n.process p) ≡ o → ((x : Reset) → reset_of (n.process p) ≡ Some x → weight_at i (second p) ≡ weight_at j (second p)) → extra o (weight_at i (second p)) ≡ extra o (weight_at j (second p))
       by_reset None q f = refl

@@ -10,6 +10,7 @@ use Rattle.vs_design.specs.Rules.{mixed_assigns, missing_bits, latches, shared_b
 use Rattle.vs_design.specs.Clocks.{clock_input, clock_nets, root_of, reads_clock, has_other_clock}
 use Rattle.vs_design.specs.Resets.{has_other_form}
 use Rattle.vs_design.specs.Levels.{level_order, has_no_cycle}
+use Rattle.vs_design.specs.Races.{has_no_race}
 use Rattle.vs_design.specs.TimeZero.{families, is_uncertain}
 
 abbrev pub is_empty : List ℕ → Bool
@@ -42,5 +43,7 @@ pub record IsAcceptedDesign (d : Design) (name : List ℕ) : Type 0 where
   pub reset_forms : list_any (has_other_form (clock_nets d clock.first) (root_of d clock.first)) d.processes ≡ false
   -- Cycle
   pub no_cycle : has_no_cycle d ≡ true
+  -- no clocked block reads what another one writes at once; MixedAssign leaves none that writes at once (`race_law`)
+  pub no_race : has_no_race d ≡ true
   -- TimeZero
   pub awake : list_any (is_uncertain d (families d clock.first (level_order d))) d.processes ≡ false

@@ -5,7 +5,7 @@ use Rattle.std.specs.List.Sorted.{IsStrictlyIncreasing}
 use Rattle.vs_net.specs.Network.{State, Sleeper}
 use Rattle.vs_net.specs.Lawful.{IsLawful}
 use Rattle.vs_net.specs.Queue.{Slot, Choice, IsFirst, IsCompleted, start, slots_of, ends}
-use Rattle.vs_net.specs.Solution.{all_x, IsSolution, IsSlotEnd}
+use Rattle.vs_net.specs.Solution.{all_x, beginning, IsSolution, IsSlotEnd}
 use Rattle.vs_net.specs.Settle.{settle, IsFed}
 use Rattle.vs_net.specs.Laws.{IsKnownVector, AreKnownResets, has_run, IsAfterSlot}
 use Rattle.vs_net.specs.LevelRun.{level_run}
@@ -13,7 +13,8 @@ use Rattle.vs_net.specs.Bound.{IsWeighed, bound, IsPartOfRun, HasNoNext}
 use Rattle.vs_design.specs.Statements.{Statement}
 use Rattle.vs_design.specs.Designs.{Event, Process, Always, Design, bit_count}
 use Rattle.vs_design.specs.Footprints.{contains, all_reads, writes_of, waits_of, input_bits, ascending}
-use Rattle.vs_design.specs.Rules.{missing_bits}
+use Rattle.vs_design.specs.Races.{has_no_race}
+use Rattle.vs_design.specs.Rules.{mixed_assigns, missing_bits}
 use Rattle.vs_design.specs.Clocks.{port_targets, clock_nets}
 use Rattle.vs_design.specs.Networks.{network_of}
 use Rattle.vs_design.specs.Bounds.{feeds_of, size_of}
@@ -68,13 +69,17 @@ LevelOrderIs = (d : Design) (order : List ℕ) → is_level_order d order ≡ tr
 abbrev pub AcceptedExactly : Type 0
 AcceptedExactly = (d : Design) (name : List ℕ) → IsLawfulDesign d → IsAcceptedDesign d name ↔ IsUnrefused d name
 
+-- where the clocked blocks write nothing at once, no design has a race
+abbrev pub UnmixedHasNoRace : Type 0
+UnmixedHasNoRace = (d : Design) → list_all (λ p. is_empty (mixed_assigns p)) d.processes ≡ true → has_no_race d ≡ true
+
 -- the network of an accepted design is lawful
 abbrev pub AcceptedIsLawful : Type 0
 AcceptedIsLawful = (d : Design) (name : List ℕ) (a : IsAcceptedDesign d name) → IsLawful (network_of d a.clock.first)
 
 -- so every completed run of its event queue, in whatever order of its steps, ends each slot with the one solution
 abbrev pub EveryOrderOfDesign : Type 0
-EveryOrderOfDesign = (d : Design) (name : List ℕ) (a : IsAcceptedDesign d name) → let n = network_of d a.clock.first in (first v : State) (vs : List State) → IsFirst n first → IsKnownVector n v → AreKnownResets n vs → (choices : List Choice) → IsCompleted n (start n first v vs) choices → IsSolution n n.idle (slots_of (v ∷ vs)) (ends n (start n first v vs) choices)
+EveryOrderOfDesign = (d : Design) (name : List ℕ) (a : IsAcceptedDesign d name) → let n = network_of d a.clock.first in (first v : State) (vs : List State) → IsFirst n first → IsKnownVector n v → AreKnownResets n vs → (choices : List Choice) → IsCompleted n (start n first v vs) choices → IsSolution n (beginning n) (slots_of (v ∷ vs)) (ends n (start n first v vs) choices)
 
 -- the equations of an accepted design have no second solution
 abbrev pub OneSolutionOfDesign : Type 0
@@ -82,7 +87,7 @@ OneSolutionOfDesign = (d : Design) (name : List ℕ) (a : IsAcceptedDesign d nam
 
 -- in each of its level orders the level run is a completed run, and it ends with the solution
 abbrev pub LevelRunOfDesign : Type 0
-LevelRunOfDesign = (d : Design) (name : List ℕ) (a : IsAcceptedDesign d name) (order : List ℕ) → is_level_order d order ≡ true → let n = network_of d a.clock.first in (first v : State) (vs : List State) → IsFirst n first → IsKnownVector n v → AreKnownResets n vs → let q = start n first v vs in IsCompleted n q (level_run n order q) × IsSolution n n.idle (slots_of (v ∷ vs)) (ends n q (level_run n order q))
+LevelRunOfDesign = (d : Design) (name : List ℕ) (a : IsAcceptedDesign d name) (order : List ℕ) → is_level_order d order ≡ true → let n = network_of d a.clock.first in (first v : State) (vs : List State) → IsFirst n first → IsKnownVector n v → AreKnownResets n vs → let q = start n first v vs in IsCompleted n q (level_run n order q) × IsSolution n (beginning n) (slots_of (v ∷ vs)) (ends n q (level_run n order q))
 
 -- where inputs and registers have their values, one pass over any of its level orders gives the values at the slot's end
 abbrev pub OnePassOfDesign : Type 0

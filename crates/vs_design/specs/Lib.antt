@@ -10,6 +10,7 @@ pub mod Paths
 pub mod Rules
 pub mod Clocks
 pub mod Levels
+pub mod Races
 pub mod Sets
 pub mod Lifted
 pub mod LiftedBodies
@@ -36,4 +37,5 @@ pub mod ExampleBodies
 pub mod ExampleSets
 pub mod ExampleSizes
 pub mod ExampleDesigns
+pub mod ExampleBlocking
 pub mod ExampleRefusals

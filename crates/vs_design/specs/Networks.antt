@@ -44,4 +44,4 @@ abbrev pub idle_value : Design → State
 idle_value d b = if contains (net_bits d) b then Z else X
 
 abbrev pub network_of : Design → ℕ → Network
-network_of d clock = record { process = at_or_input (all_processes d clock); count = length (all_processes d clock); idle = idle_value d; sleeper = sleeper_at d }
+network_of d clock = record { process = at_or_input (all_processes d clock); count = length (all_processes d clock); idle = idle_value d; initial = λ p. []; initial_updates = λ p. []; sleeper = sleeper_at d }

@@ -2,7 +2,7 @@
 use Rattle.std.specs.Prelude.{ℕ, Bool, true, false, not, ◌&&◌, List, [], ◌∷◌, ◌==◌, if◌then◌else◌, Option, Some, None, is_some, filter}
 use Rattle.std.specs.List.{list_any}
 use Rattle.vs_four.specs.declared.Bit4.TheVariants.{X}
-use Rattle.vs_net.specs.Network.{Update, write_all, flatten, is_written}
+use Rattle.vs_net.specs.Network.{Write, Update, branch, write_all, flatten, is_written}
 use Rattle.vs_net.specs.Network as N
 use Rattle.vs_design.specs.Expressions.{Signal, signal_length, BitNot, LogicalNot, Expression, Unary, At}
 use Rattle.vs_design.specs.Statements.{Statement, Empty, Assignment, Then, If, Case, Arms, Arm, Default}
@@ -66,7 +66,10 @@ abbrev pub has_other_form : List ℕ → (ℕ → Option ℕ) → Process → Bo
 has_other_form nets roots (Always place star events s) = not (has_form (events_of nets roots events) s)
 has_other_form nets roots _ = false
 
--- what the reset branch gives; it reads nothing
+-- what the reset branch gives, at once and by updates; it reads nothing
+abbrev pub branch_writes : Statement → List Write
+branch_writes s = (body s (λ b. X)).writes
+
 abbrev pub branch_updates : Statement → List Update
 branch_updates s = (body s (λ b. X)).updates
 
@@ -75,7 +78,7 @@ net_edge Negedge = N.Negedge
 net_edge _ = N.Posedge
 
 abbrev pub reset_with : Event → Option ℕ → Option Statement → Option N.Reset
-reset_with e (Some i) (Some taken) = Some (record { net = e.signal.first; edge = net_edge e.edge; input = i; updates = branch_updates taken })
+reset_with e (Some i) (Some taken) = Some (record { net = e.signal.first; edge = net_edge e.edge; input = i; writes = branch_writes taken; updates = branch_updates taken })
 reset_with e _ _ = None
 
 -- the reset of a block with these events and this statement
@@ -99,7 +102,7 @@ reset_inputs d clock = filter (λ i. list_any (λ p. has_root i (reset_of d cloc
 -- the sets of a bit with the value that a reset gives it last
 abbrev pub with_reset : Option N.Reset → ℕ → Set4 → Set4
 with_reset None b sets = sets
-with_reset (Some r) b sets = if is_written (flatten r.updates) b then union (only (write_all (λ c. X) (flatten r.updates) b)) sets else sets
+with_reset (Some r) b sets = if is_written (flatten (branch r)) b then union (only (write_all (λ c. X) (flatten (branch r)) b)) sets else sets
 
 abbrev pub with_resets : Design → ℕ → List Process → ℕ → Set4 → Set4
 with_resets d clock [] b sets = sets

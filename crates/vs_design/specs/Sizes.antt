@@ -1,4 +1,5 @@
 -- The size of a design, a sum of weights: what the stores into a plane in one clock half-period are measured by, all lanes together.
+use Rattle.vs_design.specs.Races.{doubled_bits}
 use Rattle.std.specs.Prelude.{ℕ, ◌+◌, ◌*◌, Bool, true, false, ◌&&◌, List, [], ◌∷◌, ◌++◌, max, sum_by, if◌then◌else◌}
 use Rattle.vs_four.specs.Selects.{range_length}
 use Rattle.vs_design.specs.Expressions.{signal_length, UnaryOp, Plus, Minus, BitNot, LogicalNot, Signed, Unsigned, BinaryOp, Add, Subtract, Multiply, Less, LessEqual, Greater, GreaterEqual, Equal, NotEqual, CaseEqual, CaseNotEqual, LogicalAnd, LogicalOr, ShiftLeft, ShiftRight, ShiftLeftArith, ShiftRightArith, Expression, Literal, Name, Select, Unary, Binary, Choice, Join, Repeat, At, Way, Shifted, unary_way, way, width, is_constant}
@@ -105,6 +106,6 @@ register_bits (p ∷ ps) = (if is_clocked p then writes_of p else []) ++ registe
 abbrev pub sleeper_weight : Design → Process → ℕ
 sleeper_weight d p = if is_sleeping d p then distinct (waits_of p) + 1 + distinct (writes_of p) else 0
 
--- each register bit costs 2, and each input bit of the top 1, the clock too
+-- each register bit costs 2, one that its block writes by `=` and by `<=` 3, and each input bit of the top 1, the clock too
 abbrev pub size : Design → ℕ
-size d = sum_by process_weight d.processes + 2 * distinct (register_bits d.processes) + sum_by signal_length (top_inputs d) + sum_by (sleeper_weight d) d.processes
+size d = sum_by process_weight d.processes + 2 * distinct (register_bits d.processes) + distinct (doubled_bits d.processes) + sum_by signal_length (top_inputs d) + sum_by (sleeper_weight d) d.processes

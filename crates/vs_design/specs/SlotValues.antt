@@ -1,10 +1,10 @@
 -- The equations of a slot, on the processes and signals of a design.
-use Rattle.std.specs.Prelude.{◌≡◌, ℕ, Bool, true, false, List, ◌==◌, ◌↔◌, if◌then◌else◌, Option, Some, slice_get}
+use Rattle.std.specs.Prelude.{◌≡◌, ℕ, Bool, true, false, List, ◌∷◌, ◌==◌, ◌↔◌, if◌then◌else◌, Option, Some, slice_get}
 use Rattle.vs_four.specs.declared.Bit4.{Bit4}
 use Rattle.vs_four.specs.declared.Bit4.TheVariants.{Zero, One}
 use Rattle.vs_net.specs.Network.{State, Write, write_all, flatten}
 use Rattle.vs_net.specs.Queue.{Slot, Fall, Rise}
-use Rattle.vs_net.specs.Solution.{reset_updates, is_asleep, blank, IsSlotEnd}
+use Rattle.vs_net.specs.Solution.{reset_effects, is_asleep, blank, IsSlotEnd}
 use Rattle.vs_net.specs.Network as N
 use Rattle.vs_design.specs.Resets.{reset_of}
 use Rattle.vs_design.specs.Sleepers.{sleeper_at}
@@ -27,10 +27,10 @@ abbrev pub input_value : Slot → State → State
 input_value (Fall vector) before = vector
 input_value Rise before = before
 
--- when the clock rises a register gets all updates of its block on the values before, in their order; when it falls it gets those of the reset branch, where there is one and its input is active, and else stays
+-- when the clock rises a register gets what its block writes at once on the values before, and then all its updates, in their order; when it falls it gets those of the reset branch, where there is one and its input is active, and else stays
 abbrev pub register_value : Option N.Reset → Statement → Slot → State → State
-register_value reset st (Fall vector) before = write_all before (flatten (reset_updates reset vector))
-register_value reset st Rise before = write_all before (flatten (body st before).updates)
+register_value reset st (Fall vector) before = write_all before (flatten (reset_effects reset vector))
+register_value reset st Rise before = write_all before (flatten ((body st before).writes ∷ (body st before).updates))
 
 -- what a combinational block writes: x as long as it sleeps
 abbrev pub block_writes : Option N.Sleeper → Statement → State → State → List Write

@@ -5,13 +5,14 @@
 
 ghost use Rattle.vs_design.specs.Answers.{AcceptedOrRefused, NotBoth};
 ghost use Rattle.vs_design.specs.ExampleBodies.{BodiesComputed};
+ghost use Rattle.vs_design.specs.ExampleBlocking.{BlockingComputed};
 ghost use Rattle.vs_design.specs.ExampleDesigns.{DesignsComputed};
 ghost use Rattle.vs_design.specs.ExampleElaborated.{ElaboratedComputed};
 ghost use Rattle.vs_design.specs.ExampleRefusals.{RefusalsComputed};
 ghost use Rattle.vs_design.specs.ExampleSets.{SetsComputed};
 ghost use Rattle.vs_design.specs.ExampleSizes.{SizesComputed};
 ghost use Rattle.vs_design.specs.ExampleValues.{ValuesComputed};
-ghost use Rattle.vs_design.specs.Laws.{AcceptedExactly, AcceptedIsLawful, AscendingHas, AscendingRises, BitsOfDesign, BoundOfDesign, ClockNetsAre, EveryOrderOfDesign, LevelOrderIs, LevelRunOfDesign, OneFamilies, OnePassOfDesign, OneSolutionOfDesign, OrderOrCycle, RunsEndOfDesign, SleepersOfDesign, SleepingIs, StarMissesNone};
+ghost use Rattle.vs_design.specs.Laws.{AcceptedExactly, AcceptedIsLawful, AscendingHas, AscendingRises, BitsOfDesign, BoundOfDesign, ClockNetsAre, EveryOrderOfDesign, LevelOrderIs, LevelRunOfDesign, OneFamilies, OnePassOfDesign, OneSolutionOfDesign, OrderOrCycle, RunsEndOfDesign, SleepersOfDesign, SleepingIs, StarMissesNone, UnmixedHasNoRace};
 ghost use Rattle.vs_design.specs.Paths.{LatchBitsAre};
 ghost use Rattle.vs_design.specs.RefusalLaws.{BlockRefusalIs, ClockRefusalIs, DriverRefusalIs, DriversAre, WidthRefusalIs, ZeroRefusalIs};
 ghost use Rattle.vs_design.specs.SlotValues.{SlotValuesAre};
@@ -109,6 +110,11 @@ pub fn refusal_law()
     ensures zero { ZeroRefusalIs }
 {}
 
+/// Where no clocked block writes by a blocking assignment, no clocked block reads what another one writes at once.
+pub fn race_law()
+    ensures { UnmixedHasNoRace }
+{}
+
 /// The network of an accepted design is lawful.
 pub fn lawful_law()
     ensures { AcceptedIsLawful }
@@ -177,6 +183,11 @@ pub fn size_examples()
 /// Worked designs: their sizes, that they are accepted, and the values at the end of each slot.
 pub fn design_examples()
     ensures { DesignsComputed }
+{}
+
+/// Worked designs with blocking assignments in clocked blocks: their sizes, which of them have a race, that the rule MixedAssign refuses them, and the values that their networks have at the end of each slot.
+pub fn blocking_examples()
+    ensures { BlockingComputed }
 {}
 
 /// Worked designs that are refused, and with what.

@@ -125,7 +125,7 @@ rest_none (x ∷ xs) ys h = cc
 
 -- without blocking assignments nothing is written at once
 mutual
-  no_writes : (st : Statement) → mixed_in true st ≡ [] → (s : N.State) → (body st s).writes ≡ []
+  pub no_writes : (st : Statement) → mixed_in true st ≡ [] → (s : N.State) → (body st s).writes ≡ []
   no_writes Empty h s = refl
   no_writes (Assignment place target e true) h s = cc
   no_writes (Assignment place target e false) h s = refl

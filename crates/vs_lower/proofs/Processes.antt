@@ -255,7 +255,8 @@ clocked_lowered l place star events st c now later n js clocked layout no_writes
             shadows = λ e b h.
                 let member : contains js b ≡ true = sym (exactly b) ∙ h in
                 copied_at js l.shadow (slice_index later) last after b copied.0 member
-                ∙ holds.bits b (omega (arith, long, member_below js l.bits b inside member));
+                ∙ holds.bits b (omega (arith, long, member_below js l.bits b inside member))
+                ∙ ap (λ (ws : List N.Write). N.write_all state (N.flatten (ws ∷ (body st state).updates)) b) (sym (no_writes state));
             constants = λ slot k.
                 copied.1 slot (not_target js l.shadow slot (λ j h same. let q = layout.shadow_above j (exactly j ∙ h) in absurd (omega (arith, q, same))))
                 ∙ keeps slot (omega (arith, layout.temps_above));

@@ -12,12 +12,13 @@ use Rattle.vs_four.specs.Lengths.{extend}
 use Rattle.vs_four.specs.Logic.{truth}
 use Rattle.vs_four.specs.Tables.{is_one, same}
 use Rattle.vs_net.specs.Network as N
-use Rattle.vs_net.specs.Solution.{reset_updates}
+use Rattle.vs_net.specs.Solution.{reset_effects}
 use Rattle.vs_design.specs.Bodies.{body}
 use Rattle.vs_design.specs.Designs.{Process}
 use Rattle.vs_design.specs.Expressions.{Name, LogicalNot, Unary, sign, width}
 use Rattle.vs_design.specs.Fits.{fits_statement}
 use Rattle.vs_design.specs.Footprints.{contains, statement_bits}
+use Rattle.vs_design.specs.Rules.{mixed_in}
 use Rattle.vs_design.specs.Sizes.{process_weight}
 use Rattle.vs_design.specs.Statements.{Statement, Empty}
 use Rattle.vs_design.specs.TreeLaws.{ValueLength}
@@ -37,7 +38,7 @@ use Rattle.vs_lower.specs.Stated.{IsStatementReady, AddsStatement, AreInOrder}
 use Rattle.vs_values.specs.Made.{IsCallable, IsUnary}
 use Rattle.vs_lower.specs.Resetting.{AddsReset, HasResetRoom, IsResetOf, IsResetReady, reset_condition, reset_signal, reset_statement}
 use Rattle.vs_values.specs.Valued.{AddsValue, IsSource}
-use Rattle.vs_lower.proofs.Blocking.{AddsBlock, moved_few, total_of}
+use Rattle.vs_lower.proofs.Blocking.{AddsBlock, moved_few, no_writes, total_of}
 use Rattle.vs_lower.proofs.Branched.{adds_if, if_joins}
 use Rattle.vs_lower.proofs.Branching.{CanJoin}
 use Rattle.vs_lower.proofs.Conditional.{ready_if, ready_no, ready_yes}
@@ -142,10 +143,17 @@ updates_of_if : (q : Bool) (a b : N.Effect) (us : List N.Update) → a.updates �
 updates_of_if true a b us h k = h
 updates_of_if false a b us h k = k
 
-same_updates : (r : N.Reset) (falls : Bool) (input : ℕ) (st : Statement) (s : N.State) → IsResetOf r falls input st → (body (reset_statement falls input st) s).updates ≡ reset_updates (Some r) s
-same_updates r falls input st s is =
-    updates_of_if (is_one (truth (own_value (reset_condition falls input) s))) (body st s) (body Empty s) r.updates (is.updates_are s) refl
-    ∙ ap (λ (q : Bool). if q then r.updates else [])
+-- a branch that writes nothing at once gives its updates alone
+updates_alone : (q : Bool) (r : N.Reset) → r.writes ≡ [] → N.flatten (if q then r.updates else []) ≡ N.flatten (if q then N.branch r else [])
+unfolding N.flatten
+updates_alone true r none = ap (λ (ws : List N.Write). N.flatten (ws ∷ r.updates)) (sym none)
+updates_alone false r none = refl
+
+same_effects : (r : N.Reset) (falls : Bool) (input : ℕ) (st : Statement) (s : N.State) → mixed_in true st ≡ [] → IsResetOf r falls input st → N.flatten (body (reset_statement falls input st) s).updates ≡ N.flatten (reset_effects (Some r) s)
+same_effects r falls input st s unmixed is =
+    ap N.flatten (updates_of_if (is_one (truth (own_value (reset_condition falls input) s))) (body st s) (body Empty s) r.updates (is.updates_are s) refl)
+    ∙ updates_alone (is_one (truth (own_value (reset_condition falls input) s))) r (sym (is.writes_are s) ∙ no_writes st unmixed s)
+    ∙ ap (λ (q : Bool). N.flatten (if q then N.branch r else []))
     (active_is falls input s ∙ ap (λ (b : ℕ). same (s b) (N.to_value (if falls then N.Negedge else N.Posedge))) (sym is.input_is) ∙ ap (λ (e : N.Edge). same (s r.input) (N.to_value e)) (sym is.edge_is))
 
 -- ---- what its parts need and give
@@ -263,11 +271,11 @@ adds_reset l r p falls input st c0 c1 c2 c3 c4 tc now1 later1 bits later3 first 
     let under : c3.next ≤ top = omega (arith, done.added.paid, done.added.stores, room.weight) in
     let low : home l.bits ≤ l.first_temp = omega (arith, t.ready.temps, first) in
     let inside_env : All (λ b. b < length later3) js = All-weaker (λ b. b < l.bits) (λ b. b < length later3) (λ b h. omega (arith, h, long)) js inside_js in
-    let home_run = home_is l.bits l.first_temp d.calls later3 js (λ s. N.write_all s (N.flatten (reset_updates (Some r) s))) low done.added.fresh long inside_js
+    let home_run = home_is l.bits l.first_temp d.calls later3 js (λ s. N.write_all s (N.flatten (reset_effects (Some r) s))) low done.added.fresh long inside_js
     (λ b k out. by_test (contains bits b)
     (λ h. sym (bits_alike (homes l.bits) bits later3 b h out) ∙ home_at l.bits b k)
     (λ h. d.done.later_kept b (ap (λ (xs : List ℕ). contains xs b) (append-nil (statement_bits st)) ∙ sym (t.same_bits b) ∙ h) ∙ home_at l.bits b k))
-    (λ before last constants called. subst (λ (us : List N.Update). Holds later3 last (N.write_all (bits_of before) (N.flatten us))) (same_updates r falls input st (bits_of before) is)
+    (λ before last constants called. subst (λ (ws : List N.Write). Holds later3 last (N.write_all (bits_of before) ws)) (same_effects r falls input st (bits_of before) t.ready.unmixed is)
     (done.later_values before last (bits_of before) (bits_of before) (homes_hold l.bits before constants) (homes_hold l.bits before constants) refl called)) in
     record {
       calls = d.calls ++ cp;

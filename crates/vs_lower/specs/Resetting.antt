@@ -41,6 +41,7 @@ pub record IsResetReady (count : ℕ) (code : Coding) (falls : Bool) (input : �
 pub record IsResetOf (r : N.Reset) (falls : Bool) (input : ℕ) (st : Statement) : Type 0 where
   pub input_is : r.input ≡ input
   pub edge_is : r.edge ≡ (if falls then N.Negedge else N.Posedge)
+  pub writes_are : (s : N.State) → (body st s).writes ≡ r.writes
   pub updates_are : (s : N.State) → (body st s).updates ≡ r.updates
 
 -- its block weighs no less

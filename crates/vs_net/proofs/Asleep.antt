@@ -7,9 +7,9 @@ use Rattle.vs_four.specs.declared.Bit4.TheVariants.{X}
 use Rattle.vs_four.specs.Tables.{same}
 use Rattle.vs_net.specs.Network.{Sleeper, State, Write, put, write_all, is_written, Network, AComb, kind, writes, listens, made}
 use Rattle.vs_net.specs.Solution.{all_x, is_asleep, blank, given}
-use Rattle.vs_net.specs.Lawful.{IsLawful, Settles, times}
+use Rattle.vs_net.specs.Lawful.{IsLawful, Settles, times, IsKnown}
 use mathlib.Core.Path.{fun_ext}
-use Rattle.vs_net.proofs.Parts.{Agrees}
+use Rattle.vs_net.proofs.Parts.{Agrees, made_off}
 use Rattle.vs_net.proofs.Basics.{by_test, same_is, write_all_other, write_all_covered}
 
 is_x : (v : Bit4) → v ≡ X → same v X ≡ true
@@ -70,6 +70,13 @@ written_times (w ∷ ws) b h = by_test (b == w.bit)
     (λ e. let c = cond-true {A = ℕ} (b == w.bit) 1 0 e in omega arith)
     (λ e. let c = written_times ws b (subst (λ t. (t || is_written ws b) ≡ true) e h) in omega arith)
 
+pub never_times : (ws : List Write) (b : ℕ) → is_written ws b ≡ false → times ws b ≡ 0
+unfolding times is_written
+never_times [] b h = refl
+never_times (w ∷ ws) b h = by_test (b == w.bit)
+    (λ e. absurd (let z = subst (λ (t : Bool). (t || is_written ws b) ≡ false) e h in cc))
+    (λ e. let c = cond-false {A = ℕ} (b == w.bit) 1 0 e in let d = never_times ws b (subst (λ (t : Bool). (t || is_written ws b) ≡ false) e h) in omega arith)
+
 pub unwritten_times : (ws : List Write) (b : ℕ) → times ws b ≤ 0 → is_written ws b ≡ false
 unwritten_times ws b h = by_test (is_written ws b) (λ e. absurd (let a = written_times ws b e in omega arith)) (λ e. e)
 
@@ -126,10 +133,16 @@ module _ (n : Network) (L : IsLawful n) where
   pub given_none : (before s : State) (p : ℕ) → n.sleeper p ≡ None → given n before p s ≡ made (n.process p) s
   given_none before s p h = given_made before s p (ap (λ o. is_asleep o before s) h)
 
-  pub given_exact : (before s : State) (p b : ℕ) → Settles (kind (n.process p)) → is_written (given n before p s) b ≡ writes (n.process p) b
-  given_exact before s p b k = by_test (is_asleep (n.sleeper p) before s)
-      (λ e. ap (λ ws. is_written ws b) (given_blank before s p e) ∙ blank_written (made (n.process p) s) b ∙ L.exact p b s k)
-      (λ e. ap (λ ws. is_written ws b) (given_made before s p e) ∙ L.exact p b s k)
+  pub given_off : (before s : State) (p b : ℕ) → Settles (kind (n.process p)) → writes (n.process p) b ≡ false → is_written (given n before p s) b ≡ false
+  given_off before s p b k w = by_test (is_asleep (n.sleeper p) before s)
+      (λ e. ap (λ ws. is_written ws b) (given_blank before s p e) ∙ blank_written (made (n.process p) s) b ∙ made_off n L p b s k w)
+      (λ e. ap (λ ws. is_written ws b) (given_made before s p e) ∙ made_off n L p b s k w)
+
+  -- where select nets are known it writes all its bits
+  pub given_all : (before s : State) (p b : ℕ) → Settles (kind (n.process p)) → ((c : ℕ) → L.selects c ≡ true → IsKnown (s c)) → writes (n.process p) b ≡ true → is_written (given n before p s) b ≡ true
+  given_all before s p b k known w = by_test (is_asleep (n.sleeper p) before s)
+      (λ e. let a = asleep_is before s p e in ap (λ ws. is_written ws b) (given_blank before s p e) ∙ blank_written (made (n.process p) s) b ∙ (L.sleepers p a.sleeper a.is_sleeper).exact b s w)
+      (λ e. ap (λ ws. is_written ws b) (given_made before s p e) ∙ L.exact p b s k (λ c l h. known c h) w)
 
   pub given_local : (before s t : State) (p : ℕ) → Settles (kind (n.process p)) → ((b : ℕ) → listens (n.process p) b ≡ true → s b ≡ t b) → given n before p s ≡ given n before p t
   given_local before s t p k h =
@@ -152,24 +165,24 @@ module _ (n : Network) (L : IsLawful n) where
   began_of before s p k e = by_test (is_asleep (n.sleeper p) before s)
       (λ t. let a = asleep_is before s p t in asleep a.sleeper a.is_sleeper (record {
         listened = a.listened;
-        bits = λ b w. sym (ap (λ (f : State). f b) e) ∙ ap (λ ws. write_all s ws b) (given_blank before s p t) ∙ blank_x (made (n.process p) s) s b (L.exact p b s k ∙ w);
+        bits = λ b w. sym (ap (λ (f : State). f b) e) ∙ ap (λ ws. write_all s ws b) (given_blank before s p t) ∙ blank_x (made (n.process p) s) s b ((L.sleepers p a.sleeper a.is_sleeper).exact b s w);
       }))
       (λ t. awake (λ b w. ap (λ ws. write_all s ws b) (sym (given_made before s p t)) ∙ ap (λ (f : State). f b) e))
 
   -- x in each bit, where the block sleeps on
   pub asleep_holds : (before s : State) (p : ℕ) → Settles (kind (n.process p)) → is_asleep (n.sleeper p) before s ≡ true → ((b : ℕ) → writes (n.process p) b ≡ true → s b ≡ X) → write_all s (given n before p s) ≡ s
   asleep_holds before s p k t h = fun_ext (λ b. ap (λ ws. write_all s ws b) (given_blank before s p t) ∙ by_test (writes (n.process p) b)
-      (λ w. blank_x (made (n.process p) s) s b (L.exact p b s k ∙ w) ∙ sym (h b w))
-      (λ w. write_all_other (blank (made (n.process p) s)) s b (blank_written (made (n.process p) s) b ∙ L.exact p b s k ∙ w)))
+      (λ w. let a = asleep_is before s p t in blank_x (made (n.process p) s) s b ((L.sleepers p a.sleeper a.is_sleeper).exact b s w) ∙ sym (h b w))
+      (λ w. write_all_other (blank (made (n.process p) s)) s b (blank_written (made (n.process p) s) b ∙ made_off n L p b s k w)))
 
   pub awake_holds : (before s : State) (p : ℕ) → Settles (kind (n.process p)) → is_asleep (n.sleeper p) before s ≡ false → Agrees n p s → write_all s (given n before p s) ≡ s
-  awake_holds before s p k t g = fun_ext (λ b. ap (λ ws. write_all s ws b) (given_made before s p t) ∙ by_test (writes (n.process p) b) (g b) (λ w. write_all_other (made (n.process p) s) s b (L.exact p b s k ∙ w)))
+  awake_holds before s p k t g = fun_ext (λ b. ap (λ ws. write_all s ws b) (given_made before s p t) ∙ by_test (writes (n.process p) b) (g b) (λ w. write_all_other (made (n.process p) s) s b (made_off n L p b s k w)))
 
   -- where a block agreed before and agrees now, it is no matter whether it is taken to sleep
   pub agreed_asleep : (before s : State) (p : ℕ) → Settles (kind (n.process p)) → IsAsleep n before s p → Agrees n p before → Agrees n p s → (b : ℕ) → writes (n.process p) b ≡ true → s b ≡ X
   agreed_asleep before s p k a g h b w =
       sym (h b w)
       ∙ ap (λ ws. write_all s ws b) (L.local p s before k (λ c l. a.listened c l ∙ sym (a.before_asleep.listened c l)))
-      ∙ write_all_covered (made (n.process p) before) s before b (L.exact p b before k ∙ w)
+      ∙ write_all_covered (made (n.process p) before) s before b ((L.sleepers p a.sleeper a.is_sleeper).exact b before w)
       ∙ g b w
       ∙ a.before_asleep.bits b w

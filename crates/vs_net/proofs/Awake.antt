@@ -4,10 +4,10 @@ use Rattle.std.proofs.lemmas.Bool.{both_ways, cond-true, cond-false}
 use Rattle.vs_four.specs.Tables.{same}
 use Rattle.vs_four.specs.declared.Bit4.{Bit4}
 use Rattle.vs_four.specs.declared.Bit4.TheVariants.{Zero, X}
-use Rattle.vs_net.specs.Network.{to_value, Reset, reset_of, State, Update, write_all, flatten, Network, Kind, AnInput, TheClock, AnAssign, AComb, AClocked, kind, writes, listens}
+use Rattle.vs_net.specs.Network.{to_value, Reset, reset_of, State, Update, write_all, flatten, Network, Kind, AnInput, TheClock, AnAssign, AComb, AClocked, kind, writes, listens, branch}
 use Rattle.vs_net.specs.Queue.{Queue, Fall}
-use Rattle.vs_net.proofs.Quiet.{IsRested}
-use Rattle.vs_net.specs.Solution.{driven, reset_updates, IsWriter}
+use Rattle.vs_net.proofs.Quiet.{IsRested, calm_of}
+use Rattle.vs_net.specs.Solution.{driven, reset_effects, IsWriter, beginning}
 use Rattle.vs_net.specs.Lawful.{IsLawful, Settles, IsKnown, IsUnknown, IsWokenBlock, ReadsIn}
 use Rattle.vs_net.specs.Laws.{IsKnownVector}
 use Rattle.vs_net.proofs.Parts.{Agrees, WriterPart}
@@ -30,11 +30,11 @@ module _ (n : Network) (L : IsLawful n) (v base : State) (known : IsKnownVector 
   Sleeps p = IsWokenBlock L.early L.late (n.process p)
 
   abbrev pub SettlingFirst : Queue → Type 0
-  SettlingFirst q = Settling n L (first_phase n.idle v) base Sleeps q
+  SettlingFirst q = Settling n L (first_phase (beginning n) v) base Sleeps q
 
   module _ (q : Queue) (over : IsRested q) (h : SettlingFirst q) where
     abbrev EachFirst : ℕ → Type 0
-    EachFirst p = Each n (nets n L) (first_phase n.idle v) (CombPart n (Fall v) n.idle base Sleeps) (ClockedPart n (first_phase n.idle v)) q p
+    EachFirst p = Each n (nets n L) (first_phase (beginning n) v) (CombPart n (Fall v) (beginning n) base Sleeps) (ClockedPart n (first_phase (beginning n) v)) q p
 
     abbrev In : ℕ → Type 0
     In b = L.late b (q.now b) ≡ true
@@ -45,41 +45,41 @@ module _ (n : Network) (L : IsLawful n) (v base : State) (known : IsKnownVector 
     in_as : (b : ℕ) (w : Bit4) → q.now b ≡ w → L.late b w ≡ true → In b
     in_as b w e h = subst (λ (x : Bit4). L.late b x ≡ true) (sym e) h
 
-    given : (p b : ℕ) → writes (n.process p) b ≡ true → WriterPart n (first_phase n.idle v) q p → q.now b ≡ driven (n.process p) (Fall v) n.idle b
-    given p b w part = writer_rests n L (first_phase n.idle v) q over.0 over.1 p b part w
+    given : (p b : ℕ) → writes (n.process p) b ≡ true → WriterPart n (first_phase (beginning n) v) q p → q.now b ≡ driven (n.process p) (Fall v) (beginning n) b
+    given p b w part = writer_rests n L (first_phase (beginning n) v) q over.0 over.1 p b part w
 
-    writer_part : (p : ℕ) → IsWriter (kind (n.process p)) → EachFirst p → WriterPart n (first_phase n.idle v) q p
+    writer_part : (p : ℕ) → IsWriter (kind (n.process p)) → EachFirst p → WriterPart n (first_phase (beginning n) v) q p
     writer_part p u (an_assign k part) = absurd (subst IsWriter k u)
     writer_part p u (an_input k part) = part.writer
     writer_part p u (a_comb k part) = absurd (subst IsWriter k u)
-    writer_part p u (a_clocked k part) = (clocked_rested n L (first_phase n.idle v) base Sleeps (good_first n.idle v) (λ f. refl) q over.0 h (settling_arrived n L (first_phase n.idle v) base Sleeps (good_first n.idle v) (λ f. refl) q over.0 h (λ r i. over.1 r)) p part).0
+    writer_part p u (a_clocked k part) = (clocked_rested n L (first_phase (beginning n) v) base Sleeps (good_first (beginning n) v) (λ f. refl) q (calm_of n q over.0) h (settling_arrived n L (first_phase (beginning n) v) base Sleeps (good_first (beginning n) v) (λ f. refl) q (calm_of n q over.0) h (λ r i. over.1 r)) p (λ d. let m = (over.0 p).0 in cc) part).0
 
     -- a register is idle, or has the value of a reset
-    register_in : (p b : ℕ) → kind (n.process p) ≡ AClocked → writes (n.process p) b ≡ true → ((r : ℕ) → writes (n.process r) b ≡ true → r ≡ p) → q.now b ≡ driven (n.process p) (Fall v) n.idle b → In b
+    register_in : (p b : ℕ) → kind (n.process p) ≡ AClocked → writes (n.process p) b ≡ true → ((r : ℕ) → writes (n.process r) b ≡ true → r ≡ p) → q.now b ≡ driven (n.process p) (Fall v) (beginning n) b → In b
     register_in p b e w only g = by_reset (reset_of (n.process p)) refl
       where
-        given_as : (us : List Update) → reset_updates (reset_of (n.process p)) v ≡ us → q.now b ≡ write_all n.idle (flatten us) b
-        given_as us x = g ∙ driven_fall (n.process p) v n.idle b e ∙ ap (λ (y : List Update). write_all n.idle (flatten y) b) x
+        given_as : (us : List Update) → reset_effects (reset_of (n.process p)) v ≡ us → q.now b ≡ write_all (beginning n) (flatten us) b
+        given_as us x = g ∙ driven_fall (n.process p) v (beginning n) b e ∙ ap (λ (y : List Update). write_all (beginning n) (flatten y) b) x
 
-        idle_in : q.now b ≡ n.idle b → In b
-        idle_in x = in_as b (n.idle b) x (L.time_zero.late_idle b (λ r wr. subst (λ (y : ℕ). kind (n.process y) ≡ AClocked) (sym (only r wr)) e))
+        idle_in : q.now b ≡ (beginning n) b → In b
+        idle_in x = in_as b ((beginning n) b) x (L.time_zero.late_idle b (λ r wr. subst (λ (y : ℕ). kind (n.process y) ≡ AClocked) (sym (only r wr)) e))
 
         by_reset : (o : Option Reset) → reset_of (n.process p) ≡ o → In b
-        by_reset None o = idle_in (given_as [] (ap (λ x. reset_updates x v) o) ∙ write_none n.idle b)
+        by_reset None o = idle_in (given_as [] (ap (λ x. reset_effects x v) o) ∙ write_none (beginning n) b)
         by_reset (Some r) o = by_test (same (v r.input) (to_value r.edge))
-            (λ t. in_as b (write_all n.idle (flatten r.updates) b) (given_as r.updates (ap (λ x. reset_updates x v) o ∙ cond-true (same (v r.input) (to_value r.edge)) r.updates [] t)) (L.time_zero.late_reset p b r o w))
-            (λ t. idle_in (given_as [] (ap (λ x. reset_updates x v) o ∙ cond-false (same (v r.input) (to_value r.edge)) r.updates [] t) ∙ write_none n.idle b))
+            (λ t. in_as b (write_all (beginning n) (flatten (branch r)) b) (given_as (branch r) (ap (λ x. reset_effects x v) o ∙ cond-true (same (v r.input) (to_value r.edge)) (branch r) [] t)) (L.time_zero.late_reset p b r o w))
+            (λ t. idle_in (given_as [] (ap (λ x. reset_effects x v) o ∙ cond-false (same (v r.input) (to_value r.edge)) (branch r) [] t) ∙ write_none (beginning n) b))
 
-    by_kind : (p b : ℕ) → writes (n.process p) b ≡ true → ((r : ℕ) → writes (n.process r) b ≡ true → r ≡ p) → (k : Kind) → kind (n.process p) ≡ k → IsWriter k → WriterPart n (first_phase n.idle v) q p → In b
-    by_kind p b w only AnInput e u part = in_as b (v b) (given p b w part ∙ driven_input (n.process p) v n.idle b e w) (L.time_zero.late_input p b (v b) e w (known p b e w))
-    by_kind p b w only TheClock e u part = in_as b Zero (given p b w part ∙ driven_clock (n.process p) (Fall v) n.idle b e w) (L.time_zero.late_clock p b e w)
+    by_kind : (p b : ℕ) → writes (n.process p) b ≡ true → ((r : ℕ) → writes (n.process r) b ≡ true → r ≡ p) → (k : Kind) → kind (n.process p) ≡ k → IsWriter k → WriterPart n (first_phase (beginning n) v) q p → In b
+    by_kind p b w only AnInput e u part = in_as b (v b) (given p b w part ∙ driven_input (n.process p) v (beginning n) b e w) (L.time_zero.late_input p b (v b) e w (known p b e w))
+    by_kind p b w only TheClock e u part = in_as b Zero (given p b w part ∙ driven_clock (n.process p) (Fall v) (beginning n) b e w) (L.time_zero.late_clock p b e w)
     by_kind p b w only AClocked e u part = register_in p b e w only (given p b w part)
     by_kind p b w only AnAssign e u part = absurd u
     by_kind p b w only AComb e u part = absurd u
 
     unsettled_in : (b : ℕ) → ((r : ℕ) → writes (n.process r) b ≡ true → Settles (kind (n.process r)) → In b) → In b
     unsettled_in b below = elim (writer_of n L b) [
-      | no_writer none ↦ in_as b (n.idle b) (h.kept b none) (L.time_zero.late_idle b (λ p e. absurd (both_ways (writes (n.process p) b) (none p) e)))
+      | no_writer none ↦ in_as b ((beginning n) b) (h.kept b none) (L.time_zero.late_idle b (λ p e. absurd (both_ways (writes (n.process p) b) (none p) e)))
       | settles r w s ↦ below r w s
       | by_updates r w u only ↦ by_kind r b w only (kind (n.process r)) refl u (writer_part r u (h.each r))
     ]
@@ -92,7 +92,7 @@ module _ (n : Network) (L : IsLawful n) (v base : State) (known : IsKnownVector 
     wakes_up p s reads g = never_both (q.now s.bit) (s.known (q.now s.bit) (reads s.bit s.listened)) (subst IsUnknown (sym (g s.bit s.listened)) (s.unknown (base s.bit) (base_in s.bit)))
 
     written_in : (p : ℕ) → ReadsIn L.late (n.process p) q.now → Settles (kind (n.process p)) → EachFirst p → WrittenIn p
-    written_in p reads s (an_assign k part) = agreed_in p s reads (assign_rests n L (first_phase n.idle v) q over.0 p part)
+    written_in p reads s (an_assign k part) = agreed_in p s reads (assign_rests n L (first_phase (beginning n) v) q (calm_of n q over.0) p k part)
     written_in p reads s (an_input k part) = absurd (no_input (kind (n.process p)) s k)
       where
         no_input : (k : Kind) → Settles k → IsInput k → ⊥

@@ -4,7 +4,7 @@ use Rattle.std.proofs.lemmas.Bool.{cond-true, cond-false, both_ways, and_parts}
 use Rattle.vs_four.specs.declared.Bit4.{Bit4}
 use Rattle.vs_four.specs.declared.Bit4.TheVariants.{Zero, One, X, Z}
 use Rattle.vs_four.specs.Tables.{same}
-use Rattle.vs_net.specs.Network.{State, Write, put, write_all, is_written, flatten}
+use Rattle.vs_net.specs.Network.{State, Write, put, write_all, is_written, flatten, Update}
 use Rattle.vs_net.specs.Queue.{is_held}
 
 pub by_test : {P : Type 0} (b : Bool) → (b ≡ true → P) → (b ≡ false → P) → P
@@ -116,3 +116,7 @@ none_written b h = cc
 pub unwritten_none : (b : ℕ) → is_written [] b ≡ false
 unfolding is_written
 unwritten_none b = refl
+
+pub flat_cons : (u : Update) (us : List Update) → flatten (u ∷ us) ≡ u ++ flatten us
+unfolding flatten
+flat_cons u us = refl

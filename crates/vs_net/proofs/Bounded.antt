@@ -1,24 +1,25 @@
 -- Between two beginnings of slots a run has few steps.
-use Rattle.std.proofs.Common.{◌≡◌, ◌≢◌, ℕ, zero, suc, ◌+◌, ◌≤◌, Bool, List, [], ◌∷◌, ◌++◌, length, refl, sym, ap, ◌∙◌, subst, Option, None, unwrap_or, IsSome, arith}
+use Rattle.vs_net.specs.Solution.{beginning}
+use Rattle.std.proofs.Common.{◌≡◌, ◌≢◌, ℕ, zero, suc, ◌+◌, ◌≤◌, Bool, List, [], ◌∷◌, ◌++◌, length, refl, sym, ap, ◌∙◌, subst, Option, None, unwrap_or, IsSome, arith, length-append}
 use Rattle.vs_net.specs.Network.{State, Write, Update, put, flatten, Process, Input, Clock, Assign, Comb, Clocked, Network, Kind, AnInput, TheClock, AnAssign, AComb, AClocked, kind, made, updates}
 use Rattle.vs_net.specs.Queue.{Unstarted, Waiting, Due, Queue, Slot, Fall, Rise, changes, Choice, Start, Evaluate, Apply, Run, Take, Activate, Next, IsBlock, after, first_mode, drive, begun, start, slots_of, IsFirst, evaluated, applied, ran, took, started}
 use Rattle.vs_net.proofs.Quiet.{IsStep}
 use Rattle.vs_net.specs.Lawful.{IsLawful, Settles}
-use Rattle.vs_net.specs.Bound.{sum_below, IsWeighed, bound, IsPartOfRun, HasNoNext}
+use Rattle.vs_net.specs.Bound.{sum_below, IsWeighed, bound, IsPartOfRun, HasNoNext, written_at_once}
 use Rattle.vs_net.specs.Laws.{IsKnownVector, AreKnownResets, SlotsEnd}
 use Rattle.vs_net.proofs.Basics.{put-same, is_written-append}
 use Rattle.vs_net.proofs.Waking.{changes_all}
-use Rattle.vs_net.proofs.Parts.{IsInput, inputs_deaf, Own, acts_on, acts_mode, acts_pending, acts_active, acts_waiting, acts_changes}
-use Rattle.vs_net.proofs.Settling.{some_is, full_is, took_waiting}
+use Rattle.vs_net.proofs.Parts.{IsInput, inputs_deaf, Own, acts_on, acts_mode, acts_pending, acts_active, acts_waiting, acts_changes, input_not_clocked}
+use Rattle.vs_net.proofs.Settling.{some_is, full_is, took_waiting, clocked_acts}
 use Rattle.vs_net.proofs.Drives.{clocked_undriven}
 use Rattle.vs_net.proofs.Phases.{risen_phase}
 use Rattle.vs_net.proofs.Begin.{early_first}
 use Rattle.vs_net.proofs.Runs.{InSlot, is_early, over_in, begin_in, slots_stay, Alternates, alternates, next_alternates, step_in, step_of}
 use Rattle.vs_net.proofs.Sound.{SoundAt, sound_of}
-use Rattle.vs_net.proofs.Counted.{Tally, more, more-same, blocks, unstarted, due, due_le, pends, Counted, counted_step, counted_activate, bounded, start_less, start_spent, eval_less, eval_spent, apply_less, apply_spent, comb_less, comb_spent, clocked_is, clocked_less, clocked_spent, take_less, take_spent}
+use Rattle.vs_net.proofs.Counted.{Tally, more, more-same, blocks, unstarted, due, due_le, pends, Counted, counted_step, counted_activate, bounded, start_less, start_spent, eval_less, eval_spent, apply_less, apply_spent, comb_less, comb_spent, clocked_less, clocked_spent, take_less, take_spent}
 
 abbrev nought : Tally
-nought = record { starts = λ p. 0; evals = λ p. 0; applies = λ p. 0; runs = λ p. 0; takes = λ p. 0 }
+nought = record { starts = λ p. 0; evals = λ p. 0; applies = λ p. 0; runs = λ p. 0; takes = λ p. 0; bursts = λ p. 0 }
 
 sum_nought : (k : ℕ) → sum_below k (λ p. 0) ≡ 0
 sum_nought zero = refl
@@ -60,8 +61,8 @@ module _ (n : Network) (L : IsLawful n) (feeds : ℕ → ℕ → Bool) (size w r
   Count q steps = (acts : ℕ) × (t : Tally) × IsCounted q steps acts t
 
   -- nothing has been counted yet
-  pub count_begins : (q : Queue) (slot : Slot) → ((p : ℕ) → q.pending p ≡ None) → ((p : ℕ) → q.active p ≡ []) → ((p : ℕ) → q.waiting p ≡ drive (n.process p) slot) → ((p : ℕ) → unstarted (q.mode p) ≤ blocks (kind (n.process p))) → ((p : ℕ) → kind (n.process p) ≢ AnAssign → due (q.mode p) ≡ 0) → ((p : ℕ) → due (q.mode p) ≤ 1) → Count q 0
-  count_begins q slot none active waiting fresh idle few = (
+  pub count_begins : (q : Queue) (slot : Slot) → ((p : ℕ) → q.pending p ≡ None) → ((p : ℕ) → kind (n.process p) ≢ AClocked → q.active p ≡ []) → ((p : ℕ) → length (q.active p) ≤ length (n.initial p)) → ((p : ℕ) → kind (n.process p) ≢ AClocked → q.waiting p ≡ drive (n.process p) slot) → ((p : ℕ) → kind (n.process p) ≡ AClocked → length (q.waiting p) ≤ length (n.initial_updates p)) → ((p : ℕ) → unstarted (q.mode p) ≤ blocks (kind (n.process p))) → ((p : ℕ) → kind (n.process p) ≢ AnAssign → due (q.mode p) ≡ 0) → ((p : ℕ) → due (q.mode p) ≤ 1) → Count q 0
+  count_begins q slot none active initial waiting updated fresh idle few = (
     0,
     nought,
     record {
@@ -74,10 +75,10 @@ module _ (n : Network) (L : IsLawful n) (feeds : ℕ → ℕ → Bool) (size w r
         comb = λ k. (let a = idle p (λ e. cc) in omega arith);
         clocked = λ k x y h g. (let a = idle p (λ e. cc) in omega arith);
         no_runs = λ k l. refl;
-        input = λ i. (let a = ap length (active p) in let b = ap length (waiting p) in let c = drive_few (n.process p) slot in omega arith);
-        updated = λ k. (let a = ap length (active p) in let b = ap length (waiting p ∙ clocked_undriven (n.process p) slot k) in omega arith);
+        input = λ i. (let a = ap length (active p (input_not_clocked (kind (n.process p)) i)) in let b = ap length (waiting p (input_not_clocked (kind (n.process p)) i)) in let c = drive_few (n.process p) slot in omega arith);
+        updated = λ k. (let a = initial p in let b = updated p k in omega arith);
         no_takes = λ k. refl;
-        beyond = λ h. (active p, waiting p ∙ ap (λ (x : Process). drive x slot) (L.beyond p h));
+        beyond = λ h. (active p (λ k. let e = ap kind (L.beyond p h) in cc), waiting p (λ k. let e = ap kind (L.beyond p h) in cc) ∙ ap (λ (x : Process). drive x slot) (L.beyond p h));
       };
       acts_few = omega arith;
       total = (let a = sum_nought n.count in omega arith);
@@ -123,7 +124,7 @@ module _ (n : Network) (L : IsLawful n) (feeds : ℕ → ℕ → Bool) (size w r
     count_comb : (p : ℕ) → kind (n.process p) ≡ AComb → q.mode p ≡ Due → Count (ran n q p) (steps + 1)
     count_comb p k h =
         let value = made (n.process p) q.now in
-        let own : Own n p value = (λ b e. sym (L.exact p b q.now (subst Settles (sym k) tt)) ∙ e) in
+        let own : Own n p value = (λ b e. L.own p b q.now (subst Settles (sym k) tt) e) in
         let q_d = changes n q value in
         let q_m = record q_d { mode = put q_d.mode p Waiting } in
         let a = acts_on n p q q_d (ran n q p) (acts_changes n p q value own) (acts_on n p q_d q_m (ran n q p) (acts_mode n p q_d Waiting) (acts_waiting n p q_m (q_d.waiting p ++ updates (n.process p) q.now))) in
@@ -141,15 +142,16 @@ module _ (n : Network) (L : IsLawful n) (feeds : ℕ → ℕ → Bool) (size w r
 
     count_clocked : (p : ℕ) → kind (n.process p) ≡ AClocked → q.mode p ≡ Due → Count (ran n q p) (steps + 1)
     count_clocked p k h =
-        subst (λ (x : Queue). Count x (steps + 1)) (sym (clocked_is n L feeds size w r W q t p (c.spent p) k h)) (
+        let a = clocked_acts n L (risen_phase n.idle) q p k in
+        let ch = changes_all n (made (n.process p) q.now) q in (
           acts,
-          record t { runs = more t.runs p },
-          counted_step n L feeds size w r W p 0 q _ t (record t { runs = more t.runs p }) steps acts
+          record t { runs = more t.runs p; bursts = put t.bursts p (t.bursts p + written_at_once (made (n.process p) q.now)) },
+          counted_step n L feeds size w r W p (written_at_once (made (n.process p) q.now)) q (ran n q p) t (record t { runs = more t.runs p; bursts = put t.bursts p (t.bursts p + written_at_once (made (n.process p) q.now)) }) steps acts
               (record {
-                less = clocked_less n L feeds size w r W q t p (c.spent p) k h;
-                self = clocked_spent n L feeds size w r W q t p (c.spent p) k h;
+                less = clocked_less n L feeds size w r W q t p (c.spent p) k h a;
+                self = clocked_spent n L feeds size w r W q t p (c.spent p) k h a;
                 grows = (let e = more-same t.runs p in omega arith);
-                went = omega arith;
+                went = (let e = ap length (ap (λ (f : ℕ → List Update). f p) ch.active) in omega arith);
               }) c,
         )
 
@@ -237,7 +239,7 @@ module _ (n : Network) (L : IsLawful n) (feeds : ℕ → ℕ → Bool) (size w r
         slots = refl;
         inside = begin_in n L p.slot x rest p.before q alt h.0 (over_in n L p.slot p.before q h.0 p.inside);
         steps = 0;
-        count = count_begins (begun n q (x ∷ rest)) x (λ y. (h.0.0 y).1) (λ y. (h.0.0 y).2) (λ y. refl)
+        count = count_begins (begun n q (x ∷ rest)) x (λ y. (h.0.0 y).1) (λ y k. (h.0.0 y).2) (λ y. let a = ap length (h.0.0 y).2 in omega arith) (λ y k. refl) (λ y k. let a = ap length (clocked_undriven (n.process y) x k) in omega arith)
             (λ y. let a = ap unstarted (h.0.0 y).0 in omega arith) (λ y k. ap due (h.0.0 y).0) (λ y. let a = ap due (h.0.0 y).0 in omega arith);
       }
 
@@ -264,13 +266,13 @@ module _ (n : Network) (L : IsLawful n) (feeds : ℕ → ℕ → Bool) (size w r
   pub first_place : (first v : State) (vs : List State) → IsFirst n first → IsKnownVector n v → AreKnownResets n vs → Place (start n first v vs)
   first_place first v vs firsts known resets = record {
     slot = Fall v;
-    before = n.idle;
+    before = beginning n;
     rest = Rise ∷ slots_of vs;
     alternate = alternates n L vs resets;
     slots = refl;
     inside = is_early refl known (early_first n L first v vs firsts);
     steps = 0;
-    count = count_begins (start n first v vs) (Fall v) (λ p. refl) (λ p. refl) (λ p. refl) (λ p. first_unstarted (kind (n.process p))) (λ p k. first_due (kind (n.process p)) k) (λ p. due_le (first_mode (kind (n.process p))));
+    count = count_begins (start n first v vs) (Fall v) (λ p. refl) (λ p k. (L.initial_clocked p k).0) (λ p. omega arith) (λ p k. ap (λ (us : List Update). us ++ drive (n.process p) (Fall v)) (L.initial_clocked p k).1) (λ p k. let a = length-append (n.initial_updates p) (drive (n.process p) (Fall v)) in let b = ap length (clocked_undriven (n.process p) (Fall v) k) in omega arith) (λ p. first_unstarted (kind (n.process p))) (λ p k. first_due (kind (n.process p)) k) (λ p. due_le (first_mode (kind (n.process p))));
   }
 
 pub slots_end : SlotsEnd

@@ -192,13 +192,13 @@ module _ (n : Network) (beyond : (p : ℕ) → n.count ≤ p → n.process p ≡
       let k = checked q c r a.0 in
       (k.possible, completed cs (after n q c) k.rests a.1)
 
-  rests_first : (first v : State) (vs : List State) → Rests (start n first v vs)
-  rests_first first v vs p l = record {
+  rests_first : ((p : ℕ) → n.count ≤ p → (n.initial p ≡ []) × (n.initial_updates p ≡ [])) → (first v : State) (vs : List State) → Rests (start n first v vs)
+  rests_first unset first v vs p l = record {
     mode = ap (λ x. first_mode (kind x)) (beyond p l);
     pending = refl;
-    active = refl;
-    waiting = ap (λ x. drive x (Fall v)) (beyond p l);
+    active = (unset p l).0;
+    waiting = ap (λ (us : List Update). us ++ drive (n.process p) (Fall v)) (unset p l).1 ∙ ap (λ x. drive x (Fall v)) (beyond p l);
   }
 
 pub tested_runs_complete : TestedRunsComplete
-tested_runs_complete n beyond first v vs choices h = completed n beyond choices (start n first v vs) (rests_first n beyond first v vs) h
+tested_runs_complete n beyond unset first v vs choices h = completed n beyond choices (start n first v vs) (rests_first n beyond unset first v vs) h

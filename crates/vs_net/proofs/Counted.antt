@@ -1,12 +1,12 @@
 -- How many steps of each kind a slot has seen.
-use Rattle.std.proofs.Common.{◌≡◌, ◌≢◌, ℕ, ◌+◌, ◌*◌, ◌<◌, ◌≤◌, Bool, true, false, List, [], ◌∷◌, ◌++◌, length, inl, inr, refl, sym, ap, ◌∙◌, subst, Option, Some, None, unwrap_or, arith, if◌then◌else◌, mul-le-mul_right, length-append}
+use Rattle.std.proofs.Common.{◌≡◌, ◌≢◌, ℕ, ◌+◌, ◌*◌, ◌<◌, ◌≤◌, Bool, true, false, List, [], ◌∷◌, ◌++◌, length, inl, inr, refl, sym, ap, ◌∙◌, subst, Option, Some, None, unwrap_or, arith, if◌then◌else◌, mul-le-mul_right, length-append, ◌⊎◌}
 use Rattle.std.proofs.lemmas.Bool.{both_ways, cond-true, cond-false, cases_lt}
 use Rattle.vs_net.specs.Network.{Reset, reset_of, Write, Update, put, is_written, Process, Network, Kind, AnInput, TheClock, AnAssign, AComb, AClocked, kind, writes, listens, clock_net, made, updates}
 use Rattle.vs_net.specs.Queue.{Mode, Unstarted, Waiting, Due, Queue, changes, to_write, evaluated, applied, ran, started}
 use Rattle.vs_net.proofs.Quiet.{IsQuiet}
 use Rattle.vs_net.specs.Lawful.{IsLawful, Settles}
 use Rattle.vs_net.proofs.Nets.{Family, IsPort, nets, net_writer, some_writer, port_of, clock_net_family, reset_net_family}
-use Rattle.vs_net.specs.Bound.{sum_below, fed_by, IsWeighed, share, bound}
+use Rattle.vs_net.specs.Bound.{sum_below, fed_by, IsWeighed, share, bound, written_at_once}
 use Rattle.vs_net.proofs.Levels.{by_order}
 use Rattle.vs_net.proofs.Basics.{by_test, same_number, put-same, put-other}
 use Rattle.vs_net.proofs.Waking.{Woke, stays, wakes, Changed, changes_all}
@@ -20,6 +20,8 @@ pub record Tally : Type 0 where
   pub applies : ℕ → ℕ
   pub runs : ℕ → ℕ
   pub takes : ℕ → ℕ
+  -- the runs of a clocked block that write at once
+  pub bursts : ℕ → ℕ
 
 abbrev pub more : (ℕ → ℕ) → ℕ → ℕ → ℕ
 more f p = put f p (f p + 1)
@@ -51,7 +53,7 @@ pends (Some ws) = 1
 abbrev pub written : Kind → Tally → ℕ → ℕ
 written AnAssign t p = t.applies p
 written AComb t p = t.runs p
-written _ t p = t.takes p
+written _ t p = t.takes p + t.bursts p
 
 pub due_le : (m : Mode) → due m ≤ 1
 due_le Unstarted = omega arith
@@ -89,8 +91,8 @@ module _ (n : Network) (L : IsLawful n) (feeds : ℕ → ℕ → Bool) (size w r
     pub comb : kind (n.process p) ≡ AComb → t.runs p + due (q.mode p) ≤ fed t p
     pub clocked : kind (n.process p) ≡ AClocked → (x y : ℕ) → writes (n.process x) (clock_net (n.process p)) ≡ true → IsOnReset (reset_of (n.process p)) (n.process y) → t.runs p + due (q.mode p) ≤ written (kind (n.process x)) t x + extra (reset_of (n.process p)) (written (kind (n.process y)) t y)
     pub no_runs : kind (n.process p) ≢ AComb → kind (n.process p) ≢ AClocked → t.runs p ≡ 0
-    pub input : IsInput (kind (n.process p)) → t.takes p + ups q p ≤ 1
-    pub updated : kind (n.process p) ≡ AClocked → t.takes p + ups q p ≤ t.runs p * size p
+    pub input : IsInput (kind (n.process p)) → t.takes p + t.bursts p + ups q p ≤ 1
+    pub updated : kind (n.process p) ≡ AClocked → t.takes p + t.bursts p + ups q p ≤ t.runs p * size p + (length (n.initial p) + length (n.initial_updates p))
     pub no_takes : Settles (kind (n.process p)) → t.takes p ≡ 0
     pub beyond : n.count ≤ p → (q.active p ≡ []) × (q.waiting p ≡ [])
 
@@ -102,6 +104,7 @@ module _ (n : Network) (L : IsLawful n) (feeds : ℕ → ℕ → Bool) (size w r
     pub applies : (x : ℕ) → x ≢ p → t'.applies x ≡ t.applies x
     pub runs : (x : ℕ) → x ≢ p → t'.runs x ≡ t.runs x
     pub takes : (x : ℕ) → x ≢ p → t'.takes x ≡ t.takes x
+    pub bursts : (x : ℕ) → x ≢ p → t'.bursts x ≡ t.bursts x
     pub unstarts : (x : ℕ) → x ≢ p → unstarted (q'.mode x) ≤ unstarted (q.mode x)
     pub dues : (x : ℕ) → x ≢ p → kind (n.process x) ≢ AClocked → due (q'.mode x) ≤ due (q.mode x) + (if feeds p x then wrote else 0)
     pub clocked_dues : (x : ℕ) → x ≢ p → kind (n.process x) ≡ AClocked → due (q'.mode x) ≤ due (q.mode x) + (if writes (n.process p) (clock_net (n.process x)) then wrote else 0) + (if on_reset (reset_of (n.process x)) (n.process p) then wrote else 0)
@@ -110,16 +113,16 @@ module _ (n : Network) (L : IsLawful n) (feeds : ℕ → ℕ → Bool) (size w r
     pub waiting : (x : ℕ) → x ≢ p → q'.waiting x ≡ q.waiting x
     pub wrote_is : written (kind (n.process p)) t' p ≡ written (kind (n.process p)) t p + wrote
 
-  written_same : (k : Kind) (t t' : Tally) (x : ℕ) → t'.applies x ≡ t.applies x → t'.runs x ≡ t.runs x → t'.takes x ≡ t.takes x → written k t' x ≡ written k t x
-  written_same AnAssign t t' x a b c = a
-  written_same AComb t t' x a b c = b
-  written_same AClocked t t' x a b c = c
-  written_same AnInput t t' x a b c = c
-  written_same TheClock t t' x a b c = c
+  written_same : (k : Kind) (t t' : Tally) (x : ℕ) → t'.applies x ≡ t.applies x → t'.runs x ≡ t.runs x → t'.takes x ≡ t.takes x → t'.bursts x ≡ t.bursts x → written k t' x ≡ written k t x
+  written_same AnAssign t t' x a b c d = a
+  written_same AComb t t' x a b c d = b
+  written_same AClocked t t' x a b c d = (let e = c in let g = d in omega arith)
+  written_same AnInput t t' x a b c d = (let e = c in let g = d in omega arith)
+  written_same TheClock t t' x a b c d = (let e = c in let g = d in omega arith)
 
   module _ (p wrote : ℕ) (q q' : Queue) (t t' : Tally) (less : Less p wrote q q' t t') where
     same_written : (x : ℕ) → x ≢ p → written (kind (n.process x)) t' x ≡ written (kind (n.process x)) t x
-    same_written x ne = written_same (kind (n.process x)) t t' x (less.applies x ne) (less.runs x ne) (less.takes x ne)
+    same_written x ne = written_same (kind (n.process x)) t t' x (less.applies x ne) (less.runs x ne) (less.takes x ne) (less.bursts x ne)
 
     pub fed_up : (x : ℕ) → fed t' x ≡ fed t x + (if feeds p x then wrote else 0)
     fed_up x =
@@ -159,8 +162,8 @@ module _ (n : Network) (L : IsLawful n) (feeds : ℕ → ℕ → Bool) (size w r
       comb = λ k. (let a = less.runs x ne in let b = less.dues x ne (λ e. cc) in let c = s.comb k in let d = fed_up x in omega arith);
       clocked = λ k y z h g. (let a = less.runs x ne in let b = less.clocked_dues x ne k in let c = s.clocked k y z h g in let d = writer_up (clock_net (n.process x)) y h in let e = reset_up (reset_of (n.process x)) z g in omega arith);
       no_runs = λ k l. less.runs x ne ∙ s.no_runs k l;
-      input = λ i. (let a = less.takes x ne in let b = ap length (less.active x ne) in let c = ap length (less.waiting x ne) in let d = s.input i in omega arith);
-      updated = λ k. (let a = less.takes x ne in let b = ap length (less.active x ne) in let c = ap length (less.waiting x ne) in let d = s.updated k in let e = ap (λ (z : ℕ). z * size x) (less.runs x ne) in omega arith);
+      input = λ i. (let a = less.takes x ne in let g = less.bursts x ne in let b = ap length (less.active x ne) in let c = ap length (less.waiting x ne) in let d = s.input i in omega arith);
+      updated = λ k. (let a = less.takes x ne in let g = less.bursts x ne in let b = ap length (less.active x ne) in let c = ap length (less.waiting x ne) in let d = s.updated k in let e = ap (λ (z : ℕ). z * size x) (less.runs x ne) in omega arith);
       no_takes = λ k. less.takes x ne ∙ s.no_takes k;
       beyond = λ h. (less.active x ne ∙ (s.beyond h).0, less.waiting x ne ∙ (s.beyond h).1);
     }
@@ -221,13 +224,14 @@ module _ (n : Network) (L : IsLawful n) (feeds : ℕ → ℕ → Bool) (size w r
       applies = λ x ne. refl;
       runs = λ x ne. refl;
       takes = λ x ne. refl;
+      bursts = λ x ne. refl;
       unstarts = λ x ne. (let a = ap unstarted (put-other q.mode p Waiting x ne) in omega arith);
       dues = λ x ne k. (let a = ap due (put-other q.mode p Waiting x ne) in omega arith);
       clocked_dues = λ x ne k. (let a = ap due (put-other q.mode p Waiting x ne) in omega arith);
       pending = λ x ne. refl;
       active = λ x ne. refl;
       waiting = λ x ne. refl;
-      wrote_is = (let a = written_same (kind (n.process p)) t t_start p refl refl refl in omega arith);
+      wrote_is = (let a = written_same (kind (n.process p)) t t_start p refl refl refl refl in omega arith);
     }
 
     pub start_spent : Spent (started q p) t_start p
@@ -266,13 +270,14 @@ module _ (n : Network) (L : IsLawful n) (feeds : ℕ → ℕ → Bool) (size w r
       applies = λ x ne. refl;
       runs = λ x ne. refl;
       takes = λ x ne. refl;
+      bursts = λ x ne. refl;
       unstarts = λ x ne. (let a = ap unstarted (put-other q.mode p Waiting x ne) in omega arith);
       dues = λ x ne l. (let a = ap due (put-other q.mode p Waiting x ne) in omega arith);
       clocked_dues = λ x ne l. (let a = ap due (put-other q.mode p Waiting x ne) in omega arith);
       pending = λ x ne. put-other q.pending p (to_write q.now (made (n.process p) q.now)) x ne;
       active = λ x ne. refl;
       waiting = λ x ne. refl;
-      wrote_is = (let a = written_same (kind (n.process p)) t t_eval p refl refl refl in omega arith);
+      wrote_is = (let a = written_same (kind (n.process p)) t t_eval p refl refl refl refl in omega arith);
     }
 
     pends_le : (o : Option (List Write)) → pends o ≤ 1
@@ -328,6 +333,7 @@ module _ (n : Network) (L : IsLawful n) (feeds : ℕ → ℕ → Bool) (size w r
       applies = λ x ne. more-other t.applies p x ne;
       runs = λ x ne. refl;
       takes = λ x ne. refl;
+      bursts = λ x ne. refl;
       unstarts = λ x ne. unstarts_of p q q_a x (a.mode x ne);
       dues = λ x ne l. dues_of p q q_a a x ne l;
       clocked_dues = λ x ne l. clocked_dues_of p q q_a a x ne l;
@@ -380,6 +386,7 @@ module _ (n : Network) (L : IsLawful n) (feeds : ℕ → ℕ → Bool) (size w r
       applies = λ x ne. refl;
       runs = λ x ne. more-other t.runs p x ne;
       takes = λ x ne. refl;
+      bursts = λ x ne. refl;
       unstarts = λ x ne. unstarts_of p q q_r x (a.mode x ne);
       dues = λ x ne l. dues_of p q q_r a x ne l;
       clocked_dues = λ x ne l. clocked_dues_of p q q_r a x ne l;
@@ -412,18 +419,47 @@ module _ (n : Network) (L : IsLawful n) (feeds : ℕ → ℕ → Bool) (size w r
         }
 
   -- run a clocked block
-  module _ (q : Queue) (t : Tally) (p : ℕ) (s : Spent q t p) (k : kind (n.process p) ≡ AClocked) (h : q.mode p ≡ Due) where
+  module _ (q : Queue) (t : Tally) (p : ℕ) (s : Spent q t p) (k : kind (n.process p) ≡ AClocked) (h : q.mode p ≡ Due) (a : Acts n p q (ran n q p)) where
+    abbrev at_once : List Write
+    at_once = made (n.process p) q.now
+
+    abbrev burst : ℕ
+    burst = written_at_once at_once
+
     abbrev t_clocked : Tally
-    t_clocked = record t { runs = more t.runs p }
+    t_clocked = record t { runs = more t.runs p; bursts = put t.bursts p (t.bursts p + burst) }
 
     abbrev q_k : Queue
-    q_k = record q { mode = put q.mode p Waiting; waiting = put q.waiting p (q.waiting p ++ updates (n.process p) q.now) }
+    q_k = ran n q p
 
-    pub clocked_is : ran n q p ≡ q_k
+    clocked_ch : Changed n q (changes n q at_once) at_once
+    clocked_ch = changes_all n at_once q
+
+    -- where it writes nothing at once it wakes nothing
+    none_woken : at_once ≡ [] → (x : ℕ) → x ≢ p → q_k.mode x ≡ q.mode x
     unfolding changes
-    clocked_is = ap (λ (x : List Write). record (changes n q x) { mode = put (changes n q x).mode p Waiting; waiting = put (changes n q x).waiting p ((changes n q x).waiting p ++ updates (n.process p) q.now) }) (L.clocked_writes p q.now k)
+    none_woken e x ne = put-other (changes n q at_once).mode p Waiting x ne ∙ ap (λ (ws : List Write). (changes n q ws).mode x) e
 
-    pub clocked_less : Less p 0 q q_k t t_clocked
+    bursts_or_none : (ws : List Write) → at_once ≡ ws → (burst ≡ 1) ⊎ ((x : ℕ) → x ≢ p → q_k.mode x ≡ q.mode x)
+    bursts_or_none [] e = inr (none_woken e)
+    bursts_or_none (w ∷ ws) e = inl (ap written_at_once e)
+
+    by_burst : (burst ≡ 1) ⊎ ((x : ℕ) → x ≢ p → q_k.mode x ≡ q.mode x)
+    by_burst = bursts_or_none at_once refl
+
+    burst_dues : (x : ℕ) → x ≢ p → kind (n.process x) ≢ AClocked → due (q_k.mode x) ≤ due (q.mode x) + (if feeds p x then burst else 0)
+    burst_dues x ne l = elim by_burst [
+      | inl e ↦ subst (λ (z : ℕ). due (q_k.mode x) ≤ due (q.mode x) + (if feeds p x then z else 0)) (sym e) (dues_of p q q_k a x ne l)
+      | inr f ↦ (let b = ap due (f x ne) in omega arith)
+    ]
+
+    burst_clocked_dues : (x : ℕ) → x ≢ p → kind (n.process x) ≡ AClocked → due (q_k.mode x) ≤ due (q.mode x) + (if writes (n.process p) (clock_net (n.process x)) then burst else 0) + (if on_reset (reset_of (n.process x)) (n.process p) then burst else 0)
+    burst_clocked_dues x ne l = elim by_burst [
+      | inl e ↦ subst (λ (z : ℕ). due (q_k.mode x) ≤ due (q.mode x) + (if writes (n.process p) (clock_net (n.process x)) then z else 0) + (if on_reset (reset_of (n.process x)) (n.process p) then z else 0)) (sym e) (clocked_dues_of p q q_k a x ne l)
+      | inr f ↦ (let b = ap due (f x ne) in omega arith)
+    ]
+
+    pub clocked_less : Less p burst q q_k t t_clocked
     clocked_less = record {
       within = kind_within p (λ x. cc);
       starts = λ x ne. refl;
@@ -431,21 +467,24 @@ module _ (n : Network) (L : IsLawful n) (feeds : ℕ → ℕ → Bool) (size w r
       applies = λ x ne. refl;
       runs = λ x ne. more-other t.runs p x ne;
       takes = λ x ne. refl;
-      unstarts = λ x ne. (let a = ap unstarted (put-other q.mode p Waiting x ne) in omega arith);
-      dues = λ x ne l. (let a = ap due (put-other q.mode p Waiting x ne) in omega arith);
-      clocked_dues = λ x ne l. (let a = ap due (put-other q.mode p Waiting x ne) in omega arith);
-      pending = λ x ne. refl;
-      active = λ x ne. refl;
-      waiting = λ x ne. put-other q.waiting p (q.waiting p ++ updates (n.process p) q.now) x ne;
-      wrote_is = subst (λ (z : Kind). written z t_clocked p ≡ written z t p + 0) (sym k) (omega arith);
+      bursts = λ x ne. put-other t.bursts p (t.bursts p + burst) x ne;
+      unstarts = λ x ne. unstarts_of p q q_k x (a.mode x ne);
+      dues = burst_dues;
+      clocked_dues = burst_clocked_dues;
+      pending = a.pending;
+      active = a.active;
+      waiting = a.waiting;
+      wrote_is = subst (λ (z : Kind). written z t_clocked p ≡ written z t p + burst) (sym k) (let e = put-same t.bursts p (t.bursts p + burst) in omega arith);
     }
 
     pub clocked_spent : Spent q_k t_clocked p
     clocked_spent =
-        let m = put-same q.mode p Waiting in
+        let m = put-same (changes n q at_once).mode p Waiting in
         let m0 = ap due m in
         let u0 = ap unstarted m in
         let e1 = more-same t.runs p in
+        let e2 = put-same t.bursts p (t.bursts p + burst) in
+        let a0 = ap length (ap (λ (f : ℕ → List Update). f p) clocked_ch.active) in
         record {
           starts = (let b = s.starts in omega arith);
           evals = λ l. absurd cc;
@@ -453,12 +492,13 @@ module _ (n : Network) (L : IsLawful n) (feeds : ℕ → ℕ → Bool) (size w r
           no_evals = s.no_evals;
           no_applies = s.no_applies;
           comb = λ l. absurd cc;
-          clocked = λ l x y f g. (let b = s.clocked l x y f g in let c = ap due h in let d = writer_more p 0 q q_k t t_clocked clocked_less x in let e = extra_more p 0 q q_k t t_clocked clocked_less (reset_of (n.process p)) y in omega arith);
+          clocked = λ l x y f g. (let b = s.clocked l x y f g in let c = ap due h in let d = writer_more p burst q q_k t t_clocked clocked_less x in let e = extra_more p burst q q_k t t_clocked clocked_less (reset_of (n.process p)) y in omega arith);
           no_runs = λ l x. absurd (x k);
           input = λ i. absurd (subst IsInput k i);
           updated = λ l.
               (let b = s.updated l in
-              let c = ap length (put-same q.waiting p (q.waiting p ++ updates (n.process p) q.now)) ∙ length-append (q.waiting p) (updates (n.process p) q.now) in
+              let c = ap length (put-same (changes n q at_once).waiting p ((changes n q at_once).waiting p ++ updates (n.process p) q.now)) ∙ length-append ((changes n q at_once).waiting p) (updates (n.process p) q.now) in
+              let c0 = ap length (ap (λ (f : ℕ → List Update). f p) clocked_ch.waiting) in
               let d = W.few p q.now k in
               let f = ap (λ (z : ℕ). z * size p) e1 in omega arith);
           no_takes = λ l. absurd (subst Settles k l);
@@ -483,9 +523,9 @@ module _ (n : Network) (L : IsLawful n) (feeds : ℕ → ℕ → Bool) (size w r
     take_within = elim (cases_lt p n.count) [ inl h ↦ h | inr h ↦ absurd (let z = (s.beyond h).0 in cc) ]
 
     takes_written : (z : Kind) → (Settles z → ⊥) → written z t_take p ≡ written z t p + 1
-    takes_written AnInput x = more-same t.takes p
-    takes_written TheClock x = more-same t.takes p
-    takes_written AClocked x = more-same t.takes p
+    takes_written AnInput x = let a = more-same t.takes p in omega arith
+    takes_written TheClock x = let a = more-same t.takes p in omega arith
+    takes_written AClocked x = let a = more-same t.takes p in omega arith
     takes_written AnAssign x = absurd (x tt)
     takes_written AComb x = absurd (x tt)
 
@@ -497,6 +537,7 @@ module _ (n : Network) (L : IsLawful n) (feeds : ℕ → ℕ → Bool) (size w r
       applies = λ x ne. refl;
       runs = λ x ne. refl;
       takes = λ x ne. more-other t.takes p x ne;
+      bursts = λ x ne. refl;
       unstarts = λ x ne. unstarts_of p q q_t x (a.mode x ne);
       dues = λ x ne l. dues_of p q q_t a x ne l;
       clocked_dues = λ x ne l. clocked_dues_of p q q_t a x ne l;
@@ -640,7 +681,7 @@ module _ (n : Network) (L : IsLawful n) (feeds : ℕ → ℕ → Bool) (size w r
         let b' = net_within x.0 e.net (Some e.input) net' x.1 in
         let c = W.reset_by p y.0 x.0 e o y.1 x.1 in omega arith
 
-    clocked_within : (p : ℕ) → kind (n.process p) ≡ AClocked → (t.runs p ≤ r p) × (t.takes p + ups q p ≤ w p)
+    clocked_within : (p : ℕ) → kind (n.process p) ≡ AClocked → (t.runs p ≤ r p) × (t.takes p + t.bursts p + ups q p ≤ w p)
     clocked_within p k =
         let runs_few = runs_within p k (reset_of (n.process p)) refl in
         let d = (s p).updated k in

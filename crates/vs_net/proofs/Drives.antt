@@ -4,14 +4,14 @@ use Rattle.std.specs.List.{list_any}
 use Rattle.std.proofs.lemmas.Bool.{both_ways, cond-true}
 use Rattle.vs_four.specs.declared.Bit4.{Bit4}
 use Rattle.vs_four.specs.declared.Bit4.TheVariants.{Zero, One}
-use Rattle.vs_net.specs.Network.{reset_of, Network, State, Write, put, write_all, is_written, flatten, Process, Input, Clock, Assign, Comb, Clocked, AnInput, TheClock, AClocked, kind, writes, updates}
+use Rattle.vs_net.specs.Network.{reset_of, Network, State, Write, put, write_all, is_written, flatten, Process, Input, Clock, Assign, Comb, Clocked, AnInput, TheClock, AClocked, kind, writes, effects}
 use Rattle.vs_net.specs.Queue.{Slot, Fall, Rise, drive}
-use Rattle.vs_net.specs.Solution.{driven, reset_updates, clocked_updates}
+use Rattle.vs_net.specs.Solution.{driven, reset_effects, clocked_effects}
 use Rattle.vs_net.specs.Lawful.{IsLawful, Settles}
 use Rattle.vs_net.proofs.Nets.{Family, IsInput, nets, net_of, of_clock, of_reset, clock_writer, root_writer}
 use Rattle.vs_net.proofs.Basics.{by_test, write_none}
 
-pub clocked_only : (process : Process) (slot : Slot) (s : State) → kind process ≢ AClocked → clocked_updates process slot s ≡ []
+pub clocked_only : (process : Process) (slot : Slot) (s : State) → kind process ≢ AClocked → clocked_effects process slot s ≡ []
 clocked_only (Clocked clock reset targets run) slot s h = absurd (h refl)
 clocked_only (Input bits) slot s h = refl
 clocked_only (Clock bit) slot s h = refl
@@ -19,7 +19,7 @@ clocked_only (Assign reads targets value) slot s h = refl
 clocked_only (Comb waits targets run) slot s h = refl
 
 -- where the clock falls a clocked block gets the updates of its reset
-pub clocked_fall : (process : Process) (v s : State) → clocked_updates process (Fall v) s ≡ reset_updates (reset_of process) v
+pub clocked_fall : (process : Process) (v s : State) → clocked_effects process (Fall v) s ≡ reset_effects (reset_of process) v
 clocked_fall (Clocked clock reset targets run) v s = refl
 clocked_fall (Input bits) v s = refl
 clocked_fall (Clock bit) v s = refl
@@ -40,7 +40,7 @@ clocked_undriven (Comb waits targets run) slot h = cc
 clocked_undriven (Input bits) slot h = cc
 clocked_undriven (Clock bit) slot h = cc
 
-pub clocked_rise : (process : Process) (s : State) → kind process ≡ AClocked → clocked_updates process Rise s ≡ updates process s
+pub clocked_rise : (process : Process) (s : State) → kind process ≡ AClocked → clocked_effects process Rise s ≡ effects process s
 clocked_rise (Clocked clock reset targets run) s h = refl
 clocked_rise (Assign reads targets value) s h = cc
 clocked_rise (Comb waits targets run) s h = cc
@@ -123,11 +123,11 @@ drive_own (Assign reads targets value) slot b h = cc
 drive_own (Comb waits targets run) slot b h = cc
 
 -- what a slot makes of a bit that a clocked block doesn't write
-pub driven_drive : (process : Process) (slot : Slot) (s : State) (b : ℕ) → clocked_updates process slot s ≡ [] → driven process slot s b ≡ write_all s (flatten (drive process slot)) b
+pub driven_drive : (process : Process) (slot : Slot) (s : State) (b : ℕ) → clocked_effects process slot s ≡ [] → driven process slot s b ≡ write_all s (flatten (drive process slot)) b
 driven_drive process slot s b e = ap (λ us. write_all s (flatten us) b) (ap (λ x. drive process slot ++ x) e ∙ append-nil (drive process slot))
 
-pub driven_fall : (process : Process) (v s : State) (b : ℕ) → kind process ≡ AClocked → driven process (Fall v) s b ≡ write_all s (flatten (reset_updates (reset_of process) v)) b
-driven_fall process v s b k = ap (λ us. write_all s (flatten us) b) (ap (λ x. x ++ clocked_updates process (Fall v) s) (clocked_undriven process (Fall v) k) ∙ clocked_fall process v s)
+pub driven_fall : (process : Process) (v s : State) (b : ℕ) → kind process ≡ AClocked → driven process (Fall v) s b ≡ write_all s (flatten (reset_effects (reset_of process) v)) b
+driven_fall process v s b k = ap (λ us. write_all s (flatten us) b) (ap (λ x. x ++ clocked_effects process (Fall v) s) (clocked_undriven process (Fall v) k) ∙ clocked_fall process v s)
 
 -- the value of the nets of a family at the end of a slot
 abbrev pub level_of : Slot → State → Family → Bit4

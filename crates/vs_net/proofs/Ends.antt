@@ -1,15 +1,16 @@
 -- The end of a slot.
-use Rattle.std.proofs.Common.{◌≡◌, ℕ, ◌≢◌, Bool, true, List, [], ◌++◌, inl, inr, refl, sym, ap, ◌∙◌, subst, Some}
+use Rattle.vs_net.proofs.Steps.{Apart}
+use Rattle.std.proofs.Common.{◌≡◌, ℕ, ◌≢◌, Bool, true, List, [], ◌++◌, inl, inr, refl, sym, ap, ◌∙◌, subst, Some, false}
 use mathlib.Core.Path.{fun_ext}
 use Rattle.std.proofs.lemmas.Bool.{both_ways}
-use Rattle.vs_net.specs.Network.{State, Update, write_all, flatten, Process, Input, Clock, Assign, Comb, Clocked, Network, Kind, AnInput, TheClock, AnAssign, AComb, AClocked, kind, writes, listens, made}
-use Rattle.vs_net.specs.Queue.{Queue}
-use Rattle.vs_net.proofs.Quiet.{IsQuiet}
+use Rattle.vs_net.specs.Network.{State, Update, write_all, flatten, Network, Kind, AnInput, TheClock, AnAssign, AComb, AClocked, kind, writes, listens, made}
+use Rattle.vs_net.specs.Queue.{Queue, Due}
+use Rattle.vs_net.proofs.Quiet.{IsQuiet, IsCalm}
 use Rattle.vs_net.specs.Solution.{IsSlotEnd, driven, given, is_asleep, IsWriter}
 use Rattle.vs_four.specs.declared.Bit4.TheVariants.{X}
 use Rattle.vs_net.specs.Lawful.{IsLawful, Settles}
 use Rattle.vs_net.proofs.Basics.{by_test, put-same, write_all_other, write_none}
-use Rattle.vs_net.proofs.Parts.{Agrees, is_due, is_pending, is_settled, Phase, AssignPart, WriterPart, InputPart, inputs_deaf, settles_assign}
+use Rattle.vs_net.proofs.Parts.{Agrees, is_due, is_pending, is_settled, Phase, AssignPart, WriterPart, InputPart, inputs_deaf, settles_assign, made_off}
 use Rattle.vs_net.proofs.Levels.{by_order}
 use Rattle.vs_net.proofs.Settling.{Each, an_assign, an_input, a_comb, a_clocked, Holds, CombOk, comb_due, comb_agrees, comb_sleeps, comb_asleep, Roused, sleepless, agreed, roused, CombPart, ClockedPart, clocked_rests, clocked_fires, clocked_due, Once, Good, IsInput, Settling}
 use Rattle.vs_net.proofs.Nets.{Family, IsPort, nets, net_writer, some_writer, off_nets, port_of, reset_net_family}
@@ -17,36 +18,32 @@ use Rattle.vs_net.proofs.Asleep.{asleep_is, asleep_true, never_sleeps, given_non
 use Rattle.vs_net.proofs.Drives.{level_of, driven_level}
 use Rattle.vs_four.specs.declared.Bit4.{Bit4}
 
-pub nothing_made : (process : Process) (s : State) → IsInput (kind process) → made process s ≡ []
-nothing_made (Input bits) s i = refl
-nothing_made (Clock bit) s i = refl
-nothing_made (Assign reads targets value) s i = absurd i
-nothing_made (Comb waits targets run) s i = absurd i
-nothing_made (Clocked clock reset targets run) s i = absurd i
+pub settles_no_input : (k : Kind) → Settles k → IsInput k → ⊥
+settles_no_input AnAssign s i = i
+settles_no_input AComb s i = i
+settles_no_input AnInput s i = s
+settles_no_input TheClock s i = s
+settles_no_input AClocked s i = s
 
 module _ (n : Network) (L : IsLawful n) where
   -- agreement on its own bits is agreement on all
   pub agrees_all : (p : ℕ) (s : State) → Settles (kind (n.process p)) → Agrees n p s → write_all s (made (n.process p) s) ≡ s
-  agrees_all p s k g = fun_ext (λ b. by_test (writes (n.process p) b) (g b) (λ e. write_all_other (made (n.process p) s) s b (L.exact p b s k ∙ e)))
+  agrees_all p s k g = fun_ext (λ b. by_test (writes (n.process p) b) (g b) (λ e. write_all_other (made (n.process p) s) s b (made_off n L p b s k e)))
 
-  pub nothing_agrees : (p : ℕ) (s : State) → made (n.process p) s ≡ [] → write_all s (made (n.process p) s) ≡ s
-  unfolding write_all
-  nothing_agrees p s e = ap (λ ws. write_all s ws) e
-
-  module _ (ph : Phase) (q : Queue) (quiet : IsQuiet q) where
+  module _ (ph : Phase) (q : Queue) (calm : IsCalm n q) where
     -- an assign at rest agrees
-    pub assign_rests : (p : ℕ) → AssignPart n (nets n L) ph q p → Agrees n p q.now
-    assign_rests p part = elim part.ok [
-      | is_due d ↦ absurd (let m = (quiet p).0 in cc)
-      | is_pending m h ↦ absurd (let e = (quiet p).1 in cc)
+    pub assign_rests : (p : ℕ) → kind (n.process p) ≡ AnAssign → AssignPart n (nets n L) ph q p → Agrees n p q.now
+    assign_rests p k part = elim part.ok [
+      | is_due d ↦ absurd (let m = (calm.assigns p k).0 in cc)
+      | is_pending m h ↦ absurd (let e = (calm.assigns p k).1 in cc)
       | is_settled m h g ↦ g
     ]
 
-  module _ (ph : Phase) (comb clocked : Queue → ℕ → Type 0) (q : Queue) (quiet : IsQuiet q) (h : Holds n L ph comb clocked q) where
+  module _ (ph : Phase) (comb clocked : Queue → ℕ → Type 0) (q : Queue) (calm : IsCalm n q) (h : Holds n L ph comb clocked q) where
     -- at rest a port's net has the value of the net that it copies
     pub port_rests : (p : ℕ) → kind (n.process p) ≡ AnAssign → (c : IsPort (nets n L) (n.process p)) → Each n (nets n L) ph comb clocked q p → q.now c.to ≡ q.now c.from
     unfolding write_all
-    port_rests p k c (an_assign k' part) = sym (assign_rests ph q quiet p part c.to c.writes_it) ∙ ap (λ ws. write_all q.now ws c.to) (c.copies q.now) ∙ put-same q.now c.to (q.now c.from)
+    port_rests p k c (an_assign k' part) = sym (assign_rests ph q calm p k' part c.to c.writes_it) ∙ ap (λ ws. write_all q.now ws c.to) (c.copies q.now) ∙ put-same q.now c.to (q.now c.from)
     port_rests p k c (an_input k' part) = absurd (subst IsInput k k')
     port_rests p k c (a_comb k' part) = absurd cc
     port_rests p k c (a_clocked k' part) = absurd cc
@@ -94,13 +91,13 @@ module _ (n : Network) (L : IsLawful n) where
       abbrev pub rephased : Phase
       rephased = record { slot = ph.slot; before = ph.before; old = old; fresh = fresh; goal = ph.goal }
 
-      pub rephase_assign : (p : ℕ) → AssignPart n (nets n L) ph q p → AssignPart n (nets n L) rephased q p
-      rephase_assign p part = record {
+      pub rephase_assign : (p : ℕ) → kind (n.process p) ≡ AnAssign → AssignPart n (nets n L) ph q p → AssignPart n (nets n L) rephased q p
+      rephase_assign p k part = record {
         ok = part.ok;
         own = part.own;
         active = part.active;
         waiting = part.waiting;
-        port = λ c. record { values = λ ws e. absurd (let z = (quiet p).1 in cc); later = λ e. sym (port_at p c (h.each p)) ∙ e };
+        port = λ c. record { values = λ ws e. absurd (let z = (calm.assigns p k).1 in cc); later = λ e. sym (port_at p c (h.each p)) ∙ e };
       }
         where
           port_at : (p : ℕ) (c : IsPort (nets n L) (n.process p)) → Each n (nets n L) ph comb clocked q p → q.now c.to ≡ q.now c.from
@@ -122,13 +119,43 @@ module _ (n : Network) (L : IsLawful n) where
   unfolding write_all flatten
   writer_rests ph q quiet none p b part w = sym (ap (λ x. write_all q.now (flatten x) b) (nothing_comes q quiet none p)) ∙ part.coming b w
 
-  module _ (ph : Phase) (base : State) (sleeps : ℕ → Type 0) (good : Good ph) (is_level : (f : Family) → ph.fresh f ≡ level_of ph.slot ph.before f) (q : Queue) (quiet : IsQuiet q) (h : Settling n L ph base sleeps q) where
+  -- where all nets have changed another account of them can begin
+  module _ (ph : Phase) (apart : Apart ph) (q : Queue) (arrived : (c : ℕ) (f : Family) → nets n L c ≡ Some f → q.now c ≡ ph.fresh f) where
+    abbrev pub past_phase : Phase
+    past_phase = record { slot = ph.slot; before = ph.before; old = λ f x. false; fresh = ph.fresh; goal = ph.goal }
+
+    pub past_assign : (p : ℕ) → AssignPart n (nets n L) ph q p → AssignPart n (nets n L) past_phase q p
+    past_assign p part = record {
+      ok = part.ok;
+      own = part.own;
+      active = part.active;
+      waiting = part.waiting;
+      port = λ c. record {
+        values = λ ws e. (let v = (part.port c).values ws e in (
+          v.0,
+          v.1,
+          elim v.2 [
+            | inl x ↦ inl x
+            | inr x ↦ absurd (both_ways (ph.old c.family (ph.fresh c.family)) (apart c.family) (subst (λ (y : Bit4). ph.old c.family y ≡ true) (arrived c.to c.family c.to_net) x.1))
+          ],
+        ));
+        later = λ e. arrived c.from c.family c.from_net;
+      };
+    }
+
+    pub past_writer : (p : ℕ) → WriterPart n ph q p → WriterPart n past_phase q p
+    past_writer p w = record { pending = w.pending; own = w.own; coming = w.coming }
+
+    pub past_input : (p : ℕ) → InputPart n (nets n L) ph q p → InputPart n (nets n L) past_phase q p
+    past_input p part = record { mode = part.mode; writer = past_writer p part.writer; net = part.net }
+
+  module _ (ph : Phase) (base : State) (sleeps : ℕ → Type 0) (good : Good ph) (is_level : (f : Family) → ph.fresh f ≡ level_of ph.slot ph.before f) (q : Queue) (calm : IsCalm n q) (h : Settling n L ph base sleeps q) where
     -- where each input's update is taken, each net of a family has changed
     pub settling_arrived : ((p : ℕ) → IsInput (kind (n.process p)) → q.waiting p ≡ []) → (c : ℕ) (f : Family) → nets n L c ≡ Some f → q.now c ≡ ph.fresh f
-    settling_arrived none c f net = nets_carry ph (CombPart n ph.slot ph.before base sleeps) (ClockedPart n ph) q quiet h f (ph.fresh f) (λ p b net i w. taken p b f net i w (h.each p)) c net
+    settling_arrived none c f net = nets_carry ph (CombPart n ph.slot ph.before base sleeps) (ClockedPart n ph) q calm h f (ph.fresh f) (λ p b net i w. taken p b f net i w (h.each p)) c net
       where
         taken : (p b : ℕ) (f : Family) → nets n L b ≡ Some f → IsInput (kind (n.process p)) → writes (n.process p) b ≡ true → Each n (nets n L) ph (CombPart n ph.slot ph.before base sleeps) (ClockedPart n ph) q p → q.now b ≡ ph.fresh f
-        taken p b f net i w (an_input k part) = comes (ap (λ (x : List Update). x ++ q.waiting p) (quiet p).2 ∙ none p i) ∙ driven_level n L ph.slot ph.before p b f net i w ∙ sym (is_level f)
+        taken p b f net i w (an_input k part) = comes (ap (λ (x : List Update). x ++ q.waiting p) (calm.active p) ∙ none p i) ∙ driven_level n L ph.slot ph.before p b f net i w ∙ sym (is_level f)
           where
             comes : q.active p ++ q.waiting p ≡ [] → q.now b ≡ driven (n.process p) ph.slot ph.before b
             comes e = sym (ap (λ x. write_all q.now (flatten x) b) e ∙ write_none q.now b) ∙ part.writer.coming b w
@@ -137,15 +164,15 @@ module _ (n : Network) (L : IsLawful n) where
         taken p b f net i w (a_clocked k' part) = absurd (subst IsInput k' i)
 
     -- then each clocked block has run
-    pub clocked_rested : ((c : ℕ) (f : Family) → nets n L c ≡ Some f → q.now c ≡ ph.fresh f) → (p : ℕ) → ClockedPart n ph q p → WriterPart n ph q p × Once n (flatten (q.active p ++ q.waiting p))
-    clocked_rested arrived p (clocked_rests m w once past) = (w, once)
-    clocked_rested arrived p (clocked_fires e f m o u) = absurd (both_ways (ph.old (Some e.input) (ph.fresh (Some e.input))) (good.apart (Some e.input)) (subst (λ (x : Bit4). ph.old (Some e.input) x ≡ true) (arrived e.net (Some e.input) (reset_net_family n L p e f.is_reset)) o))
-    clocked_rested arrived p (clocked_due e f a o d fr u) = absurd (let m = (quiet p).0 in cc)
+    pub clocked_rested : ((c : ℕ) (f : Family) → nets n L c ≡ Some f → q.now c ≡ ph.fresh f) → (p : ℕ) → q.mode p ≢ Due → ClockedPart n ph q p → WriterPart n ph q p × Once n (flatten (q.active p ++ q.waiting p))
+    clocked_rested arrived p nd (clocked_rests m w once past) = (w, once)
+    clocked_rested arrived p nd (clocked_fires e f m o u) = absurd (both_ways (ph.old (Some e.input) (ph.fresh (Some e.input))) (good.apart (Some e.input)) (subst (λ (x : Bit4). ph.old (Some e.input) x ≡ true) (arrived e.net (Some e.input) (reset_net_family n L p e f.is_reset)) o))
+    clocked_rested arrived p nd (clocked_due e f a o d fr u) = absurd (nd d)
 
-    pub settling_end : ((p : ℕ) → q.waiting p ≡ []) → ((p : ℕ) → sleeps p → ((b : ℕ) → listens (n.process p) b ≡ true → q.now b ≡ base b) → Agrees n p q.now) → IsSlotEnd n ph.before ph.slot q.now
-    settling_end none awake =
+    pub settling_end : IsQuiet q → ((p : ℕ) → q.waiting p ≡ []) → ((p : ℕ) → sleeps p → ((b : ℕ) → listens (n.process p) b ≡ true → q.now b ≡ base b) → Agrees n p q.now) → IsSlotEnd n ph.before ph.slot q.now
+    settling_end quiet none awake =
         record {
-          settled = λ p. settled p (h.each p);
+          settled = λ p st. settled p st (h.each p);
           updated = λ p b w e. updated p b w e (h.each p);
           kept = h.kept;
         }
@@ -154,7 +181,7 @@ module _ (n : Network) (L : IsLawful n) where
         updated p b w e (an_assign k part) = absurd (subst IsWriter k w)
         updated p b w e (an_input k part) = writer_rests ph q quiet none p b part.writer e
         updated p b w e (a_comb k part) = absurd (subst IsWriter k w)
-        updated p b w e (a_clocked k part) = writer_rests ph q quiet none p b (clocked_rested (settling_arrived (λ r i. none r)) p part).0 e
+        updated p b w e (a_clocked k part) = writer_rests ph q quiet none p b (clocked_rested (settling_arrived (λ r i. none r)) p (λ d. let m = (quiet p).0 in cc) part).0 e
 
         as_made : (p : ℕ) → kind (n.process p) ≢ AComb → write_all q.now (made (n.process p) q.now) ≡ q.now → write_all q.now (given n ph.before p q.now) ≡ q.now
         as_made p k e = ap (write_all q.now) (given_none n L ph.before q.now p (never_sleeps n L p k)) ∙ e
@@ -179,8 +206,8 @@ module _ (n : Network) (L : IsLawful n) where
             by_ok (comb_sleeps m s none g) = ap (write_all q.now) (given_none n L ph.before q.now p none) ∙ agrees_all p q.now st (awake p s g)
             by_ok (comb_asleep m x e f g) = asleep_holds n L ph.before q.now p st (asleep_true n L ph.before q.now p (record { sleeper = x; is_sleeper = e; before_asleep = f; listened = g.listened })) g.bits
 
-        settled : (p : ℕ) → Each n (nets n L) ph (CombPart n ph.slot ph.before base sleeps) (ClockedPart n ph) q p → write_all q.now (given n ph.before p q.now) ≡ q.now
-        settled p (an_assign k part) = as_made p (λ x. cc) (agrees_all p q.now (settles_assign n L p k) (assign_rests ph q quiet p part))
-        settled p (an_input k part) = as_made p (λ x. subst IsInput x k) (nothing_agrees p q.now (nothing_made (n.process p) q.now k))
-        settled p (a_clocked k part) = as_made p (λ x. cc) (nothing_agrees p q.now (L.clocked_writes p q.now k))
-        settled p (a_comb k part) = comb_settled p k (λ b r w u. updated r b (subst IsWriter (sym u) tt) w (h.each r)) part.ok
+        settled : (p : ℕ) → Settles (kind (n.process p)) → Each n (nets n L) ph (CombPart n ph.slot ph.before base sleeps) (ClockedPart n ph) q p → write_all q.now (given n ph.before p q.now) ≡ q.now
+        settled p st (an_assign k part) = as_made p (λ x. cc) (agrees_all p q.now st (assign_rests ph q calm p k part))
+        settled p st (an_input k part) = absurd (settles_no_input (kind (n.process p)) st k)
+        settled p st (a_clocked k part) = absurd (subst Settles k st)
+        settled p st (a_comb k part) = comb_settled p k (λ b r w u. updated r b (subst IsWriter (sym u) tt) w (h.each r)) part.ok

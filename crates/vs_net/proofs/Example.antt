@@ -4,7 +4,7 @@ use Rattle.std.proofs.lemmas.Bool.{cond-true}
 use Rattle.vs_four.specs.declared.Bit4.{Bit4}
 use Rattle.vs_four.specs.declared.Bit4.TheVariants.{Zero, One, X, Z}
 use Rattle.vs_four.specs.Tables.{not_bit}
-use Rattle.vs_net.specs.Network.{Reset, reset_of, State, write_all, is_written, flatten, Input, AnInput, TheClock, AnAssign, AComb, AClocked, kind, writes, listens, clock_net, made, updates}
+use Rattle.vs_net.specs.Network.{Reset, reset_of, State, write_all, is_written, flatten, Input, AnInput, TheClock, AnAssign, AComb, AClocked, kind, writes, listens, clock_net, made, updates, effects}
 use Rattle.vs_net.specs.Lawful.{IsLawful, IsClockPort, Settles, IsOrdered, ReadsIn, WritesIn, IsUnknown, IsKnown, IsQuietBlock, IsWokenBlock}
 use Rattle.vs_net.specs.Example.{one_write, example_process, example_idle, example}
 use Rattle.vs_net.proofs.Basics.{by_test}
@@ -303,22 +303,37 @@ no_reset (suc (suc (suc (suc zero)))) r h = cc
 no_reset (suc (suc (suc (suc (suc zero))))) r h = cc
 no_reset (suc (suc (suc (suc (suc (suc p)))))) r h = cc
 
-clocked_own : (b : ℕ) (s : State) → is_written (flatten (updates (example_process 3) s)) b ≡ true → (b == 4) ≡ true
+clocked_own : (b : ℕ) (s : State) → is_written (flatten (effects (example_process 3) s)) b ≡ true → (b == 4) ≡ true
 unfolding flatten is_written
 clocked_own b s h = or_false (b == 4) h
 
+pub unwritten_once : (b : ℕ) → is_written [] b ≡ true → ⊥
+unfolding is_written
+unwritten_once b h = cc
+
+pub unset_flat : (b : ℕ) → is_written (flatten []) b ≡ true → ⊥
+unfolding is_written flatten
+unset_flat b h = cc
+
 pub example_lawful : IsLawful example
+unfolding write_all flatten
 example_lawful = record {
   beyond = beyond;
   one_writer = λ p q b h k. sym (owner_is q b k) ∙ owner_is p b h;
   idle_x = idle_x;
   idle_xz = idle_xz;
-  exact = exact;
+  initial_own = λ p b h. absurd (unset_flat b h);
+  initial_clocked = λ p k. (refl, refl);
+  initial_apart = λ p b s h. absurd (unset_flat b h);
+  selects = λ b. false;
+  select_driven = λ b h. cc;
+  select_made = λ p b s t k h w known. cc;
+  own = λ p b s k h. sym (exact p b s k) ∙ h;
+  exact = λ p b s k known w. exact p b s k ∙ w;
   local = local;
   apart = apart;
   comb_updates = λ p s k. elim (comb_kind p k) [ inl e ↦ subst (λ (x : ℕ). updates (example_process x) s ≡ []) (sym e) refl | inr e ↦ subst (λ (x : ℕ). updates (example_process x) s ≡ []) (sym e) refl ];
-  clocked_writes = λ p s k. subst (λ (x : ℕ). made (example_process x) s ≡ []) (sym (clocked_kind p k)) refl;
-  clocked_own = λ p b s k h. subst (λ (x : ℕ). writes (example_process x) b ≡ true) (sym (clocked_kind p k)) (clocked_own b s (subst (λ (x : ℕ). is_written (flatten (updates (example_process x) s)) b ≡ true) (clocked_kind p k) h));
+  clocked_own = λ p b s k h. subst (λ (x : ℕ). writes (example_process x) b ≡ true) (sym (clocked_kind p k)) (clocked_own b s (subst (λ (x : ℕ). is_written (flatten (effects (example_process x) s)) b ≡ true) (clocked_kind p k) h));
   order = 0 ∷ 1 ∷ 2 ∷ [];
   ordered = ordered;
   clock_nets = nets;
@@ -332,7 +347,10 @@ example_lawful = record {
     | inl e ↦ subst (λ (x : ℕ). listens (example_process x) b ≡ false) (sym e) (at_net b (λ c. (c == 2) ≡ false) refl refl h)
     | inr e ↦ subst (λ (x : ℕ). listens (example_process x) b ≡ false) (sym e) (at_net b (λ c. (c == 4) ≡ false) refl refl h)
   ];
-  clocked_local = λ p s t k h. subst (λ (x : ℕ). updates (example_process x) s ≡ updates (example_process x) t) (sym (clocked_kind p k)) (ap (λ v. one_write 4 v ∷ []) (h 3 refl));
+  stirs = λ p b. false;
+  stirs_own = λ p b s k h. absurd (unwritten_once b (subst (λ (x : ℕ). is_written (made (example_process x) s) b ≡ true) (clocked_kind p k) h));
+  stirs_on = λ p r b c h l st w. cc;
+  clocked_local = λ p s t k h. subst (λ (x : ℕ). effects (example_process x) s ≡ effects (example_process x) t) (sym (clocked_kind p k)) (ap (λ v. [] ∷ one_write 4 v ∷ []) (h 3 refl (λ r ne kr. refl)));
   roots = λ b. None;
   roots_written = λ b i h. absurd cc;
   input_roots = λ p k. inr (λ b w. refl);

@@ -1,7 +1,7 @@
 -- The weights of the example.
 use Rattle.std.proofs.Common.{◌≡◌, ℕ, zero, suc, ◌+◌, ◌*◌, ◌≤◌, true, ◌==◌, None, length, refl, sym, ◌∙◌, subst, eqb-true, eq-eqb, arith}
-use Rattle.vs_net.specs.Network.{reset_of, State, AnInput, TheClock, AnAssign, AComb, AClocked, kind, writes, listens, clock_net, updates}
-use Rattle.vs_net.specs.Bound.{fed_by}
+use Rattle.vs_net.specs.Network.{reset_of, State, AnInput, TheClock, AnAssign, AComb, AClocked, kind, writes, listens, clock_net, updates, made}
+use Rattle.vs_net.specs.Bound.{fed_by, written_at_once}
 use Rattle.vs_net.specs.Example.{example_process, example_feeds, example_weight, ExampleIsBounded}
 use Rattle.vs_net.proofs.Example.{no_reset, owner, at_bit, owner_is}
 
@@ -24,7 +24,7 @@ fed_only (suc zero) q h = (2, refl, subst (λ (x : ℕ). writes (example_process
 fed_only (suc (suc zero)) q h = (4, refl, subst (λ (x : ℕ). writes (example_process x) 4 ≡ true) (sym (eqb-true q 3 h)) refl)
 fed_only (suc (suc (suc p))) q h = cc
 
-few : (p : ℕ) (s : State) → kind (example_process p) ≡ AClocked → length (updates (example_process p) s) ≤ 1
+few : (p : ℕ) (s : State) → kind (example_process p) ≡ AClocked → written_at_once (made (example_process p) s) + length (updates (example_process p) s) ≤ 1
 few zero s k = cc
 few (suc zero) s k = cc
 few (suc (suc zero)) s k = cc

@@ -1,10 +1,11 @@
 -- The values of a solution tell which blocks have been woken.
+use Rattle.vs_net.proofs.Beginning.{begins_idle, begins_other}
 use Rattle.std.proofs.Common.{◌≡◌, ℕ, Bool, true, false, not, ◌||◌, List, [], ◌∷◌, Some, refl, sym, ap, ◌∙◌, subst}
 use Rattle.std.proofs.lemmas.Bool.{both_ways}
 use Rattle.vs_four.specs.declared.Bit4.TheVariants.{X}
 use Rattle.vs_net.specs.Network.{Sleeper, State, write_all, Network, kind, writes, listens, made}
 use Rattle.vs_net.specs.Queue.{Slot}
-use Rattle.vs_net.specs.Solution.{all_x, is_asleep, given, IsSolution}
+use Rattle.vs_net.specs.Solution.{all_x, is_asleep, given, IsSolution, beginning}
 use Rattle.vs_net.specs.Lawful.{IsLawful, Settles}
 use Rattle.vs_net.specs.Laws.{HasAsTold, IsAsTold, HistoryIsInValues}
 use Rattle.vs_net.proofs.Basics.{by_test, write_all_covered}
@@ -33,10 +34,10 @@ module _ (n : Network) (L : IsLawful n) (p : ℕ) (x : Sleeper) (e : n.sleeper p
       (λ t. let a = asleep_is n L before s p t in
       λ b w.
       ap (λ ws. write_all s ws b) (L.local p s before st (λ c l. a.listened c l ∙ sym (a.before_asleep.listened c l)))
-      ∙ write_all_covered (made (n.process p) before) s before b (L.exact p b before st ∙ w)
+      ∙ write_all_covered (made (n.process p) before) s before b ((L.sleepers p x e).exact b before w)
       ∙ h b w
       ∙ a.before_asleep.bits b w
-      ∙ sym (sym (ap (λ (f : State). f b) g) ∙ ap (λ ws. write_all s ws b) (given_blank n L before s p t) ∙ blank_x (made (n.process p) s) s b (L.exact p b s st ∙ w)))
+      ∙ sym (sym (ap (λ (f : State). f b) g) ∙ ap (λ ws. write_all s ws b) (given_blank n L before s p t) ∙ blank_x (made (n.process p) s) s b ((L.sleepers p x e).exact b s w)))
       (λ t. agreed_at before s g t)
 
   step : (before s : State) (was : Bool) → write_all s (given n before p s) ≡ s → Stands before was → (test : Bool) → all_x s x.on ≡ test → HasAsTold n p x (was || not test) s × Stands s (was || not test)
@@ -48,7 +49,7 @@ module _ (n : Network) (L : IsLawful n) (p : ℕ) (x : Sleeper) (e : n.sleeper p
       let a = agreed_at before s g no in (agrees_all n L p s st a, woken a)
   step before s false g (sleeping h) true t =
       let yes = asleep_true n L before s p (record { sleeper = x; is_sleeper = e; before_asleep = h; listened = on_x s t }) in
-      let bits : (b : ℕ) → writes (n.process p) b ≡ true → s b ≡ X = (λ b w. sym (ap (λ (f : State). f b) g) ∙ ap (λ ws. write_all s ws b) (given_blank n L before s p yes) ∙ blank_x (made (n.process p) s) s b (L.exact p b s st ∙ w)) in
+      let bits : (b : ℕ) → writes (n.process p) b ≡ true → s b ≡ X = (λ b w. sym (ap (λ (f : State). f b) g) ∙ ap (λ ws. write_all s ws b) (given_blank n L before s p yes) ∙ blank_x (made (n.process p) s) s b ((L.sleepers p x e).exact b s w)) in
       (all_x_of s x.bits (λ b m. bits b (sym ((L.sleepers p x e).bits_is b) ∙ m)), sleeping (record { listened = on_x s t; bits = bits }))
 
   told : (before : State) (slots : List Slot) (ss : List State) (was : Bool) → Stands before was → IsSolution n before slots ss → IsAsTold n p x was ss
@@ -56,11 +57,11 @@ module _ (n : Network) (L : IsLawful n) (p : ℕ) (x : Sleeper) (e : n.sleeper p
   told before (slot ∷ slots) [] was h s = tt
   told before [] (y ∷ ys) was h s = absurd s
   told before (slot ∷ slots) (y ∷ ys) was h s =
-      let one = step before y was (s.0.settled p) h (all_x y x.on) refl in
+      let one = step before y was (s.0.settled p st) h (all_x y x.on) refl in
       (one.0, told y slots ys (was || not (all_x y x.on)) one.1 s.1)
 
-  idle_stands : Stands n.idle false
-  idle_stands = sleeping (record { listened = λ b l. (L.sleepers p x e).idle b l; bits = λ b w. L.idle_x p b w (λ k. let c = (L.sleepers p x e).comb in cc) })
+  idle_stands : Stands (beginning n) false
+  idle_stands = sleeping (record { listened = λ b l. begins_idle n L b (λ r. (L.sleepers p x e).unset b r l) ∙ (L.sleepers p x e).idle b l; bits = λ b w. begins_other n L p b (λ k. let c = (L.sleepers p x e).comb in cc) w ∙ L.idle_x p b w (λ k. let c = (L.sleepers p x e).comb in cc) })
 
 pub history_is_in_values : HistoryIsInValues
-history_is_in_values n L slots ss s p x e = told n L p x e n.idle slots ss false (idle_stands n L p x e) s
+history_is_in_values n L slots ss s p x e = told n L p x e (beginning n) slots ss false (idle_stands n L p x e) s

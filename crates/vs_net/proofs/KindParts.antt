@@ -1,7 +1,7 @@
 -- At each moment of a run of a lawful network, each process has only the parts of the state that are of its kind.
 use Rattle.std.proofs.Common.{◌≡◌, ◌≢◌, ℕ, true, List, [], ◌∷◌, ◌++◌, refl, sym, ap, ◌∙◌, subst, Option, None, is_some, unwrap_or}
 use Rattle.vs_net.specs.Network.{State, Write, Update, put, Network, Kind, AnInput, TheClock, AnAssign, AComb, AClocked, kind, made, updates}
-use Rattle.vs_net.specs.Queue.{Mode, Unstarted, Waiting, Due, Slot, Fall, Queue, changes, to_write, Choice, Start, Evaluate, Apply, Run, Take, Activate, Next, IsBlock, IsPossible, took, begun, after, first_mode, start}
+use Rattle.vs_net.specs.Queue.{Mode, Unstarted, Waiting, Due, Slot, Fall, Queue, changes, to_write, Choice, Start, Evaluate, Apply, Run, Take, Activate, Next, IsBlock, IsPossible, took, begun, after, first_mode, start, drive}
 use Rattle.vs_net.specs.Solution.{IsWriter}
 use Rattle.vs_net.specs.Lawful.{IsLawful, Settles}
 use Rattle.vs_net.specs.LevelRun.{after_all}
@@ -190,7 +190,7 @@ module _ (n : Network) (L : IsLawful n) where
     unstarted = first_unstarted (kind (n.process p));
     due = first_due (kind (n.process p));
     pending = λ s. absurd (let z = s in cc);
-    bare = λ t. (refl, settles_undriven (n.process p) (Fall v) t);
+    bare = λ t. ((L.initial_clocked p (λ k. subst Settles k t)).0, ap (λ (us : List Update). us ++ drive (n.process p) (Fall v)) (L.initial_clocked p (λ k. subst Settles k t)).1 ∙ settles_undriven (n.process p) (Fall v) t);
   }
 
   writer_of : (k : Kind) (us : List Update) → (Settles k → us ≡ []) → us ≢ [] → IsWriter k

@@ -1,28 +1,30 @@
 -- The level run is a completed run.
-use Rattle.std.proofs.Common.{◌≡◌, ◌≢◌, ℕ, ◌≤◌, true, false, List, [], ◌∷◌, ◌++◌, inl, inr, Some, None, refl, sym, ap, ◌∙◌, subst, unwrap_or}
-use Rattle.std.proofs.lemmas.Bool.{cases_lt}
+use Rattle.vs_net.specs.Solution.{beginning}
+use Rattle.vs_four.specs.declared.Bit4.{Bit4}
+use Rattle.std.proofs.Common.{◌≡◌, ◌≢◌, ℕ, ◌≤◌, true, false, List, [], ◌∷◌, ◌++◌, inl, inr, Some, None, refl, sym, ap, ◌∙◌, subst, unwrap_or, map}
+use Rattle.std.proofs.lemmas.Bool.{cases_lt, both_ways}
 use Rattle.vs_net.specs.Network.{State, Update, put, Process, Network, TheClock, AClocked, kind, made, updates}
 use Rattle.vs_four.specs.declared.Bit4.TheVariants.{Zero, One}
-use Rattle.vs_net.specs.Queue.{Unstarted, Waiting, first_mode, Queue, Slot, Fall, Rise, changes, Choice, Start, Evaluate, Apply, Run, Take, Activate, Next, IsBlock, after, took, IsCompleted, begun, drive, start, slots_of, IsFirst}
-use Rattle.vs_net.proofs.Quiet.{IsQuiet, IsRested, IsStep}
+use Rattle.vs_net.specs.Queue.{Unstarted, Waiting, first_mode, Queue, Slot, Fall, Rise, changes, Choice, Start, Evaluate, Apply, Run, Take, Activate, Next, IsBlock, after, took, IsCompleted, begun, drive, start, slots_of, IsFirst, Due}
+use Rattle.vs_net.proofs.Quiet.{IsQuiet, IsRested, IsStep, IsCalm}
 use Rattle.vs_net.specs.Lawful.{IsLawful, IsOrdered, Settles}
-use Rattle.vs_net.specs.LevelRun.{after_all, Sweep, Begins, Starts, Pass, Activates, Takes, Runs, sweep, sweeps, slot_sweeps, level_run}
+use Rattle.vs_net.specs.LevelRun.{after_all, Sweep, Begins, Starts, Pass, Activates, Takes, Runs, sweep, sweeps, slot_sweeps, level_run, below}
 use Rattle.vs_net.specs.Laws.{IsKnownVector, HasKnownResets, AreKnownResets, LevelRunIsOne}
 use Rattle.vs_net.proofs.Basics.{put-other}
 use Rattle.vs_net.proofs.Waking.{changes_all}
 use Rattle.vs_net.proofs.Nets.{Family, nets, reset_net_family}
-use Rattle.vs_net.proofs.Parts.{IsInput, input_not_clocked, Phase, WriterPart}
+use Rattle.vs_net.proofs.Parts.{IsInput, Phase}
 use Rattle.vs_net.proofs.Settling.{Each, an_assign, an_input, a_comb, a_clocked, CombPart, ClockedPart, clocked_rests, clocked_fires, clocked_due, Good, Settling, settling_step, activated}
-use Rattle.vs_net.proofs.Ends.{settling_arrived, clocked_rested, rephase_assign, rephase_input}
-use Rattle.vs_net.proofs.Phases.{early_phase, first_phase, falling, rising, risen_phase, good_first, good_falling, good_risen}
+use Rattle.vs_net.proofs.Ends.{settling_arrived, past_assign, past_input, past_writer}
+use Rattle.vs_net.proofs.Phases.{early_phase, first_phase, falling, risen_phase, good_first, good_falling, good_risen}
 use Rattle.vs_net.proofs.Early.{Early, EarlyComb, EarlyClocked, early_step, early_settles, all_early}
-use Rattle.vs_net.proofs.Rising.{Rising, RisingComb, RisingClocked, rising_settles}
+use Rattle.vs_net.proofs.Rising.{Rising, all_arrived, rising_ran}
 use Rattle.vs_net.proofs.Drives.{level_of, clock_drive}
 use Rattle.vs_net.proofs.Begin.{Grounded, early_first, falling_begins, rising_begins}
 use Rattle.vs_net.proofs.Awake.{Sleeps}
 use Rattle.vs_net.proofs.Runs.{settles_first, settles_later, OnRise, is_rising, settles_risen, SettlingRisen, on_rise, InSlot, Over, over_in, began_at, known_resets, slots_stay, Alternates, alternates, next_alternates, rise_step, every_order}
-use Rattle.vs_net.proofs.Paths.{LocalPath, Path, path_append, path_of, local_keeps, after_all-append, completed_of, in_below}
-use Rattle.vs_net.proofs.Sweeps.{Rest, waits_or_due, within, Fresh, starts, takes, PassDone, passes, Rested, runs, Activation, went, left, activates}
+use Rattle.vs_net.proofs.Paths.{LocalPath, Path, path_append, path_of, local_keeps, after_all-append, completed_of, in_below, Swept}
+use Rattle.vs_net.proofs.Sweeps.{Rest, within, Fresh, starts, takes, PassDone, passes, Rested, runs, Activation, went, left, activates}
 
 module _ (n : Network) (L : IsLawful n) (order : List ℕ) (ordered : IsOrdered n (λ p. ⊥) order) where
   abbrev none : ℕ → List Update
@@ -95,14 +97,7 @@ module _ (n : Network) (L : IsLawful n) (order : List ℕ) (ordered : IsOrdered 
       (completes_cons (sweep_1 q) Takes (Pass ∷ ss) (path_of n (sweep n order (sweep_1 q) Takes) (sweep_1 q) f.path_2)
       (completes_cons (sweep_2 q) Pass ss (path_of n (sweep n order (sweep_2 q) Pass) (sweep_2 q) f.path_3) c))
 
-  -- a process other than a clocked block waits where assigns and combinational blocks do
-  settling_mode : (ph : Phase) (base : State) (sleeps : ℕ → Type 0) (q : Queue) (p : ℕ) → kind (n.process p) ≢ AClocked → (Settles (kind (n.process p)) → q.mode p ≡ Waiting) → Each n (nets n L) ph (CombPart n ph.slot ph.before base sleeps) (ClockedPart n ph) q p → q.mode p ≡ Waiting
-  settling_mode ph base sleeps q p c h (an_assign k part) = h (subst Settles (sym k) tt)
-  settling_mode ph base sleeps q p c h (an_input k part) = part.mode
-  settling_mode ph base sleeps q p c h (a_comb k part) = h (subst Settles (sym k) tt)
-  settling_mode ph base sleeps q p c h (a_clocked k part) = absurd (c k)
-
-  early_mode : (ph : Phase) (q : Queue) (p : ℕ) → q.mode p ≢ Unstarted → (Settles (kind (n.process p)) → q.mode p ≡ Waiting) → Each n (nets n L) ph (EarlyComb n) EarlyClocked q p → q.mode p ≡ Waiting
+  early_mode : (ph : Phase) (q : Queue) (p : ℕ) → q.mode p ≢ Unstarted → (Settles (kind (n.process p)) → q.mode p ≡ Waiting) → Each n (nets n L) ph (EarlyComb n) (EarlyClocked n) q p → q.mode p ≡ Waiting
   early_mode ph q p b h (an_assign k part) = h (subst Settles (sym k) tt)
   early_mode ph q p b h (an_input k part) = part.mode
   early_mode ph q p b h (a_comb k part) = h (subst Settles (sym k) tt)
@@ -111,44 +106,36 @@ module _ (n : Network) (L : IsLawful n) (order : List ℕ) (ordered : IsOrdered 
   beyond_drive : (slot : Slot) (p : ℕ) → n.count ≤ p → drive (n.process p) slot ≡ []
   beyond_drive slot p h = ap (λ (x : Process). drive x slot) (L.beyond p h)
 
-  -- a slot in which it rises
-  rising_mode : (before : State) (q : Queue) (p : ℕ) → kind (n.process p) ≢ AClocked → (Settles (kind (n.process p)) → q.mode p ≡ Waiting) → OnRise n L before q → q.mode p ≡ Waiting
-  rising_mode before q p k h (settles_risen s) = settling_mode _ _ _ q p k h (s.each p)
-  rising_mode before q p k h (is_rising r) = by_part (r.holds.each p)
-    where
-      by_part : Each n (nets n L) (rising before) (RisingComb n L before) (RisingClocked n before) q p → q.mode p ≡ Waiting
-      by_part (an_assign e part) = h (subst Settles (sym e) tt)
-      by_part (an_input e part) = part.mode
-      by_part (a_comb e part) = part.mode
-      by_part (a_clocked e part) = absurd (k e)
+  -- after a pass all but due clocked blocks is at rest
+  record Passed (q : Queue) : Type 0 where
+    rest : Rest none q
+    active : (p : ℕ) → q.active p ≡ []
+    settled : (p : ℕ) → Settles (kind (n.process p)) → q.mode p ≡ Waiting
 
-  rested : (q : Queue) → Flowed q → ((p : ℕ) → kind (n.process p) ≢ AClocked → (sweep_3 q).mode p ≡ Waiting) → Rested n L (sweep_3 q)
-  rested q f h = record {
+  passed : (q : Queue) → Flowed q → Passed (sweep_3 q)
+  passed q f = record { rest = f.rest; active = f.active; settled = f.settled }
+
+  calm_passed : (q : Queue) → Passed q → IsCalm n q
+  calm_passed q f = record { assigns = λ p k. (f.settled p (subst Settles (sym k) tt), f.rest.pending p); active = f.active }
+
+  rested : (q : Queue) → Passed q → Rested n L q.now q
+  rested q f = record {
     pending = f.rest.pending;
     active = f.active;
     begun = f.rest.begun;
-    unclocked = h;
     spent = λ p k. f.rest.waiting p;
     beyond = λ p le. f.rest.waiting p;
+    nets = λ c f net. refl;
   }
 
   abbrev sweep_runs : Queue → Queue
   sweep_runs q = after_all n q (sweep n order q Runs)
 
-  runs_quiet : (q : Queue) → Rested n L q → IsQuiet (sweep_runs q)
-  runs_quiet q r p =
-      let s = runs n L q r in (
-        waits_or_due ((sweep_runs q).mode p) (s.kept.begun p) (elim (cases_lt p n.count) [
-          | inl h ↦ s.done p (in_below n.count p h)
-          | inr h ↦ (λ d. let m = s.kept.unclocked p (λ k. let e = ap kind (L.beyond p h) in cc) in cc)
-        ]),
-        s.kept.pending p,
-        s.kept.active p,
-      )
+  abbrev sweep_pass : Queue → Queue
+  sweep_pass q = after_all n q (sweep n order q Pass)
 
-  all_settling : (before : State) (q : Queue) → IsQuiet q → OnRise n L before q → SettlingRisen n L before q
-  all_settling before q quiet (settles_risen s) = s
-  all_settling before q quiet (is_rising r) = rising_settles n L before q quiet r
+  runs_done : (q : Queue) → Passed q → (p : ℕ) → kind (n.process p) ≡ AClocked → (sweep_runs q).mode p ≢ Due
+  runs_done q f p k = (runs n L q.now q (rested q f)).done p (in_below n.count p (within n L p (λ e. cc))) k
 
   slots_step : (slots : List Slot) (q : Queue) (c : Choice) → c ≢ Next → IsStep n q c → q.slots ≡ slots → (after n q c).slots ≡ slots
   slots_step slots q c ne h e = slots_stay n L q c ne ∙ e
@@ -184,21 +171,26 @@ module _ (n : Network) (L : IsLawful n) (order : List ℕ) (ordered : IsOrdered 
     abbrev CombIn : Queue → ℕ → Type 0
     CombIn = CombPart n ph.slot ph.before base sleeps
 
-    -- where all is at rest and the inputs are taken, no edge is to come
-    rearrive : (q : Queue) → IsQuiet q → ((p : ℕ) → IsInput (kind (n.process p)) → q.waiting p ≡ []) → Settling n L ph base sleeps q → Settling n L arrived base sleeps q
-    rearrive q quiet none h = record { each = λ p. at_part p (h.each p); kept = h.kept; nets = λ c f net. inl (there c f net) }
-      where
-        there : (c : ℕ) (f : Family) → nets n L c ≡ Some f → q.now c ≡ ph.fresh f
-        there = settling_arrived n L ph base sleeps good is_level q quiet h none
+    abbrev IsArrived : Queue → Type 0
+    IsArrived q = (c : ℕ) (f : Family) → nets n L c ≡ Some f → q.now c ≡ ph.fresh f
 
-        writer_again : (p : ℕ) → WriterPart n ph q p → WriterPart n arrived q p
-        writer_again p w = record { pending = w.pending; own = w.own; coming = w.coming }
+    abbrev IsRun : Queue → Type 0
+    IsRun q = (p : ℕ) → kind (n.process p) ≡ AClocked → q.mode p ≢ Due
+
+    -- where all nets have changed and the clocked blocks have run, no edge is to come
+    rearrive : (q : Queue) → IsArrived q → IsRun q → Settling n L ph base sleeps q → Settling n L arrived base sleeps q
+    rearrive q there run h = record { each = λ p. at_part p (h.each p); kept = h.kept; nets = λ c f net. inl (there c f net) }
+      where
+        past_clocked : (p : ℕ) → kind (n.process p) ≡ AClocked → ClockedPart n ph q p → ClockedPart n arrived q p
+        past_clocked p k (clocked_rests m w once past) = clocked_rests m (past_writer n L ph good.apart q there p w) once (λ e o. inl (there e.net (Some e.input) (reset_net_family n L p e o)))
+        past_clocked p k (clocked_fires e f m o u) = absurd (both_ways (ph.old (Some e.input) (ph.fresh (Some e.input))) (good.apart (Some e.input)) (subst (λ (x : Bit4). ph.old (Some e.input) x ≡ true) (there e.net (Some e.input) (reset_net_family n L p e f.is_reset)) o))
+        past_clocked p k (clocked_due e f a o m fr u) = absurd (run p k m)
 
         at_part : (p : ℕ) → Each n (nets n L) ph CombIn (ClockedPart n ph) q p → Each n (nets n L) arrived CombIn (ClockedPart n arrived) q p
-        at_part p (an_assign k part) = an_assign k (rephase_assign n L ph CombIn (ClockedPart n ph) q quiet h (λ f x. false) ph.fresh p part)
-        at_part p (an_input k part) = an_input k (rephase_input n L ph CombIn (ClockedPart n ph) q quiet h (λ f x. false) ph.fresh p part)
+        at_part p (an_assign k part) = an_assign k (past_assign n L ph good.apart q there p part)
+        at_part p (an_input k part) = an_input k (past_input n L ph good.apart q there p part)
         at_part p (a_comb k part) = a_comb k part
-        at_part p (a_clocked k part) = a_clocked k (let r = clocked_rested n L ph base sleeps good is_level q quiet h there p part in clocked_rests (quiet p).0 (writer_again p r.0) r.1 (λ e o. inl (there e.net (Some e.input) (reset_net_family n L p e o))))
+        at_part p (a_clocked k part) = a_clocked k (past_clocked p k part)
 
     arrived_mode : (q : Queue) (p : ℕ) → (Settles (kind (n.process p)) → q.mode p ≡ Waiting) → Each n (nets n L) arrived CombIn (ClockedPart n arrived) q p → q.mode p ≡ Waiting
     arrived_mode q p h (an_assign k part) = h (subst Settles (sym k) tt)
@@ -208,32 +200,56 @@ module _ (n : Network) (L : IsLawful n) (order : List ℕ) (ordered : IsOrdered 
     arrived_mode q p h (a_clocked k (clocked_fires e f m o u)) = absurd cc
     arrived_mode q p h (a_clocked k (clocked_due e f a o m fr u)) = absurd cc
 
-    record Ended (q : Queue) : Type 0 where
-      over : IsRested (sweep_3 (sweep_runs q))
-      held : Settling n L ph base sleeps (sweep_3 (sweep_runs q))
-      slots : (slots : List Slot) → q.slots ≡ slots → (sweep_3 (sweep_runs q)).slots ≡ slots
-      completes : (ss : List Sweep) → Completes (sweep_3 (sweep_runs q)) ss → Completes q (Runs ∷ Activates ∷ Takes ∷ Pass ∷ ss)
+    abbrev last_of : Queue → Queue
+    last_of q = sweep_3 (sweep_pass (sweep_runs q))
 
-    second_half : (P : Queue → Type 0) → ((q : Queue) (c : Choice) → c ≢ Next → IsStep n q c → P q → P (after n q c)) → ((q : Queue) → IsQuiet q → P q → Settling n L ph base sleeps q) → (q : Queue) → Rested n L q → P q → Ended q
-    second_half P step settles q r h =
-        let runs_path = (runs n L q r).path in
+    record Ended (q : Queue) : Type 0 where
+      over : IsRested (last_of q)
+      held : Settling n L ph base sleeps (last_of q)
+      slots : (slots : List Slot) → q.slots ≡ slots → (last_of q).slots ≡ slots
+      completes : (ss : List Sweep) → Completes (last_of q) ss → Completes q (Runs ∷ Pass ∷ Activates ∷ Takes ∷ Pass ∷ ss)
+
+    -- the clocked blocks run, a pass settles what they write at once, and their updates are applied
+    second_half : (P : Queue → Type 0) → ((q : Queue) (c : Choice) → c ≢ Next → IsStep n q c → P q → P (after n q c))
+        → ((q : Queue) → IsCalm n q → ((p : ℕ) → IsInput (kind (n.process p)) → q.waiting p ≡ []) → P q → IsArrived q)
+        → ((q : Queue) → IsArrived q → IsRun q → P q → Settling n L ph base sleeps q)
+        → (q : Queue) → Passed q → P q → Ended q
+    second_half P step arrives settles q r h =
+        let s = runs n L q.now q (rested q r) in
         let q4 = sweep_runs q in
-        let kept4 = (runs n L q r).kept in
-        let quiet4 = runs_quiet q r in
-        let h4 = settles q4 quiet4 (local_keeps n P step (sweep n order q Runs) q runs_path h) in
-        let f4 = flows q4 quiet4 kept4.beyond in
-        let h5 = flow_keeps (Settling n L ph base sleeps) (λ x c ne p s. settling_step n L ph base sleeps good x c ne p s) q4 f4 h4 in
-        let a5 = flow_keeps (Settling n L arrived base sleeps) (λ x c ne p s. settling_step n L arrived base sleeps good_arrived x c ne p s) q4 f4 (rearrive q4 quiet4 (λ p i. kept4.spent p (input_not_clocked (kind (n.process p)) i)) h4) in
+        let there : IsArrived q = arrives q (calm_passed q r) (λ p i. r.rest.waiting p) h in
+        let there4 : IsArrived q4 = (λ c f net. s.kept.nets c f net ∙ there c f net) in
+        let h4 = settles q4 there4 (runs_done q r) (local_keeps n P step (sweep n order q Runs) q s.path h) in
+        let a4 = rearrive q4 there4 (runs_done q r) h4 in
+        let ps = passes n L q4.waiting order ordered q4 (record { rest = record { pending = s.kept.pending; begun = s.kept.begun; waiting = λ p. refl }; active = s.kept.active }) in
+        let q5 = sweep_pass q4 in
+        let settling = (λ (x : Queue) (c : Choice) (ne : c ≢ Next) (p : IsStep n x c) (g : Settling n L ph base sleeps x). settling_step n L ph base sleeps good x c ne p g) in
+        let arriving = (λ (x : Queue) (c : Choice) (ne : c ≢ Next) (p : IsStep n x c) (g : Settling n L arrived base sleeps x). settling_step n L arrived base sleeps good_arrived x c ne p g) in
+        let h5 = local_keeps n (Settling n L ph base sleeps) settling (sweep n order q4 Pass) q4 ps.path h4 in
+        let a5 = local_keeps n (Settling n L arrived base sleeps) arriving (sweep n order q4 Pass) q4 ps.path a4 in
+        let quiet5 : IsQuiet q5 = (λ p. (arrived_mode q5 p (ps.settled p) (a5.each p), ps.kept.rest.pending p, ps.kept.active p)) in
+        let f5 = flows q5 quiet5 (λ p le. ps.kept.rest.waiting p ∙ s.kept.beyond p le) in
+        let h6 = flow_keeps (Settling n L ph base sleeps) settling q5 f5 h5 in
+        let a6 = flow_keeps (Settling n L arrived base sleeps) arriving q5 f5 a5 in
         record {
-          over = ((λ p. (arrived_mode (sweep_3 q4) p (f4.settled p) (a5.each p), f4.rest.pending p, f4.active p)), f4.rest.waiting);
-          held = h5;
-          slots = λ slots e. flow_keeps (λ x. x.slots ≡ slots) (slots_step slots) q4 f4 (local_keeps n (λ x. x.slots ≡ slots) (slots_step slots) (sweep n order q Runs) q runs_path e);
-          completes = λ ss c. completes_cons q Runs (Activates ∷ Takes ∷ Pass ∷ ss) (path_of n (sweep n order q Runs) q runs_path) (completes_flow q4 ss f4 c);
+          over = ((λ p. (arrived_mode (sweep_3 q5) p (f5.settled p) (a6.each p), f5.rest.pending p, f5.active p)), f5.rest.waiting);
+          held = h6;
+          slots = λ slots e. flow_keeps (λ x. x.slots ≡ slots) (slots_step slots) q5 f5 (local_keeps n (λ x. x.slots ≡ slots) (slots_step slots) (sweep n order q4 Pass) q4 ps.path (local_keeps n (λ x. x.slots ≡ slots) (slots_step slots) (sweep n order q Runs) q s.path e));
+          completes = λ ss c. completes_cons q Runs (Pass ∷ Activates ∷ Takes ∷ Pass ∷ ss) (path_of n (sweep n order q Runs) q s.path) (completes_cons q4 Pass (Activates ∷ Takes ∷ Pass ∷ ss) (path_of n (sweep n order q4 Pass) q4 ps.path) (completes_flow q5 ss f5 c));
         }
 
   -- the same of a fall
   fall_ends : (ph : Phase) (base : State) (sleeps : ℕ → Type 0) (good : Good ph) (is_level : (f : Family) → ph.fresh f ≡ level_of ph.slot ph.before f) (q : Queue) → Flowed q → Settling n L ph base sleeps (sweep_3 q) → Ended ph base sleeps good is_level (sweep_3 q)
-  fall_ends ph base sleeps good is_level q f h = second_half ph base sleeps good is_level (Settling n L ph base sleeps) (λ x c ne p s. settling_step n L ph base sleeps good x c ne p s) (λ x quiet s. s) (sweep_3 q) (rested q f (λ p k. settling_mode _ _ _ (sweep_3 q) p k (f.settled p) (h.each p))) h
+  fall_ends ph base sleeps good is_level q f h = second_half ph base sleeps good is_level (Settling n L ph base sleeps) (λ x c ne p s. settling_step n L ph base sleeps good x c ne p s)
+      (λ x calm given s. settling_arrived n L ph base sleeps good is_level x calm s given) (λ x there run s. s) (sweep_3 q) (passed q f) h
+
+  rise_arrives : (before : State) (q : Queue) → IsCalm n q → ((p : ℕ) → IsInput (kind (n.process p)) → q.waiting p ≡ []) → OnRise n L before q → (c : ℕ) (f : Family) → nets n L c ≡ Some f → q.now c ≡ level_of Rise before f
+  rise_arrives before q calm given (settles_risen s) = settling_arrived n L (risen_phase before) before (λ p. ⊥) (good_risen before) (λ g. refl) q calm s given
+  rise_arrives before q calm given (is_rising r) = all_arrived n L before q calm r
+
+  rise_settles : (before : State) (q : Queue) → ((c : ℕ) (f : Family) → nets n L c ≡ Some f → q.now c ≡ level_of Rise before f) → ((p : ℕ) → kind (n.process p) ≡ AClocked → q.mode p ≢ Due) → OnRise n L before q → SettlingRisen n L before q
+  rise_settles before q there run (settles_risen s) = s
+  rise_settles before q there run (is_rising r) = rising_ran n L before q there run r
 
   -- the slots to come are gone through
   goes_on : (slots : List Slot) (slot : Slot) (before : State) (q : Queue) → Alternates n L slot slots → q.slots ≡ slots → InSlot n L slot before q → IsRested q → Completes q (slot_sweeps slots)
@@ -245,11 +261,11 @@ module _ (n : Network) (L : IsLawful n) (order : List ℕ) (ordered : IsOrdered 
       let h3 = flow_keeps (Settling n L (falling q.now v) q.now (λ p. ⊥)) (λ x c ne p s. settling_step n L (falling q.now v) q.now (λ p. ⊥) (good_falling q.now v) x c ne p s) q1 f start_is.1 in
       let ended = fall_ends (falling q.now v) q.now (λ p. ⊥) (good_falling q.now v) (λ g. refl) q1 f h3 in
       let e3 = flow_keeps (λ x. x.slots ≡ rest) (slots_step rest) q1 f refl in
-      completes_cons q Begins (Activates ∷ Takes ∷ Pass ∷ Runs ∷ Activates ∷ Takes ∷ Pass ∷ slot_sweeps rest) ((over, λ x. cc), tt)
-      (subst (λ (l : List Slot). Completes (begun n q l) (Activates ∷ Takes ∷ Pass ∷ Runs ∷ Activates ∷ Takes ∷ Pass ∷ slot_sweeps rest)) (sym e)
-      (completes_flow q1 (Runs ∷ Activates ∷ Takes ∷ Pass ∷ slot_sweeps rest) f
+      completes_cons q Begins (Activates ∷ Takes ∷ Pass ∷ Runs ∷ Pass ∷ Activates ∷ Takes ∷ Pass ∷ slot_sweeps rest) ((over, λ x. cc), tt)
+      (subst (λ (l : List Slot). Completes (begun n q l) (Activates ∷ Takes ∷ Pass ∷ Runs ∷ Pass ∷ Activates ∷ Takes ∷ Pass ∷ slot_sweeps rest)) (sym e)
+      (completes_flow q1 (Runs ∷ Pass ∷ Activates ∷ Takes ∷ Pass ∷ slot_sweeps rest) f
       (ended.completes (slot_sweeps rest)
-      (goes_on rest (Fall v) q.now (sweep_3 (sweep_runs (sweep_3 q1))) (next_alternates n L slot (Fall v) rest alt) (ended.slots rest e3) (settles_later start_is.0 ended.held) ended.over))))
+      (goes_on rest (Fall v) q.now (sweep_3 (sweep_pass (sweep_runs (sweep_3 q1)))) (next_alternates n L slot (Fall v) rest alt) (ended.slots rest e3) (settles_later start_is.0 ended.held) ended.over))))
   goes_on (Rise ∷ rest) slot before q alt e h over =
       let q1 = begun n q (Rise ∷ rest) in
       let f = flows q1 over.0 (beyond_drive Rise) in
@@ -257,13 +273,13 @@ module _ (n : Network) (L : IsLawful n) (order : List ℕ) (ordered : IsOrdered 
       let h1 = activated_on_rise q.now q1 (sweep n order q1 Activates) (clock_ahead Rise) (activates n L q1 order) (begins_rising slot rest before q alt over o) in
       let step = (λ (x : Queue) (c : Choice) (ne : c ≢ Next) (p : IsStep n x c) (s : OnRise n L q.now x). rise_step n L q.now x c ne p s) in
       let h3 = local_keeps n (OnRise n L q.now) step (sweep n order (sweep_2 q1) Pass) (sweep_2 q1) f.path_3 (local_keeps n (OnRise n L q.now) step (sweep n order (sweep_1 q1) Takes) (sweep_1 q1) f.path_2 h1) in
-      let ended = second_half (risen_phase q.now) q.now (λ p. ⊥) (good_risen q.now) (λ g. refl) (OnRise n L q.now) step (all_settling q.now) (sweep_3 q1) (rested q1 f (λ p k. rising_mode q.now (sweep_3 q1) p k (f.settled p) h3)) h3 in
+      let ended = second_half (risen_phase q.now) q.now (λ p. ⊥) (good_risen q.now) (λ g. refl) (OnRise n L q.now) step (rise_arrives q.now) (rise_settles q.now) (sweep_3 q1) (passed q1 f) h3 in
       let e3 = flow_keeps (λ x. x.slots ≡ rest) (slots_step rest) q1 f refl in
-      completes_cons q Begins (Activates ∷ Takes ∷ Pass ∷ Runs ∷ Activates ∷ Takes ∷ Pass ∷ slot_sweeps rest) ((over, λ x. cc), tt)
-      (subst (λ (l : List Slot). Completes (begun n q l) (Activates ∷ Takes ∷ Pass ∷ Runs ∷ Activates ∷ Takes ∷ Pass ∷ slot_sweeps rest)) (sym e)
-      (completes_flow q1 (Runs ∷ Activates ∷ Takes ∷ Pass ∷ slot_sweeps rest) f
+      completes_cons q Begins (Activates ∷ Takes ∷ Pass ∷ Runs ∷ Pass ∷ Activates ∷ Takes ∷ Pass ∷ slot_sweeps rest) ((over, λ x. cc), tt)
+      (subst (λ (l : List Slot). Completes (begun n q l) (Activates ∷ Takes ∷ Pass ∷ Runs ∷ Pass ∷ Activates ∷ Takes ∷ Pass ∷ slot_sweeps rest)) (sym e)
+      (completes_flow q1 (Runs ∷ Pass ∷ Activates ∷ Takes ∷ Pass ∷ slot_sweeps rest) f
       (ended.completes (slot_sweeps rest)
-      (goes_on rest Rise q.now (sweep_3 (sweep_runs (sweep_3 q1))) (next_alternates n L slot Rise rest alt) (ended.slots rest e3) (on_rise (ground_rising slot rest before q alt o) (settles_risen ended.held)) ended.over))))
+      (goes_on rest Rise q.now (sweep_3 (sweep_pass (sweep_runs (sweep_3 q1)))) (next_alternates n L slot Rise rest alt) (ended.slots rest e3) (on_rise (ground_rising slot rest before q alt o) (settles_risen ended.held)) ended.over))))
 
   -- slot 0
   module _ (first v : State) (vs : List State) (firsts : IsFirst n first) (known : IsKnownVector n v) (resets : AreKnownResets n vs) where
@@ -271,10 +287,13 @@ module _ (n : Network) (L : IsLawful n) (order : List ℕ) (ordered : IsOrdered 
     q0 = start n first v vs
 
     abbrev w0 : ℕ → List Update
-    w0 p = drive (n.process p) (Fall v)
+    w0 p = n.initial_updates p ++ drive (n.process p) (Fall v)
+
+    driven_only : (p : ℕ) → kind (n.process p) ≢ AClocked → w0 p ≡ drive (n.process p) (Fall v)
+    driven_only p k = ap (λ (us : List Update). us ++ drive (n.process p) (Fall v)) (L.initial_clocked p k).1
 
     fresh : Fresh n L w0 q0
-    fresh = record { pending = λ p. refl; active = λ p. refl; waiting = λ p. refl }
+    fresh = record { pending = λ p. refl; active = λ p l. (L.initial_clocked p (λ k. let e = ap kind (L.beyond p l) in cc)).0; waiting = λ p. refl }
 
     abbrev qs : Queue
     qs = after_all n q0 (sweep n order q0 Starts)
@@ -287,17 +306,24 @@ module _ (n : Network) (L : IsLawful n) (order : List ℕ) (ordered : IsOrdered 
           | inr h ↦ s.still p (λ u. let e = ap (λ (x : Process). first_mode (kind x)) (L.beyond p h) in cc)
         ]
 
-    pass_0 : PassDone n L w0 qs (sweep n order qs Pass)
-    pass_0 =
-        let s = starts n L w0 q0 fresh in
-        passes n L w0 order ordered qs (record { rest = record { pending = s.kept.pending; begun = started_all; waiting = s.kept.waiting }; active = s.kept.active })
+    taken_0 : Swept n (λ r p. map (λ u. Take p) (r.active p)) (Rest w0) (λ q p. q.active p ≡ []) qs (below n.count) (sweep n order qs Takes)
+    taken_0 = let s = starts n L w0 q0 fresh in takes n L w0 qs (record { pending = s.kept.pending; begun = started_all; waiting = s.kept.waiting })
+
+    abbrev qt : Queue
+    qt = after_all n qs (sweep n order qs Takes)
+
+    pass_0 : PassDone n L w0 qt (sweep n order qt Pass)
+    pass_0 = passes n L w0 order ordered qt (record {
+      rest = taken_0.kept;
+      active = λ p. elim (cases_lt p n.count) [ inl h ↦ taken_0.done p (in_below n.count p h) | inr h ↦ taken_0.still p ((starts n L w0 q0 fresh).kept.active p h) ];
+    })
 
     abbrev qp : Queue
-    qp = after_all n qs (sweep n order qs Pass)
+    qp = after_all n qt (sweep n order qt Pass)
 
     -- before the first activation, or the clock's update no longer waits
     data Sooner (q : Queue) : Type 0 where
-      early_yet : Early n L (early_phase n.idle v) q → Sooner q
+      early_yet : Early n L (early_phase (beginning n) v) q → Sooner q
       activated_once : q.waiting L.clock ≡ [] → Sooner q
 
     clock_spent : (q : Queue) (c : Choice) → c ≢ Next → IsStep n q c → q.waiting L.clock ≡ [] → (after n q c).waiting L.clock ≡ []
@@ -325,11 +351,12 @@ module _ (n : Network) (L : IsLawful n) (order : List ℕ) (ordered : IsOrdered 
 
     sooner_p : Sooner qp
     sooner_p =
-        local_keeps n Sooner sooner_step (sweep n order qs Pass) qs pass_0.path
-        (local_keeps n Sooner sooner_step (sweep n order q0 Starts) q0 (starts n L w0 q0 fresh).path (early_yet (early_first n L first v vs firsts)))
+        local_keeps n Sooner sooner_step (sweep n order qt Pass) qt pass_0.path
+        (local_keeps n Sooner sooner_step (sweep n order qs Takes) qs taken_0.path
+        (local_keeps n Sooner sooner_step (sweep n order q0 Starts) q0 (starts n L w0 q0 fresh).path (early_yet (early_first n L first v vs firsts))))
 
-    early_p : Early n L (early_phase n.idle v) qp
-    early_p = elim sooner_p [ early_yet early ↦ early | activated_once e ↦ absurd (clock_ahead (Fall v) (sym (pass_0.kept.rest.waiting L.clock) ∙ e)) ]
+    early_p : Early n L (early_phase (beginning n) v) qp
+    early_p = elim sooner_p [ early_yet early ↦ early | activated_once e ↦ absurd (clock_ahead (Fall v) (sym (driven_only L.clock (λ z. let k = L.clock_is in cc)) ∙ sym (pass_0.kept.rest.waiting L.clock) ∙ e)) ]
 
     quiet_p : IsQuiet qp
     quiet_p p = (early_mode _ qp p (pass_0.kept.rest.begun p) (pass_0.settled p) (early_p.holds.each p), pass_0.kept.rest.pending p, pass_0.kept.active p)
@@ -339,29 +366,31 @@ module _ (n : Network) (L : IsLawful n) (order : List ℕ) (ordered : IsOrdered 
     base_in = all_early n L v qp quiet_p early_p early_p.holds.kept
 
     abbrev SettlesFirst : Queue → Type 0
-    SettlesFirst q = Settling n L (first_phase n.idle v) qp.now (Sleeps n L v qp.now known base_in) q
+    SettlesFirst q = Settling n L (first_phase (beginning n) v) qp.now (Sleeps n L v qp.now known base_in) q
 
     first_step : (q : Queue) (c : Choice) → c ≢ Next → IsStep n q c → SettlesFirst q → SettlesFirst (after n q c)
-    first_step q c ne h s = settling_step n L (first_phase n.idle v) qp.now (Sleeps n L v qp.now known base_in) (good_first n.idle v) q c ne h s
+    first_step q c ne h s = settling_step n L (first_phase (beginning n) v) qp.now (Sleeps n L v qp.now known base_in) (good_first (beginning n) v) q c ne h s
 
     first_settles : SettlesFirst qp
     first_settles = early_settles n L v qp quiet_p early_p early_p.holds.kept (known_resets n L v known)
 
     flow_0 : Flowed qp
-    flow_0 = flows qp quiet_p (λ p h. pass_0.kept.rest.waiting p ∙ beyond_drive (Fall v) p h)
+    flow_0 = flows qp quiet_p (λ p h. pass_0.kept.rest.waiting p ∙ driven_only p (λ k. let e = ap kind (L.beyond p h) in cc) ∙ beyond_drive (Fall v) p h)
 
-    level_completes : Completes q0 (Starts ∷ Pass ∷ Activates ∷ Takes ∷ Pass ∷ Runs ∷ Activates ∷ Takes ∷ Pass ∷ slot_sweeps q0.slots)
+    level_completes : Completes q0 (Starts ∷ Takes ∷ Pass ∷ Activates ∷ Takes ∷ Pass ∷ Runs ∷ Pass ∷ Activates ∷ Takes ∷ Pass ∷ slot_sweeps q0.slots)
     level_completes =
         let to_come = Rise ∷ slots_of vs in
-        let ended = fall_ends (first_phase n.idle v) qp.now (Sleeps n L v qp.now known base_in) (good_first n.idle v) (λ g. refl) qp flow_0 (flow_keeps SettlesFirst first_step qp flow_0 first_settles) in
+        let ended = fall_ends (first_phase (beginning n) v) qp.now (Sleeps n L v qp.now known base_in) (good_first (beginning n) v) (λ g. refl) qp flow_0 (flow_keeps SettlesFirst first_step qp flow_0 first_settles) in
         let e1 = local_keeps n (λ x. x.slots ≡ to_come) (slots_step to_come) (sweep n order q0 Starts) q0 (starts n L w0 q0 fresh).path refl in
-        let e2 = local_keeps n (λ x. x.slots ≡ to_come) (slots_step to_come) (sweep n order qs Pass) qs pass_0.path e1 in
+        let et = local_keeps n (λ x. x.slots ≡ to_come) (slots_step to_come) (sweep n order qs Takes) qs taken_0.path e1 in
+        let e2 = local_keeps n (λ x. x.slots ≡ to_come) (slots_step to_come) (sweep n order qt Pass) qt pass_0.path et in
         let e3 = flow_keeps (λ x. x.slots ≡ to_come) (slots_step to_come) qp flow_0 e2 in
-        completes_cons q0 Starts (Pass ∷ Activates ∷ Takes ∷ Pass ∷ Runs ∷ Activates ∷ Takes ∷ Pass ∷ slot_sweeps to_come) (path_of n (sweep n order q0 Starts) q0 (starts n L w0 q0 fresh).path)
-        (completes_cons qs Pass (Activates ∷ Takes ∷ Pass ∷ Runs ∷ Activates ∷ Takes ∷ Pass ∷ slot_sweeps to_come) (path_of n (sweep n order qs Pass) qs pass_0.path)
-        (completes_flow qp (Runs ∷ Activates ∷ Takes ∷ Pass ∷ slot_sweeps to_come) flow_0
+        completes_cons q0 Starts (Takes ∷ Pass ∷ Activates ∷ Takes ∷ Pass ∷ Runs ∷ Pass ∷ Activates ∷ Takes ∷ Pass ∷ slot_sweeps to_come) (path_of n (sweep n order q0 Starts) q0 (starts n L w0 q0 fresh).path)
+        (completes_cons qs Takes (Pass ∷ Activates ∷ Takes ∷ Pass ∷ Runs ∷ Pass ∷ Activates ∷ Takes ∷ Pass ∷ slot_sweeps to_come) (path_of n (sweep n order qs Takes) qs taken_0.path)
+        (completes_cons qt Pass (Activates ∷ Takes ∷ Pass ∷ Runs ∷ Pass ∷ Activates ∷ Takes ∷ Pass ∷ slot_sweeps to_come) (path_of n (sweep n order qt Pass) qt pass_0.path)
+        (completes_flow qp (Runs ∷ Pass ∷ Activates ∷ Takes ∷ Pass ∷ slot_sweeps to_come) flow_0
         (ended.completes (slot_sweeps to_come)
-        (goes_on to_come (Fall v) n.idle (sweep_3 (sweep_runs (sweep_3 qp))) (alternates n L vs resets) (ended.slots to_come e3) (settles_first refl known qp.now base_in ended.held) ended.over))))
+        (goes_on to_come (Fall v) (beginning n) (sweep_3 (sweep_pass (sweep_runs (sweep_3 qp)))) (alternates n L vs resets) (ended.slots to_come e3) (settles_first refl known qp.now base_in ended.held) ended.over)))))
 
     pub level_completed : IsCompleted n q0 (level_run n order q0)
     level_completed = completed_of n (level_run n order q0) q0 level_completes.path level_completes.over level_completes.last

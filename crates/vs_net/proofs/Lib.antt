@@ -1,4 +1,5 @@
 pub mod Quiet
+pub mod Beginning
 pub mod Basics
 pub mod Waking
 pub mod Nets
@@ -35,3 +36,7 @@ pub mod KindParts
 pub mod ExampleRuns
 pub mod ExampleBound
 pub mod ResetExample
+pub mod BlockingExample
+pub mod InitialExample
+pub mod SelectExample
+pub mod ClocksExample

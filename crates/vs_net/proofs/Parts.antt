@@ -189,3 +189,7 @@ module _ (n : Network) (L : IsLawful n) where
         writer = writer_other ph p r q q' ne a part.writer;
         net = λ b f h w. elim (part.net b f h w) [ inl x ↦ inl (e ∙ x) | inr x ↦ inr (e ∙ x) ];
       }
+
+  -- an assign or a combinational block writes no other's bit
+  pub made_off : (p b : ℕ) (s : State) → Settles (kind (n.process p)) → writes (n.process p) b ≡ false → is_written (made (n.process p) s) b ≡ false
+  made_off p b s k e = by_test (is_written (made (n.process p) s) b) (λ h. absurd (both_ways (writes (n.process p) b) e (L.own p b s k h))) (λ z. z)

@@ -1,19 +1,19 @@
 -- The phases of the slots.
-use Rattle.std.proofs.Common.{◌≡◌, ◌≢◌, ℕ, Bool, true, false, not, List, [], ◌++◌, ◌&&◌, ◌⊎◌, inl, inr, Option, Some, None, refl, sym, ap, ◌∙◌, subst}
+use Rattle.std.proofs.Common.{◌≡◌, ◌≢◌, ℕ, Bool, true, false, not, [], ◌++◌, ◌&&◌, ◌⊎◌, inl, inr, Option, Some, None, refl, sym, ap, ◌∙◌, subst}
 use Rattle.std.proofs.lemmas.Bool.{both_ways, and_parts, cond-true, cond-false}
 use Rattle.vs_four.specs.declared.Bit4.{Bit4}
 use Rattle.vs_four.specs.declared.Bit4.TheVariants.{Zero, One, X, Z}
 use Rattle.vs_four.specs.Tables.{same}
-use Rattle.vs_net.specs.Network.{Edge, Posedge, Negedge, is_edge, to_value, Reset, reset_of, State, Update, write_all, is_written, flatten, Network, AClocked, kind, writes}
+use Rattle.vs_net.specs.Network.{Edge, Posedge, Negedge, is_edge, to_value, Reset, reset_of, State, write_all, flatten, Network, AClocked, kind, writes, branch}
 use Rattle.vs_net.specs.Queue.{Waiting, Queue, Fall, Rise}
-use Rattle.vs_net.specs.Solution.{driven, reset_updates}
+use Rattle.vs_net.specs.Solution.{driven, reset_effects}
 use Rattle.vs_net.specs.Lawful.{IsKnown}
-use Rattle.vs_net.proofs.Basics.{by_test, same_is, write_none, none_written}
+use Rattle.vs_net.proofs.Basics.{by_test, same_is, write_none}
 use Rattle.vs_net.proofs.Waking.{edge_same}
 use Rattle.vs_net.proofs.Nets.{Family}
-use Rattle.vs_net.proofs.Parts.{Phase, WriterPart}
+use Rattle.vs_net.proofs.Parts.{Phase, WriterPart, Own}
 use Rattle.vs_net.proofs.Steps.{Calm, CalmEdge, Apart}
-use Rattle.vs_net.proofs.Settling.{Past, Fires, Unrun, ClockedPart, clocked_rests, clocked_fires, once_none, Good}
+use Rattle.vs_net.proofs.Settling.{Past, Fires, Unrun, ClockedPart, clocked_rests, clocked_fires, Good, Once}
 use Rattle.vs_net.proofs.Drives.{level_of, driven_fall}
 
 abbrev pub is_unknown : Bit4 → Bool
@@ -194,15 +194,15 @@ module _ (n : Network) (clock : Bit4 → Bool) (begin : ℕ → Bit4) (before v 
   ph = fall_phase clock begin before v
 
   module _ (e : Reset) (o : reset_of (n.process p) ≡ Some e) where
-    pub reset_value : v e.input ≡ to_value e.edge → (b : ℕ) → driven (n.process p) (Fall v) before b ≡ write_all before (flatten e.updates) b
-    reset_value h b = driven_fall (n.process p) v before b k ∙ ap (λ us. write_all before (flatten us) b) (ap (λ x. reset_updates x v) o ∙ cond-true (same (v e.input) (to_value e.edge)) e.updates [] (subst (λ (x : Bit4). same x (to_value e.edge) ≡ true) (sym h) (same_to e.edge)))
+    pub reset_value : v e.input ≡ to_value e.edge → (b : ℕ) → driven (n.process p) (Fall v) before b ≡ write_all before (flatten (branch e)) b
+    reset_value h b = driven_fall (n.process p) v before b k ∙ ap (λ us. write_all before (flatten us) b) (ap (λ x. reset_effects x v) o ∙ cond-true (same (v e.input) (to_value e.edge)) (branch e) [] (subst (λ (x : Bit4). same x (to_value e.edge) ≡ true) (sym h) (same_to e.edge)))
       where
         same_to : (e : Edge) → same (to_value e) (to_value e) ≡ true
         same_to Posedge = refl
         same_to Negedge = refl
 
     kept_value : same (v e.input) (to_value e.edge) ≡ false → (b : ℕ) → driven (n.process p) (Fall v) before b ≡ before b
-    kept_value h b = driven_fall (n.process p) v before b k ∙ ap (λ us. write_all before (flatten us) b) (ap (λ x. reset_updates x v) o ∙ cond-false (same (v e.input) (to_value e.edge)) e.updates [] h) ∙ write_none before b
+    kept_value h b = driven_fall (n.process p) v before b k ∙ ap (λ us. write_all before (flatten us) b) (ap (λ x. reset_effects x v) o ∙ cond-false (same (v e.input) (to_value e.edge)) (branch e) [] h) ∙ write_none before b
 
     calm_at : is_edge e.edge (begin e.input) (v e.input) ≡ false → CalmEdge ph (Some e.input) e.edge
     calm_at h a b x y =
@@ -221,20 +221,17 @@ module _ (n : Network) (clock : Bit4 → Bool) (begin : ℕ → Bit4) (before v 
       value = reset_value to;
     }
 
-  module _ (mode : q.mode p ≡ Waiting) (unrun : Unrun n ph q p) where
-    none : q.active p ++ q.waiting p ≡ []
-    none = ap (λ (x : List Update). x ++ q.waiting p) unrun.active ∙ unrun.waiting
-
+  module _ (mode : q.mode p ≡ Waiting) (unrun : Unrun n ph q p) (own : Own n p (flatten (q.active p ++ q.waiting p))) (once : Once n (flatten (q.active p ++ q.waiting p))) where
     writer_at : ((b : ℕ) → writes (n.process p) b ≡ true → driven (n.process p) (Fall v) before b ≡ before b) → WriterPart n ph q p
     writer_at h = record {
       pending = unrun.pending;
-      own = λ b w. absurd (none_written b (subst (λ (x : List Update). is_written (flatten x) b ≡ true) none w));
-      coming = λ b w. ap (λ x. write_all q.now (flatten x) b) none ∙ write_none q.now b ∙ unrun.bits b w ∙ sym (h b w);
+      own = own;
+      coming = λ b w. unrun.bits b w ∙ sym (h b w);
     }
 
     pub clocked_begins : ((e : Reset) → reset_of (n.process p) ≡ Some e → q.now e.net ≡ begin e.input)
         → ((e : Reset) → reset_of (n.process p) ≡ Some e → (IsKnown (begin e.input) ⊎ (begin e.input ≡ X)) × IsKnown (v e.input))
-        → ((e : Reset) → reset_of (n.process p) ≡ Some e → begin e.input ≡ to_value e.edge → (b : ℕ) → writes (n.process p) b ≡ true → write_all before (flatten e.updates) b ≡ before b)
+        → ((e : Reset) → reset_of (n.process p) ≡ Some e → begin e.input ≡ to_value e.edge → (b : ℕ) → writes (n.process p) b ≡ true → write_all before (flatten (branch e)) b ≡ before b)
         → ClockedPart n ph q p
     clocked_begins net known held = by_reset (reset_of (n.process p)) refl
       where
@@ -242,10 +239,10 @@ module _ (n : Network) (clock : Bit4 → Bool) (begin : ℕ → Bit4) (before v 
         same_reset e e' o o' = cc
 
         rests : (e : Reset) (o : reset_of (n.process p) ≡ Some e) → is_edge e.edge (begin e.input) (v e.input) ≡ false → ((b : ℕ) → writes (n.process p) b ≡ true → driven (n.process p) (Fall v) before b ≡ before b) → ClockedPart n ph q p
-        rests e o calm h = clocked_rests mode (writer_at h) (once_none n (q.active p ++ q.waiting p) none) (λ e' o'. subst (λ (x : Reset). Past ph q x) (same_reset e e' o o') (inr (calm_at e o calm)))
+        rests e o calm h = clocked_rests mode (writer_at h) once (λ e' o'. subst (λ (x : Reset). Past ph q x) (same_reset e e' o o') (inr (calm_at e o calm)))
 
         by_reset : (o : Option Reset) → reset_of (n.process p) ≡ o → ClockedPart n ph q p
-        by_reset None o = clocked_rests mode (writer_at (λ b w. driven_fall (n.process p) v before b k ∙ ap (λ x. write_all before (flatten (reset_updates x v)) b) o ∙ write_none before b)) (once_none n (q.active p ++ q.waiting p) none) (λ e o'. absurd cc)
+        by_reset None o = clocked_rests mode (writer_at (λ b w. driven_fall (n.process p) v before b k ∙ ap (λ x. write_all before (flatten (reset_effects x v)) b) o ∙ write_none before b)) once (λ e o'. absurd cc)
         by_reset (Some e) o = elim (outcome e.edge (begin e.input) (v e.input) (known e o).0 (known e o).1) [
           | an_edge h to ↦ clocked_fires e (fires_at e o h to) mode (subst (λ (x : Bit4). moves (begin e.input) (v e.input) x ≡ true) (sym (net e o)) (moves_here (begin e.input) (v e.input) (λ s. both_ways (is_edge e.edge (begin e.input) (v e.input)) (ap (is_edge e.edge (begin e.input)) (sym s) ∙ edge_same e.edge (begin e.input)) h))) unrun
           | stays_active h to s ↦ rests e o h (λ b w. reset_value e o to b ∙ held e o (s ∙ to) b w)

@@ -1,6 +1,6 @@
 -- Where no step of one process is possible.
 use Rattle.std.proofs.Common.{◌≡◌, ◌≢◌, ℕ, List, [], Option, None, ◌≡◌, ap, is_some}
-use Rattle.vs_net.specs.Network.{Network, Write}
+use Rattle.vs_net.specs.Network.{Network, Write, AnAssign, kind}
 use Rattle.vs_net.specs.Queue.{Waiting, Queue, Choice, Start, Evaluate, Apply, Run, Take, Activate, Next, IsOpen, IsStill, IsPossible}
 
 -- each process waits, and has nothing pending and nothing active
@@ -33,3 +33,11 @@ possible_of n q (Run p) h = h
 possible_of n q (Take p) h = h
 possible_of n q Activate h = (still_of n q h.0, h.1)
 possible_of n q Next h = ((still_of n q h.0.0, h.0.1), h.1)
+
+-- assigns have nothing to do, and no update is active
+pub record IsCalm (n : Network) (q : Queue) : Type 0 where
+  pub assigns : (p : ℕ) → kind (n.process p) ≡ AnAssign → (q.mode p ≡ Waiting) × (q.pending p ≡ None)
+  pub active : (p : ℕ) → q.active p ≡ []
+
+pub calm_of : (n : Network) (q : Queue) → IsQuiet q → IsCalm n q
+calm_of n q quiet = record { assigns = λ p k. ((quiet p).0, (quiet p).1); active = λ p. (quiet p).2 }

@@ -1,14 +1,15 @@
 -- The example of a reset and a sleeping block is lawful, and has runs and weights.
+use Rattle.vs_net.proofs.Example.{unwritten_once, unset_flat}
 use Rattle.std.proofs.Common.{◌≡◌, ◌≢◌, ℕ, zero, suc, ◌+◌, ◌*◌, ◌≤◌, Bool, true, false, [], ◌∷◌, length, ◌||◌, ◌==◌, ◌⊎◌, inl, inr, Option, Some, None, refl, sym, ap, ◌∙◌, subst, eqb-true, eq-eqb, map, arith, if◌then◌else◌}
 use Rattle.std.proofs.lemmas.Bool.{cond-true}
 use Rattle.std.specs.List.{list_any}
 use Rattle.vs_four.specs.declared.Bit4.{Bit4}
 use Rattle.vs_four.specs.declared.Bit4.TheVariants.{Zero, One, X}
 use Rattle.vs_four.specs.Tables.{not_bit, and_bit, same}
-use Rattle.vs_net.specs.Network.{State, Reset, reset_of, Sleeper, to_value, write_all, is_written, flatten, Input, AnInput, TheClock, AnAssign, AComb, AClocked, kind, writes, listens, clock_net, made, updates}
+use Rattle.vs_net.specs.Network.{State, Reset, reset_of, Sleeper, to_value, write_all, is_written, flatten, Input, AnInput, TheClock, AnAssign, AComb, AClocked, kind, writes, listens, clock_net, made, updates, effects, branch}
 use Rattle.vs_net.specs.Queue.{start, change, changes, is_held, ends}
 use Rattle.vs_net.specs.Lawful.{IsLawful, IsResetPort, IsSleeper, Settles, IsOrdered, ReadsIn, WritesIn, IsUnknown, times}
-use Rattle.vs_net.specs.Bound.{fed_by}
+use Rattle.vs_net.specs.Bound.{fed_by, written_at_once}
 use Rattle.vs_net.specs.LevelRun.{level_run}
 use Rattle.vs_net.specs.Example.{one_write}
 use Rattle.vs_net.specs.ResetExample.{reset_of_t, reset_process, reset_idle, reset_sleeper, reset_example, reset_start, five_bits, reset_ends, ResetRuns, reset_feeds, reset_weight, ResetIsBounded}
@@ -231,14 +232,14 @@ port = record {
   copies = λ s. refl;
 }
 
-reset_run : (s : State) → s 2 ≡ One → updates (reset_process 1) s ≡ reset_of_t.updates
-reset_run s h = ap (λ v. one_write 3 (if same v One then Zero else not_bit (s 3)) ∷ []) h
+reset_run : (s : State) → s 2 ≡ One → effects (reset_process 1) s ≡ branch reset_of_t
+reset_run s h = ap (λ v. [] ∷ one_write 3 (if same v One then Zero else not_bit (s 3)) ∷ []) h
 
-clocked_own : (b : ℕ) (s : State) → is_written (flatten (updates (reset_process 1) s)) b ≡ true → (b == 3) ≡ true
+clocked_own : (b : ℕ) (s : State) → is_written (flatten (effects (reset_process 1) s)) b ≡ true → (b == 3) ≡ true
 unfolding flatten is_written
 clocked_own b s h = or_false (b == 3) h
 
-once : (b : ℕ) (s : State) → times (flatten (updates (reset_process 1) s)) b ≤ 1
+once : (b : ℕ) (s : State) → times (flatten (effects (reset_process 1) s)) b ≤ 1
 unfolding flatten times
 once b s = by_test (b == 3) (λ e. rw e (omega arith)) (λ e. rw e (omega arith))
 
@@ -249,28 +250,41 @@ any_one k b = go (b == k)
     go true = refl
     go false = refl
 
+unset_none : (b : ℕ) → is_written (flatten []) b ≡ false
+unfolding is_written flatten
+unset_none b = refl
+
 sleeps : IsSleeper reset_example 2 (record { on = 3 ∷ []; bits = 4 ∷ [] })
 sleeps = record {
   comb = refl;
   on_is = λ b. any_one 3 b;
   bits_is = λ b. any_one 4 b;
   idle = λ b l. ap reset_idle (eqb-true b 3 l);
+  exact = λ b s w. exact 2 b s tt ∙ w;
+  unset = λ b r l. unset_none b;
   register = λ b r l w. subst (λ (x : ℕ). kind (reset_process x) ≡ AClocked) (sym (at_bit owner b 3 1 l refl) ∙ owner_is r b w) refl;
-  once = λ b r s l k. subst (λ (x : ℕ). times (flatten (updates (reset_process x) s)) b ≤ 1) (sym (clocked_kind r k)) (once b s);
+  once = λ b r s l k. subst (λ (x : ℕ). times (flatten (effects (reset_process x) s)) b ≤ 1) (sym (clocked_kind r k)) (once b s);
 }
 
 pub reset_lawful : IsLawful reset_example
+unfolding write_all flatten
 reset_lawful = record {
   beyond = beyond;
   one_writer = λ p q b h k. sym (owner_is q b k) ∙ owner_is p b h;
   idle_x = idle_x;
   idle_xz = idle_xz;
-  exact = exact;
+  initial_own = λ p b h. absurd (unset_flat b h);
+  initial_clocked = λ p k. (refl, refl);
+  initial_apart = λ p b s h. absurd (unset_flat b h);
+  selects = λ b. false;
+  select_driven = λ b h. cc;
+  select_made = λ p b s t k h w known. cc;
+  own = λ p b s k h. sym (exact p b s k) ∙ h;
+  exact = λ p b s k known w. exact p b s k ∙ w;
   local = local;
   apart = apart;
   comb_updates = λ p s k. subst (λ (x : ℕ). updates (reset_process x) s ≡ []) (sym (comb_kind p k)) refl;
-  clocked_writes = λ p s k. subst (λ (x : ℕ). made (reset_process x) s ≡ []) (sym (clocked_kind p k)) refl;
-  clocked_own = λ p b s k h. subst (λ (x : ℕ). writes (reset_process x) b ≡ true) (sym (clocked_kind p k)) (clocked_own b s (subst (λ (x : ℕ). is_written (flatten (updates (reset_process x) s)) b ≡ true) (clocked_kind p k) h));
+  clocked_own = λ p b s k h. subst (λ (x : ℕ). writes (reset_process x) b ≡ true) (sym (clocked_kind p k)) (clocked_own b s (subst (λ (x : ℕ). is_written (flatten (effects (reset_process x) s)) b ≡ true) (clocked_kind p k) h));
   order = 0 ∷ 2 ∷ [];
   ordered = ordered;
   clock_nets = nets;
@@ -281,7 +295,10 @@ reset_lawful = record {
   clock_bit_is = λ p b k w. subst (λ (x : ℕ). writes (reset_process x) b ≡ true) (clock_kind p k) w;
   assign_nets = λ p k. inr (λ b h. subst (λ (x : ℕ). (listens (reset_process x) b ≡ false) × (writes (reset_process x) b ≡ false)) (sym (assign_kind p k)) (not_at b 0 1 (λ e. cc) h, not_at b 0 2 (λ e. cc) h));
   comb_nets = λ p b k h. subst (λ (x : ℕ). listens (reset_process x) b ≡ false) (sym (comb_kind p k)) (not_at b 0 3 (λ e. cc) h);
-  clocked_local = λ p s t k h. subst (λ (x : ℕ). updates (reset_process x) s ≡ updates (reset_process x) t) (sym (clocked_kind p k)) (ap (λ v. one_write 3 (if same v One then Zero else not_bit (s 3)) ∷ []) (h 2 refl) ∙ ap (λ v. one_write 3 (if same (t 2) One then Zero else not_bit v) ∷ []) (h 3 refl));
+  stirs = λ p b. false;
+  stirs_own = λ p b s k h. absurd (unwritten_once b (subst (λ (x : ℕ). is_written (made (reset_process x) s) b ≡ true) (clocked_kind p k) h));
+  stirs_on = λ p r b c h l st w. cc;
+  clocked_local = λ p s t k h. subst (λ (x : ℕ). effects (reset_process x) s ≡ effects (reset_process x) t) (sym (clocked_kind p k)) (ap (λ v. [] ∷ one_write 3 (if same v One then Zero else not_bit (s 3)) ∷ []) (h 2 refl (λ r ne kr. refl)) ∙ ap (λ v. [] ∷ one_write 3 (if same (t 2) One then Zero else not_bit v) ∷ []) (h 3 refl (λ r ne kr. refl)));
   roots = roots;
   roots_written = roots_written;
   input_roots = input_roots;
@@ -289,8 +306,8 @@ reset_lawful = record {
   reset_net_is = λ p r h. subst (λ (x : Reset). roots x.net ≡ Some x.input) (sym (reset_is p r h).1) refl;
   reset_run = λ p r s h e.
       let i = reset_is p r h in
-      subst (λ (x : ℕ). updates (reset_process x) s ≡ r.updates) (sym i.0)
-      (reset_run s (subst (λ (x : Reset). s x.net ≡ to_value x.edge) i.1 e) ∙ ap (λ (x : Reset). x.updates) (sym i.1));
+      subst (λ (x : ℕ). effects (reset_process x) s ≡ branch r) (sym i.0)
+      (reset_run s (subst (λ (x : Reset). s x.net ≡ to_value x.edge) i.1 e) ∙ ap branch (sym i.1));
   sleepers = λ p x h. let i = sleeper_is p x h in subst (λ (y : ℕ). IsSleeper reset_example y x) (sym i.0) (subst (λ (y : Sleeper). IsSleeper reset_example 2 y) (sym i.1) sleeps);
   early = early;
   late = λ b v. true;
@@ -351,8 +368,8 @@ input_weight (suc (suc (suc p))) k = refl
 clock_weight : (p : ℕ) → kind (reset_process p) ≡ TheClock → reset_weight p ≡ 1
 clock_weight p k = subst (λ (x : ℕ). reset_weight x ≡ 1) (sym (clock_kind p k)) refl
 
-few : (p : ℕ) (s : State) → kind (reset_process p) ≡ AClocked → length (updates (reset_process p) s) ≤ 1
-few p s k = subst (λ (x : ℕ). length (updates (reset_process x) s) ≤ 1) (sym (clocked_kind p k)) (omega arith)
+few : (p : ℕ) (s : State) → kind (reset_process p) ≡ AClocked → written_at_once (made (reset_process p) s) + length (updates (reset_process p) s) ≤ 1
+few p s k = subst (λ (x : ℕ). written_at_once (made (reset_process x) s) + length (updates (reset_process x) s) ≤ 1) (sym (clocked_kind p k)) (omega arith)
 
 reset_by : (p q x : ℕ) (e : Reset) → reset_of (reset_process p) ≡ Some e → writes (reset_process q) (clock_net (reset_process p)) ≡ true → writes (reset_process x) e.net ≡ true → 3 ≡ reset_weight q + reset_weight x
 reset_by p q x e h w v =

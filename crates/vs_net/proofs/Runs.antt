@@ -1,10 +1,10 @@
 -- Whole runs.
 use Rattle.std.proofs.Common.{◌≡◌, ◌≢◌, ℕ, true, List, [], ◌∷◌, ◌++◌, refl, sym, ap, ◌∙◌, subst, Option, Some, None, unwrap_or, is_some}
-use Rattle.vs_net.specs.Network.{Reset, reset_of, to_value, State, Write, Update, write_all, flatten, put, Network, Kind, AnInput, TheClock, AnAssign, AComb, AClocked, kind, writes, listens, made}
+use Rattle.vs_net.specs.Network.{Reset, reset_of, to_value, State, Write, Update, write_all, flatten, put, Network, Kind, AnInput, TheClock, AnAssign, AComb, AClocked, kind, writes, listens, made, branch}
 use Rattle.vs_four.specs.declared.Bit4.TheVariants.{Zero, One}
 use Rattle.vs_net.specs.Queue.{Mode, Unstarted, Waiting, Due, Queue, Slot, Fall, Rise, Choice, Start, Evaluate, Apply, Run, Take, Activate, Next, after, IsCompleted, ends, begun, took, start, slots_of, IsBlock, IsStill, IsOver, IsPossible}
-use Rattle.vs_net.proofs.Quiet.{IsQuiet, IsRested, IsStep}
-use Rattle.vs_net.specs.Solution.{IsSlotEnd, IsSolution, IsWriter, clocked_updates}
+use Rattle.vs_net.proofs.Quiet.{IsQuiet, IsRested, IsStep, calm_of}
+use Rattle.vs_net.specs.Solution.{IsSlotEnd, IsSolution, IsWriter, clocked_effects, beginning}
 use Rattle.vs_net.specs.Lawful.{IsLawful, Settles, IsKnown}
 use Rattle.vs_net.specs.Laws.{IsKnownVector, HasKnownResets, AreKnownResets, EveryOrder}
 use Rattle.vs_net.proofs.Basics.{write_all_at, write_all_again}
@@ -23,8 +23,8 @@ use Rattle.vs_net.proofs.Awake.{SettlingFirst, Sleeps, awake}
 
 -- a slot in which the clock falls
 pub data InFall (n : Network) (L : IsLawful n) (v before : State) (q : Queue) : Type 0 where
-  is_early : before ≡ n.idle → IsKnownVector n v → Early n L (early_phase n.idle v) q → InFall n L v before q
-  settles_first : before ≡ n.idle → (known : IsKnownVector n v) (base : State) (base_in : (b : ℕ) → L.early b (base b) ≡ true) → SettlingFirst n L v base known base_in q → InFall n L v before q
+  is_early : before ≡ (beginning n) → IsKnownVector n v → Early n L (early_phase (beginning n) v) q → InFall n L v before q
+  settles_first : before ≡ (beginning n) → (known : IsKnownVector n v) (base : State) (base_in : (b : ℕ) → L.early b (base b) ≡ true) → SettlingFirst n L v base known base_in q → InFall n L v before q
   settles_later : HasKnownResets n v → Settling n L (falling before v) before (λ p. ⊥) q → InFall n L v before q
 
 -- a slot in which the clock rises
@@ -50,7 +50,7 @@ pub record Over (n : Network) (L : IsLawful n) (slot : Slot) (before : State) (q
 
 module _ (n : Network) (L : IsLawful n) where
   pub began_at : (before : State) (slot : Slot) (s : State) → IsSlotEnd n before slot s → (p : ℕ) → Settles (kind (n.process p)) → Began n L s p
-  began_at before slot s e p k = began_of n L before s p k (e.settled p)
+  began_at before slot s e p k = began_of n L before s p k (e.settled p k)
 
   -- what was given for a slot
   abbrev Given : Slot → State → Type 0
@@ -80,21 +80,21 @@ module _ (n : Network) (L : IsLawful n) where
       again : (us : List Update) (before s : State) (b : ℕ) → s b ≡ write_all before (flatten us) b → write_all s (flatten us) b ≡ s b
       again us before s b e = write_all_at (flatten us) s (write_all before (flatten us)) b e ∙ write_all_again (flatten us) before b ∙ sym e
 
-      held_at : (slot : Slot) (before : State) → Given slot before → (s : State) → IsSlotEnd n before slot s → ((c : ℕ) (f : Family) → nets n L c ≡ Some f → s c ≡ level_of slot before f) → (p : ℕ) (e : Reset) → reset_of (n.process p) ≡ Some e → s e.input ≡ to_value e.edge → (b : ℕ) → writes (n.process p) b ≡ true → write_all s (flatten e.updates) b ≡ s b
+      held_at : (slot : Slot) (before : State) → Given slot before → (s : State) → IsSlotEnd n before slot s → ((c : ℕ) (f : Family) → nets n L c ≡ Some f → s c ≡ level_of slot before f) → (p : ℕ) (e : Reset) → reset_of (n.process p) ≡ Some e → s e.input ≡ to_value e.edge → (b : ℕ) → writes (n.process p) b ≡ true → write_all s (flatten (branch e)) b ≡ s b
       held_at (Fall v) before given s end arrived p e o h b w =
           let k = reset_clocked (n.process p) e o in
           let at_input = arrived e.input (Some e.input) (root_family n L e.input e.input (rooted n L e.net e.input (L.reset_net_is p e o)).itself) in
-          again e.updates before s b (end.updated p b (subst IsWriter (sym k) tt) w ∙ reset_value n is_one before before v (start n before v []) p k e o (sym at_input ∙ h) b)
+          again (branch e) before s b (end.updated p b (subst IsWriter (sym k) tt) w ∙ reset_value n is_one before before v (start n before v []) p k e o (sym at_input ∙ h) b)
       held_at Rise before given s end arrived p e o h b w =
           let k = reset_clocked (n.process p) e o in
           let at_input = arrived e.input (Some e.input) (root_family n L e.input e.input (rooted n L e.net e.input (L.reset_net_is p e o)).itself) in
           let run = L.reset_run p e before o (given.roots e.net e.input (reset_net_family n L p e o) ∙ sym at_input ∙ h) in
-          again e.updates before s b (end.updated p b (subst IsWriter (sym k) tt) w ∙ ap (λ (us : List Update). write_all before (flatten us) b) (ap (λ (x : List Update). x ++ clocked_updates (n.process p) Rise before) (clocked_undriven (n.process p) Rise k) ∙ clocked_rise (n.process p) before k ∙ run))
+          again (branch e) before s b (end.updated p b (subst IsWriter (sym k) tt) w ∙ ap (λ (us : List Update). write_all before (flatten us) b) (ap (λ (x : List Update). x ++ clocked_effects (n.process p) Rise before) (clocked_undriven (n.process p) Rise k) ∙ clocked_rise (n.process p) before k ∙ run))
 
   settling_over : (ph : Phase) (base : State) (sleeps : ℕ → Type 0) (good : Good ph) → ((f : Family) → ph.fresh f ≡ level_of ph.slot ph.before f) → Given ph.slot ph.before → (q : Queue) → IsRested q → ((p : ℕ) → sleeps p → ((b : ℕ) → listens (n.process p) b ≡ true → q.now b ≡ base b) → Agrees n p q.now) → Settling n L ph base sleeps q → Over n L ph.slot ph.before q
   settling_over ph base sleeps good is_level given q over wake h =
-      let end = settling_end n L ph base sleeps good is_level q over.0 h over.1 wake in
-      let arrived : (c : ℕ) (f : Family) → nets n L c ≡ Some f → q.now c ≡ level_of ph.slot ph.before f = (λ c f net. settling_arrived n L ph base sleeps good is_level q over.0 h (λ r i. over.1 r) c f net ∙ is_level f) in
+      let end = settling_end n L ph base sleeps good is_level q (calm_of n q over.0) h over.0 over.1 wake in
+      let arrived : (c : ℕ) (f : Family) → nets n L c ≡ Some f → q.now c ≡ level_of ph.slot ph.before f = (λ c f net. settling_arrived n L ph base sleeps good is_level q (calm_of n q over.0) h (λ r i. over.1 r) c f net ∙ is_level f) in
       record { slot_end = end; ground = grounded ph.slot ph.before given q.now end arrived }
 
   pub known_resets : (v : State) → IsKnownVector n v → HasKnownResets n v
@@ -104,7 +104,7 @@ module _ (n : Network) (L : IsLawful n) where
   over_in (Fall v) before q over (is_early e known early) = absurd (early_goes_on n L v q over early)
   over_in (Fall v) before q over (settles_first e known base base_in h) =
       subst (λ (s : State). Over n L (Fall v) s q) (sym e)
-      (settling_over (first_phase n.idle v) base (Sleeps n L v base known base_in) (good_first n.idle v) (λ f. refl) (known_resets v known) q over (awake n L v base known base_in q over h) h)
+      (settling_over (first_phase (beginning n) v) base (Sleeps n L v base known base_in) (good_first (beginning n) v) (λ f. refl) (known_resets v known) q over (awake n L v base known base_in q over h) h)
   over_in (Fall v) before q over (settles_later known h) = settling_over (falling before v) before (λ p. ⊥) (good_falling before v) (λ f. refl) known q over (λ p s. absurd s) h
   over_in Rise before q over (on_rise ground (settles_risen h)) = settling_over (risen_phase before) before (λ p. ⊥) (good_risen before) (λ f. refl) ground q over (λ p s. absurd s) h
   over_in Rise before q over (on_rise ground (is_rising h)) = settling_over (risen_phase before) before (λ p. ⊥) (good_risen before) (λ f. refl) ground q over (λ p s. absurd s) (rising_settles n L before q over.0 h)
@@ -113,11 +113,11 @@ module _ (n : Network) (L : IsLawful n) where
       let o = settling_over (risen_phase before) before (λ p. ⊥) (good_risen before) (λ f. refl) ground (activated q) (quiet', λ p. refl) (λ p s. absurd s) (rising_settles n L before (activated q) quiet' h) in
       record { slot_end = o.slot_end; ground = o.ground }
 
-  early_next : (v before : State) (q : Queue) (c : Choice) → c ≢ Next → IsStep n q c → before ≡ n.idle → IsKnownVector n v → Early n L (early_phase n.idle v) q → InFall n L v before (after n q c)
+  early_next : (v before : State) (q : Queue) (c : Choice) → c ≢ Next → IsStep n q c → before ≡ (beginning n) → IsKnownVector n v → Early n L (early_phase (beginning n) v) q → InFall n L v before (after n q c)
   early_next v before q Activate ne h e known early =
       let in_sets = all_early n L v q h.0 early early.holds.kept in
       settles_first e known q.now in_sets
-      (settling_step n L (first_phase n.idle v) q.now (Sleeps n L v q.now known in_sets) (good_first n.idle v) q Activate ne h
+      (settling_step n L (first_phase (beginning n) v) q.now (Sleeps n L v q.now known in_sets) (good_first (beginning n) v) q Activate ne h
       (early_settles n L v q h.0 early early.holds.kept (known_resets v known)))
   early_next v before q (Start p) ne h e known early = is_early e known (early_step n L v q (Start p) ne (λ x. cc) h early)
   early_next v before q (Evaluate p) ne h e known early = is_early e known (early_step n L v q (Evaluate p) ne (λ x. cc) h early)
@@ -152,7 +152,7 @@ module _ (n : Network) (L : IsLawful n) where
 
   pub step_in : (slot : Slot) (before : State) (q : Queue) (c : Choice) → c ≢ Next → IsStep n q c → InSlot n L slot before q → InSlot n L slot before (after n q c)
   step_in (Fall v) before q c ne h (is_early e known early) = early_next v before q c ne h e known early
-  step_in (Fall v) before q c ne h (settles_first e known base base_in s) = settles_first e known base base_in (settling_step n L (first_phase n.idle v) base (Sleeps n L v base known base_in) (good_first n.idle v) q c ne h s)
+  step_in (Fall v) before q c ne h (settles_first e known base base_in s) = settles_first e known base base_in (settling_step n L (first_phase (beginning n) v) base (Sleeps n L v base known base_in) (good_first (beginning n) v) q c ne h s)
   step_in (Fall v) before q c ne h (settles_later known s) = settles_later known (settling_step n L (falling before v) before (λ p. ⊥) (good_falling before v) q c ne h s)
   step_in Rise before q c ne h (on_rise ground o) = on_rise ground (rise_step before q c ne h o)
   step_in Rise before q c ne h (to_activate ground quiet rise) = subst (λ (x : Choice). InRise n L before (after n q x)) (sym (only_activation q c ne quiet h)) (on_rise ground (is_rising rise))
@@ -262,4 +262,4 @@ module _ (n : Network) (L : IsLawful n) where
 
 pub every_order : EveryOrder
 every_order n L first v vs firsts known resets choices done =
-    run_in n L choices (Fall v) (Rise ∷ slots_of vs) n.idle (start n first v vs) (alternates n L vs resets) refl (is_early refl known (early_first n L first v vs firsts)) done
+    run_in n L choices (Fall v) (Rise ∷ slots_of vs) (beginning n) (start n first v vs) (alternates n L vs resets) refl (is_early refl known (early_first n L first v vs firsts)) done

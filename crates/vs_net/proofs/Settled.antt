@@ -1,18 +1,17 @@
 -- One pass over a level order solves the equations of a slot.
 use Rattle.std.proofs.Common.{◌≡◌, ◌≢◌, ℕ, true, false, List, [], ◌∷◌, ◌⊎◌, inl, inr, refl, sym, ap, ◌∙◌, subst}
 use Rattle.std.proofs.lemmas.Bool.{both_ways}
-use Rattle.vs_net.specs.Network.{State, write_all, Network, Kind, AnInput, TheClock, AnAssign, AComb, AClocked, kind, writes, listens, made}
+use Rattle.vs_net.specs.Network.{State, write_all, Network, Kind, AnInput, TheClock, AnAssign, AComb, AClocked, kind, writes, listens}
 use Rattle.vs_net.specs.Queue.{Slot}
 use mathlib.Core.Path.{fun_ext}
 use Rattle.vs_net.specs.Solution.{given, IsSlotEnd}
-use Rattle.vs_net.proofs.Asleep.{given_exact, given_local, given_none, never_sleeps}
+use Rattle.vs_net.proofs.Asleep.{given_off, given_local}
 use Rattle.vs_net.specs.Lawful.{IsLawful, IsOrdered, Settles}
 use Rattle.vs_net.specs.Settle.{settled_by, settle, IsFed}
 use Rattle.vs_net.specs.Laws.{OnePassSettles}
 use Rattle.vs_net.proofs.Basics.{by_test, same_number, write_all_at, write_all_other, write_all_again}
-use Rattle.vs_net.proofs.Parts.{IsInput, not_written}
+use Rattle.vs_net.proofs.Parts.{not_written}
 use Rattle.vs_net.proofs.Levels.{settles_or_writes, not_both}
-use Rattle.vs_net.proofs.Ends.{nothing_agrees, nothing_made}
 
 module _ (n : Network) (L : IsLawful n) (before : State) where
   -- a process agrees with what it is given
@@ -23,10 +22,7 @@ module _ (n : Network) (L : IsLawful n) (before : State) where
   turn p s = write_all s (settled_by (kind (n.process p)) (given n before p s))
 
   holds_all : (p : ℕ) (s : State) → Settles (kind (n.process p)) → Holds p s → write_all s (given n before p s) ≡ s
-  holds_all p s k g = fun_ext (λ b. by_test (writes (n.process p) b) (g b) (λ e. write_all_other (given n before p s) s b (given_exact n L before s p b k ∙ e)))
-
-  nothing : (p : ℕ) (s : State) → kind (n.process p) ≢ AComb → made (n.process p) s ≡ [] → write_all s (given n before p s) ≡ s
-  nothing p s k e = ap (write_all s) (given_none n L before s p (never_sleeps n L p k)) ∙ nothing_agrees n L p s e
+  holds_all p s k g = fun_ext (λ b. by_test (writes (n.process p) b) (g b) (λ e. write_all_other (given n before p s) s b (given_off n L before s p b k e)))
 
   unwritten : (s : State) (b : ℕ) → write_all s [] b ≡ s b
   unfolding write_all
@@ -37,7 +33,7 @@ module _ (n : Network) (L : IsLawful n) (before : State) where
   turn_other p s b h = by_kind (kind (n.process p)) refl
     where
       other : Settles (kind (n.process p)) → write_all s (given n before p s) b ≡ s b
-      other k = write_all_other (given n before p s) s b (given_exact n L before s p b k ∙ h k)
+      other k = write_all_other (given n before p s) s b (given_off n L before s p b k (h k))
 
       by_kind : (k : Kind) → kind (n.process p) ≡ k → write_all s (settled_by k (given n before p s)) b ≡ s b
       by_kind AnAssign e = other (subst Settles (sym e) tt)
@@ -99,17 +95,10 @@ module _ (n : Network) (L : IsLawful n) (before : State) where
   one_pass order ordered slot s fed =
       let done = pass order (λ p. ⊥) s (λ r h k. absurd h) (λ r b x h l w st. absurd h) ordered in
       record {
-        settled = λ p. by_kind p (kind (n.process p)) refl done;
+        settled = λ p k. holds_all p (settle n before order s) k (done.agree p k);
         updated = λ p b u w. done.stays b (λ r k. by_test (writes (n.process r) b) (λ e. absurd (not_both (kind (n.process p)) (subst (λ (x : ℕ). Settles (kind (n.process x))) (L.one_writer p r b w e) k) u)) (λ e. e)) ∙ fed.updated p b u w;
         kept = λ b none. done.stays b (λ r k. none r) ∙ fed.kept b none;
       }
-    where
-      by_kind : (p : ℕ) (k : Kind) → kind (n.process p) ≡ k → Passed order s → write_all (settle n before order s) (given n before p (settle n before order s)) ≡ settle n before order s
-      by_kind p AnAssign e d = holds_all p (settle n before order s) (subst Settles (sym e) tt) (d.agree p (subst Settles (sym e) tt))
-      by_kind p AComb e d = holds_all p (settle n before order s) (subst Settles (sym e) tt) (d.agree p (subst Settles (sym e) tt))
-      by_kind p AnInput e d = nothing p (settle n before order s) (λ x. cc) (nothing_made (n.process p) (settle n before order s) (subst IsInput (sym e) tt))
-      by_kind p TheClock e d = nothing p (settle n before order s) (λ x. cc) (nothing_made (n.process p) (settle n before order s) (subst IsInput (sym e) tt))
-      by_kind p AClocked e d = nothing p (settle n before order s) (λ x. cc) (L.clocked_writes p (settle n before order s) e)
 
 pub one_pass_settles : OnePassSettles
 one_pass_settles n L order ordered before slot s fed = one_pass n L before order ordered slot s fed

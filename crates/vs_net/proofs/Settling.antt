@@ -1,20 +1,21 @@
 -- A slot while it settles, with all of its updates under way.
-use Rattle.std.proofs.Common.{◌≡◌, ◌≢◌, ℕ, Bool, true, false, List, [], ◌∷◌, ◌++◌, ◌⊎◌, inl, inr, refl, sym, ap, ◌∙◌, subst, Option, Some, None, IsSome, append-nil, ◌+◌, ◌≤◌, ◌==◌, ◌||◌, eq-eqb, eqb-true, arith}
+use Rattle.vs_net.proofs.Beginning.{flat_append, own_initial_updates, unset_updates, written_or}
+use Rattle.std.proofs.Common.{◌≡◌, ◌≢◌, ℕ, Bool, true, false, List, [], ◌∷◌, ◌++◌, ◌⊎◌, inl, inr, refl, sym, ap, ◌∙◌, subst, Option, Some, None, IsSome, append-nil, ◌+◌, ◌≤◌, ◌==◌, ◌||◌, eq-eqb, eqb-true, arith, append_assoc}
 use Rattle.std.proofs.lemmas.Bool.{both_ways, cond-true}
-use Rattle.vs_net.specs.Network.{Sleeper, Reset, reset_of, is_edge, to_value, State, Write, Update, put, write_all, is_written, flatten, Network, Kind, AnInput, TheClock, AnAssign, AComb, AClocked, kind, writes, listens, clock_net, updates}
+use Rattle.vs_net.specs.Network.{Sleeper, Reset, reset_of, is_edge, to_value, State, Write, Update, put, write_all, is_written, flatten, Network, Kind, AnInput, TheClock, AnAssign, AComb, AClocked, kind, writes, listens, clock_net, updates, branch, effects, made}
 use Rattle.vs_net.specs.Queue.{Mode, Unstarted, Waiting, Due, Slot, Queue, woken, change, changes, Choice, Start, Evaluate, Apply, Run, Take, Activate, Next, after, IsBlock, evaluated, applied, ran, took}
 use Rattle.vs_net.proofs.Quiet.{IsQuiet, IsStep}
 use Rattle.vs_four.specs.declared.Bit4.{Bit4}
 use Rattle.vs_four.specs.declared.Bit4.TheVariants.{X}
 use Rattle.vs_net.specs.Solution.{driven}
 use Rattle.vs_net.specs.Lawful.{IsLawful, Settles, times}
-use Rattle.vs_net.proofs.Basics.{by_test, same_number, put-same, put-other, write_all_at, write_all_other}
+use Rattle.vs_net.proofs.Basics.{by_test, same_number, put-same, put-other, write_all_at, write_all_other, write_all-append, is_written-append, is_written-append_right, flat_cons, write_all_covered}
 use Rattle.vs_net.proofs.Waking.{Woke, stays, wakes, Changed, change_one, changed_not, changes_all, fires_reset}
 pub use Rattle.vs_net.proofs.Parts.{IsInput}
-use Rattle.vs_net.proofs.Parts.{Acts, acts_on, acts_mode, acts_waiting, Own, Agrees, AssignOk, is_due, is_pending, is_settled, Phase, AssignPart, WriterPart, InputPart, agrees_other, assign_other, writer_other, input_other, not_written, coming_same}
-use Rattle.vs_net.proofs.Asleep.{AsleepAt, times-append, written_times, unwritten_times}
+use Rattle.vs_net.proofs.Parts.{Acts, acts_on, acts_mode, acts_waiting, acts_active, acts_changes, Own, Agrees, AssignOk, is_due, is_pending, is_settled, Phase, AssignPart, WriterPart, InputPart, agrees_other, assign_other, writer_other, input_other, not_written, coming_same}
+use Rattle.vs_net.proofs.Asleep.{AsleepAt, times-append, written_times, unwritten_times, never_times}
 use Rattle.vs_net.proofs.Nets.{Family, nets, clock_family, clock_bit, off_nets, input_net, clock_net_family, reset_net_family}
-use Rattle.vs_net.proofs.Steps.{NetsIn, Calm, CalmEdge, Apart, Did, did_reset, edge_calm, edge_fresh, did_nothing, did_off_nets, evaluated_self, evaluated_did, applied_is, applied_self, applied_did, took_is, took_acts, took_flat, coming_took, took_writer, took_input, took_net_did, own_u, ran_did, ran_mode, ran_agrees, ran_waiting, ran_active, ran_pending}
+use Rattle.vs_net.proofs.Steps.{NetsIn, Calm, CalmEdge, Apart, Did, did_reset, edge_calm, edge_fresh, did_off_nets, evaluated_self, evaluated_did, applied_is, applied_self, applied_did, took_is, took_acts, took_flat, coming_took, took_writer, took_input, took_net_did, own_u, ran_did, ran_mode, ran_agrees, ran_waiting, ran_active, ran_pending}
 
 -- what is so of a process, by its kind
 pub data Each (n : Network) (nets : ℕ → Option Family) (ph : Phase) (comb clocked : Queue → ℕ → Type 0) (q : Queue) (p : ℕ) : Type 0 where
@@ -69,14 +70,19 @@ pub record Fires (n : Network) (ph : Phase) (p : ℕ) (e : Reset) : Type 0 where
   pub to_active : ph.fresh (Some e.input) ≡ to_value e.edge
   pub seen : (a : Bit4) → ph.old (Some e.input) a ≡ true → is_edge e.edge a (ph.fresh (Some e.input)) ≡ true
   pub unseen : (a b : Bit4) → ph.old (Some e.input) a ≡ true → ph.old (Some e.input) b ≡ true → is_edge e.edge a b ≡ false
-  pub value : (b : ℕ) → driven (n.process p) ph.slot ph.before b ≡ write_all ph.before (flatten e.updates) b
+  pub value : (b : ℕ) → driven (n.process p) ph.slot ph.before b ≡ write_all ph.before (flatten (branch e)) b
 
--- the block hasn't run in this slot
+-- the block hasn't run in this slot; what it has to come are initial updates, which make of its bits what they were before
 pub record Unrun (n : Network) (ph : Phase) (q : Queue) (p : ℕ) : Type 0 where
   pub pending : q.pending p ≡ None
-  pub active : q.active p ≡ []
-  pub waiting : q.waiting p ≡ []
-  pub bits : (b : ℕ) → writes (n.process p) b ≡ true → q.now b ≡ ph.before b
+  pub left : (b : ℕ) → is_written (flatten (q.active p ++ q.waiting p)) b ≡ true → is_written (flatten (n.initial_updates p)) b ≡ true
+  pub bits : (b : ℕ) → writes (n.process p) b ≡ true → write_all q.now (flatten (q.active p ++ q.waiting p)) b ≡ ph.before b
+
+-- a due clocked block gives its bits what they are to be, in a run on these values
+pub record Running (n : Network) (slot : Slot) (before : State) (q : Queue) (p : ℕ) : Type 0 where
+  pub pending : q.pending p ≡ None
+  pub left : (b : ℕ) → is_written (flatten (q.active p ++ q.waiting p)) b ≡ true → is_written (flatten (n.initial_updates p)) b ≡ true
+  pub coming : (b : ℕ) → writes (n.process p) b ≡ true → write_all (write_all q.now (flatten (q.active p ++ q.waiting p))) (flatten (effects (n.process p) q.now)) b ≡ driven (n.process p) slot before b
 
 -- a clocked block has nothing to run any more, or is to be reset, or is due by its reset
 pub data ClockedPart (n : Network) (ph : Phase) (q : Queue) (p : ℕ) : Type 0 where
@@ -132,10 +138,6 @@ module _ (n : Network) (L : IsLawful n) (ph : Phase) where
       let i = L.sleepers r x e in
       absurd (let same = a.deaf r ne (λ z. let c = i.comb in cc) (λ b l. by_test (writes (n.process p) b) (λ w. absurd (k (i.register b p l w))) (λ z. z)) in cc)
 
-  -- nor one that leaves the modes of all others
-  pub rouses_still : (p r : ℕ) (q q' : Queue) → q'.mode r ≡ q.mode r → Rouses n ph.slot ph.before q q' r
-  rouses_still p r q q' same x e h m d = absurd cc
-
   each_other : (comb clocked : Queue → ℕ → Type 0) (p r : ℕ) (q q' : Queue) → r ≢ p → Did n L ph p q q' → (kind (n.process r) ≡ AComb → comb q r → comb q' r) → (kind (n.process r) ≡ AClocked → clocked q r → clocked q' r) → Each n (nets n L) ph comb clocked q r → Each n (nets n L) ph comb clocked q' r
   each_other comb clocked p r q q' ne did f g (an_assign k part) = an_assign k (assign_other n L ph p r q q' k ne did.acts did.steady part)
   each_other comb clocked p r q q' ne did f g (an_input k part) = an_input k (input_other n L ph p r q q' k ne did.acts part)
@@ -180,12 +182,13 @@ module _ (n : Network) (L : IsLawful n) (ph : Phase) where
 
   -- another process acts
   unrun_other : (p r : ℕ) (q q' : Queue) → r ≢ p → Acts n p q q' → Unrun n ph q r → Unrun n ph q' r
-  unrun_other p r q q' ne a u = record {
-    pending = a.pending r ne ∙ u.pending;
-    active = a.active r ne ∙ u.active;
-    waiting = a.waiting r ne ∙ u.waiting;
-    bits = λ b w. a.now b (not_written n L p r b ne w) ∙ u.bits b w;
-  }
+  unrun_other p r q q' ne a u =
+      let e = coming_same n L p r q q' ne a in
+      record {
+        pending = a.pending r ne ∙ u.pending;
+        left = λ b h. u.left b (subst (λ (us : List Update). is_written (flatten us) b ≡ true) e h);
+        bits = λ b w. ap (λ us. write_all q'.now (flatten us) b) e ∙ write_all_at (flatten (q.active r ++ q.waiting r)) q'.now q.now b (a.now b (not_written n L p r b ne w)) ∙ u.bits b w;
+      }
 
   woken_mode : {m m' : Mode} {t t' : Bool} → m' ≡ woken m t → {x : Mode} → m ≡ x → t ≡ t' → m' ≡ woken x t'
   woken_mode {m} {m'} {t} {t'} h {x} e f = h ∙ ap (λ (y : Mode). woken y t) e ∙ ap (λ (y : Bool). woken x y) f
@@ -210,42 +213,11 @@ module _ (n : Network) (L : IsLawful n) (ph : Phase) where
   clocked_other calm p r q q' k ne nets_in did (clocked_due e f a o d fr u) =
       clocked_due e f a o (woken_mode (did_reset n L ph calm p q q' nets_in did r ne k) d refl) (did.steady e.net (Some e.input) (reset_net_family n L r e f.is_reset) fr) (unrun_other p r q q' ne did.acts u)
 
-  -- a block that is due by its reset runs
-  module _ (q : Queue) (p : ℕ) (k : kind (n.process p) ≡ AClocked) (nets_in : NetsIn (nets n L) ph q) where
-    abbrev pub q_reset : Queue
-    q_reset = record q { mode = put q.mode p Waiting; waiting = put q.waiting p (q.waiting p ++ updates (n.process p) q.now) }
-
-    pub reset_is : ran n q p ≡ q_reset
-    unfolding changes
-    reset_is = ap (λ (x : List Write). record (changes n q x) { mode = put (changes n q x).mode p Waiting; waiting = put (changes n q x).waiting p ((changes n q x).waiting p ++ updates (n.process p) q.now) }) (L.clocked_writes p q.now k)
-
-    pub reset_did : Did n L ph p q q_reset
-    reset_did = did_nothing n L ph p q q_reset
-        (acts_on n p q (record q { mode = put q.mode p Waiting }) q_reset (acts_mode n p q Waiting) (acts_waiting n p (record q { mode = put q.mode p Waiting }) (q.waiting p ++ updates (n.process p) q.now)))
-        (λ b. refl) (λ r ne. put-other q.mode p Waiting r ne) nets_in
-
-    reset_runs : (e : Reset) → Fires n ph p e → q.now e.net ≡ ph.fresh (Some e.input) → Unrun n ph q p → ClockedPart n ph q_reset p
-    reset_runs e f fr u = clocked_rests (put-same q.mode p Waiting) (record {
-      pending = u.pending;
-      own = λ b h. L.clocked_own p b q.now k (subst (λ (x : List Update). is_written (flatten x) b ≡ true) (comes ∙ sym gives) h);
-      coming = λ b w. ap (λ x. write_all q.now (flatten x) b) comes ∙ write_all_at (flatten e.updates) q.now ph.before b (u.bits b w) ∙ sym (f.value b);
-    }) (λ x b y z l. subst (λ (us : List Update). times (flatten us) b ≤ 1) (sym (comes ∙ sym gives)) ((L.sleepers x y z).once b p q.now l k)) (λ e' o. let same : e ≡ e' = (let z = f.is_reset in cc) in inl (subst (λ (x : Reset). q.now x.net ≡ ph.fresh (Some x.input)) same fr))
-      where
-        gives : updates (n.process p) q.now ≡ e.updates
-        gives = L.reset_run p e q.now f.is_reset (fr ∙ f.to_active)
-
-        comes : q_reset.active p ++ q_reset.waiting p ≡ e.updates
-        comes =
-            ap (λ (x : List Update). x ++ q_reset.waiting p) u.active
-            ∙ put-same q.waiting p (q.waiting p ++ updates (n.process p) q.now)
-            ∙ ap (λ (x : List Update). x ++ updates (n.process p) q.now) u.waiting
-            ∙ gives
-
   module _ (q : Queue) (quiet : IsQuiet q) where
     none_first : (p : ℕ) → q.active p ++ q.waiting p ≡ q.waiting p
     none_first p = ap (λ (x : List Update). x ++ q.waiting p) (quiet p).2
 
-    coming_activated : (p : ℕ) → q.waiting p ++ [] ≡ q.active p ++ q.waiting p
+    pub coming_activated : (p : ℕ) → q.waiting p ++ [] ≡ q.active p ++ q.waiting p
     coming_activated p = append-nil (q.waiting p) ∙ sym (none_first p)
 
     pub activated_writer : (p : ℕ) → WriterPart n ph q p → WriterPart n ph (activated q) p
@@ -312,6 +284,150 @@ module _ (n : Network) (L : IsLawful n) (ph : Phase) where
           moved : listens (n.process r) w.bit ≡ true → (change n q w).now w.bit ≡ X → ⊥
           moved l z = let y = changed_not n q w r (h w.bit l ∙ sym z) in let u = sym k ∙ y ∙ m in cc
 
+  -- a due clocked block runs
+  module _ (q : Queue) (p : ℕ) (k : kind (n.process p) ≡ AClocked) where
+    abbrev at_once : List Write
+    at_once = made (n.process p) q.now
+
+    abbrev later : List Update
+    later = updates (n.process p) q.now
+
+    abbrev q_done : Queue
+    q_done = changes n q at_once
+
+    abbrev q_ran : Queue
+    q_ran = ran n q p
+
+    ran_ch : Changed n q q_done at_once
+    ran_ch = changes_all n at_once q
+
+    pub own_at_once : Own n p at_once
+    own_at_once b h = L.clocked_own p b q.now k (subst (λ (ws : List Write). is_written ws b ≡ true) (sym (flat_cons at_once later)) (is_written-append at_once (flatten later) b h))
+
+    own_later : Own n p (flatten later)
+    own_later b h = L.clocked_own p b q.now k (subst (λ (ws : List Write). is_written ws b ≡ true) (sym (flat_cons at_once later)) (is_written-append_right at_once (flatten later) b h))
+
+    pub clocked_acts : Acts n p q q_ran
+    clocked_acts =
+        acts_on n p q q_done q_ran (acts_changes n p q at_once own_at_once)
+        (acts_on n p q_done (record q_done { mode = put q_done.mode p Waiting }) q_ran (acts_mode n p q_done Waiting) (acts_waiting n p (record q_done { mode = put q_done.mode p Waiting }) (q_done.waiting p ++ later)))
+
+    pub clocked_did : NetsIn (nets n L) ph q → Did n L ph p q q_ran
+    clocked_did nets_in = did_off_nets n L ph p q q_ran clocked_acts (clocked_off p k) nets_in
+
+    pub clocked_waits : q_ran.mode p ≡ Waiting
+    clocked_waits = put-same q_done.mode p Waiting
+
+    pub clocked_active : q.active p ≡ [] → q_ran.active p ≡ []
+    clocked_active e = ap (λ (f : ℕ → List Update). f p) ran_ch.active ∙ e
+
+    split_once : (b : ℕ) → times (flatten (effects (n.process p) q.now)) b ≡ times at_once b + times (flatten later) b
+    split_once b = ap (λ ws. times ws b) (flat_cons at_once later) ∙ times-append at_once (flatten later) b
+
+    written_once : (x b : ℕ) (y : Sleeper) → n.sleeper x ≡ Some y → listens (n.process x) b ≡ true → times at_once b + times (flatten later) b ≤ 1
+    written_once x b y e l = let a = split_once b in let c = (L.sleepers x y e).once b p q.now l k in omega arith
+
+    module _ (run : Running n ph.slot ph.before q p) where
+      abbrev stale : List Write
+      stale = flatten (q.active p ++ q.waiting p)
+
+      ran_comes : q_ran.active p ++ q_ran.waiting p ≡ (q.active p ++ q.waiting p) ++ later
+      ran_comes =
+          ap (λ (x : List Update). x ++ q_ran.waiting p) (ap (λ (f : ℕ → List Update). f p) ran_ch.active)
+          ∙ ap (λ (x : List Update). q.active p ++ x) (put-same q_done.waiting p (q_done.waiting p ++ later) ∙ ap (λ (x : List Update). x ++ later) (ap (λ (f : ℕ → List Update). f p) ran_ch.waiting))
+          ∙ sym (append_assoc (q.active p) (q.waiting p) later)
+
+      ran_flat : flatten (q_ran.active p ++ q_ran.waiting p) ≡ stale ++ flatten later
+      ran_flat = ap flatten ran_comes ∙ flat_append (q.active p ++ q.waiting p) later
+
+      -- what is stale and what is written at once are of different bits
+      turned : (b : ℕ) → write_all (write_all q.now at_once) stale b ≡ write_all (write_all q.now stale) at_once b
+      turned b = by_test (is_written stale b)
+          (λ e. write_all_covered stale (write_all q.now at_once) q.now b e ∙ sym (write_all_other at_once (write_all q.now stale) b (L.initial_apart p b q.now (run.left b e))))
+          (λ e. write_all_other stale (write_all q.now at_once) b e ∙ write_all_at at_once q.now (write_all q.now stale) b (sym (write_all_other stale q.now b e)))
+
+      pub clocked_writer : WriterPart n ph q_ran p
+      clocked_writer = record {
+        pending = ap (λ (f : ℕ → Option (List Write)). f p) ran_ch.pending ∙ run.pending;
+        own = λ b h. elim (written_or stale (flatten later) b (subst (λ (ws : List Write). is_written ws b ≡ true) ran_flat h)) [ inl x ↦ own_initial_updates n L p b (run.left b x) | inr x ↦ own_later b x ];
+        coming = λ b w.
+            ap (λ ws. write_all q_ran.now ws b) ran_flat
+            ∙ ap (λ (s : State). s b) (write_all-append stale (flatten later) q_ran.now)
+            ∙ write_all_at (flatten later) (write_all q_ran.now stale) (write_all (write_all q.now stale) at_once) b (write_all_at stale q_ran.now (write_all q.now at_once) b (ran_ch.now b) ∙ turned b)
+            ∙ sym (ap (λ (s : State). s b) (write_all-append at_once (flatten later) (write_all q.now stale)))
+            ∙ ap (λ ws. write_all (write_all q.now stale) ws b) (sym (flat_cons at_once later))
+            ∙ run.coming b w;
+      }
+
+      -- a sleeping block hears nothing stale
+      unheard : (x b : ℕ) (y : Sleeper) → n.sleeper x ≡ Some y → listens (n.process x) b ≡ true → is_written stale b ≡ false
+      unheard x b y e l = by_test (is_written stale b) (λ h. absurd (both_ways (is_written (flatten (n.initial_updates p)) b) (unset_updates n L p b ((L.sleepers x y e).unset b p l)) (run.left b h))) (λ h. h)
+
+      pub clocked_once : Once n (flatten (q_ran.active p ++ q_ran.waiting p))
+      clocked_once x b y e l = subst (λ (ws : List Write). times ws b ≤ 1) (sym ran_flat) (let a = written_once x b y e l in let c = times-append stale (flatten later) b in let d = never_times stale b (unheard x b y e l) in omega arith)
+
+      -- what it writes at once rouses a sleeping block by a bit that it gives a value
+      pub clocked_found : (r : ℕ) → r ≢ p → (x : Sleeper) → n.sleeper r ≡ Some x → ((b : ℕ) → listens (n.process r) b ≡ true → q.now b ≡ X) → q.mode r ≡ Waiting → q_ran.mode r ≡ Due
+          → (b : ℕ) × (listens (n.process r) b ≡ true) × (writes (n.process p) b ≡ true) × (driven (n.process p) ph.slot ph.before b ≢ X)
+      clocked_found r ne x e h m d =
+          let found = changes_rouse at_once q r x e h (λ b l. let a = written_once r b x e l in omega arith) m (sym (put-other q_done.mode p Waiting r ne) ∙ d) in
+          let b = found.0 in
+          let own = own_at_once b found.2 in
+          let left : is_written (flatten later) b ≡ false = unwritten_times (flatten later) b (let a = written_once r b x e found.1 in let g = written_times at_once b found.2 in omega arith) in
+          let as_driven : q_done.now b ≡ driven (n.process p) ph.slot ph.before b =
+          (sym (write_all_other stale q_ran.now b (unheard r b x e found.1))
+          ∙ sym (write_all_other (flatten later) (write_all q_ran.now stale) b left)
+          ∙ sym (ap (λ (s : State). s b) (write_all-append stale (flatten later) q_ran.now))
+          ∙ ap (λ ws. write_all q_ran.now ws b) (sym ran_flat) ∙ clocked_writer.coming b own) in
+          (b, found.1, own, λ z. found.3 (as_driven ∙ z))
+
+      pub clocked_rouses : (r : ℕ) → r ≢ p → Rouses n ph.slot ph.before q q_ran r
+      clocked_rouses r ne x e h m d = let found = clocked_found r ne x e h m d in roused found.0 p found.1 found.2 k found.3
+
+  -- an initial update of a block that hasn't run is taken
+  module _ (q : Queue) (p : ℕ) (k : kind (n.process p) ≡ AClocked) (u : Update) (us : List Update) (active : q.active p ≡ u ∷ us) (run : Unrun n ph q p) where
+    abbrev q_taken : Queue
+    q_taken = changes n (record q { active = put q.active p us }) u
+
+    taken_ch : Changed n (record q { active = put q.active p us }) q_taken u
+    taken_ch = changes_all n u (record q { active = put q.active p us })
+
+    taken_flat : flatten (q.active p ++ q.waiting p) ≡ u ++ flatten (us ++ q.waiting p)
+    taken_flat = ap (λ (x : List Update). flatten (x ++ q.waiting p)) active ∙ flat_cons u (us ++ q.waiting p)
+
+    taken_comes : q_taken.active p ++ q_taken.waiting p ≡ us ++ q.waiting p
+    taken_comes =
+        ap (λ (x : List Update). x ++ q_taken.waiting p) (ap (λ (f : ℕ → List Update). f p) taken_ch.active ∙ put-same q.active p us)
+        ∙ ap (λ (x : List Update). us ++ x) (ap (λ (f : ℕ → List Update). f p) taken_ch.waiting)
+
+    u_left : (b : ℕ) → is_written u b ≡ true → is_written (flatten (n.initial_updates p)) b ≡ true
+    u_left b h = run.left b (subst (λ (ws : List Write). is_written ws b ≡ true) (sym taken_flat) (is_written-append u (flatten (us ++ q.waiting p)) b h))
+
+    pub taken_own : Own n p u
+    taken_own b h = own_initial_updates n L p b (u_left b h)
+
+    pub taken_acts : Acts n p q q_taken
+    taken_acts = acts_on n p q (record q { active = put q.active p us }) q_taken (acts_active n p q us) (acts_changes n p (record q { active = put q.active p us }) u taken_own)
+
+    -- no sleeping block hears it
+    pub taken_rouses : (r : ℕ) → r ≢ p → Rouses n ph.slot ph.before q q_taken r
+    taken_rouses r ne x e h m d = absurd (let same = taken_ch.deaf r (λ z. let c = (L.sleepers r x e).comb in cc) (λ b l. by_test (is_written u b) (λ g. absurd (both_ways (is_written (flatten (n.initial_updates p)) b) (unset_updates n L p b ((L.sleepers r x e).unset b p l)) (u_left b g))) (λ g. g)) in cc)
+
+    pub taken_unrun : Unrun n ph q_taken p
+    taken_unrun = record {
+      pending = ap (λ (f : ℕ → Option (List Write)). f p) taken_ch.pending ∙ run.pending;
+      left = λ b h. run.left b (subst (λ (ws : List Write). is_written ws b ≡ true) (sym taken_flat) (is_written-append_right u (flatten (us ++ q.waiting p)) b (subst (λ (x : List Update). is_written (flatten x) b ≡ true) taken_comes h)));
+      bits = λ b w.
+          ap (λ x. write_all q_taken.now (flatten x) b) taken_comes
+          ∙ write_all_at (flatten (us ++ q.waiting p)) q_taken.now (write_all q.now u) b (taken_ch.now b)
+          ∙ sym (ap (λ (s : State). s b) (write_all-append u (flatten (us ++ q.waiting p)) q.now))
+          ∙ ap (λ ws. write_all q.now ws b) (sym taken_flat)
+          ∙ run.bits b w;
+    }
+
+    pub taken_is' : took n q p (q.active p) ≡ q_taken
+    taken_is' = ap (λ x. took n q p x) active
+
   module _ (q : Queue) (p : ℕ) (u : Update) (us : List Update) (active : q.active p ≡ u ∷ us) (nets_in : NetsIn (nets n L) ph q) (apart : Apart ph) (w : WriterPart n ph q p) (once : Once n (flatten (q.active p ++ q.waiting p))) where
     abbrev q_fewer : Queue
     q_fewer = record q { active = put q.active p us }
@@ -335,6 +451,22 @@ module _ (n : Network) (L : IsLawful n) (ph : Phase) where
 
   took_rouses : (q : Queue) (p : ℕ) (u : Update) (us : List Update) (active : q.active p ≡ u ∷ us) → kind (n.process p) ≡ AClocked → (nets_in : NetsIn (nets n L) ph q) (apart : Apart ph) (w : WriterPart n ph q p) (once : Once n (flatten (q.active p ++ q.waiting p))) → (r : ℕ) → Rouses n ph.slot ph.before q (changes n (record q { active = put q.active p us }) u) r
   took_rouses q p u us active k nets_in apart w once r = took_rouses' q p u us active nets_in apart w once k r
+
+  -- a block that is due by its reset runs the reset branch
+  pub reset_running : (q : Queue) (p : ℕ) (e : Reset) → Fires n ph p e → q.now e.net ≡ ph.fresh (Some e.input) → Unrun n ph q p → Running n ph.slot ph.before q p
+  reset_running q p e f fr u = record {
+    pending = u.pending;
+    left = u.left;
+    coming = λ b w.
+        ap (λ (us : List Update). write_all (write_all q.now (flatten (q.active p ++ q.waiting p))) (flatten us) b) (L.reset_run p e q.now f.is_reset (fr ∙ f.to_active))
+        ∙ write_all_at (flatten (branch e)) (write_all q.now (flatten (q.active p ++ q.waiting p))) ph.before b (u.bits b w)
+        ∙ sym (f.value b);
+  }
+
+  reset_runs : (q : Queue) (p : ℕ) (k : kind (n.process p) ≡ AClocked) (e : Reset) → Fires n ph p e → q.now e.net ≡ ph.fresh (Some e.input) → Running n ph.slot ph.before q p → ClockedPart n ph (ran n q p) p
+  reset_runs q p k e f fr run = clocked_rests (clocked_waits q p k) (clocked_writer q p k run) (clocked_once q p k run)
+      (λ e' o. let same : e ≡ e' = (let z = f.is_reset in cc) in inl (subst (λ (x : Reset). (ran n q p).now x.net ≡ ph.fresh (Some x.input)) same
+      ((clocked_acts q p k).now e.net (clocked_off p k e.net (Some e.input) (reset_net_family n L p e f.is_reset)) ∙ fr)))
 
   -- the settling phase
   module _ (base : State) (sleeps : ℕ → Type 0) where
@@ -409,7 +541,8 @@ module _ (n : Network) (L : IsLawful n) (ph : Phase) where
     run_step q p (a_clocked k (clocked_rests m w once past)) b d h = absurd cc
     run_step q p (a_clocked k (clocked_fires e f m o u)) b d h = absurd cc
     run_step q p (a_clocked k (clocked_due e f a o m fr u)) b d h =
-        subst InSettling (sym (reset_is q p k h.nets)) (settling_on p q (q_reset q p k h.nets) (reset_did q p k h.nets) (λ r ne. rouses_still p r q (q_reset q p k h.nets) (put-other q.mode p Waiting r ne)) (a_clocked k (reset_runs q p k h.nets e f fr u)) h)
+        let run = reset_running q p e f fr u in
+        settling_on p q (ran n q p) (clocked_did q p k h.nets) (λ r ne. clocked_rouses q p k run r ne) (a_clocked k (reset_runs q p k e f fr run)) h
 
     take_step : (q : Queue) (p : ℕ) → EachSettling q p → q.active p ≢ [] → InSettling q → InSettling (took n q p (q.active p))
     take_step q p (an_assign k part) ne h = absurd (ne part.active)
@@ -418,8 +551,20 @@ module _ (n : Network) (L : IsLawful n) (ph : Phase) where
         let u = full_is (q.active p) ne in
         subst InSettling (sym (took_is n L ph p q u.0 u.1 u.2 h.nets good.apart))
         (settling_on p q _ (input_take_did q p u.0 u.1 u.2 part h.nets good.apart good.aims (kind (n.process p)) refl k) (λ r ne. rouses_none p r q _ ne (input_take_did q p u.0 u.1 u.2 part h.nets good.apart good.aims (kind (n.process p)) refl k).acts (λ z. subst IsInput z k)) (an_input k (took_input n L ph p q u.0 u.1 u.2 h.nets good.apart k part)) h)
-    take_step q p (a_clocked k (clocked_fires e f m o r)) ne h = absurd (ne r.active)
-    take_step q p (a_clocked k (clocked_due e f a o m fr r)) ne h = absurd (ne r.active)
+    take_step q p (a_clocked k (clocked_fires e f m o r)) ne h =
+        let u = full_is (q.active p) ne in
+        let acts = taken_acts q p k u.0 u.1 u.2 r in
+        subst InSettling (sym (taken_is' q p k u.0 u.1 u.2 r))
+        (settling_on p q _ (did_off_nets n L ph p q _ acts (clocked_off p k) h.nets) (taken_rouses q p k u.0 u.1 u.2 r)
+        (a_clocked k (clocked_fires e f (took_waiting q p u.0 u.1 k (taken_own q p k u.0 u.1 u.2 r) ∙ m)
+        (ap (ph.old (Some e.input)) (acts.now e.net (clocked_off p k e.net (Some e.input) (reset_net_family n L p e f.is_reset))) ∙ o) (taken_unrun q p k u.0 u.1 u.2 r))) h)
+    take_step q p (a_clocked k (clocked_due e f a o m fr r)) ne h =
+        let u = full_is (q.active p) ne in
+        let acts = taken_acts q p k u.0 u.1 u.2 r in
+        subst InSettling (sym (taken_is' q p k u.0 u.1 u.2 r))
+        (settling_on p q _ (did_off_nets n L ph p q _ acts (clocked_off p k) h.nets) (taken_rouses q p k u.0 u.1 u.2 r)
+        (a_clocked k (clocked_due e f a o (took_waiting q p u.0 u.1 k (taken_own q p k u.0 u.1 u.2 r) ∙ m)
+        (acts.now e.net (clocked_off p k e.net (Some e.input) (reset_net_family n L p e f.is_reset)) ∙ fr) (taken_unrun q p k u.0 u.1 u.2 r))) h)
     take_step q p (a_clocked k (clocked_rests m w once past)) ne h =
         let u = full_is (q.active p) ne in
         let acts = took_acts n L ph p q u.0 u.1 u.2 h.nets good.apart w in
@@ -443,7 +588,11 @@ module _ (n : Network) (L : IsLawful n) (ph : Phase) where
           comb_again (comb_asleep m x y f g) = comb_asleep m x y f (record { listened = g.listened; bits = g.bits })
 
       activated_unrun : (p : ℕ) → Unrun n ph q p → Unrun n ph (activated q) p
-      activated_unrun p u = record { pending = u.pending; active = u.waiting; waiting = refl; bits = u.bits }
+      activated_unrun p u = record {
+        pending = u.pending;
+        left = λ b h. u.left b (subst (λ (x : List Update). is_written (flatten x) b ≡ true) (coming_activated q quiet p) h);
+        bits = λ b w. ap (λ x. write_all q.now (flatten x) b) (coming_activated q quiet p) ∙ u.bits b w;
+      }
 
       activated_each : (p : ℕ) → EachSettling q p → EachSettling (activated q) p
       activated_each p (an_assign k part) = an_assign k (activated_assign q quiet p part)

@@ -1,24 +1,26 @@
 -- A block that may sleep has run exactly where a bit that it waits on has differed from x.
+use Rattle.vs_net.proofs.Beginning.{unset_initial, unset_updates}
+use Rattle.vs_net.proofs.Early.{EarlyComb, EarlyClocked}
 use Rattle.std.proofs.Common.{◌≡◌, ◌≢◌, ℕ, ◌+◌, Bool, true, false, not, ◌||◌, List, [], ◌∷◌, ◌++◌, ◌⊎◌, inl, inr, Option, Some, None, unwrap_or, refl, sym, ap, ◌∙◌, subst, eq-eqb, ne_eqb, arith}
 use Rattle.std.specs.List.{list_any}
 use Rattle.std.proofs.lemmas.Bool.{both_ways}
 use Rattle.vs_four.specs.declared.Bit4.TheVariants.{X, Z}
 use Rattle.vs_net.specs.Network.{Sleeper, State, Write, Update, put, write_all, is_written, flatten, Network, Kind, AnInput, TheClock, AnAssign, AComb, AClocked, kind, writes, listens, made}
 use Rattle.vs_net.specs.Queue.{Mode, Unstarted, Waiting, Due, Queue, Slot, Fall, Rise, changes, Choice, Start, Evaluate, Apply, Run, Take, Activate, Next, IsBlock, IsCompleted, after, took, begun, ends, start, slots_of, first_mode, IsFirst}
-use Rattle.vs_net.specs.Solution.{all_x, driven, IsWriter}
+use Rattle.vs_net.specs.Solution.{all_x, driven, IsWriter, beginning}
 use Rattle.vs_net.specs.Lawful.{IsLawful, IsSleeper, Settles, times}
 use Rattle.vs_net.specs.Laws.{has_run, IsAfterSlot, SleepersWake}
 use Rattle.vs_net.proofs.Quiet.{IsRested, IsStep}
-use Rattle.vs_net.proofs.Basics.{by_test, same_number, put-same, put-other, write_all_other, write_all-append, is_written-append, unwritten_none}
+use Rattle.vs_net.proofs.Basics.{by_test, same_number, put-same, put-other, write_all_other, write_all-append, is_written-append, flat_cons}
 use Rattle.vs_net.proofs.Waking.{Woke, stays, wakes, Changed, changes_all}
-use Rattle.vs_net.proofs.Parts.{IsInput, Own, Phase}
+use Rattle.vs_net.proofs.Parts.{IsInput, Own, Phase, made_off}
 use Rattle.vs_net.proofs.Asleep.{all_x_at, all_x_of, times-append, written_times, unwritten_times}
-use Rattle.vs_net.proofs.Settling.{Each, an_assign, an_input, a_comb, a_clocked, CombPart, comb_due, comb_agrees, comb_sleeps, comb_asleep, ClockedPart, clocked_rests, clocked_fires, clocked_due, Once, changes_rouse, some_is, full_is}
-use Rattle.vs_net.proofs.Phases.{rising, risen_phase}
-use Rattle.vs_net.proofs.Rising.{RisingComb, RisingClocked}
+use Rattle.vs_net.proofs.Settling.{Each, an_assign, an_input, a_comb, a_clocked, CombPart, comb_due, comb_agrees, comb_sleeps, comb_asleep, ClockedPart, clocked_rests, clocked_fires, clocked_due, Once, changes_rouse, some_is, full_is, Running, reset_running, clocked_found}
+use Rattle.vs_net.proofs.Phases.{rising, risen_phase, early_phase}
+use Rattle.vs_net.proofs.Rising.{RisingComb, RisingClocked, rising_running}
 use Rattle.vs_net.proofs.Nets.{nets}
 use Rattle.vs_net.proofs.Begin.{early_first}
-use Rattle.vs_net.proofs.Sound.{SoundAt, sound_of}
+use Rattle.vs_net.proofs.Sound.{SoundAt, sound_of, flat_left}
 use Rattle.vs_net.proofs.Runs.{InSlot, is_early, settles_first, settles_later, is_rising, settles_risen, to_activate, on_rise, Over, over_in, begin_in, slots_stay, Alternates, alternates, next_alternates, step_in, step_of, rested_of}
 
 -- the updates that a clocked block has to come
@@ -27,29 +29,75 @@ record Coming (n : Network) (slot : Slot) (before : State) (q : Queue) (r : ℕ)
   value : (b : ℕ) → writes (n.process r) b ≡ true → write_all q.now (flatten (q.active r ++ q.waiting r)) b ≡ driven (n.process r) slot before b
   once : Once n (flatten (q.active r ++ q.waiting r))
 
-flat_cons : (u : Update) (us xs ws : List Update) → xs ≡ u ∷ us → flatten (xs ++ ws) ≡ u ++ flatten (us ++ ws)
+flat_front : (u : Update) (us xs ws : List Update) → xs ≡ u ∷ us → flatten (xs ++ ws) ≡ u ++ flatten (us ++ ws)
 unfolding flatten
-flat_cons u us xs ws e = ap (λ (x : List Update). flatten (x ++ ws)) e
+flat_front u us xs ws e = ap (λ (x : List Update). flatten (x ++ ws)) e
 
 front_own : (n : Network) (r : ℕ) (u : Update) (us : List Update) → Own n r (flatten (u ∷ us)) → Own n r u
 unfolding flatten
 front_own n r u us own b h = own b (is_written-append u (flatten us) b h)
 
 module _ (n : Network) (L : IsLawful n) where
-  coming_settling : (ph : Phase) (base : State) (sleeps : ℕ → Type 0) (q : Queue) (r : ℕ) → kind (n.process r) ≡ AClocked → q.active r ≢ [] → Each n (nets n L) ph (CombPart n ph.slot ph.before base sleeps) (ClockedPart n ph) q r → Coming n ph.slot ph.before q r
-  coming_settling ph base sleeps q r k ne (an_assign k' part) = absurd cc
-  coming_settling ph base sleeps q r k ne (an_input k' part) = absurd (subst IsInput k k')
-  coming_settling ph base sleeps q r k ne (a_comb k' part) = absurd cc
-  coming_settling ph base sleeps q r k ne (a_clocked k' (clocked_rests m w once past)) = record { own = w.own; value = w.coming; once = once }
-  coming_settling ph base sleeps q r k ne (a_clocked k' (clocked_fires e f m o u)) = absurd (ne u.active)
-  coming_settling ph base sleeps q r k ne (a_clocked k' (clocked_due e f a o m fr u)) = absurd (ne u.active)
+  -- an active update of a clocked block is one of the slot, or an initial one
+  abbrev IsInitial : Queue → ℕ → Type 0
+  IsInitial q r = (b : ℕ) → is_written (flatten (q.active r)) b ≡ true → (is_written (flatten (n.initial r)) b ≡ true) ⊎ (is_written (flatten (n.initial_updates r)) b ≡ true)
 
-  coming_in : (slot : Slot) (before : State) (q : Queue) (r : ℕ) → kind (n.process r) ≡ AClocked → q.active r ≢ [] → InSlot n L slot before q → Coming n slot before q r
-  coming_in (Fall v) before q r k ne (is_early e known early) = absurd (ne (early.none r))
-  coming_in (Fall v) before q r k ne (settles_first e known base base_in s) = subst (λ (x : State). Coming n (Fall v) x q r) (sym e) (coming_settling _ _ _ q r k ne (s.each r))
-  coming_in (Fall v) before q r k ne (settles_later known s) = coming_settling _ _ _ q r k ne (s.each r)
+  coming_settling : (ph : Phase) (base : State) (sleeps : ℕ → Type 0) (q : Queue) (r : ℕ) → kind (n.process r) ≡ AClocked → Each n (nets n L) ph (CombPart n ph.slot ph.before base sleeps) (ClockedPart n ph) q r → Coming n ph.slot ph.before q r ⊎ IsInitial q r
+  coming_settling ph base sleeps q r k (an_assign k' part) = absurd cc
+  coming_settling ph base sleeps q r k (an_input k' part) = absurd (subst IsInput k k')
+  coming_settling ph base sleeps q r k (a_comb k' part) = absurd cc
+  coming_settling ph base sleeps q r k (a_clocked k' (clocked_rests m w once past)) = inl (record { own = w.own; value = w.coming; once = once })
+  coming_settling ph base sleeps q r k (a_clocked k' (clocked_fires e f m o u)) = inr (λ b h. inr (u.left b (flat_left (q.active r) (q.waiting r) b h)))
+  coming_settling ph base sleeps q r k (a_clocked k' (clocked_due e f a o m fr u)) = inr (λ b h. inr (u.left b (flat_left (q.active r) (q.waiting r) b h)))
+
+  -- what a due clocked block's run gives its bits
+  running_settling : (ph : Phase) (base : State) (sleeps : ℕ → Type 0) (q : Queue) (r : ℕ) → kind (n.process r) ≡ AClocked → q.mode r ≡ Due → Each n (nets n L) ph (CombPart n ph.slot ph.before base sleeps) (ClockedPart n ph) q r → Running n ph.slot ph.before q r
+  running_settling ph base sleeps q r k d (an_assign k' part) = absurd cc
+  running_settling ph base sleeps q r k d (an_input k' part) = absurd (subst IsInput k k')
+  running_settling ph base sleeps q r k d (a_comb k' part) = absurd cc
+  running_settling ph base sleeps q r k d (a_clocked k' (clocked_rests m w once past)) = absurd cc
+  running_settling ph base sleeps q r k d (a_clocked k' (clocked_fires e f m o u)) = absurd cc
+  running_settling ph base sleeps q r k d (a_clocked k' (clocked_due e f a o m fr u)) = reset_running n L ph q r e f fr u
+
+  running_in : (slot : Slot) (before : State) (q : Queue) (r : ℕ) → kind (n.process r) ≡ AClocked → q.mode r ≡ Due → InSlot n L slot before q → Running n slot before q r
+  running_in (Fall v) before q r k d (is_early e known early) = by_part (early.holds.each r)
+    where
+      by_part : Each n (nets n L) (early_phase (beginning n) v) (EarlyComb n) (EarlyClocked n) q r → Running n (Fall v) before q r
+      by_part (an_assign k' part) = absurd cc
+      by_part (an_input k' part) = absurd (subst IsInput k k')
+      by_part (a_comb k' part) = absurd cc
+      by_part (a_clocked k' part) = absurd (elim part.mode [ inl u ↦ cc | inr w ↦ cc ])
+  running_in (Fall v) before q r k d (settles_first e known base base_in s) = subst (λ (x : State). Running n (Fall v) x q r) (sym e) (running_settling _ _ _ q r k d (s.each r))
+  running_in (Fall v) before q r k d (settles_later known s) = running_settling _ _ _ q r k d (s.each r)
+  running_in Rise before q r k d (to_activate ground quiet h) = absurd (let m = (quiet r).0 in cc)
+  running_in Rise before q r k d (on_rise ground (settles_risen s)) = running_settling _ _ _ q r k d (s.each r)
+  running_in Rise before q r k d (on_rise ground (is_rising rise)) = by_part (rise.holds.each r)
+    where
+      by_part : Each n (nets n L) (rising before) (RisingComb n L before) (RisingClocked n before) q r → Running n Rise before q r
+      by_part (an_assign k' part) = absurd cc
+      by_part (an_input k' part) = absurd (subst IsInput k k')
+      by_part (a_comb k' part) = absurd cc
+      by_part (a_clocked k' part) = rising_running n L before q r k rise part d
+
+  begun_settling : (ph : Phase) (base : State) (sleeps : ℕ → Type 0) (q : Queue) (p : ℕ) → kind (n.process p) ≡ AComb → Each n (nets n L) ph (CombPart n ph.slot ph.before base sleeps) (ClockedPart n ph) q p → q.mode p ≢ Unstarted
+  begun_settling ph base sleeps q p k (an_assign k' part) u = cc
+  begun_settling ph base sleeps q p k (an_input k' part) u = subst IsInput k k'
+  begun_settling ph base sleeps q p k (a_clocked k' part) u = cc
+  begun_settling ph base sleeps q p k (a_comb k' part) u = elim part.ok [ comb_due d y ↦ cc | comb_agrees m g y ↦ cc | comb_sleeps m z none g ↦ cc | comb_asleep m x y f g ↦ cc ]
+
+  abbrev IsComing : Slot → State → Queue → ℕ → Type 0
+  IsComing slot before q r = (Coming n slot before q r × ((p : ℕ) → kind (n.process p) ≡ AComb → q.mode p ≢ Unstarted)) ⊎ IsInitial q r
+
+  begun_too : (slot : Slot) (before : State) (q : Queue) (r : ℕ) → Coming n slot before q r ⊎ IsInitial q r → ((p : ℕ) → kind (n.process p) ≡ AComb → q.mode p ≢ Unstarted) → IsComing slot before q r
+  begun_too slot before q r (inl c) h = inl (c, h)
+  begun_too slot before q r (inr f) h = inr f
+
+  coming_in : (slot : Slot) (before : State) (q : Queue) (r : ℕ) → kind (n.process r) ≡ AClocked → q.active r ≢ [] → InSlot n L slot before q → IsComing slot before q r
+  coming_in (Fall v) before q r k ne (is_early e known early) = inr (λ b h. inl (early.initial r b h))
+  coming_in (Fall v) before q r k ne (settles_first e known base base_in s) = begun_too (Fall v) before q r (subst (λ (x : State). Coming n (Fall v) x q r ⊎ IsInitial q r) (sym e) (coming_settling _ _ _ q r k (s.each r))) (λ p kp. begun_settling _ _ _ q p kp (s.each p))
+  coming_in (Fall v) before q r k ne (settles_later known s) = begun_too (Fall v) before q r (coming_settling _ _ _ q r k (s.each r)) (λ p kp. begun_settling _ _ _ q p kp (s.each p))
   coming_in Rise before q r k ne (to_activate ground quiet h) = absurd (ne (quiet r).2)
-  coming_in Rise before q r k ne (on_rise ground (settles_risen s)) = coming_settling _ _ _ q r k ne (s.each r)
+  coming_in Rise before q r k ne (on_rise ground (settles_risen s)) = begun_too Rise before q r (coming_settling _ _ _ q r k (s.each r)) (λ p kp. begun_settling _ _ _ q p kp (s.each p))
   coming_in Rise before q r k ne (on_rise ground (is_rising rise)) = absurd (by_part (rise.holds.each r))
     where
       by_part : Each n (nets n L) (rising before) (RisingComb n L before) (RisingClocked n before) q r → ⊥
@@ -58,24 +106,24 @@ module _ (n : Network) (L : IsLawful n) where
       by_part (a_comb k' part) = cc
       by_part (a_clocked k' part) = ne part.active
 
-  begun_settling : (ph : Phase) (base : State) (sleeps : ℕ → Type 0) (q : Queue) (p : ℕ) → kind (n.process p) ≡ AComb → Each n (nets n L) ph (CombPart n ph.slot ph.before base sleeps) (ClockedPart n ph) q p → q.mode p ≢ Unstarted
-  begun_settling ph base sleeps q p k (an_assign k' part) u = cc
-  begun_settling ph base sleeps q p k (an_input k' part) u = subst IsInput k k'
-  begun_settling ph base sleeps q p k (a_clocked k' part) u = cc
-  begun_settling ph base sleeps q p k (a_comb k' part) u = elim part.ok [ comb_due d y ↦ cc | comb_agrees m g y ↦ cc | comb_sleeps m z none g ↦ cc | comb_asleep m x y f g ↦ cc ]
-
-  begun_in : (slot : Slot) (before : State) (q : Queue) (r p : ℕ) → q.active r ≢ [] → kind (n.process p) ≡ AComb → InSlot n L slot before q → q.mode p ≢ Unstarted
-  begun_in (Fall v) before q r p ne k (is_early e known early) = absurd (ne (early.none r))
-  begun_in (Fall v) before q r p ne k (settles_first e known base base_in s) = begun_settling _ _ _ q p k (s.each p)
-  begun_in (Fall v) before q r p ne k (settles_later known s) = begun_settling _ _ _ q p k (s.each p)
-  begun_in Rise before q r p ne k (to_activate ground quiet h) = absurd (ne (quiet r).2)
-  begun_in Rise before q r p ne k (on_rise ground (settles_risen s)) = begun_settling _ _ _ q p k (s.each p)
-  begun_in Rise before q r p ne k (on_rise ground (is_rising rise)) = λ u. by_part (rise.holds.each p) u
+  begun_due : (slot : Slot) (before : State) (q : Queue) (r p : ℕ) → kind (n.process r) ≡ AClocked → q.mode r ≡ Due → kind (n.process p) ≡ AComb → InSlot n L slot before q → q.mode p ≢ Unstarted
+  begun_due (Fall v) before q r p k d kp (is_early e known early) = absurd (by_part (early.holds.each r))
+    where
+      by_part : Each n (nets n L) (early_phase (beginning n) v) (EarlyComb n) (EarlyClocked n) q r → ⊥
+      by_part (an_assign k' part) = cc
+      by_part (an_input k' part) = subst IsInput k k'
+      by_part (a_comb k' part) = cc
+      by_part (a_clocked k' part) = elim part.mode [ inl u ↦ cc | inr w ↦ cc ]
+  begun_due (Fall v) before q r p k d kp (settles_first e known base base_in s) = begun_settling _ _ _ q p kp (s.each p)
+  begun_due (Fall v) before q r p k d kp (settles_later known s) = begun_settling _ _ _ q p kp (s.each p)
+  begun_due Rise before q r p k d kp (to_activate ground quiet h) = absurd (let m = (quiet r).0 in cc)
+  begun_due Rise before q r p k d kp (on_rise ground (settles_risen s)) = begun_settling _ _ _ q p kp (s.each p)
+  begun_due Rise before q r p k d kp (on_rise ground (is_rising rise)) = λ u. by_part (rise.holds.each p) u
     where
       by_part : Each n (nets n L) (rising before) (RisingComb n L before) (RisingClocked n before) q p → q.mode p ≡ Unstarted → ⊥
       by_part (an_assign k' part) u = cc
-      by_part (an_input k' part) u = subst IsInput k k'
-      by_part (a_comb k' part) u = let m = part.mode in cc
+      by_part (an_input k' part) u = subst IsInput kp k'
+      by_part (a_comb k' part) u = elim part.ok [ comb_due d y ↦ cc | comb_agrees m g y ↦ cc | comb_sleeps m z none g ↦ cc | comb_asleep m x y f g ↦ cc ]
       by_part (a_clocked k' part) u = cc
 
   module _ (p : ℕ) (x : Sleeper) (e : n.sleeper p ≡ Some x) where
@@ -160,7 +208,7 @@ module _ (n : Network) (L : IsLawful n) where
               rest = flatten (us ++ q.waiting r)
 
               flat : flatten (q.active r ++ q.waiting r) ≡ u ++ rest
-              flat = flat_cons u us (q.active r) (q.waiting r) a
+              flat = flat_front u us (q.active r) (q.waiting r) a
 
               split : (b : ℕ) → times (flatten (q.active r ++ q.waiting r)) b ≡ times u b + times rest b
               split b = ap (λ ws. times ws b) flat ∙ times-append u rest b
@@ -182,6 +230,30 @@ module _ (n : Network) (L : IsLawful n) where
                   ∙ ap (λ ws. write_all q.now ws b) (sym flat)
                   ∙ coming.value b (coming.own b (subst (λ (ws : List Write). is_written ws b ≡ true) (sym flat) (is_written-append u rest b found.2)))
 
+      -- what a clocked block writes at once
+      ran_update : (r : ℕ) (k : kind (n.process r) ≡ AClocked) → Running n slot before q r → q.mode p ≢ Unstarted → First slot before (after n q (Run r))
+      ran_update r k run nu = by_woke ((changes_all n (made (n.process r) q.now) q).mode p)
+        where
+          other : p ≢ r
+          other e = not_clocked (subst (λ (y : ℕ). kind (n.process y) ≡ AClocked) (sym e) k)
+
+          same_mode : (after n q (Run r)).mode p ≡ (changes n q (made (n.process r) q.now)).mode p
+          same_mode = put-other (changes n q (made (n.process r) q.now)).mode r Waiting p other
+
+          waits_now : (m : Mode) → q.mode p ≡ m → q.mode p ≡ Waiting
+          waits_now Waiting z = z
+          waits_now Due z = absurd (nd z)
+          waits_now Unstarted z = absurd (nu z)
+
+          m : q.mode p ≡ Waiting
+          m = waits_now (q.mode p) refl
+
+          by_woke : Woke n q (changes n q (made (n.process r) q.now)) p → First slot before (after n q (Run r))
+          by_woke (stays z same) = inl ((λ d. nd (sym z ∙ sym same_mode ∙ d)), λ b l. same m b l ∙ h b l)
+          by_woke (wakes z d) =
+              let found = clocked_found n L (record { slot = slot; before = before; old = λ f y. false; fresh = λ f. X; goal = λ f. X }) q r k run p other x e h m (same_mode ∙ d) in
+              inr (same_mode ∙ d, record { bit = found.0; by = r; listened = found.1; written = found.2; clocked = k; valued = found.3 })
+
     -- a step of the slot by which the block doesn't run
     module _ (slot : Slot) (before : State) (q : Queue) (inside : InSlot n L slot before q) where
       sound : (r : ℕ) → SoundAt n q r
@@ -198,12 +270,15 @@ module _ (n : Network) (L : IsLawful n) where
       due_stays : (q0 : Queue) (ws : List Write) → q0.mode p ≡ Due → (changes n q0 ws).mode p ≡ Due
       due_stays q0 ws d = elim ((changes_all n ws q0).mode p) [ stays z same ↦ z ∙ d | wakes z y ↦ y ]
 
-      made_unheard : (r : ℕ) (k : Kind) → kind (n.process r) ≡ k → IsBlock k → (b : ℕ) → listens (n.process p) b ≡ true → is_written (made (n.process r) q.now) b ≡ false
-      made_unheard r AComb k z b l = L.exact r b q.now (subst Settles (sym k) tt) ∙ unheard r b (λ y. cc) l
-      made_unheard r AClocked k z b l = ap (λ ws. is_written ws b) (L.clocked_writes r q.now k) ∙ unwritten_none b
-      made_unheard r AnInput k z b l = absurd z
-      made_unheard r TheClock k z b l = absurd z
-      made_unheard r AnAssign k z b l = absurd z
+      -- a block's run
+      ran_first : (r : ℕ) → q.mode r ≡ Due → q.mode p ≢ Due → Blank q.now → (k : Kind) → kind (n.process r) ≡ k → IsBlock k → First slot before (after n q (Run r))
+      ran_first r d nd h AComb k z =
+          let g = quiet_writes slot before q nd h q refl (λ b. refl) (made (n.process r) q.now) (λ b l. made_off n L r b q.now (subst Settles (sym k) tt) (unheard r b (λ y. cc) l)) in
+          inl (waits_put (changes n q (made (n.process r) q.now)).mode r g.0, g.1)
+      ran_first r d nd h AClocked k z = ran_update slot before q nd h r k (running_in slot before q r k d inside) (begun_due slot before q r p k d i.comb inside)
+      ran_first r d nd h AnInput k z = absurd z
+      ran_first r d nd h TheClock k z = absurd z
+      ran_first r d nd h AnAssign k z = absurd z
 
       other_kind : (r : ℕ) → kind (n.process r) ≡ AnAssign → p ≢ r
       other_kind r k z = let c = i.comb in let y = subst (λ (w : ℕ). kind (n.process w) ≡ AnAssign) (sym z) k in cc
@@ -214,7 +289,15 @@ module _ (n : Network) (L : IsLawful n) where
           subst (λ (us : List Update). First slot before (took n q r us)) (sym f.2) (by_kind f.0 f.1 f.2 k is)
         where
           by_kind : (u : Update) (us : List Update) → q.active r ≡ u ∷ us → (k : Kind) → kind (n.process r) ≡ k → First slot before (changes n (record q { active = put q.active r us }) u)
-          by_kind u us a AClocked is = took_update slot before q nd h r is u us a (coming_in slot before q r is ne inside) (begun_in slot before q r p ne i.comb inside)
+          by_kind u us a AClocked is = elim (coming_in slot before q r is ne inside) [
+            | inl c ↦ took_update slot before q nd h r is u us a c.0 (c.1 p i.comb)
+            | inr f ↦ inl (quiet_writes slot before q nd h (record q { active = put q.active r us }) refl (λ b. refl) u (λ b l. by_test (is_written u b)
+                (λ g. elim (f b (subst (λ (vs : List Update). is_written (flatten vs) b ≡ true) (sym a) (subst (λ (ws : List Write). is_written ws b ≡ true) (sym (flat_cons u us)) (is_written-append u (flatten us) b g)))) [
+                  | inl z ↦ absurd (both_ways (is_written (flatten (n.initial r)) b) (unset_initial n L r b (i.unset b r l)) z)
+                  | inr z ↦ absurd (both_ways (is_written (flatten (n.initial_updates r)) b) (unset_updates n L r b (i.unset b r l)) z)
+                ])
+                (λ z. z)))
+          ]
           by_kind u us a AnInput is = inl (quiet_writes slot before q nd h (record q { active = put q.active r us }) refl (λ b. refl) u (own_unheard r u (front_own n r u us (subst (λ (vs : List Update). Own n r (flatten vs)) a (sound r).own)) (λ z. cc)))
           by_kind u us a TheClock is = inl (quiet_writes slot before q nd h (record q { active = put q.active r us }) refl (λ b. refl) u (own_unheard r u (front_own n r u us (subst (λ (vs : List Update). Own n r (flatten vs)) a (sound r).own)) (λ z. cc)))
           by_kind u us a AnAssign is = absurd (ne ((sound r).none (subst Settles (sym is) tt)))
@@ -228,9 +311,7 @@ module _ (n : Network) (L : IsLawful n) where
           let d = (sound r).pend o.0 o.1 in
           inl (quiet_writes slot before q nd h (record q { pending = put q.pending r None }) refl (λ b. refl) (unwrap_or (q.pending r) [])
           (λ b l. ap (λ (z : Option (List Write)). is_written (unwrap_or z []) b) o.1 ∙ own_unheard r o.0 d.1 (λ z. let y = d.0 in cc) b l))
-      asleep_step (Run r) ne st nd h =
-          let g = quiet_writes slot before q nd h q refl (λ b. refl) (made (n.process r) q.now) (made_unheard r (kind (n.process r)) refl st.0) in
-          inl (waits_put (changes n q (made (n.process r) q.now)).mode r g.0, g.1)
+      asleep_step (Run r) ne st nd h = ran_first r st.1 nd h (kind (n.process r)) refl st.0
       asleep_step (Take r) ne st nd h = taken r nd h st (kind (n.process r)) refl
       asleep_step Activate ne st nd h = inl (nd, h)
       asleep_step Next ne st nd h = absurd (ne refl)
@@ -307,7 +388,7 @@ module _ (n : Network) (L : IsLawful n) where
     own_step slot before q q' (just r) d = (just r, refl, refl)
     own_step slot before q q' long d = (long, refl, refl)
 
-    begin_ghost : (first v : State) (vs : List State) → IsFirst n first → Ghost (Fall v) n.idle (start n first v vs)
+    begin_ghost : (first v : State) (vs : List State) → IsFirst n first → Ghost (Fall v) (beginning n) (start n first v vs)
     begin_ghost first v vs firsts = not_yet (λ d. first_not_due (kind (n.process p)) i.comb d) (λ b l. blank_first b l (firsts b))
       where
         first_not_due : (k : Kind) → k ≡ AComb → first_mode k ≡ Due → ⊥
@@ -382,5 +463,5 @@ module _ (n : Network) (L : IsLawful n) where
 pub sleepers_wake : SleepersWake
 unfolding begin_ghost
 sleepers_wake n L first v vs firsts known resets earlier later done after_slot p x e =
-    let told = run_tells n L p x e earlier later (Fall v) (Rise ∷ slots_of vs) n.idle (start n first v vs) (alternates n L vs resets) refl (is_early refl known (early_first n L first v vs firsts)) done after_slot (begin_ghost n L p x e first v vs firsts) in
+    let told = run_tells n L p x e earlier later (Fall v) (Rise ∷ slots_of vs) (beginning n) (start n first v vs) (alternates n L vs resets) refl (is_early refl known (early_first n L first v vs firsts)) done after_slot (begin_ghost n L p x e first v vs firsts) in
     ((λ h. sym told ∙ h), λ h. told ∙ h)

@@ -1,28 +1,18 @@
 -- In every phase pending values and active updates are their owners'.
-use Rattle.std.proofs.Common.{◌≡◌, ℕ, Bool, true, List, [], ◌∷◌, ◌++◌, ◌||◌, ◌==◌, ◌⊎◌, inl, inr, refl, sym, subst, Some, None}
+use Rattle.vs_net.proofs.Beginning.{written_or, own_initial, own_initial_updates}
+use Rattle.std.proofs.Common.{◌≡◌, ℕ, true, List, [], ◌∷◌, ◌++◌, inl, inr, subst, Some, None}
 use Rattle.vs_net.specs.Network.{State, Write, Update, is_written, flatten, Network, Kind, AnInput, TheClock, AnAssign, AComb, AClocked, kind}
 use Rattle.vs_net.specs.Queue.{Queue, Slot, Fall, Rise}
 use Rattle.vs_net.specs.Lawful.{IsLawful, Settles}
-use Rattle.vs_net.proofs.Basics.{by_test, is_written-append, is_written-append_right}
+use Rattle.vs_net.proofs.Basics.{is_written-append, is_written-append_right}
 use Rattle.vs_net.proofs.Parts.{IsInput, Phase, Own, WriterPart}
-use Rattle.vs_net.proofs.Settling.{Each, an_assign, an_input, a_comb, a_clocked, CombRest, CombPart, ClockedPart, clocked_rests, clocked_fires, clocked_due}
+use Rattle.vs_net.proofs.Settling.{Each, an_assign, an_input, a_comb, a_clocked, CombRest, CombPart, ClockedPart, clocked_rests, clocked_fires, clocked_due, Unrun}
 use Rattle.vs_net.proofs.Nets.{nets}
 use Rattle.vs_net.proofs.Early.{EarlyComb, EarlyClocked}
 use Rattle.vs_net.proofs.Rising.{RisingComb, RisingClocked}
 use Rattle.vs_net.proofs.Runs.{is_early, settles_first, settles_later, is_rising, settles_risen, to_activate, on_rise, InSlot}
 
-written_or : (xs ys : List Write) (b : ℕ) → is_written (xs ++ ys) b ≡ true → (is_written xs b ≡ true) ⊎ (is_written ys b ≡ true)
-unfolding is_written
-written_or [] ys b h = inr h
-written_or (x ∷ xs) ys b h =
-    by_test (b == x.bit)
-    (λ e. inl (subst (λ (t : Bool). (t || is_written xs b) ≡ true) (sym e) refl))
-    (λ e. elim (written_or xs ys b (subst (λ (t : Bool). (t || is_written (xs ++ ys) b) ≡ true) e h)) [
-      | inl i ↦ inl (subst (λ (t : Bool). (t || is_written xs b) ≡ true) (sym e) i)
-      | inr i ↦ inr i
-    ])
-
-flat_left : (us vs : List Update) (b : ℕ) → is_written (flatten us) b ≡ true → is_written (flatten (us ++ vs)) b ≡ true
+pub flat_left : (us vs : List Update) (b : ℕ) → is_written (flatten us) b ≡ true → is_written (flatten (us ++ vs)) b ≡ true
 unfolding flatten is_written
 flat_left [] vs b h = cc
 flat_left (u ∷ us) vs b h = elim (written_or u (flatten us) b h) [
@@ -65,16 +55,19 @@ module _ (n : Network) (L : IsLawful n) where
   clocked_settles_not : (p : ℕ) → kind (n.process p) ≡ AClocked → Settles (kind (n.process p)) → ⊥
   clocked_settles_not p k s = subst Settles k s
 
+  of_unrun : (ph : Phase) (q : Queue) (p : ℕ) → kind (n.process p) ≡ AClocked → Unrun n ph q p → SoundAt n q p
+  of_unrun ph q p k u = record { pend = λ ws h. absurd (let e = u.pending in cc); own = λ b h. own_initial_updates n L p b (u.left b (flat_left (q.active p) (q.waiting p) b h)); none = λ s. absurd (clocked_settles_not p k s) }
+
   of_clocked : (ph : Phase) (q : Queue) (p : ℕ) → kind (n.process p) ≡ AClocked → ClockedPart n ph q p → SoundAt n q p
   of_clocked ph q p k (clocked_rests m w once past) = of_writer ph q p (clocked_settles_not p k) w
-  of_clocked ph q p k (clocked_fires e f m o u) = at_rest q p u.pending u.active
-  of_clocked ph q p k (clocked_due e f a o m fr u) = at_rest q p u.pending u.active
+  of_clocked ph q p k (clocked_fires e f m o u) = of_unrun ph q p k u
+  of_clocked ph q p k (clocked_due e f a o m fr u) = of_unrun ph q p k u
 
   of_settling : (ph : Phase) (base : State) (sleeps : ℕ → Type 0) (q : Queue) (p : ℕ) → Each n (nets n L) ph (CombPart n ph.slot ph.before base sleeps) (ClockedPart n ph) q p → SoundAt n q p
   of_settling ph base sleeps q p e = of_each ph (CombPart n ph.slot ph.before base sleeps) (ClockedPart n ph) q p (λ part. part.rest) (λ k part. of_clocked ph q p k part) e
 
   pub sound_of : (slot : Slot) (before : State) (q : Queue) → InSlot n L slot before q → (p : ℕ) → SoundAt n q p
-  sound_of (Fall v) before q (is_early e known early) p = of_each _ (EarlyComb n) EarlyClocked q p (λ part. part.rest) (λ k part. at_rest q p part.rest.pending part.rest.active) (early.holds.each p)
+  sound_of (Fall v) before q (is_early e known early) p = of_each _ (EarlyComb n) (EarlyClocked n) q p (λ part. part.rest) (λ k part. record { pend = λ ws h. absurd (let e = part.pending in cc); own = λ b h. own_initial n L p b (early.initial p b h); none = λ s. absurd (clocked_settles_not p k s) }) (early.holds.each p)
   sound_of (Fall v) before q (settles_first e known base base_in s) p = of_settling _ _ _ q p (s.each p)
   sound_of (Fall v) before q (settles_later known s) p = of_settling _ _ _ q p (s.each p)
   sound_of Rise before q (to_activate ground quiet r) p = at_rest q p (quiet p).1 (quiet p).2

@@ -135,7 +135,7 @@ module _ (n : Network) (L : IsLawful n) (ph : Phase) where
     q_evaluated = evaluated n q p
 
     pub own_made : (s : State) → Own n p (made (n.process p) s)
-    own_made s b e = sym (L.exact p b s (settles_assign n L p k)) ∙ e
+    own_made s b e = L.own p b s (settles_assign n L p k) e
 
     evaluated_pending : ((q_evaluated.pending p ≡ None) × (is_held q.now value ≡ true)) ⊎ (q_evaluated.pending p ≡ Some value)
     evaluated_pending = by_test (is_held q.now value)
@@ -336,7 +336,7 @@ module _ (n : Network) (L : IsLawful n) (ph : Phase) where
     settles_comb = subst Settles (sym k) tt
 
     ran_own : Own n p (made (n.process p) q.now)
-    ran_own b e = sym (L.exact p b q.now settles_comb) ∙ e
+    ran_own b e = L.own p b q.now settles_comb e
 
     pub ran_acts : Acts n p q q_ran
     ran_acts =

@@ -1,8 +1,12 @@
 -- The parts of a slot of the level run.
+use Rattle.vs_net.proofs.Phases.{risen_phase}
+use Rattle.vs_net.proofs.Settling.{clocked_acts, clocked_off}
+use Rattle.vs_net.proofs.Nets.{Family, nets, clock_net_family, reset_net_family}
+use Rattle.vs_net.proofs.Parts.{Acts, made_off}
 use Rattle.std.proofs.Common.{◌≡◌, ◌≢◌, ℕ, ◌<◌, ◌≤◌, Bool, true, false, List, [], ◌∷◌, ◌++◌, ◌||◌, map, ◌⊎◌, inl, inr, refl, sym, ap, ◌∙◌, subst, Option, Some, None, unwrap_or, append-nil, if◌then◌else◌, arith}
 use Rattle.std.specs.List.{list_any}
 use Rattle.std.proofs.lemmas.Bool.{both_ways, cond-true, cond-false, cases_lt}
-use Rattle.vs_net.specs.Network.{Write, Update, put, is_written, Network, Kind, AnInput, TheClock, AnAssign, AComb, AClocked, kind, writes, listens, made, updates}
+use Rattle.vs_net.specs.Network.{Write, Update, put, is_written, Network, Kind, AnInput, TheClock, AnAssign, AComb, AClocked, kind, writes, listens, made, updates, State, clock_net}
 use Rattle.vs_net.specs.Queue.{Mode, Unstarted, Waiting, Due, Queue, changes, is_held, to_write, Choice, Start, Evaluate, Apply, Run, Take, Activate, IsBlock, after, evaluated, ran, took, started}
 use Rattle.vs_net.specs.Lawful.{IsLawful, IsOrdered, Settles}
 use Rattle.vs_net.specs.LevelRun.{after_all, each_in, below, starting, settling, running, is_empty, Activates, sweep}
@@ -32,7 +36,7 @@ module _ (n : Network) (L : IsLawful n) where
   -- the blocks start
   pub record Fresh (w : ℕ → List Update) (q : Queue) : Type 0 where
     pub pending : (p : ℕ) → q.pending p ≡ None
-    pub active : (p : ℕ) → q.active p ≡ []
+    pub active : (p : ℕ) → n.count ≤ p → q.active p ≡ []
     pub waiting : (p : ℕ) → q.waiting p ≡ w p
 
   abbrev pub Begun : Queue → ℕ → Type 0
@@ -143,7 +147,7 @@ module _ (n : Network) (L : IsLawful n) where
       cleared x = same_number x p (λ f. subst (λ (y : ℕ). q_c.pending y ≡ None) (sym f) (put-same q_e.pending p None)) (λ ne. put-other q_e.pending p None x ne ∙ put-other q.pending p (to_write q.now value) x ne ∙ r.rest.pending x)
 
       off : (x : ℕ) → ((b : ℕ) → listens (n.process x) b ≡ true → writes (n.process p) b ≡ false) → (b : ℕ) → listens (n.process x) b ≡ true → is_written value b ≡ false
-      off x h b l = L.exact p b q.now s ∙ h b l
+      off x h b l = made_off n L p b q.now s (h b l)
 
       own_off : (b : ℕ) → listens (n.process p) b ≡ true → writes (n.process p) b ≡ false
       own_off b l = by_test (writes (n.process p) b) (λ e. absurd (both_ways (listens (n.process p) b) (L.apart p b e) l)) (λ e. e)
@@ -208,7 +212,7 @@ module _ (n : Network) (L : IsLawful n) where
           active = λ x. ap (λ (f : ℕ → List Update). f x) run_ch.active ∙ r.active x;
         };
         own = λ st. put-same q_d.mode p Waiting;
-        others = λ x ne kx l. put-other q_d.mode p Waiting x ne ∙ run_ch.deaf x kx (λ b t. L.exact p b q.now run_s ∙ l d run_s b t);
+        others = λ x ne kx l. put-other q_d.mode p Waiting x ne ∙ run_ch.deaf x kx (λ b t. made_off n L p b q.now run_s (l d run_s b t));
       }
 
   abbrev pass_turn : Queue → ℕ → List Choice
@@ -257,52 +261,67 @@ module _ (n : Network) (L : IsLawful n) where
   pub passes : (w : ℕ → List Update) (order : List ℕ) → IsOrdered n (λ p. ⊥) order → (q : Queue) → Passing w q → PassDone w q (each_in pass_turn n q order)
   passes w order o q r = pass_on w order (λ p. ⊥) q r (λ x h s. absurd h) (λ x b y h l wr s. absurd h) o
 
-  -- the clocked blocks run
-  pub record Rested (q : Queue) : Type 0 where
+  -- the clocked blocks run; the nets of clocks and resets have these values
+  pub record Rested (values : State) (q : Queue) : Type 0 where
     pub pending : (p : ℕ) → q.pending p ≡ None
     pub active : (p : ℕ) → q.active p ≡ []
     pub begun : (p : ℕ) → q.mode p ≢ Unstarted
-    pub unclocked : (p : ℕ) → kind (n.process p) ≢ AClocked → q.mode p ≡ Waiting
     pub spent : (p : ℕ) → kind (n.process p) ≢ AClocked → q.waiting p ≡ []
     pub beyond : (p : ℕ) → n.count ≤ p → q.waiting p ≡ []
+    pub nets : (c : ℕ) (f : Family) → nets n L c ≡ Some f → q.now c ≡ values c
 
   abbrev pub Idle : Queue → ℕ → Type 0
-  Idle q p = q.mode p ≢ Due
+  Idle q p = kind (n.process p) ≡ AClocked → q.mode p ≢ Due
 
   abbrev run_turn_of : Queue → ℕ → List Choice
   run_turn_of r p = running (r.mode p) (kind (n.process p)) p
 
-  module _ (q : Queue) (p : ℕ) (r : Rested q) (d : q.mode p ≡ Due) (k : kind (n.process p) ≡ AClocked) where
+  module _ (values : State) (q : Queue) (p : ℕ) (r : Rested values q) (d : q.mode p ≡ Due) (k : kind (n.process p) ≡ AClocked) where
+    abbrev q_done : Queue
+    q_done = changes n q (made (n.process p) q.now)
+
     abbrev q_run : Queue
-    q_run = record q { mode = put q.mode p Waiting; waiting = put q.waiting p (q.waiting p ++ updates (n.process p) q.now) }
+    q_run = ran n q p
 
-    run_is : ran n q p ≡ q_run
-    unfolding changes
-    run_is = ap (λ (x : List Write). record (changes n q x) { mode = put (changes n q x).mode p Waiting; waiting = put (changes n q x).waiting p ((changes n q x).waiting p ++ updates (n.process p) q.now) }) (L.clocked_writes p q.now k)
+    acts : Acts n p q q_run
+    acts = clocked_acts n L (risen_phase n.idle) q p k
 
-    run_clocked : Turned n run_turn_of Rested Idle q p (Run p ∷ [])
-    run_clocked = turned_cons n run_turn_of Rested Idle q q_run p (Run p) [] (λ x. cc) (subst IsBlock (sym k) tt, d) run_is
-        (λ x h. same_number x p (λ f u. let m = subst (λ (y : ℕ). put q.mode p Waiting y ≡ Waiting) (sym f) (put-same q.mode p Waiting) in cc) (λ ne u. h (sym (put-other q.mode p Waiting x ne) ∙ u)))
-        (turned_none n run_turn_of Rested Idle q_run p (record {
-          pending = r.pending;
-          active = r.active;
-          begun = λ x. same_number x p (λ f u. let m = subst (λ (y : ℕ). put q.mode p Waiting y ≡ Waiting) (sym f) (put-same q.mode p Waiting) in cc) (λ ne u. r.begun x (sym (put-other q.mode p Waiting x ne) ∙ u));
-          unclocked = λ x kx. put-other q.mode p Waiting x (λ f. kx (subst (λ (y : ℕ). kind (n.process y) ≡ AClocked) (sym f) k)) ∙ r.unclocked x kx;
-          spent = λ x kx. put-other q.waiting p (q.waiting p ++ updates (n.process p) q.now) x (λ f. kx (subst (λ (y : ℕ). kind (n.process y) ≡ AClocked) (sym f) k)) ∙ r.spent x kx;
-          beyond = λ x le. put-other q.waiting p (q.waiting p ++ updates (n.process p) q.now) x (λ f. let w = within p (λ e. cc) in absurd (omega arith)) ∙ r.beyond x le;
-        }) (λ u. let m = put-same q.mode p Waiting in cc))
+    done_ch : Changed n q q_done (made (n.process p) q.now)
+    done_ch = changes_all n (made (n.process p) q.now) q
 
-  run_ok : (q : Queue) (p : ℕ) → Rested q → (m : Mode) → q.mode p ≡ m → (k : Kind) → kind (n.process p) ≡ k → Turned n run_turn_of Rested Idle q p (running m k p)
-  run_ok q p r Unstarted e k f = turned_none n run_turn_of Rested Idle q p r (λ u. cc)
-  run_ok q p r Waiting e k f = turned_none n run_turn_of Rested Idle q p r (λ u. cc)
-  run_ok q p r Due e AClocked f = run_clocked q p r e f
-  run_ok q p r Due e AnInput f = absurd (let m = r.unclocked p (λ x. cc) in cc)
-  run_ok q p r Due e TheClock f = absurd (let m = r.unclocked p (λ x. cc) in cc)
-  run_ok q p r Due e AnAssign f = absurd (let m = r.unclocked p (λ x. cc) in cc)
-  run_ok q p r Due e AComb f = absurd (let m = r.unclocked p (λ x. cc) in cc)
+    off_family : (b : ℕ) (f : Family) → nets n L b ≡ Some f → writes (n.process p) b ≡ false
+    off_family = clocked_off n L (risen_phase n.idle) p k
 
-  pub runs : (q : Queue) → Rested q → Swept n run_turn_of Rested Idle q (below n.count) (each_in run_turn_of n q (below n.count))
-  runs q r = each_swept n run_turn_of Rested Idle (λ x p h. run_ok x p h (x.mode p) refl (kind (n.process p)) refl) (below n.count) q r
+    waits_now : (x : ℕ) → x ≡ p → q_run.mode x ≡ Waiting
+    waits_now x f = subst (λ (y : ℕ). put q_done.mode p Waiting y ≡ Waiting) (sym f) (put-same q_done.mode p Waiting)
+
+    run_clocked : Turned n run_turn_of (Rested values) Idle q p (Run p ∷ [])
+    run_clocked = turned_cons n run_turn_of (Rested values) Idle q q_run p (Run p) [] (λ x. cc) (subst IsBlock (sym k) tt, d) refl
+        (λ x h kx u. same_number x p
+        (λ f. let m = waits_now x f in cc)
+        (λ ne. h kx (sym (acts.calm x ne kx (record { clock = off_family (clock_net (n.process x)) None (clock_net_family n L x kx); reset = λ e o. off_family e.net (Some e.input) (reset_net_family n L x e o) })) ∙ u)))
+        (turned_none n run_turn_of (Rested values) Idle q_run p (record {
+          pending = λ x. ap (λ (f : ℕ → Option (List Write)). f x) done_ch.pending ∙ r.pending x;
+          active = λ x. ap (λ (f : ℕ → List Update). f x) done_ch.active ∙ r.active x;
+          begun = λ x. same_number x p
+              (λ f u. let m = waits_now x f in cc)
+              (λ ne u. not_begun_less q q_done x (done_ch.mode x) (r.begun x) (sym (put-other q_done.mode p Waiting x ne) ∙ u));
+          spent = λ x kx. acts.waiting x (λ f. kx (subst (λ (y : ℕ). kind (n.process y) ≡ AClocked) (sym f) k)) ∙ r.spent x kx;
+          beyond = λ x le. acts.waiting x (λ f. let w = within p (λ e. cc) in absurd (omega arith)) ∙ r.beyond x le;
+          nets = λ c f net. acts.now c (off_family c f net) ∙ r.nets c f net;
+        }) (λ kx u. let m = waits_now p refl in cc))
+
+  run_ok : (values : State) (q : Queue) (p : ℕ) → Rested values q → (m : Mode) → q.mode p ≡ m → (k : Kind) → kind (n.process p) ≡ k → Turned n run_turn_of (Rested values) Idle q p (running m k p)
+  run_ok values q p r Unstarted e k f = turned_none n run_turn_of (Rested values) Idle q p r (λ x u. cc)
+  run_ok values q p r Waiting e k f = turned_none n run_turn_of (Rested values) Idle q p r (λ x u. cc)
+  run_ok values q p r Due e AClocked f = run_clocked values q p r e f
+  run_ok values q p r Due e AnInput f = turned_none n run_turn_of (Rested values) Idle q p r (λ x u. cc)
+  run_ok values q p r Due e TheClock f = turned_none n run_turn_of (Rested values) Idle q p r (λ x u. cc)
+  run_ok values q p r Due e AnAssign f = turned_none n run_turn_of (Rested values) Idle q p r (λ x u. cc)
+  run_ok values q p r Due e AComb f = turned_none n run_turn_of (Rested values) Idle q p r (λ x u. cc)
+
+  pub runs : (values : State) (q : Queue) → Rested values q → Swept n run_turn_of (Rested values) Idle q (below n.count) (each_in run_turn_of n q (below n.count))
+  runs values q r = each_swept n run_turn_of (Rested values) Idle (λ x p h. run_ok values x p h (x.mode p) refl (kind (n.process p)) refl) (below n.count) q r
 
   -- the waiting updates become active, where there are any
   pub data Activation (q : Queue) (cs : List Choice) : Type 0 where

@@ -36,7 +36,7 @@ beyond (suc (suc (suc (suc zero)))) h = absurd (omega arith)
 beyond (suc (suc (suc (suc (suc p))))) h = refl
 
 completed : (choices : List Choice) → is_completed worked worked_start choices ≡ true → IsCompleted worked worked_start choices
-completed choices h = tested_runs_complete worked beyond worked_idle (vector_of One Zero) (vector_of One One ∷ []) choices h
+completed choices h = tested_runs_complete worked beyond (λ p l. (refl, refl)) worked_idle (vector_of One Zero) (vector_of One One ∷ []) choices h
 
 pub worked_run_is : WorkedRun
 worked_run_is = record {

@@ -1,6 +1,6 @@
 -- A bound on the steps of one slot. It is a number of the definitions; no program computes it.
 use Rattle.std.specs.Prelude.{◌≡◌, ◌≢◌, ◌≤◌, ℕ, zero, suc, ◌+◌, ◌*◌, Bool, true, List, [], ◌∷◌, length, if◌then◌else◌, Some, None}
-use Rattle.vs_net.specs.Network.{Reset, reset_of, State, Network, Kind, AnInput, TheClock, AnAssign, AComb, AClocked, kind, writes, listens, clock_net, updates}
+use Rattle.vs_net.specs.Network.{Reset, reset_of, State, Write, Network, Kind, AnInput, TheClock, AnAssign, AComb, AClocked, kind, writes, listens, clock_net, made, updates}
 use Rattle.vs_net.specs.Queue.{Queue, Choice, Next, IsPossible, after}
 
 -- f 0 + .. + f (k - 1)
@@ -12,18 +12,23 @@ sum_below (suc k) f = sum_below k f + f k
 abbrev pub fed_by : ℕ → (ℕ → ℕ → Bool) → (ℕ → ℕ) → ℕ → ℕ
 fed_by count feeds w p = sum_below count (λ q. if feeds q p then w q else 0)
 
--- w: the weight of each input and process, a bound on how often it writes in a slot; r: those of what writes a clocked block's clock net and its reset net, where it has one; size: its number of assignments; feeds: the first writes a bit which the second is sensitive to.
+-- 1 where something is written, else 0
+abbrev pub written_at_once : List Write → ℕ
+written_at_once [] = 0
+written_at_once ws = 1
+
+-- w: the weight of each input and process, a bound on how often it writes in a slot, for a clocked block with what initial processes write; r: those of what writes a clocked block's clock net and its reset net, where it has one; size: the number of its nonblocking assignments, and one more where it has blocking ones; feeds: the first writes a bit which the second is sensitive to.
 pub record IsWeighed (n : Network) (feeds : ℕ → ℕ → Bool) (size w r : ℕ → ℕ) : Type 0 where
   pub fed : (p q b : ℕ) → listens (n.process p) b ≡ true → writes (n.process q) b ≡ true → feeds q p ≡ true
   pub fed_only : (p q : ℕ) → feeds q p ≡ true → (b : ℕ) × (listens (n.process p) b ≡ true) × (writes (n.process q) b ≡ true)
-  pub few : (p : ℕ) (s : State) → kind (n.process p) ≡ AClocked → length (updates (n.process p) s) ≤ size p
+  pub few : (p : ℕ) (s : State) → kind (n.process p) ≡ AClocked → written_at_once (made (n.process p) s) + length (updates (n.process p) s) ≤ size p
   pub input : (p : ℕ) → kind (n.process p) ≡ AnInput → w p ≡ 1
   pub clock : (p : ℕ) → kind (n.process p) ≡ TheClock → w p ≡ 1
   pub assign : (p : ℕ) → kind (n.process p) ≡ AnAssign → w p ≡ 1 + fed_by n.count feeds w p
   pub comb : (p : ℕ) → kind (n.process p) ≡ AComb → w p ≡ fed_by n.count feeds w p
   pub clocked_by : (p q : ℕ) → kind (n.process p) ≡ AClocked → reset_of (n.process p) ≡ None → writes (n.process q) (clock_net (n.process p)) ≡ true → r p ≡ w q
   pub reset_by : (p q x : ℕ) (e : Reset) → reset_of (n.process p) ≡ Some e → writes (n.process q) (clock_net (n.process p)) ≡ true → writes (n.process x) e.net ≡ true → r p ≡ w q + w x
-  pub clocked : (p : ℕ) → kind (n.process p) ≡ AClocked → w p ≡ r p * size p
+  pub clocked : (p : ℕ) → kind (n.process p) ≡ AClocked → w p ≡ r p * size p + (length (n.initial p) + length (n.initial_updates p))
 
 -- the steps of one process in a slot, and the activations that its updates need
 abbrev pub share : Kind → ℕ → ℕ → ℕ

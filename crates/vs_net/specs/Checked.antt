@@ -58,5 +58,5 @@ is_completed n q (c ∷ cs) = is_possible n q c && is_completed n (after n q c) 
 -- where no number from `count` on is a process, a run that passes the test is a completed run
 abbrev pub TestedRunsComplete : Type 0
 TestedRunsComplete =
-    (n : Network) → ((p : ℕ) → n.count ≤ p → n.process p ≡ Input []) → (first v : State) (vs : List State) (choices : List Choice)
+    (n : Network) → ((p : ℕ) → n.count ≤ p → n.process p ≡ Input []) → ((p : ℕ) → n.count ≤ p → (n.initial p ≡ []) × (n.initial_updates p ≡ [])) → (first v : State) (vs : List State) (choices : List Choice)
     → is_completed n (start n first v vs) choices ≡ true → IsCompleted n (start n first v vs) choices

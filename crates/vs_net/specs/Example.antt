@@ -6,7 +6,7 @@ use Rattle.vs_four.specs.declared.Bit4.TheVariants.{Zero, One, X, Z}
 use Rattle.vs_four.specs.Tables.{not_bit}
 use Rattle.vs_net.specs.Network.{State, Write, Process, Input, Clock, Assign, Comb, Clocked, Network}
 use Rattle.vs_net.specs.Queue.{Queue, Choice, start, slots_of, IsFirst, IsCompleted, ends}
-use Rattle.vs_net.specs.Solution.{IsSolution}
+use Rattle.vs_net.specs.Solution.{IsSolution, beginning}
 use Rattle.vs_net.specs.Lawful.{IsLevelOrder}
 use Rattle.vs_net.specs.LevelRun.{level_run}
 use Rattle.vs_net.specs.Laws.{IsKnownVector, AreKnownResets}
@@ -29,7 +29,7 @@ example_idle (suc zero) = Z
 example_idle _ = X
 
 abbrev pub example : Network
-example = record { process = example_process; count = 6; idle = example_idle; sleeper = λ p. None }
+example = record { process = example_process; count = 6; idle = example_idle; initial = λ p. []; initial_updates = λ p. []; sleeper = λ p. None }
 
 -- the values of clk, its port's net, a, y, q and r
 abbrev pub six_bits : State → List Bit4
@@ -52,7 +52,7 @@ example_ends =
 pub record ExampleRuns : Type 0 where
   pub first : IsFirst example example_idle
   pub known : IsKnownVector example (λ b. One)
-  pub runs : (v : State) (vs : List State) → IsKnownVector example v → AreKnownResets example vs → let q = start example example_idle v vs in (choices : List Choice) × IsCompleted example q choices × IsSolution example example_idle (slots_of (v ∷ vs)) (ends example q choices)
+  pub runs : (v : State) (vs : List State) → IsKnownVector example v → AreKnownResets example vs → let q = start example example_idle v vs in (choices : List Choice) × IsCompleted example q choices × IsSolution example (beginning example) (slots_of (v ∷ vs)) (ends example q choices)
   pub level_order : IsLevelOrder example (0 ∷ 1 ∷ 2 ∷ [])
   pub level_ends : map six_bits (ends example example_start (level_run example (0 ∷ 1 ∷ 2 ∷ []) example_start)) ≡ example_ends
 

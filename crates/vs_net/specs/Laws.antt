@@ -2,8 +2,8 @@
 use Rattle.std.specs.Prelude.{◌≡◌, ◌≤◌, ℕ, Bool, true, false, not, ◌||◌, ◌==◌, ◌↔◌, List, [], ◌∷◌, ◌++◌, length, Some}
 use Rattle.std.specs.List.{list_any}
 use Rattle.vs_net.specs.Network.{Reset, reset_of, Sleeper, State, write_all, Network, AnInput, kind, writes, made}
-use Rattle.vs_net.specs.Queue.{Slot, Choice, Run, Next, start, slots_of, IsFirst, IsCompleted, ends}
-use Rattle.vs_net.specs.Solution.{all_x, IsSolution, IsSlotEnd}
+use Rattle.vs_net.specs.Queue.{Slot, Fall, Rise, Choice, Run, Next, start, slots_of, IsFirst, IsCompleted, ends}
+use Rattle.vs_net.specs.Solution.{all_x, beginning, IsSolution, IsSlotEnd}
 use Rattle.vs_net.specs.Settle.{settle, IsFed}
 use Rattle.vs_net.specs.LevelRun.{level_run}
 use Rattle.vs_net.specs.Bound.{IsWeighed, bound, IsPartOfRun, HasNoNext}
@@ -28,12 +28,22 @@ abbrev pub EveryOrder : Type 0
 EveryOrder =
     (n : Network) → IsLawful n → (first v : State) (vs : List State) → IsFirst n first → IsKnownVector n v → AreKnownResets n vs
     → (choices : List Choice) → IsCompleted n (start n first v vs) choices
-    → IsSolution n n.idle (slots_of (v ∷ vs)) (ends n (start n first v vs) choices)
+    → IsSolution n (beginning n) (slots_of (v ∷ vs)) (ends n (start n first v vs) choices)
+
+-- the values have no x and no z in a select net that is a data input's
+abbrev pub HasKnownSelects : (n : Network) → IsLawful n → State → Type 0
+HasKnownSelects n L v = (p b : ℕ) → kind (n.process p) ≡ AnInput → writes (n.process p) b ≡ true → L.selects b ≡ true → IsKnown (v b)
+
+-- and so have all vectors of these slots, and the values before them where the first is a rise
+abbrev pub AreKnownSelects : (n : Network) → IsLawful n → State → List Slot → Type 0
+AreKnownSelects n L before [] = Unit {0}
+AreKnownSelects n L before (Fall v ∷ slots) = HasKnownSelects n L v × AreKnownSelects n L v slots
+AreKnownSelects n L before (Rise ∷ slots) = HasKnownSelects n L before × AreKnownSelects n L before slots
 
 -- the equations have no second solution
 abbrev pub OneSolution : Type 0
 OneSolution =
-    (n : Network) → IsLawful n → (before : State) (slots : List Slot) (xs ys : List State)
+    (n : Network) → (L : IsLawful n) → (before : State) (slots : List Slot) (xs ys : List State) → AreKnownSelects n L before slots
     → IsSolution n before slots xs → IsSolution n before slots ys → xs ≡ ys
 
 -- in each level order the level run is a completed run, and its ends are the solution
@@ -41,7 +51,7 @@ abbrev pub LevelRunIsOne : Type 0
 LevelRunIsOne =
     (n : Network) → IsLawful n → (order : List ℕ) → IsLevelOrder n order
     → (first v : State) (vs : List State) → IsFirst n first → IsKnownVector n v → AreKnownResets n vs
-    → let q = start n first v vs in IsCompleted n q (level_run n order q) × IsSolution n n.idle (slots_of (v ∷ vs)) (ends n q (level_run n order q))
+    → let q = start n first v vs in IsCompleted n q (level_run n order q) × IsSolution n (beginning n) (slots_of (v ∷ vs)) (ends n q (level_run n order q))
 
 -- between two beginnings of slots, before the first and after the last, there are at most `bound` steps, in any order
 abbrev pub SlotsEnd : Type 0
@@ -78,7 +88,7 @@ IsAsTold n p x woken (s ∷ ss) = HasAsTold n p x (woken || not (all_x s x.on)) 
 -- A solution remembers by its values which blocks have been woken: it is as if each slot knew all slots before it.
 abbrev pub HistoryIsInValues : Type 0
 HistoryIsInValues =
-    (n : Network) → IsLawful n → (slots : List Slot) (ss : List State) → IsSolution n n.idle slots ss
+    (n : Network) → IsLawful n → (slots : List Slot) (ss : List State) → IsSolution n (beginning n) slots ss
     → (p : ℕ) (x : Sleeper) → n.sleeper p ≡ Some x → IsAsTold n p x false ss
 
 -- the block has run

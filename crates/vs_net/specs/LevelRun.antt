@@ -39,7 +39,7 @@ abbrev pub is_empty : List Update → Bool
 is_empty [] = true
 is_empty _ = false
 
--- The parts of a slot: the next slot begins, each block starts, a pass over the level order, the activation, the active updates, the due clocked blocks.
+-- The parts of a slot: the next slot begins, each block starts, a pass over the level order, the activation, the active updates, the due clocked blocks. A pass after these settles what they write at once.
 -- Starts, updates and runs go by number: in the network of a design the inputs have the last numbers, so the updates of its clocked blocks come before theirs.
 pub data Sweep : Type 0 where
   Begins Starts Pass Activates Takes Runs : Sweep
@@ -61,8 +61,8 @@ sweeps n order q (s ∷ ss) = sweep n order q s ++ sweeps n order (after_all n q
 -- the slots after slot 0
 abbrev pub slot_sweeps : List Slot → List Sweep
 slot_sweeps [] = []
-slot_sweeps (slot ∷ slots) = Begins ∷ Activates ∷ Takes ∷ Pass ∷ Runs ∷ Activates ∷ Takes ∷ Pass ∷ slot_sweeps slots
+slot_sweeps (slot ∷ slots) = Begins ∷ Activates ∷ Takes ∷ Pass ∷ Runs ∷ Pass ∷ Activates ∷ Takes ∷ Pass ∷ slot_sweeps slots
 
--- the whole run: slot 0, and then the others
+-- the whole run: slot 0, where initial processes write first, and then the others
 abbrev pub level_run : Network → List ℕ → Queue → List Choice
-level_run n order q = sweeps n order q (Starts ∷ Pass ∷ Activates ∷ Takes ∷ Pass ∷ Runs ∷ Activates ∷ Takes ∷ Pass ∷ slot_sweeps q.slots)
+level_run n order q = sweeps n order q (Starts ∷ Takes ∷ Pass ∷ Activates ∷ Takes ∷ Pass ∷ Runs ∷ Pass ∷ Activates ∷ Takes ∷ Pass ∷ slot_sweeps q.slots)

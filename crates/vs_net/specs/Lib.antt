@@ -11,3 +11,7 @@ pub mod Checked
 pub mod Example
 pub mod ResetExample
 pub mod Worked
+pub mod BlockingExample
+pub mod InitialExample
+pub mod SelectExample
+pub mod ClocksExample

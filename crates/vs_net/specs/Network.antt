@@ -73,12 +73,17 @@ pub record Effect : Type 0 where
   pub writes : List Write
   pub updates : List Update
 
--- The second event of a clocked block, an asynchronous reset: the edge of a net, and what the solution needs of it, the bit of the data input that the net copies, and the updates that the reset branch gives. The branch reads no signal, so they are fixed.
+-- The second event of a clocked block, an asynchronous reset: the edge of a net, and what the solution needs of it, the bit of the data input that the net copies, and the blocking writes and the updates that the reset branch gives. The branch reads no signal, so they are fixed.
 pub record Reset : Type 0 where
   pub net : ℕ
   pub edge : Edge
   pub input : ℕ
+  pub writes : List Write
   pub updates : List Update
+
+-- all that the reset branch gives, in the order in which it takes effect: its blocking writes, and then its updates
+abbrev pub branch : Reset → List Update
+branch r = r.writes ∷ r.updates
 
 -- A bit that a process writes but that lies out of its signal's range is no bit, and is in none of these lists.
 pub data Process : Type 0 where
@@ -104,6 +109,10 @@ pub record Network : Type 0 where
   pub count : ℕ
   -- what a bit holds before anything writes it: x in a variable, z in a net (4.2)
   pub idle : State
+  -- what initial processes (9.9.1) write at once to the bits of a clocked block, a list for each of them: it is active from the beginning
+  pub initial : ℕ → List Update
+  -- and what they give these bits by updates, which wait from the beginning
+  pub initial_updates : ℕ → List Update
   -- which combinational blocks may sleep; this is for the solution, and no matter to the queue
   pub sleeper : ℕ → Option Sleeper
 
@@ -158,6 +167,10 @@ abbrev pub updates : Process → State → List Update
 updates (Comb waits targets run) s = (run s).updates
 updates (Clocked clock reset targets run) s = (run s).updates
 updates _ s = []
+
+-- all that a run gives, in the order in which it takes effect: what it writes at once, and then its updates
+abbrev pub effects : Process → State → List Update
+effects process s = made process s ∷ updates process s
 
 -- a write that changes the bit from this value wakes the process where it waits (9.7.2, 11.6.1)
 abbrev pub senses : Process → Bit4 → Write → Bool

@@ -168,15 +168,15 @@ abbrev pub slots_of : List State → List Slot
 slots_of [] = []
 slots_of (v ∷ vs) = Fall v ∷ Rise ∷ slots_of vs
 
--- the beginning of a run, in slot 0: the clock is to fall and the first vector to come
+-- the beginning of a run, in slot 0: the clock is to fall and the first vector to come, and initial processes are to write; when they do, among all else that is to be done before the first activation, is free
 abbrev pub start : Network → State → State → List State → Queue
 start n first v vs =
     record {
       now = first;
       mode = λ p. first_mode (kind (n.process p));
       pending = λ p. None;
-      active = λ p. [];
-      waiting = λ p. drive (n.process p) (Fall v);
+      active = n.initial;
+      waiting = λ p. n.initial_updates p ++ drive (n.process p) (Fall v);
       slots = Rise ∷ slots_of vs;
     }
 

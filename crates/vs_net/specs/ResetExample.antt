@@ -6,7 +6,7 @@ use Rattle.vs_four.specs.declared.Bit4.TheVariants.{Zero, One, X, Z}
 use Rattle.vs_four.specs.Tables.{not_bit, and_bit, same}
 use Rattle.vs_net.specs.Network.{State, Posedge, Reset, Sleeper, Process, Input, Clock, Assign, Comb, Clocked, Network}
 use Rattle.vs_net.specs.Queue.{Queue, Choice, start, slots_of, IsFirst, IsCompleted, ends}
-use Rattle.vs_net.specs.Solution.{IsSolution}
+use Rattle.vs_net.specs.Solution.{IsSolution, beginning}
 use Rattle.vs_net.specs.Lawful.{IsLevelOrder}
 use Rattle.vs_net.specs.LevelRun.{level_run}
 use Rattle.vs_net.specs.Laws.{IsKnownVector, AreKnownResets}
@@ -14,7 +14,7 @@ use Rattle.vs_net.specs.Bound.{IsWeighed, bound}
 use Rattle.vs_net.specs.Example.{one_write}
 
 abbrev pub reset_of_t : Reset
-reset_of_t = record { net = 2; edge = Posedge; input = 1; updates = one_write 3 Zero ∷ [] }
+reset_of_t = record { net = 2; edge = Posedge; input = 1; writes = []; updates = one_write 3 Zero ∷ [] }
 
 -- what t gets: 0 where the reset is active, else its inverse
 abbrev pub next_t : State → Bit4
@@ -37,7 +37,7 @@ reset_sleeper (suc (suc zero)) = Some (record { on = 3 ∷ []; bits = 4 ∷ [] }
 reset_sleeper _ = None
 
 abbrev pub reset_example : Network
-reset_example = record { process = reset_process; count = 5; idle = reset_idle; sleeper = reset_sleeper }
+reset_example = record { process = reset_process; count = 5; idle = reset_idle; initial = λ p. []; initial_updates = λ p. []; sleeper = reset_sleeper }
 
 -- the values of clk, the reset input, its port's net, t and z
 abbrev pub five_bits : State → List Bit4
@@ -63,7 +63,7 @@ pub record ResetRuns : Type 0 where
   pub first : IsFirst reset_example reset_idle
   pub known : IsKnownVector reset_example (λ b. Zero)
   pub resets : AreKnownResets reset_example ((λ b. One) ∷ (λ b. Zero) ∷ [])
-  pub runs : (v : State) (vs : List State) → IsKnownVector reset_example v → AreKnownResets reset_example vs → let q = start reset_example reset_idle v vs in (choices : List Choice) × IsCompleted reset_example q choices × IsSolution reset_example reset_idle (slots_of (v ∷ vs)) (ends reset_example q choices)
+  pub runs : (v : State) (vs : List State) → IsKnownVector reset_example v → AreKnownResets reset_example vs → let q = start reset_example reset_idle v vs in (choices : List Choice) × IsCompleted reset_example q choices × IsSolution reset_example (beginning reset_example) (slots_of (v ∷ vs)) (ends reset_example q choices)
   pub level_order : IsLevelOrder reset_example (0 ∷ 2 ∷ [])
   pub level_ends : map five_bits (ends reset_example reset_start (level_run reset_example (0 ∷ 2 ∷ []) reset_start)) ≡ reset_ends
 

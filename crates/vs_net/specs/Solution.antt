@@ -1,31 +1,54 @@
 -- The equations of a design, slot by slot: the values at the end of each slot, with no queue.
-use Rattle.std.specs.Prelude.{◌≡◌, ℕ, Bool, true, false, List, [], ◌∷◌, ◌++◌, ◌&&◌, map, Option, Some, None, if◌then◌else◌}
+use Rattle.std.specs.Prelude.{◌≡◌, ℕ, zero, suc, Bool, true, false, List, [], ◌∷◌, ◌++◌, ◌&&◌, map, Option, Some, None, if◌then◌else◌}
 use Rattle.vs_four.specs.declared.Bit4.TheVariants.{X}
 use Rattle.vs_four.specs.Tables.{same}
-use Rattle.vs_net.specs.Network.{Sleeper, State, Write, Update, write_all, flatten, Reset, to_value, Process, Clocked, Network, Kind, AnInput, TheClock, AClocked, kind, writes, made}
+use Rattle.vs_net.specs.Network.{Sleeper, State, Write, Update, write_all, flatten, Reset, branch, to_value, Process, Clocked, Network, Kind, AnInput, TheClock, AnAssign, AComb, AClocked, kind, writes, made, effects}
 use Rattle.vs_net.specs.Queue.{Slot, Fall, Rise, drive}
 
--- a writer: an input or a clocked block, which writes by nonblocking updates (9.2.2)
+-- a writer: an input, which writes by nonblocking updates (9.2.2), or a clocked block, which may write at once too (9.2.1)
 abbrev pub IsWriter : Kind → Type 0
 IsWriter AnInput = Unit {0}
 IsWriter TheClock = Unit {0}
 IsWriter AClocked = Unit {0}
 IsWriter _ = ⊥
 
--- the updates of the reset branch, where the vector has the reset input active
-abbrev pub reset_updates : Option Reset → State → List Update
-reset_updates None vector = []
-reset_updates (Some r) vector = if same (vector r.input) (to_value r.edge) then r.updates else []
+-- the values after these updates of the processes below a number
+abbrev pub after_initial : (ℕ → List Update) → ℕ → State → State
+after_initial initial zero s = s
+after_initial initial (suc k) s = write_all (after_initial initial k s) (flatten (initial k))
 
--- The updates of a clocked block: where the clock rises those of its run, on the values at the end of the slot before, and where it falls those of its reset.
-abbrev pub clocked_updates : Process → Slot → State → List Update
-clocked_updates (Clocked clock reset targets run) Rise before = (run before).updates
-clocked_updates (Clocked clock reset targets run) (Fall vector) before = reset_updates reset vector
-clocked_updates _ _ _ = []
+-- the values before the first activation: a bit is idle, or has what initial processes write to it at once
+abbrev pub at_first : Network → State
+at_first n = after_initial n.initial n.count n.idle
 
--- the values after all updates of a writer in a slot, in their order
+-- all that initial processes write, in the order in which it takes effect
+abbrev pub all_initial : Network → ℕ → List Update
+all_initial n p = n.initial p ++ n.initial_updates p
+
+-- the values before slot 0: a bit is idle, or has what initial processes leave in it
+abbrev pub beginning : Network → State
+beginning n = after_initial (all_initial n) n.count n.idle
+
+-- an assign or a combinational block
+abbrev pub Settles : Kind → Type 0
+Settles AnAssign = Unit {0}
+Settles AComb = Unit {0}
+Settles _ = ⊥
+
+-- what the reset branch gives, where the vector has the reset input active
+abbrev pub reset_effects : Option Reset → State → List Update
+reset_effects None vector = []
+reset_effects (Some r) vector = if same (vector r.input) (to_value r.edge) then branch r else []
+
+-- What a clocked block gives, its blocking writes and then its updates: where the clock rises that of its run, on the values at the end of the slot before, and where it falls that of its reset.
+abbrev pub clocked_effects : Process → Slot → State → List Update
+clocked_effects (Clocked clock reset targets run) Rise before = effects (Clocked clock reset targets run) before
+clocked_effects (Clocked clock reset targets run) (Fall vector) before = reset_effects reset vector
+clocked_effects _ _ _ = []
+
+-- the values after all that a writer writes in a slot, in its order
 abbrev pub driven : Process → Slot → State → State
-driven process slot before = write_all before (flatten (drive process slot ++ clocked_updates process slot before))
+driven process slot before = write_all before (flatten (drive process slot ++ clocked_effects process slot before))
 
 -- each of these bits is x
 abbrev pub all_x : State → List ℕ → Bool
@@ -49,8 +72,8 @@ given n before p s = if is_asleep (n.sleeper p) before s then blank (made (n.pro
 -- s are the values at the end of the slot, where those at its beginning were before
 pub record IsSlotEnd (n : Network) (before : State) (slot : Slot) (s : State) : Type 0 where
   -- Each assign's target has the value of its right side (6.1), and each combinational block's bits have what its statement gives from what it reads, or x as long as it sleeps.
-  pub settled : (p : ℕ) → write_all s (given n before p s) ≡ s
-  -- inputs have the drive's last values, and registers what the updates of their block give
+  pub settled : (p : ℕ) → Settles (kind (n.process p)) → write_all s (given n before p s) ≡ s
+  -- inputs have the drive's last values, and registers what the run of their block gives
   pub updated : (p b : ℕ) → IsWriter (kind (n.process p)) → writes (n.process p) b ≡ true → s b ≡ driven (n.process p) slot before b
   -- a bit that no process writes stays: z in a net, x in a variable (4.2)
   pub kept : (b : ℕ) → ((p : ℕ) → writes (n.process p) b ≡ false) → s b ≡ before b

@@ -3,11 +3,15 @@
 //! The crate runs nothing. Its definitions stand in `specs/`, and each law about them is the contract of a function without parameters and with an empty body. `docs/queue.md` says all of it in plain words.
 #![tactic(auto)]
 
+ghost use Rattle.vs_net.specs.BlockingExample.{BlockingRuns, RaceRuns};
 ghost use Rattle.vs_net.specs.Checked.{TestedRunsComplete};
+ghost use Rattle.vs_net.specs.ClocksExample.{ClocksRun};
 ghost use Rattle.vs_net.specs.Example.{ExampleIsBounded, ExampleRuns, example};
+ghost use Rattle.vs_net.specs.InitialExample.{InitialRuns};
 ghost use Rattle.vs_net.specs.ResetExample.{ResetIsBounded, ResetRuns, reset_example};
 ghost use Rattle.vs_net.specs.Lawful.{IsLawful};
 ghost use Rattle.vs_net.specs.Laws.{EveryOrder, HistoryIsInValues, LevelRunIsOne, OnePassSettles, OneSolution, RunsEnd, SleepersWake, SlotsEnd};
+ghost use Rattle.vs_net.specs.SelectExample.{SelectRuns};
 ghost use Rattle.vs_net.specs.Steps.{EachHasItsParts, NegedgeTable, OnePending, PosedgeTable, Regions, Waking};
 ghost use Rattle.vs_net.specs.Worked.{WorkedRun};
 
@@ -18,7 +22,7 @@ pub fn order_law()
     ensures { EveryOrder }
 {}
 
-/// The equations of a lawful network have no second solution.
+/// The equations of a lawful network have no second solution, where the vectors are known in select nets.
 pub fn unique_law()
     ensures { OneSolution }
 {}
@@ -83,6 +87,31 @@ pub fn reset_runs_law()
 /// That network has weights, by which a slot of it takes at most 22 steps.
 pub fn reset_bound_law()
     ensures { ResetIsBounded }
+{}
+
+/// A network with a clocked block that writes at once, and an assign and another block beside it, is lawful. It has completed runs, which end with the solution, and one of them ends its slots with values that were worked by hand; by its weights a slot of it takes at most 20 steps.
+pub fn blocking_example_law()
+    ensures { BlockingRuns }
+{}
+
+/// Where a clocked block reads what another one writes at once, two completed runs of the same vector end otherwise; so such a network isn't lawful.
+pub fn race_law()
+    ensures { RaceRuns }
+{}
+
+/// A network with registers that have initial values, one at once and one by an update, and a block that reads one, is lawful. It has completed runs, which end with the solution; three of them, in which the initial process writes before the block starts, as it does so and after it, end their slots with values that were worked by hand.
+pub fn initial_example_law()
+    ensures { InitialRuns }
+{}
+
+/// A network with a block that assigns its bit only where its selector is known is lawful, and has a completed run that ends its slots with values that were worked by hand. Where a vector makes the selector x, two completed runs end otherwise.
+pub fn select_example_law()
+    ensures { SelectRuns }
+{}
+
+/// A network with two clocks in step is lawful, and has a completed run that ends its slots with values that were worked by hand.
+pub fn clocks_example_law()
+    ensures { ClocksRun }
 {}
 
 /// Of the sixteen changes of a bit exactly five are posedges: 0 to 1, 0 to x, 0 to z, x to 1 and z to 1 (9.7.2).

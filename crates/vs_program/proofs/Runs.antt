@@ -1,8 +1,10 @@
 -- A program of a design gives the solution.
-use Rattle.std.proofs.Common.{ℕ, Bool, true, false, List, [], ◌∷◌, map, subst}
+use Rattle.std.proofs.Common.{◌≡◌, ℕ, Bool, true, false, List, [], ◌∷◌, map, sym, ◌∙◌, subst, refl}
+use mathlib.Core.Path.{fun_ext}
 use Rattle.vs_net.specs.Network as N
 use Rattle.vs_net.specs.Queue.{Fall, Rise, slots_of}
-use Rattle.vs_net.specs.Solution.{IsSolution}
+use Rattle.vs_net.specs.Solution.{beginning, IsSolution}
+use Rattle.vs_net.proofs.Beginning.{begins_none}
 use Rattle.vs_design.specs.Designs.{Design}
 use Rattle.vs_design.specs.Networks.{network_of}
 use Rattle.vs_code.specs.Calls.{State}
@@ -11,6 +13,10 @@ use Rattle.vs_program.specs.Masks.{HaveMasks}
 use Rattle.vs_program.specs.Program.{Program, values, initial_slots}
 use Rattle.vs_program.specs.Compiled.{IsProgramOf, IsEnd, IsReached, EndsAreReached}
 use Rattle.vs_program.specs.Runs.{IsFall, AreRounds, RoundsSolve}
+
+-- the network of a design has no initial processes, so each of its bits begins idle
+begins_idle : (d : Design) (clock : ℕ) → beginning (network_of d clock) ≡ (network_of d clock).idle
+begins_idle d clock = fun_ext (begins_none (network_of d clock) (λ p. refl))
 
 pub ends_are_reached : EndsAreReached
 ends_are_reached d clock p before slot after end = record {
@@ -44,9 +50,9 @@ module _ (d : Design) (clock : ℕ) (p : Program) (is : IsProgramOf d clock p) w
       (low_end.ends, (high_end.ends, solve true high (ends_are_reached d clock p low Rise high high_end) vs ends rounds.2))
 
   solves : (vs : List N.State) (ends : List State) → AreRounds false p (initial_slots p) vs ends
-      → IsSolution (network_of d clock) (network_of d clock).idle (slots_of vs) (map (values p.bits) ends)
+      → IsSolution (network_of d clock) (beginning (network_of d clock)) (slots_of vs) (map (values p.bits) ends)
   unfolding MayBegin
-  solves vs ends rounds = subst (λ (s : N.State). IsSolution (network_of d clock) s (slots_of vs) (map (values p.bits) ends)) is.idle
+  solves vs ends rounds = subst (λ (s : N.State). IsSolution (network_of d clock) s (slots_of vs) (map (values p.bits) ends)) (is.idle ∙ sym (begins_idle d clock))
       (solve false (initial_slots p) (is.constants, is.begins) vs ends rounds)
 
 pub rounds_solve : RoundsSolve

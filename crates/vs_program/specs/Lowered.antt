@@ -1,11 +1,11 @@
 -- What the calls of one process do to a lane: the contract between the lowering of processes and the programs made of them.
 --
 -- Slots of a lane: 0 1 2 3 hold the constants 0 1 x z; bit b of the design is slot `home b`; each register bit has a second slot, `shadow b`, for its next value; each sleeping block has a mask; from `first_temp` on there are temporaries, used anew by each process.
-use Rattle.std.specs.Prelude.{◌≡◌, ℕ, ◌+◌, ◌<◌, ◌≤◌, Bool, true, not, ◌||◌, ◌⊎◌, List, [], All, Option, if◌then◌else◌}
+use Rattle.std.specs.Prelude.{◌≡◌, ℕ, ◌+◌, ◌<◌, ◌≤◌, Bool, true, not, ◌||◌, ◌⊎◌, List, [], ◌∷◌, All, Option, if◌then◌else◌}
 use Rattle.vs_four.specs.declared.Bit4.TheVariants.{Zero, One, X, Z}
 use Rattle.vs_four.specs.Tables.{same}
 use Rattle.vs_net.specs.Network as N
-use Rattle.vs_net.specs.Solution.{all_x, blank, reset_updates}
+use Rattle.vs_net.specs.Solution.{all_x, blank, reset_effects}
 use Rattle.vs_design.specs.Designs as D
 use Rattle.vs_design.specs.Footprints.{contains, writes_of}
 use Rattle.vs_design.specs.Sizes.{distinct, process_weight}
@@ -52,13 +52,17 @@ abbrev pub updates_of : D.Process → N.State → List N.Update
 updates_of (D.Continuous place port target_place target e) s = []
 updates_of (D.Always place star events statement) s = (body statement s).updates
 
+-- all that a run of it gives, by its text alone: what it writes at once, and then its updates
+abbrev pub effects_of : D.Process → N.State → List N.Update
+effects_of p s = made_of p s ∷ updates_of p s
+
 -- what one execution of a process's calls does to a lane, from any values of the bits
 pub record IsRun (l : Layout) (p : D.Process) (before after : State) : Type 0 where
   -- the bits have what they have after its writes at once; a bit that it doesn't write has what it had
   pub bits : (b : ℕ) → b < l.bits → after (home b) ≡ N.write_all (bits_of before) (made_of p (bits_of before)) b
-  -- of a clocked block the shadow of each bit that it writes has what the bit has after all its updates
+  -- of a clocked block the shadow of each bit that it writes has what the bit has after all that it gives
   pub shadows : D.is_clocked p ≡ true → (b : ℕ) → contains (writes_of p) b ≡ true
-      → after (l.shadow b) ≡ N.write_all (bits_of before) (N.flatten (updates_of p (bits_of before))) b
+      → after (l.shadow b) ≡ N.write_all (bits_of before) (N.flatten (effects_of p (bits_of before))) b
   -- all other slots below the temporaries stay: the constants, the shadows of other bits, and the masks
   pub constants : (slot : ℕ) → slot < 4 → after slot ≡ before slot
   pub others : (slot : ℕ) → home l.bits ≤ slot → slot < l.first_temp
@@ -78,7 +82,7 @@ pub record IsLoweredProcess (l : Layout) (p : D.Process) (calls : List Call) : T
 
 -- What one execution of the calls of a reset does to a lane, where the data inputs have the vector's values: where the reset is active, the bits that its branch sets have the last of its values. All else below the temporaries stays.
 pub record IsResetRun (l : Layout) (reset : Option N.Reset) (before after : State) : Type 0 where
-  pub bits : (b : ℕ) → b < l.bits → after (home b) ≡ N.write_all (bits_of before) (N.flatten (reset_updates reset (bits_of before))) b
+  pub bits : (b : ℕ) → b < l.bits → after (home b) ≡ N.write_all (bits_of before) (N.flatten (reset_effects reset (bits_of before))) b
   pub constants : (slot : ℕ) → slot < 4 → after slot ≡ before slot
   pub others : (slot : ℕ) → home l.bits ≤ slot → slot < l.first_temp → after slot ≡ before slot
 

@@ -2,7 +2,7 @@
 use Rattle.std.specs.Prelude.{ℕ, Bool, true, false, List, [], ◌∷◌, map, if◌then◌else◌}
 use Rattle.vs_net.specs.Network as N
 use Rattle.vs_net.specs.Queue.{slots_of}
-use Rattle.vs_net.specs.Solution.{IsSolution}
+use Rattle.vs_net.specs.Solution.{beginning, IsSolution}
 use Rattle.vs_design.specs.Designs.{Design}
 use Rattle.vs_design.specs.Networks.{network_of}
 use Rattle.vs_code.specs.Calls.{Call, State, AreCalled}
@@ -38,4 +38,4 @@ abbrev pub RoundsSolve : Type 0
 RoundsSolve =
     (d : Design) (clock : ℕ) (p : Program) → IsProgramOf d clock p → (vectors : List N.State) (ends : List State)
     → AreRounds false p (initial_slots p) vectors ends
-    → IsSolution (network_of d clock) (network_of d clock).idle (slots_of vectors) (map (values p.bits) ends)
+    → IsSolution (network_of d clock) (beginning (network_of d clock)) (slots_of vectors) (map (values p.bits) ends)

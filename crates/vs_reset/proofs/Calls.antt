@@ -9,7 +9,7 @@ use Rattle.vs_four.specs.declared.Bit4.{Bit4}
 use Rattle.vs_four.specs.declared.Bit4.TheVariants.{Zero, One, X, Z}
 use Rattle.vs_four.specs.Tables.{same, is_one}
 use Rattle.vs_four.specs.Logic.{truth}
-use Rattle.vs_net.specs.Network.{Edge, Posedge, Negedge, Reset, Write, to_value, write_all, is_written, flatten}
+use Rattle.vs_net.specs.Network.{Edge, Posedge, Negedge, Reset, branch, Write, to_value, write_all, is_written, flatten}
 use Rattle.vs_design.specs.Designs.{Process, is_clocked}
 use Rattle.vs_design.specs.Footprints.{contains, writes_of}
 use Rattle.vs_design.specs.Sizes.{distinct, process_weight, size}
@@ -99,22 +99,22 @@ written [] b = refl
 written (w ∷ ws) b = ap (λ c. (b == w.bit) || c) (written ws b)
 
 -- the value that a reset gives, active or not
-active_value : WritesAre → (r : Reset) (s : State) (b : ℕ) (v : Bit4) (c : Bool) → is_written (flatten r.updates) b ≡ true → (if c then set_value r b else s b) ≡ write_all s (flatten (if c then r.updates else [])) b
+active_value : WritesAre → (r : Reset) (s : State) (b : ℕ) (v : Bit4) (c : Bool) → is_written (flatten (branch r)) b ≡ true → (if c then set_value r b else s b) ≡ write_all s (flatten (if c then branch r else [])) b
 unfolding write_all flatten
-active_value law r s b v true h = law.covered (flatten r.updates) (λ c. X) s b h
+active_value law r s b v true h = law.covered (flatten (branch r)) (λ c. X) s b h
 active_value law r s b v false h = refl
 
-idle_value : WritesAre → (r : Reset) (s : State) (b : ℕ) (c : Bool) → is_written (flatten r.updates) b ≡ false → s b ≡ write_all s (flatten (if c then r.updates else [])) b
+idle_value : WritesAre → (r : Reset) (s : State) (b : ℕ) (c : Bool) → is_written (flatten (branch r)) b ≡ false → s b ≡ write_all s (flatten (if c then branch r else [])) b
 unfolding write_all flatten
-idle_value law r s b true h = sym (law.other (flatten r.updates) s b h)
+idle_value law r s b true h = sym (law.other (flatten (branch r)) s b h)
 idle_value law r s b false h = refl
 
 pub none_at : {P : Type 0} (k : ℕ) → k < length {A = ℕ} [] → P
 none_at k l = absurd (omega arith)
 
 module _ (law : WritesAre) (l : Layout) (r : Reset) (bits : List ℕ) (has : HasEachOnce (bits_of_reset (Some r)) bits) (temps : home l.bits ≤ l.first_temp) (input : r.input < l.bits) (low : (b : ℕ) → contains bits b ≡ true → b < l.bits) where
-  set_is : (b : ℕ) → contains bits b ≡ is_written (flatten r.updates) b
-  set_is b = has.has b ∙ written (flatten r.updates) b
+  set_is : (b : ℕ) → contains bits b ≡ is_written (flatten (branch r)) b
+  set_is b = has.has b ∙ written (flatten (branch r)) b
 
   home_in : (s : ℕ) → contains (map home bits) s ≡ true → (4 ≤ s) × (s < home l.bits)
   home_in s h = let p = in_map home bits s h in let under = low p.0 p.1 in (omega (arith, p.2), omega (arith, p.2, under))
@@ -370,7 +370,7 @@ module _ (law : WritesAre) (l : Layout) (r : Reset) (bits : List ℕ) (has : Has
 -- a reset that sets nothing does nothing
 idle_run : WritesAre → (l : Layout) (r : Reset) → HasEachOnce (bits_of_reset (Some r)) [] → (before after : State) → AreCalled [] before after → IsResetRun l (Some r) before after
 idle_run law l r has before after called = record {
-  bits = λ b h. called (home b) ∙ idle_value law r (bits_of before) b (same (before (home r.input)) (to_value r.edge)) (sym (has.has b ∙ written (flatten r.updates) b));
+  bits = λ b h. called (home b) ∙ idle_value law r (bits_of before) b (same (before (home r.input)) (to_value r.edge)) (sym (has.has b ∙ written (flatten (branch r)) b));
   constants = λ slot h. called slot;
   others = λ slot h k. called slot;
 }

@@ -11,7 +11,7 @@ use Rattle.vs_four.specs.declared.Bit4.{Bit4}
 use Rattle.vs_four.specs.declared.Bit4.TheVariants.{Zero, One, X, Z}
 use Rattle.vs_four.specs.Tables.{same, same_bit, and_bit, not_bit, of_bool, is_one}
 use Rattle.vs_four.specs.Logic.{truth, fold_with, map2, identical}
-use Rattle.vs_net.specs.Network.{Sleeper, Write, write_all, is_written, made}
+use Rattle.vs_net.specs.Network.{Sleeper, Write, write_all, is_written, writes, made}
 use Rattle.vs_net.specs.Network as N
 use Rattle.vs_net.specs.Solution.{all_x, blank}
 use Rattle.vs_net.specs.Lawful.{Settles}
@@ -620,7 +620,7 @@ module _ (fewer : FewAreApart) (lawful : AcceptedIsLawful) (footprint : BitsOfDe
         written = λ t b.
             ap (λ ws. is_written ws b) (sym (made_is d a.clock.first x t))
             ∙ sym (ap (λ (q : N.Process). is_written (made q t) b) (process_number d a.clock.first p x e))
-            ∙ L.exact p b t (subst Settles (sym is.comb) tt)
+            ∙ exactly b t
             ∙ sym (is.bits_is b)
             ∙ sym (bits_is.has b);
         once = bits_is.once;
@@ -629,6 +629,17 @@ module _ (fewer : FewAreApart) (lawful : AcceptedIsLawful) (footprint : BitsOfDe
         wakes = λ b k. fewer (waits_of x) (b ∷ []) (refl, tt) (λ c u. first_or b [] c u (λ same. ap (contains (waits_of x)) same ∙ sym (on_is.has b) ∙ k) (λ none. absurd (nothing_there c none)));
       }
     where
+      -- it writes each of its bits, and no other
+      exactly : (b : ℕ) (t : N.State) → is_written (made ((network_of d a.clock.first).process p) t) b ≡ writes ((network_of d a.clock.first).process p) b
+      exactly b t =
+          let L = lawful d name a in
+          let is = L.sleepers p (record { on = waits_of x; bits = writes_of x }) (ap (sleeper_of d) e ∙ ap (λ (c : Bool). sleeper_if c x) h) in
+          by_test (writes ((network_of d a.clock.first).process p) b)
+          (λ w. is.exact b t w ∙ sym w)
+          (λ w. by_test (is_written (made ((network_of d a.clock.first).process p) t) b)
+          (λ u. absurd (both_ways (writes ((network_of d a.clock.first).process p) b) w (L.own p b t (subst Settles (sym is.comb) tt) u)))
+          (λ u. u ∙ sym w))
+
       below : (b : ℕ) → contains (all_reads x ++ (writes_of x ++ waits_of x)) b ≡ true → b < l.bits
       below b k = subst (λ m. b < m) (sym layout.bits) (footprint d a.lawful p x e b k)
 

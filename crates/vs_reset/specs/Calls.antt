@@ -2,7 +2,7 @@
 use Rattle.std.specs.Prelude.{◌≡◌, ℕ, suc, ◌+◌, ◌≤◌, ◌^◌, true, List, [], ◌∷◌, map, length, Some, None, slice_get}
 use Rattle.vs_four.specs.declared.Bit4.{Bit4}
 use Rattle.vs_four.specs.declared.Bit4.TheVariants.{Zero, One, X, Z}
-use Rattle.vs_net.specs.Network.{Edge, Posedge, Negedge, Reset, write_all, flatten}
+use Rattle.vs_net.specs.Network.{Edge, Posedge, Negedge, Reset, branch, write_all, flatten}
 use Rattle.vs_design.specs.Values.{count_from}
 use Rattle.vs_design.specs.Designs.{Process, is_clocked, Design}
 use Rattle.vs_design.specs.Resets.{reset_of}
@@ -25,9 +25,9 @@ constant_slot One = 1
 constant_slot X = 2
 constant_slot Z = 3
 
--- the last value that a reset gives a bit
+-- the last value that a reset gives a bit, at once or by an update
 abbrev pub set_value : Reset → ℕ → Bit4
-set_value r b = write_all (λ c. X) (flatten r.updates) b
+set_value r b = write_all (λ c. X) (flatten (branch r)) b
 
 -- the kernel that gives 1 where the input has the value to which this edge goes, and 0 or an unknown value elsewhere
 abbrev pub condition_kernel : Edge → AnyKernel

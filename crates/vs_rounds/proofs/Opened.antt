@@ -13,6 +13,7 @@ use Rattle.vs_waves.specs.Wave.{Wave, IsNewWave}
 use Rattle.vs_waves.specs.Puts.{wave_place}
 use Rattle.vs_rounds.specs.Lanes.{Run, reading_of, network, Simulation, wave_at, closed, IsRead, IsUnread, IsWaveAt, HaveNext, HaveVectors, AreOpened, AreBegun}
 use Rattle.vs_rounds.specs.Ready.{AreParts, IsReady}
+use Rattle.vs_rounds.proofs.Beginning.{begins_idle}
 use Rattle.vs_rounds.proofs.Settled.{in_time}
 use Rattle.vs_rounds.proofs.Waves.{not_ended}
 use Rattle.vs_rounds.proofs.Rounded.{remaining_left, given_left, still_taken}
@@ -34,7 +35,7 @@ new_wave run r w now text h idle empty = record {
   half_is = h.half_is;
   handed_out = h.left_is;
   is_open = h.opened ∙ sym (ap not (not_ended r 0 (omega arith)));
-  now_is = λ _. idle;
+  now_is = λ _. idle ∙ sym (begins_idle run.design run.clock);
   last_is = λ some _. absurd (omega arith);
 }
 

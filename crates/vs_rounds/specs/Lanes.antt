@@ -2,6 +2,7 @@
 use Rattle.std.specs.Prelude.{◌≡◌, ℕ, suc, ◌<◌, ◌≤◌, Bool, true, false, not, List, [], length, drop, slice_index_or, None}
 use Rattle.vs_four.specs.Lengths.{last_or}
 use Rattle.vs_net.specs.Network.{State, Network}
+use Rattle.vs_net.specs.Solution.{beginning}
 use Rattle.vs_design.specs.Designs.{Design}
 use Rattle.vs_design.specs.Networks.{network_of}
 use Rattle.vs_desk.specs.Desk.{Contents}
@@ -73,7 +74,7 @@ pub record IsWaveAt (run : Run) (r : Reading) (k : ℕ) (w : Wave) (now : State)
   pub half_is : w.dump.half ≡ run.half
   pub handed_out : w.dump.left ≡ []
   pub is_open : w.is_open ≡ not (has_ended r k)
-  pub now_is : k ≤ length r.vectors → now ≡ last_or (network run).idle given.ends
+  pub now_is : k ≤ length r.vectors → now ≡ last_or (beginning (network run)) given.ends
   pub last_is : 0 < k → k ≤ length r.vectors → w.dump.last ≡ values_of run.design now
 
 -- The stimulus of lane i has given this many vectors, and its text was read up to there.

@@ -21,50 +21,68 @@ use Rattle.vs_shape.specs.Gathered.{walked_expression, walked_target, walked_ite
 use Rattle.vs_shape.proofs.Names.{and_both}
 use Rattle.vs_shape.proofs.Gathering.{signals_bits-append}
 
-pub walked_assignment : (w : Walk) (place : ℕ) (t : T.Target) (e : E.Expression) (b : Bool) → walked_statement w (T.Assignment place t e b) ≡ walked_target w t ++ walked_expression w e
+pub walked_assignment : (w : Walk) (place : ℕ) (t : T.Target) (e : E.Expression) (b : Bool) → walked_statement w (T.Assignment place t e b) ≡ walked_target w b t ++ walked_expression w e
 walked_assignment W.Writes place t e b = sym (append-nil (target_bits t))
+walked_assignment W.Blocking place t e b = sym (append-nil (walked_target W.Blocking b t))
+walked_assignment W.Nonblocking place t e b = sym (append-nil (walked_target W.Nonblocking b t))
 walked_assignment W.Reads place t e b = refl
 walked_assignment W.Signals place t e b = signals_bits-append (target_signals t) (read_signals e)
 
 pub walked_if : (w : Walk) (c : E.Expression) (s t : T.Statement) → walked_statement w (T.If c s t) ≡ walked_expression w c ++ (walked_statement w s ++ walked_statement w t)
 walked_if W.Writes c s t = refl
+walked_if W.Blocking c s t = refl
+walked_if W.Nonblocking c s t = refl
 walked_if W.Reads c s t = refl
 walked_if W.Signals c s t =
     signals_bits-append (read_signals c) (statement_signals s ++ statement_signals t) ∙ ap (λ bs. signals_bits (read_signals c) ++ bs) (signals_bits-append (statement_signals s) (statement_signals t))
 
 pub walked_case : (w : Walk) (k : T.CaseKind) (e : E.Expression) (arms : T.Arms) → walked_statement w (T.Case k e arms) ≡ walked_expression w e ++ walked_arms w arms
 walked_case W.Writes k e arms = refl
+walked_case W.Blocking k e arms = refl
+walked_case W.Nonblocking k e arms = refl
 walked_case W.Reads k e arms = refl
 walked_case W.Signals k e arms = signals_bits-append (read_signals e) (arms_signals arms)
 
 walked_arm : (w : Walk) (items : List E.Expression) (s : T.Statement) (rest : T.Arms) → walked_arms w (T.Arm items s rest) ≡ walked_items w items ++ (walked_statement w s ++ walked_arms w rest)
 walked_arm W.Writes items s rest = refl
+walked_arm W.Blocking items s rest = refl
+walked_arm W.Nonblocking items s rest = refl
 walked_arm W.Reads items s rest = refl
 walked_arm W.Signals items s rest =
     signals_bits-append (items_signals items) (statement_signals s ++ arms_signals rest) ∙ ap (λ bs. signals_bits (items_signals items) ++ bs) (signals_bits-append (statement_signals s) (arms_signals rest))
 
 pub walked_default : (w : Walk) (s : T.Statement) → walked_arms w (T.Default s) ≡ walked_statement w s
 walked_default W.Writes s = refl
+walked_default W.Blocking s = refl
+walked_default W.Nonblocking s = refl
 walked_default W.Reads s = refl
 walked_default W.Signals s = refl
 
 pub walked_empty : (w : Walk) → walked_statement w T.Empty ≡ []
 walked_empty W.Writes = refl
+walked_empty W.Blocking = refl
+walked_empty W.Nonblocking = refl
 walked_empty W.Reads = refl
 walked_empty W.Signals = refl
 
 walked_then : (w : Walk) (s t : T.Statement) → walked_statement w (T.Then s t) ≡ walked_statement w s ++ walked_statement w t
 walked_then W.Writes s t = refl
+walked_then W.Blocking s t = refl
+walked_then W.Nonblocking s t = refl
 walked_then W.Reads s t = refl
 walked_then W.Signals s t = signals_bits-append (statement_signals s) (statement_signals t)
 
 pub walked_no_items : (w : Walk) → walked_items w [] ≡ []
 walked_no_items W.Writes = refl
+walked_no_items W.Blocking = refl
+walked_no_items W.Nonblocking = refl
 walked_no_items W.Reads = refl
 walked_no_items W.Signals = refl
 
 walked_item : (w : Walk) (e : E.Expression) (es : List E.Expression) → walked_items w (e ∷ es) ≡ walked_expression w e ++ walked_items w es
 walked_item W.Writes e es = refl
+walked_item W.Blocking e es = refl
+walked_item W.Nonblocking e es = refl
 walked_item W.Reads e es = refl
 walked_item W.Signals e es = signals_bits-append (read_signals e) (items_signals es)
 

@@ -19,6 +19,10 @@ use vs_flat::Statement;
 pub enum Walk {
     /// The bits that it writes.
     Writes,
+    /// Those that it writes by `=`.
+    Blocking,
+    /// Those that it writes by `<=`.
+    Nonblocking,
     /// The bits that it reads, in its targets' indices too.
     Reads,
     /// All bits of each signal that it names in reading, whether or not such a bit is in range.
@@ -33,20 +37,40 @@ impl Shapes {
         ensures { OnOk result (out.new.items ≡ out.old.items ++ walked_expression walk (tree_of self.now e)) }
     {
         match walk {
-            Walk::Writes => Ok(()),
+            Walk::Writes | Walk::Blocking | Walk::Nonblocking => Ok(()),
             Walk::Reads => self.push_reads(e, false, out),
             Walk::Signals => self.push_reads(e, true, out),
         }
     }
 
-    /// Adds what a statement's walk gathers of a target.
-    fn push_in_target(&self, e: u32, walk: Walk, out: &mut Vec<u32>) -> Result<(), AllocError>
+    /// Adds what a statement's walk gathers of the target of an assignment, by `=` or not.
+    fn push_in_target(
+        &self,
+        e: u32,
+        blocking: bool,
+        walk: Walk,
+        out: &mut Vec<u32>,
+    ) -> Result<(), AllocError>
         requires there { e < length self.now.nodes }
         requires target { IsTarget (tree_of self.now e) }
-        ensures { OnOk result (out.new.items ≡ out.old.items ++ walked_target walk (target_tree (tree_of self.now e))) }
+        ensures { OnOk result (out.new.items ≡ out.old.items ++ walked_target walk blocking (target_tree (tree_of self.now e))) }
     {
         match walk {
             Walk::Writes => self.push_target(e, out),
+            Walk::Blocking => {
+                if blocking {
+                    self.push_target(e, out)
+                } else {
+                    Ok(())
+                }
+            }
+            Walk::Nonblocking => {
+                if blocking {
+                    Ok(())
+                } else {
+                    self.push_target(e, out)
+                }
+            }
             Walk::Reads => self.push_target_reads(e, false, out),
             Walk::Signals => self.push_target_reads(e, true, out),
         }
@@ -72,8 +96,12 @@ impl Shapes {
     {
         match statement_of(self.flat(), s) {
             Statement::Empty => Ok(()),
-            Statement::Assign { target, expr, .. } => {
-                self.push_in_target(*target, walk, out)?;
+            Statement::Assign {
+                target,
+                expr,
+                blocking,
+            } => {
+                self.push_in_target(*target, *blocking, walk, out)?;
                 self.push_in_expression(*expr, walk, out)
             }
             Statement::If { c, yes, no } => {

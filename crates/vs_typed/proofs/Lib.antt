@@ -5,3 +5,4 @@ pub mod Distinct
 pub mod WeightSteps
 pub mod FoundSteps
 pub mod SizeSteps
+pub mod BothWays

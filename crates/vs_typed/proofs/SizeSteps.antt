@@ -1,5 +1,5 @@
 -- Sums over processes and signals, step by step.
-use Rattle.std.proofs.Common.{◌≡◌, ℕ, zero, suc, ◌+◌, ◌<◌, ◌≤◌, Bool, true, false, not, if◌then◌else◌, List, [], ◌∷◌, ◌++◌, length, take, drop, get_or, Option, Some, refl, sym, ap, ap₂, ◌∙◌, arith}
+use Rattle.std.proofs.Common.{◌≡◌, ℕ, zero, suc, ◌+◌, ◌<◌, ◌≤◌, Bool, true, false, not, if◌then◌else◌, List, [], ◌∷◌, ◌++◌, length, take, drop, get_or, Option, Some, refl, sym, ap, ap₂, ◌∙◌, arith, append_assoc}
 use Rattle.std.specs.Prelude.{sum_by, filter, slice_get}
 use Rattle.std.proofs.lemmas.List.{take_more, take_all, append-nil}
 use Rattle.std.proofs.lemmas.List.Sums.{sum_by-cons}
@@ -10,6 +10,7 @@ use Rattle.vs_design.specs.Statements.{Statement}
 use Rattle.vs_design.specs.Designs.{Event, Process, Always, Design, has_edge, is_clocked, bit_count}
 use Rattle.vs_design.specs.Elaborated.{IsLawfulDesign}
 use Rattle.vs_design.specs.Footprints.{statement_bits, writes_of, waits_of, ascending}
+use Rattle.vs_design.specs.Races.{doubled, doubled_bits}
 use Rattle.vs_design.specs.Sizes.{distinct, statement_weight, process_weight, sleeper_weight, register_bits}
 use Rattle.vs_design.specs.Sleepers.{is_sleeping}
 use Rattle.vs_reads.specs.Footprint.{footprints_of, waits_at, writes_at}
@@ -42,21 +43,21 @@ sum_step f (y ∷ ys) p start sum after inside e h =
 pub sum_all : (f : Process → ℕ) (ps : List Process) (p start sum : ℕ) → length ps ≤ p → sum ≡ start + sum_by f (take p ps) → sum ≡ start + sum_by f ps
 sum_all f ps p start sum h e = e ∙ ap (λ qs. start + sum_by f qs) (take_all p ps h)
 
--- ---- register bits
+-- ---- bits of processes, one process more
 
-registers_more : (ps : List Process) (x : Process) → register_bits (ps ++ x ∷ []) ≡ register_bits ps ++ (if is_clocked x then writes_of x else [])
-registers_more [] x = append-nil (if is_clocked x then writes_of x else [])
-registers_more (p ∷ ps) x = ap (λ bs. (if is_clocked p then writes_of p else []) ++ bs) (registers_more ps x) ∙ assoc (if is_clocked p then writes_of p else []) (register_bits ps) (if is_clocked x then writes_of x else []) where
-  assoc : (xs ys zs : List ℕ) → xs ++ (ys ++ zs) ≡ (xs ++ ys) ++ zs
-  assoc [] ys zs = refl
-  assoc (x ∷ xs) ys zs = ap (λ ws. x ∷ ws) (assoc xs ys zs)
+module _ (of : Process → List ℕ) (all : List Process → List ℕ) (none : all [] ≡ []) (one : (p : Process) (ps : List Process) → all (p ∷ ps) ≡ of p ++ all ps) where
+  more : (ps : List Process) (x : Process) → all (ps ++ x ∷ []) ≡ all ps ++ of x
+  more [] x = one x [] ∙ ap (λ bs. of x ++ bs) none ∙ append-nil (of x) ∙ ap (λ bs. bs ++ of x) (sym none)
+  more (p ∷ ps) x = one p (ps ++ x ∷ []) ∙ ap (λ bs. of p ++ bs) (more ps x) ∙ sym (append_assoc (of p) (all ps) (of x)) ∙ ap (λ bs. bs ++ of x) (sym (one p ps))
+
+  noted : (ps : List Process) (p : ℕ) (x : Process) (old new : List ℕ) → slice_get ps p ≡ Some x → old ≡ all (take p ps) → new ≡ old ++ of x → new ≡ all (take (p + 1) ps)
+  noted ps p x old new at e h = h ∙ ap (λ bs. bs ++ of x) e ∙ sym (more (take p ps) x) ∙ ap all (sym (next_process ps p x at))
 
 pub registers_noted : (ps : List Process) (p : ℕ) (x : Process) (old new : List ℕ) → slice_get ps p ≡ Some x → old ≡ register_bits (take p ps) → new ≡ old ++ (if is_clocked x then writes_of x else []) → new ≡ register_bits (take (p + 1) ps)
-registers_noted ps p x old new at e h =
-    h ∙ ap (λ bs. bs ++ (if is_clocked x then writes_of x else [])) e ∙ sym (registers_more (take p ps) x) ∙ ap register_bits (sym (next_process ps p x at))
+registers_noted = noted (λ x. if is_clocked x then writes_of x else []) register_bits refl (λ p ps. refl)
 
-pub registers_all : (ps : List Process) (p : ℕ) → length ps ≤ p → register_bits (take p ps) ≡ register_bits ps
-registers_all ps p h = ap register_bits (take_all p ps h)
+pub doubled_noted : (ps : List Process) (p : ℕ) (x : Process) (old new : List ℕ) → slice_get ps p ≡ Some x → old ≡ doubled_bits (take p ps) → new ≡ old ++ doubled x → new ≡ doubled_bits (take (p + 1) ps)
+doubled_noted = noted doubled doubled_bits refl (λ p ps. refl)
 
 -- ---- inputs
 

@@ -5,6 +5,7 @@ ghost use Rattle.std.specs.List.{list_all};
 ghost use Rattle.vs_design.specs.Designs as D;
 ghost use Rattle.vs_design.specs.Expressions as E;
 ghost use Rattle.vs_design.specs.Fits.{fits_process};
+ghost use Rattle.vs_design.specs.Races.{doubled_bits};
 ghost use Rattle.vs_design.specs.Sizes as S;
 ghost use Rattle.vs_design.specs.Sleepers.{is_sleeping};
 ghost use Rattle.vs_flat.specs.DesignOf.{design_of};
@@ -15,7 +16,7 @@ ghost use Rattle.vs_reads.specs.Footprint.{footprints_of, waits_at, writes_at};
 use crate::statements::add_statement;
 use crate::sums::{plus, times};
 use crate::targets::add_assignment;
-use crate::written::{distinct, written_count};
+use crate::written::{distinct, push_both_ways, written_count};
 use std::alloc::{AllocError, Global};
 use vs_flat::{Kind, has_edge, signal_length, trees_law};
 use vs_reads::{Footprints, fit_process, footprint_law};
@@ -94,6 +95,48 @@ fn register_count(alloc: Global, shapes: &Shapes) -> Result<u64, AllocError>
     let mut bits = Vec::new(alloc);
     for p in 0..shapes.flat().process_count() {
         push_registers(shapes, p, &mut bits)?;
+    }
+    Ok(distinct(bits))
+}
+
+/// Adds the bits that process p writes both by `=` and by `<=` if it is a clocked block.
+fn push_doubled(
+    alloc: Global,
+    shapes: &Shapes,
+    p: u32,
+    bits: &mut Vec<u32>,
+) -> Result<(), AllocError>
+    requires there { p < length shapes.now.processes }
+    requires fits { list_all fits_process (design_of shapes.now).processes ≡ true }
+    requires so_far { bits.old.items ≡ doubled_bits (take p (design_of shapes.now).processes) }
+    ensures { OnOk result (bits.new.items ≡ doubled_bits (take (p + 1) (design_of shapes.now).processes)) }
+{
+    trees_law();
+    match &fit_process(shapes, p).kind {
+        Kind::Assign { .. } => Ok(()),
+        Kind::Block {
+            star: _,
+            events,
+            statement,
+        } => {
+            if has_edge(events.as_slice()) {
+                push_both_ways(alloc, shapes, *statement, bits)
+            } else {
+                Ok(())
+            }
+        }
+    }
+}
+
+/// How many bits there are that a clocked block writes both by `=` and by `<=`.
+fn doubled_count(alloc: Global, shapes: &Shapes) -> Result<u64, AllocError>
+    requires fits { list_all fits_process (design_of shapes.now).processes ≡ true }
+    ensures { IfOk result (λ n. n ≡ S.distinct (doubled_bits (design_of shapes.now).processes)) }
+{
+    trees_law();
+    let mut bits = Vec::new(alloc);
+    for p in 0..shapes.flat().process_count() {
+        push_doubled(alloc, shapes, p, &mut bits)?;
     }
     Ok(distinct(bits))
 }
@@ -179,6 +222,7 @@ pub(crate) fn size(
 {
     let processes = add_processes(alloc, shapes, 0)?;
     let registers = times(2, register_count(alloc, shapes)?)?;
-    let inputs = add_inputs(shapes, plus(processes, registers)?)?;
+    let doubled = doubled_count(alloc, shapes)?;
+    let inputs = add_inputs(shapes, plus(plus(processes, registers)?, doubled)?)?;
     add_sleepers(shapes, footprints, sleeping, inputs)
 }

@@ -11,7 +11,7 @@ use Rattle.vs_design.specs.Bodies.{assignment_writes, body, arms_body, is_taken}
 use Rattle.vs_design.specs.Elaborated.{has_constant_selects}
 use Rattle.vs_design.specs.Fits.{is_fit, fits_target, fits_statement, fits_arms}
 use Rattle.vs_design.specs.Footprints.{read_signals, target_signals, items_signals, statement_signals, arms_signals}
-use Rattle.vs_design.specs.Resets.{has_none, are_constant, arms_constant}
+use Rattle.vs_design.specs.Resets.{has_none, are_constant, arms_constant, branch_updates}
 use Rattle.vs_design.specs.Rules.{mixed_in, mixed_in_arms}
 use Rattle.vs_design.specs.TreeLaws.{NoWrites}
 use Rattle.vs_flat.specs.declared.statements.Arm as F
@@ -19,7 +19,7 @@ use Rattle.vs_flat.specs.Arena.{Arena}
 use Rattle.vs_flat.specs.Trees as R
 use Rattle.vs_sets.specs.Nodes.{tree_of}
 use Rattle.vs_sets.specs.StatementParts.{BranchBelow, ArmsBelow, arms_of, statement_of}
-use Rattle.vs_zero.specs.Constants.{are_constants, arms_are_constants, taken_arm, IsFixed, updated, IsFixedBranch, EachIsFixed}
+use Rattle.vs_zero.specs.Constants.{are_constants, arms_are_constants, taken_arm, IsFixed, updated, branch_effects, IsFixedBranch, EachIsFixed}
 use Rattle.vs_zero.specs.States.{unknown}
 use Rattle.vs_sets.proofs.Fit.{and_left, and_right, and_both}
 use Rattle.vs_zero.proofs.Writing.{write_all-append}
@@ -207,6 +207,11 @@ taken_fixed a nodes n kind w s v other (arm ∷ arms) h below otherwise =
 pub updated_nothing : (s : State) → updated Empty s ≡ s
 unfolding write_all flatten
 updated_nothing s = refl
+
+-- it writes nothing at once
+pub updates_alone : NoWrites → (st : Statement) → IsFixed st → flatten (branch_effects st) ≡ flatten (branch_updates st)
+unfolding flatten
+updates_alone law st h = ap (λ (ws : List Write). ws ++ flatten (branch_updates st)) (law st unknown h.unmixed)
 
 append_nothing : (ws : List Write) → ws ++ [] ≡ ws
 append_nothing [] = refl

@@ -12,7 +12,7 @@ use Rattle.vs_design.specs.Clocks.{Events, ByClock, ByBoth, is_clock_event, is_r
 use Rattle.vs_design.specs.Fits.{is_fit, fits_statement, fits_process}
 use Rattle.vs_design.specs.Footprints.{contains, statement_bits, writes_of}
 use Rattle.vs_design.specs.Lifted.{Family}
-use Rattle.vs_design.specs.Resets.{is_condition, is_fixed, reset_branch, branch_updates, reset_of, with_reset, with_resets}
+use Rattle.vs_design.specs.Resets.{is_condition, is_fixed, reset_branch, reset_of, with_reset, with_resets}
 use Rattle.vs_design.specs.Refusals.{block_refusal, width_refusal}
 use Rattle.vs_design.specs.Rules.{mixed_in, mixed_assigns}
 use Rattle.vs_design.specs.Statements.{Statement, Empty, Assignment, Then, If, Case}
@@ -25,7 +25,7 @@ use Rattle.vs_sets.specs.StatementParts.{Covers, statement_of}
 use Rattle.vs_typed.specs.Laws.{EachProcessFits}
 use Rattle.vs_clock.specs.declared.resets.Reset.{Reset}
 use Rattle.vs_clock.specs.Resets.{branch_by, branch_of, plain_branch, IsResetOf, IsReset, AreAllResets, reset_at}
-use Rattle.vs_zero.specs.Constants.{IsFixed}
+use Rattle.vs_zero.specs.Constants.{IsFixed, branch_effects}
 use Rattle.vs_zero.specs.Values.{with_updates}
 use Rattle.vs_zero.proofs.ByKind.{plain_all}
 use Rattle.vs_reads.proofs.Numbered.{process_there}
@@ -109,12 +109,12 @@ branch_facts d clock (Always place star events s) t h fit m = by_events (events_
 -- ---- one process after the other, the last one first
 
 pub reset_step : (a : Arena) (clock p : ℕ) (x : Process) (r : Reset) (f g h : Family) → slice_get (design_of a).processes p ≡ Some x → p < length (design_of a).processes → IsResetOf a clock x r
-    → g ≡ (λ b. with_resets (design_of a) clock (drop (p + 1) (design_of a).processes) b (f b)) → h ≡ (λ b. with_updates (flatten (branch_updates (plain_branch a r))) b (g b))
+    → g ≡ (λ b. with_resets (design_of a) clock (drop (p + 1) (design_of a).processes) b (f b)) → h ≡ (λ b. with_updates (flatten (branch_effects (plain_branch a r))) b (g b))
     → h ≡ (λ b. with_resets (design_of a) clock (drop p (design_of a).processes) b (f b))
 reset_step a clock p x r f g h e l i before after =
     let d = design_of a in
     let rest = drop (p + 1) d.processes in
-    after ∙ ap (λ (g : Family). let k : Family = λ b. with_updates (flatten (branch_updates (plain_branch a r))) b (g b) in k) before
+    after ∙ ap (λ (g : Family). let k : Family = λ b. with_updates (flatten (branch_effects (plain_branch a r))) b (g b) in k) before
     ∙ fun_ext (λ b. ap (λ o. with_reset o b (with_resets d clock rest b (f b))) (sym i.is) ∙ ap (λ ps. with_resets d clock ps b (f b)) (sym (dropped d.processes p x l e)))
   where
     dropped : (ps : List Process) (p : ℕ) (x : Process) → p < length ps → slice_get ps p ≡ Some x → drop p ps ≡ x ∷ drop (p + 1) ps

@@ -3,11 +3,11 @@ use Rattle.std.specs.Prelude.{◌≡◌, ◌<◌, ℕ, Bool, true, ◌&&◌, Lis
 use Rattle.std.specs.List.{list_all}
 use Rattle.vs_four.specs.Logic.{BitList}
 use Rattle.vs_design.specs.Expressions.{Expression, is_constant}
-use Rattle.vs_net.specs.Network.{State, flatten, write_all}
+use Rattle.vs_net.specs.Network.{State, Update, flatten, write_all}
 use Rattle.vs_design.specs.Statements.{CaseKind, Statement, Arms, Arm, Default}
 use Rattle.vs_design.specs.Bodies.{body, is_taken}
 use Rattle.vs_design.specs.Fits.{fits_statement}
-use Rattle.vs_design.specs.Resets.{is_fixed}
+use Rattle.vs_design.specs.Resets.{is_fixed, branch_writes, branch_updates}
 use Rattle.vs_design.specs.Rules.{mixed_in}
 use Rattle.vs_flat.specs.Arena.{Arena}
 use Rattle.vs_flat.specs.Trees.{branch}
@@ -39,6 +39,10 @@ pub record IsFixed (s : Statement) : Type 0 where
 -- the state after the updates that it gives
 abbrev pub updated : Statement → State → State
 updated s state = write_all state (flatten (body s unknown).updates)
+
+-- all that it gives as the branch of a reset, in the order in which it takes effect: its blocking writes, and then its updates
+abbrev pub branch_effects : Statement → List Update
+branch_effects s = branch_writes s ∷ branch_updates s
 
 -- such a statement before number n, or none
 pub record IsFixedBranch (a : Arena) (n : ℕ) (b : Option ℕ) : Type 0 where

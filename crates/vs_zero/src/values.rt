@@ -4,12 +4,11 @@ ghost use Rattle.std.specs.Prelude.{◌≡◌, ◌<◌, length, All};
 ghost use Rattle.vs_four.specs.declared.Bit4.TheVariants.{Zero};
 ghost use Rattle.vs_net.specs.Network.{flatten};
 ghost use Rattle.vs_design.specs.Designs.{bit_count};
-ghost use Rattle.vs_design.specs.Resets.{branch_updates};
 ghost use Rattle.vs_flat.specs.DesignOf.{design_of};
 ghost use Rattle.vs_sets.specs.Branches.{replaced};
 ghost use Rattle.vs_sets.specs.StatementParts.{Covers, statement_of};
 ghost use Rattle.vs_sets.specs.Tables.{family_of};
-ghost use Rattle.vs_zero.specs.Constants.{IsFixed};
+ghost use Rattle.vs_zero.specs.Constants.{IsFixed, branch_effects};
 ghost use Rattle.vs_zero.specs.States.{state_of, unknown};
 ghost use Rattle.vs_zero.specs.Values.{IsZero, are_same, joined, replaced_by, with_updates};
 
@@ -83,7 +82,7 @@ pub(crate) fn add_values(
     requires bits { Covers bits.now (statement_of shapes.now branch) }
     requires x { state_of from_x.old ≡ unknown }
     requires zero { IsZero from_zero.old }
-    ensures table { family_of table.new ≡ (λ b. with_updates (flatten (branch_updates (statement_of shapes.now branch))) b (family_of table.old b)) }
+    ensures table { family_of table.new ≡ (λ b. with_updates (flatten (branch_effects (statement_of shapes.now branch))) b (family_of table.old b)) }
     ensures x { state_of from_x.new ≡ unknown }
     ensures zero { IsZero from_zero.new }
 {

@@ -4,10 +4,9 @@ ghost use Rattle.std.specs.Prelude.{◌≡◌, ◌++◌, ◌<◌, length, All, O
 ghost use Rattle.std.specs.List.{filter};
 ghost use Rattle.vs_net.specs.Network.{flatten, is_written};
 ghost use Rattle.vs_design.specs.Designs.{bit_count};
-ghost use Rattle.vs_design.specs.Resets.{branch_updates};
 ghost use Rattle.vs_flat.specs.DesignOf.{design_of};
 ghost use Rattle.vs_sets.specs.StatementParts.{Covers, statement_of};
-ghost use Rattle.vs_zero.specs.Constants.{IsFixed};
+ghost use Rattle.vs_zero.specs.Constants.{IsFixed, branch_effects};
 ghost use Rattle.vs_zero.specs.States.{state_of, unknown};
 ghost use Rattle.vs_zero.specs.Values.{IsZero, are_same};
 
@@ -38,7 +37,7 @@ fn add_same(
     Ok(())
 }
 
-/// Adds those of these bits that a branch gives an update which reads no signal. They are the same in both states after the branch, where it began with x in one and 0 in the other. The bits are all that the branch writes, or more; afterwards both states are as before. The only error is that there is no memory.
+/// Adds those of these bits that a branch writes that reads no signal, at once or by an update. They are the same in both states after the branch, where it began with x in one and 0 in the other. The bits are all that the branch writes, or more; afterwards both states are as before. The only error is that there is no memory.
 pub fn add_written(
     shapes: &Shapes,
     branch: u32,
@@ -55,7 +54,7 @@ pub fn add_written(
     requires bits { Covers bits.now (statement_of shapes.now branch) }
     requires x { state_of from_x.old ≡ unknown }
     requires zero { IsZero from_zero.old }
-    ensures written { OnOk result (to.new.items ≡ to.old.items ++ filter (is_written (flatten (branch_updates (statement_of shapes.now branch)))) bits.now) }
+    ensures written { OnOk result (to.new.items ≡ to.old.items ++ filter (is_written (flatten (branch_effects (statement_of shapes.now branch)))) bits.now) }
     ensures x { OnOk result (state_of from_x.new ≡ unknown) }
     ensures zero { OnOk result (IsZero from_zero.new) }
 {

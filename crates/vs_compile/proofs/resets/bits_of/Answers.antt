@@ -2,11 +2,10 @@ use Rattle.std.proofs.Common.{◌++◌, ◌<◌, ℕ, List, length, slice_get, s
 use Rattle.std.specs.List.{All, filter}
 use Rattle.vs_net.specs.Network.{flatten, is_written}
 use Rattle.vs_design.specs.Designs.{bit_count}
-use Rattle.vs_design.specs.Resets.{branch_updates}
 use Rattle.vs_flat.specs.Arena.{Arena}
 use Rattle.vs_flat.specs.DesignOf.{design_of}
 use Rattle.vs_sets.specs.StatementParts.{Covers, statement_of}
-use Rattle.vs_zero.specs.Constants.{IsFixed}
+use Rattle.vs_zero.specs.Constants.{IsFixed, branch_effects}
 use Rattle.vs_assemble.specs.Flags.{HasBitsOf}
 use Rattle.vs_assemble.specs.Plans.{reset_bits_or}
 use Rattle.vs_compile.proofs.Setting.{are_set, can_set, none_set}
@@ -37,7 +36,7 @@ returns-in_ok-add_written-in-Some-clause-bits c =
     let can = can_set c.footprint_law.ensures.bits c.args.typed.now c.args.footprints.now c.args.clocks.now c.requires.facts c.args.p c.requires.there c.in-Some.reset c.in-Some.ensures c.writes-writes.result.now c.writes-writes.ensures in
     are_set c.write_law.ensures.body c.args.typed.now c.args.clocks.now.bit c.args.p c.in-Some.reset c.writes-writes.result.now _ can
     (c.in_ok-add_written-in-Some.ensures.written
-    ∙ ap₂ (λ (bs : List ℕ) (z : Arena). bs ++ filter (is_written (flatten (branch_updates (statement_of z c.in-Some.reset.branch)))) c.writes-writes.result.now) c.new-bits.ensures.items c.shapes.ensures)
+    ∙ ap₂ (λ (bs : List ℕ) (z : Arena). bs ++ filter (is_written (flatten (branch_effects (statement_of z c.in-Some.reset.branch)))) c.writes-writes.result.now) c.new-bits.ensures.items c.shapes.ensures)
 
 pub returns-in-None-clause-bits : goal.returns-in-None-clause-bits
 returns-in-None-clause-bits c =

@@ -1,13 +1,13 @@
 use Rattle.std.proofs.Common.{◌≡◌, ◌+◌, ◌-◌, ◌<◌, length, drop, sym, ap, ◌∙◌, subst, arith}
 use Rattle.std.specs.Prelude.{All}
 use Rattle.vs_net.specs.Network.{flatten}
-use Rattle.vs_design.specs.Resets.{branch_updates, with_resets}
+use Rattle.vs_design.specs.Resets.{with_resets}
 use Rattle.vs_flat.specs.Arena.{Arena}
 use Rattle.vs_flat.specs.DesignOf.{design_of}
 use Rattle.vs_reads.specs.Footprint.{writes_at}
 use Rattle.vs_sets.specs.StatementParts.{Covers, statement_of}
 use Rattle.vs_sets.specs.Tables.{family_of}
-use Rattle.vs_zero.specs.Constants.{IsFixed}
+use Rattle.vs_zero.specs.Constants.{IsFixed, branch_effects}
 use Rattle.vs_zero.specs.Values.{with_updates}
 use Rattle.vs_zero.proofs.ResetFacts.{reset_there, no_reset, reset_step, no_reset_step}
 use Rattle.vs_zero.proofs.families.add_resets.Goals as goal
@@ -55,7 +55,7 @@ loop-p-preserved-in-Some c =
     let clock = c.args.clocks.now.bit in
     let last : c.loop-p.p ≡ p + 1 = omega (arith, c.loop-p-test.true) in
     let before = subst (λ n. g ≡ (λ b. with_resets (design_of a) clock (drop n (design_of a).processes) b (f b))) last c.loop-p.invariant.sets in
-    let after = subst (λ (b : Arena). family_of c.add_values.new.table ≡ (λ n. with_updates (flatten (branch_updates (statement_of b c.in-Some.reset.branch))) n (g n))) c.shapes.ensures c.add_values.ensures.table in
+    let after = subst (λ (b : Arena). family_of c.add_values.new.table ≡ (λ n. with_updates (flatten (branch_effects (statement_of b c.in-Some.reset.branch))) n (g n))) c.shapes.ensures c.add_values.ensures.table in
     record {
       within = omega (arith, c.loop-p.invariant.within);
       x = c.add_values.ensures.x;

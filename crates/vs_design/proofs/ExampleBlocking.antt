@@ -1,0 +1,28 @@
+-- The worked designs with blocking assignments, by computation.
+use Rattle.std.proofs.Common.{refl}
+use Rattle.vs_net.specs.Network.{write_all, is_written, flatten}
+use Rattle.vs_net.specs.Queue.{change, changes, is_held}
+use Rattle.vs_design.specs.ExampleBlocking.{BlockingComputed}
+
+pub blocking_computed : BlockingComputed
+unfolding write_all is_written flatten change changes is_held
+blocking_computed = record {
+  temporary_size = refl;
+  temporary_free = refl;
+  temporary_refused = (refl, refl);
+  temporary_ends = refl;
+  read_first_size = refl;
+  read_first_free = refl;
+  read_first_refused = (refl, refl);
+  read_first_ends = refl;
+  raced_bits = refl;
+  raced_races = refl;
+  through_stirs = refl;
+  through_bits = refl;
+  through_races = refl;
+  twice_size = refl;
+  twice_free = refl;
+  twice_ends = refl;
+  reset_free = refl;
+  reset_ends = refl;
+}
