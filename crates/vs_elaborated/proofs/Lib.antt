@@ -14,6 +14,7 @@ mod LawfulDesigns
 mod LowBlocks
 mod SoundScopes
 mod EnoughFuel
+mod QuickCuts
 mod WorkedTexts
 mod WorkedRefusals
 mod WorkedDesigns

@@ -1,6 +1,5 @@
 -- The worked designs, by computation.
 use Rattle.std.specs.Prelude.{refl}
-use Rattle.vs_lexer.specs.Cuts.{cut_text}
 use Rattle.vs_lexer.specs.Spellings.{signs, keywords, left_out_words, system_names}
 use Rattle.vs_lexer.specs.Tokens.{word_kind, system_kind, sign_kind}
 use Rattle.vs_lexer.specs.Literals.{is_in_range, number_bits, literal_bits, literal_size, is_signed_literal, has_size}
@@ -8,13 +7,13 @@ use Rattle.vs_elaborated.specs.ExampleDesigns.{WholeDesigns, Parameters, Overrid
 use Rattle.vs_elaborated.proofs.WorkedTexts.{elaborates, shows, alike}
 
 pub whole_designs : WholeDesigns
-unfolding is_in_range cut_text word_kind system_kind sign_kind signs keywords left_out_words system_names literal_bits is_signed_literal has_size literal_size number_bits
+unfolding is_in_range word_kind system_kind sign_kind signs keywords left_out_words system_names literal_bits is_signed_literal has_size literal_size number_bits
 whole_designs = record {
   whole = shows refl;
 }
 
 pub parameters : Parameters
-unfolding is_in_range cut_text word_kind system_kind sign_kind signs keywords left_out_words system_names literal_bits is_signed_literal has_size literal_size number_bits
+unfolding is_in_range word_kind system_kind sign_kind signs keywords left_out_words system_names literal_bits is_signed_literal has_size literal_size number_bits
 parameters = record {
   plain = alike refl refl;
   cut = alike refl refl;
@@ -30,7 +29,7 @@ parameters = record {
 }
 
 pub overrides : Overrides
-unfolding is_in_range cut_text word_kind system_kind sign_kind signs keywords left_out_words system_names literal_bits is_signed_literal has_size literal_size number_bits
+unfolding is_in_range word_kind system_kind sign_kind signs keywords left_out_words system_names literal_bits is_signed_literal has_size literal_size number_bits
 overrides = record {
   none = alike refl refl;
   by_order = alike refl refl;
@@ -40,7 +39,7 @@ overrides = record {
 }
 
 pub converted_overrides : ConvertedOverrides
-unfolding is_in_range cut_text word_kind system_kind sign_kind signs keywords left_out_words system_names literal_bits is_signed_literal has_size literal_size number_bits
+unfolding is_in_range word_kind system_kind sign_kind signs keywords left_out_words system_names literal_bits is_signed_literal has_size literal_size number_bits
 converted_overrides = record {
   ranged = alike refl refl;
   dependent = alike refl refl;
@@ -48,7 +47,7 @@ converted_overrides = record {
 }
 
 pub ports : Ports
-unfolding is_in_range cut_text word_kind system_kind sign_kind signs keywords left_out_words system_names literal_bits is_signed_literal has_size literal_size number_bits
+unfolding is_in_range word_kind system_kind sign_kind signs keywords left_out_words system_names literal_bits is_signed_literal has_size literal_size number_bits
 ports = record {
   in_body = alike refl refl;
   twice = alike refl refl;
@@ -59,7 +58,7 @@ ports = record {
 }
 
 pub connections : Connections
-unfolding is_in_range cut_text word_kind system_kind sign_kind signs keywords left_out_words system_names literal_bits is_signed_literal has_size literal_size number_bits
+unfolding is_in_range word_kind system_kind sign_kind signs keywords left_out_words system_names literal_bits is_signed_literal has_size literal_size number_bits
 connections = record {
   processes = shows refl;
   length = refl;
@@ -72,7 +71,7 @@ connections = record {
 }
 
 pub numbered : Numbered
-unfolding is_in_range cut_text word_kind system_kind sign_kind signs keywords left_out_words system_names literal_bits is_signed_literal has_size literal_size number_bits
+unfolding is_in_range word_kind system_kind sign_kind signs keywords left_out_words system_names literal_bits is_signed_literal has_size literal_size number_bits
 numbered = record {
   scopes = shows refl;
   signals = shows refl;
@@ -80,7 +79,7 @@ numbered = record {
 }
 
 pub blocks : Blocks
-unfolding is_in_range cut_text word_kind system_kind sign_kind signs keywords left_out_words system_names literal_bits is_signed_literal has_size literal_size number_bits
+unfolding is_in_range word_kind system_kind sign_kind signs keywords left_out_words system_names literal_bits is_signed_literal has_size literal_size number_bits
 blocks = record {
   loop = shows refl;
   unnamed_loop = shows refl;
@@ -98,7 +97,7 @@ blocks = record {
 }
 
 pub names : Names
-unfolding is_in_range cut_text word_kind system_kind sign_kind signs keywords left_out_words system_names literal_bits is_signed_literal has_size literal_size number_bits
+unfolding is_in_range word_kind system_kind sign_kind signs keywords left_out_words system_names literal_bits is_signed_literal has_size literal_size number_bits
 names = record {
   outside = shows refl;
   nearest = shows refl;

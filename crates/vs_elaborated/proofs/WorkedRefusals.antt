@@ -1,6 +1,5 @@
 -- The worked refusals, by computation.
 use Rattle.std.specs.Prelude.{refl}
-use Rattle.vs_lexer.specs.Cuts.{cut_text}
 use Rattle.vs_lexer.specs.Spellings.{signs, keywords, left_out_words, system_names}
 use Rattle.vs_lexer.specs.Tokens.{word_kind, system_kind, sign_kind}
 use Rattle.vs_lexer.specs.Literals.{is_in_range, number_bits, literal_bits, literal_size, is_signed_literal, has_size}
@@ -8,7 +7,7 @@ use Rattle.vs_elaborated.specs.ExampleRefusals.{NotConstants, UnknownConstants, 
 use Rattle.vs_elaborated.proofs.WorkedTexts.{refused, elaborates}
 
 pub not_constants : NotConstants
-unfolding is_in_range cut_text word_kind system_kind sign_kind signs keywords left_out_words system_names literal_bits is_signed_literal has_size literal_size number_bits
+unfolding is_in_range word_kind system_kind sign_kind signs keywords left_out_words system_names literal_bits is_signed_literal has_size literal_size number_bits
 not_constants = record {
   parameter = refused refl;
   bound = refused refl;
@@ -24,7 +23,7 @@ not_constants = record {
 }
 
 pub unknown_constants : UnknownConstants
-unfolding is_in_range cut_text word_kind system_kind sign_kind signs keywords left_out_words system_names literal_bits is_signed_literal has_size literal_size number_bits
+unfolding is_in_range word_kind system_kind sign_kind signs keywords left_out_words system_names literal_bits is_signed_literal has_size literal_size number_bits
 unknown_constants = record {
   bound = refused refl;
   brackets = refused refl;
@@ -38,7 +37,7 @@ unknown_constants = record {
 }
 
 pub wrong_modules : WrongModules
-unfolding is_in_range cut_text word_kind system_kind sign_kind signs keywords left_out_words system_names literal_bits is_signed_literal has_size literal_size number_bits
+unfolding is_in_range word_kind system_kind sign_kind signs keywords left_out_words system_names literal_bits is_signed_literal has_size literal_size number_bits
 wrong_modules = record {
   no_top = refused refl;
   second = refused refl;
@@ -48,7 +47,7 @@ wrong_modules = record {
 }
 
 pub unknown_names : UnknownNames
-unfolding is_in_range cut_text word_kind system_kind sign_kind signs keywords left_out_words system_names literal_bits is_signed_literal has_size literal_size number_bits
+unfolding is_in_range word_kind system_kind sign_kind signs keywords left_out_words system_names literal_bits is_signed_literal has_size literal_size number_bits
 unknown_names = record {
   read = refused refl;
   written = refused refl;
@@ -68,7 +67,7 @@ unknown_names = record {
 }
 
 pub repeated_names : RepeatedNames
-unfolding is_in_range cut_text word_kind system_kind sign_kind signs keywords left_out_words system_names literal_bits is_signed_literal has_size literal_size number_bits
+unfolding is_in_range word_kind system_kind sign_kind signs keywords left_out_words system_names literal_bits is_signed_literal has_size literal_size number_bits
 repeated_names = record {
   declaration = refused refl;
   parameter = refused refl;
@@ -92,7 +91,7 @@ repeated_names = record {
 }
 
 pub bad_ranges : BadRanges
-unfolding is_in_range cut_text word_kind system_kind sign_kind signs keywords left_out_words system_names literal_bits is_signed_literal has_size literal_size number_bits
+unfolding is_in_range word_kind system_kind sign_kind signs keywords left_out_words system_names literal_bits is_signed_literal has_size literal_size number_bits
 bad_ranges = record {
   negative = refused refl;
   greatest = refused refl;
@@ -113,7 +112,7 @@ bad_ranges = record {
 }
 
 pub wrong_connections : WrongConnections
-unfolding is_in_range cut_text word_kind system_kind sign_kind signs keywords left_out_words system_names literal_bits is_signed_literal has_size literal_size number_bits
+unfolding is_in_range word_kind system_kind sign_kind signs keywords left_out_words system_names literal_bits is_signed_literal has_size literal_size number_bits
 wrong_connections = record {
   few = refused refl;
   commas = refused refl;
@@ -127,7 +126,7 @@ wrong_connections = record {
 }
 
 pub wrong_kinds : WrongKinds
-unfolding is_in_range cut_text word_kind system_kind sign_kind signs keywords left_out_words system_names literal_bits is_signed_literal has_size literal_size number_bits
+unfolding is_in_range word_kind system_kind sign_kind signs keywords left_out_words system_names literal_bits is_signed_literal has_size literal_size number_bits
 wrong_kinds = record {
   assigned_reg = refused refl;
   procedural_net = refused refl;
@@ -144,7 +143,7 @@ wrong_kinds = record {
 }
 
 pub other_kinds : OtherKinds
-unfolding is_in_range cut_text word_kind system_kind sign_kind signs keywords left_out_words system_names literal_bits is_signed_literal has_size literal_size number_bits
+unfolding is_in_range word_kind system_kind sign_kind signs keywords left_out_words system_names literal_bits is_signed_literal has_size literal_size number_bits
 other_kinds = record {
   genvar = refused refl;
   genvar_bound = refused refl;
@@ -160,7 +159,7 @@ other_kinds = record {
 }
 
 pub first_faults : FirstFaults
-unfolding is_in_range cut_text word_kind system_kind sign_kind signs keywords left_out_words system_names literal_bits is_signed_literal has_size literal_size number_bits
+unfolding is_in_range word_kind system_kind sign_kind signs keywords left_out_words system_names literal_bits is_signed_literal has_size literal_size number_bits
 first_faults = record {
   least = refused refl;
   scope_before_instance = refused refl;
@@ -170,7 +169,7 @@ first_faults = record {
 }
 
 pub limited : Limited
-unfolding is_in_range cut_text word_kind system_kind sign_kind signs keywords left_out_words system_names literal_bits is_signed_literal has_size literal_size number_bits
+unfolding is_in_range word_kind system_kind sign_kind signs keywords left_out_words system_names literal_bits is_signed_literal has_size literal_size number_bits
 limited = record {
   depth = refused refl;
   instances_most = elaborates refl;

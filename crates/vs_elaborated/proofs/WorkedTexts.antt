@@ -23,6 +23,7 @@ use Rattle.vs_const.specs.Rules.{rule_number}
 use Rattle.vs_const.proofs.RuleNumbers.{same_rule}
 use Rattle.vs_elaborated.specs.Limits.{Limits, the_limits}
 use Rattle.vs_elaborated.specs.Worked.{answer, token_at, unplaced_design, IsRefusedWithin, Elaborates, Shows, AreAlike}
+use Rattle.vs_elaborated.proofs.QuickCuts.{quick_text, cut_is}
 
 abbrev Reading : List Token → Type 0
 Reading tokens = Run verilog (phrase_of rule.Text) (terminals tokens)
@@ -45,7 +46,7 @@ of_cut f text (Ok tokens) = of_tokens f text tokens
 of_cut f text (Err e) = None
 
 abbrev of_text : {A : Type 0} → (List Token → Source → Option A) → (text : List ℕ) → Option A
-of_text f text = of_cut f text (cut_text text)
+of_text f text = of_cut f text (quick_text text)
 
 -- the text spells a tree of which the function gives this
 record Gives {A : Type 0} (f : List Token → Source → Option A) (text : List ℕ) (what : A) : Type 0 where
@@ -91,7 +92,7 @@ cut_gives f text (Ok tokens) what e h =
 cut_gives f text (Err x) what e h = cc
 
 gives : {A : Type 0} (f : List Token → Source → Option A) (text : List ℕ) (what : A) → of_text f text ≡ Some what → Gives f text what
-gives f text what h = cut_gives f text (cut_text text) what refl h
+gives f text what h = cut_gives f text (quick_text text) what (cut_is text) h
 
 -- ---- refusals
 
