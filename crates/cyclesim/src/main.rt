@@ -1,4 +1,5 @@
-//! The program: `cyclesim run --top T --clock C [--half H] DESIGN STIM..` over the system's files, and `cyclesim bench N [L]` in memory.
+//! The program: `cyclesim run --top T --clock C [--half H] [--define NAME[=TEXT]].. DESIGN STIM..` over the system's files, and
+//! `cyclesim bench N [L]` in memory.
 //!
 //! It puts one line on standard output and ends with the status of the outcome. Where its own words or
 //! desk find no memory it puts no line and ends with 7.

@@ -21,6 +21,11 @@ pub fn run<'a>(alloc: Global, name: &'a str) -> Result<Command<'a>, AllocError> 
         .value_parser(value_parser!(u32).range(1..=1_000_000))
         .default_value("5")
         .help("Half a clock period, from 1 to 1000000");
+    let define = Arg::new(alloc, "define")
+        .long("define")
+        .value_name("NAME[=TEXT]")
+        .action(ArgAction::Append)
+        .help("A macro that is defined before the design's text, up to 64 of them");
     let design = Arg::new(alloc, "design")
         .value_name("DESIGN")
         .required(true)
@@ -37,6 +42,7 @@ pub fn run<'a>(alloc: Global, name: &'a str) -> Result<Command<'a>, AllocError> 
         .arg(top)?
         .arg(clock)?
         .arg(half)?
+        .arg(define)?
         .arg(design)?
         .arg(stimuli)
 }

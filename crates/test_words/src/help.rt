@@ -16,9 +16,10 @@ Arguments:
   <STIM>...  The paths of 1 to 256 stimuli
 
 Options:
-      --top <T>    The name of the top module
-      --clock <C>  The name of the top's clock input
-      --half <H>   Half a clock period, from 1 to 1000000 [default: 5]
+      --top <T>               The name of the top module
+      --clock <C>             The name of the top's clock input
+      --half <H>              Half a clock period, from 1 to 1000000 [default: 5]
+      --define <NAME[=TEXT]>  A macro that is defined before the design's text, up to 64 of them
 ";
     assert_eq!(&rt; help.as_str(), expected);
     Ok(())

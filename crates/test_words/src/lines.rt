@@ -29,11 +29,30 @@ fn are_paths(paths: &[&str], stimuli: &Texts) -> bool {
     true
 }
 
+/// The lines that define macros: each value behind `` `define ``, a blank in place of its first `=`.
+fn head(alloc: Global, values: &[&str]) -> Result<String, AllocError> {
+    let mut head = String::new(alloc);
+    for value in values {
+        head.push_str("`define ")?;
+        match value.split_once('=') {
+            Some((name, text)) => {
+                head.push_str(name)?;
+                head.push_str(" ")?;
+                head.push_str(text)?;
+            }
+            None => head.push_str(*value)?,
+        }
+        head.push_str("\n")?;
+    }
+    Ok(head)
+}
+
 /// Whether these are the words of the job.
-fn is_job(matches: &ArgMatches<'_>, job: &Job) -> bool {
+fn is_job(matches: &ArgMatches<'_>, job: &Job, head: &str) -> bool {
     matches.get_str("top") == Some(job.top.as_str())
         && matches.get_str("clock") == Some(job.clock.as_str())
         && matches.get_one::<u32>("half") == Some(job.half)
+        && head == job.head.as_str()
         && matches.get_str("design") == Some(job.design.as_str())
         && are_paths(matches.get_strs("stimuli").unwrap_or(&[]), &job.stimuli)
 }
@@ -55,7 +74,13 @@ fn expect_alike(rt: &impl Abort, alloc: Global, line: &str) -> Result<(), Fail> 
         return Ok(());
     };
     match matches.subcommand() {
-        Some(("run", run)) => assert!(rt; job.is_ok_and(|job| is_job(run, &job)), "{line}"),
+        Some(("run", run)) => {
+            let head = head(alloc, run.get_strs("define").unwrap_or(&[]))?;
+            assert!(rt;
+                job.is_ok_and(|job| is_job(run, &job, head.as_str())),
+                "{line}"
+            );
+        }
         Some(("bench", sizes)) => {
             assert!(rt; bench.is_some_and(|bench| is_bench(sizes, bench)), "{line}");
         }
@@ -73,6 +98,8 @@ fn jobs_and_benches(rt: HostRuntime) -> Result<(), Fail> {
         "x run d --top t s --clock c s1",
         "x run --top t --clock c -- d -s --half",
         "x run --top t=u --clock==c d s",
+        "x run --top t --clock c --define A d s",
+        "x run --define=A=1 --top t --define B_2= --clock c d --define A=$b=c+`D s",
         "x bench 1",
         "x bench 1000 256",
         "x bench 3 1",
@@ -104,6 +131,8 @@ fn neither(rt: HostRuntime) -> Result<(), Fail> {
         "x run --top t --clock c --half x d s",
         "x run --top t --clock c --other d s",
         "x run --top t --clock c d s --half",
+        "x run --top t --clock c d s --define",
+        "x run --top t --clock c d --define s",
         "x run --help",
         "x --help",
         "x help",

@@ -25,4 +25,4 @@ files vectors (suc lane) = with_file (files vectors lane) (lane_path lane) (stim
 
 -- the job of a bench of so many lanes
 abbrev pub job : ℕ → Job
-job lanes = record { top = codes "top"; clock = codes "clk"; half = 5; design = design_path; stimuli = lane_paths lanes }
+job lanes = record { top = codes "top"; clock = codes "clk"; half = 5; head = []; design = design_path; stimuli = lane_paths lanes }

@@ -27,8 +27,8 @@ const HALF: u32 = 5;
 /// How many bytes of a file a `take` moves at most.
 const PIECE: usize = 65_536;
 
-/// The job of a bench: the top `top` with the clock `clk`, half a clock period of 5 units of time, the design at `bench.v`, and one
-/// stimulus for each of so many lanes, from 0 to 256, at the lane's number in decimal.
+/// The job of a bench: the top `top` with the clock `clk`, half a clock period of 5 units of time, no macros, the design at `bench.v`,
+/// and one stimulus for each of so many lanes, from 0 to 256, at the lane's number in decimal.
 ///
 /// The only error is that memory ran out.
 pub fn bench_job(alloc: Global, lanes: u32) -> Result<Job, AllocError>
@@ -39,6 +39,7 @@ pub fn bench_job(alloc: Global, lanes: u32) -> Result<Job, AllocError>
         top: text(alloc, TOP)?,
         clock: text(alloc, CLOCK)?,
         half: HALF,
+        head: text(alloc, "")?,
         design: text(alloc, DESIGN_PATH)?,
         stimuli: lane_paths(alloc, lanes)?,
     })

@@ -8,15 +8,15 @@ use Rattle.std.proofs.lemmas.List.{length-append, append-nil}
 use Rattle.vs_desk.specs.Places.{most_lanes}
 use Rattle.vs_job.specs.declared.job.Job.{Job}
 use Rattle.vs_job.specs.declared.words.Flag.{Flag}
-use Rattle.vs_job.specs.declared.words.Flag.TheVariants.{Top, Clock, Half}
+use Rattle.vs_job.specs.declared.words.Flag.TheVariants.{Top, Clock, Half, Define}
 use Rattle.vs_job.specs.declared.words.Next.{Next}
 use Rattle.vs_job.specs.declared.words.Next.TheVariants.{Any, Value, Path}
-use Rattle.vs_job.specs.Job.{Text, behind_run, Said, only_paths, path_and, value_and, is_plain, plain_value_and, flag_named, is_equals, attached, option_and, said, once, half_given, design_and_stimuli, called, job}
-use Rattle.vs_job.specs.Lines.{Line, start, with_path, value_of, given, with_value, with_flag, with_any, with_word, is_complete, read, line, values, said_of}
+use Rattle.vs_job.specs.Job.{Text, behind_run, Said, only_paths, path_and, value_and, is_plain, plain_value_and, flag_named, is_equals, attached, option_and, said, once, half_given, most_defines, are_defines, head_given, design_and_stimuli, called, job}
+use Rattle.vs_job.specs.Lines.{Line, start, with_path, is_given, given, with_value, with_flag, with_any, with_word, is_complete, read, line, values, said_of}
 
 -- what a line and the words behind it say
 abbrev behind : Line → Said → Said
-behind l s = record { tops = values l.top ++ s.tops; clocks = values l.clock ++ s.clocks; halves = values l.half ++ s.halves; paths = l.paths ++ s.paths }
+behind l s = record { tops = values l.top ++ s.tops; clocks = values l.clock ++ s.clocks; halves = values l.half ++ s.halves; defines = l.defines ++ s.defines; paths = l.paths ++ s.paths }
 
 -- what words say where the first one may be this
 abbrev said_at : Next → List Text → Option Said
@@ -49,8 +49,17 @@ called-clocks s e = no_more (once s.tops) _ (λ top. rw e)
 called-halves : (s : Said) → half_given s.halves ≡ None → called s ≡ None
 called-halves s e = no_more (once s.tops) _ (λ top. no_more (once s.clocks) _ (λ clock. rw e))
 
+called-defines : (s : Said) → head_given s.defines ≡ None → called s ≡ None
+called-defines s e = no_more (once s.tops) _ (λ top. no_more (once s.clocks) _ (λ clock. no_more (half_given s.halves) _ (λ half. rw e)))
+
 called-paths : (s : Said) → design_and_stimuli s.paths ≡ None → called s ≡ None
-called-paths s e = no_more (once s.tops) _ (λ top. no_more (once s.clocks) _ (λ clock. no_more (half_given s.halves) _ (λ half. rw e)))
+called-paths s e = no_more (once s.tops) _ (λ top. no_more (once s.clocks) _ (λ clock. no_more (half_given s.halves) _ (λ half. no_more (head_given s.defines) _ (λ head. rw e))))
+
+too_many_defines : (values : List Text) → most_defines < length values → head_given values ≡ None
+too_many_defines values more =
+    cond-false (nat_le (length values) most_defines && are_defines values) _ _ (false_from_ne_true _ (λ is.
+    let few = leb-true (length values) most_defines (and_parts (nat_le (length values) most_defines) _ is).0 in
+    absurd (omega arith)))
 
 too_many : (paths : List Text) → 1 + most_lanes < length paths → design_and_stimuli paths ≡ None
 too_many [] more = absurd (omega arith)
@@ -64,7 +73,7 @@ too_many (design ∷ stimuli) more =
 path_moved : (path : Text) (l : Line) (o : Option Said) → job_with (record l { paths = l.paths ++ path ∷ [] }) o ≡ job_with l (option_map (path_and path) o)
 path_moved path l None = refl
 path_moved path l (Some s) =
-    ap (λ (paths : List Text). called (record { tops = values l.top ++ s.tops; clocks = values l.clock ++ s.clocks; halves = values l.half ++ s.halves; paths = paths }))
+    ap (λ (paths : List Text). called (record { tops = values l.top ++ s.tops; clocks = values l.clock ++ s.clocks; halves = values l.half ++ s.halves; defines = l.defines ++ s.defines; paths = paths }))
     (append_assoc l.paths (path ∷ []) s.paths)
 
 path_full : (path : Text) (l : Line) (o : Option Said) → nat_le (length l.paths) most_lanes ≡ false → job_with l (option_map (path_and path) o) ≡ None
@@ -86,36 +95,54 @@ path_step path words l next at reads = go (nat_le (length l.paths) most_lanes) r
 
 -- ---- one more value
 
-value_moved : (flag : Flag) (value : Text) (l : Line) (o : Option Said) → value_of flag l ≡ None → job_with (given flag value l) o ≡ job_with l (option_map (value_and flag value) o)
+is_none : (o : Option Text) → is_some o ≡ false → o ≡ None
+is_none None e = refl
+is_none (Some value) e = absurd (cc)
+
+is_value : (o : Option Text) → is_some o ≡ true → (value : Text) × (o ≡ Some value)
+is_value None e = absurd (cc)
+is_value (Some value) e = (value, refl)
+
+value_moved : (flag : Flag) (value : Text) (l : Line) (o : Option Said) → is_given flag l ≡ false → job_with (given flag value l) o ≡ job_with l (option_map (value_and flag value) o)
 value_moved Top value l None e = refl
 value_moved Clock value l None e = refl
 value_moved Half value l None e = refl
-value_moved Top value l (Some s) e = rw e
-value_moved Clock value l (Some s) e = rw e
-value_moved Half value l (Some s) e = rw e
+value_moved Define value l None e = refl
+value_moved Top value l (Some s) e = let none = is_none l.top e in rw none
+value_moved Clock value l (Some s) e = let none = is_none l.clock e in rw none
+value_moved Half value l (Some s) e = let none = is_none l.half e in rw none
+value_moved Define value l (Some s) e =
+    ap (λ (defines : List Text). called (record { tops = values l.top ++ s.tops; clocks = values l.clock ++ s.clocks; halves = values l.half ++ s.halves; defines = defines; paths = l.paths ++ s.paths }))
+    (append_assoc l.defines (value ∷ []) s.defines)
 
-value_twice : (flag : Flag) (value first : Text) (l : Line) (o : Option Said) → value_of flag l ≡ Some first → job_with l (option_map (value_and flag value) o) ≡ None
-value_twice Top value first l None e = refl
-value_twice Clock value first l None e = refl
-value_twice Half value first l None e = refl
-value_twice Top value first l (Some s) e = called-tops (behind l (value_and Top value s)) (rw e)
-value_twice Clock value first l (Some s) e = called-clocks (behind l (value_and Clock value s)) (rw e)
-value_twice Half value first l (Some s) e = called-halves (behind l (value_and Half value s)) (rw e)
+value_twice : (flag : Flag) (value : Text) (l : Line) (o : Option Said) → is_given flag l ≡ true → job_with l (option_map (value_and flag value) o) ≡ None
+value_twice Top value l None e = refl
+value_twice Clock value l None e = refl
+value_twice Half value l None e = refl
+value_twice Define value l None e = refl
+value_twice Top value l (Some s) e = let first = (is_value l.top e).1 in called-tops (behind l (value_and Top value s)) (rw first)
+value_twice Clock value l (Some s) e = let first = (is_value l.clock e).1 in called-clocks (behind l (value_and Clock value s)) (rw first)
+value_twice Half value l (Some s) e = let first = (is_value l.half e).1 in called-halves (behind l (value_and Half value s)) (rw first)
+value_twice Define value l (Some s) e =
+    let size = length-append l.defines (value ∷ s.defines) in
+    let full = leb-true most_defines (length l.defines) e in
+    called-defines (behind l (value_and Define value s)) (too_many_defines (l.defines ++ value ∷ s.defines) (omega arith))
 
 given_read : (flag : Flag) (value : Text) (words : List Text) (l : Line) → Reads words → job_read (read (given flag value l) words) ≡ job_with (given flag value l) (said None words)
 given_read Top value words l reads = reads (given Top value l)
 given_read Clock value words l reads = reads (given Clock value l)
 given_read Half value words l reads = reads (given Half value l)
+given_read Define value words l reads = reads (given Define value l)
 
 value_step : (flag : Flag) (value : Text) (words : List Text) (l : Line) → Reads words
     → job_read (option_and_then (λ m. read m words) (with_value flag value l)) ≡ job_with l (plain_value_and flag value (said None words))
-value_step flag value words l reads = go (is_plain value) (value_of flag l) refl
+value_step flag value words l reads = go (is_plain value) (is_given flag l) refl
   where
-    go : (plain : Bool) (before : Option Text) → value_of flag l ≡ before → job_read (option_and_then (λ m. read m words) (cond (plain && not (is_some before)) (Some (given flag value l)) None)) ≡ job_with l (cond plain (option_map (value_and flag value) (said None words)) None)
-    go true None e = given_read flag value words l reads ∙ value_moved flag value l (said None words) e
-    go true (Some first) e = sym (value_twice flag value first l (said None words) e)
-    go false None e = refl
-    go false (Some first) e = refl
+    go : (plain full : Bool) → is_given flag l ≡ full → job_read (option_and_then (λ m. read m words) (cond (plain && not full) (Some (given flag value l)) None)) ≡ job_with l (cond plain (option_map (value_and flag value) (said None words)) None)
+    go true false e = given_read flag value words l reads ∙ value_moved flag value l (said None words) e
+    go true true e = sym (value_twice flag value l (said None words) e)
+    go false false e = refl
+    go false true e = refl
 
 -- ---- one more word
 
@@ -141,7 +168,7 @@ step (Value flag) word words l at reads = value_step flag word words l reads
 step Path word words l at reads = path_step word words l Path at reads
 
 end : (l : Line) → called (said_of l) ≡ called (behind l (only_paths []))
-end l = rw (append-nil (values l.top), append-nil (values l.clock), append-nil (values l.half), append-nil l.paths)
+end l = rw (append-nil (values l.top), append-nil (values l.clock), append-nil (values l.half), append-nil l.defines, append-nil l.paths)
 
 ends : (next : Next) (l : Line) → job_read (cond (is_complete next) (Some l) None) ≡ job_with l (said_at next [])
 ends Any l = end l

@@ -1,3 +1,4 @@
+pub mod Heads
 pub mod Equal
 pub mod Counts
 pub mod Ranges

@@ -1,12 +1,13 @@
 -- The ranges that every job keeps.
 use Rattle.std.proofs.Common.{◌≡◌, ℕ, ◌≤◌, nat_le, eqb, not, ◌&&◌, List, [], ◌∷◌, length, get_or, Some, None, subst, arith}
+use Rattle.std.specs.List.{list_all}
 use Rattle.std.specs.Str.{all_ascii_digits}
 use Rattle.std.specs.Str.Parse.{digits_value}
 use Rattle.std.proofs.lemmas.Bool.{and_parts, leb-true}
 use Rattle.std.proofs.lemmas.Option.{cond_some, option_and_then_some, same_Some}
 use Rattle.vs_desk.specs.Places.{most_lanes}
 use Rattle.vs_job.specs.declared.job.Job.{Job}
-use Rattle.vs_job.specs.Job.{Text, behind_run, said, is_count, count_value, once, half_given, Paths, design_and_stimuli, job, IsJob, most_half}
+use Rattle.vs_job.specs.Job.{Text, behind_run, said, is_count, count_value, once, half_given, most_defines, most_head, are_defines, is_define, head_of, head_given, Paths, design_and_stimuli, job, IsJob, most_half}
 
 pub record IsCount (most n : ℕ) : Type 0 where
   pub from : 1 ≤ n
@@ -28,6 +29,13 @@ half_given-range [] n e =
     record { from = omega arith; to = omega arith }
 half_given-range (digits ∷ []) n e = count_value-range most_half digits n e
 half_given-range (digits ∷ more ∷ rest) n e = absurd (cc)
+
+head_given-short : (values : List Text) (head : Text) → head_given values ≡ Some head → length head ≤ most_head
+head_given-short values head e =
+    let h = cond_some (nat_le (length values) most_defines && are_defines values) (head_of values) head e in
+    let are = and_parts (nat_le (length values) most_defines) _ h.0 in
+    let short = leb-true (length (head_of values)) most_head (and_parts (list_all is_define values) _ are.1).1 in
+    subst (λ (t : Text). length t ≤ most_head) h.1 short
 
 pub record IsFew (stimuli : List Text) : Type 0 where
   pub some : 1 ≤ length stimuli
@@ -51,8 +59,9 @@ IsJob-job words j e =
     option_and_then_some _ (once s.tops) j e2 (λ top _ e3.
     option_and_then_some _ (once s.clocks) j e3 (λ clock _ e4.
     option_and_then_some _ (half_given s.halves) j e4 (λ half is_half e5.
-    option_and_then_some _ (design_and_stimuli s.paths) j e5 (λ paths are_paths e6.
+    option_and_then_some _ (head_given s.defines) j e5 (λ head is_head e6.
+    option_and_then_some _ (design_and_stimuli s.paths) j e6 (λ paths are_paths e7.
     let range = half_given-range s.halves half is_half in
     let few = design_and_stimuli-range s.paths paths are_paths in
     let P : Job → Type 0 = λ x. IsJob x in
-    subst P (same_Some _ j e6) (record { half_from = range.from; half_to = range.to; some = few.some; few = few.few })))))))
+    subst P (same_Some _ j e7) (record { half_from = range.from; half_to = range.to; short = head_given-short s.defines head is_head; some = few.some; few = few.few }))))))))

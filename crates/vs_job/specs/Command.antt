@@ -3,6 +3,7 @@ use Rattle.std.specs.Prelude.{map, option_map}
 use Rattle.vs_job.specs.declared.job.Job.{Job}
 use Rattle.vs_job.specs.declared.words.Command.{Command}
 use Rattle.vs_job.specs.declared.words.Line.{Line as Lent}
+use Rattle.vs_job.specs.Job.{head_of}
 use Rattle.vs_job.specs.Lines.{Line}
 
 abbrev pub line_of : Lent → Line
@@ -11,8 +12,16 @@ line_of l = record {
   top = option_map (λ s. s.now) l.top;
   clock = option_map (λ s. s.now) l.clock;
   half = option_map (λ s. s.now) l.half;
+  defines = map (λ s. s.now) l.defines.items;
   paths = map (λ s. s.now) l.paths.items;
 }
 
 abbrev pub job_of : Command → Job
-job_of c = record { top = c.top.now; clock = c.clock.now; half = c.half; design = c.design.now; stimuli = map (λ s. s.now) c.stimuli.now }
+job_of c = record {
+  top = c.top.now;
+  clock = c.clock.now;
+  half = c.half;
+  head = head_of (map (λ s. s.now) c.defines.now);
+  design = c.design.now;
+  stimuli = map (λ s. s.now) c.stimuli.now;
+}

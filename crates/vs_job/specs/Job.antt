@@ -1,12 +1,12 @@
 -- The words of the command line, and the job that they call for.
-use Rattle.std.specs.Prelude.{ℕ, ◌≤◌, Bool, true, not, ◌&&◌, ◌==◌, nat_le, List, [], ◌∷◌, length, slice_index, Option, Some, None, option_map, option_and_then, codes, bytes_eq, if◌then◌else◌}
-use Rattle.std.specs.List.{list_any, before_first, after_first}
+use Rattle.std.specs.Prelude.{ℕ, ◌≤◌, Bool, true, false, not, ◌&&◌, ◌||◌, ◌==◌, nat_le, List, [], ◌∷◌, ◌++◌, length, slice_index, Option, Some, None, option_map, option_and_then, codes, bytes_eq, if◌then◌else◌}
+use Rattle.std.specs.List.{list_all, list_any, before_first, after_first, flat_map}
 use Rattle.std.specs.Str.{all_ascii_digits}
 use Rattle.std.specs.Str.Parse.{digits_value}
 use Rattle.vs_desk.specs.Places.{most_lanes}
 use Rattle.vs_job.specs.declared.job.Job.{Job}
 use Rattle.vs_job.specs.declared.words.Flag.{Flag}
-use Rattle.vs_job.specs.declared.words.Flag.TheVariants.{Top, Clock, Half}
+use Rattle.vs_job.specs.declared.words.Flag.TheVariants.{Top, Clock, Half, Define}
 
 infixl 10 ◌>>=◌
 abbrev pub ◌>>=◌ : {A B : Type 0} → Option A → (A → Option B) → Option B
@@ -25,10 +25,11 @@ pub record Said : Type 0 where
   pub tops : List Text
   pub clocks : List Text
   pub halves : List Text
+  pub defines : List Text
   pub paths : List Text
 
 abbrev pub only_paths : List Text → Said
-only_paths paths = record { tops = []; clocks = []; halves = []; paths = paths }
+only_paths paths = record { tops = []; clocks = []; halves = []; defines = []; paths = paths }
 
 -- a path, and what the words behind it say
 abbrev pub path_and : Text → Said → Said
@@ -39,6 +40,7 @@ abbrev pub value_and : Flag → Text → Said → Said
 value_and Top value rest = record rest { tops = value ∷ rest.tops }
 value_and Clock value rest = record rest { clocks = value ∷ rest.clocks }
 value_and Half value rest = record rest { halves = value ∷ rest.halves }
+value_and Define value rest = record rest { defines = value ∷ rest.defines }
 
 -- the word doesn't begin with `-`
 abbrev pub is_plain : Text → Bool
@@ -52,7 +54,8 @@ plain_value_and flag value rest = if is_plain value then option_map (value_and f
 abbrev pub flag_named : Text → Option Flag
 flag_named name =
     if bytes_eq name (codes "--top") then Some Top
-    else (if bytes_eq name (codes "--clock") then Some Clock else (if bytes_eq name (codes "--half") then Some Half else None))
+    else (if bytes_eq name (codes "--clock") then Some Clock
+    else (if bytes_eq name (codes "--half") then Some Half else (if bytes_eq name (codes "--define") then Some Define else None)))
 
 -- `=`
 abbrev pub is_equals : ℕ → Bool
@@ -104,6 +107,73 @@ half_given [] = Some 5
 half_given (digits ∷ []) = half_value digits
 half_given _ = None
 
+-- a letter or `_`
+abbrev pub is_letter : ℕ → Bool
+is_letter b = (nat_le 65 b && nat_le b 90) || (nat_le 97 b && nat_le b 122) || b == 95
+
+-- a letter, a digit, `_` or `$`
+abbrev pub is_name_byte : ℕ → Bool
+is_name_byte b = is_letter b || (nat_le 48 b && nat_le b 57) || b == 36
+
+-- a simple identifier (3.7)
+abbrev pub is_identifier : Text → Bool
+is_identifier [] = false
+is_identifier (b ∷ bs) = is_letter b && list_all is_name_byte bs
+
+-- a printable character of ASCII, but no `\`, with which a line might go on or an escaped name begin
+abbrev pub is_body_byte : ℕ → Bool
+is_body_byte b = nat_le 32 b && nat_le b 126 && not (b == 92)
+
+-- `*`
+abbrev pub begins_with_star : Text → Bool
+begins_with_star [] = false
+begins_with_star (b ∷ bs) = b == 42
+
+-- whether it has `/*`, with which a comment of several lines may begin (3.3)
+abbrev pub has_comment : Text → Bool
+has_comment [] = false
+has_comment (b ∷ bs) = (b == 47 && begins_with_star bs) || has_comment bs
+
+-- the text of a macro, which ends with its line
+abbrev pub is_body : Text → Bool
+is_body text = list_all is_body_byte text && not (has_comment text)
+
+-- no text, or one that ends with its line
+abbrev pub is_body_given : Option Text → Bool
+is_body_given None = true
+is_body_given (Some text) = is_body text
+
+-- a value of `--define`: a macro's name, or its name, `=` and its text
+abbrev pub is_define : Text → Bool
+is_define value = is_identifier (before_first is_equals value) && is_body_given (attached value)
+
+-- what stands behind a macro's name: nothing, or a blank and its text
+abbrev pub body_text : Option Text → Text
+body_text None = []
+body_text (Some text) = 32 ∷ text
+
+-- the line that defines a macro (19.3.1), with its end
+abbrev pub define_line : Text → Text
+define_line value = codes "`define " ++ (before_first is_equals value ++ (body_text (attached value) ++ codes "\n"))
+
+-- what stands before the design's text: a line for each macro, in the order of the words
+abbrev pub head_of : List Text → Text
+head_of values = flat_map define_line values
+
+-- the greatest number of macros, and of bytes in their lines
+abbrev pub most_defines : ℕ
+most_defines = 64
+
+abbrev pub most_head : ℕ
+most_head = 65536
+
+-- each defines a macro, and their lines have few bytes
+abbrev pub are_defines : List Text → Bool
+are_defines values = list_all is_define values && nat_le (length (head_of values)) most_head
+
+abbrev pub head_given : List Text → Option Text
+head_given values = if nat_le (length values) most_defines && are_defines values then Some (head_of values) else None
+
 -- the design, and a stimulus for each lane
 pub record Paths : Type 0 where
   pub design : Text
@@ -120,8 +190,9 @@ called s = do
   top ← once s.tops
   clock ← once s.clocks
   half ← half_given s.halves
+  head ← head_given s.defines
   paths ← design_and_stimuli s.paths
-  Some (record { top = top; clock = clock; half = half; design = paths.design; stimuli = paths.stimuli })
+  Some (record { top = top; clock = clock; half = half; head = head; design = paths.design; stimuli = paths.stimuli })
 
 -- the job that the words call for, the program's own name first; none where they call for none
 unfoldable pub job : List Text → Option Job
@@ -134,5 +205,6 @@ job words = do
 pub record IsJob (j : Job) : Type 0 where
   pub half_from : 1 ≤ j.half
   pub half_to : j.half ≤ most_half
+  pub short : length j.head ≤ most_head
   pub some : 1 ≤ length j.stimuli
   pub few : length j.stimuli ≤ most_lanes

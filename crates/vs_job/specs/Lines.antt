@@ -3,10 +3,10 @@ use Rattle.std.specs.Prelude.{Bool, true, false, not, ◌&&◌, nat_le, List, []
 use Rattle.std.specs.List.{before_first}
 use Rattle.vs_desk.specs.Places.{most_lanes}
 use Rattle.vs_job.specs.declared.words.Flag.{Flag}
-use Rattle.vs_job.specs.declared.words.Flag.TheVariants.{Top, Clock, Half}
+use Rattle.vs_job.specs.declared.words.Flag.TheVariants.{Top, Clock, Half, Define}
 use Rattle.vs_job.specs.declared.words.Next.{Next}
 use Rattle.vs_job.specs.declared.words.Next.TheVariants.{Any, Value, Path}
-use Rattle.vs_job.specs.Job.{◌>>=◌, Text, Said, is_plain, is_equals, flag_named, attached, behind_run}
+use Rattle.vs_job.specs.Job.{◌>>=◌, Text, Said, is_plain, is_equals, flag_named, attached, behind_run, most_defines}
 
 -- what the words so far say, and what the next one may be
 pub record Line : Type 0 where
@@ -14,30 +14,33 @@ pub record Line : Type 0 where
   pub top : Option Text
   pub clock : Option Text
   pub half : Option Text
+  pub defines : List Text
   pub paths : List Text
 
 -- before the first word
 abbrev pub start : Line
-start = record { next = Any; top = None; clock = None; half = None; paths = [] }
+start = record { next = Any; top = None; clock = None; half = None; defines = []; paths = [] }
 
 -- one more path: the design and 256 stimuli at most
 abbrev pub with_path : Text → Line → Option Line
 with_path path l = if nat_le (length l.paths) most_lanes then Some (record l { paths = l.paths ++ path ∷ [] }) else None
 
--- the value of the option so far
-abbrev pub value_of : Flag → Line → Option Text
-value_of Top l = l.top
-value_of Clock l = l.clock
-value_of Half l = l.half
+-- the option has its value, or as many as it may have
+abbrev pub is_given : Flag → Line → Bool
+is_given Top l = is_some l.top
+is_given Clock l = is_some l.clock
+is_given Half l = is_some l.half
+is_given Define l = nat_le most_defines (length l.defines)
 
 abbrev pub given : Flag → Text → Line → Line
 given Top value l = record l { next = Any; top = Some value }
 given Clock value l = record l { next = Any; clock = Some value }
 given Half value l = record l { next = Any; half = Some value }
+given Define value l = record l { next = Any; defines = l.defines ++ value ∷ [] }
 
--- the option's value: it doesn't begin with `-`, and the option has no other
+-- the option's value: it doesn't begin with `-`, and the option may have it
 abbrev pub with_value : Flag → Text → Line → Option Line
-with_value flag value l = if is_plain value && not (is_some (value_of flag l)) then Some (given flag value l) else None
+with_value flag value l = if is_plain value && not (is_given flag l) then Some (given flag value l) else None
 
 -- an option, with its value or before it
 abbrev pub with_flag : Flag → Option Text → Line → Option Line
@@ -86,4 +89,4 @@ values None = []
 values (Some value) = value ∷ []
 
 abbrev pub said_of : Line → Said
-said_of l = record { tops = values l.top; clocks = values l.clock; halves = values l.half; paths = l.paths }
+said_of l = record { tops = values l.top; clocks = values l.clock; halves = values l.half; defines = l.defines; paths = l.paths }

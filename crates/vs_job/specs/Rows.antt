@@ -25,7 +25,11 @@ of_none line = record { line = line; job = None; bench = None }
 
 -- the job of top t, clock c and design d
 abbrev a_job : ℕ → List Text → Job
-a_job half stimuli = record { top = codes "t"; clock = codes "c"; half = half; design = codes "d"; stimuli = stimuli }
+a_job half stimuli = record { top = codes "t"; clock = codes "c"; half = half; head = []; design = codes "d"; stimuli = stimuli }
+
+-- the same with macros, and one stimulus
+abbrev defined : Text → Job
+defined head = record (a_job 5 (codes "s" ∷ [])) { head = head }
 
 -- options in any order, among the paths too, with their values as words of their own or behind `=`
 abbrev jobs : List Row
@@ -33,8 +37,11 @@ jobs =
     of_job (codes "x run --top t --clock c d s") (a_job 5 (codes "s" ∷ []))
     ∷ of_job (codes "x run d --clock=c s --half 9 --top=t u") (a_job 9 (codes "s" ∷ codes "u" ∷ []))
     ∷ of_job (codes "x run --top=t --half=1000000 --clock c -- d -s -- --top=u") (a_job 1000000 (codes "-s" ∷ codes "--" ∷ codes "--top=u" ∷ []))
-    ∷ of_job (codes "x run --top t=u= --clock= d s") (record { top = codes "t=u="; clock = []; half = 5; design = codes "d"; stimuli = codes "s" ∷ [] })
-    ∷ of_job (codes "x run --top=t=u --clock  d ") (record { top = codes "t=u"; clock = []; half = 5; design = codes "d"; stimuli = [] ∷ [] })
+    ∷ of_job (codes "x run --top t=u= --clock= d s") (record { top = codes "t=u="; clock = []; half = 5; head = []; design = codes "d"; stimuli = codes "s" ∷ [] })
+    ∷ of_job (codes "x run --top=t=u --clock  d ") (record { top = codes "t=u"; clock = []; half = 5; head = []; design = codes "d"; stimuli = [] ∷ [] })
+    ∷ of_job (codes "x run --define A --top t --clock c d s") (defined (codes "`define A\n"))
+    ∷ of_job (codes "x run --top t --clock c d s --define=W=4 --define _w$2=a=b//`A") (defined (codes "`define W 4\n`define _w$2 a=b//`A\n"))
+    ∷ of_job (codes "x run --define=W=1 --top t --define Z9= d --clock c --define W s") (defined (codes "`define W 1\n`define Z9 \n`define W\n"))
     ∷ []
 
 -- vectors for each lane, and the lanes, 64 where they aren't given
@@ -74,6 +81,19 @@ broken =
     ∷ codes "x run --top t --clock c --half=+5 d s"
     ∷ codes "x run --top t --clock c --half= d s"
     ∷ codes "x run --top t --clock c --half 1000001 d s"
+    ∷ codes "x run --top t --clock c d s --define"
+    ∷ codes "x run --top t --clock c d s --define="
+    ∷ codes "x run --top t --clock c d s --define ="
+    ∷ codes "x run --top t --clock c d s --define =4"
+    ∷ codes "x run --top t --clock c d s --define 4"
+    ∷ codes "x run --top t --clock c d s --define $w=4"
+    ∷ codes "x run --top t --clock c d s --define w.x=4"
+    ∷ codes "x run --top t --clock c d s --define=-w"
+    ∷ codes "x run --top t --clock c d s --define w=\\w"
+    ∷ codes "x run --top t --clock c d s --define w=\t"
+    ∷ codes "x run --top t --clock c d s --define w=4/*"
+    ∷ codes "x run --top t --clock c d s --define w=//*/"
+    ∷ codes "x run --top t --clock c d s --defines w"
     ∷ codes "x bench"
     ∷ codes "x bench 0"
     ∷ codes "x bench 1001"

@@ -18,6 +18,9 @@ pub struct Job {
     pub clock: Text,
     /// Half a clock period in units of time, from 1 to 1,000,000.
     pub half: u32,
+    /// What stands before the design's text: a line for each macro that the words define, 65,536 bytes
+    /// at most.
+    pub head: Text,
     /// The path of the design.
     pub design: Text,
     /// The path of each lane's stimulus, for 1 to 256 lanes.
@@ -44,12 +47,17 @@ impl From<AllocError> for JobError {
 }
 
 /// Reads the words of the command line, the program's own name first:
-/// `cyclesim run --top T --clock C [--half H] DESIGN STIM..`.
+/// `cyclesim run --top T --clock C [--half H] [--define NAME[=TEXT]].. DESIGN STIM..`.
 ///
-/// The options stand anywhere behind `run`, each once, with the value in the next word or, as in
-/// `--top=T`, behind the first `=`. `--` ends them: each word behind it is a path. Before it no value
-/// and no path begins with `-`. H is a decimal number from 1 to 1,000,000 without a sign or a leading
-/// zero, and 5 where it isn't given. The first path is the design, and 1 to 256 stimuli follow.
+/// The options stand anywhere behind `run`, each once but for `--define`, with the value in the next
+/// word or, as in `--top=T`, behind the first `=`. `--` ends them: each word behind it is a path.
+/// Before it no value and no path begins with `-`. H is a decimal number from 1 to 1,000,000 without a
+/// sign or a leading zero, and 5 where it isn't given. The first path is the design, and 1 to 256
+/// stimuli follow.
+///
+/// A value of `--define` is a simple identifier (IEEE 1364-2005, 3.7), or one with `=` and a text of
+/// printable characters of ASCII, which has neither `\` nor `/*`. There are 64 at most, and their
+/// lines have 65,536 bytes at most.
 ///
 /// `Usage` comes exactly where the words are no such list, before any memory is taken.
 pub fn read_job(alloc: Global, words: &[String]) -> Result<Job, JobError>

@@ -2,6 +2,7 @@
 #![tactic(auto)]
 
 mod bench;
+mod defines;
 mod job;
 mod laws;
 mod paths;

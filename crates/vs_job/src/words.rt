@@ -1,12 +1,13 @@
 //! The reading of the words, which takes no memory.
 
-ghost use Rattle.std.specs.Prelude.{◌≡◌, [], map, option_map, is_some, IfOk, string_bytes};
+ghost use Rattle.std.specs.Prelude.{◌≡◌, [], map, option_map, IfOk, string_bytes};
 ghost use Rattle.std.specs.List.{before_first};
 ghost use Rattle.vs_job.specs.Job as spec;
 ghost use Rattle.vs_job.specs.Lines as lines;
 ghost use Rattle.vs_job.specs.Lines.{said_of, values};
 ghost use Rattle.vs_job.specs.Command.{line_of, job_of};
 
+use crate::defines::{MOST_DEFINES, are_defines, head_of};
 use crate::job::Job;
 use crate::text::{Text, Texts};
 use arrayvec::ArrayVec;
@@ -31,6 +32,8 @@ pub(crate) enum Flag {
     Clock,
     /// `--half`.
     Half,
+    /// `--define`, which may be given again.
+    Define,
 }
 
 /// What the next word may be.
@@ -51,6 +54,7 @@ pub(crate) struct Line<'a> {
     top: Option<&'a str>,
     clock: Option<&'a str>,
     half: Option<&'a str>,
+    defines: ArrayVec<&'a str, MOST_DEFINES>,
     paths: ArrayVec<&'a str, MOST_PATHS>,
 }
 
@@ -60,6 +64,7 @@ pub(crate) struct Command<'b, 'a> {
     top: &'a str,
     clock: &'a str,
     half: u32,
+    defines: &'b [&'a str],
     design: &'a str,
     stimuli: &'b [&'a str],
 }
@@ -97,13 +102,15 @@ fn flag_named(name: &str) -> Option<Flag>
         Some(Flag::Clock)
     } else if name == "--half" {
         Some(Flag::Half)
+    } else if name == "--define" {
+        Some(Flag::Define)
     } else {
         None
     }
 }
 
 /// What stands before the first `=` of the word, and what stands behind it.
-fn name_and_value(word: &str) -> (&str, Option<&str>)
+pub(crate) fn name_and_value(word: &str) -> (&str, Option<&str>)
     ensures name { result.0.now ≡ before_first spec.is_equals word.now }
     ensures value { option_map (λ s. s.now) result.1 ≡ spec.attached word.now }
 {
@@ -123,6 +130,7 @@ impl<'a> Line<'a> {
             top: None,
             clock: None,
             half: None,
+            defines: ArrayVec::new(),
             paths: ArrayVec::new(),
         }
     }
@@ -138,22 +146,23 @@ impl<'a> Line<'a> {
         Some(())
     }
 
-    /// Whether the option has its value.
-    fn has_value(&self, flag: Flag) -> bool
-        ensures { result ≡ is_some (lines.value_of flag (line_of self.now)) }
+    /// Whether the option has its value, or as many as it may have.
+    fn is_given(&self, flag: Flag) -> bool
+        ensures { result ≡ lines.is_given flag (line_of self.now) }
     {
         match flag {
             Flag::Top => self.top.is_some(),
             Flag::Clock => self.clock.is_some(),
             Flag::Half => self.half.is_some(),
+            Flag::Define => self.defines.is_full(),
         }
     }
 
-    /// The option's value: it doesn't begin with `-`, and the option has no other.
+    /// The option's value: it doesn't begin with `-`, and the option may have it.
     fn read_value(&mut self, flag: Flag, value: &'a str) -> Option<()>
         ensures { option_map (λ _. line_of self.new) result ≡ lines.with_value flag value.now (line_of self.old) }
     {
-        if !is_plain(value) || self.has_value(flag) {
+        if !is_plain(value) || self.is_given(flag) {
             return None;
         }
         self.next = Next::Any;
@@ -161,6 +170,7 @@ impl<'a> Line<'a> {
             Flag::Top => self.top = Some(value),
             Flag::Clock => self.clock = Some(value),
             Flag::Half => self.half = Some(value),
+            Flag::Define => self.defines.push(value),
         }
         Some(())
     }
@@ -222,6 +232,10 @@ impl<'a> Line<'a> {
         let top = self.top?;
         let clock = self.clock?;
         let half = half_given(self.half)?;
+        let defines = self.defines.as_slice();
+        if !are_defines(defines) {
+            return None;
+        }
         let (design, stimuli) = self.paths.as_slice().split_first()?;
         if stimuli.is_empty() {
             return None;
@@ -230,6 +244,7 @@ impl<'a> Line<'a> {
             top,
             clock,
             half,
+            defines,
             design: *design,
             stimuli,
         })
@@ -307,6 +322,7 @@ impl Command<'_, '_> {
             top: copy(alloc, self.top)?,
             clock: copy(alloc, self.clock)?,
             half: self.half,
+            head: head_of(alloc, self.defines)?,
             design: copy(alloc, self.design)?,
             stimuli: copies(alloc, self.stimuli)?,
         })

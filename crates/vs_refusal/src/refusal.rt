@@ -1,7 +1,8 @@
 //! Refusals and their fields.
-ghost use Rattle.std.specs.Prelude.{◌≡◌, ◌≤◌, List, length, slice_get};
+ghost use Rattle.std.specs.Prelude.{◌≡◌, ◌≤◌, ◌-◌, List, length, slice_get};
 ghost use Rattle.vs_refusal.specs.declared.refusal.Field.{Field};
 ghost use Rattle.vs_refusal.specs.Refusals.{number, name, fields, few_fields, label_text};
+ghost use Rattle.vs_refusal.specs.Behind.{behind};
 
 use crate::names::{AtName, BareName, LaneName, LineName, ProcessName};
 use crate::processes::Processes;
@@ -139,6 +140,62 @@ impl Refusal {
             Refusal::Cycle { .. } => "Cycle",
             Refusal::Lane(name, _) => name.text(),
             Refusal::Line(name, _, _) => name.text(),
+        }
+    }
+}
+
+/// A place of the text, counted from byte n of it, or 0 where it stands before that byte.
+fn place_behind(n: u32, at: u32) -> u32
+    ensures { result ≡ at - n }
+{
+    at.saturating_sub(n)
+}
+
+impl Refusal {
+    /// The refusal with its place counted from byte n of the text, or 0 where it stands before that
+    /// byte. All else is kept. It takes no memory.
+    pub fn behind(self, n: u32) -> Refusal
+        ensures { result ≡ behind n self }
+    {
+        match self {
+            Refusal::Bare(name) => Refusal::Bare(name),
+            Refusal::SamePath { first, second } => Refusal::SamePath { first, second },
+            Refusal::At(name, at) => Refusal::At(name, place_behind(n, at)),
+            Refusal::TooLarge { size } => Refusal::TooLarge { size },
+            Refusal::Latch { process, bit, at } => Refusal::Latch {
+                process,
+                bit,
+                at: place_behind(n, at),
+            },
+            Refusal::Sensitivity {
+                process,
+                signal,
+                at,
+            } => Refusal::Sensitivity {
+                process,
+                signal,
+                at: place_behind(n, at),
+            },
+            Refusal::TwoDrivers {
+                bit,
+                first,
+                second,
+                at,
+            } => Refusal::TwoDrivers {
+                bit,
+                first,
+                second,
+                at: place_behind(n, at),
+            },
+            Refusal::Process(name, process, at) => {
+                Refusal::Process(name, process, place_behind(n, at))
+            }
+            Refusal::Cycle { processes, at } => Refusal::Cycle {
+                processes,
+                at: place_behind(n, at),
+            },
+            Refusal::Lane(name, lane) => Refusal::Lane(name, lane),
+            Refusal::Line(name, lane, line) => Refusal::Line(name, lane, line),
         }
     }
 }

@@ -1,5 +1,5 @@
 pub mod Loads
-pub mod Long
+pub mod Taken
 pub mod Opening
 pub mod Readied
 pub mod Signals

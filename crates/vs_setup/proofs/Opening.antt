@@ -1,5 +1,5 @@
 -- Why a stimulus can't be opened.
-use Rattle.std.proofs.Common.{◌≡◌, ◌≢◌, ◌⊎◌, ℕ, ◌<◌, ◌≤◌, ◌+◌, List, length, take, Some, arith, refl, inl, inr, IsTrue, Bool, true, false, Result, Ok, Err, IfErr, sym, subst, ap, ◌∙◌}
+use Rattle.std.proofs.Common.{◌≡◌, ◌≢◌, ◌⊎◌, ℕ, ◌<◌, ◌≤◌, ◌+◌, List, [], ◌++◌, length, take, Some, arith, refl, inl, inr, IsTrue, Bool, true, false, Result, Ok, Err, IfOk, IfErr, sym, subst, ap, ◌∙◌}
 use Rattle.vs_desk.specs.Desk.{Register, Contents, Fails}
 use Rattle.vs_desk.specs.Places.{design_place, stimulus_place}
 use Rattle.vs_stim.specs.declared.input.Input.{Input}
@@ -12,11 +12,10 @@ use Rattle.vs_feed.specs.Opened.{path_at, with_lanes, HaveHeaders}
 use Rattle.vs_design.specs.Designs.{Design}
 use Rattle.vs_flat.specs.DesignOf.{design_of}
 use Rattle.vs_engine.specs.Lanes.{Running}
-use Rattle.vs_refusal.specs.declared.refusal.Refusal.{Refusal}
 use Rattle.vs_accept.specs.declared.error.AcceptError.{AcceptError}
 use Rattle.vs_accept.specs.declared.error.AcceptError.TheVariants as A
 use Rattle.vs_accept.specs.Lent.{Acceptance}
-use Rattle.vs_accept.specs.Accepted.{most_bytes, IsRead, IsAcceptedText, IsRefusedText}
+use Rattle.vs_accept.specs.Accepted.{most_bytes, IsRead, IsAcceptedText}
 use Rattle.vs_accept.specs.Answers.{IsRefusalOf}
 use Rattle.vs_job.specs.declared.job.Job.{Job}
 use Rattle.vs_rounds.specs.Inputs.{data_inputs}
@@ -24,9 +23,10 @@ use Rattle.vs_setup.specs.declared.design_text.DesignError.{DesignError}
 use Rattle.vs_setup.specs.declared.design_text.DesignError.TheVariants as D
 use Rattle.vs_setup.specs.declared.error.SetupError.{SetupError}
 use Rattle.vs_setup.specs.declared.error.SetupError.TheVariants.{TooLong, Refused, Stimulus, ReadFault, Memory}
-use Rattle.vs_setup.specs.DesignText.{with_design, IsTooLong, DesignFails}
+use Rattle.vs_setup.specs.DesignText.{design_text, with_design, IsBehind, IsTooLong, DesignFails}
+use Rattle.vs_setup.specs.Loaded.{IsLoaded}
 use Rattle.vs_setup.specs.Prepared.{IsDesignLoaded}
-use Rattle.vs_setup.specs.Unprepared.{IsUnopened, IsUnprepared, IsDesignOf, IsDesignRefused, IsLoadError, IsTextRefusal, IsFirstRefused, StimulusFails, error_of, design_error, accept_error}
+use Rattle.vs_setup.specs.Unprepared.{IsUnopened, IsUnprepared, IsDesignOf, IsRefusedBehind, IsLoadError, IsTextRefusal, IsFirstRefused, StimulusFails, error_of, design_error, accept_error}
 
 -- what is known of the lane that stopped the opening
 pub record HasStopped (tells : Bool) (inputs : List Input) (stimuli : List (List ℕ)) (before : Register) (old : Contents) (now : Register) (new : Contents) (lane : ℕ) (error : StimError) : Type 0 where
@@ -101,35 +101,62 @@ on_err P Q (Err e) h f = f e h
 err_same : {A E : Type 0} (d e : E) → ◌≡◌ {A = Result A E} (Err d) (Err e) → e ≡ d
 err_same d e is = cc
 
+-- what a result has
+pub on_ok : {A E : Type 0} (P Q : A → Type 0) (r : Result A E) → IfOk r P → ((a : A) → P a → Q a) → IfOk r Q
+on_ok P Q (Ok a) h f = f a h
+on_ok P Q (Err e) h f = tt
+
 pub err_is : {A E : Type 0} (Q : E → Type 0) (r : Result A E) (e : E) → ◌≡◌ {A = Result A E} r (Err e) → Q e → IfErr r Q
 err_is Q (Ok a) e is h = tt
 err_is {A = A} Q (Err d) e is h = subst Q (err_same {A = A} d e is) h
 
 -- the error of a text that isn't accepted
-pub unaccepted : (text top clock : List ℕ) (e : AcceptError) → IsRefusalOf text top clock e → IsLoadError text top clock (accept_error e)
-unaccepted text top clock (A.Refused r) h = h
-unaccepted text top clock A.Memory h = h
+pub unaccepted : (bytes : ℕ) (text top clock : List ℕ) (e : AcceptError) → IsRefusalOf text top clock e → IsLoadError bytes text top clock (accept_error bytes e)
+unaccepted bytes text top clock (A.Refused r) h = record { refusal = r; refused = h; told = refl }
+unaccepted bytes text top clock A.Memory h = h
 
--- a text that can't be loaded
+-- a text that was taken whole, and has at most as many bytes as it may
+pub record IsWhole (tells : Bool) (job : Job) (old new : Contents) (text : List ℕ) : Type 0 where
+  pub behind : IsBehind tells job.head (old.files job.design) text
+  pub short : length text ≤ most_bytes
+  pub taken : IsTrue tells → new.left design_place ≡ []
+
+-- it is loaded
+pub loaded_behind : {W : Type 0} (lane : W → ℕ → Bool) (lanes : ℕ) (tells : Bool) (job : Job) (old : Contents) (text : List ℕ) (a : Acceptance) (inputs : List Input) (engine : Running W)
+    → IsBehind tells job.head (old.files job.design) text → IsLoaded lane lanes text job.top job.clock a inputs engine → IsDesignLoaded lane lanes tells job old a inputs engine
+loaded_behind lane lanes tells job old text a inputs engine b l = record {
+  file = b.taken;
+  file_is = b.taken_is;
+  loaded = subst (λ (xs : List ℕ). IsLoaded lane lanes xs job.top job.clock a inputs engine) b.text_is l;
+}
+
+-- it can't be loaded
 pub unloaded : (tells : Bool) (job : Job) (before : Register) (old : Contents) (now : Register) (new : Contents) (text : List ℕ) (e : SetupError)
-    → IsLoadError text job.top job.clock e → now ≡ with_design before job.design
-    → ((r : Refusal) → IsTrue tells → IsRefusedText text job.top job.clock r → IsDesignRefused job old new r) → IsUnprepared tells job before old now new e
-unloaded tells job before old now new text TooLong h at refused = absurd h
-unloaded tells job before old now new text (Refused r) h at refused = (at, (text, h), λ t. refused r t h)
-unloaded tells job before old now new text (Stimulus lane error) h at refused = absurd h
-unloaded tells job before old now new text (ReadFault place) h at refused = absurd h
-unloaded tells job before old now new text Memory h at refused =
+    → IsLoadError (length job.head) text job.top job.clock e → now ≡ with_design before job.design → IsWhole tells job old new text → IsUnprepared tells job before old now new e
+unloaded tells job before old now new text TooLong h at w = absurd h
+unloaded tells job before old now new text (Refused r) h at w =
+    let b = w.behind in
+    let P : List ℕ → Type 0 = λ xs. IsRefusedBehind (length job.head) xs job.top job.clock r in (
+      at,
+      (b.taken, subst P b.text_is h),
+      λ t.
+          let whole : text ≡ design_text job old = b.text_is ∙ ap (λ (file : List ℕ). job.head ++ file) (b.taken_is t) in
+          record { short = subst (λ (xs : List ℕ). length xs ≤ most_bytes) whole w.short; taken = w.taken t; refused = subst P whole h },
+    )
+unloaded tells job before old now new text (Stimulus lane error) h at w = absurd h
+unloaded tells job before old now new text (ReadFault place) h at w = absurd h
+unloaded tells job before old now new text Memory h at w =
     let none_below : 0 ≤ length job.stimuli = omega arith in
     inr (0, none_below, at)
 
 -- a design's text that can't be read
 pub undesigned : (tells : Bool) (job : Job) (before : Register) (old : Contents) (now : Register) (new : Contents) (path : List ℕ) (d : DesignError) → path ≡ job.design
-    → (d ≡ D.TooLong → IsTrue tells → IsTooLong (old.files path) (new.left design_place)) → (d ≢ D.ReadFault → now ≡ with_design before path)
-    → (d ≡ D.ReadFault → DesignFails tells before old now new path) → IsUnprepared tells job before old now new (design_error d)
+    → (d ≡ D.TooLong → IsTrue tells → IsTooLong job.head (old.files path) (new.left design_place)) → (d ≢ D.ReadFault → now ≡ with_design before path)
+    → (d ≡ D.ReadFault → DesignFails tells before old now new job.head path) → IsUnprepared tells job before old now new (design_error d)
 undesigned tells job before old now new path D.TooLong is long attached fails =
-    (attached (λ e. cc) ∙ ap (with_design before) is, λ t. subst (λ (p : List ℕ). IsTooLong (old.files p) (new.left design_place)) is (long refl t))
+    (attached (λ e. cc) ∙ ap (with_design before) is, λ t. subst (λ (p : List ℕ). IsTooLong job.head (old.files p) (new.left design_place)) is (long refl t))
 undesigned tells job before old now new path D.ReadFault is long attached fails =
-    inl (record { place_is = refl; fails = subst (λ (p : List ℕ). DesignFails tells before old now new p) is (fails refl) })
+    inl (record { place_is = refl; fails = subst (λ (p : List ℕ). DesignFails tells before old now new job.head p) is (fails refl) })
 undesigned tells job before old now new path D.Memory is long attached fails =
     let none_below : 0 ≤ length job.stimuli = omega arith in
     inr (0, none_below, attached (λ e. cc) ∙ ap (with_design before) is)
@@ -153,7 +180,8 @@ unfolding with_text
 unprepared lane lanes tells job before old mid now new a inputs engine l same e u = by_error e u
   where
     accepted : (t : IsTrue tells) → IsDesignOf job old (design_of a.flat)
-    accepted t = with_text job.top job.clock (design_of a.flat) l.text (old.files job.design) (l.text_is t) l.loaded.accepted
+    accepted t =
+        with_text job.top job.clock (design_of a.flat) (job.head ++ l.file) (design_text job old) (ap (λ (file : List ℕ). job.head ++ file) (l.file_is t)) l.loaded.accepted
 
     inputs_are : (t : IsTrue tells) → inputs ≡ data_inputs (design_of a.flat) (accepted t).accepted.clock.first
     inputs_are t = l.loaded.inputs_are

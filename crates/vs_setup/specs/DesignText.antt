@@ -1,26 +1,37 @@
--- The text of the design, taken from its place.
-use Rattle.std.specs.Prelude.{◌≡◌, ◌⊎◌, ℕ, ◌+◌, ◌<◌, ◌≤◌, Bool, IsTrue, List, length, drop}
+-- The text of the design: the lines of the macros that the words define, and behind them the file, taken from its place.
+use Rattle.std.specs.Prelude.{◌≡◌, ◌⊎◌, ℕ, ◌+◌, ◌-◌, ◌<◌, ◌≤◌, Bool, IsTrue, List, ◌++◌, length, drop}
 use Rattle.vs_desk.specs.declared.desk.Way.TheVariants.{Read}
 use Rattle.vs_desk.specs.Desk.{Register, Contents, with_place, Fails}
 use Rattle.vs_desk.specs.Places.{design_place}
 use Rattle.vs_accept.specs.Accepted.{most_bytes}
+use Rattle.vs_job.specs.declared.job.Job.{Job}
 
--- The text has more bytes than it may, and just the first of them was taken too.
-pub record IsTooLong (text left : List ℕ) : Type 0 where
-  pub long : most_bytes < length text
-  pub taken : left ≡ drop (most_bytes + 1) text
+-- the text that is accepted or refused, where the files have these bytes
+abbrev pub design_text : Job → Contents → List ℕ
+design_text job c = job.head ++ c.files job.design
+
+-- The text is this head with a file behind it, which is this one where the desk tells.
+pub record IsBehind (tells : Bool) (head file text : List ℕ) : Type 0 where
+  pub taken : List ℕ
+  pub text_is : text ≡ head ++ taken
+  pub taken_is : IsTrue tells → taken ≡ file
+
+-- The head and the file have more bytes than a text may have, and just the first byte of the file that is too many was taken too.
+pub record IsTooLong (head file left : List ℕ) : Type 0 where
+  pub long : most_bytes < length (head ++ file)
+  pub taken : left ≡ drop (most_bytes + 1 - length head) file
 
 -- the register after the design's place was attached to the path
 abbrev pub with_design : Register → List ℕ → Register
 with_design register path = with_place register design_place Read path
 
--- Some first bytes of the text were taken, not more than it may have.
-pub record IsPartTaken (text left : List ℕ) : Type 0 where
+-- Some first bytes of the file were taken, with the head not more than a text may have.
+pub record IsPartTaken (head file left : List ℕ) : Type 0 where
   pub count : ℕ
-  pub few : count ≤ most_bytes
-  pub left_is : left ≡ drop count text
+  pub few : length head + count ≤ most_bytes
+  pub left_is : left ≡ drop count file
 
--- The attach of the design's place failed, or a take there did, behind a part of the path's text.
-abbrev pub DesignFails : Bool → Register → Contents → Register → Contents → List ℕ → Type 0
-DesignFails tells old before new after path =
-    Fails old new design_place path ⊎ (Fails (with_design old path) new design_place old.asked × (IsTrue tells → IsPartTaken (before.files path) (after.left design_place)))
+-- The attach of the design's place failed, or a take there did, behind a part of the path's file.
+abbrev pub DesignFails : Bool → Register → Contents → Register → Contents → (head path : List ℕ) → Type 0
+DesignFails tells old before new after head path =
+    Fails old new design_place path ⊎ (Fails (with_design old path) new design_place old.asked × (IsTrue tells → IsPartTaken head (before.files path) (after.left design_place)))

@@ -1,5 +1,5 @@
 -- A run that can begin.
-use Rattle.std.specs.Prelude.{◌≡◌, ℕ, Bool, false, IsTrue, List, [], All, length, map}
+use Rattle.std.specs.Prelude.{◌≡◌, ℕ, Bool, false, IsTrue, List, [], ◌++◌, All, length, map}
 use Rattle.vs_desk.specs.Desk.{Register, Contents}
 use Rattle.vs_desk.specs.Places.{design_place}
 use Rattle.vs_design.specs.Designs.{Design}
@@ -29,16 +29,16 @@ pub record AreTextsKept (old new : Contents) : Type 0 where
   pub files : new.files ≡ old.files
   pub put : new.put ≡ old.put
 
--- The design's text was taken to its end, accepted and loaded, each lane's stimulus is about to give its first vector, and nothing of the
+-- The design's file was taken to its end, accepted behind the head and loaded, each lane's stimulus is about to give its first vector, and nothing of the
 -- waveforms was begun, where the desk told this before and tells that now, and `lane` reads a lane of a word.
 pub record IsPrepared {W : Type 0} (lane : W → ℕ → Bool) (tells : Bool) (job : Job) (before : Register) (old : Contents) (now : Register) (new : Contents)
     (m : Simulation W) (size : ℕ) (wave_paths : List (List ℕ)) : Type 0 where
   -- the design
-  pub text : List ℕ
-  pub text_is : IsTrue tells → text ≡ old.files job.design
+  pub file : List ℕ
+  pub file_is : IsTrue tells → file ≡ old.files job.design
   pub taken : IsTrue tells → new.left design_place ≡ []
   pub design : Design
-  pub accepted : IsAcceptedText text job.top job.clock design
+  pub accepted : IsAcceptedText (job.head ++ file) job.top job.clock design
   pub size_is : size ≡ size_of design
   pub program : IsProgramOf design accepted.accepted.clock.first m.engine.program
   -- no slot was run
@@ -55,8 +55,8 @@ pub record IsPrepared {W : Type 0} (lane : W → ℕ → Bool) (tells : Bool) (j
   pub readable : AreAttached now m.stimuli
   pub kept : IsTrue tells → AreTextsKept old new
 
--- the design's text was loaded, where the desk told this
+-- the design's file was loaded behind the head, where the desk told this
 pub record IsDesignLoaded {W : Type 0} (lane : W → ℕ → Bool) (lanes : ℕ) (tells : Bool) (job : Job) (old : Contents) (a : Acceptance) (inputs : List Input) (engine : Running W) : Type 0 where
-  pub text : List ℕ
-  pub text_is : IsTrue tells → text ≡ old.files job.design
-  pub loaded : IsLoaded lane lanes text job.top job.clock a inputs engine
+  pub file : List ℕ
+  pub file_is : IsTrue tells → file ≡ old.files job.design
+  pub loaded : IsLoaded lane lanes (job.head ++ file) job.top job.clock a inputs engine

@@ -1,9 +1,10 @@
 -- Why a run can't begin, by the error.
-use Rattle.std.specs.Prelude.{◌≡◌, ℕ, ◌<◌, ◌≤◌, ◌+◌, ◌⊎◌, Bool, IsTrue, List, [], length, take, Some}
+use Rattle.std.specs.Prelude.{◌≡◌, ℕ, ◌<◌, ◌≤◌, ◌+◌, ◌⊎◌, Bool, IsTrue, List, [], ◌++◌, length, take, Some}
 use Rattle.vs_desk.specs.Desk.{Register, Contents, Fails}
 use Rattle.vs_desk.specs.Places.{stimulus_place, design_place}
 use Rattle.vs_design.specs.Designs.{Design}
 use Rattle.vs_refusal.specs.declared.refusal.Refusal.{Refusal}
+use Rattle.vs_refusal.specs.Behind.{behind}
 use Rattle.vs_accept.specs.declared.error.AcceptError.{AcceptError}
 use Rattle.vs_accept.specs.declared.error.AcceptError.TheVariants as A
 use Rattle.vs_accept.specs.Accepted.{most_bytes, IsAcceptedText, IsRefusedText}
@@ -20,22 +21,28 @@ use Rattle.vs_setup.specs.declared.design_text.DesignError.{DesignError}
 use Rattle.vs_setup.specs.declared.design_text.DesignError.TheVariants as D
 use Rattle.vs_setup.specs.declared.error.SetupError.{SetupError}
 use Rattle.vs_setup.specs.declared.error.SetupError.TheVariants.{TooLong, Refused, Stimulus, ReadFault, Memory}
-use Rattle.vs_setup.specs.DesignText.{with_design, IsTooLong, DesignFails}
+use Rattle.vs_setup.specs.DesignText.{design_text, with_design, IsTooLong, DesignFails}
 use Rattle.vs_setup.specs.Places.{with_texts}
 
--- the design's file is accepted as this design
+-- the design's file is accepted behind the head, as this design
 abbrev pub IsDesignOf : Job → Contents → Design → Type 0
-IsDesignOf job c d = IsAcceptedText (c.files job.design) job.top job.clock d
+IsDesignOf job c d = IsAcceptedText (design_text job c) job.top job.clock d
 
--- The design's text has at most as many bytes as it may, all of it was taken, and it is refused so.
+-- The text is refused so, its places told behind this many bytes.
+pub record IsRefusedBehind (bytes : ℕ) (text top clock : List ℕ) (r : Refusal) : Type 0 where
+  pub refusal : Refusal
+  pub refused : IsRefusedText text top clock refusal
+  pub told : r ≡ behind bytes refusal
+
+-- The design's text has at most as many bytes as it may, all of its file was taken, and it is refused so, its places told in the file.
 pub record IsDesignRefused (job : Job) (old new : Contents) (r : Refusal) : Type 0 where
-  pub short : length (old.files job.design) ≤ most_bytes
+  pub short : length (design_text job old) ≤ most_bytes
   pub taken : new.left design_place ≡ []
-  pub refused : IsRefusedText (old.files job.design) job.top job.clock r
+  pub refused : IsRefusedBehind (length job.head) (design_text job old) job.top job.clock r
 
--- it is a refusal of some text, for the names of the job's top and clock
+-- it is a refusal of some file behind the head, for the names of the job's top and clock
 abbrev pub IsSomeRefusal : Job → Refusal → Type 0
-IsSomeRefusal job r = (text : List ℕ) × IsRefusedText text job.top job.clock r
+IsSomeRefusal job r = (file : List ℕ) × IsRefusedBehind (length job.head) (job.head ++ file) job.top job.clock r
 
 -- the text of lane i's stimulus
 abbrev pub text_of : Contents → List (List ℕ) → ℕ → List ℕ
@@ -68,7 +75,7 @@ StimulusFails tells stimuli before old now new lane = Fails (with_lanes before (
 -- a fault at the place of the design
 pub record IsDesignFault (tells : Bool) (job : Job) (before : Register) (old : Contents) (now : Register) (new : Contents) (place : ℕ) : Type 0 where
   pub place_is : place ≡ design_place
-  pub fails : DesignFails tells before old now new job.design
+  pub fails : DesignFails tells before old now new job.head job.design
 
 -- a fault at the place of a stimulus, behind the earlier ones
 pub record IsStimulusFault (tells : Bool) (job : Job) (before : Register) (old : Contents) (now : Register) (new : Contents) (place : ℕ) : Type 0 where
@@ -86,7 +93,7 @@ IsTextRefusal error = IsHeaderError error
 
 -- Why a run can't begin, where the desk told this before and tells that now.
 abbrev pub IsUnprepared : Bool → Job → Register → Contents → Register → Contents → SetupError → Type 0
-IsUnprepared tells job before old now new TooLong = (now ≡ with_design before job.design) × (IsTrue tells → IsTooLong (old.files job.design) (new.left design_place))
+IsUnprepared tells job before old now new TooLong = (now ≡ with_design before job.design) × (IsTrue tells → IsTooLong job.head (old.files job.design) (new.left design_place))
 IsUnprepared tells job before old now new (Refused r) =
     (now ≡ with_design before job.design) × IsSomeRefusal job r × (IsTrue tells → IsDesignRefused job old new r)
 IsUnprepared tells job before old now new (Stimulus lane error) =
@@ -116,13 +123,13 @@ design_error D.TooLong = TooLong
 design_error D.ReadFault = ReadFault design_place
 design_error D.Memory = Memory
 
--- the error of a text that isn't accepted
-abbrev pub accept_error : AcceptError → SetupError
-accept_error (A.Refused r) = Refused r
-accept_error A.Memory = Memory
+-- the error of a text that isn't accepted, its places told behind this many bytes
+abbrev pub accept_error : ℕ → AcceptError → SetupError
+accept_error bytes (A.Refused r) = Refused (behind bytes r)
+accept_error bytes A.Memory = Memory
 
--- a design's text can't be loaded
-abbrev pub IsLoadError : (text top clock : List ℕ) → SetupError → Type 0
-IsLoadError text top clock (Refused r) = IsRefusedText text top clock r
-IsLoadError text top clock Memory = Unit {0}
-IsLoadError text top clock _ = ⊥
+-- a design's text can't be loaded, its places told behind this many bytes
+abbrev pub IsLoadError : (bytes : ℕ) (text top clock : List ℕ) → SetupError → Type 0
+IsLoadError bytes text top clock (Refused r) = IsRefusedBehind bytes text top clock r
+IsLoadError bytes text top clock Memory = Unit {0}
+IsLoadError bytes text top clock _ = ⊥

@@ -1,4 +1,4 @@
-//! The text of the design.
+//! The text of the design: the lines of the macros that the words define, and the file behind them.
 
 ghost use Rattle.std.specs.Prelude.{◌≡◌, ◌≢◌, ◌<◌, ◌≤◌, ◌++◌, [], length, take, IsTrue, IsNone, IfOk, OnOk, OnErr, string_bytes};
 ghost use Rattle.vs_desk.specs.Desk.{IsAttached, Fails};
@@ -7,7 +7,7 @@ ghost use Rattle.vs_desk.specs.Taking.{OnlyTaken, TakesAt};
 ghost use Rattle.vs_desk.specs.Places.{design_place};
 ghost use Rattle.vs_accept.specs.Accepted.{most_bytes};
 ghost use Rattle.vs_setup.specs.declared.design_text.DesignError.TheVariants.{ReadFault, Memory};
-ghost use Rattle.vs_setup.specs.DesignText.{IsTooLong, IsPartTaken, DesignFails, with_design};
+ghost use Rattle.vs_setup.specs.DesignText.{IsBehind, IsTooLong, IsPartTaken, DesignFails, with_design};
 
 use std::alloc::{AllocError, Global};
 use thiserror::Error;
@@ -20,7 +20,7 @@ const BLOCK: usize = 4096;
 /// Why the design's text wasn't read.
 #[derive(Clone, Copy, PartialEq, Eq, Debug, Error)]
 pub enum DesignError {
-    /// 3: the text has more than 4,194,304 bytes.
+    /// 3: the text has more than 4,194,304 bytes, head and file together.
     #[error("the design's text has too many bytes")]
     TooLong,
     /// A call on the desk failed.
@@ -65,17 +65,19 @@ fn take_front<D: Desk>(desk: &mut D, block: &mut [u8], most: usize) -> Result<us
     desk.take(DESIGN_PLACE, &mut block[..room])
 }
 
-/// Takes a text to its end.
-fn take_text<D: Desk>(alloc: Global, desk: &mut D) -> Result<Vec<u8>, DesignError>
-    requires { IsAttached (D.register desk.old) design_place Read }
-    ensures text { IsTrue D.tells → IfOk result (λ text. text.items ≡ (D.contents desk.old).left design_place) }
+/// Takes a file to its end, and puts it behind the head.
+fn take_text<D: Desk>(alloc: Global, desk: &mut D, head: &[u8]) -> Result<Vec<u8>, DesignError>
+    requires attached { IsAttached (D.register desk.old) design_place Read }
+    requires head { length head.now ≤ most_bytes }
+    ensures text { IfOk result (λ text. IsBehind D.tells head.now ((D.contents desk.old).left design_place) text.items) }
     ensures end { IsTrue D.tells → OnOk result ((D.contents desk.new).left design_place ≡ []) }
     ensures short { IfOk result (λ text. length text.items ≤ most_bytes) }
-    ensures long { IsTrue D.tells → result ≡ Err DesignError.TooLong → IsTooLong ((D.contents desk.old).left design_place) ((D.contents desk.new).left design_place) }
+    ensures long { IsTrue D.tells → result ≡ Err DesignError.TooLong → IsTooLong head.now ((D.contents desk.old).left design_place) ((D.contents desk.new).left design_place) }
     ensures desk { TakesAt D.register D.tells D.contents design_place desk.old desk.new DesignError.ReadFault result }
-    ensures part { IsTrue D.tells → result ≡ Err DesignError.ReadFault → IsPartTaken ((D.contents desk.old).left design_place) ((D.contents desk.new).left design_place) }
+    ensures part { IsTrue D.tells → result ≡ Err DesignError.ReadFault → IsPartTaken head.now ((D.contents desk.old).left design_place) ((D.contents desk.new).left design_place) }
 {
     let mut text = Vec::new(alloc);
+    text.extend_from_slice(head)?;
     let mut block = [0; BLOCK];
     'taking: loop {
         let taken = take_front(desk, &mut block, MAX_BYTES + 1 - text.len())?;
@@ -89,25 +91,28 @@ fn take_text<D: Desk>(alloc: Global, desk: &mut D) -> Result<Vec<u8>, DesignErro
     }
 }
 
-/// Reads the design's text: attaches the design's place to the path, and takes the text to its end.
+/// Reads the design's text, which is the head and the file behind it: attaches the design's place to the path, and takes the file to
+/// its end.
 ///
-/// `TooLong` comes exactly where byte 4,194,305 was taken, and nothing is taken behind it. `ReadFault`
+/// `TooLong` comes exactly where byte 4,194,305 of the text was taken, and nothing is taken behind it. `ReadFault`
 /// comes only where a call at that place failed, and `Memory` only behind the attach.
 pub fn read_design<D: Desk>(
     alloc: Global,
     desk: &mut D,
     path: String,
+    head: &[u8],
 ) -> Result<Vec<u8>, DesignError>
-    requires { IsNone ((D.register desk.old).attached design_place) }
-    ensures text { IsTrue D.tells → IfOk result (λ text. text.items ≡ (D.contents desk.old).files (string_bytes path)) }
+    requires free { IsNone ((D.register desk.old).attached design_place) }
+    requires head { length head.now ≤ most_bytes }
+    ensures text { IfOk result (λ text. IsBehind D.tells head.now ((D.contents desk.old).files (string_bytes path)) text.items) }
     ensures end { IsTrue D.tells → OnOk result ((D.contents desk.new).left design_place ≡ []) }
     ensures short { IfOk result (λ text. length text.items ≤ most_bytes) }
     ensures long { IsTrue D.tells → result ≡ Err DesignError.TooLong
-        → IsTooLong ((D.contents desk.old).files (string_bytes path)) ((D.contents desk.new).left design_place) }
+        → IsTooLong head.now ((D.contents desk.old).files (string_bytes path)) ((D.contents desk.new).left design_place) }
     ensures only { IsTrue D.tells → OnlyTaken design_place (D.contents desk.old) (D.contents desk.new) }
     ensures attached { result ≢ Err DesignError.ReadFault → D.register desk.new ≡ with_design (D.register desk.old) (string_bytes path) }
-    ensures failed { result ≡ Err DesignError.ReadFault → DesignFails D.tells (D.register desk.old) (D.contents desk.old) (D.register desk.new) (D.contents desk.new) (string_bytes path) }
+    ensures failed { result ≡ Err DesignError.ReadFault → DesignFails D.tells (D.register desk.old) (D.contents desk.old) (D.register desk.new) (D.contents desk.new) head.now (string_bytes path) }
 {
     desk.attach(DESIGN_PLACE, path, Way::Read)?;
-    take_text(alloc, desk)
+    take_text(alloc, desk, head)
 }

@@ -15,10 +15,10 @@ use vs_stim::StimError;
 /// Why a run can't begin.
 #[derive(Debug, Drop, Error)]
 pub enum SetupError {
-    /// 3: the design has more than 4,194,304 bytes.
+    /// 3: the design has more than 4,194,304 bytes, with the lines of the macros before it.
     #[error("the design is too long")]
     TooLong,
-    /// 10 to 66: the text is no design, or its design breaks a rule.
+    /// 10 to 66: the text is no design, or its design breaks a rule. Places are those of the design's file.
     #[error("the design is refused")]
     Refused(Refusal),
     /// 70, 75 or 76: a lane's stimulus is refused at a line up to its header.
@@ -54,12 +54,13 @@ impl From<DesignError> for SetupError {
     }
 }
 
-impl From<AcceptError> for SetupError {
-    ghost from_gives = { λ a e. e ≡ accept_error a };
-
-    fn from(error: AcceptError) -> SetupError {
+impl SetupError {
+    /// The error of a text that isn't accepted, whose places are told behind so many bytes.
+    pub(crate) fn unaccepted(error: AcceptError, bytes: u32) -> SetupError
+        ensures { result ≡ accept_error bytes error }
+    {
         match error {
-            AcceptError::Refused(refusal) => SetupError::Refused(refusal),
+            AcceptError::Refused(refusal) => SetupError::Refused(refusal.behind(bytes)),
             AcceptError::Memory => SetupError::Memory,
         }
     }

@@ -11,7 +11,7 @@ ghost use Rattle.vs_stim.specs.Header.{IsInput};
 ghost use Rattle.vs_feed.specs.Lanes.{AreAttached, AreLanes, OtherPlacesKept};
 ghost use Rattle.vs_feed.specs.Opened.{AreFree, AreOpened, HaveHeaders, with_lanes};
 ghost use Rattle.vs_waves.specs.Wave.{IsNewWave};
-ghost use Rattle.vs_job.specs.Job.{IsJob};
+ghost use Rattle.vs_job.specs.Job.{IsJob, most_head};
 ghost use Rattle.vs_job.specs.Places.{vcd_path};
 ghost use Rattle.vs_setup.specs.DesignText.{with_design};
 ghost use Rattle.vs_setup.specs.Places.{IsFresh};
@@ -41,8 +41,8 @@ pub struct Prepared<W: Lanes> {
     pub wave_paths: Vec<String>,
 }
 
-/// Prepares a run: reads the design at place 1 and loads it, opens the stimulus of lane i at place 1000 + i by lane, and takes all the
-/// memory that the run needs.
+/// Prepares a run: reads the design at place 1 and loads it behind the lines of the job's macros, opens the stimulus of lane i at place
+/// 1000 + i by lane, and takes all the memory that the run needs.
 pub fn prepare<W: Lanes, D: Desk>(
     alloc: Global,
     job: &Job,
@@ -67,7 +67,8 @@ fn read_and_load<W: Lanes, D: Desk>(
     job: &Job,
     desk: &mut D,
 ) -> Result<Loaded<W>, SetupError>
-    requires { IsNone ((D.register desk.old).attached design_place) }
+    requires free { IsNone ((D.register desk.old).attached design_place) }
+    requires head { length job.now.head ≤ most_head }
     ensures loaded { IfOk result (λ l. IsDesignLoaded W.lane W.LANES D.tells job.now (D.contents desk.old) l.accepted l.inputs.items l.engine) }
     ensures register { OnOk result (D.register desk.new ≡ with_design (D.register desk.old) job.now.design) }
     ensures unprepared { IfErr result (IsUnprepared D.tells job.now (D.register desk.old) (D.contents desk.old) (D.register desk.new) (D.contents desk.new)) }
@@ -75,18 +76,21 @@ fn read_and_load<W: Lanes, D: Desk>(
     ensures only { IsTrue D.tells → OnlyTaken design_place (D.contents desk.old) (D.contents desk.new) }
 {
     let path = String::from_str(alloc, job.design.as_str())?;
-    let text = read_design(alloc, desk, path)?;
+    let text = read_design(alloc, desk, path, job.head.as_bytes())?;
     load_text(alloc, job, text.as_slice())
 }
 
-/// Loads the design's text.
+/// Loads the design's text, whose places are told behind the head.
 fn load_text<W: Lanes>(alloc: Global, job: &Job, text: &[u8]) -> Result<Loaded<W>, SetupError>
-    requires { length text.now ≤ most_bytes }
+    requires text { length text.now ≤ most_bytes }
+    requires head { length job.now.head ≤ most_head }
     ensures loaded { IfOk result (λ l. IsLoaded W.lane W.LANES text.now job.now.top job.now.clock l.accepted l.inputs.items l.engine) }
-    ensures refused { IfErr result (IsLoadError text.now job.now.top job.now.clock) }
+    ensures refused { IfErr result (IsLoadError (length job.now.head) text.now job.now.top job.now.clock) }
 {
-    let loaded = load(alloc, text, job.top.as_bytes(), job.clock.as_bytes())?;
-    Ok(loaded)
+    match load(alloc, text, job.top.as_bytes(), job.clock.as_bytes()) {
+        Ok(loaded) => Ok(loaded),
+        Err(error) => Err(SetupError::unaccepted(error, job.head.as_bytes().len() as u32)),
+    }
 }
 
 /// Opens the stimuli.

@@ -29,7 +29,7 @@ paths_long (suc lane) =
 pub bench_job_is : (b : Bench) → IsBench b → IsJob (bench.job b.lanes)
 bench_job_is b h =
     let long = paths_long b.lanes in
-    record { half_from = omega arith; half_to = omega arith; some = omega (arith, long, h.lanes_from); few = omega (arith, long, h.lanes_to) }
+    record { half_from = omega arith; half_to = omega arith; short = omega arith; some = omega (arith, long, h.lanes_from); few = omega (arith, long, h.lanes_to) }
 
 pub all_unused : (lanes : ℕ) → IsUnused no_register lanes
 all_unused lanes = record { texts = record { design = refl; stimuli = λ i h. refl }; waves = λ i h. refl }

@@ -122,7 +122,7 @@ stop_ends old mid new (R.WriteFault i) q h = write_ends old mid new (wave_place 
 design_ends : (tells : Bool) (job : Job) (old : Register) (before : Contents) (new : Register) (after : Contents) (place : ℕ) → IsDesignFault tells job old before new after place → Ends old new (ReadFault place)
 design_ends tells job old before new after place h = subst (λ (p : ℕ). Ends old new (ReadFault p)) (sym h.place_is) (by h.fails)
   where
-    by : DesignFails tells old before new after job.design → Ends old new (ReadFault 1)
+    by : DesignFails tells old before new after job.head job.design → Ends old new (ReadFault 1)
     by (inl f) = read_ends old old new 1 job.design (quiet old) (λ e. omega arith) f
     by (inr f) = read_ends old (with_design old job.design) new 1 old.asked (placed old 1 Read (job.design ∷ [])) (λ e. omega arith) f.0
 

@@ -1,5 +1,5 @@
 -- What stays of a run once its line was reported.
-use Rattle.std.proofs.Common.{◌≡◌, ◌≢◌, ℕ, List, inl, inr, IsTrue, Bool, true, false, Option, None, Some, if◌then◌else◌, sym, ap, ◌∙◌, subst, arith}
+use Rattle.std.proofs.Common.{◌≡◌, ◌≢◌, ℕ, List, ◌++◌, length, inl, inr, IsTrue, Bool, true, false, Option, None, Some, if◌then◌else◌, sym, ap, ◌∙◌, subst, arith}
 use Rattle.std.proofs.lemmas.Bool.{ne_eqb, cond-false}
 use Rattle.vs_desk.specs.Desk.{Register, Contents, with_put}
 use Rattle.vs_desk.specs.Places.{stimulus_place}
@@ -36,6 +36,7 @@ use Rattle.vs_top.specs.Reports.{IsSimulated}
 use Rattle.vs_top.specs.Outcomes.{outcome_line}
 use Rattle.vs_top.specs.Reported.{OnDone, OnStopped, ReportsDone}
 use Rattle.vs_top.specs.Headline.{IsWritten, IsLaneWritten}
+use Rattle.vs_top.proofs.Behind.{bare_behind}
 
 -- the waveforms stay where a line is put at place 0
 kept : (r : Register) (c : Contents) (line : List ℕ) (i : ℕ) → (with_put r c 0 line).put (wave_place i) ≡ c.put (wave_place i)
@@ -133,7 +134,9 @@ same_refusal r q h = cc
 
 setup_usage : (tells : Bool) (job : Job) (before : Register) (old : Contents) (now : Register) (new : Contents) (e : SetupError) → IsUnprepared tells job before old now new e → setup_outcome e ≡ Refused (Bare Usage) → ⊥
 setup_usage tells job before old now new S.TooLong c h = cc
-setup_usage tells job before old now new (S.Refused r) c h = text_usage c.1.0 job.top job.clock r c.1.1 (same_refusal r (Bare Usage) h)
+setup_usage tells job before old now new (S.Refused r) c h =
+    let t = c.1.1 in
+    text_usage (job.head ++ c.1.0) job.top job.clock t.refusal t.refused (bare_behind (length job.head) t.refusal Usage (sym t.told ∙ same_refusal r (Bare Usage) h))
 setup_usage tells job before old now new (S.Stimulus i e) c h = stimulus_usage i e h
 setup_usage tells job before old now new (S.ReadFault place) c h = cc
 setup_usage tells job before old now new S.Memory c h = cc

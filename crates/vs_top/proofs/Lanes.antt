@@ -1,5 +1,5 @@
 -- What each lane has got.
-use Rattle.std.proofs.Common.{◌≡◌, ℕ, suc, ◌<◌, ◌≤◌, List, [], ◌∷◌, length, map, None, All, IsTrue, refl, sym, ap, ◌∙◌, subst, arith, Bool}
+use Rattle.std.proofs.Common.{◌≡◌, ℕ, suc, ◌<◌, ◌≤◌, List, [], ◌∷◌, ◌++◌, length, map, None, All, IsTrue, refl, sym, ap, ◌∙◌, subst, arith, Bool}
 use Rattle.vs_net.specs.Queue.{start, ends}
 use Rattle.vs_design.specs.Designs.{Design}
 use Rattle.vs_design.specs.Networks.{network_of}
@@ -18,6 +18,7 @@ use Rattle.vs_rounds.specs.Headline.{IsLawfulLane, TextOfEveryRun, SomeRun}
 use Rattle.vs_rounds.specs.Lanes.{Simulation}
 use Rattle.vs_job.specs.declared.job.Job.{Job}
 use Rattle.vs_rounds.specs.Inputs.{data_inputs}
+use Rattle.vs_setup.specs.DesignText.{design_text}
 use Rattle.vs_setup.specs.Prepared.{IsPrepared, run_of}
 use Rattle.vs_top.specs.Headline.{IsLaneWritten}
 use Rattle.vs_top.specs.Ended.{IsRunOf}
@@ -73,7 +74,7 @@ pub run_is : {W : Type 0} (lane : W → ℕ → Bool) (tells : Bool) (job : Job)
     (p : IsPrepared lane tells job before old now new m size paths) → IsTrue tells → IsRunOf job old (run_of job old.files p.design p.accepted.accepted.clock.first)
 run_is lane tells job before old now new m size paths p t = record {
   design = p.design;
-  accepted = accepted_as job.top job.clock p.design p.text (old.files job.design) (p.text_is t) p.accepted;
+  accepted = accepted_as job.top job.clock p.design (job.head ++ p.file) (design_text job old) (ap (λ (file : List ℕ). job.head ++ file) (p.file_is t)) p.accepted;
   run_is = refl;
   headers = p.headers t;
 }

@@ -17,6 +17,7 @@ use Rattle.vs_refusal.specs.declared.refusal.Refusal.TheVariants.{SamePath}
 use Rattle.vs_accept.specs.Accepted.{NotBoth, OneDesign, OneRefusal}
 use Rattle.vs_job.specs.declared.job.Job.{Job}
 use Rattle.vs_job.specs.Places.{same_paths}
+use Rattle.vs_setup.specs.DesignText.{design_text}
 use Rattle.vs_setup.specs.Prepared.{run_of}
 use Rattle.vs_setup.specs.Unprepared.{IsHeaderRefusal}
 use Rattle.vs_top.specs.declared.outcome.Summary.{Summary}
@@ -99,7 +100,7 @@ no_refusal not_both job c l r (ByPaths x y two is) = some_none (same_paths job) 
 no_refusal not_both job c l r (ByLength d long is) =
     let short = l.accepted.short in
     omega (arith, long, short)
-no_refusal not_both job c l r (ByDesign d short t) = not_both (c.files job.design) job.top job.clock l.design r l.accepted t
+no_refusal not_both job c l r (ByDesign d short t) = not_both (design_text job c) job.top job.clock l.design t.refusal l.accepted t.refused
 no_refusal not_both job c l r (ByHeader d i e lt h is) = lawful_header job c l i e lt h
 no_refusal not_both job c l r (ByLine d run k i e lt m h is) = lawful_line job c l run m i e lt h.refusal
 

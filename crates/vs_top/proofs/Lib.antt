@@ -1,3 +1,4 @@
+pub mod Behind
 pub mod Losing
 pub mod Places
 pub mod Lanes

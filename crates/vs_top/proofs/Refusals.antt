@@ -17,13 +17,14 @@ use Rattle.vs_rounds.specs.declared.stop.Stop.TheVariants as R
 use Rattle.vs_refusal.specs.declared.refusal.Refusal.{Refusal}
 use Rattle.vs_refusal.specs.declared.refusal.Refusal.TheVariants.{Bare, SamePath}
 use Rattle.vs_refusal.specs.declared.names.BareName.TheVariants.{TooLong}
-use Rattle.vs_accept.specs.Accepted.{most_bytes, IsRefusedText, AreAlike, NotBoth, OneDesign, OneRefusal}
+use Rattle.vs_accept.specs.Accepted.{most_bytes, AreAlike, NotBoth, OneDesign, OneRefusal}
 use Rattle.vs_job.specs.declared.job.Job.{Job}
 use Rattle.vs_job.specs.Places.{same_paths}
 use Rattle.vs_setup.specs.declared.error.SetupError.{SetupError}
 use Rattle.vs_setup.specs.declared.error.SetupError.TheVariants as S
 use Rattle.vs_setup.specs.Prepared.{run_of}
-use Rattle.vs_setup.specs.Unprepared.{IsUnprepared, IsDesignOf, IsHeaderRefusal, text_of}
+use Rattle.vs_setup.specs.DesignText.{design_text}
+use Rattle.vs_setup.specs.Unprepared.{IsUnprepared, IsDesignOf, IsRefusedBehind, IsHeaderRefusal, text_of}
 use Rattle.vs_top.specs.declared.outcome.Summary.{Summary}
 use Rattle.vs_top.specs.declared.outcome.Outcome.{Outcome}
 use Rattle.vs_top.specs.declared.outcome.Outcome.TheVariants.{Done, Refused, WriteFault}
@@ -31,6 +32,7 @@ use Rattle.vs_top.specs.Answers.{stimulus_outcome, setup_outcome, stop_outcome}
 use Rattle.vs_top.specs.Ended.{IsEnd, IsRunOf}
 use Rattle.vs_top.specs.Ended.IsEnd.{same, setup, first, attached, stopped, whole}
 use Rattle.vs_top.specs.Refused.{IsRefusedJob, ByPaths, ByLength, ByDesign, ByHeader, ByLine}
+use Rattle.vs_top.proofs.Behind.{told_alike}
 
 pub some_none : {A : Type 0} (o : Option A) (a : A) → o ≡ Some a → o ≡ None → ⊥
 some_none o a s n = cc
@@ -90,12 +92,12 @@ refused_job tells job before old now new told o r is (whole d e) = absurd (done 
 
 pub one_inputs : OneDesign → (job : Job) (c : Contents) (d : Design) (a : IsDesignOf job c d) (e : Design) (b : IsDesignOf job c e) → data_inputs d a.accepted.clock.first ≡ data_inputs e b.accepted.clock.first
 one_inputs one job c d a e b =
-    subst (λ (e : Design). (b : IsDesignOf job c e) → data_inputs d a.accepted.clock.first ≡ data_inputs e b.accepted.clock.first) (one (c.files job.design) job.top job.clock d e a b)
+    subst (λ (e : Design). (b : IsDesignOf job c e) → data_inputs d a.accepted.clock.first ≡ data_inputs e b.accepted.clock.first) (one (design_text job c) job.top job.clock d e a b)
     (λ b. ap (λ (s : Signal). data_inputs d s.first) (some_same _ a.accepted.clock b.accepted.clock a.accepted.clock_found b.accepted.clock_found)) b
 
 one_run : OneDesign → (job : Job) (c : Contents) (m n : Run) → IsRunOf job c m → IsRunOf job c n → m ≡ n
 one_run one job c m n a b =
-    a.run_is ∙ subst (λ (e : Design). (b : IsDesignOf job c e) → run_of job c.files a.design a.accepted.accepted.clock.first ≡ run_of job c.files e b.accepted.clock.first) (one (c.files job.design) job.top job.clock a.design b.design a.accepted b.accepted)
+    a.run_is ∙ subst (λ (e : Design). (b : IsDesignOf job c e) → run_of job c.files a.design a.accepted.accepted.clock.first ≡ run_of job c.files e b.accepted.clock.first) (one (design_text job c) job.top job.clock a.design b.design a.accepted b.accepted)
     (λ b. ap (λ (s : Signal). run_of job c.files a.design s.first) (some_same _ a.accepted.accepted.clock b.accepted.clock a.accepted.accepted.clock_found b.accepted.clock_found)) b.accepted
     ∙ sym b.run_is
 
@@ -177,19 +179,19 @@ by_paths job c r q x y two is (ByDesign d short t) = absurd (some_none (same_pat
 by_paths job c r q x y two is (ByHeader d j f lt h be) = absurd (some_none (same_paths job) (x, y) two d)
 by_paths job c r q x y two is (ByLine d n l j f lt m h be) = absurd (some_none (same_paths job) (x, y) two d)
 
-by_length : (job : Job) (c : Contents) (r q : Refusal) → same_paths job ≡ None → most_bytes < length (c.files job.design) → r ≡ Bare TooLong → IsRefusedJob job c q → AreAlike r q
+by_length : (job : Job) (c : Contents) (r q : Refusal) → same_paths job ≡ None → most_bytes < length (design_text job c) → r ≡ Bare TooLong → IsRefusedJob job c q → AreAlike r q
 by_length job c r q d long is (ByPaths v w two be) = absurd (some_none (same_paths job) (v, w) two d)
 by_length job c r q d long is (ByLength e also be) = inl (is ∙ sym be)
-by_length job c r q d long is (ByDesign e short t) = absurd (long_short (c.files job.design) long short)
-by_length job c r q d long is (ByHeader e j f lt h be) = absurd (long_short (c.files job.design) long h.accepted.short)
-by_length job c r q d long is (ByLine e n l j f lt m h be) = absurd (long_short (c.files job.design) long m.accepted.short)
+by_length job c r q d long is (ByDesign e short t) = absurd (long_short (design_text job c) long short)
+by_length job c r q d long is (ByHeader e j f lt h be) = absurd (long_short (design_text job c) long h.accepted.short)
+by_length job c r q d long is (ByLine e n l j f lt m h be) = absurd (long_short (design_text job c) long m.accepted.short)
 
-by_design : Laws → (job : Job) (c : Contents) (r q : Refusal) → same_paths job ≡ None → length (c.files job.design) ≤ most_bytes → IsRefusedText (c.files job.design) job.top job.clock r → IsRefusedJob job c q → AreAlike r q
+by_design : Laws → (job : Job) (c : Contents) (r q : Refusal) → same_paths job ≡ None → length (design_text job c) ≤ most_bytes → IsRefusedBehind (length job.head) (design_text job c) job.top job.clock r → IsRefusedJob job c q → AreAlike r q
 by_design laws job c r q d short t (ByPaths v w two be) = absurd (some_none (same_paths job) (v, w) two d)
-by_design laws job c r q d short t (ByLength e long be) = absurd (long_short (c.files job.design) long short)
-by_design laws job c r q d short t (ByDesign e also u) = laws.alike (c.files job.design) job.top job.clock r q t u
-by_design laws job c r q d short t (ByHeader e j f lt h be) = absurd (laws.not_both (c.files job.design) job.top job.clock h.design r h.accepted t)
-by_design laws job c r q d short t (ByLine e n l j f lt m h be) = absurd (laws.not_both (c.files job.design) job.top job.clock m.design r m.accepted t)
+by_design laws job c r q d short t (ByLength e long be) = absurd (long_short (design_text job c) long short)
+by_design laws job c r q d short t (ByDesign e also u) = told_alike (length job.head) (design_text job c) job.top job.clock r q t u (laws.alike (design_text job c) job.top job.clock t.refusal u.refusal t.refused u.refused)
+by_design laws job c r q d short t (ByHeader e j f lt h be) = absurd (laws.not_both (design_text job c) job.top job.clock h.design t.refusal h.accepted t.refused)
+by_design laws job c r q d short t (ByLine e n l j f lt m h be) = absurd (laws.not_both (design_text job c) job.top job.clock m.design t.refusal m.accepted t.refused)
 
 -- a header that is refused, and the job's run
 header_run : OneDesign → (job : Job) (c : Contents) (i : ℕ) (e : StimError) (n : Run) → i < length job.stimuli → IsHeaderRefusal job c i e → IsRunOf job c n → ⊥
@@ -200,16 +202,16 @@ header_run one job c i e n lt h m =
 
 by_header : Laws → (job : Job) (c : Contents) (r q : Refusal) → same_paths job ≡ None → (i : ℕ) (e : StimError) → i < length job.stimuli → IsHeaderRefusal job c i e → Refused r ≡ stimulus_outcome i e → IsRefusedJob job c q → AreAlike r q
 by_header laws job c r q d i e lt h is (ByPaths v w two be) = absurd (some_none (same_paths job) (v, w) two d)
-by_header laws job c r q d i e lt h is (ByLength x long be) = absurd (long_short (c.files job.design) long h.accepted.short)
-by_header laws job c r q d i e lt h is (ByDesign x short t) = absurd (laws.not_both (c.files job.design) job.top job.clock h.design q h.accepted t)
+by_header laws job c r q d i e lt h is (ByLength x long be) = absurd (long_short (design_text job c) long h.accepted.short)
+by_header laws job c r q d i e lt h is (ByDesign x short t) = absurd (laws.not_both (design_text job c) job.top job.clock h.design t.refusal h.accepted t.refused)
 by_header laws job c r q d i e lt h is (ByHeader x j f also g be) = same_told r q (stimulus_outcome i e) (stimulus_outcome j f) is (one_header laws.one job c i j e f h g) be
 by_header laws job c r q d i e lt h is (ByLine x n l j f also m g be) = absurd (header_run laws.one job c i e n lt h m)
 
 by_line : Laws → (job : Job) (c : Contents) (r q : Refusal) → same_paths job ≡ None → (n : Run) (k i : ℕ) (e : StimError) → i < length job.stimuli → IsRunOf job c n → IsRefusal n (length job.stimuli) k i e
     → Refused r ≡ stimulus_outcome i e → IsRefusedJob job c q → AreAlike r q
 by_line laws job c r q d n k i e lt m h is (ByPaths v w two be) = absurd (some_none (same_paths job) (v, w) two d)
-by_line laws job c r q d n k i e lt m h is (ByLength x long be) = absurd (long_short (c.files job.design) long m.accepted.short)
-by_line laws job c r q d n k i e lt m h is (ByDesign x short t) = absurd (laws.not_both (c.files job.design) job.top job.clock m.design q m.accepted t)
+by_line laws job c r q d n k i e lt m h is (ByLength x long be) = absurd (long_short (design_text job c) long m.accepted.short)
+by_line laws job c r q d n k i e lt m h is (ByDesign x short t) = absurd (laws.not_both (design_text job c) job.top job.clock m.design t.refusal m.accepted t.refused)
 by_line laws job c r q d n k i e lt m h is (ByHeader x j f also g be) = absurd (header_run laws.one job c j f n also g m)
 by_line laws job c r q d n k i e lt m h is (ByLine x o l j f also p g be) =
     let there = subst (λ (run : Run). IsRefusal run (length job.stimuli) l j f) (one_run laws.one job c o n p m) g in

@@ -19,6 +19,7 @@ use Rattle.vs_rounds.specs.Drives.{Vector, vector_state}
 use Rattle.vs_rounds.specs.Counts.{AreCounted}
 use Rattle.vs_job.specs.declared.job.Job.{Job}
 use Rattle.vs_rounds.specs.Inputs.{data_inputs}
+use Rattle.vs_setup.specs.DesignText.{design_text}
 use Rattle.vs_setup.specs.Prepared.{run_of}
 use Rattle.vs_top.specs.declared.outcome.Summary.{Summary}
 
@@ -53,11 +54,11 @@ pub record AreStores (d : Design) (clock settlings operations : ℕ) : Type 0 wh
   pub settlings_are : settlings ≡ 2 * (later + 1)
   pub operations_are : operations ≡ first_stores program + later * fall_stores program + (later + 1) * rise_stores program
 
--- The design's text is accepted, each lane is written, all texts were taken to their end, and the counts are those of the design and of the stimuli, where the desk had these
+-- The design's text is accepted behind the lines of the macros, each lane is written, all texts were taken to their end, and the counts are those of the design and of the stimuli, where the desk had these
 -- contents before and after.
 pub record IsWritten (job : Job) (old new : Contents) (s : Summary) : Type 0 where
   pub design : Design
-  pub accepted : IsAcceptedText (old.files job.design) job.top job.clock design
+  pub accepted : IsAcceptedText (design_text job old) job.top job.clock design
   pub lanes : (i : ℕ) → i < length job.stimuli
       → IsLaneWritten design accepted.accepted.clock.first job.half (data_inputs design accepted.accepted.clock.first) (old.files (path_at job.stimuli i)) (new.put (wave_place i))
   pub design_taken : new.left design_place ≡ []

@@ -32,7 +32,7 @@ use vs_refusal::{BareName, Refusal};
 
 /// Runs a job, and puts its report line on place 0 of the desk.
 ///
-/// The design is read at place 1, the stimulus of lane i at place 1000 + i, and the waveform of lane i is put at place 2000 + i.
+/// The design is read at place 1, behind the lines of the job's macros, the stimulus of lane i at place 1000 + i, and the waveform of lane i is put at place 2000 + i.
 pub fn simulate<D: Desk, L: Ledger>(
     alloc: Global,
     job: &Job,
@@ -57,9 +57,9 @@ pub fn simulate<D: Desk, L: Ledger>(
 }
 
 /// Runs the job or the bench that the words of the command line call for, the program's own name first: `cyclesim run --top T --clock C
-/// [--half H] DESIGN STIM..`, or `cyclesim bench N [L]`.
+/// [--half H] [--define NAME[=TEXT]].. DESIGN STIM..`, or `cyclesim bench N [L]`.
 ///
-/// Where the words call for a job, the design is accepted and every stimulus is valid, a run that ends `Done` has written, for each lane,
+/// Where the words call for a job, the design is accepted behind the lines of the macros and every stimulus is valid, a run that ends `Done` has written, for each lane,
 /// exactly the VCD text of the slot-end values that every completed run of the event queue (IEEE 1364-2005, clause 11) on that lane's
 /// stimulus alone has, and has executed at most as many plane operations as the design's size for each half-period of the clock, for all
 /// lanes together.

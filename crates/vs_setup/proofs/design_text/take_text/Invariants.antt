@@ -1,7 +1,8 @@
-use Rattle.std.proofs.Common.{◌≡◌, ◌+◌, ◌-◌, ◌≤◌, ◌++◌, length, IsTrue}
+use Rattle.std.proofs.Common.{◌≡◌, ◌+◌, ◌-◌, ◌≤◌, length, IsTrue}
 use Rattle.vs_desk.specs.Taking.{OnlyTaken}
 use Rattle.vs_desk.specs.Places.{design_place}
 use Rattle.vs_accept.specs.Accepted.{most_bytes}
+use Rattle.vs_setup.proofs.Taken.{IsTaken}
 use Rattle.vs_setup.proofs.design_text.take_text.Given as goal
 
 abbrev pub invariant-taking : goal.invariant-taking
@@ -9,7 +10,7 @@ invariant-taking g l = record {
   same : g.D.Desk.register l.desk ≡ g.D.Desk.register l.fn.desk;
   short : length l.text.items ≤ most_bytes;
   block : length l.block ≡ 4096;
-  text : IsTrue g.D.Desk.tells → l.text.items ++ (g.D.Desk.contents l.desk).left design_place ≡ (g.D.Desk.contents l.fn.desk).left design_place;
+  taken : IsTaken g.D.Desk.tells l.fn.head ((g.D.Desk.contents l.fn.desk).left design_place) ((g.D.Desk.contents l.desk).left design_place) l.text.items;
   only : IsTrue g.D.Desk.tells → OnlyTaken design_place (g.D.Desk.contents l.fn.desk) (g.D.Desk.contents l.desk);
 }
 

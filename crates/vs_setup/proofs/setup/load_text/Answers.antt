@@ -1,9 +1,13 @@
-use Rattle.std.proofs.lemmas.Result.{err_from_is_err_and}
+use Rattle.std.proofs.Common.{◌≡◌, List, ℕ, length, ap, sym, subst, ◌∙◌}
+use Rattle.vs_setup.specs.declared.error.SetupError.{SetupError}
+use Rattle.vs_setup.specs.Unprepared.{IsLoadError, accept_error}
 use Rattle.vs_setup.proofs.Opening.{unaccepted}
 use Rattle.vs_setup.proofs.setup.load_text.Goals as goal
 
-pub returns-in_err-loaded-clause-refused : goal.returns-in_err-loaded-clause-refused
-returns-in_err-loaded-clause-refused g c =
-    let p = err_from_is_err_and c.from_residual.result c.from_residual.ensures.1 in
-    rw (p.1, p.2) (unaccepted c.args.text.now c.args.job.now.top c.args.job.now.clock c.in_err-loaded.field-0.0
-    (rw (c.as_bytes.ensures, c.as_bytes-2.ensures) at c.in_err-loaded.ensures.refused))
+pub returns-in-Err-clause-refused : goal.returns-in-Err-clause-refused
+returns-in-Err-clause-refused g c =
+    let job = c.args.job.now in
+    let told : c.unaccepted.result ≡ accept_error (length job.head) c.in-Err.error =
+    c.unaccepted.ensures ∙ ap (λ (head : List ℕ). accept_error (length head) c.in-Err.error) c.as_bytes-in-Err.ensures in
+    subst (λ (e : SetupError). IsLoadError (length job.head) c.args.text.now job.top job.clock e) (sym told)
+    (unaccepted (length job.head) c.args.text.now job.top job.clock c.in-Err.error (rw (c.as_bytes.ensures, c.as_bytes-2.ensures) at c.in-Err.ensures.refused))

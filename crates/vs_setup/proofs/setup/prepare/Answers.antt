@@ -60,8 +60,8 @@ returns-clause-prepared g c =
       few = subst (λ ks. length ks ≤ g.W.Word.LANES) (sym drive_is) (omega (arith, c.requires.lanes, opened.lanes));
     } in
     record {
-      text = parts.loaded.text;
-      text_is = parts.loaded.text_is;
+      file = parts.loaded.file;
+      file_is = parts.loaded.file_is;
       taken = λ t. (c.in_ok-drive.ensures.others t).before 1 (omega arith) ∙ c.in_ok-loaded.ensures.taken t;
       design = design_of l.accepted.flat;
       accepted = parts.loaded.loaded.accepted;

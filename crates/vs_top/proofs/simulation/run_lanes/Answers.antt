@@ -1,4 +1,4 @@
-use Rattle.std.proofs.Common.{rules, false, ◌≡◌, ◌*◌, ◌<◌, ℕ, List, String, Global, IsTrue, IsNone, length, map, take, sym, subst, ap, ◌∙◌, refl, arith}
+use Rattle.std.proofs.Common.{rules, false, ◌≡◌, ◌*◌, ◌<◌, ℕ, List, ◌++◌, String, Global, IsTrue, IsNone, length, map, take, sym, subst, ap, ◌∙◌, refl, arith}
 use Rattle.std.specs.Prelude.{string_bytes, if◌then◌else◌, []}
 use Rattle.std.proofs.lemmas.List.{length-map, take-map}
 use Rattle.vs_desk.specs.declared.desk.Way.TheVariants.{Write}
@@ -14,6 +14,7 @@ use Rattle.vs_waves.specs.Attached.{is_one_of, AreEmptied}
 use Rattle.vs_rounds.specs.Stops.{AreUnrefused, IsLaneOf, HasCause, ReadStops, StopsIn}
 use Rattle.vs_rounds.specs.Counts.{AreDone, AreCounted}
 use Rattle.vs_job.specs.Places.{vcd_path}
+use Rattle.vs_setup.specs.DesignText.{design_text}
 use Rattle.vs_setup.specs.Prepared.{run_of}
 use Rattle.vs_setup.specs.Places.{with_texts}
 use Rattle.vs_top.specs.declared.outcome.Outcome.TheVariants.{Done}
@@ -150,7 +151,7 @@ all_written g c =
           ∙ ap (λ (r : Register). with_places r (waveform_place 0) Write (wave_paths job)) (c.in_default-begin.ensures.same ∙ p.register_is);
       written = λ t. record {
         design = p.design;
-        accepted = accepted_as job.top job.clock p.design p.text (old.files job.design) (p.text_is t) p.accepted;
+        accepted = accepted_as job.top job.clock p.design (job.head ++ p.file) (design_text job old) (ap (λ (file : List ℕ). job.head ++ file) (p.file_is t)) p.accepted;
         stimuli_taken = λ i h. (done t).taken i h;
         design_taken = (c.rounds.ensures.others t).left 1 (omega arith) ∙ ap (λ (left : ℕ → List ℕ). left 1) (empty t).left ∙ (c.begin.ensures.others t).before 1 (omega arith) ∙ p.taken t;
         lanes = λ i h. lane_written c.headline_law.ensures.every c.headline_law.ensures.some c.known_law.ensures.some p.design job.clock p.accepted.accepted job.half run.inputs (are_data_inputs p.design clock p.all_inputs)
