@@ -1,12 +1,11 @@
 //! The help that `clap` has for the declared words, which README shows.
 
 use crate::command::{bench, run};
+use std::alloc::{AllocError, Global};
 use std::test::Fail;
 
-#[test]
-fn help_of_run(rt: HostRuntime) -> Result<(), Fail> {
-    let help = run(rt.alloc(), "cyclesim run")?.render_help()?;
-    let expected = "\
+/// The help of the words behind `run`.
+const RUN: &str = "\
 Runs a design under stimuli, and writes a waveform beside each
 
 Usage: cyclesim run [OPTIONS] --top <T> --clock <C> <DESIGN> <STIM>...
@@ -21,14 +20,9 @@ Options:
       --half <H>              Half a clock period, from 1 to 1000000 [default: 5]
       --define <NAME[=TEXT]>  A macro that is defined before the design's text, up to 64 of them
 ";
-    assert_eq!(&rt; help.as_str(), expected);
-    Ok(())
-}
 
-#[test]
-fn help_of_bench(rt: HostRuntime) -> Result<(), Fail> {
-    let help = bench(rt.alloc(), "cyclesim bench")?.render_help()?;
-    let expected = "\
+/// The help of the words behind `bench`.
+const BENCH: &str = "\
 Runs a design and stimuli of its own, in memory
 
 Usage: cyclesim bench <N> [L]
@@ -37,6 +31,24 @@ Arguments:
   <N>  The vectors of each lane, from 1 to 1000
   [L]  The lanes, from 1 to 256 [default: 64]
 ";
-    assert_eq!(&rt; help.as_str(), expected);
+
+/// The help text of `run` or of `bench`.
+fn help(alloc: Global, word: &str) -> Result<String, AllocError> {
+    let command = match word {
+        "run" => run(alloc, "cyclesim run"),
+        _ => bench(alloc, "cyclesim bench"),
+    };
+    command?.render_help()
+}
+
+#[test]
+fn help_of_run(rt: HostRuntime) -> Result<(), Fail> {
+    assert_eq!(&rt; help(rt.alloc(), "run")?.as_str(), RUN);
+    Ok(())
+}
+
+#[test]
+fn help_of_bench(rt: HostRuntime) -> Result<(), Fail> {
+    assert_eq!(&rt; help(rt.alloc(), "bench")?.as_str(), BENCH);
     Ok(())
 }

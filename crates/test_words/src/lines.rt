@@ -7,6 +7,50 @@ use std::process::Abort;
 use std::test::Fail;
 use vs_job::{Bench, Job, Texts, read_bench, read_job};
 
+/// Lines that both read alike.
+const TAKEN: &str = "\
+x run --top t --clock c d s
+x run --top=t --clock=c --half=7 d s0 s1 s2
+x run d s --half 1000000 --clock c --top t
+x run d --top t s --clock c s1
+x run --top t --clock c -- d -s --half
+x run --top t=u --clock==c d s
+x run --top t --clock c --define A d s
+x run --define=A=1 --top t --define B_2= --clock c d --define A=$b=c+`D s
+x bench 1
+x bench 1000 256
+x bench 3 1
+";
+
+/// Lines that neither takes.
+const NOT_TAKEN: &str = "\
+x
+x run
+x runs --top t --clock c d s
+x run --top t d s
+x run --clock c d s
+x run --top t --clock c
+x run --top t --clock c d
+x run --top t --top u --clock c d s
+x run --top t --clock c --half 0 d s
+x run --top t --clock c --half 1000001 d s
+x run --top t --clock c --half x d s
+x run --top t --clock c --other d s
+x run --top t --clock c d s --half
+x run --top t --clock c d s --define
+x run --top t --clock c d --define s
+x run --help
+x --help
+x help
+x bench
+x bench 0
+x bench 1001
+x bench 1 0
+x bench 1 257
+x bench 1 2 3
+x bench --top t 1
+";
+
 /// The words of a line.
 fn words(alloc: Global, line: &str) -> Result<Vec<String>, AllocError> {
     let mut words = Vec::new(alloc);
@@ -29,30 +73,39 @@ fn are_paths(paths: &[&str], stimuli: &Texts) -> bool {
     true
 }
 
-/// The lines that define macros: each value behind `` `define ``, a blank in place of its first `=`.
-fn head(alloc: Global, values: &[&str]) -> Result<String, AllocError> {
-    let mut head = String::new(alloc);
-    for value in values {
-        head.push_str("`define ")?;
-        match value.split_once('=') {
-            Some((name, text)) => {
-                head.push_str(name)?;
-                head.push_str(" ")?;
-                head.push_str(text)?;
-            }
-            None => head.push_str(*value)?,
-        }
-        head.push_str("\n")?;
+/// Whether a line defines the macro of this value: `` `define `` and the value, a blank in place of
+/// its first `=`.
+fn defines(line: &str, value: &str) -> bool {
+    let Some(definition) = line.strip_prefix("`define ") else {
+        return false;
+    };
+    match value.split_once('=') {
+        Some(name_and_text) => definition.split_once(' ') == Some(name_and_text),
+        None => definition == value,
     }
-    Ok(head)
+}
+
+/// Whether these are the lines that define the macros of these values.
+fn is_head(head: &str, values: &[&str]) -> bool {
+    let mut rest = head;
+    for value in values {
+        let Some((line, behind)) = rest.split_once('\n') else {
+            return false;
+        };
+        if !defines(line, *value) {
+            return false;
+        }
+        rest = behind;
+    }
+    rest.is_empty()
 }
 
 /// Whether these are the words of the job.
-fn is_job(matches: &ArgMatches<'_>, job: &Job, head: &str) -> bool {
+fn is_job(matches: &ArgMatches<'_>, job: &Job) -> bool {
     matches.get_str("top") == Some(job.top.as_str())
         && matches.get_str("clock") == Some(job.clock.as_str())
         && matches.get_one::<u32>("half") == Some(job.half)
-        && head == job.head.as_str()
+        && is_head(job.head.as_str(), matches.get_strs("define").unwrap_or(&[]))
         && matches.get_str("design") == Some(job.design.as_str())
         && are_paths(matches.get_strs("stimuli").unwrap_or(&[]), &job.stimuli)
 }
@@ -63,94 +116,41 @@ fn is_bench(matches: &ArgMatches<'_>, bench: Bench) -> bool {
         && matches.get_one::<u32>("lanes") == Some(bench.lanes)
 }
 
-/// Both readings of a line are one.
-fn expect_alike(rt: &impl Abort, alloc: Global, line: &str) -> Result<(), Fail> {
-    let words = words(alloc, line)?;
-    let matches = cyclesim(alloc)?.try_get_matches_from(words.as_slice());
-    let job = read_job(alloc, &words);
-    let bench = read_bench(&words);
-    let Ok(matches) = matches else {
-        assert!(rt; job.is_err() && bench.is_none(), "{line}");
-        return Ok(());
-    };
-    match matches.subcommand() {
-        Some(("run", run)) => {
-            let head = head(alloc, run.get_strs("define").unwrap_or(&[]))?;
-            assert!(rt;
-                job.is_ok_and(|job| is_job(run, &job, head.as_str())),
-                "{line}"
-            );
-        }
-        Some(("bench", sizes)) => {
-            assert!(rt; bench.is_some_and(|bench| is_bench(sizes, bench)), "{line}");
-        }
-        _ => assert!(rt; false, "{line}"),
+/// Whether these are the words of the job or of the bench.
+fn are_alike(matches: &ArgMatches<'_>, job: Option<&Job>, bench: Option<Bench>) -> bool {
+    match (matches.subcommand(), job, bench) {
+        (Some(("run", run)), Some(job), None) => is_job(run, job),
+        (Some(("bench", sizes)), None, Some(bench)) => is_bench(sizes, bench),
+        _ => false,
+    }
+}
+
+/// Whether both readings of the words are one, and take them or not, as is said.
+fn read_alike(alloc: Global, words: &[String], taken: bool) -> Result<bool, AllocError> {
+    let matches = cyclesim(alloc)?.try_get_matches_from(words);
+    let job = read_job(alloc, words);
+    let bench = read_bench(words);
+    Ok(match &matches {
+        Ok(matches) => taken && are_alike(matches, job.as_ref().ok(), bench),
+        Err(_) => !taken && job.is_err() && bench.is_none(),
+    })
+}
+
+/// Both readings of each line are one, and take it or not, as is said.
+fn expect_alike(rt: &impl Abort, alloc: Global, lines: &str, taken: bool) -> Result<(), Fail> {
+    for line in lines.lines() {
+        let words = words(alloc, line)?;
+        assert!(rt; read_alike(alloc, &words, taken)?, "{line}");
     }
     Ok(())
 }
 
 #[test]
 fn jobs_and_benches(rt: HostRuntime) -> Result<(), Fail> {
-    let lines = [
-        "x run --top t --clock c d s",
-        "x run --top=t --clock=c --half=7 d s0 s1 s2",
-        "x run d s --half 1000000 --clock c --top t",
-        "x run d --top t s --clock c s1",
-        "x run --top t --clock c -- d -s --half",
-        "x run --top t=u --clock==c d s",
-        "x run --top t --clock c --define A d s",
-        "x run --define=A=1 --top t --define B_2= --clock c d --define A=$b=c+`D s",
-        "x bench 1",
-        "x bench 1000 256",
-        "x bench 3 1",
-    ];
-    for line in lines {
-        let words = words(rt.alloc(), line)?;
-        assert!(&rt;
-            read_job(rt.alloc(), &words).is_ok() || read_bench(&words).is_some(),
-            "{line}"
-        );
-        expect_alike(&rt, rt.alloc(), line)?;
-    }
-    Ok(())
+    expect_alike(&rt, rt.alloc(), TAKEN, true)
 }
 
 #[test]
 fn neither(rt: HostRuntime) -> Result<(), Fail> {
-    let lines = [
-        "x",
-        "x run",
-        "x runs --top t --clock c d s",
-        "x run --top t d s",
-        "x run --clock c d s",
-        "x run --top t --clock c",
-        "x run --top t --clock c d",
-        "x run --top t --top u --clock c d s",
-        "x run --top t --clock c --half 0 d s",
-        "x run --top t --clock c --half 1000001 d s",
-        "x run --top t --clock c --half x d s",
-        "x run --top t --clock c --other d s",
-        "x run --top t --clock c d s --half",
-        "x run --top t --clock c d s --define",
-        "x run --top t --clock c d --define s",
-        "x run --help",
-        "x --help",
-        "x help",
-        "x bench",
-        "x bench 0",
-        "x bench 1001",
-        "x bench 1 0",
-        "x bench 1 257",
-        "x bench 1 2 3",
-        "x bench --top t 1",
-    ];
-    for line in lines {
-        let words = words(rt.alloc(), line)?;
-        assert!(&rt;
-            read_job(rt.alloc(), &words).is_err() && read_bench(&words).is_none(),
-            "{line}"
-        );
-        expect_alike(&rt, rt.alloc(), line)?;
-    }
-    Ok(())
+    expect_alike(&rt, rt.alloc(), NOT_TAKEN, false)
 }
