@@ -5,11 +5,27 @@ ghost use Rattle.vs_desk.specs.MemoryDesk as memory;
 
 use std::alloc::{AllocError, Global};
 use std::fs;
+use std::process::Abort;
 use std::test::Fail;
 use vs_desk::{Desk, Failed, HostDesk, MemoryDesk, Way, put_all};
 
 fn text(alloc: Global, s: &str) -> Result<String, AllocError> {
     String::from_str(alloc, s)
+}
+
+/// A take or a put has this answer.
+fn expect_moved(rt: &impl Abort, moved: Result<usize, Failed>, answer: Result<usize, Failed>) {
+    assert_eq!(rt; moved, answer);
+}
+
+/// These are the bytes.
+fn expect_bytes(rt: &impl Abort, bytes: &[u8], expected: &[u8]) {
+    assert_eq!(rt; bytes, expected);
+}
+
+/// A desk counted so many calls, faults and losses.
+fn expect_counts(rt: &impl Abort, desk: &MemoryDesk, counts: [u64; 3]) {
+    assert_eq!(rt; [desk.calls(), desk.faults(), desk.losses()], counts);
 }
 
 #[test]
@@ -21,13 +37,13 @@ fn memory_moves_pieces_of_a_file(rt: HostRuntime) -> Result<(), Fail> {
     let mut buf = [0u8; 4];
 
     desk.attach(1, text(alloc, "in")?, Way::Read)?;
-    assert_eq!(rt; desk.take(1, &mut buf)?, 2);
-    assert_eq!(rt; buf, [97, 98, 0, 0]);
-    assert_eq!(rt; desk.take(1, &mut buf), Err(Failed));
-    assert_eq!(rt; desk.take(1, &mut buf)?, 1);
-    assert_eq!(rt; buf, [99, 98, 0, 0]);
-    assert_eq!(rt; desk.take(1, &mut buf)?, 0);
-    assert_eq!(rt; (desk.calls(), desk.faults(), desk.losses()), (5, 1, 0));
+    expect_moved(&rt, desk.take(1, &mut buf), Ok(2));
+    expect_bytes(&rt, &buf, b"ab\0\0");
+    expect_moved(&rt, desk.take(1, &mut buf), Err(Failed));
+    expect_moved(&rt, desk.take(1, &mut buf), Ok(1));
+    expect_bytes(&rt, &buf, b"cb\0\0");
+    expect_moved(&rt, desk.take(1, &mut buf), Ok(0));
+    expect_counts(&rt, &desk, [5, 1, 0]);
     Ok(())
 }
 
@@ -38,19 +54,17 @@ fn memory_keeps_what_was_put(rt: HostRuntime) -> Result<(), Fail> {
     desk.fail_at(&[1, 3])?;
 
     desk.attach(1, text(alloc, "out")?, Way::Write)?;
-    assert_eq!(rt; desk.put(1, b"xy"), Err(Failed));
-    assert_eq!(rt; desk.put(1, b"xyz")?, 3);
-    assert_eq!(rt; desk.put(0, b"ok"), Err(Failed));
-    assert_eq!(rt; desk.put(0, b"fine")?, 4);
+    expect_moved(&rt, desk.put(1, b"xy"), Err(Failed));
+    expect_moved(&rt, desk.put(1, b"xyz"), Ok(3));
+    expect_moved(&rt, desk.put(0, b"ok"), Err(Failed));
+    expect_moved(&rt, desk.put(0, b"fine"), Ok(4));
     assert_eq!(rt;
         desk.attach(2, text(alloc, "none")?, Way::Read),
         Err(Failed)
     );
-    assert_eq!(rt; (desk.calls(), desk.faults(), desk.losses()), (6, 2, 1));
-    assert_eq!(rt;
-        (desk.written(1), desk.written(0)),
-        (b"xyz".as_slice(), b"fine".as_slice())
-    );
+    expect_counts(&rt, &desk, [6, 2, 1]);
+    expect_bytes(&rt, desk.written(1), b"xyz");
+    expect_bytes(&rt, desk.written(0), b"fine");
     assert_eq!(rt; (desk.attached(1), desk.attached(2)), (Some("out"), None));
     Ok(())
 }
@@ -93,7 +107,7 @@ fn put_all_goes_on_after_a_part(rt: HostRuntime) -> Result<(), Fail> {
     assert_eq!(rt; slow.desk.calls(), 3);
     slow.desk.fail_at(&[5])?;
     assert_eq!(rt; put_all(&mut slow, 0, b"defg"), Err(Failed));
-    assert_eq!(rt; slow.desk.written(0), b"abcde".as_slice());
+    expect_bytes(&rt, slow.desk.written(0), b"abcde");
     assert_eq!(rt; slow.desk.losses(), 1);
     Ok(())
 }
@@ -113,9 +127,9 @@ fn host_reads_what_it_wrote(rt: HostRuntime) -> Result<(), Fail> {
     put_all(&mut desk, 2, b"some text")?;
     desk.attach(3, text(alloc, path)?, Way::Read)?;
     let mut buf = [0u8; 16];
-    assert_eq!(rt; desk.take(3, &mut buf)?, 9);
-    assert_eq!(rt; &buf[..9], b"some text".as_slice());
-    assert_eq!(rt; desk.take(3, &mut buf)?, 0);
+    expect_moved(&rt, desk.take(3, &mut buf), Ok(9));
+    expect_bytes(&rt, &buf[..9], b"some text");
+    expect_moved(&rt, desk.take(3, &mut buf), Ok(0));
     assert_eq!(rt; desk.faults(), 1);
     fs::remove_file(&rt, path)?;
     Ok(())

@@ -9,114 +9,161 @@ use Refusal::*;
 use std::alloc::Global;
 use std::process::Abort;
 use std::test::Fail;
-use vs_desk::MemoryDesk;
+use vs_desk::{Failed, MemoryDesk};
 use vs_refusal::{AtName, BareName, Ending, LaneName, LineName, ProcessName, Processes, Refusal};
 
+/// Refusals that carry nothing, and their lines.
+const BARE_LINES: [(BareName, &str); 4] = [
+    (Usage, "refused 1 Usage\n"),
+    (TooLong, "refused 3 TooLong\n"),
+    (NoTop, "refused 32 NoTop\n"),
+    (NoClock, "refused 61 NoClock\n"),
+];
+
+/// Refusals at a place, and their lines.
+const AT_LINES: [(AtName, u32, &str); 30] = [
+    (NoToken, 0, "refused 10 NoToken at=0\n"),
+    (OpenComment, 7, "refused 11 OpenComment at=7\n"),
+    (BadLiteral, 22, "refused 12 BadLiteral at=22\n"),
+    (
+        TooManyTokens,
+        4194303,
+        "refused 13 TooManyTokens at=4194303\n",
+    ),
+    (BadDirective, 3, "refused 14 BadDirective at=3\n"),
+    (UnknownMacro, 44, "refused 15 UnknownMacro at=44\n"),
+    (MacroLoop, 5, "refused 16 MacroLoop at=5\n"),
+    (MacroArguments, 17, "refused 17 MacroArguments at=17\n"),
+    (MacroLimit, 1048, "refused 18 MacroLimit at=1048\n"),
+    (LeftOut, 9, "refused 20 LeftOut at=9\n"),
+    (Syntax, 46, "refused 21 Syntax at=46\n"),
+    (TooDeep, 80, "refused 22 TooDeep at=80\n"),
+    (NotConstant, 105, "refused 30 NotConstant at=105\n"),
+    (UnknownConstant, 4, "refused 31 UnknownConstant at=4\n"),
+    (DuplicateModule, 19, "refused 33 DuplicateModule at=19\n"),
+    (UnknownModule, 31, "refused 34 UnknownModule at=31\n"),
+    (UnknownName, 58, "refused 35 UnknownName at=58\n"),
+    (DuplicateName, 62, "refused 36 DuplicateName at=62\n"),
+    (BadRange, 77, "refused 37 BadRange at=77\n"),
+    (PortCount, 90, "refused 38 PortCount at=90\n"),
+    (UnknownPort, 101, "refused 39 UnknownPort at=101\n"),
+    (InstanceDepth, 113, "refused 40 InstanceDepth at=113\n"),
+    (
+        TooManyInstances,
+        128,
+        "refused 41 TooManyInstances at=128\n",
+    ),
+    (GenerateTurns, 140, "refused 42 GenerateTurns at=140\n"),
+    (WrongKind, 151, "refused 43 WrongKind at=151\n"),
+    (TooManyBits, 163, "refused 44 TooManyBits at=163\n"),
+    (
+        TooManyProcesses,
+        177,
+        "refused 45 TooManyProcesses at=177\n",
+    ),
+    (TooWide, 188, "refused 50 TooWide at=188\n"),
+    (Division, 200, "refused 51 Division at=200\n"),
+    (MixedAssign, 211, "refused 54 MixedAssign at=211\n"),
+];
+
+/// Refusals of a process at a place, and their lines.
+const PROCESS_LINES: [(ProcessName, u32, u32, &str); 4] = [
+    (ClockRead, 4, 93, "refused 62 ClockRead process=4 at=93\n"),
+    (
+        NotTheClock,
+        65535,
+        38,
+        "refused 63 NotTheClock process=65535 at=38\n",
+    ),
+    (TimeZero, 1, 62, "refused 65 TimeZero process=1 at=62\n"),
+    (ResetForm, 2, 51, "refused 66 ResetForm process=2 at=51\n"),
+];
+
+/// Refusals of a lane, and their lines.
+const LANE_LINES: [(LaneName, u32, &str); 5] = [
+    (BadHeader, 0, "refused 70 BadHeader lane=0\n"),
+    (FirstUnknown, 63, "refused 72 FirstUnknown lane=63\n"),
+    (NoVector, 1, "refused 73 NoVector lane=1\n"),
+    (TooManyVectors, 12, "refused 74 TooManyVectors lane=12\n"),
+    (StimulusTooLong, 5, "refused 75 StimulusTooLong lane=5\n"),
+];
+
+/// Refusals of a line of a lane, and their lines.
+const LINE_LINES: [(LineName, u32, u64, &str); 3] = [
+    (BadVector, 0, 4, "refused 71 BadVector lane=0 line=4\n"),
+    (
+        LineTooLong,
+        7,
+        16777217,
+        "refused 76 LineTooLong lane=7 line=16777217\n",
+    ),
+    (
+        UnknownReset,
+        63,
+        3,
+        "refused 77 UnknownReset lane=63 line=3\n",
+    ),
+];
+
+/// Endings, and their lines.
+const ENDING_LINES: [(Ending, &str); 4] = [
+    (
+        Ending::Done {
+            lanes: 64,
+            vectors: 2,
+            settlings: 4,
+            size: 5,
+        },
+        "ok lanes=64 vectors=2 settlings=4 size=5\n",
+    ),
+    (
+        Ending::ReadFault { place: 1005 },
+        "refused 4 ReadFault place=1005\n",
+    ),
+    (
+        Ending::WriteFault { place: 0 },
+        "refused 5 WriteFault place=0\n",
+    ),
+    (Ending::Memory, "refused 6 Memory\n"),
+];
+
+/// A line was put whole.
+fn expect_whole(rt: &impl Abort, desk: &MemoryDesk, put: Result<(), Failed>, line: &str) {
+    assert!(rt; put.is_ok() && desk.written(0) == line.as_bytes(), "{line}");
+}
+
 /// The line that a refusal puts.
-fn expect_line(rt: &impl Abort, alloc: Global, refusal: &Refusal, line: &str) -> Result<(), Fail> {
+fn expect_line(rt: &impl Abort, alloc: Global, refusal: &Refusal, line: &str) {
     let mut desk = MemoryDesk::new(alloc, 16);
-    refusal.put_line(&mut desk)?;
-    assert_eq!(rt; desk.written(0), line.as_bytes());
-    Ok(())
+    let put = refusal.put_line(&mut desk);
+    expect_whole(rt, &desk, put, line);
+}
+
+/// The line that an ending puts.
+fn expect_ending(rt: &impl Abort, alloc: Global, ending: &Ending, line: &str) {
+    let mut desk = MemoryDesk::new(alloc, 16);
+    let put = ending.put_line(&mut desk);
+    expect_whole(rt, &desk, put, line);
 }
 
 #[test]
-fn lines_of_refusals_by_name(rt: HostRuntime) -> Result<(), Fail> {
+fn lines_of_refusals_by_name(rt: HostRuntime) {
     let alloc = rt.alloc();
-    for (name, line) in [
-        (Usage, "refused 1 Usage\n"),
-        (TooLong, "refused 3 TooLong\n"),
-        (NoTop, "refused 32 NoTop\n"),
-        (NoClock, "refused 61 NoClock\n"),
-    ] {
-        expect_line(&rt, alloc, &Bare(name), line)?;
+    for (name, line) in &BARE_LINES {
+        expect_line(&rt, alloc, &Bare(*name), line);
     }
-    for (name, at, line) in [
-        (NoToken, 0, "refused 10 NoToken at=0\n"),
-        (OpenComment, 7, "refused 11 OpenComment at=7\n"),
-        (BadLiteral, 22, "refused 12 BadLiteral at=22\n"),
-        (
-            TooManyTokens,
-            4194303,
-            "refused 13 TooManyTokens at=4194303\n",
-        ),
-        (BadDirective, 3, "refused 14 BadDirective at=3\n"),
-        (UnknownMacro, 44, "refused 15 UnknownMacro at=44\n"),
-        (MacroLoop, 5, "refused 16 MacroLoop at=5\n"),
-        (MacroArguments, 17, "refused 17 MacroArguments at=17\n"),
-        (MacroLimit, 1048, "refused 18 MacroLimit at=1048\n"),
-        (LeftOut, 9, "refused 20 LeftOut at=9\n"),
-        (Syntax, 46, "refused 21 Syntax at=46\n"),
-        (TooDeep, 80, "refused 22 TooDeep at=80\n"),
-        (NotConstant, 105, "refused 30 NotConstant at=105\n"),
-        (UnknownConstant, 4, "refused 31 UnknownConstant at=4\n"),
-        (DuplicateModule, 19, "refused 33 DuplicateModule at=19\n"),
-        (UnknownModule, 31, "refused 34 UnknownModule at=31\n"),
-        (UnknownName, 58, "refused 35 UnknownName at=58\n"),
-        (DuplicateName, 62, "refused 36 DuplicateName at=62\n"),
-        (BadRange, 77, "refused 37 BadRange at=77\n"),
-        (PortCount, 90, "refused 38 PortCount at=90\n"),
-        (UnknownPort, 101, "refused 39 UnknownPort at=101\n"),
-        (InstanceDepth, 113, "refused 40 InstanceDepth at=113\n"),
-        (
-            TooManyInstances,
-            128,
-            "refused 41 TooManyInstances at=128\n",
-        ),
-        (GenerateTurns, 140, "refused 42 GenerateTurns at=140\n"),
-        (WrongKind, 151, "refused 43 WrongKind at=151\n"),
-        (TooManyBits, 163, "refused 44 TooManyBits at=163\n"),
-        (
-            TooManyProcesses,
-            177,
-            "refused 45 TooManyProcesses at=177\n",
-        ),
-        (TooWide, 188, "refused 50 TooWide at=188\n"),
-        (Division, 200, "refused 51 Division at=200\n"),
-        (MixedAssign, 211, "refused 54 MixedAssign at=211\n"),
-    ] {
-        expect_line(&rt, alloc, &At(name, at), line)?;
+    for (name, at, line) in &AT_LINES {
+        expect_line(&rt, alloc, &At(*name, *at), line);
     }
-    for (name, process, at, line) in [
-        (ClockRead, 4, 93, "refused 62 ClockRead process=4 at=93\n"),
-        (
-            NotTheClock,
-            65535,
-            38,
-            "refused 63 NotTheClock process=65535 at=38\n",
-        ),
-        (TimeZero, 1, 62, "refused 65 TimeZero process=1 at=62\n"),
-        (ResetForm, 2, 51, "refused 66 ResetForm process=2 at=51\n"),
-    ] {
-        expect_line(&rt, alloc, &Process(name, process, at), line)?;
+    for (name, process, at, line) in &PROCESS_LINES {
+        expect_line(&rt, alloc, &Process(*name, *process, *at), line);
     }
-    for (name, lane, line) in [
-        (BadHeader, 0, "refused 70 BadHeader lane=0\n"),
-        (FirstUnknown, 63, "refused 72 FirstUnknown lane=63\n"),
-        (NoVector, 1, "refused 73 NoVector lane=1\n"),
-        (TooManyVectors, 12, "refused 74 TooManyVectors lane=12\n"),
-        (StimulusTooLong, 5, "refused 75 StimulusTooLong lane=5\n"),
-    ] {
-        expect_line(&rt, alloc, &Lane(name, lane), line)?;
+    for (name, lane, line) in &LANE_LINES {
+        expect_line(&rt, alloc, &Lane(*name, *lane), line);
     }
-    for (name, lane, number, line) in [
-        (BadVector, 0, 4, "refused 71 BadVector lane=0 line=4\n"),
-        (
-            LineTooLong,
-            7,
-            16777217,
-            "refused 76 LineTooLong lane=7 line=16777217\n",
-        ),
-        (
-            UnknownReset,
-            63,
-            3,
-            "refused 77 UnknownReset lane=63 line=3\n",
-        ),
-    ] {
-        expect_line(&rt, alloc, &Line(name, lane, number), line)?;
+    for (name, lane, number, line) in &LINE_LINES {
+        expect_line(&rt, alloc, &Line(*name, *lane, *number), line);
     }
-    Ok(())
 }
 
 #[test]
@@ -168,37 +215,15 @@ fn lines_of_other_refusals(rt: HostRuntime) -> Result<(), Fail> {
         ),
     ];
     for (refusal, line) in &rows {
-        expect_line(&rt, alloc, refusal, line)?;
+        expect_line(&rt, alloc, refusal, line);
     }
     Ok(())
 }
 
 #[test]
 fn lines_of_endings(rt: HostRuntime) -> Result<(), Fail> {
-    let rows = [
-        (
-            Ending::Done {
-                lanes: 64,
-                vectors: 2,
-                settlings: 4,
-                size: 5,
-            },
-            "ok lanes=64 vectors=2 settlings=4 size=5\n",
-        ),
-        (
-            Ending::ReadFault { place: 1005 },
-            "refused 4 ReadFault place=1005\n",
-        ),
-        (
-            Ending::WriteFault { place: 0 },
-            "refused 5 WriteFault place=0\n",
-        ),
-        (Ending::Memory, "refused 6 Memory\n"),
-    ];
-    for (ending, line) in rows {
-        let mut desk = MemoryDesk::new(rt.alloc(), 16);
-        ending.put_line(&mut desk)?;
-        assert_eq!(rt; desk.written(0), line.as_bytes());
+    for (ending, line) in &ENDING_LINES {
+        expect_ending(&rt, rt.alloc(), ending, line);
     }
     // A failed put leaves a prefix.
     let mut desk = MemoryDesk::new(rt.alloc(), 16);
