@@ -1,6 +1,6 @@
 -- The tokens of a text are what they seem: an identifier has the bytes of one, and what is read as a number has 1 to 64 bits.
 use Rattle.std.proofs.Common.{◌≡◌, ℕ, zero, suc, ◌<◌, ◌≤◌, ◌+◌, ◌-◌, ◌/◌, Bool, true, false, not, ◌&&◌, ◌||◌, List, [], ◌∷◌, ◌++◌, refl, sym, ◌∙◌, ap, subst, arith, length, take, drop, ◌⊎◌, inl, inr}
-use Rattle.std.specs.Prelude.{Option, Some, None, Result, Ok, MatchOption, slice_get, slice_index, replicate, if◌then◌else◌, ◌==◌}
+use Rattle.std.specs.Prelude.{Option, Some, None, Result, Ok, MatchOption, IfSome, slice_get, slice_index, replicate, if◌then◌else◌, ◌==◌}
 use Rattle.std.proofs.lemmas.List.{length-take-le, length-append, length-replicate}
 use Rattle.std.proofs.lemmas.Bool.{and_parts}
 use Rattle.std.proofs.lemmas.Option.{get_or_from_slice_get, slice_get_within}
@@ -10,10 +10,11 @@ use Rattle.vs_lexer.specs.Literals.{head_of, lacks_digits, literal_bits, literal
 use Rattle.vs_lexer.specs.Classes.{is_letter, is_digit}
 use Rattle.vs_lexer.specs.Tokens.{token_kind, longest, here, number_here, other_here, checked, begins_number, start_of}
 use Rattle.vs_lexer.specs.declared.token.Token.{Token}
+use Rattle.vs_lexer.specs.declared.token.Span.{Span}
 use Rattle.vs_lexer.specs.declared.token.TokenKind.{TokenKind}
 use Rattle.vs_lexer.specs.declared.token.TokenKind.TheVariants as kind
-use Rattle.vs_lexer.specs.Cuts.{spelling_of}
-use Rattle.vs_lexer.specs.Laws.{LongestIsTaken, StandsIn, AreTokens}
+use Rattle.vs_lexer.specs.Cuts.{spelling_of, size_bytes, own_bytes}
+use Rattle.vs_lexer.specs.Laws.{LongestIsTaken, IsSizeOf, StandsIn, AreTokens}
 use Rattle.vs_grammar.specs.Grammars.{Terminal}
 use Rattle.vs_grammar.specs.Kinds.{number_of, terminals, terminals_from}
 use Rattle.vs_grammar.specs.Meaning as meaning
@@ -155,19 +156,26 @@ front (b ∷ bs) k (suc l) h e = elim (pick (begins_number (start_of b)) (number
 -- ---- the tokens of a text
 
 pub record IsToken (bytes : List ℕ) (k : TokenKind) : Type 0 where
-  pub kind : token_kind bytes ≡ Some k
+  pub name : k ≡ kind.Identifier → token_kind bytes ≡ Some kind.Identifier
   pub good : size_is_good bytes ≡ true
 
 abbrev bytes_by : List ℕ → Option Token → List ℕ
 bytes_by text None = []
-bytes_by text (Some token) = take (token.end - token.start) (drop token.start text)
+bytes_by text (Some token) = size_bytes text token.size ++ own_bytes text token
+
+no_name : {P : Type 0} → kind.Based ≡ kind.Identifier → P
+no_name e = cc
 
 stands_as : LongestIsTaken → (text : List ℕ) (token : Token) → StandsIn text token → IsToken (bytes_by text (Some token)) token.kind
-stands_as law text token s =
-    let h : token.start < token.end = s.some in
-    let f = front (drop token.start text) token.kind (token.end - token.start) (omega arith) s.taken in
-    let m = matched (longest (drop token.start text)) _ _ _ (law (drop token.start text)) f.long in
-    record { kind = m.0; good = f.good }
+stands_as law text token s = by token.size s.sized
+  where
+    by : (o : Option Span) → IfSome o (IsSizeOf text token.kind (own_bytes text token)) → IsToken (size_bytes text o ++ own_bytes text token) token.kind
+    by (Some size) z = record { name = λ i. no_name (sym z.based ∙ i); good = good_in_range (size_bytes text (Some size) ++ own_bytes text token) z.in_range }
+    by None z =
+        let h : token.start < token.end = s.some in
+        let f = front (drop token.start text) token.kind (token.end - token.start) (omega arith) s.taken in
+        let m = matched (longest (drop token.start text)) _ _ _ (law (drop token.start text)) f.long in
+        record { name = λ i. m.0 ∙ ap Some i; good = f.good }
 
 module _ (law : LongestIsTaken) (text : List ℕ) (tokens : List Token) (are : AreTokens text tokens) where
   pub token_is : (n : ℕ) (token : Token) → slice_get tokens n ≡ Some token → IsToken (spelling_of text tokens n) token.kind
@@ -197,7 +205,7 @@ module _ (law : LongestIsTaken) (text : List ℕ) (tokens : List Token) (are : A
   )
 
   pub terminals_are : Each (IsWell (spelling_of text tokens)) (terminals tokens)
-  terminals_are = wells tokens 0 (λ m token e k q i. subst (λ (z : ℕ). token_kind (spelling_of text tokens z) ≡ Some kind.Identifier) (at k m q) ((token_is m token e).kind ∙ ap Some i))
+  terminals_are = wells tokens 0 (λ m token e k q i. subst (λ (z : ℕ). token_kind (spelling_of text tokens z) ≡ Some kind.Identifier) (at k m q) ((token_is m token e).name i))
     where
       at : (k m : ℕ) → k ≡ 0 + m → m ≡ k
       at k m q = omega arith

@@ -12,3 +12,4 @@ pub mod Progress
 pub mod PlaneFacts
 pub mod Spans
 pub mod LongestFacts
+pub mod SizedFacts

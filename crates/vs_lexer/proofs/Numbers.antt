@@ -62,10 +62,10 @@ quote_by false false false false false true x h k = cc
 quote_by false false false false false false true h k = cc
 quote_by false false false false false false false h k = cc
 
-number_start : (b : ℕ) → begins_number (start_of b) ≡ true → is_digit b ≡ true → start_of b ≡ start.Number
+pub number_start : (b : ℕ) → begins_number (start_of b) ≡ true → is_digit b ≡ true → start_of b ≡ start.Number
 number_start b h k = number_by (is_letter b) (is_digit b) (b == 39) (b == 34) (b == 92) (b == 36) (b == 96) h k
 
-quote_start : (b : ℕ) → begins_number (start_of b) ≡ true → is_digit b ≡ false → start_of b ≡ start.Quote
+pub quote_start : (b : ℕ) → begins_number (start_of b) ≡ true → is_digit b ≡ false → start_of b ≡ start.Quote
 quote_start b h k = quote_by (is_letter b) (is_digit b) (b == 39) (b == 34) (b == 92) (b == 36) (b == 96) h k
 
 number_here_by : (s : Start) (t : List ℕ) → begins_number s ≡ true → here_from s t ≡ number_here t

@@ -1,5 +1,5 @@
 -- Worked rows of the definitions.
-use Rattle.std.specs.Prelude.{◌≡◌, ℕ, suc, true, false, List, [], ◌∷◌, refl, codes, replicate, Ok, Err, Result}
+use Rattle.std.specs.Prelude.{◌≡◌, ℕ, suc, true, false, List, [], ◌∷◌, refl, codes, replicate, None, Ok, Err, Result}
 use Rattle.vs_four.specs.declared.Bit4.TheVariants.{Zero, One, X, Z}
 use Rattle.vs_lexer.specs.declared.token.Token.{Token}
 use Rattle.vs_lexer.specs.declared.token.LexError.{LexError}
@@ -13,7 +13,7 @@ use Rattle.vs_lexer.specs.Cuts.{cut, cut_text}
 use Rattle.vs_lexer.specs.LeftOut.{is_left_out}
 
 token : TokenKind → ℕ → ℕ → Token
-token kind start end = record { kind = kind; start = start; end = end; at = start }
+token kind start end = record { kind = kind; start = start; end = end; at = start; size = None }
 
 -- the number of each token that is left out
 left_from : ℕ → List Token → List Token → List ℕ

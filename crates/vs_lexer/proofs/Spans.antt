@@ -1,6 +1,6 @@
 -- What each token of a text is.
 use Rattle.std.proofs.Common.{◌≡◌, ℕ, zero, suc, ◌+◌, ◌-◌, ◌<◌, ◌≤◌, Bool, true, false, cond, List, [], ◌∷◌, refl, sym, ◌∙◌, ap, subst, length, take, drop, get_or, arith, length-drop}
-use Rattle.std.specs.Prelude.{Option, Some, None, Result, Ok, Err, not, slice_get, unwrap_or}
+use Rattle.std.specs.Prelude.{Option, Some, None, Result, Ok, Err, IfSome, not, slice_get, unwrap_or}
 use Rattle.std.specs.List.{list_all}
 use Rattle.std.specs.Str.{bytes_eq}
 use Rattle.std.proofs.lemmas.Bool.{and_parts, not-true}
@@ -17,8 +17,8 @@ use Rattle.vs_lexer.specs.declared.scan.Start.TheVariants as start
 use Rattle.vs_lexer.specs.Spellings.{Spelling, signs, keywords, left_out_words, system_names, find_spelling, is_among}
 use Rattle.vs_lexer.specs.Literals.{lacks_digits, is_in_range}
 use Rattle.vs_lexer.specs.Tokens.{token_kind, kind_from, start_of, longest, longest_within, here, begins_number, checked, if_so, is_number_kind, word_kind, system_kind, sign_kind}
-use Rattle.vs_lexer.specs.Cuts.{skipped, cut, cut_text, token_limit, token_at, with_token}
-use Rattle.vs_lexer.specs.Laws.{StandsIn, AreTokens as AreAll, TokensStand}
+use Rattle.vs_lexer.specs.Cuts.{skipped, cut, cut_text, own_bytes, token_limit, token_at, with_token}
+use Rattle.vs_lexer.specs.Laws.{IsSizeOf, StandsIn, AreTokens as AreAll, TokensStand}
 use Rattle.vs_lexer.proofs.Longest.{lexeme}
 use Rattle.vs_lexer.proofs.Progress.{cut_by, here_by, here_longest, here_some, here_inside}
 
@@ -29,6 +29,7 @@ pub record IsToken (at : ℕ) (rest : List ℕ) (t : Token) : Type 0 where
   pub low : at ≤ t.start
   pub some : t.start < t.end
   pub found : here (drop (t.start - at) rest) ≡ Ok (lexeme t.kind (t.end - t.start))
+  pub whole : t.size ≡ None
 
 -- each of these tokens is one
 abbrev AreTokens : ℕ → List ℕ → List Token → Type 0
@@ -39,6 +40,7 @@ further at k rest t i = record {
   low = let h = i.low in omega arith;
   some = i.some;
   found = let h = i.low in let e : k + (t.start - (at + k)) ≡ t.start - at = omega arith in ap (λ m. here (drop m rest)) (sym e) ∙ ap here (sym (drop-drop (t.start - (at + k)) k rest)) ∙ i.found;
+  whole = i.whole;
 }
 
 first : (at : ℕ) (rest : List ℕ) (l : Lexeme) → here rest ≡ Ok l → IsToken at rest (token_at l at)
@@ -46,6 +48,7 @@ first at rest l e = record {
   low = omega arith;
   some = let s = here_some rest l e in omega arith;
   found = let z : at - at ≡ 0 = omega arith in let y : at + l.length - at ≡ l.length = omega arith in ap (λ m. here (drop m rest)) z ∙ e ∙ ap (λ n. Ok (lexeme l.kind n)) (sym y);
+  whole = refl;
 }
 
 pushed : (at : ℕ) (rest : List ℕ) (l : Lexeme) (r : Result (List Token) LexError) (ts : List Token) → here rest ≡ Ok l → with_token (token_at l at) r ≡ Ok ts
@@ -138,7 +141,7 @@ so_no_number : (b : Bool) (k j : TokenKind) → is_number_kind k ≡ false → i
 so_no_number true k j p e = let q : k ≡ j = cc in ap is_number_kind (sym q) ∙ p
 so_no_number false k j p e = cc
 
-from_no_number : (s : Start) (b : ℕ) (bs : List ℕ) (k : TokenKind) → begins_number s ≡ false → kind_from s b bs ≡ Some k → is_number_kind k ≡ false
+pub from_no_number : (s : Start) (b : ℕ) (bs : List ℕ) (k : TokenKind) → begins_number s ≡ false → kind_from s b bs ≡ Some k → is_number_kind k ≡ false
 from_no_number start.Word b bs k n e = so_no_number _ (word_kind (b ∷ bs)) k (word_no_number (b ∷ bs)) e
 from_no_number start.Number b bs k n e = cc
 from_no_number start.Quote b bs k n e = cc
@@ -197,15 +200,13 @@ stands text t i = record {
   some = i.some;
   inside = token_inside text t i;
   taken = let z : t.start - 0 ≡ t.start = omega arith in ap (λ n. here (drop n text)) (sym z) ∙ i.found;
+  sized = subst (λ o. IfSome o (IsSizeOf text t.kind (own_bytes text t))) (sym i.whole) tt;
 }
 
 pub tokens_stand : TokensStand
 unfolding cut_text
 tokens_stand text tokens e = record { few = few_of (length text) token_limit 0 text tokens e; each = λ n d h. stands text (get_or tokens n d) (token_of text tokens n (get_or tokens n d) e (slice_get-get_or tokens n d h)) }
 
--- a token of the text is one, counted from its first byte
-pub is_token : (text : List ℕ) (tokens : List Token) (n : ℕ) (t : Token) → AreAll text tokens → slice_get tokens n ≡ Some t → IsToken 0 text t
-is_token text tokens n t a g =
-    let s = subst (StandsIn text) (get_or_from_slice_get tokens n t t g) (a.each n t (slice_get_within tokens n t g)) in
-    let z : t.start - 0 ≡ t.start = omega arith in
-    record { low = omega arith; some = s.some; found = ap (λ m. here (drop m text)) z ∙ s.taken }
+-- token n of a text
+pub stands_at : (text : List ℕ) (tokens : List Token) (n : ℕ) (t : Token) → AreAll text tokens → slice_get tokens n ≡ Some t → StandsIn text t
+stands_at text tokens n t a g = subst (StandsIn text) (get_or_from_slice_get tokens n t t g) (a.each n t (slice_get_within tokens n t g))

@@ -1,11 +1,12 @@
 -- How a text is cut into tokens and skipped pieces (IEEE 1364-2005, 3.1 to 3.3, 19.2 and 19.8).
-use Rattle.std.specs.Prelude.{ℕ, zero, suc, ◌+◌, ◌-◌, Bool, true, false, not, ◌&&◌, if◌then◌else◌, ◌==◌, List, [], ◌∷◌, take, drop, length, codes, slice_get, slice_index, Option, Some, None, Result, Ok, Err}
+use Rattle.std.specs.Prelude.{ℕ, zero, suc, ◌+◌, ◌-◌, Bool, true, false, not, ◌&&◌, if◌then◌else◌, ◌==◌, List, [], ◌∷◌, ◌++◌, take, drop, length, codes, slice_get, slice_index, Option, Some, None, Result, Ok, Err}
 use Rattle.std.specs.List.{prefix_len}
 use Rattle.vs_lexer.specs.declared.bytes.ByteClass.TheVariants as class
 use Rattle.vs_lexer.specs.declared.scan.Lexeme.{Lexeme}
 use Rattle.vs_lexer.specs.declared.scan.Fault.{Fault}
 use Rattle.vs_lexer.specs.declared.scan.Fault.TheVariants as fault
 use Rattle.vs_lexer.specs.declared.token.Token.{Token}
+use Rattle.vs_lexer.specs.declared.token.Span.{Span}
 use Rattle.vs_lexer.specs.declared.token.LexError.{LexError}
 use Rattle.vs_lexer.specs.declared.token.LexError.TheVariants.{NoToken, OpenComment, BadLiteral, TooManyTokens}
 use Rattle.vs_lexer.specs.Classes.{is_blank, is_in}
@@ -79,7 +80,7 @@ with_token t (Ok ts) = Ok (t ∷ ts)
 with_token t (Err e) = Err e
 
 abbrev pub token_at : Lexeme → ℕ → Token
-token_at lexeme at = record { kind = lexeme.kind; start = at; end = at + lexeme.length; at = at }
+token_at lexeme at = record { kind = lexeme.kind; start = at; end = at + lexeme.length; at = at; size = None }
 
 -- The text that begins at place `at` is cut so, where at most `left` tokens may still come: at each place a piece is skipped, or else
 -- the longest token is taken. Each step takes a byte at least, so as many steps as the text has bytes are enough.
@@ -104,9 +105,22 @@ cut (suc steps) left at (b ∷ bs) = elim (skipped (b ∷ bs)) [
 unfoldable pub cut_text : List ℕ → Result (List Token) LexError
 cut_text text = cut (length text) token_limit 0 text
 
--- the bytes of token n
+-- the bytes of a span
+abbrev pub bytes_in : List ℕ → Span → List ℕ
+bytes_in text s = take (s.end - s.start) (drop s.start text)
+
+-- the bytes of a size that stands elsewhere, where there is one
+abbrev pub size_bytes : List ℕ → Option Span → List ℕ
+size_bytes text None = []
+size_bytes text (Some s) = bytes_in text s
+
+-- the bytes of a token but for those
+abbrev pub own_bytes : List ℕ → Token → List ℕ
+own_bytes text token = take (token.end - token.start) (drop token.start text)
+
+-- what token n is spelled as: its own bytes, behind those of its size, as if they stood in one piece
 abbrev pub spelling_of : List ℕ → List Token → ℕ → List ℕ
-spelling_of text tokens n = elim (slice_get tokens n) [ None ↦ [] | Some token ↦ take (token.end - token.start) (drop token.start text) ]
+spelling_of text tokens n = elim (slice_get tokens n) [ None ↦ [] | Some token ↦ size_bytes text token.size ++ own_bytes text token ]
 
 -- token n is a number
 abbrev pub is_number : List Token → ℕ → Bool

@@ -119,6 +119,7 @@ pub fn lex(alloc: Global, text: &[u8]) -> Result<Vec<Token>, LexError>
             start: place,
             end: at as u32,
             at: place,
+            size: None,
         };
         if tokens.push(token).is_err() {
             return Err(LexError::Memory);

@@ -14,5 +14,6 @@ mod value;
 pub use laws::{longest_law, tokens_law};
 pub use left_out::is_left_out;
 pub use lexer::{MAX_BYTES, MAX_TOKENS, lex};
-pub use token::{LexError, Token, TokenKind};
+pub use number::is_literal_in_range;
+pub use token::{LexError, Span, Token, TokenKind};
 pub use value::{Literal, is_number, read_literal, spelling};

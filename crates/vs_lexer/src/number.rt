@@ -174,3 +174,14 @@ pub(crate) fn is_in_range_unsized(text: &[u8]) -> bool
         None => false,
     }
 }
+
+/// Whether the size and the value of the number that these bytes are, are in range: a size is 1 to 64, an unsized decimal number is below 2^31, and
+/// digits of base d are below 2^64.
+pub fn is_literal_in_range(text: &[u8]) -> bool
+    ensures { result ≡ spec.is_in_range text.now }
+{
+    match head_of(text) {
+        Some(head) => is_in_range(text, &head),
+        None => is_in_range_unsized(text),
+    }
+}

@@ -176,7 +176,15 @@ pub enum TokenKind {
     Arrow,
 }
 
-/// One token: the bytes `start..end` of the text spell it. `at` is the byte at which a reader of the text finds it: where it begins,
+/// The bytes `start..end` of a text.
+#[derive(Clone, Copy, Debug, PartialEq, Eq)]
+pub struct Span {
+    pub start: u32,
+    pub end: u32,
+}
+
+/// One token: the bytes `start..end` of the text spell it, behind those of `size`: these are the size of a number that stands elsewhere, as one that a
+/// macro gave, in front of the number's base (3.5.1). `at` is the byte at which a reader of the text finds it: where it begins,
 /// or, of a token that a macro gave, where the outermost use of a macro begins that it came from (IEEE 1364-2005, 19.3).
 #[derive(Clone, Copy, Debug, PartialEq, Eq)]
 pub struct Token {
@@ -184,6 +192,7 @@ pub struct Token {
     pub start: u32,
     pub end: u32,
     pub at: u32,
+    pub size: Option<Span>,
 }
 
 /// Why a text is not cut into tokens. Each number is the place of a byte of the text.

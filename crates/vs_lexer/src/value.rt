@@ -3,8 +3,10 @@
 ghost use Rattle.std.specs.Prelude.{◌≡◌, ◌≢◌, ◌<◌, ◌≤◌, ◌+◌, ◌*◌, ◌%◌, ◌^◌, ◌++◌, Some, length, take, drop, replicate, slice_index, true, false};
 ghost use Rattle.vs_four.specs.Planes.{bits_of_planes};
 ghost use Rattle.vs_lexer.specs.Literals as spec;
-ghost use Rattle.vs_lexer.specs.Cuts.{spelling_of, is_number};
-ghost use Rattle.vs_lexer.specs.Laws.{AreTokens};
+ghost use Rattle.vs_lexer.specs.declared.token.TokenKind.TheVariants as TokenKind;
+ghost use Rattle.vs_lexer.specs.Tokens.{token_kind};
+ghost use Rattle.vs_lexer.specs.Cuts.{own_bytes, spelling_of, is_number};
+ghost use Rattle.vs_lexer.specs.Laws.{AreTokens, StandsIn};
 
 use crate::bytes::{Base, byte_at, digit_value, is_x, is_z};
 use crate::number::{LiteralHead, decimal_value, head_of, is_decimal_number};
@@ -217,14 +219,53 @@ fn literal_of(text: &[u8]) -> Literal
     }
 }
 
-/// The bytes of token n.
+/// What the number stands for that a size and the bytes behind it are, where these begin with their quote.
+fn sized_literal(size: &[u8], text: &[u8]) -> Literal
+    requires size { token_kind size.now ≡ Some TokenKind.Decimal }
+    requires based { token_kind text.now ≡ Some TokenKind.Based }
+    requires quote { slice_index text.now 0 ≡ 39 }
+    requires in_range { spec.is_in_range (size.now ++ text.now) ≡ true }
+    ensures bits { bits_of_planes result.size result.value result.unknown ≡ spec.literal_bits (size.now ++ text.now) }
+    ensures value { result.value < 2 ^ result.size }
+    ensures unknown { result.unknown < 2 ^ result.size }
+    ensures size { result.size ≡ spec.literal_size (size.now ++ text.now) }
+    ensures range { (1 ≤ result.size) × (result.size ≤ 64) }
+    ensures signed { result.signed ≡ spec.is_signed_literal (size.now ++ text.now) }
+    ensures sized { result.sized ≡ spec.has_size (size.now ++ text.now) }
+{
+    let Some(head) = head_of(text) else {
+        unreachable!()
+    };
+    let Some(count) = decimal_value(size) else {
+        unreachable!()
+    };
+    let size = count as u32;
+    let planes = literal_planes(head.base, &text[head.digits..]);
+    Literal {
+        value: low_bits(planes.value, size),
+        unknown: low_bits(planes.unknown, size),
+        size,
+        signed: head.signed,
+        sized: true,
+    }
+}
+
+/// The bytes of a token but for a size that stands elsewhere.
+fn own_bytes<'a>(text: &'a [u8], token: Token) -> &'a [u8]
+    requires { StandsIn text.now token }
+    ensures { result.now ≡ own_bytes text.now token }
+{
+    &text[token.start as usize..token.end as usize]
+}
+
+/// The bytes of token n, which is no number.
 pub fn spelling<'a>(text: &'a [u8], tokens: &[Token], n: usize) -> &'a [u8]
     requires lexed { AreTokens text.now tokens.now }
     requires inside { n < length tokens.now }
+    requires name { is_number tokens.now n ≡ false }
     ensures { result.now ≡ spelling_of text.now tokens.now n }
 {
-    let token = tokens[n];
-    &text[token.start as usize..token.end as usize]
+    own_bytes(text, tokens[n])
 }
 
 /// Whether token n is a number.
@@ -248,5 +289,10 @@ pub fn read_literal(text: &[u8], tokens: &[Token], n: usize) -> Literal
     ensures signed { result.signed ≡ spec.is_signed_literal (spelling_of text.now tokens.now n) }
     ensures sized { result.sized ≡ spec.has_size (spelling_of text.now tokens.now n) }
 {
-    literal_of(spelling(text, tokens, n))
+    let token = tokens[n];
+    let bytes = own_bytes(text, token);
+    match token.size {
+        None => literal_of(bytes),
+        Some(size) => sized_literal(&text[size.start as usize..size.end as usize], bytes),
+    }
 }

@@ -38,7 +38,7 @@ below_not : (a b c : ℕ) → a ≡ b → ltb a c ≡ true → b ≢ c
 below_not a b c e l = grind (arith, nat_tests)
 
 kind_not_end : (ts : List Token) (i : ℕ) → i < length ts → kind_at ts i ≢ end_of_text
-kind_not_end ts i h = let d : Token = record { kind = kind.Identifier; start = 0; end = 0; at = 0 } in below_not (number_of (get_or ts i d).kind) (kind_at ts i) end_of_text (kind_in ts i d h) (below_end (get_or ts i d).kind)
+kind_not_end ts i h = let d : Token = record { kind = kind.Identifier; start = 0; end = 0; at = 0; size = None } in below_not (number_of (get_or ts i d).kind) (kind_at ts i) end_of_text (kind_in ts i d h) (below_end (get_or ts i d).kind)
 
 from_zero : (ts : List Token) → from ts 0 ≡ terminals ts
 unfolding from

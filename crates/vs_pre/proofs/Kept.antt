@@ -1,9 +1,12 @@
 -- What holds of each token of a text, wherever it is found, holds of each token that they become.
-use Rattle.std.proofs.Common.{◌≡◌, ℕ, zero, suc, ◌+◌, ◌-◌, ◌<◌, ◌≤◌, Bool, true, false, cond, List, [], ◌∷◌, ◌++◌, refl, subst, length, map, take, drop, get_or, arith, length-append}
+use Rattle.std.proofs.Common.{◌≡◌, ℕ, zero, suc, ◌+◌, ◌-◌, ◌<◌, ◌≤◌, Bool, true, false, cond, List, [], ◌∷◌, ◌++◌, refl, ◌∙◌, ap, subst, length, map, take, drop, get_or, arith, length-append}
 use Rattle.std.specs.Prelude.{Option, Some, None, Result, Ok, Err, slice_range, slice_index, nat_lt, ◌==◌, ◌&&◌, not}
 use Rattle.std.specs.Str.{bytes_eq}
+use Rattle.std.proofs.lemmas.Bool.{and_parts}
 use Rattle.std.proofs.lemmas.Bool.Decides.{nat_tests}
 use Rattle.vs_lexer.specs.declared.token.Token.{Token}
+use Rattle.vs_lexer.specs.declared.token.TokenKind.{TokenKind}
+use Rattle.vs_lexer.specs.declared.token.TokenKind.TheVariants as kind
 use Rattle.vs_lexer.specs.Spellings.{is_among}
 use Rattle.vs_lexer.specs.Laws.{StandsIn, AreTokens}
 use Rattle.vs_pre.specs.declared.branch.Branch.{Branch}
@@ -14,14 +17,16 @@ use Rattle.vs_pre.specs.declared.error.PreError.{PreError}
 use Rattle.vs_pre.specs.declared.error.PreError.TheVariants as error
 use Rattle.vs_pre.specs.declared.roles.Role.{Role}
 use Rattle.vs_pre.specs.declared.roles.Role.TheVariants as role
-use Rattle.vs_pre.specs.Words.{bytes_of, name_of, is_word, is_close, is_comma}
+use Rattle.vs_pre.specs.Words.{bytes_of, name_of, is_word, is_close, is_comma, is_decimal, is_based}
+use Rattle.vs_pre.specs.Sizes.{lacks_size, is_size_of, is_fitting, with_size}
 use Rattle.vs_pre.specs.Lines.{same_line, line_of}
 use Rattle.vs_pre.specs.Roles.{role_of, is_plain, is_use, is_directive_name}
 use Rattle.vs_pre.specs.Macros.{Macro, Macros, no_macros, with_macro, is_formal, formals_of, slot_of, own_in, Definition, Defined, Defines, Misplaced, Misformed, with_body, behind_bracket, defined_by}
 use Rattle.vs_pre.specs.Arguments.{value_of, part_of, filled, arguments_from, tokens_taken}
 use Rattle.vs_pre.specs.Expansion.{Made, Answer, behind, Used, Valued, with_value, Expander, User, charged, counted, stopped, fits, fitting_ends, total, body_of, placed, read_one, walk, expanded, values_of, replaced, filled_in, used_with, used_plain, used, used_too_deep, nested}
 use Rattle.vs_pre.specs.Conditions.{is_kept, word_behind, Turned, opened, turned, turned_last, closed}
-use Rattle.vs_pre.specs.Preprocessing.{State, Step, fault_at, unmade, turns, defines, undefines, keeps, replaces, kept_step, other_step, step, behind as put_behind, ended, read, first_state, the_limits, pre}
+use Rattle.vs_pre.specs.Attributes.{attribute, outside, without_attributes}
+use Rattle.vs_pre.specs.Preprocessing.{State, Step, fault_at, unmade, turns, defines, undefines, keeps, replaces, kept_step, other_step, step, behind as put_behind, ended, read, first_state, the_limits, resolved, sized, finished, pre}
 
 some_room : (n : ℕ) → (n == 0) ≡ false → 1 ≤ n
 some_room n e = grind (arith, nat_tests)
@@ -462,17 +467,84 @@ module _ (P : Token → Type 0) (moved : (t : Token) (at : ℕ) → P t → P (r
     none_are : AreMacros no_macros
     none_are name m e = cc
 
-    pre_list : (tokens : List Token) → Every tokens → IsList 1048576 (pre text tokens)
-    unfolding pre the_limits
-    pre_list tokens h = read_list 63 0 (first_state the_limits) tokens none_are h
+    resolved_list : (tokens : List Token) → Every tokens → IsList 1048576 (resolved text tokens)
+    unfolding resolved the_limits
+    resolved_list tokens h = read_list 63 0 (first_state the_limits) tokens none_are h
 
-    pub listed : (tokens list : List Token) → Every tokens → pre text tokens ≡ Ok list → Every list × (length list ≤ 1048576)
-    listed tokens list h e = subst (λ r. IsList 1048576 r) e (pre_list tokens h)
+    -- ---- attributes
+
+    left_every : (t : Token) (ts : List Token) (o : Option ℕ) → P t → ((k : ℕ) → Every (outside k ts) × (length (outside k ts) ≤ length ts))
+        → let l : List Token = elim o [ None ↦ t ∷ outside 0 ts | Some more ↦ outside more ts ] in Every l × (length l ≤ suc (length ts))
+    left_every t ts None p f = let r = f 0 in ((p, r.0), let n = r.1 in omega arith)
+    left_every t ts (Some more) p f = let r = f more in (r.0, let n = r.1 in omega arith)
+
+    outside_every : (skip : ℕ) (ts : List Token) → Every ts → Every (outside skip ts) × (length (outside skip ts) ≤ length ts)
+    outside_every skip [] h = (tt, omega arith)
+    outside_every (suc skip) (t ∷ ts) h = let r = outside_every skip ts h.1 in (r.0, let n = r.1 in omega arith)
+    outside_every zero (t ∷ ts) h = left_every t ts (attribute (t ∷ ts)) h.0 (λ k. outside_every k ts h.1)
+
+    -- ---- sizes
+
+    -- where a number with its size is such a token too
+    module _ (sizes : (t u : Token) → P t → P u → is_size_of text t u ≡ true → is_fitting text t u ≡ true → P (with_size t u)) where
+      pair_every : (t u : Token) (ts : List Token) (b f : Bool) → is_size_of text t u ≡ b → is_fitting text t u ≡ f → P t → P u → IsList (suc (length ts)) (sized text (u ∷ ts)) → IsList (length ts) (sized text ts)
+          → IsList (suc (suc (length ts))) (elim b as (λ _. Result (List Token) PreError) [
+            | false ↦ put_behind (t ∷ []) (sized text (u ∷ ts))
+            | true ↦ elim f [ false ↦ Err (error.BadLiteral t.at) | true ↦ put_behind (with_size t u ∷ []) (sized text ts) ]
+          ])
+      pair_every t u ts false f e g p q r s = behind_list (t ∷ []) (sized text (u ∷ ts)) (suc (length ts)) (suc (suc (length ts))) (p, tt) (omega arith) r
+      pair_every t u ts true false e g p q r s = tt
+      pair_every t u ts true true e g p q r s = behind_list (with_size t u ∷ []) (sized text ts) (length ts) (suc (suc (length ts))) (sizes t u p q e g, tt) (omega arith) s
+
+      sized_every : (ts : List Token) → Every ts → IsList (length ts) (sized text ts)
+      sized_every [] h = (tt, omega arith)
+      sized_every (t ∷ []) h = (h, omega arith)
+      sized_every (t ∷ u ∷ ts) h = pair_every t u ts (is_size_of text t u) (is_fitting text t u) refl refl h.0 h.1.0 (sized_every (u ∷ ts) h.1) (sized_every ts h.1.1)
+
+      finished_every : (r : Result (List Token) PreError) (list : List Token) → IsList 1048576 r → finished text r ≡ Ok list → Every list × (length list ≤ 1048576)
+      finished_every (Ok ts) list h e =
+          let k = outside_every 0 ts h.0 in
+          let s = subst (λ r. IsList (length (without_attributes ts)) r) e (sized_every (without_attributes ts) k.0) in
+          (s.0, let a = k.1 in let b = h.1 in let d = s.1 in omega arith)
+      finished_every (Err x) list h e = cc
+
+      pub kept : (tokens list : List Token) → Every tokens → pre text tokens ≡ Ok list → Every list × (length list ≤ 1048576)
+      unfolding pre
+      kept tokens list h e = finished_every (resolved text tokens) list (resolved_list tokens h) e
 
 found_elsewhere : (text : List ℕ) (t : Token) (at : ℕ) → StandsIn text t → StandsIn text (record t { at = at })
-found_elsewhere text t at s = record { some = s.some; inside = s.inside; taken = s.taken }
+found_elsewhere text t at s = record { some = s.some; inside = s.inside; taken = s.taken; sized = s.sized }
+
+decimal_is : (k : TokenKind) → is_decimal k ≡ true → k ≡ kind.Decimal
+decimal_is kind.Decimal e = refl
+decimal_is _ e = cc
+
+based_is : (k : TokenKind) → is_based k ≡ true → k ≡ kind.Based
+based_is kind.Based e = refl
+based_is _ e = cc
+
+is_byte : (b c : ℕ) → (b == c) ≡ true → b ≡ c
+is_byte b c e = grind (arith, nat_tests)
+
+sized_stands : (text : List ℕ) (t u : Token) → StandsIn text t → StandsIn text u → is_size_of text t u ≡ true → is_fitting text t u ≡ true → StandsIn text (with_size t u)
+sized_stands text t u s n e f =
+    let p = and_parts (is_decimal t.kind) (lacks_size text u) e in
+    let q = and_parts (is_based u.kind) (slice_index (bytes_of text u) 0 == 39) p.1 in
+    record {
+      some = n.some;
+      inside = n.inside;
+      taken = n.taken;
+      sized = record {
+        some = s.some;
+        inside = s.inside;
+        decimal = s.taken ∙ ap (λ k. Ok (record { kind = k; length = t.end - t.start })) (decimal_is t.kind p.0);
+        based = based_is u.kind q.0;
+        quote = is_byte (slice_index (bytes_of text u) 0) 39 q.1;
+        in_range = f;
+      };
+    }
 
 pub kept_are_tokens : (text : List ℕ) (tokens list : List Token) → AreTokens text tokens → pre text tokens ≡ Ok list → AreTokens text list
 kept_are_tokens text tokens list a e =
-    let k = listed (StandsIn text) (found_elsewhere text) text tokens list (every_of (StandsIn text) (found_elsewhere text) tokens a.each) e in
+    let k = kept (StandsIn text) (found_elsewhere text) text (sized_stands text) tokens list (every_of (StandsIn text) (found_elsewhere text) tokens a.each) e in
     record { few = k.1; each = each_of (StandsIn text) (found_elsewhere text) list k.0 }

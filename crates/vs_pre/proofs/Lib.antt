@@ -10,4 +10,6 @@ pub mod Valuing
 pub mod Tabled
 pub mod ReadSteps
 pub mod Formals
+pub mod AttributeFacts
+pub mod SizeFacts
 pub mod Kept

@@ -5,6 +5,8 @@ pub mod Macros
 pub mod Arguments
 pub mod Expansion
 pub mod Conditions
+pub mod Attributes
+pub mod Sizes
 pub mod Preprocessing
 pub mod Reads
 pub mod Views

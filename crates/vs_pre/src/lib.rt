@@ -2,6 +2,7 @@
 #![tactic(auto)]
 
 mod arguments;
+mod attributes;
 mod branch;
 mod budget;
 mod define;
@@ -12,9 +13,10 @@ mod lines;
 mod names;
 mod reader;
 mod roles;
+mod sizes;
 mod table;
 mod words;
 
 pub use error::PreError;
-pub use laws::{kept_law, pre_law};
+pub use laws::{attributes_law, kept_law, pre_law};
 pub use reader::preprocess;

@@ -13,6 +13,7 @@ ghost use Rattle.vs_pre.specs.Preprocessing as spec;
 ghost use Rattle.vs_pre.specs.Reading.{state_of, Stepped, IsFault};
 ghost use Rattle.vs_pre.specs.Views.{macros_of};
 
+use crate::attributes::without_attributes;
 use crate::branch::{Branch, going_on, is_kept};
 use crate::budget::Budget;
 use crate::define::{Misdefined, defined_by};
@@ -20,6 +21,7 @@ use crate::error::{PreError, fault_at};
 use crate::expansion::{Course, Scene, Stop, replace};
 use crate::lines::line_behind;
 use crate::roles::{Role, role_of};
+use crate::sizes::sized;
 use crate::table::Table;
 use crate::words::{bytes, is_directive, is_word};
 use std::alloc::Global;
@@ -287,9 +289,9 @@ fn has_directive(tokens: &[Token]) -> bool
     false
 }
 
-/// What the tokens become.
+/// The tokens with macros and conditional parts resolved.
 fn read_all(alloc: Global, text: &[u8], tokens: &[Token]) -> Result<Vec<Token>, PreError>
-    ensures { MatchResult result (λ v. spec.pre text.now tokens.now ≡ Ok v.items) (IsFault (spec.pre text.now tokens.now)) }
+    ensures { MatchResult result (λ v. spec.resolved text.now tokens.now ≡ Ok v.items) (IsFault (spec.resolved text.now tokens.now)) }
 {
     let mut reader = Reader {
         table: Table::new(alloc),
@@ -315,15 +317,29 @@ fn read_all(alloc: Global, text: &[u8], tokens: &[Token]) -> Result<Vec<Token>, 
     }
 }
 
-/// Replaces the uses of macros among the tokens of a text by their bodies, and drops the conditional parts that don't hold (IEEE 1364-2005, 19.3
-/// and 19.4). The first fault is the error, or there was not enough memory. Tokens without a directive are given back as they are.
-pub fn preprocess(alloc: Global, text: &[u8], tokens: Vec<Token>) -> Result<Vec<Token>, PreError>
+/// The tokens with macros and conditional parts resolved; those without a directive are given back as they are.
+fn resolve(alloc: Global, text: &[u8], tokens: Vec<Token>) -> Result<Vec<Token>, PreError>
     requires { length tokens.items ≤ MAX_TOKENS }
-    ensures list { IfOk result (λ v. spec.pre text.now tokens.items ≡ Ok v.items) }
-    ensures fault { IfErr result (λ e. (spec.pre text.now tokens.items ≡ Err e) ⊎ (e ≡ Memory)) }
+    ensures list { IfOk result (λ v. spec.resolved text.now tokens.items ≡ Ok v.items) }
+    ensures fault { IfErr result (λ e. (spec.resolved text.now tokens.items ≡ Err e) ⊎ (e ≡ Memory)) }
 {
     if !has_directive(tokens.as_slice()) {
         return Ok(tokens);
     }
     read_all(alloc, text, tokens.as_slice())
+}
+
+/// Replaces the uses of macros among the tokens of a text by their bodies, drops the conditional parts that don't hold (IEEE 1364-2005, 19.3
+/// and 19.4), skips attributes (3.8), and puts each size that stands in front of its number to it (3.5.1). The first fault is the error, or there was
+/// not enough memory.
+pub fn preprocess(alloc: Global, text: &[u8], tokens: Vec<Token>) -> Result<Vec<Token>, PreError>
+    requires { length tokens.items ≤ MAX_TOKENS }
+    ensures list { IfOk result (λ v. spec.pre text.now tokens.items ≡ Ok v.items) }
+    ensures fault { IfErr result (λ e. (spec.pre text.now tokens.items ≡ Err e) ⊎ (e ≡ Memory)) }
+{
+    let resolved = resolve(alloc, text, tokens)?;
+    match without_attributes(alloc, resolved.as_slice()) {
+        Ok(kept) => sized(alloc, text, kept.as_slice()),
+        Err(_) => Err(PreError::Memory),
+    }
 }

@@ -1,5 +1,5 @@
 -- Numbers.
-use Rattle.std.proofs.Common.{◌≡◌, ℕ, Bool, true, false, ◌||◌, List, [], ◌∷◌, refl, sym, suc, zero, ◌+◌, drop, nat_eq}
+use Rattle.std.proofs.Common.{◌≡◌, ℕ, Bool, true, false, ◌||◌, List, [], ◌∷◌, refl, sym, suc, zero, ◌+◌, drop, nat_eq, arith}
 use Rattle.vs_lexer.specs.declared.token.Token.{Token}
 use Rattle.vs_lexer.specs.declared.token.TokenKind.{TokenKind}
 use Rattle.vs_lexer.specs.declared.token.TokenKind.TheVariants as kind
@@ -35,6 +35,22 @@ there (t ∷ ts) (suc i) e = there ts i e
 pub is_number_there : (ts : List Token) (i : ℕ) → is_member (kind_at ts i) (1 ∷ 2 ∷ []) ≡ true → is_number ts i ≡ true
 unfolding kind_at
 is_number_there ts i e = there ts i e
+
+no_number_kind : (k : TokenKind) → number_of k ≡ number_of kind.Identifier → is_number_kind k ≡ false
+no_number_kind kind.Decimal e = absurd (omega arith)
+no_number_kind kind.Based e = absurd (omega arith)
+no_number_kind _ e = refl
+
+no_number : (ts : List Token) (i : ℕ) → first_kind (drop i ts) ≡ number_of kind.Identifier → is_number ts i ≡ false
+no_number [] zero e = refl
+no_number [] (suc i) e = refl
+no_number (t ∷ ts) zero e = no_number_kind t.kind e
+no_number (t ∷ ts) (suc i) e = no_number ts i e
+
+-- an identifier is none
+pub is_no_number_there : (ts : List Token) (i : ℕ) → kind_at ts i ≡ number_of kind.Identifier → is_number ts i ≡ false
+unfolding kind_at
+is_no_number_there ts i e = no_number ts i e
 
 -- the number that a token stands for
 pub number_chosen : (input : Input) (i : ℕ) (value : Literal) → is_member (kind_at input.tokens.now i) (1 ∷ 2 ∷ []) ≡ true → literal_at (bytes_in input) (terminal_at input.tokens.now i) ≡ value → Chosen input.tokens.now grammar.number (meaning.literal_of (bytes_in input)) i value (i + 1)
