@@ -5,8 +5,8 @@ use Rattle.vs_net.specs.Network.{State, put, write_all}
 use Rattle.vs_net.proofs.Basics.{write_all_covered}
 use Rattle.vs_four.specs.Selects.{places}
 use Rattle.vs_design.specs.Expressions.{Expression, sign, is_constant}
-use Rattle.vs_design.specs.Values.{bits_of_signal, constant_value}
-use Rattle.vs_design.specs.Statements.{Target, Whole, PartOf, Both, target_width, Statement}
+use Rattle.vs_design.specs.Values.{bits_of_signal, word_places, constant_value}
+use Rattle.vs_design.specs.Statements.{Target, Whole, PartOf, WordOf, Both, target_width, Statement}
 use Rattle.vs_design.specs.Bodies.{bits_at, assignment_writes, body}
 use Rattle.vs_design.specs.Designs.{Process, Continuous, Always, is_clocked, Design}
 use Rattle.vs_design.specs.Footprints.{contains, somes, target_bits, read_bits, statement_bits, statement_reads, writes_of, without}
@@ -24,7 +24,8 @@ use Rattle.vs_design.specs.Accepted.{is_empty}
 use Rattle.vs_design.specs.TreeLaws.{InSets}
 use Rattle.vs_design.proofs.Lists.{by_test, or_neither, and_both, contains-append, contains-right}
 use Rattle.vs_design.proofs.Writes.{either_way, somes_all, assignment_assigns}
-use Rattle.vs_design.proofs.SetBody.{assignment_in}
+use Rattle.vs_design.proofs.SetCalls.{assignment_in}
+use Rattle.vs_design.proofs.Words.{addressed_constant, addressed_variable}
 use Rattle.vs_design.proofs.SetStatement.{body_in}
 use Rattle.vs_design.proofs.Blocks.{early_in, no_latch_at, block_writes}
 use Rattle.vs_design.proofs.Drivers.{one_process}
@@ -50,6 +51,10 @@ write_other (PartOf signal part index) ss sets b h =
     by_test (is_constant index)
     (λ e. rw e (each_other (bits_at signal (places part (sign index) (constant_value index))) ss sets b (subst (λ (c : Bool). contains (if c then somes (bits_at signal (places part (sign index) (constant_value index))) else bits_of_signal signal) b ≡ false) e h)))
     (λ e. rw e (rw (subst (λ (c : Bool). contains (if c then somes (bits_at signal (places part (sign index) (constant_value index))) else bits_of_signal signal) b ≡ false) e h) refl))
+write_other (WordOf signal index) ss sets b h =
+    by_test (is_constant index)
+    (λ e. rw e (each_other (bits_at signal (word_places signal (sign index) (constant_value index))) ss sets b (subst (λ xs. contains xs b ≡ false) (addressed_constant signal index e) h)))
+    (λ e. rw e (rw (subst (λ xs. contains xs b ≡ false) (addressed_variable signal index e) h) refl))
 write_other (Both high low) ss sets b h =
     let k = neither (target_bits high) (target_bits low) b h in
     write_other low (take (target_width low) ss) (write_sets high (drop (target_width low) ss) sets) b k.1 ∙ write_other high (drop (target_width low) ss) sets b k.0
@@ -122,6 +127,7 @@ unwritten d order f b h a = kept d order [] f b h (λ r x e c w. absurd (either_
 pub constant_assigns : (t : Target) → has_constant_selects t ≡ true → assigns t ≡ target_bits t
 constant_assigns (Whole signal) h = refl
 constant_assigns (PartOf signal part index) h = rw h refl
+constant_assigns (WordOf signal index) h = rw h refl
 constant_assigns (Both high low) h =
     let k = and_both (has_constant_selects high) (has_constant_selects low) h in
     ap {B = List ℕ} (λ xs. xs ++ assigns low) (constant_assigns high k.0) ∙ ap {B = List ℕ} (λ xs. target_bits high ++ xs) (constant_assigns low k.1)

@@ -10,12 +10,12 @@ use Rattle.vs_design.specs.Footprints.{contains, writes_of, all_reads, waits_of,
 use Rattle.vs_design.specs.Fits.{fits_process}
 use Rattle.vs_design.specs.Elaborated.{is_formed_process, are_numbered, have_bits_from}
 use Rattle.vs_design.specs.Sizes.{size}
-use Rattle.vs_design.specs.Rules.{mixed_assigns, missing_bits, latches}
+use Rattle.vs_design.specs.Rules.{function_latches, mixed_assigns, missing_bits, latches}
 use Rattle.vs_design.specs.Clocks.{clock_input, clock_nets, root_of, reads_clock, has_other_clock}
 use Rattle.vs_design.specs.Resets.{has_other_form}
 use Rattle.vs_design.specs.Levels.{level_order}
 use Rattle.vs_design.specs.TimeZero.{families, is_uncertain}
-use Rattle.vs_design.specs.Refusals.{least_with, least, otherwise, first_found, where_true, WidthRefusal, TooWide, Division, TooLarge, wide_in, divisions_in, earlier, too_large, BlockRefusal, MixedAssign, Sensitivity, Latch, signal_of, block_refusal_of, ClockRefusal, NoClock, ClockRead, NotTheClock, ResetForm, clock_refusal_by, ZeroRefusal, TimeZero, zero_refusal_by}
+use Rattle.vs_design.specs.Refusals.{least_with, least, otherwise, first_found, where_true, WidthRefusal, TooWide, Division, TooLarge, wide_in, divisions_in, earlier, too_large, BlockRefusal, FunctionLatch, MixedAssign, Sensitivity, Latch, signal_of, block_refusal_of, ClockRefusal, NoClock, ClockRead, NotTheClock, ResetForm, clock_refusal_by, ZeroRefusal, TimeZero, zero_refusal_by}
 use Rattle.vs_design.specs.RefusalLaws.{IsLeastOf, IsFirstOf, is_unfit, IsWidthRefusal, WidthRefusalIs, is_some_of, breaks_block, IsBlockRefusal, BlockRefusalIs, IsClockRefusal, ClockRefusalIs, IsZeroRefusal, ZeroRefusalIs}
 use Rattle.vs_design.proofs.Lists.{by_test, and_both, or_left, or_right, or_neither, or_false, contains-append, contains-left, contains_head, contains_filter}
 use Rattle.vs_design.proofs.Writes.{either_way}
@@ -267,7 +267,7 @@ bits_above k (x ∷ ss) zero s b f h m =
     some_signal x y e = cc
 bits_above k (x ∷ ss) (suc i) s b f h m = let l = bits_above (k + signal_length x) ss i s b (and_both (x.first == k) (have_bits_from (k + signal_length x) ss) f).1 h m in omega (arith, l)
 
-bits_in_order : (k : ℕ) (ss : List Signal) (i j : ℕ) (s t : Signal) (b c : ℕ) → have_bits_from k ss ≡ true → slice_get ss i ≡ Some s → slice_get ss j ≡ Some t → contains (bits_of_signal s) b ≡ true → contains (bits_of_signal t) c ≡ true → b ≤ c → i ≤ j
+pub bits_in_order : (k : ℕ) (ss : List Signal) (i j : ℕ) (s t : Signal) (b c : ℕ) → have_bits_from k ss ≡ true → slice_get ss i ≡ Some s → slice_get ss j ≡ Some t → contains (bits_of_signal s) b ≡ true → contains (bits_of_signal t) c ≡ true → b ≤ c → i ≤ j
 bits_in_order k [] i j s t b c f h g m n l = cc
 bits_in_order k (x ∷ ss) zero j s t b c f h g m n l = omega arith
 bits_in_order k (x ∷ ss) (suc i) zero s t b c f h g m n l =
@@ -282,8 +282,12 @@ bits_in_order k (x ∷ ss) (suc i) (suc j) s t b c f h g m n l =
     let r = bits_in_order (k + signal_length x) ss i j s t b c (and_both (x.first == k) (have_bits_from (k + signal_length x) ss) f).1 h g m n l in omega (arith, r)
 
 pub block_refusal_is : BlockRefusalIs
-block_refusal_is d l r h = go r (found_first d (block_refusal_of d) breaks_block r none some h)
+block_refusal_is d l r h = both r (otherwise_some (option_map FunctionLatch (least (function_latches d.functions))) (first_found (block_refusal_of d) 0 d.processes) r h)
   where
+    none_mapped : {A B : Type 0} (f : A → B) (o : Option A) → option_map f o ≡ None → o ≡ None
+    none_mapped f None h = refl
+    none_mapped f (Some x) h = cc
+
     none : (p : ℕ) (x : Process) → slice_get d.processes p ≡ Some x → block_refusal_of d p x ≡ None → breaks_block x ≡ false
     none p x i e =
         let q = block_clear d p x e in
@@ -342,15 +346,18 @@ block_refusal_is d l r h = go r (found_first d (block_refusal_of d) breaks_block
     same_latch : (p s a q t b : ℕ) → Latch p s a ≡ Latch q t b → (p ≡ q) × (s ≡ t) × (a ≡ b)
     same_latch p s a q t b e = (cc, cc, cc)
 
-    go : (r : BlockRefusal) → Found_at d (block_refusal_of d) breaks_block r → IsBlockRefusal d r
-    go r f = cases r f (three f.number f.process r f.found)
+    go : (r : BlockRefusal) → function_latches d.functions ≡ [] → Found_at d (block_refusal_of d) breaks_block r → IsBlockRefusal d r
+    go r unlatched f = cases r f (three f.number f.process r f.found)
       where
         cases : (r : BlockRefusal) (f : Found_at d (block_refusal_of d) breaks_block r)
             → ((m : ℕ) × (least (mixed_assigns f.process) ≡ Some m) × (MixedAssign m ≡ r))
             ⊎ (((m : ℕ) × (mixed_assigns f.process ≡ []) × (least (missing_bits f.process) ≡ Some m) × (Sensitivity f.number (signal_of d.signals m) (process_place f.process) ≡ r))
             ⊎ ((m : ℕ) × (mixed_assigns f.process ≡ []) × (missing_bits f.process ≡ []) × (least (latches f.process) ≡ Some m) × (Latch f.number m (process_place f.process) ≡ r)))
             → IsBlockRefusal d r
-        cases (MixedAssign at) f (inl m) = (f.number, f.process, f.first, subst (IsLeastOf (mixed_assigns f.process)) (same_mixed m.0 at m.2) (least_is (mixed_assigns f.process) m.0 m.1))
+        cases (FunctionLatch at) f (inl m) = cc
+        cases (FunctionLatch at) f (inr (inl m)) = cc
+        cases (FunctionLatch at) f (inr (inr m)) = cc
+        cases (MixedAssign at) f (inl m) = (unlatched, f.number, f.process, f.first, subst (IsLeastOf (mixed_assigns f.process)) (same_mixed m.0 at m.2) (least_is (mixed_assigns f.process) m.0 m.1))
         cases (MixedAssign at) f (inr (inl m)) = cc
         cases (MixedAssign at) f (inr (inr m)) = cc
         cases (Sensitivity p s at) f (inl m) = cc
@@ -359,7 +366,7 @@ block_refusal_is d l r h = go r (found_first d (block_refusal_of d) breaks_block
             let i = least_is (missing_bits f.process) m.0 m.2 in
             let w = signal_found 0 0 d.signals m.0 l.numbered (process_bits d f.process m.0 (all_at (is_formed_process d) d.processes f.number f.process l.formed f.first.is) (missing_read f.process m.0 i.there)) in
             let at_signal : slice_get d.signals s ≡ Some w.1 = subst (λ n. slice_get d.signals n ≡ Some w.1) (let z = w.4 in let y = q.1 in omega (arith, z, y)) w.2 in
-            (f.process, subst (λ n. IsFirstOf d breaks_block n f.process) q.0 f.first, sym q.2, m.1, (m.0, i, (w.1, at_signal, w.3)), λ j t b e c g. bits_in_order 0 d.signals s j w.1 t m.0 b l.bits_numbered at_signal e w.3 c (i.least b g))
+            (unlatched, f.process, subst (λ n. IsFirstOf d breaks_block n f.process) q.0 f.first, sym q.2, m.1, (m.0, i, (w.1, at_signal, w.3)), λ j t b e c g. bits_in_order 0 d.signals s j w.1 t m.0 b l.bits_numbered at_signal e w.3 c (i.least b g))
           where
             missing_read : (x : Process) (b : ℕ) → contains (missing_bits x) b ≡ true → contains (all_reads x ++ (writes_of x ++ waits_of x)) b ≡ true
             missing_read x b h = contains-left (all_reads x) (writes_of x ++ waits_of x) b (is_read (is_combinational x) h)
@@ -375,7 +382,11 @@ block_refusal_is d l r h = go r (found_first d (block_refusal_of d) breaks_block
         cases (Latch p b at) f (inr (inl m)) = cc
         cases (Latch p b at) f (inr (inr m)) =
             let q = same_latch f.number m.0 (process_place f.process) p b at m.4 in
-            (f.process, subst (λ n. IsFirstOf d breaks_block n f.process) q.0 f.first, sym q.2, m.1, m.2, subst (IsLeastOf (latches f.process)) q.1 (least_is (latches f.process) m.0 m.3))
+            (unlatched, f.process, subst (λ n. IsFirstOf d breaks_block n f.process) q.0 f.first, sym q.2, m.1, m.2, subst (IsLeastOf (latches f.process)) q.1 (least_is (latches f.process) m.0 m.3))
+
+    both : (r : BlockRefusal) → (option_map FunctionLatch (least (function_latches d.functions)) ≡ Some r) ⊎ ((option_map FunctionLatch (least (function_latches d.functions)) ≡ None) × (first_found (block_refusal_of d) 0 d.processes ≡ Some r)) → IsBlockRefusal d r
+    both r (inl e) = let m = mapped_some FunctionLatch (least (function_latches d.functions)) r e in subst (IsBlockRefusal d) m.2 (least_is (function_latches d.functions) m.0 m.1)
+    both r (inr e) = go r (no_least (function_latches d.functions) (none_mapped FunctionLatch (least (function_latches d.functions)) e.0)) (found_first d (block_refusal_of d) breaks_block r none some e.1)
 
 -- ---- the clock, and time zero
 

@@ -1,6 +1,5 @@
 -- A body's writes and updates are within its bits, and on every path it writes what its statement assigns.
 use Rattle.std.proofs.Common.{◌≡◌, ℕ, Bool, true, false, cond, List, [], ◌∷◌, ◌++◌, ◌||◌, ◌&&◌, not, if◌then◌else◌, ◌⊎◌, inl, inr, refl, sym, ap, ◌∙◌, subst}
-use Rattle.std.specs.List.{list_all}
 use Rattle.vs_net.specs.Network.{State, Write, Update, Effect, write_all, is_written, flatten}
 use Rattle.vs_four.specs.Logic.{BitList, truth}
 use Rattle.vs_four.specs.Tables.{is_one}
@@ -11,7 +10,7 @@ use Rattle.vs_design.specs.Bodies.{assignment_writes, effect_of, no_effect, both
 use Rattle.vs_design.specs.Footprints.{contains, target_bits, statement_bits, arms_bits}
 use Rattle.vs_design.specs.Latches.{assigns, common, assigned_after, assigned_in_arms}
 use Rattle.vs_design.specs.Rules.{mixed_in, mixed_in_arms}
-use Rattle.vs_design.specs.Fits.{fits_target, fits_statement, fits_arms, is_fit}
+use Rattle.vs_design.specs.Fits.{fits_target, fits_statement, fits_arms, fit_items, is_fit}
 use Rattle.vs_design.proofs.Lists.{by_test, or_left, or_right, and_both, contains-append, contains-left, contains-right, contains_filter}
 use Rattle.vs_design.proofs.Writes.{written-append, assignment_within, assignment_assigns}
 
@@ -98,8 +97,8 @@ mutual
 
   pub arms_within : (arms : Arms) (kind : CaseKind) (w : ℕ) (g : Bool) (v : BitList) (s : State) → fits_arms arms ≡ true → Within (arms_bits arms) (arms_body arms kind w g v s)
   arms_within (Arm items statement rest) kind w g v s f =
-      let k = and_both (list_all is_fit items && fits_statement statement) (fits_arms rest) f in
-      let m = and_both (list_all is_fit items) (fits_statement statement) k.0 in
+      let k = and_both (fit_items items && fits_statement statement) (fits_arms rest) f in
+      let m = and_both (fit_items items) (fits_statement statement) k.0 in
       cond_of (Within (statement_bits statement ++ arms_bits rest)) (is_taken kind w g v items s) (body statement s) (arms_body rest kind w g v s)
       (widen_left (statement_bits statement) (arms_bits rest) (body statement s) (body_within statement s m.1))
       (widen_right (statement_bits statement) (arms_bits rest) (arms_body rest kind w g v s) (arms_within rest kind w g v s k.1))

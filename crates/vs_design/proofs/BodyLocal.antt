@@ -1,21 +1,21 @@
 -- A body that reads what it writes only after it has assigned it depends on its other reads alone.
-use Rattle.std.proofs.Common.{◌≡◌, ℕ, Bool, true, false, cond, List, [], ◌∷◌, ◌++◌, ◌||◌, ◌⊎◌, inl, inr, refl, ap, ◌∙◌}
+use Rattle.std.proofs.Common.{◌≡◌, ℕ, Bool, true, false, cond, List, [], ◌++◌, ◌⊎◌, inl, inr, refl, ap, ◌∙◌}
 use Rattle.vs_net.specs.Network.{State, Write, Effect, write_all, is_written}
 use Rattle.vs_net.proofs.Basics.{write_all_at, write_all_covered}
 use Rattle.vs_four.specs.Logic.{BitList, truth}
 use Rattle.vs_four.specs.Tables.{is_one}
-use Rattle.vs_design.specs.Expressions.{Expression, width, sign}
-use Rattle.vs_design.specs.Values.{own_value, value, assigned_value}
+use Rattle.vs_design.specs.Expressions.{Expression, Items, width, sign}
+use Rattle.vs_design.specs.Values.{own_value, any_matches, value, assigned_value}
 use Rattle.vs_four.specs.Lengths.{cut}
 use Rattle.std.specs.Prelude.{max}
-use Rattle.vs_design.specs.Statements.{Target, target_width, CaseKind, case_match, Statement, Empty, Assignment, Then, If, Case, Arms, Arm, Default, case_width, case_sign}
+use Rattle.vs_design.specs.Statements.{Target, target_width, CaseKind, Statement, Empty, Assignment, Then, If, Case, Arms, Arm, Default, case_width, case_sign}
 use Rattle.vs_design.specs.Bodies.{target_writes, last_of_each, assignment_writes, effect_of, both_effects, is_taken, body, arms_body}
 use Rattle.vs_design.specs.Footprints.{contains, read_bits, target_reads, items_reads, without}
 use Rattle.vs_design.specs.Latches.{assigned_after, early_reads, early_in_arms}
 use Rattle.vs_design.specs.Rules.{mixed_in, mixed_in_arms}
 use Rattle.vs_design.specs.TreeLaws.{Agree}
 use Rattle.vs_design.proofs.Lists.{agree-left, agree-right, agree_without}
-use Rattle.vs_design.proofs.ReadValue.{value_reads}
+use Rattle.vs_design.proofs.ReadValue.{value_reads, items_read}
 use Rattle.vs_design.proofs.Writes.{target_reads_law}
 use Rattle.vs_design.proofs.BodyExact.{append_empty, body_assigns}
 
@@ -24,11 +24,8 @@ assignment_local t e s r h =
     ap {B = List Write} (λ v. last_of_each (target_writes t (cut (target_width t) v) s)) (value_reads e (max (width e) (target_width t)) (sign e) s r (agree-right (target_reads t) (read_bits e) s r h))
     ∙ ap {B = List Write} last_of_each (target_reads_law t (assigned_value e (target_width t) r) s r (agree-left (target_reads t) (read_bits e) s r h))
 
-pub taken_local : (kind : CaseKind) (w : ℕ) (g : Bool) (v : BitList) (items : List Expression) (s r : State) → Agree (items_reads items) s r → is_taken kind w g v items s ≡ is_taken kind w g v items r
-taken_local kind w g v [] s r h = refl
-taken_local kind w g v (e ∷ es) s r h =
-    ap {B = Bool} (λ x. is_one (case_match kind v x) || is_taken kind w g v es s) (value_reads e w g s r (agree-left (read_bits e) (items_reads es) s r h))
-    ∙ ap {B = Bool} (λ x. is_one (case_match kind v (value e w g r)) || x) (taken_local kind w g v es s r (agree-right (read_bits e) (items_reads es) s r h))
+pub taken_local : (kind : CaseKind) (w : ℕ) (g : Bool) (v : BitList) (items : Items) (s r : State) → Agree (items_reads items) s r → is_taken kind w g v items s ≡ is_taken kind w g v items r
+taken_local kind w g v items s r h = ap {B = Bool} (any_matches kind v) (items_read items w g s r h)
 
 -- after equal writes, bits that agreed and bits that were assigned agree
 agree_after : (xs : List ℕ) (ws : List Write) (s r : State) → Agree xs s r → Agree xs (write_all s ws) (write_all r ws)

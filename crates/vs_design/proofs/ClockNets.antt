@@ -6,9 +6,9 @@ use Rattle.vs_net.specs.Network.{State, Write, Effect, is_written, write_all, Ne
 use Rattle.vs_net.specs.Network as N
 use Rattle.vs_net.specs.Lawful.{IsClockPort}
 use Rattle.vs_four.specs.Logic.{BitList}
-use Rattle.vs_design.specs.Expressions.{Signal, signal_length, Expression, Literal, Name, Select, Unary, Binary, Choice, Join, Repeat, At, width, sign}
+use Rattle.vs_design.specs.Expressions.{Signal, signal_length, Expression, Literal, Name, Select, Word, Unary, Binary, Choice, Join, Repeat, At, Call, width, sign}
 use Rattle.vs_design.specs.Values.{count_from, bits_of_signal, value}
-use Rattle.vs_design.specs.Statements.{Target, Whole, PartOf, Both}
+use Rattle.vs_design.specs.Statements.{Target, Whole, PartOf, WordOf, Both}
 use Rattle.vs_design.specs.Bodies.{assignment_writes, body}
 use Rattle.vs_design.specs.Designs.{Port, Written, InputPort, OutputPort, Process, Continuous, Always, Design, top_inputs}
 use Rattle.vs_design.specs.Footprints.{contains, read_bits, target_reads, target_bits}
@@ -82,6 +82,7 @@ port_of nets (Continuous place InputPort target_place (Whole signal) e) b h =
     (λ k. let p = and_both (is_one_of nets (name_of e)) (signal_length signal == 1) k in record { place = place; target_place = target_place; signal = signal; e = e; is = refl; from = p.0; one_bit = p.1 })
     (λ k. absurd (either_way (contains [] b) (subst (λ (c : Bool). contains (if c then (signal.first ∷ []) else []) b ≡ true) k h) refl))
 port_of nets (Continuous place InputPort target_place (PartOf signal part index) e) b h = cc
+port_of nets (Continuous place InputPort target_place (WordOf signal index) e) b h = cc
 port_of nets (Continuous place InputPort target_place (Both high low) e) b h = cc
 port_of nets (Continuous place Written target_place t e) b h = cc
 port_of nets (Continuous place OutputPort target_place t e) b h = cc
@@ -164,10 +165,12 @@ name_facts (Name t) s h =
 name_facts (At place e) s h = let r = name_facts e s h in record { value_is = r.value_is; width_is = r.width_is; reads_is = r.reads_is }
 name_facts (Literal bits signed sized) s h = cc
 name_facts (Select source part index) s h = cc
+name_facts (Word signal index) s h = cc
 name_facts (Unary op a) s h = cc
 name_facts (Binary op a b) s h = cc
 name_facts (Choice c p q) s h = cc
 name_facts (Join high low) s h = cc
+name_facts (Call header statement arguments) s h = cc
 name_facts (Repeat count a) s h = cc
 
 pub one_net : (nets : List ℕ) (o : Option Signal) → is_one_of nets o ≡ true → (s : Signal) × (o ≡ Some s) × (signal_length s ≡ 1) × (contains nets s.first ≡ true)

@@ -7,13 +7,13 @@ use Rattle.vs_design.specs.Designs.{Process, process_place, Design}
 use Rattle.vs_design.specs.Fits.{fits_process}
 use Rattle.vs_design.specs.Elaborated.{is_formed_process}
 use Rattle.vs_design.specs.Sizes.{size}
-use Rattle.vs_design.specs.Rules.{mixed_assigns, missing_bits, latches, shared_bits}
+use Rattle.vs_design.specs.Rules.{function_latches, mixed_assigns, missing_bits, latches, shared_bits}
 use Rattle.vs_design.specs.Clocks.{clock_input, clock_nets, root_of, reads_clock, has_other_clock}
 use Rattle.vs_design.specs.Resets.{has_other_form}
 use Rattle.vs_design.specs.Levels.{level_order}
 use Rattle.vs_design.specs.TimeZero.{families, is_uncertain}
 use Rattle.vs_design.specs.Accepted.{is_empty, IsAcceptedDesign}
-use Rattle.vs_design.specs.Refusals.{least, otherwise, first_found, where_true, TooWide, Division, TooLarge, wide_in, divisions_in, earlier, too_large, MixedAssign, Sensitivity, Latch, signal_of, block_refusal_of, ClockRead, NotTheClock, ResetForm, clock_refusal_by, TimeZero, zero_refusal_by, IsUnrefused}
+use Rattle.vs_design.specs.Refusals.{least, otherwise, first_found, where_true, TooWide, Division, TooLarge, wide_in, divisions_in, earlier, too_large, FunctionLatch, MixedAssign, Sensitivity, Latch, signal_of, block_refusal_of, ClockRead, NotTheClock, ResetForm, clock_refusal_by, TimeZero, zero_refusal_by, IsUnrefused}
 use Rattle.vs_design.specs.Laws.{AcceptedExactly}
 use Rattle.vs_design.proofs.Lists.{and_both, or_false, or_neither}
 use Rattle.vs_design.proofs.RaceLaws.{unmixed_has_no_race}
@@ -193,7 +193,7 @@ accepted_exactly d name lawful = (there, back)
         let c = clear_clock d (clock_input d name) a.clock a.clock_found (record { unread = a.clock_unread; one = a.one_clock; forms = a.reset_forms; awake = a.awake }) in
         record {
           widths = none_otherwise _ _ (fit_all d.processes a.fit) (where_false (nat_lt 16777216 (size d)) (TooLarge (size d)) (is_small (size d) 16777216 a.small));
-          blocks = blocks_clear d d.processes a.unmixed a.sensitive a.no_latch;
+          blocks = none_otherwise _ _ (mapped_least FunctionLatch (function_latches d.functions) a.no_function_latch) (blocks_clear d d.processes a.unmixed a.sensitive a.no_latch);
           drivers = mapped_least _ (shared_bits d) a.one_driver;
           clocks = c.0;
           no_cycle = a.no_cycle;
@@ -204,14 +204,16 @@ accepted_exactly d name lawful = (there, back)
     back u =
         let w = otherwise_none (first_found (λ p process. earlier (least (wide_in process)) (least (divisions_in process))) 0 d.processes) (too_large d) u.widths in
         let c = clock_clear d (clock_input d name) u.clocks u.zero in
-        let unmixed = found_none (block_refusal_of d) (λ x. is_empty (mixed_assigns x)) 0 d.processes (λ p x f. (block_clear d p x f).0) u.blocks in
+        let b = otherwise_none (option_map FunctionLatch (least (function_latches d.functions))) (first_found (block_refusal_of d) 0 d.processes) u.blocks in
+        let unmixed = found_none (block_refusal_of d) (λ x. is_empty (mixed_assigns x)) 0 d.processes (λ p x f. (block_clear d p x f).0) b.1 in
         record {
           lawful = lawful;
           fit = all_fit d 0 d.processes lawful.formed w.0;
           small = small_is (size d) 16777216 (true_where (nat_lt 16777216 (size d)) (TooLarge (size d)) w.1);
+          no_function_latch = least_mapped FunctionLatch (function_latches d.functions) b.0;
           unmixed = unmixed;
-          sensitive = found_none (block_refusal_of d) (λ x. is_empty (missing_bits x)) 0 d.processes (λ p x f. (block_clear d p x f).1) u.blocks;
-          no_latch = found_none (block_refusal_of d) (λ x. is_empty (latches x)) 0 d.processes (λ p x f. (block_clear d p x f).2) u.blocks;
+          sensitive = found_none (block_refusal_of d) (λ x. is_empty (missing_bits x)) 0 d.processes (λ p x f. (block_clear d p x f).1) b.1;
+          no_latch = found_none (block_refusal_of d) (λ x. is_empty (latches x)) 0 d.processes (λ p x f. (block_clear d p x f).2) b.1;
           one_driver = least_mapped _ (shared_bits d) u.drivers;
           clock = c.0;
           clock_found = c.1;

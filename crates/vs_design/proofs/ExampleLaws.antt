@@ -5,16 +5,18 @@ use Rattle.vs_net.specs.Queue.{change, changes, is_held}
 use Rattle.vs_design.specs.Accepted.{IsAcceptedDesign}
 use Rattle.vs_design.specs.Cycles.{IsCycle, Feeds}
 use Rattle.vs_design.specs.ExampleParts.{clk, clk_signal}
+use Rattle.vs_design.specs.ExampleCalls.{CallsComputed, greatest}
 use Rattle.vs_design.specs.ExampleDesigns.{DesignsComputed, and_gate, counter, if_and_choice, three_registers, woken, set_once, chain, quiet, sleeper, never_run, resettable, reset_through_port, port, adder, clocked_instance, sum}
 use Rattle.vs_design.specs.ExampleRefusals.{RefusalsComputed, loop}
 
 and_gate_is_accepted : IsAcceptedDesign and_gate clk
 and_gate_is_accepted = record {
-  lawful = record { scopes = refl; numbered = refl; bits_numbered = refl; declared = refl; formed = refl; few_bits = lit≤ tt; few_processes = lit≤ tt };
+  lawful = record { scopes = refl; numbered = refl; bits_numbered = refl; declared = refl; memories = refl; formed = refl; functions = refl; clocked_words = refl; few_bits = lit≤ tt; few_processes = lit≤ tt };
   fit = refl;
   small = lit≤ tt;
   unmixed = refl;
   sensitive = refl;
+  no_function_latch = refl;
   no_latch = refl;
   one_driver = refl;
   clock = clk_signal;
@@ -29,11 +31,12 @@ and_gate_is_accepted = record {
 
 counter_is_accepted : IsAcceptedDesign counter clk
 counter_is_accepted = record {
-  lawful = record { scopes = refl; numbered = refl; bits_numbered = refl; declared = refl; formed = refl; few_bits = lit≤ tt; few_processes = lit≤ tt };
+  lawful = record { scopes = refl; numbered = refl; bits_numbered = refl; declared = refl; memories = refl; formed = refl; functions = refl; clocked_words = refl; few_bits = lit≤ tt; few_processes = lit≤ tt };
   fit = refl;
   small = lit≤ tt;
   unmixed = refl;
   sensitive = refl;
+  no_function_latch = refl;
   no_latch = refl;
   one_driver = refl;
   clock = clk_signal;
@@ -48,11 +51,12 @@ counter_is_accepted = record {
 
 if_and_choice_is_accepted : IsAcceptedDesign if_and_choice clk
 if_and_choice_is_accepted = record {
-  lawful = record { scopes = refl; numbered = refl; bits_numbered = refl; declared = refl; formed = refl; few_bits = lit≤ tt; few_processes = lit≤ tt };
+  lawful = record { scopes = refl; numbered = refl; bits_numbered = refl; declared = refl; memories = refl; formed = refl; functions = refl; clocked_words = refl; few_bits = lit≤ tt; few_processes = lit≤ tt };
   fit = refl;
   small = lit≤ tt;
   unmixed = refl;
   sensitive = refl;
+  no_function_latch = refl;
   no_latch = refl;
   one_driver = refl;
   clock = clk_signal;
@@ -67,11 +71,12 @@ if_and_choice_is_accepted = record {
 
 three_registers_is_accepted : IsAcceptedDesign three_registers clk
 three_registers_is_accepted = record {
-  lawful = record { scopes = refl; numbered = refl; bits_numbered = refl; declared = refl; formed = refl; few_bits = lit≤ tt; few_processes = lit≤ tt };
+  lawful = record { scopes = refl; numbered = refl; bits_numbered = refl; declared = refl; memories = refl; formed = refl; functions = refl; clocked_words = refl; few_bits = lit≤ tt; few_processes = lit≤ tt };
   fit = refl;
   small = lit≤ tt;
   unmixed = refl;
   sensitive = refl;
+  no_function_latch = refl;
   no_latch = refl;
   one_driver = refl;
   clock = clk_signal;
@@ -86,11 +91,12 @@ three_registers_is_accepted = record {
 
 woken_is_accepted : IsAcceptedDesign woken clk
 woken_is_accepted = record {
-  lawful = record { scopes = refl; numbered = refl; bits_numbered = refl; declared = refl; formed = refl; few_bits = lit≤ tt; few_processes = lit≤ tt };
+  lawful = record { scopes = refl; numbered = refl; bits_numbered = refl; declared = refl; memories = refl; formed = refl; functions = refl; clocked_words = refl; few_bits = lit≤ tt; few_processes = lit≤ tt };
   fit = refl;
   small = lit≤ tt;
   unmixed = refl;
   sensitive = refl;
+  no_function_latch = refl;
   no_latch = refl;
   one_driver = refl;
   clock = clk_signal;
@@ -105,11 +111,12 @@ woken_is_accepted = record {
 
 set_once_is_accepted : IsAcceptedDesign set_once clk
 set_once_is_accepted = record {
-  lawful = record { scopes = refl; numbered = refl; bits_numbered = refl; declared = refl; formed = refl; few_bits = lit≤ tt; few_processes = lit≤ tt };
+  lawful = record { scopes = refl; numbered = refl; bits_numbered = refl; declared = refl; memories = refl; formed = refl; functions = refl; clocked_words = refl; few_bits = lit≤ tt; few_processes = lit≤ tt };
   fit = refl;
   small = lit≤ tt;
   unmixed = refl;
   sensitive = refl;
+  no_function_latch = refl;
   no_latch = refl;
   one_driver = refl;
   clock = clk_signal;
@@ -124,11 +131,12 @@ set_once_is_accepted = record {
 
 chain_is_accepted : IsAcceptedDesign chain clk
 chain_is_accepted = record {
-  lawful = record { scopes = refl; numbered = refl; bits_numbered = refl; declared = refl; formed = refl; few_bits = lit≤ tt; few_processes = lit≤ tt };
+  lawful = record { scopes = refl; numbered = refl; bits_numbered = refl; declared = refl; memories = refl; formed = refl; functions = refl; clocked_words = refl; few_bits = lit≤ tt; few_processes = lit≤ tt };
   fit = refl;
   small = lit≤ tt;
   unmixed = refl;
   sensitive = refl;
+  no_function_latch = refl;
   no_latch = refl;
   one_driver = refl;
   clock = clk_signal;
@@ -143,11 +151,12 @@ chain_is_accepted = record {
 
 sleeper_is_accepted : IsAcceptedDesign sleeper clk
 sleeper_is_accepted = record {
-  lawful = record { scopes = refl; numbered = refl; bits_numbered = refl; declared = refl; formed = refl; few_bits = lit≤ tt; few_processes = lit≤ tt };
+  lawful = record { scopes = refl; numbered = refl; bits_numbered = refl; declared = refl; memories = refl; formed = refl; functions = refl; clocked_words = refl; few_bits = lit≤ tt; few_processes = lit≤ tt };
   fit = refl;
   small = lit≤ tt;
   unmixed = refl;
   sensitive = refl;
+  no_function_latch = refl;
   no_latch = refl;
   one_driver = refl;
   clock = clk_signal;
@@ -162,11 +171,12 @@ sleeper_is_accepted = record {
 
 never_run_is_accepted : IsAcceptedDesign never_run clk
 never_run_is_accepted = record {
-  lawful = record { scopes = refl; numbered = refl; bits_numbered = refl; declared = refl; formed = refl; few_bits = lit≤ tt; few_processes = lit≤ tt };
+  lawful = record { scopes = refl; numbered = refl; bits_numbered = refl; declared = refl; memories = refl; formed = refl; functions = refl; clocked_words = refl; few_bits = lit≤ tt; few_processes = lit≤ tt };
   fit = refl;
   small = lit≤ tt;
   unmixed = refl;
   sensitive = refl;
+  no_function_latch = refl;
   no_latch = refl;
   one_driver = refl;
   clock = clk_signal;
@@ -181,11 +191,12 @@ never_run_is_accepted = record {
 
 resettable_is_accepted : IsAcceptedDesign resettable clk
 resettable_is_accepted = record {
-  lawful = record { scopes = refl; numbered = refl; bits_numbered = refl; declared = refl; formed = refl; few_bits = lit≤ tt; few_processes = lit≤ tt };
+  lawful = record { scopes = refl; numbered = refl; bits_numbered = refl; declared = refl; memories = refl; formed = refl; functions = refl; clocked_words = refl; few_bits = lit≤ tt; few_processes = lit≤ tt };
   fit = refl;
   small = lit≤ tt;
   unmixed = refl;
   sensitive = refl;
+  no_function_latch = refl;
   no_latch = refl;
   one_driver = refl;
   clock = clk_signal;
@@ -200,11 +211,12 @@ resettable_is_accepted = record {
 
 reset_through_port_is_accepted : IsAcceptedDesign reset_through_port clk
 reset_through_port_is_accepted = record {
-  lawful = record { scopes = refl; numbered = refl; bits_numbered = refl; declared = refl; formed = refl; few_bits = lit≤ tt; few_processes = lit≤ tt };
+  lawful = record { scopes = refl; numbered = refl; bits_numbered = refl; declared = refl; memories = refl; formed = refl; functions = refl; clocked_words = refl; few_bits = lit≤ tt; few_processes = lit≤ tt };
   fit = refl;
   small = lit≤ tt;
   unmixed = refl;
   sensitive = refl;
+  no_function_latch = refl;
   no_latch = refl;
   one_driver = refl;
   clock = clk_signal;
@@ -219,11 +231,12 @@ reset_through_port_is_accepted = record {
 
 quiet_is_accepted : IsAcceptedDesign quiet clk
 quiet_is_accepted = record {
-  lawful = record { scopes = refl; numbered = refl; bits_numbered = refl; declared = refl; formed = refl; few_bits = lit≤ tt; few_processes = lit≤ tt };
+  lawful = record { scopes = refl; numbered = refl; bits_numbered = refl; declared = refl; memories = refl; formed = refl; functions = refl; clocked_words = refl; few_bits = lit≤ tt; few_processes = lit≤ tt };
   fit = refl;
   small = lit≤ tt;
   unmixed = refl;
   sensitive = refl;
+  no_function_latch = refl;
   no_latch = refl;
   one_driver = refl;
   clock = clk_signal;
@@ -238,11 +251,12 @@ quiet_is_accepted = record {
 
 port_is_accepted : IsAcceptedDesign port clk
 port_is_accepted = record {
-  lawful = record { scopes = refl; numbered = refl; bits_numbered = refl; declared = refl; formed = refl; few_bits = lit≤ tt; few_processes = lit≤ tt };
+  lawful = record { scopes = refl; numbered = refl; bits_numbered = refl; declared = refl; memories = refl; formed = refl; functions = refl; clocked_words = refl; few_bits = lit≤ tt; few_processes = lit≤ tt };
   fit = refl;
   small = lit≤ tt;
   unmixed = refl;
   sensitive = refl;
+  no_function_latch = refl;
   no_latch = refl;
   one_driver = refl;
   clock = clk_signal;
@@ -257,11 +271,12 @@ port_is_accepted = record {
 
 adder_is_accepted : IsAcceptedDesign adder clk
 adder_is_accepted = record {
-  lawful = record { scopes = refl; numbered = refl; bits_numbered = refl; declared = refl; formed = refl; few_bits = lit≤ tt; few_processes = lit≤ tt };
+  lawful = record { scopes = refl; numbered = refl; bits_numbered = refl; declared = refl; memories = refl; formed = refl; functions = refl; clocked_words = refl; few_bits = lit≤ tt; few_processes = lit≤ tt };
   fit = refl;
   small = lit≤ tt;
   unmixed = refl;
   sensitive = refl;
+  no_function_latch = refl;
   no_latch = refl;
   one_driver = refl;
   clock = clk_signal;
@@ -276,11 +291,12 @@ adder_is_accepted = record {
 
 clocked_instance_is_accepted : IsAcceptedDesign clocked_instance clk
 clocked_instance_is_accepted = record {
-  lawful = record { scopes = refl; numbered = refl; bits_numbered = refl; declared = refl; formed = refl; few_bits = lit≤ tt; few_processes = lit≤ tt };
+  lawful = record { scopes = refl; numbered = refl; bits_numbered = refl; declared = refl; memories = refl; formed = refl; functions = refl; clocked_words = refl; few_bits = lit≤ tt; few_processes = lit≤ tt };
   fit = refl;
   small = lit≤ tt;
   unmixed = refl;
   sensitive = refl;
+  no_function_latch = refl;
   no_latch = refl;
   one_driver = refl;
   clock = clk_signal;
@@ -295,11 +311,12 @@ clocked_instance_is_accepted = record {
 
 sum_is_accepted : IsAcceptedDesign sum clk
 sum_is_accepted = record {
-  lawful = record { scopes = refl; numbered = refl; bits_numbered = refl; declared = refl; formed = refl; few_bits = lit≤ tt; few_processes = lit≤ tt };
+  lawful = record { scopes = refl; numbered = refl; bits_numbered = refl; declared = refl; memories = refl; formed = refl; functions = refl; clocked_words = refl; few_bits = lit≤ tt; few_processes = lit≤ tt };
   fit = refl;
   small = lit≤ tt;
   unmixed = refl;
   sensitive = refl;
+  no_function_latch = refl;
   no_latch = refl;
   one_driver = refl;
   clock = clk_signal;
@@ -410,4 +427,54 @@ refusals_computed = record {
   lesser_block_refused = refl;
   first_in_text_refused = refl;
   and_gate_passes = record { widths = refl; blocks = refl; drivers = refl; clocks = refl; no_cycle = refl; zero = refl };
+}
+
+greatest_is_accepted : IsAcceptedDesign greatest clk
+greatest_is_accepted = record {
+  lawful = record { scopes = refl; numbered = refl; bits_numbered = refl; declared = refl; memories = refl; formed = refl; functions = refl; clocked_words = refl; few_bits = lit≤ tt; few_processes = lit≤ tt };
+  fit = refl;
+  small = lit≤ tt;
+  unmixed = refl;
+  sensitive = refl;
+  no_function_latch = refl;
+  no_latch = refl;
+  one_driver = refl;
+  clock = clk_signal;
+  clock_found = refl;
+  clock_unread = refl;
+  one_clock = refl;
+  reset_forms = refl;
+  no_cycle = refl;
+  no_race = refl;
+  awake = refl;
+}
+
+pub calls_computed : CallsComputed
+unfolding change changes is_held write_all is_written flatten
+calls_computed = record {
+  max_weighs = refl;
+  greatest_size = refl;
+  greatest_accepted = greatest_is_accepted;
+  greatest_ends = refl;
+  max_of_unknown = refl;
+  max_reads = refl;
+  argument_cut = refl;
+  argument_kept = refl;
+  coded_first = refl;
+  coded_second = refl;
+  coded_default = refl;
+  coded_of_unknown = refl;
+  called_in_argument = refl;
+  argument_extended = refl;
+  result_extended = refl;
+  result_in_unsigned = refl;
+  argument_unsigned = refl;
+  result_unassigned = refl;
+  never_constant = refl;
+  never_fixed = refl;
+  call_sets = refl;
+  call_of_zeros = refl;
+  uncalled_latch_refused = refl;
+  divided_by_call_refused = refl;
+  undivided_passes = refl;
 }

@@ -1,22 +1,22 @@
 -- What elaboration gives of the bits that processes write.
-use Rattle.std.proofs.Common.{◌≡◌, ℕ, zero, suc, Bool, true, false, List, [], ◌∷◌, ◌&&◌, ◌==◌, not, if◌then◌else◌, refl, sym, ap, subst, eqb-true, Option, Some, None}
-use Rattle.std.specs.Prelude.{slice_get}
+use Rattle.std.proofs.Common.{◌≡◌, ℕ, zero, suc, Bool, true, false, List, [], ◌∷◌, ◌&&◌, ◌==◌, not, if◌then◌else◌, refl, sym, ap, ◌∙◌, subst, eqb-true, Option, Some, None}
+use Rattle.std.specs.Prelude.{slice_get, is_some}
 use Rattle.std.specs.List.{filter}
 use Rattle.vs_four.specs.declared.Range.{Range}
 use Rattle.vs_four.specs.Selects.{range_length, places}
-use Rattle.vs_design.specs.Expressions.{Signal, signal_length, OfSignal, sign, is_constant}
+use Rattle.vs_design.specs.Expressions.{Signal, signal_length, range_or_one, words_length, OfSignal, sign, is_constant}
 use Rattle.vs_design.specs.Values.{bits_of_signal, constant_value}
-use Rattle.vs_design.specs.Statements.{Target, Whole, PartOf, Both, Statement, Empty, Assignment, Then, If, Case, Arms, Arm, Default}
+use Rattle.vs_design.specs.Statements.{Target, Whole, PartOf, WordOf, Both, Statement, Empty, Assignment, Then, If, Case, Arms, Arm, Default}
 use Rattle.vs_design.specs.Bodies.{bits_at}
 use Rattle.vs_design.specs.Designs.{Design}
-use Rattle.vs_design.specs.Footprints.{contains, somes, signals_bits, target_bits, statement_bits, arms_bits, is_variable, variable_bits}
+use Rattle.vs_design.specs.Footprints.{contains, somes, signals_bits, target_bits, statement_bits, arms_bits, is_variable, variable_bits, is_memory}
 use Rattle.vs_design.specs.Clocks.{same_name}
 use Rattle.vs_design.specs.Fits.{fits_64}
-use Rattle.vs_design.specs.Elaborated.{same_range, same_flag, same_signal, is_this, is_signal, is_formed, is_formed_select, is_formed_target, is_formed_statement, are_formed_arms, is_nil}
-use Rattle.std.specs.List.{list_all}
+use Rattle.vs_design.specs.Elaborated.{same_range, same_flag, same_signal, is_this, is_signal, is_plain, has_words, is_formed, is_formed_select, is_formed_target, is_formed_statement, are_formed_arms, has_items, are_formed}
 use Rattle.vs_design.proofs.Lists.{by_test, and_both, contains-left, contains-right}
 use Rattle.vs_design.proofs.Signals.{split}
 use Rattle.vs_design.proofs.Writes.{either_way, part_bits}
+use Rattle.vs_design.proofs.Words.{addressed_within}
 
 -- ---- equal signals
 
@@ -50,22 +50,23 @@ range_is (Some r) (Some s) h =
 
 pub signal_is : (s t : Signal) → same_signal s t ≡ true → s ≡ t
 signal_is s t h =
-    let a = and_both (same_name s.name t.name && (s.scope == t.scope) && (s.number == t.number) && same_flag s.net t.net && same_flag s.input t.input && same_range s.range t.range && same_flag s.signed t.signed) (s.first == t.first) h in
+    let z = and_both (same_name s.name t.name && (s.scope == t.scope) && (s.number == t.number) && same_flag s.net t.net && same_flag s.input t.input && same_range s.range t.range && same_flag s.signed t.signed && (s.first == t.first)) (same_range s.words t.words) h in
+    let a = and_both (same_name s.name t.name && (s.scope == t.scope) && (s.number == t.number) && same_flag s.net t.net && same_flag s.input t.input && same_range s.range t.range && same_flag s.signed t.signed) (s.first == t.first) z.0 in
     let b = and_both (same_name s.name t.name && (s.scope == t.scope) && (s.number == t.number) && same_flag s.net t.net && same_flag s.input t.input && same_range s.range t.range) (same_flag s.signed t.signed) a.0 in
     let c = and_both (same_name s.name t.name && (s.scope == t.scope) && (s.number == t.number) && same_flag s.net t.net && same_flag s.input t.input) (same_range s.range t.range) b.0 in
     let d = and_both (same_name s.name t.name && (s.scope == t.scope) && (s.number == t.number) && same_flag s.net t.net) (same_flag s.input t.input) c.0 in
     let e = and_both (same_name s.name t.name && (s.scope == t.scope) && (s.number == t.number)) (same_flag s.net t.net) d.0 in
     let f = and_both (same_name s.name t.name && (s.scope == t.scope)) (s.number == t.number) e.0 in
     let g = and_both (same_name s.name t.name) (s.scope == t.scope) f.0 in
-    all s.name t.name s.scope t.scope s.number t.number s.net t.net s.input t.input s.range t.range s.signed t.signed s.first t.first
-    (name_is s.name t.name g.0) (eqb-true s.scope t.scope g.1) (eqb-true s.number t.number f.1) (flag_is s.net t.net e.1) (flag_is s.input t.input d.1) (range_is s.range t.range c.1) (flag_is s.signed t.signed b.1) (eqb-true s.first t.first a.1)
+    all s.name t.name s.scope t.scope s.number t.number s.net t.net s.input t.input s.range t.range s.signed t.signed s.first t.first s.words t.words
+    (name_is s.name t.name g.0) (eqb-true s.scope t.scope g.1) (eqb-true s.number t.number f.1) (flag_is s.net t.net e.1) (flag_is s.input t.input d.1) (range_is s.range t.range c.1) (flag_is s.signed t.signed b.1) (eqb-true s.first t.first a.1) (range_is s.words t.words z.1)
   where
-    signal : List ℕ → ℕ → ℕ → Bool → Bool → Option Range → Bool → ℕ → Signal
-    signal n c m w i r g f = record { name = n; scope = c; number = m; net = w; input = i; range = r; signed = g; first = f }
+    signal : List ℕ → ℕ → ℕ → Bool → Bool → Option Range → Bool → ℕ → Option Range → Signal
+    signal n c m w i r g f v = record { name = n; scope = c; number = m; net = w; input = i; range = r; signed = g; first = f; words = v }
 
-    all : (n n' : List ℕ) (c c' m m' : ℕ) (w w' i i' : Bool) (r r' : Option Range) (g g' : Bool) (f f' : ℕ) → n ≡ n' → c ≡ c' → m ≡ m' → w ≡ w' → i ≡ i' → r ≡ r' → g ≡ g' → f ≡ f'
-        → signal n c m w i r g f ≡ signal n' c' m' w' i' r' g' f'
-    all n n' c c' m m' w w' i i' r r' g g' f f' h1 h2 h3 h4 h5 h6 h7 h8 = cc
+    all : (n n' : List ℕ) (c c' m m' : ℕ) (w w' i i' : Bool) (r r' : Option Range) (g g' : Bool) (f f' : ℕ) (v v' : Option Range) → n ≡ n' → c ≡ c' → m ≡ m' → w ≡ w' → i ≡ i' → r ≡ r' → g ≡ g' → f ≡ f' → v ≡ v'
+        → signal n c m w i r g f v ≡ signal n' c' m' w' i' r' g' f' v'
+    all n n' c c' m m' w w' i i' r r' g g' f f' v v' h1 h2 h3 h4 h5 h6 h7 h8 h9 = cc
 
 -- the signal is one of the design
 pub signal_at : (d : Design) (s : Signal) → is_signal d s ≡ true → slice_get d.signals s.number ≡ Some s
@@ -74,6 +75,24 @@ signal_at d s h = go (slice_get d.signals s.number) h
     go : (o : Option Signal) → is_this s o ≡ true → o ≡ Some s
     go None h = cc
     go (Some t) h = ap Some (sym (signal_is s t h))
+
+-- a signal that isn't a memory, and one that is
+pub plain_signal : (d : Design) (s : Signal) → is_plain d s ≡ true → is_signal d s ≡ true
+plain_signal d s h = (and_both (is_signal d s) (not (is_memory s)) h).0
+
+pub words_signal : (d : Design) (s : Signal) → has_words d s ≡ true → is_signal d s ≡ true
+words_signal d s h = (and_both (is_signal d s) (is_memory s) h).0
+
+-- one that isn't has the bits of its range
+pub plain_length : (d : Design) (s : Signal) → is_plain d s ≡ true → signal_length s ≡ range_or_one s.range
+plain_length d s h = go s.words (and_both (is_signal d s) (not (is_memory s)) h).1
+  where
+    go : (o : Option Range) → not (is_some o) ≡ true → words_length o (range_or_one s.range) ≡ range_or_one s.range
+    go None k = refl
+    go (Some r) k = cc
+
+pub part_length : (d : Design) (s : Signal) (r : Range) → is_plain d s ≡ true → same_range s.range (Some r) ≡ true → range_length r ≡ signal_length s
+part_length d s r h k = sym (plain_length d s h ∙ ap range_or_one (range_is s.range (Some r) k))
 
 -- ---- the bits of a kind of signal
 
@@ -109,17 +128,21 @@ selected d signal allowed b f g h = filtered_bits allowed d.signals signal.numbe
 
 -- a target writes bits of the kind of signals that it may write
 pub target_kind : (d : Design) (allowed : Signal → Bool) (t : Target) (b : ℕ) → is_formed_target d allowed t ≡ true → contains (target_bits t) b ≡ true → contains (signals_bits (filter allowed d.signals)) b ≡ true
-target_kind d allowed (Whole signal) b f h = let p = and_both (is_signal d signal) (allowed signal) f in selected d signal allowed b p.0 p.1 h
+target_kind d allowed (Whole signal) b f h = let p = and_both (is_plain d signal) (allowed signal) f in selected d signal allowed b (plain_signal d signal p.0) p.1 h
 target_kind d allowed (PartOf signal part index) b f h =
     let p = and_both (is_formed_select d (OfSignal signal) part && allowed signal) (is_formed d index) f in
     let q = and_both (is_formed_select d (OfSignal signal) part) (allowed signal) p.0 in
-    let r = and_both (is_signal d signal && same_range signal.range (Some part.range)) (fits_64 part.width) q.0 in
-    let s = and_both (is_signal d signal) (same_range signal.range (Some part.range)) r.0 in
-    let long : range_length part.range ≡ signal_length signal = rw (range_is signal.range (Some part.range) s.1) refl in
-    selected d signal allowed b s.0 q.1
+    let r = and_both (is_plain d signal && same_range signal.range (Some part.range)) (fits_64 part.width) q.0 in
+    let s = and_both (is_plain d signal) (same_range signal.range (Some part.range)) r.0 in
+    let long : range_length part.range ≡ signal_length signal = part_length d signal part.range s.0 s.1 in
+    selected d signal allowed b (plain_signal d signal s.0) q.1
     (by_test (is_constant index)
     (λ e. part_bits signal part (sign index) (constant_value index) b long (subst (λ (c : Bool). contains (if c then somes (bits_at signal (places part (sign index) (constant_value index))) else bits_of_signal signal) b ≡ true) e h))
     (λ e. subst (λ (c : Bool). contains (if c then somes (bits_at signal (places part (sign index) (constant_value index))) else bits_of_signal signal) b ≡ true) e h))
+target_kind d allowed (WordOf signal index) b f h =
+    let p = and_both (has_words d signal && allowed signal) (is_formed d index) f in
+    let q = and_both (has_words d signal) (allowed signal) p.0 in
+    selected d signal allowed b (words_signal d signal q.0) q.1 (addressed_within signal index b h)
 target_kind d allowed (Both high low) b f h =
     let p = and_both (is_formed_target d allowed high) (is_formed_target d allowed low) f in
     split (target_bits high) (target_bits low) b h (target_kind d allowed high b p.0) (target_kind d allowed low b p.1)
@@ -138,6 +161,6 @@ mutual
 
   arms_kind : (d : Design) (arms : Arms) (b : ℕ) → are_formed_arms d arms ≡ true → contains (arms_bits arms) b ≡ true → contains (variable_bits d) b ≡ true
   arms_kind d (Arm items statement rest) b f h =
-      let p = and_both (not (is_nil items) && list_all (is_formed d) items && is_formed_statement d statement) (are_formed_arms d rest) f in
-      split (statement_bits statement) (arms_bits rest) b h (statement_kind d statement b (and_both (not (is_nil items) && list_all (is_formed d) items) (is_formed_statement d statement) p.0).1) (arms_kind d rest b p.1)
+      let p = and_both (has_items items && are_formed d items && is_formed_statement d statement) (are_formed_arms d rest) f in
+      split (statement_bits statement) (arms_bits rest) b h (statement_kind d statement b (and_both (has_items items && are_formed d items) (is_formed_statement d statement) p.0).1) (arms_kind d rest b p.1)
   arms_kind d (Default statement) b f h = statement_kind d statement b f h

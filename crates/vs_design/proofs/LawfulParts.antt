@@ -1,13 +1,15 @@
 -- An accepted design's processes write their own bits alone, by what they listen to.
 use Rattle.vs_net.proofs.Beginning.{written_or}
 use Rattle.vs_net.proofs.Basics.{flat_cons}
-use Rattle.std.proofs.Common.{◌≡◌, ◌≢◌, ℕ, zero, suc, ◌+◌, ◌≤◌, Bool, true, false, List, [], ◌++◌, ◌&&◌, ◌==◌, eqb-true, eq-eqb, not, inl, inr, refl, sym, ap, ◌∙◌, subst, length, Option, Some, None, arith, ◌∷◌, ◌⊎◌}
+use Rattle.std.proofs.Common.{◌≡◌, ◌≢◌, ℕ, zero, suc, ◌+◌, ◌*◌, ◌≤◌, Bool, true, false, List, [], ◌++◌, ◌&&◌, ◌==◌, eqb-true, eq-eqb, not, inl, inr, refl, sym, ap, ◌∙◌, subst, length, Option, Some, None, arith, ◌∷◌, ◌⊎◌}
 use Rattle.std.specs.Prelude.{slice_get}
 use Rattle.std.specs.List.{list_any}
 use Rattle.vs_four.specs.declared.Bit4.TheVariants.{X}
 use Rattle.vs_net.specs.Network.{State, Write, Effect, is_written, flatten, AnAssign, AComb, AClocked, kind, writes, listens, made, updates, effects, Update}
 use Rattle.vs_net.specs.Lawful.{Settles, IsUnknown}
-use Rattle.vs_design.specs.Expressions.{Signal, signal_length, Expression}
+use Rattle.vs_four.specs.declared.Range.{Range}
+use Rattle.vs_four.specs.Selects.{is_descending, range_length}
+use Rattle.vs_design.specs.Expressions.{Signal, range_or_one, words_length, signal_length, word_length, Expression}
 use Rattle.vs_design.specs.Values.{count_from, bits_of_signal}
 use Rattle.vs_design.specs.Statements.{Target}
 use Rattle.vs_design.specs.Bodies.{assignment_writes, body}
@@ -106,15 +108,27 @@ pub data Writer (d : Design) (c p b : ℕ) : Type 0 where
 pub listed : (bs : List ℕ) (b : ℕ) → list_any (λ c. b == c) bs ≡ true → contains bs b ≡ true
 listed bs b h = h
 
-pub positive : (s : Signal) → 1 ≤ signal_length s
-positive s = lengths s.range
-  where
-    sizes : (r : Rattle.vs_four.specs.declared.Range.Range) → 1 ≤ Rattle.vs_four.specs.Selects.range_length r
-    sizes r = by_test (Rattle.vs_four.specs.Selects.is_descending r) (λ e. rw e (omega arith)) (λ e. rw e (omega arith))
+pub range_positive : (r : Range) → 1 ≤ range_length r
+range_positive r = by_test (is_descending r) (λ e. rw e (omega arith)) (λ e. rw e (omega arith))
 
-    lengths : (r : Option Rattle.vs_four.specs.declared.Range.Range) → 1 ≤ Rattle.vs_design.specs.Expressions.range_or_one r
+-- a signal has a bit, and so has a word
+pub word_positive : (s : Signal) → 1 ≤ word_length s
+word_positive s = lengths s.range
+  where
+    lengths : (r : Option Range) → 1 ≤ range_or_one r
     lengths None = omega arith
-    lengths (Some r) = sizes r
+    lengths (Some r) = range_positive r
+
+pub positive : (s : Signal) → 1 ≤ signal_length s
+positive s = times s.words (range_or_one s.range) (word_positive s)
+  where
+    product : (m n : ℕ) → 1 ≤ m → 1 ≤ n → 1 ≤ m * n
+    product (suc m) n h k = omega arith
+    product zero n h k = absurd (omega arith)
+
+    times : (o : Option Range) (k : ℕ) → 1 ≤ k → 1 ≤ words_length o k
+    times None k h = h
+    times (Some r) k h = product (range_length r) k (range_positive r) h
 
 pub first_bit : (s : Signal) → contains (bits_of_signal s) s.first ≡ true
 first_bit s = go (signal_length s) (positive s)

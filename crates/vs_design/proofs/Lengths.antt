@@ -1,9 +1,9 @@
 -- A value has the length of its context.
-use Rattle.std.proofs.Common.{◌≡◌, ℕ, zero, suc, ◌+◌, ◌-◌, ◌*◌, ◌≤◌, min, max, Bool, true, false, List, [], ◌∷◌, ◌++◌, ◌&&◌, if◌then◌else◌, refl, sym, ap, ◌∙◌, length, drop, replicate, Some, None, arith, length-append, length-take, ℤ, pos, negsuc, ◌+ℤ◌, ◌^◌, int_div, int_rem}
+use Rattle.std.proofs.Common.{◌≡◌, ℕ, zero, suc, ◌+◌, ◌-◌, ◌*◌, ◌≤◌, min, max, Bool, true, false, List, [], ◌∷◌, ◌++◌, ◌&&◌, if◌then◌else◌, refl, sym, ap, ◌∙◌, length, drop, replicate, Option, Some, None, arith, length-append, length-take, ℤ, pos, negsuc, ◌+ℤ◌, ◌^◌, int_div, int_rem}
 use Rattle.std.proofs.Math.ListN.{length-map, length-replicate}
 use Rattle.vs_four.specs.declared.Bit4.{Bit4}
 use Rattle.vs_four.specs.declared.Bit4.TheVariants.{Zero, One, X}
-use Rattle.vs_net.specs.Network.{State}
+use Rattle.vs_net.specs.Network.{State, write_all}
 use Rattle.vs_four.specs.Logic.{BitList, map2, choose, truth, all_known}
 use Rattle.vs_four.specs.Lengths.{extend_with, last_or, repeat}
 use Rattle.vs_four.specs.Tables.{merge_bit, not_bit, and_bit, or_bit, xor_bit, xnor_bit}
@@ -11,8 +11,8 @@ use Rattle.vs_four.specs.Numbers.{bits_of, bits_of_integer, if_known, has_quotie
 use Rattle.vs_four.specs.Shifts.{move_up, move_down, distance}
 use Rattle.vs_four.specs.Selects.{Part, range_length, at_place, places, select}
 use Rattle.vs_design.proofs.Places.{first_place, places_from, places_are}
-use Rattle.vs_design.specs.Expressions.{Signal, signal_length, Source, UnaryOp, Plus, Minus, BitNot, Signed, Unsigned, BinaryOp, Add, Subtract, Multiply, Divide, Remainder, BitAnd, BitOr, BitXor, BitXnor, ShiftLeft, ShiftRight, ShiftLeftArith, ShiftRightArith, Expression, Literal, Name, Select, Unary, Binary, Choice, Join, Repeat, At, Way, InContext, Own, Compared, Shifted, unary_way, way, unary_length, binary_length, width, sign}
-use Rattle.vs_design.specs.Values.{count_from, bits_of_signal, read, source_value, apply_unary, or_all_x, apply_binary, left_width, right_width, left_sign, right_sign, value, assigned_value}
+use Rattle.vs_design.specs.Expressions.{Signal, signal_length, word_length, Source, UnaryOp, Plus, Minus, BitNot, Signed, Unsigned, BinaryOp, Add, Subtract, Multiply, Divide, Remainder, BitAnd, BitOr, BitXor, BitXnor, ShiftLeft, ShiftRight, ShiftLeftArith, ShiftRightArith, Expression, Literal, Name, Select, Word, Unary, Binary, Choice, Join, Repeat, At, Call, Way, InContext, Own, Compared, Shifted, unary_way, way, unary_length, binary_length, width, sign}
+use Rattle.vs_design.specs.Values.{count_from, bits_of_signal, read, source_value, address_place, spread, word_places, select_word, apply_unary, or_all_x, apply_binary, left_width, right_width, left_sign, right_sign, unset, value, argument_state, body, assigned_value}
 
 pub length_extend : {A : Type 0} (fill : A) (w : ℕ) (xs : List A) → length xs ≤ w → length (extend_with fill w xs) ≡ w
 length_extend fill w xs h = length-append xs (replicate (w - length xs) fill) ∙ ap (λ k. length xs + k) (length-replicate (w - length xs) fill) ∙ omega arith
@@ -68,6 +68,13 @@ length_source state source part g index = length-map (places part g index) (at_p
 
 pub length_signal : (state : State) (signal : Signal) → length (read state (bits_of_signal signal)) ≡ signal_length signal
 length_signal state signal = length-map (bits_of_signal signal) state ∙ length_count signal.first (signal_length signal)
+
+pub length_spread : (k : ℕ) (p : Option ℕ) → length (spread k p) ≡ k
+length_spread k None = length-replicate k None
+length_spread k (Some n) = length-map (count_from (n * k) k) Some ∙ length_count (n * k) k
+
+pub length_word : (signal : Signal) (g : Bool) (index : BitList) → length (word_places signal g index) ≡ word_length signal
+length_word signal g index = length_spread (word_length signal) (address_place signal g index)
 
 pub left_fits : (y : Way) (w m n : ℕ) → binary_length y m n ≤ w → m ≤ left_width y w m n
 left_fits InContext w m n h = omega arith
@@ -125,6 +132,11 @@ length_value (Select source part index) w g s h =
     let v = value index (width index) (sign index) s in
     let e = length_source s source part (sign index) v in
     length_extend _ w (select part (sign index) (source_value s source) v) (omega (arith, e))
+length_value (Word signal index) w g s h =
+    let v = value index (width index) (sign index) s in
+    let a = read s (bits_of_signal signal) in
+    let e = length-map (word_places signal (sign index) v) (at_place X a) ∙ length_word signal (sign index) v in
+    length_extend _ w (select_word signal (sign index) a v) (omega (arith, e))
 length_value (Unary op a) w g s h =
     let v = value a (left_width (unary_way op) w (width a) 0) (left_sign (unary_way op) g (sign a) false) s in
     let e : length v ≡ left_width (unary_way op) w (width a) 0 = length_value a (left_width (unary_way op) w (width a) 0) (left_sign (unary_way op) g (sign a) false) s (unary_fits op w (width a) h) in
@@ -150,6 +162,10 @@ length_value (Repeat count a) w g s h =
     let r = length_repeat count v ∙ ap (λ k. count * k) e in
     length_extend _ w (repeat count v) (omega (arith, r))
 length_value (At place e) w g s h = length_value e w g s h
+length_value (Call header statement arguments) w g s h =
+    let begin = argument_state arguments header.inputs s unset in
+    let after = write_all begin (body statement begin).writes in
+    let e = length_signal after header.result in length_extend _ w (read after (bits_of_signal header.result)) (omega (arith, e))
 
 pub length_assigned : (e : Expression) (n : ℕ) (s : State) → length (assigned_value e n s) ≡ n
 length_assigned e n s =

@@ -1,7 +1,8 @@
 pub mod Lists
 pub mod Places
-pub mod ReadValue
 pub mod Lengths
+pub mod Words
+pub mod ReadValue
 pub mod Writes
 pub mod BodyExact
 pub mod BodyLocal
@@ -9,8 +10,12 @@ pub mod Blocks
 pub mod SetBits
 pub mod SetOps
 pub mod Indices
+pub mod SetReads
+pub mod WordSets
 pub mod SetValue
 pub mod SetBody
+pub mod SetBranches
+pub mod SetCalls
 pub mod SetStatement
 pub mod Parts
 pub mod Signals
@@ -34,7 +39,6 @@ pub mod Named
 pub mod TreeFacts
 pub mod Answered
 pub mod TwoWriters
-pub mod SetReads
 pub mod SetReadsBody
 pub mod Solved
 pub mod SleepingIs
@@ -44,9 +48,13 @@ pub mod CycleFound
 pub mod OrderFacts
 pub mod OpenPaths
 pub mod SlotEnds
+pub mod WholeWords
+pub mod MemoryLaws
 pub mod Decided
 pub mod Weights
 pub mod Bounded
 pub mod ClosedNets
 pub mod ExampleLaws
 pub mod ExampleBlocking
+pub mod ExampleMemoryLaws
+pub mod ExampleTogether

@@ -7,21 +7,23 @@ use Rattle.std.proofs.lemmas.List.Folds.{list_all-append}
 use Rattle.std.proofs.lemmas.List.Sums.{sum_by-cons}
 use Rattle.std.proofs.lemmas.List.Kept.{IsStrictlyIncreasing-filter}
 use Rattle.vs_four.specs.Selects.{range_length, Part, places}
-use Rattle.vs_design.specs.Expressions.{Signal, signal_length, Source, OfSignal, OfConstant, Expression, Literal, Name, Select, Unary, Binary, Choice, Join, Repeat, At, sign, is_constant}
+use Rattle.vs_design.specs.Expressions.{Signal, signal_length, Source, OfSignal, OfConstant, Expression, Literal, Name, Select, Word, Unary, Binary, Choice, Join, Repeat, At, Call, Items, NoItem, Item, sign, is_constant}
 use Rattle.vs_design.specs.Values.{count_from, bits_of_signal, constant_value}
-use Rattle.vs_design.specs.Statements.{Target, Whole, PartOf, Both, Statement, Empty, Assignment, Then, If, Case, Arms, Arm, Default}
+use Rattle.vs_design.specs.Statements.{Target, Whole, PartOf, WordOf, Both, Statement, Empty, Assignment, Then, If, Case, Arms, Arm, Default}
 use Rattle.vs_design.specs.Bodies.{bits_at}
 use Rattle.vs_design.specs.Designs.{Event, Process, Continuous, Always, is_combinational, Design}
-use Rattle.vs_design.specs.Footprints.{contains, somes, selected_bits, source_bits, read_bits, source_signals, read_signals, target_bits, target_reads, target_signals, items_reads, items_signals, statement_reads, arms_reads, statement_signals, arms_signals, statement_bits, without, writes_of, all_reads, reads_of, wait_signals, signals_bits, waits_of, is_net, is_variable}
+use Rattle.vs_design.specs.Footprints.{addressed_bits, contains, somes, selected_bits, source_bits, read_bits, source_signals, read_signals, target_bits, target_reads, target_signals, items_reads, items_signals, statement_reads, arms_reads, statement_signals, arms_signals, statement_bits, without, writes_of, all_reads, reads_of, wait_signals, signals_bits, waits_of, is_net, is_variable}
+use Rattle.vs_design.specs.Rules.{mixed_in}
 use Rattle.vs_design.specs.Fits.{fits_64}
-use Rattle.vs_design.specs.Elaborated.{same_range, is_signal, is_formed_select, is_formed, is_formed_target, has_constant_selects, is_nil, is_formed_statement, are_formed_arms, is_formed_event, are_formed_events, is_formed_port, is_formed_process, have_bits_from}
+use Rattle.vs_design.specs.Elaborated.{same_range, is_signal, is_plain, has_words, is_formed_select, is_formed, is_formed_target, has_constant_selects, is_nil, has_items, is_formed_header, inside, are_as_many, are_formed, is_formed_statement, are_formed_arms, is_formed_event, are_formed_events, is_formed_port, is_formed_process, have_bits_from}
 use Rattle.vs_design.specs.Laws.{BitsOfDesign, StarMissesNone, AscendingHas, AscendingRises}
 use Rattle.vs_design.proofs.Lists.{by_test, and_both, or_right, contains-left, contains-right, contains_head, contains_filter}
-use Rattle.vs_design.proofs.Writes.{either_way, part_bits, in_count}
+use Rattle.vs_design.proofs.Writes.{either_way, part_bits}
+use Rattle.vs_design.proofs.Words.{in_count, addressed_within}
 use Rattle.vs_design.proofs.Lengths.{length_count}
 use Rattle.vs_design.proofs.Signals.{split, count_high, member_bits}
 use Rattle.vs_design.proofs.Parts.{all_at}
-use Rattle.vs_design.proofs.Formed.{range_is, signal_at, target_kind, statement_kind}
+use Rattle.vs_design.proofs.Formed.{plain_signal, words_signal, part_length, signal_at, target_kind, statement_kind}
 use Rattle.vs_design.proofs.WidthExact.{and_true}
 
 -- ---- lists of signals
@@ -42,7 +44,7 @@ join_bits bs cs xs ys b f g h = split bs cs b h (λ k. left_bits xs ys b (f k)) 
 
 -- ---- what is read is of a signal that is read
 
-select_named : (d : Design) (signal : Signal) (part : Part) (index : Expression) (b : ℕ) → is_formed_select d (OfSignal signal) part ≡ true → contains (selected_bits signal part index) b ≡ true → contains (bits_of_signal signal) b ≡ true
+pub select_named : (d : Design) (signal : Signal) (part : Part) (index : Expression) (b : ℕ) → is_formed_select d (OfSignal signal) part ≡ true → contains (selected_bits signal part index) b ≡ true → contains (bits_of_signal signal) b ≡ true
 select_named d signal part index b f h =
     by_test (is_constant index)
     (λ e. part_bits signal part (sign index) (constant_value index) b long (subst (λ (c : Bool). contains (if c then somes (bits_at signal (places part (sign index) (constant_value index))) else bits_of_signal signal) b ≡ true) e h))
@@ -50,47 +52,53 @@ select_named d signal part index b f h =
   where
     long : range_length part.range ≡ signal_length signal
     long =
-        let r = and_both (is_signal d signal && same_range signal.range (Some part.range)) (fits_64 part.width) f in
-        let s = and_both (is_signal d signal) (same_range signal.range (Some part.range)) r.0 in
-        rw (range_is signal.range (Some part.range) s.1) refl
+        let r = and_both (is_plain d signal && same_range signal.range (Some part.range)) (fits_64 part.width) f in
+        let s = and_both (is_plain d signal) (same_range signal.range (Some part.range)) r.0 in
+        part_length d signal part.range s.0 s.1
 
 source_named : (d : Design) (source : Source) (part : Part) (index : Expression) (b : ℕ) → is_formed_select d source part ≡ true → contains (source_bits source part index) b ≡ true → contains (signals_bits (source_signals source)) b ≡ true
 source_named d (OfSignal signal) part index b f h = contains-left (bits_of_signal signal) [] b (select_named d signal part index b f h)
 source_named d (OfConstant bits) part index b f h = h
 
-read_named : (d : Design) (e : Expression) (b : ℕ) → is_formed d e ≡ true → contains (read_bits e) b ≡ true → contains (signals_bits (read_signals e)) b ≡ true
-read_named d (Literal bits signed sized) b f h = h
-read_named d (Name signal) b f h = contains-left (bits_of_signal signal) [] b h
-read_named d (Select source part index) b f h =
-    let p = and_both (is_formed_select d source part) (is_formed d index) f in
-    join_bits (source_bits source part index) (read_bits index) (source_signals source) (read_signals index) b (source_named d source part index b p.0) (read_named d index b p.1) h
-read_named d (Unary op a) b f h = read_named d a b f h
-read_named d (Binary op a c) b f h =
-    let p = and_both (is_formed d a) (is_formed d c) f in
-    join_bits (read_bits a) (read_bits c) (read_signals a) (read_signals c) b (read_named d a b p.0) (read_named d c b p.1) h
-read_named d (Choice c p q) b f h =
-    let r = and_both (is_formed d c && is_formed d p) (is_formed d q) f in
-    let s = and_both (is_formed d c) (is_formed d p) r.0 in
-    join_bits (read_bits c) (read_bits p ++ read_bits q) (read_signals c) (read_signals p ++ read_signals q) b (read_named d c b s.0)
-    (λ k. join_bits (read_bits p) (read_bits q) (read_signals p) (read_signals q) b (read_named d p b s.1) (read_named d q b r.1) k) h
-read_named d (Join high low) b f h =
-    let p = and_both (is_formed d high) (is_formed d low) f in
-    join_bits (read_bits high) (read_bits low) (read_signals high) (read_signals low) b (read_named d high b p.0) (read_named d low b p.1) h
-read_named d (Repeat count a) b f h = read_named d a b (and_both (fits_64 count) (is_formed d a) f).1 h
-read_named d (At place e) b f h = read_named d e b f h
+mutual
+  read_named : (d : Design) (e : Expression) (b : ℕ) → is_formed d e ≡ true → contains (read_bits e) b ≡ true → contains (signals_bits (read_signals e)) b ≡ true
+  read_named d (Literal bits signed sized) b f h = h
+  read_named d (Name signal) b f h = contains-left (bits_of_signal signal) [] b h
+  read_named d (Select source part index) b f h =
+      let p = and_both (is_formed_select d source part) (is_formed d index) f in
+      join_bits (source_bits source part index) (read_bits index) (source_signals source) (read_signals index) b (source_named d source part index b p.0) (read_named d index b p.1) h
+  read_named d (Word signal index) b f h =
+      let p = and_both (has_words d signal) (is_formed d index) f in
+      join_bits (addressed_bits signal index) (read_bits index) (signal ∷ []) (read_signals index) b (λ k. contains-left (bits_of_signal signal) [] b (addressed_within signal index b k)) (read_named d index b p.1) h
+  read_named d (Unary op a) b f h = read_named d a b f h
+  read_named d (Binary op a c) b f h =
+      let p = and_both (is_formed d a) (is_formed d c) f in
+      join_bits (read_bits a) (read_bits c) (read_signals a) (read_signals c) b (read_named d a b p.0) (read_named d c b p.1) h
+  read_named d (Choice c p q) b f h =
+      let r = and_both (is_formed d c && is_formed d p) (is_formed d q) f in
+      let s = and_both (is_formed d c) (is_formed d p) r.0 in
+      join_bits (read_bits c) (read_bits p ++ read_bits q) (read_signals c) (read_signals p ++ read_signals q) b (read_named d c b s.0)
+      (λ k. join_bits (read_bits p) (read_bits q) (read_signals p) (read_signals q) b (read_named d p b s.1) (read_named d q b r.1) k) h
+  read_named d (Join high low) b f h =
+      let p = and_both (is_formed d high) (is_formed d low) f in
+      join_bits (read_bits high) (read_bits low) (read_signals high) (read_signals low) b (read_named d high b p.0) (read_named d low b p.1) h
+  read_named d (Repeat count a) b f h = read_named d a b (and_both (fits_64 count) (is_formed d a) f).1 h
+  read_named d (At place e) b f h = read_named d e b f h
+  read_named d (Call header statement arguments) b f h = items_named d arguments b (and_both (is_formed_header d header && is_nil (mixed_in false statement) && is_formed_statement (inside d header) statement && are_as_many arguments header.inputs) (are_formed d arguments) f).1 h
+
+  items_named : (d : Design) (es : Items) (b : ℕ) → are_formed d es ≡ true → contains (items_reads es) b ≡ true → contains (signals_bits (items_signals es)) b ≡ true
+  items_named d NoItem b f h = h
+  items_named d (Item e es) b f h =
+      let p = and_both (is_formed d e) (are_formed d es) f in
+      join_bits (read_bits e) (items_reads es) (read_signals e) (items_signals es) b (read_named d e b p.0) (items_named d es b p.1) h
 
 target_named : (d : Design) (allowed : Signal → Bool) (t : Target) (b : ℕ) → is_formed_target d allowed t ≡ true → contains (target_reads t) b ≡ true → contains (signals_bits (target_signals t)) b ≡ true
 target_named d allowed (Whole signal) b f h = h
 target_named d allowed (PartOf signal part index) b f h = read_named d index b (and_both (is_formed_select d (OfSignal signal) part && allowed signal) (is_formed d index) f).1 h
+target_named d allowed (WordOf signal index) b f h = read_named d index b (and_both (has_words d signal && allowed signal) (is_formed d index) f).1 h
 target_named d allowed (Both high low) b f h =
     let p = and_both (is_formed_target d allowed high) (is_formed_target d allowed low) f in
     join_bits (target_reads high) (target_reads low) (target_signals high) (target_signals low) b (target_named d allowed high b p.0) (target_named d allowed low b p.1) h
-
-items_named : (d : Design) (es : List Expression) (b : ℕ) → list_all (is_formed d) es ≡ true → contains (items_reads es) b ≡ true → contains (signals_bits (items_signals es)) b ≡ true
-items_named d [] b f h = h
-items_named d (e ∷ es) b f h =
-    let p = and_both (is_formed d e) (list_all (is_formed d) es) f in
-    join_bits (read_bits e) (items_reads es) (read_signals e) (items_signals es) b (read_named d e b p.0) (items_named d es b p.1) h
 
 mutual
   pub statement_named : (d : Design) (st : Statement) (b : ℕ) → is_formed_statement d st ≡ true → contains (statement_reads st) b ≡ true → contains (signals_bits (statement_signals st)) b ≡ true
@@ -112,9 +120,9 @@ mutual
 
   arms_named : (d : Design) (arms : Arms) (b : ℕ) → are_formed_arms d arms ≡ true → contains (arms_reads arms) b ≡ true → contains (signals_bits (arms_signals arms)) b ≡ true
   arms_named d (Arm items statement rest) b f h =
-      let p = and_both (not (is_nil items) && list_all (is_formed d) items && is_formed_statement d statement) (are_formed_arms d rest) f in
-      let q = and_both (not (is_nil items) && list_all (is_formed d) items) (is_formed_statement d statement) p.0 in
-      let r = and_both (not (is_nil items)) (list_all (is_formed d) items) q.0 in
+      let p = and_both (has_items items && are_formed d items && is_formed_statement d statement) (are_formed_arms d rest) f in
+      let q = and_both (has_items items && are_formed d items) (is_formed_statement d statement) p.0 in
+      let r = and_both (has_items items) (are_formed d items) q.0 in
       join_bits (items_reads items) (statement_reads statement ++ arms_reads rest) (items_signals items) (statement_signals statement ++ arms_signals rest) b (items_named d items b r.1)
       (λ k. join_bits (statement_reads statement) (arms_reads rest) (statement_signals statement) (arms_signals rest) b (statement_named d statement b q.1) (arms_named d rest b p.1) k) h
   arms_named d (Default statement) b f h = statement_named d statement b f h
@@ -129,34 +137,38 @@ one_all d s h = and_true _ _ h refl
 
 source_all : (d : Design) (source : Source) (part : Part) → is_formed_select d source part ≡ true → list_all (is_signal d) (source_signals source) ≡ true
 source_all d (OfSignal signal) part f =
-    let r = and_both (is_signal d signal && same_range signal.range (Some part.range)) (fits_64 part.width) f in
-    one_all d signal (and_both (is_signal d signal) (same_range signal.range (Some part.range)) r.0).0
+    let r = and_both (is_plain d signal && same_range signal.range (Some part.range)) (fits_64 part.width) f in
+    one_all d signal (plain_signal d signal (and_both (is_plain d signal) (same_range signal.range (Some part.range)) r.0).0)
 source_all d (OfConstant bits) part f = refl
 
-read_all : (d : Design) (e : Expression) → is_formed d e ≡ true → list_all (is_signal d) (read_signals e) ≡ true
-read_all d (Literal bits signed sized) f = refl
-read_all d (Name signal) f = one_all d signal f
-read_all d (Select source part index) f =
-    let p = and_both (is_formed_select d source part) (is_formed d index) f in both_all d (source_signals source) (read_signals index) (source_all d source part p.0) (read_all d index p.1)
-read_all d (Unary op a) f = read_all d a f
-read_all d (Binary op a c) f = let p = and_both (is_formed d a) (is_formed d c) f in both_all d (read_signals a) (read_signals c) (read_all d a p.0) (read_all d c p.1)
-read_all d (Choice c p q) f =
-    let r = and_both (is_formed d c && is_formed d p) (is_formed d q) f in
-    let s = and_both (is_formed d c) (is_formed d p) r.0 in
-    both_all d (read_signals c) (read_signals p ++ read_signals q) (read_all d c s.0) (both_all d (read_signals p) (read_signals q) (read_all d p s.1) (read_all d q r.1))
-read_all d (Join high low) f = let p = and_both (is_formed d high) (is_formed d low) f in both_all d (read_signals high) (read_signals low) (read_all d high p.0) (read_all d low p.1)
-read_all d (Repeat count a) f = read_all d a (and_both (fits_64 count) (is_formed d a) f).1
-read_all d (At place e) f = read_all d e f
+mutual
+  read_all : (d : Design) (e : Expression) → is_formed d e ≡ true → list_all (is_signal d) (read_signals e) ≡ true
+  read_all d (Literal bits signed sized) f = refl
+  read_all d (Name signal) f = one_all d signal (plain_signal d signal f)
+  read_all d (Select source part index) f =
+      let p = and_both (is_formed_select d source part) (is_formed d index) f in both_all d (source_signals source) (read_signals index) (source_all d source part p.0) (read_all d index p.1)
+  read_all d (Word signal index) f = let p = and_both (has_words d signal) (is_formed d index) f in both_all d (signal ∷ []) (read_signals index) (one_all d signal (words_signal d signal p.0)) (read_all d index p.1)
+  read_all d (Unary op a) f = read_all d a f
+  read_all d (Binary op a c) f = let p = and_both (is_formed d a) (is_formed d c) f in both_all d (read_signals a) (read_signals c) (read_all d a p.0) (read_all d c p.1)
+  read_all d (Choice c p q) f =
+      let r = and_both (is_formed d c && is_formed d p) (is_formed d q) f in
+      let s = and_both (is_formed d c) (is_formed d p) r.0 in
+      both_all d (read_signals c) (read_signals p ++ read_signals q) (read_all d c s.0) (both_all d (read_signals p) (read_signals q) (read_all d p s.1) (read_all d q r.1))
+  read_all d (Join high low) f = let p = and_both (is_formed d high) (is_formed d low) f in both_all d (read_signals high) (read_signals low) (read_all d high p.0) (read_all d low p.1)
+  read_all d (Repeat count a) f = read_all d a (and_both (fits_64 count) (is_formed d a) f).1
+  read_all d (At place e) f = read_all d e f
+  read_all d (Call header statement arguments) f = items_all d arguments (and_both (is_formed_header d header && is_nil (mixed_in false statement) && is_formed_statement (inside d header) statement && are_as_many arguments header.inputs) (are_formed d arguments) f).1
+
+  items_all : (d : Design) (es : Items) → are_formed d es ≡ true → list_all (is_signal d) (items_signals es) ≡ true
+  items_all d NoItem f = refl
+  items_all d (Item e es) f = let p = and_both (is_formed d e) (are_formed d es) f in both_all d (read_signals e) (items_signals es) (read_all d e p.0) (items_all d es p.1)
 
 target_all : (d : Design) (allowed : Signal → Bool) (t : Target) → is_formed_target d allowed t ≡ true → list_all (is_signal d) (target_signals t) ≡ true
 target_all d allowed (Whole signal) f = refl
 target_all d allowed (PartOf signal part index) f = read_all d index (and_both (is_formed_select d (OfSignal signal) part && allowed signal) (is_formed d index) f).1
+target_all d allowed (WordOf signal index) f = read_all d index (and_both (has_words d signal && allowed signal) (is_formed d index) f).1
 target_all d allowed (Both high low) f =
     let p = and_both (is_formed_target d allowed high) (is_formed_target d allowed low) f in both_all d (target_signals high) (target_signals low) (target_all d allowed high p.0) (target_all d allowed low p.1)
-
-items_all : (d : Design) (es : List Expression) → list_all (is_formed d) es ≡ true → list_all (is_signal d) (items_signals es) ≡ true
-items_all d [] f = refl
-items_all d (e ∷ es) f = let p = and_both (is_formed d e) (list_all (is_formed d) es) f in both_all d (read_signals e) (items_signals es) (read_all d e p.0) (items_all d es p.1)
 
 mutual
   statement_all : (d : Design) (st : Statement) → is_formed_statement d st ≡ true → list_all (is_signal d) (statement_signals st) ≡ true
@@ -174,9 +186,9 @@ mutual
 
   arms_all : (d : Design) (arms : Arms) → are_formed_arms d arms ≡ true → list_all (is_signal d) (arms_signals arms) ≡ true
   arms_all d (Arm items statement rest) f =
-      let p = and_both (not (is_nil items) && list_all (is_formed d) items && is_formed_statement d statement) (are_formed_arms d rest) f in
-      let q = and_both (not (is_nil items) && list_all (is_formed d) items) (is_formed_statement d statement) p.0 in
-      let r = and_both (not (is_nil items)) (list_all (is_formed d) items) q.0 in
+      let p = and_both (has_items items && are_formed d items && is_formed_statement d statement) (are_formed_arms d rest) f in
+      let q = and_both (has_items items && are_formed d items) (is_formed_statement d statement) p.0 in
+      let r = and_both (has_items items) (are_formed d items) q.0 in
       both_all d (items_signals items) (statement_signals statement ++ arms_signals rest) (items_all d items r.1) (both_all d (statement_signals statement) (arms_signals rest) (statement_all d statement q.1) (arms_all d rest p.1))
   arms_all d (Default statement) f = statement_all d statement f
 
@@ -184,7 +196,7 @@ events_all : (d : Design) (es : List Event) → list_all (is_formed_event d) es 
 events_all d [] f = refl
 events_all d (e ∷ es) f =
     let p = and_both (is_formed_event d e) (list_all (is_formed_event d) es) f in
-    and_true _ _ (and_both (is_signal d e.signal) _ p.0).0 (events_all d es p.1)
+    and_true _ _ (plain_signal d e.signal (and_both (is_plain d e.signal) _ p.0).0) (events_all d es p.1)
 
 -- ---- bits of the design
 

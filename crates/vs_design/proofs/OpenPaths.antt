@@ -280,6 +280,6 @@ latch_bits_are st b = (there, back)
         let o : (is_read b h.1.0 || not (is_assigned b h.1.0)) ≡ true = sym (open_is b h.1.0) ∙ h.1.2 in
         contains_filter (λ b. contains (early_reads st []) b || not (contains (assigned_after st []) b)) (statement_bits st) b
         ∙ and_true _ _ h.0
-        (by_test (is_read b h.1.0)
-        (λ e. or_left _ _ (early_found st [] b h.1.0 h.1.1 e refl))
-        (λ e. or_right (contains (early_reads st []) b) _ (ap not (misses st [] b h.1.0 h.1.1 (not_not (is_assigned b h.1.0) (subst (λ x. (x || not (is_assigned b h.1.0)) ≡ true) e o)) refl))))
+        (by_test {P = test ≡ true} (is_read b h.1.0)
+        (λ e. or_left (contains (early_reads st []) b) (not (contains (assigned_after st []) b)) (early_found st [] b h.1.0 h.1.1 e refl))
+        (λ e. or_right (contains (early_reads st []) b) (not (contains (assigned_after st []) b)) (ap not (misses st [] b h.1.0 h.1.1 (not_not (is_assigned b h.1.0) (subst (λ x. (x || not (is_assigned b h.1.0)) ≡ true) e o)) refl))))

@@ -10,7 +10,7 @@ use Rattle.vs_design.specs.Values.{own_value, value}
 use Rattle.vs_design.specs.Bodies.{assignment_writes, effect_of, body, arms_body, is_taken}
 use Rattle.vs_design.specs.Designs.{Process, Continuous, Always, is_clocked, Design}
 use Rattle.vs_design.specs.Footprints.{contains, target_bits, writes_of, reads_of}
-use Rattle.vs_design.specs.Fits.{fits_target, is_fit, fits_statement, fits_arms}
+use Rattle.vs_design.specs.Fits.{fits_target, is_fit, fit_items, fits_statement, fits_arms}
 use Rattle.vs_design.specs.Levels.{needs, is_order_after, level_order}
 use Rattle.vs_design.specs.Races.{blocking_bits, arms_blocking, at_once_bits, stirred_at, stir, stirred, raced_from, race_bits, is_none, race_free}
 use Rattle.vs_design.specs.Rules.{mixed_in, mixed_in_arms, mixed_assigns}
@@ -63,8 +63,8 @@ mutual
 
   arms_once : (arms : Arms) (kind : CaseKind) (w : ℕ) (g : Bool) (v : BitList) (s : State) → fits_arms arms ≡ true → AtOnce (arms_blocking arms) (arms_body arms kind w g v s)
   arms_once (Arm items statement rest) kind w g v s f =
-      let k = and_both (list_all is_fit items && fits_statement statement) (fits_arms rest) f in
-      let m = and_both (list_all is_fit items) (fits_statement statement) k.0 in
+      let k = and_both (fit_items items && fits_statement statement) (fits_arms rest) f in
+      let m = and_both (fit_items items) (fits_statement statement) k.0 in
       cond_of (AtOnce (blocking_bits statement ++ arms_blocking rest)) (is_taken kind w g v items s) (body statement s) (arms_body rest kind w g v s)
       (widen_left (blocking_bits statement) (arms_blocking rest) (body statement s) (body_once statement s m.1))
       (widen_right (blocking_bits statement) (arms_blocking rest) (arms_body rest kind w g v s) (arms_once rest kind w g v s k.1))

@@ -9,7 +9,7 @@ use Rattle.vs_four.specs.Logic.{BitList, truth}
 use Rattle.vs_net.specs.Network.{State, Update, Effect, to_value, Network, Kind, AnInput, AnAssign, kind, writes, effects}
 use Rattle.vs_net.specs.Network as N
 use Rattle.vs_net.specs.Lawful.{IsClockPort, IsResetPort}
-use Rattle.vs_design.specs.Expressions.{Signal, signal_length, Expression, Literal, Name, Select, Unary, BitNot, LogicalNot, Binary, Choice, Join, Repeat, At, sign}
+use Rattle.vs_design.specs.Expressions.{Signal, signal_length, Expression, Literal, Name, Select, Word, Unary, BitNot, LogicalNot, Binary, Choice, Join, Repeat, At, Call, sign}
 use Rattle.vs_design.specs.Values.{bits_of_signal, count_from, own_value, value}
 use Rattle.vs_design.specs.Statements.{Target, Whole, Statement, Empty, Assignment, Then, If, Case}
 use Rattle.vs_design.specs.Bodies.{body}
@@ -17,7 +17,8 @@ use Rattle.vs_design.specs.Designs.{Edge, Any, Posedge, Negedge, Event, Port, In
 use Rattle.vs_design.specs.Footprints.{contains, read_bits, target_reads, target_bits, statement_signals, writes_of, signals_bits}
 use Rattle.vs_design.specs.Elaborated.{is_formed, is_formed_statement, is_formed_process, are_formed_events}
 use Rattle.vs_design.specs.Clocks.{name_of, is_one_of, port_target, clock_nets, is_clock_port, may_reset, first_of, one_bit_inputs, root_of, Events, ByClock, ByBoth}
-use Rattle.vs_design.specs.Resets.{is_signal, inverted, is_condition, has_none, is_fixed, reset_branch, branch_writes, branch_updates, net_edge, reset_with, reset_by}
+use Rattle.vs_design.specs.Resets.{is_signal, inverted, is_condition, has_none, is_fixed, reset_branch, branch_writes, branch_updates, net_edge, reset_with, reset_by, are_constant}
+use Rattle.vs_design.specs.Calls.{statement_calls}
 use Rattle.vs_design.specs.Levels.{level_order}
 use Rattle.vs_design.specs.Networks.{network_of, process_of, writer_of, events_in}
 use Rattle.vs_design.specs.Accepted.{IsAcceptedDesign}
@@ -131,10 +132,12 @@ inverse_value (Unary Rattle.vs_design.specs.Expressions.Unsigned a) s h l r = cc
 inverse_value (Literal bits signed sized) s h l r = cc
 inverse_value (Name signal) s h l r = cc
 inverse_value (Select source part index) s h l r = cc
+inverse_value (Word signal index) s h l r = cc
 inverse_value (Binary op a b) s h l r = cc
 inverse_value (Choice c p q) s h l r = cc
 inverse_value (Join high low) s h l r = cc
 inverse_value (Repeat count a) s h l r = cc
+inverse_value (Call header statement arguments) s h l r = cc
 
 -- where the reset is active its condition holds
 condition_holds : (edge : Edge) (b : ℕ) (c : Expression) (r : State) → is_condition edge b c ≡ true → r b ≡ to_value (net_edge edge) → is_one (truth (own_value c r)) ≡ true
@@ -149,11 +152,11 @@ condition_holds Any b c r h e = cc
 -- a fixed branch reads nothing
 fixed_body : (d : Design) (s : Statement) (r t : State) → is_formed_statement d s ≡ true → is_fixed s ≡ true → body s r ≡ body s t
 fixed_body d s r t f h =
-    let none = and_both (has_none (statement_signals s)) (Rattle.vs_design.specs.Resets.are_constant s) h in
+    let none = and_both (has_none (statement_signals s)) (not (statement_calls s)) (and_both (has_none (statement_signals s) && not (statement_calls s)) (are_constant s) h).0 in
     body_reads s r t (λ b m. absurd (either_way (contains (signals_bits (statement_signals s)) b) (statement_named d s b f m) (has_nothing (statement_signals s) b none.0)))
 
 -- all that a run gives, in order
-abbrev given : Effect → List Update
+abbrev pub given : Effect → List Update
 given x = x.writes ∷ x.updates
 
 if_runs : (d : Design) (edge : Edge) (b : ℕ) (c : Expression) (taken other taken' : Statement) (r : State) → is_formed_statement d taken ≡ true → (if is_condition edge b c && is_fixed taken then Some taken else None) ≡ Some taken' → r b ≡ to_value (net_edge edge) → given (body (If c taken other) r) ≡ given (body taken' (λ m. X))
@@ -174,11 +177,11 @@ branch_runs d edge b (Case kind subject arms) taken r f h e = cc
 branch_runs d edge b (Then first rest) taken r f h e = cc
 
 -- a reset is on a reset net, and gives what its branch gives
-record ResetIs (d : Design) (roots : ℕ → Option ℕ) (st : Statement) (reset : N.Reset) : Type 0 where
-  on_net : roots reset.net ≡ Some reset.input
-  run : is_formed_statement d st ≡ true → (r : State) → r reset.net ≡ to_value reset.edge → given (body st r) ≡ N.branch reset
+pub record ResetIs (d : Design) (roots : ℕ → Option ℕ) (st : Statement) (reset : N.Reset) : Type 0 where
+  pub on_net : roots reset.net ≡ Some reset.input
+  pub run : is_formed_statement d st ≡ true → (r : State) → r reset.net ≡ to_value reset.edge → given (body st r) ≡ N.branch reset
 
-reset_is : (d : Design) (roots : ℕ → Option ℕ) (o : Option Events) (st : Statement) (reset : N.Reset) → reset_by roots o st ≡ Some reset → ResetIs d roots st reset
+pub reset_is : (d : Design) (roots : ℕ → Option ℕ) (o : Option Events) (st : Statement) (reset : N.Reset) → reset_by roots o st ≡ Some reset → ResetIs d roots st reset
 reset_is d roots None st reset h = cc
 reset_is d roots (Some (ByClock c)) st reset h = cc
 reset_is d roots (Some (ByBoth c e)) st reset h = by_parts (roots e.signal.first) refl (reset_branch e.edge e.signal.first st) refl h

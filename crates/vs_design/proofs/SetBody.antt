@@ -9,22 +9,22 @@ use Rattle.vs_net.proofs.Basics.{same_number, put-same, put-other, write_all_oth
 use Rattle.vs_four.specs.Logic.{BitList}
 use Rattle.vs_four.specs.Selects.{range_length, places}
 use Rattle.vs_design.specs.Expressions.{signal_length, Expression, width, sign, is_constant}
-use Rattle.vs_design.specs.Values.{bits_of_signal, own_value, constant_value, assigned_value}
-use Rattle.vs_design.specs.Statements.{Target, Whole, PartOf, Both, target_width}
+use Rattle.vs_design.specs.Values.{bits_of_signal, word_places, value, own_value, constant_value, assigned_value}
+use Rattle.vs_design.specs.Statements.{Target, Whole, PartOf, WordOf, Both, target_width}
 use Rattle.vs_design.specs.Bodies.{bits_at, pair_up, target_writes, last_of_each, assignment_writes}
-use Rattle.vs_design.specs.Footprints.{contains, somes, read_bits}
+use Rattle.vs_design.specs.Footprints.{contains, somes}
 use Rattle.vs_design.specs.Latches.{assigns}
-use Rattle.vs_design.specs.Fits.{fits_target, fits_64, fits, is_fit, divides_constants}
+use Rattle.vs_design.specs.Fits.{fits_target, fits_64, is_fit}
 use Rattle.vs_design.specs.Sets.{Set4, has, all_of}
-use Rattle.vs_design.specs.Lifted.{Family, assigned_sets}
+use Rattle.vs_design.specs.Lifted.{Family, lifted, assigned_sets}
 use Rattle.vs_design.specs.LiftedBodies.{put_each, widen, write_sets, assign_sets}
-use Rattle.vs_design.specs.TreeLaws.{AllIn, none_in, one_in, InSets}
+use Rattle.vs_design.specs.TreeLaws.{AllIn, none_in, one_in}
 use Rattle.vs_design.proofs.Lists.{by_test, and_both, contains-append}
 use Rattle.vs_design.proofs.Writes.{either_way, written_pairs, somes_all, part_bits, constant_index}
+use Rattle.vs_design.proofs.Words.{long_word, word_within}
 use Rattle.vs_design.proofs.Lengths.{length_places, length_count, length_assigned}
 use Rattle.vs_design.proofs.SetBits.{union_left, union_right, all_take, all_drop}
 use Rattle.vs_design.proofs.SetOps.{Each, each_of_all}
-use Rattle.vs_design.proofs.SetValue.{value_in}
 
 -- the bit is in its set
 abbrev pub In : Family → State → ℕ → Type 0
@@ -53,7 +53,7 @@ put_in sets s c b t v h k =
     go e (inl q) = rw (put-other sets c t b e) (rw (put-other s c v b e) q)
     go e (inr q) = absurd (e q)
 
-pairs_in : (ps : List (Option ℕ)) (sets : Family) (s : State) (b : ℕ) {ss : List Set4} {vs : BitList} → length ps ≡ length vs → AllIn ss vs → (In sets s b) ⊎ (contains (somes ps) b ≡ true) → In (put_each ps ss sets) (write_all s (pair_up ps vs)) b
+pub pairs_in : (ps : List (Option ℕ)) (sets : Family) (s : State) (b : ℕ) {ss : List Set4} {vs : BitList} → length ps ≡ length vs → AllIn ss vs → (In sets s b) ⊎ (contains (somes ps) b ≡ true) → In (put_each ps ss sets) (write_all s (pair_up ps vs)) b
 unfolding write_all
 pairs_in [] sets s b l h (inl k) = k
 pairs_in [] sets s b l h (inr k) = cc
@@ -119,6 +119,34 @@ target_in (PartOf signal part index) v ss sets from s b f h l k =
     only_left : (In sets s b) ⊎ (contains (assigns (PartOf signal part index)) b ≡ true) → assigns (PartOf signal part index) ≡ [] → In sets s b
     only_left (inl q) e = q
     only_left (inr q) e = absurd (either_way (contains (assigns (PartOf signal part index)) b) q (ap (λ c. contains c b) e))
+target_in (WordOf signal index) v ss sets from s b f h l k =
+    by_test (is_constant index)
+    (λ e. rw e (rw (constant_index index from e)
+    (pairs_in (bits_at signal (word_places signal (sign index) (constant_value index))) sets s b (long (constant_value index)) h (go k (by_constant e)))))
+    (λ e. rw e
+    (by_test (is_written (pair_up (bits_at signal (word_places signal (sign index) (own_value index from))) v) b)
+    (λ q. widen_adds (bits_of_signal signal) (all_of ss) sets b (write_all s (pair_up (bits_at signal (word_places signal (sign index) (own_value index from))) v) b)
+    (word_within signal (sign index) (own_value index from) b (sym (written_pairs (bits_at signal (word_places signal (sign index) (own_value index from))) v b (long (own_value index from))) ∙ q))
+    (written_has (all_of ss) (bits_at signal (word_places signal (sign index) (own_value index from))) v s b (each_of_all h) q))
+    (λ q. widen_keeps (bits_of_signal signal) (all_of ss) sets b (write_all s (pair_up (bits_at signal (word_places signal (sign index) (own_value index from))) v) b)
+    (rw (write_all_other (pair_up (bits_at signal (word_places signal (sign index) (own_value index from))) v) s b q) (only_left k (none e))))))
+  where
+    long : (i : BitList) → length (bits_at signal (word_places signal (sign index) i)) ≡ length v
+    long i = long_word signal (sign index) i ∙ sym l
+
+    by_constant : is_constant index ≡ true → assigns (WordOf signal index) ≡ somes (bits_at signal (word_places signal (sign index) (constant_value index)))
+    by_constant e = rw e refl
+
+    none : is_constant index ≡ false → assigns (WordOf signal index) ≡ []
+    none e = rw e refl
+
+    go : (In sets s b) ⊎ (contains (assigns (WordOf signal index)) b ≡ true) → {xs : List ℕ} → assigns (WordOf signal index) ≡ xs → (In sets s b) ⊎ (contains xs b ≡ true)
+    go (inl q) e = inl q
+    go (inr q) e = inr (subst (λ c. contains c b ≡ true) e q)
+
+    only_left : (In sets s b) ⊎ (contains (assigns (WordOf signal index)) b ≡ true) → assigns (WordOf signal index) ≡ [] → In sets s b
+    only_left (inl q) e = q
+    only_left (inr q) e = absurd (either_way (contains (assigns (WordOf signal index)) b) q (ap (λ c. contains c b) e))
 target_in (Both high low) v ss sets from s b f h l k =
     let fs = and_both (fits_64 (target_width high + target_width low) && fits_target high) (fits_target low) f in
     let fh = and_both (fits_64 (target_width high + target_width low)) (fits_target high) fs.0 in
@@ -132,8 +160,9 @@ target_in (Both high low) v ss sets from s b f h l k =
     go (inl q) r = inl (r (inl q))
     go (inr q) r = by_test (contains (assigns high) b) (λ e. inl (r (inr e))) (λ e. inr (subst (λ c. (c || contains (assigns low) b) ≡ true) e (sym (contains-append (assigns high) (assigns low) b) ∙ q)))
 
-pub assignment_in : (t : Target) (e : Expression) (sets : Family) (s : State) (b : ℕ) → fits_target t ≡ true → is_fit e ≡ true → InSets (read_bits e) sets s → (In sets s b) ⊎ (contains (assigns t) b ≡ true) → In (assign_sets t e sets) (write_all s (assignment_writes t e s)) b
-assignment_in t e sets s b f g h k =
-    let v = value_in e (max (width e) (target_width t)) (sign e) sets s (and_both (fits e) (divides_constants e) g).0 (omega arith) h in
+-- an assignment whose value is in its sets
+pub assignment_by : (t : Target) (e : Expression) (sets : Family) (s : State) (b : ℕ) → fits_target t ≡ true → AllIn (lifted e (max (width e) (target_width t)) (sign e) sets) (value e (max (width e) (target_width t)) (sign e) s) → (In sets s b) ⊎ (contains (assigns t) b ≡ true)
+    → In (assign_sets t e sets) (write_all s (assignment_writes t e s)) b
+assignment_by t e sets s b f h k =
     rw (last_same (target_writes t (assigned_value e (target_width t) s) s) s b)
-    (target_in t (assigned_value e (target_width t) s) (assigned_sets e (target_width t) sets) sets s s b f (all_take (target_width t) v) (length_assigned e (target_width t) s) k)
+    (target_in t (assigned_value e (target_width t) s) (assigned_sets e (target_width t) sets) sets s s b f (all_take (target_width t) h) (length_assigned e (target_width t) s) k)

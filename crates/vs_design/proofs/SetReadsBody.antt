@@ -5,24 +5,25 @@ use Rattle.std.specs.List.{list_all}
 use Rattle.std.proofs.lemmas.List.{length-map}
 use Rattle.vs_net.specs.Network.{put}
 use Rattle.vs_four.specs.Selects.{places}
-use Rattle.vs_design.specs.Expressions.{signal_length, Expression, width, sign, is_constant}
-use Rattle.vs_design.specs.Values.{bits_of_signal, constant_value}
-use Rattle.vs_design.specs.Statements.{Target, Whole, PartOf, Both, target_width, CaseKind, Statement, Empty, Assignment, Then, If, Case, Arms, Arm, Default, case_width, case_sign}
+use Rattle.vs_design.specs.Expressions.{signal_length, Expression, Items, width, sign, is_constant}
+use Rattle.vs_design.specs.Values.{bits_of_signal, word_places, constant_value}
+use Rattle.vs_design.specs.Statements.{Target, Whole, PartOf, WordOf, Both, target_width, CaseKind, Statement, Empty, Assignment, Then, If, Case, Arms, Arm, Default, case_width, case_sign}
 use Rattle.vs_design.specs.Bodies.{bits_at}
 use Rattle.vs_design.specs.Footprints.{contains, somes, read_bits, target_reads, items_reads, statement_bits, statement_reads, without}
 use Rattle.vs_design.specs.Latches.{assigns, assigned_after, early_reads, early_in_arms, assigned_in_arms, common, latch_bits}
 use Rattle.vs_design.specs.Rules.{mixed_in, mixed_in_arms}
-use Rattle.vs_design.specs.Sets.{Set4, union, is_only_x, all_of, set_or, set_match}
-use Rattle.vs_design.specs.Lifted.{Family, lifted, own_sets, assigned_sets}
-use Rattle.vs_design.specs.LiftedBodies.{put_each, widen, write_sets, assign_sets, either, join_branches, match_bit, item_sets, join_arms, lifted_body, lifted_arms}
+use Rattle.vs_design.specs.Sets.{Set4, union, is_only_x, all_of, set_or}
+use Rattle.vs_design.specs.Lifted.{Family, lifted, lifted_items, own_sets, assigned_sets}
+use Rattle.vs_design.specs.LiftedBodies.{put_each, widen, write_sets, assign_sets, either, join_branches, matches_of, item_sets, join_arms, lifted_body, lifted_arms}
 use Rattle.vs_design.specs.TimeZero.{before_run, block_sets, is_quiet}
 use Rattle.vs_design.specs.TreeLaws.{SameSets, BodySetsRead}
 use Rattle.vs_design.proofs.Lists.{by_test, contains-append, contains_filter, contains-left}
 use Rattle.vs_design.proofs.Writes.{either_way, somes_all}
+use Rattle.vs_design.proofs.Words.{long_word}
 use Rattle.vs_design.proofs.BodyExact.{append_empty, contains_common}
 use Rattle.vs_design.proofs.Blocks.{no_latch_at, early_in, contains_without}
 use Rattle.vs_design.proofs.Lengths.{length_count, length_places}
-use Rattle.vs_design.proofs.SetReads.{length_assigned_sets, lifted_reads, assigned_sets_reads, same_left, same_right}
+use Rattle.vs_design.proofs.SetReads.{length_assigned_sets, lifted_reads, items_same, assigned_sets_reads, same_left, same_right}
 
 -- the sets of the bit are the same before, or the bit is assigned
 abbrev SameOr : Family → Family → List ℕ → ℕ → Type 0
@@ -64,6 +65,23 @@ write_same (PartOf signal part index) ss f h b l k =
     unassigned (inr q) e = absurd (either_way _ q (none e))
       where
         none : is_constant index ≡ false → contains (assigns (PartOf signal part index)) b ≡ false
+        none e = rw e refl
+write_same (WordOf signal index) ss f h b l k =
+    by_test (is_constant index)
+    (λ e. rw e (each_same (bits_at signal (word_places signal (sign index) (constant_value index))) ss f h b (long_word signal (sign index) (constant_value index) ∙ sym l) (assigned k e)))
+    (λ e. rw e (widen_same (bits_of_signal signal) (all_of ss) f h b (unassigned k e)))
+  where
+    assigned : SameOr f h (assigns (WordOf signal index)) b → is_constant index ≡ true → SameOr f h (somes (bits_at signal (word_places signal (sign index) (constant_value index)))) b
+    assigned k e = subst (λ xs. SameOr f h xs b) (by_constant e) k
+      where
+        by_constant : is_constant index ≡ true → assigns (WordOf signal index) ≡ somes (bits_at signal (word_places signal (sign index) (constant_value index)))
+        by_constant e = rw e refl
+
+    unassigned : SameOr f h (assigns (WordOf signal index)) b → is_constant index ≡ false → f b ≡ h b
+    unassigned (inl q) e = q
+    unassigned (inr q) e = absurd (either_way _ q (none e))
+      where
+        none : is_constant index ≡ false → contains (assigns (WordOf signal index)) b ≡ false
         none e = rw e refl
 write_same (Both high low) ss f h b l k =
     let dl = length-drop (target_width low) ss in
@@ -117,13 +135,8 @@ arms_same ms ns f g f' g' b e h k = subst (λ xs. join_arms ms f g b ≡ join_ar
         cases false true = ap {B = Set4} (λ x. union x (g b)) h ∙ ap {B = Set4} (λ x. union (f' b) x) k
         cases false false = k
 
-items_same : (kind : CaseKind) (w : ℕ) (g : Bool) (ss ts : List Set4) (items : List Expression) (f h : Family) → ss ≡ ts → SameSets (items_reads items) f h → item_sets kind w g ss items f ≡ item_sets kind w g ts items h
-items_same kind w g ss ts [] f h e k = refl
-items_same kind w g ss ts (x ∷ xs) f h e k =
-    let head : set_match (match_bit kind) ss (lifted x w g f) ≡ set_match (match_bit kind) ts (lifted x w g h) =
-    ap {B = Set4} (λ us. set_match (match_bit kind) us (lifted x w g f)) e ∙ ap {B = Set4} (λ us. set_match (match_bit kind) ts us) (lifted_reads x w g f h (same_left (read_bits x) (items_reads xs) f h k)) in
-    let rest : item_sets kind w g ss xs f ≡ item_sets kind w g ts xs h = items_same kind w g ss ts xs f h e (same_right (read_bits x) (items_reads xs) f h k) in
-    cc
+matches_same : (kind : CaseKind) (w : ℕ) (g : Bool) (ss ts : List Set4) (items : Items) (f h : Family) → ss ≡ ts → SameSets (items_reads items) f h → item_sets kind w g ss items f ≡ item_sets kind w g ts items h
+matches_same kind w g ss ts items f h e k = ap {B = List Set4} (λ us. matches_of kind us (lifted_items items w g f)) e ∙ ap {B = List Set4} (matches_of kind ts) (items_same items w g f h k)
 
 mutual
   statement_same : (st : Statement) (before : List ℕ) (f h : Family) (b : ℕ) → mixed_in false st ≡ [] → SameSets (early_reads st before) f h → SameSets before f h → SameOr f h (assigned_after st before) b → lifted_body st f b ≡ lifted_body st h b
@@ -168,7 +181,7 @@ mutual
       let ki = same_without (items_reads items) before f h (same_left (without (items_reads items) before) (early_reads statement before ++ early_in_arms rest before) f h k) l in
       let kb = same_right (without (items_reads items) before) (early_reads statement before ++ early_in_arms rest before) f h k in
       arms_same (item_sets kind w g ss items f) (item_sets kind w g ts items h) (lifted_body statement f) (lifted_arms rest kind w g ss f) (lifted_body statement h) (lifted_arms rest kind w g ts h) b
-      (items_same kind w g ss ts items f h e ki)
+      (matches_same kind w g ss ts items f h e ki)
       (statement_same statement before f h b n.0 (same_left (early_reads statement before) (early_in_arms rest before) f h kb) l (or_left_of (assigned_after statement before) (assigned_in_arms rest before) f h b q))
       (cases_same rest kind w g ss ts before f h b n.1 e (same_right (early_reads statement before) (early_in_arms rest before) f h kb) l (or_right_of (assigned_after statement before) (assigned_in_arms rest before) f h b q))
   cases_same (Default statement) kind w g ss ts before f h b m e k l q = statement_same statement before f h b m k l q

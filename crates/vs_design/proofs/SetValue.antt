@@ -1,5 +1,5 @@
 -- A value is in its lifted sets.
-use Rattle.std.proofs.Common.{◌≡◌, ℕ, zero, suc, ◌+◌, ◌-◌, ◌*◌, ◌^◌, ◌≤◌, Bool, true, false, List, [], ◌∷◌, ◌++◌, ◌&&◌, if◌then◌else◌, refl, sym, ◌∙◌, subst, map, length, replicate, get_or, Option, Some, None, arith, eqb-true, add-zero, ◌==◌}
+use Rattle.std.proofs.Common.{◌≡◌, ℕ, zero, suc, ◌+◌, ◌-◌, ◌*◌, ◌^◌, ◌≤◌, Bool, true, false, List, [], ◌∷◌, ◌++◌, ◌&&◌, if◌then◌else◌, refl, sym, ◌∙◌, subst, map, length, replicate, get_or, Option, Some, None, arith, add-zero, ◌==◌}
 use Rattle.std.specs.Prelude.{int_lt}
 use Rattle.std.specs.List.{list_any, list_all}
 use Rattle.std.proofs.lemmas.List.Folds.{list_all-append}
@@ -13,21 +13,23 @@ use Rattle.vs_four.specs.Lengths.{last_or}
 use Rattle.vs_four.specs.Numbers.{bits_of, number, integer, if_known}
 use Rattle.vs_four.specs.Shifts.{distance, move_up, move_down}
 use Rattle.vs_four.specs.Selects.{Part, range_length, at_place, places, select}
-use Rattle.vs_design.specs.Expressions.{Signal, signal_length, Source, OfSignal, OfConstant, UnaryOp, Plus, Minus, BitNot, LogicalNot, ReduceAnd, ReduceNand, ReduceOr, ReduceNor, ReduceXor, ReduceXnor, Signed, Unsigned, BinaryOp, Add, Subtract, Multiply, Divide, Remainder, BitAnd, BitOr, BitXor, BitXnor, Less, LessEqual, Greater, GreaterEqual, Equal, NotEqual, CaseEqual, CaseNotEqual, LogicalAnd, LogicalOr, ShiftLeft, ShiftRight, ShiftLeftArith, ShiftRightArith, Expression, Literal, Name, Select, Unary, Binary, Choice, Join, Repeat, At, unary_way, way, width, sign, is_constant}
-use Rattle.vs_design.specs.Values.{count_from, bits_of_signal, source_value, apply_unary, apply_binary, left_width, right_width, left_sign, right_sign, value, own_value, constant_value}
-use Rattle.vs_design.specs.Footprints.{contains, source_bits, read_bits, somes}
+use Rattle.vs_design.specs.Expressions.{Signal, signal_length, Source, OfSignal, OfConstant, UnaryOp, Plus, Minus, BitNot, LogicalNot, ReduceAnd, ReduceNand, ReduceOr, ReduceNor, ReduceXor, ReduceXnor, Signed, Unsigned, BinaryOp, Add, Subtract, Multiply, Divide, Remainder, BitAnd, BitOr, BitXor, BitXnor, Less, LessEqual, Greater, GreaterEqual, Equal, NotEqual, CaseEqual, CaseNotEqual, LogicalAnd, LogicalOr, ShiftLeft, ShiftRight, ShiftLeftArith, ShiftRightArith, Expression, Binary, way, width, sign, is_constant}
+use Rattle.vs_design.specs.Values.{count_from, bits_of_signal, read, source_value, word_places, select_word, apply_unary, apply_binary, left_width, right_width, left_sign, right_sign, value, own_value, constant_value}
+use Rattle.vs_design.specs.Footprints.{contains, source_bits, addressed_bits, somes}
 use Rattle.vs_design.specs.Bodies.{bits_at}
 use Rattle.vs_design.specs.Sets.{Set4, has, only, any_value, union, image, image2, is_known_set, is_unknown_set, all_of, set_and, set_or, set_xor, arithmetic, set_match, variable}
-use Rattle.vs_design.specs.Lifted.{Family, extend_sets, source_sets, surely_inside, set_select, lift_unary, lift_binary, lift_shift, fill_set, is_left, lift_quotient, lift_operator, lift_of, Lift, FromSets, Moved, Divided, lifted}
-use Rattle.vs_design.specs.Fits.{fits, fits_64, source_length}
-use Rattle.vs_design.specs.TreeLaws.{AllIn, none_in, one_in, InSets, ValueInSets}
+use Rattle.vs_design.specs.Lifted.{Family, extend_sets, source_sets, surely_inside, set_select, set_word, lift_unary, lift_binary, lift_shift, fill_set, is_left, lift_quotient, lift_operator, lift_of, Lift, FromSets, Moved, Divided, lifted}
+use Rattle.vs_design.specs.Fits.{source_length}
+use Rattle.vs_design.specs.TreeLaws.{AllIn, none_in, one_in, InSets}
 use Rattle.vs_design.proofs.Lists.{by_test, or_right, and_both, contains-left, contains-right, contains_head}
 use Rattle.vs_design.proofs.ReadValue.{value_reads, constant_agree}
 use Rattle.vs_design.proofs.Writes.{constant_index}
-use Rattle.vs_design.proofs.Lengths.{left_fits, right_fits, unary_fits, length_value, length_places, length_bits_of, length_signal}
-use Rattle.vs_design.proofs.SetBits.{image_has, image2_has, all_length, all_map, all_map2, all_fold, all_append, all_last, all_repeat, all_only, all_extend, each_known, some_unknown}
-use Rattle.vs_design.proofs.SetOps.{Each, each_in, each_of_all, bits_of_known, of_bool_known, arithmetic_in, arithmetic_bit, arithmetic_not, shift_by_in, shift_in, choose_in, places_in, places_or_x}
+use Rattle.vs_design.proofs.Lengths.{length_value, length_places, length_bits_of, length_signal}
+use Rattle.vs_design.proofs.SetBits.{image_has, image2_has, all_length, all_map, all_map2, all_fold, all_append, all_last, all_only, all_extend, each_known, some_unknown}
+use Rattle.vs_design.proofs.SetOps.{Each, each_in, each_of_all, bits_of_known, of_bool_known, arithmetic_in, arithmetic_bit, arithmetic_not, shift_by_in, shift_in, places_in, places_or_x}
 use Rattle.vs_design.proofs.Indices.{select_sure}
+use Rattle.vs_design.proofs.Words.{addressed_constant, addressed_variable}
+use Rattle.vs_design.proofs.WordSets.{word_in}
 
 pub sets_left : (xs ys : List ℕ) (sets : Family) (s : State) → InSets (xs ++ ys) sets s → InSets xs sets s
 sets_left xs ys sets s h b k = h b (contains-left xs ys b k)
@@ -61,7 +63,7 @@ not_in s v h = one_in (image_has not_bit s v h) none_in
 known_append : (a b : BitList) → all_known (a ++ b) ≡ (all_known a && all_known b)
 known_append a b = list_all-append is_known a b
 
-unary_in : (op : UnaryOp) {ss : List Set4} {vs : BitList} → AllIn ss vs → AllIn (lift_unary op ss) (apply_unary op vs)
+pub unary_in : (op : UnaryOp) {ss : List Set4} {vs : BitList} → AllIn ss vs → AllIn (lift_unary op ss) (apply_unary op vs)
 unary_in Plus h = h
 unary_in Minus {ss} {vs} h = arithmetic_in h (all_known vs) (length ss) (length vs) (bits_of (length vs) (2 ^ length vs - number vs)) (all_length h) refl (length_bits_of (length vs) (2 ^ length vs - number vs)) (bits_of_known (length vs) (2 ^ length vs - number vs))
 unary_in BitNot h = all_map not_bit h
@@ -192,12 +194,20 @@ constant_source (OfConstant bits) part index sets s e h = places_in (places part
 constant_source (OfSignal signal) part index sets s e h =
     constant_in sets s signal (places part (sign index) (constant_value index)) (subst (λ (c : Bool). InSets (if c then somes (bits_at signal (places part (sign index) (constant_value index))) else bits_of_signal signal) sets s) e h)
 
-select_in : (source : Source) (part : Part) (index : Expression) (sets : Family) (s : State) {ts : List Set4} (us : BitList) → AllIn ts us → (is_constant index ≡ true → us ≡ constant_value index) → range_length part.range ≡ source_length source → InSets (source_bits source part index) sets s
+pub select_in : (source : Source) (part : Part) (index : Expression) (sets : Family) (s : State) {ts : List Set4} (us : BitList) → AllIn ts us → (is_constant index ≡ true → us ≡ constant_value index) → range_length part.range ≡ source_length source → InSets (source_bits source part index) sets s
     → AllIn (set_select part index ts (source_sets sets source)) (select part (sign index) (source_value s source) us)
 select_in source part index sets s {ts} us h c l k =
     by_test (is_constant index)
     (λ e. rw e (rw (c e) (constant_source source part index sets s e k)))
     (λ e. rw e (variable_in part (sign index) h (source_in source part index sets s e k) (l ∙ sym (length_source_value s source))))
+
+-- and so is a word
+pub word_value_in : (signal : Signal) (index : Expression) (sets : Family) (s : State) {ts : List Set4} (us : BitList) → AllIn ts us → (is_constant index ≡ true → us ≡ constant_value index) → InSets (addressed_bits signal index) sets s
+    → AllIn (set_word signal index ts (map sets (bits_of_signal signal))) (select_word signal (sign index) (read s (bits_of_signal signal)) us)
+word_value_in signal index sets s {ts} us h c k =
+    by_test (is_constant index)
+    (λ e. rw e (rw (c e) (constant_in sets s signal (word_places signal (sign index) (constant_value index)) (subst (λ xs. InSets xs sets s) (addressed_constant signal index e) k))))
+    (λ e. rw e (word_in signal (sign index) h (read_in (bits_of_signal signal) sets s (subst (λ xs. InSets xs sets s) (addressed_variable signal index e) k)) (length_signal s signal)))
 
 any_has : (v : Bit4) → has any_value v ≡ true
 any_has Zero = refl
@@ -228,41 +238,10 @@ shift_own op w g a b s o c = own op o ∙ constant_index b s c
     own ShiftRightArith o = refl
     own _ o = cc
 
-operator_in : (l : Lift) (op : BinaryOp) → lift_of op ≡ l → (w : ℕ) (g : Bool) (a b : Expression) (s : State) {ss ts : List Set4} → width (Binary op a b) ≤ w
+pub operator_in : (l : Lift) (op : BinaryOp) → lift_of op ≡ l → (w : ℕ) (g : Bool) (a b : Expression) (s : State) {ss ts : List Set4} → width (Binary op a b) ≤ w
     → AllIn ss (value a (left_width (way op) w (width a) (width b)) (left_sign (way op) g (sign a) (sign b)) s)
     → AllIn ts (value b (right_width (way op) w (width a) (width b)) (right_sign (way op) g (sign a) (sign b)) s)
     → AllIn (lift_operator l op w g (left_sign (way op) g (sign a) (sign b)) b (lift_quotient (Binary op a b) w g) ss ts) (value (Binary op a b) w g s)
 operator_in Divided op o w g a b s h ia ib = quotient_in (Binary op a b) w g s h
 operator_in Moved op o w g a b s h ia ib = all_extend w g (shifted_in op (left_sign (way op) g (sign a) (sign b)) b o ib ia (shift_own op w g a b s o))
 operator_in FromSets op o w g a b s h ia ib = all_extend w g (binary_in op (left_sign (way op) g (sign a) (sign b)) o ia ib)
-
--- where each bit that an expression reads is in its set, its value is in its lifted sets
-pub value_in : ValueInSets
-value_in (Literal bits signed sized) w g sets s f h k = all_only (value (Literal bits signed sized) w g s)
-value_in (Name signal) w g sets s f h k = all_extend w g (read_in (bits_of_signal signal) sets s k)
-value_in (Select source part index) w g sets s f h k =
-    let q = and_both (fits_64 part.width && (range_length part.range == source_length source)) (fits index) f in
-    let r = and_both (fits_64 part.width) (range_length part.range == source_length source) q.0 in
-    all_extend w g (select_in source part index sets s (own_value index s) (value_in index (width index) (sign index) sets s q.1 (omega arith) (sets_right (source_bits source part index) (read_bits index) sets s k))
-    (λ e. constant_index index s e) (eqb-true (range_length part.range) (source_length source) r.1) (sets_left (source_bits source part index) (read_bits index) sets s k))
-value_in (Unary op a) w g sets s f h k =
-    all_extend w g (unary_in op (value_in a (left_width (unary_way op) w (width a) 0) (left_sign (unary_way op) g (sign a) false) sets s f (unary_fits op w (width a) h) k))
-value_in (Binary op a b) w g sets s f h k =
-    let q = and_both (fits a) (fits b) f in
-    let ia = value_in a (left_width (way op) w (width a) (width b)) (left_sign (way op) g (sign a) (sign b)) sets s q.0 (left_fits (way op) w (width a) (width b) h) (sets_left (read_bits a) (read_bits b) sets s k) in
-    let ib = value_in b (right_width (way op) w (width a) (width b)) (right_sign (way op) g (sign a) (sign b)) sets s q.1 (right_fits (way op) w (width a) (width b) h) (sets_right (read_bits a) (read_bits b) sets s k) in
-    operator_in (lift_of op) op refl w g a b s h ia ib
-value_in (Choice c p q) w g sets s f h k =
-    let x = and_both (fits c && fits p) (fits q) f in
-    let y = and_both (fits c) (fits p) x.0 in
-    let kr = sets_right (read_bits c) (read_bits p ++ read_bits q) sets s k in
-    let lp : length (value p w g s) ≡ w = length_value p w g s (omega arith) in
-    let lq : length (value q w g s) ≡ w = length_value q w g s (omega arith) in
-    choose_in (set_or (lifted c (width c) (sign c) sets)) (truth (value c (width c) (sign c) s)) (truth_in (value_in c (width c) (sign c) sets s y.0 (omega arith) (sets_left (read_bits c) (read_bits p ++ read_bits q) sets s k)))
-    (value_in p w g sets s y.1 (omega arith) (sets_left (read_bits p) (read_bits q) sets s kr)) (value_in q w g sets s x.1 (omega arith) (sets_right (read_bits p) (read_bits q) sets s kr)) (lp ∙ sym lq)
-value_in (Join high low) w g sets s f h k =
-    let x = and_both (fits_64 (width high + width low) && fits high) (fits low) f in
-    let y = and_both (fits_64 (width high + width low)) (fits high) x.0 in
-    all_extend w g (all_append (value_in low (width low) (sign low) sets s x.1 (omega arith) (sets_right (read_bits high) (read_bits low) sets s k)) (value_in high (width high) (sign high) sets s y.1 (omega arith) (sets_left (read_bits high) (read_bits low) sets s k)))
-value_in (Repeat count a) w g sets s f h k = all_extend w g (all_repeat count (value_in a (width a) (sign a) sets s (and_both (fits_64 (count * width a)) (fits a) f).1 (omega arith) k))
-value_in (At place e) w g sets s f h k = value_in e w g sets s f h k

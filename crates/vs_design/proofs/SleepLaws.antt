@@ -15,7 +15,7 @@ use Rattle.vs_design.specs.Values.{own_value, value}
 use Rattle.vs_design.specs.Bodies.{last_of_each, assignment_writes, body, arms_body, is_taken}
 use Rattle.vs_design.specs.Designs.{Event, Process, Continuous, Always, is_clocked, is_combinational, Design, top_inputs}
 use Rattle.vs_design.specs.Footprints.{contains, target_bits, statement_bits, writes_of, waits_of, net_bits, variable_bits}
-use Rattle.vs_design.specs.Fits.{fits_target, is_fit, fits_statement, fits_arms}
+use Rattle.vs_design.specs.Fits.{fits_target, is_fit, fits_statement, fits_arms, fit_items}
 use Rattle.vs_design.specs.Networks.{network_of, writer_of, block_process}
 use Rattle.vs_design.specs.Accepted.{IsAcceptedDesign}
 use Rattle.vs_design.specs.Sleepers.{most_writes, arms_most, process_most, is_once, comb_bits, is_still, stays_x, is_sleeping, sleeper_if, sleeper_of, sleeper_at}
@@ -110,9 +110,9 @@ mutual
 
   arms_times : (arms : Arms) (kind : CaseKind) (w : ℕ) (g : Bool) (v : BitList) (s : State) (b : ℕ) → fits_arms arms ≡ true → run_count (arms_body arms kind w g v s) b ≤ arms_most arms b
   arms_times (Arm items statement rest) kind w g v s b f =
-      let h = and_both (list_all is_fit items && fits_statement statement) (fits_arms rest) f in
+      let h = and_both (fit_items items && fits_statement statement) (fits_arms rest) f in
       by_test (is_taken kind w g v items s)
-      (λ k. rw k (left_most _ (most_writes statement b) (arms_most rest b) (run_times statement s b (and_both (list_all is_fit items) (fits_statement statement) h.0).1)))
+      (λ k. rw k (left_most _ (most_writes statement b) (arms_most rest b) (run_times statement s b (and_both (fit_items items) (fits_statement statement) h.0).1)))
       (λ k. rw k (right_most _ (most_writes statement b) (arms_most rest b) (arms_times rest kind w g v s b h.1)))
   arms_times (Default statement) kind w g v s b f = run_times statement s b f
 

@@ -1,5 +1,5 @@
 -- The bits that an assignment writes.
-use Rattle.std.proofs.Common.{◌≡◌, ℕ, zero, suc, ◌+◌, ◌<◌, Bool, true, false, List, [], ◌∷◌, ◌++◌, ◌||◌, ◌&&◌, ◌==◌, nat_lt, if◌then◌else◌, refl, sym, ap, ◌∙◌, subst, map, length, take, drop, Option, Some, None, arith, length-take, length-drop, eqb-true, eq-eqb, ℤ, pos, negsuc, ◌+ℤ◌, replicate}
+use Rattle.std.proofs.Common.{◌≡◌, ℕ, zero, suc, ◌+◌, ◌<◌, Bool, true, false, List, [], ◌∷◌, ◌++◌, ◌||◌, ◌&&◌, ◌==◌, nat_lt, if◌then◌else◌, refl, sym, ap, ◌∙◌, subst, map, length, take, drop, Option, Some, None, arith, length-take, length-drop, eqb-true, ℤ, pos, negsuc, ◌+ℤ◌, replicate}
 use Rattle.std.specs.Prelude.{option_map}
 use Rattle.std.proofs.lemmas.List.{length-map}
 use Rattle.vs_four.specs.declared.Bit4.TheVariants.{X}
@@ -8,16 +8,17 @@ use Rattle.vs_four.specs.Logic.{BitList, all_known}
 use Rattle.vs_four.specs.Numbers.{integer}
 use Rattle.vs_four.specs.Selects.{Part, range_length, below, places}
 use Rattle.vs_design.proofs.Places.{first_place, places_from, places_are}
-use Rattle.vs_design.specs.Expressions.{Signal, signal_length, Expression, width, sign, is_constant}
-use Rattle.vs_design.specs.Values.{count_from, bits_of_signal, own_value, constant_value, assigned_value}
-use Rattle.vs_design.specs.Statements.{Target, Whole, PartOf, Both, target_width}
+use Rattle.vs_design.specs.Expressions.{Signal, signal_length, word_length, Expression, width, sign, is_constant}
+use Rattle.vs_design.specs.Values.{bits_of_signal, word_places, own_value, constant_value, assigned_value}
+use Rattle.vs_design.specs.Statements.{Target, Whole, PartOf, WordOf, Both, target_width}
 use Rattle.vs_design.specs.Bodies.{bits_at, pair_up, target_writes, last_of_each, assignment_writes}
-use Rattle.vs_design.specs.Footprints.{contains, somes, selected_bits, target_bits, target_reads}
+use Rattle.vs_design.specs.Footprints.{contains, somes, selected_bits, addressed_bits, target_bits, target_reads}
 use Rattle.vs_design.specs.Latches.{assigns}
 use Rattle.vs_design.specs.Fits.{fits_target, fits_64, is_fit}
 use Rattle.vs_design.specs.TreeLaws.{Agree}
 use Rattle.vs_design.proofs.Lists.{by_test, or_left, or_right, and_both, contains-append, contains-left, contains-right, agree-left, agree-right}
 use Rattle.vs_design.proofs.ReadValue.{value_reads, constant_agree}
+use Rattle.vs_design.proofs.Words.{in_count, no_places, long_word, word_within, addressed_constant, addressed_variable}
 use Rattle.vs_design.proofs.Lengths.{length_places, length_count, length_assigned}
 
 pub either_way : (b : Bool) → b ≡ true → b ≡ false → ⊥
@@ -50,11 +51,6 @@ pub somes_all : (bs : List ℕ) → somes (map Some bs) ≡ bs
 somes_all [] = refl
 somes_all (b ∷ bs) = ap {B = List ℕ} (λ r. b ∷ r) (somes_all bs)
 
-pub in_count : (len f n k : ℕ) → k ≡ f + n → n < len → contains (count_from f len) k ≡ true
-in_count zero f n k e h = absurd (omega arith)
-in_count (suc len) f zero k e h = or_left (k == f) (contains (count_from (suc f) len) k) (eq-eqb k f (omega arith))
-in_count (suc len) f (suc n) k e h = or_right (k == f) (contains (count_from (suc f) len) k) (in_count len (suc f) n k (omega arith) (omega arith))
-
 -- places are below the length
 in_range_bits : (signal : Signal) (len : ℕ) (z : ℤ) (rest : List (Option ℕ)) (b : ℕ) → len ≡ signal_length signal
     → (contains (somes (bits_at signal rest)) b ≡ true → contains (bits_of_signal signal) b ≡ true)
@@ -76,10 +72,6 @@ places_bits : (signal : Signal) (len n : ℕ) (z : ℤ) (b : ℕ) → len ≡ si
 places_bits signal len zero z b e h = absurd (either_way _ h refl)
 places_bits signal len (suc n) z b e h = in_range_bits signal len z (places_from len (z +ℤ pos 1) n) b e (λ k. places_bits signal len n (z +ℤ pos 1) b e k) h
 
-no_places : (signal : Signal) (n b : ℕ) → contains (somes (bits_at signal (replicate n None))) b ≡ false
-no_places signal zero b = refl
-no_places signal (suc n) b = no_places signal n b
-
 -- whatever the index, a part's bits are the signal's
 pub part_bits : (signal : Signal) (part : Part) (g : Bool) (index : BitList) (b : ℕ) → range_length part.range ≡ signal_length signal → contains (somes (bits_at signal (places part g index))) b ≡ true → contains (bits_of_signal signal) b ≡ true
 part_bits signal part g index b e h = go (subst (λ (ps : List (Option ℕ)). contains (somes (bits_at signal ps)) b ≡ true) (places_are part g index) h)
@@ -97,6 +89,9 @@ pub written_part : (signal : Signal) (part : Part) (index : Expression) (v : Bit
 written_part signal part index v s b h =
     written_pairs (bits_at signal (places part (sign index) (own_value index s))) v b (length-map (places part (sign index) (own_value index s)) (λ p. option_map (λ n. signal.first + n) p) ∙ length_places part (sign index) (own_value index s) ∙ sym h)
 
+pub written_word : (signal : Signal) (index : Expression) (v : BitList) (s : State) (b : ℕ) → length v ≡ word_length signal → is_written (target_writes (WordOf signal index) v s) b ≡ contains (somes (bits_at signal (word_places signal (sign index) (own_value index s)))) b
+written_word signal index v s b h = written_pairs (bits_at signal (word_places signal (sign index) (own_value index s))) v b (long_word signal (sign index) (own_value index s) ∙ sym h)
+
 -- an assignment writes bits of its target alone
 pub target_within : (t : Target) (v : BitList) (s : State) (b : ℕ) → fits_target t ≡ true → length v ≡ target_width t → is_written (target_writes t v s) b ≡ true → contains (target_bits t) b ≡ true
 target_within (Whole signal) v s b f h k =
@@ -107,6 +102,11 @@ target_within (PartOf signal part index) v s b f h k =
     by_test (is_constant index)
     (λ e. subst (λ (c : Bool). contains (if c then somes (bits_at signal (places part (sign index) (constant_value index))) else bits_of_signal signal) b ≡ true) (sym e) (subst (λ (x : BitList). contains (somes (bits_at signal (places part (sign index) x))) b ≡ true) (constant_index index s e) w))
     (λ e. subst (λ (c : Bool). contains (if c then somes (bits_at signal (places part (sign index) (constant_value index))) else bits_of_signal signal) b ≡ true) (sym e) (part_bits signal part (sign index) (own_value index s) b (eqb-true _ _ r.1) w))
+target_within (WordOf signal index) v s b f h k =
+    let w : contains (somes (bits_at signal (word_places signal (sign index) (own_value index s)))) b ≡ true = sym (written_word signal index v s b h) ∙ k in
+    by_test (is_constant index)
+    (λ e. subst (λ xs. contains xs b ≡ true) (sym (addressed_constant signal index e)) (subst (λ (x : BitList). contains (somes (bits_at signal (word_places signal (sign index) x))) b ≡ true) (constant_index index s e) w))
+    (λ e. subst (λ xs. contains xs b ≡ true) (sym (addressed_variable signal index e)) (word_within signal (sign index) (own_value index s) b w))
 target_within (Both high low) v s b f h k =
     let fs = and_both (fits_64 (target_width high + target_width low) && fits_target high) (fits_target low) f in
     let fh = and_both (fits_64 (target_width high + target_width low)) (fits_target high) fs.0 in
@@ -128,13 +128,20 @@ target_assigns (PartOf signal part index) v s b h k =
     let k2 : contains (somes (bits_at signal (places part (sign index) (constant_value index)))) b ≡ true = subst (λ (c : Bool). contains (if c then somes (bits_at signal (places part (sign index) (constant_value index))) else bits_of_signal signal) b ≡ true) e k' in
     written_part signal part index v s b h ∙ subst (λ (x : BitList). contains (somes (bits_at signal (places part (sign index) x))) b ≡ true) (sym (constant_index index s e)) k2)
     (λ e. absurd (either_way _ (subst (λ (c : Bool). contains (if c then selected_bits signal part index else []) b ≡ true) e k) refl))
+target_assigns (WordOf signal index) v s b h k =
+    by_test (is_constant index)
+    (λ e.
+    let k' : contains (addressed_bits signal index) b ≡ true = subst (λ (c : Bool). contains (if c then addressed_bits signal index else []) b ≡ true) e k in
+    written_word signal index v s b h
+    ∙ subst (λ (x : BitList). contains (somes (bits_at signal (word_places signal (sign index) x))) b ≡ true) (sym (constant_index index s e)) (subst (λ xs. contains xs b ≡ true) (addressed_constant signal index e) k'))
+    (λ e. absurd (either_way (contains [] b) (subst (λ (c : Bool). contains (if c then addressed_bits signal index else []) b ≡ true) e k) refl))
 target_assigns (Both high low) v s b h k =
     let dl = length-drop (target_width low) v in
     let tl = length-take (target_width low) v in
     written-append (target_writes high (drop (target_width low) v) s) (target_writes low (take (target_width low) v) s) b
     ∙ by_test (contains (assigns high) b)
-    (λ e. or_left _ _ (target_assigns high (drop (target_width low) v) s b (omega (arith, dl)) e))
-    (λ e. or_right _ _ (target_assigns low (take (target_width low) v) s b (omega (arith, tl)) (subst (λ c. (c || contains (assigns low) b) ≡ true) e (sym (contains-append (assigns high) (assigns low) b) ∙ k))))
+    (λ e. or_left (is_written (target_writes high (drop (target_width low) v) s) b) (is_written (target_writes low (take (target_width low) v) s) b) (target_assigns high (drop (target_width low) v) s b (omega (arith, dl)) e))
+    (λ e. or_right (is_written (target_writes high (drop (target_width low) v) s) b) (is_written (target_writes low (take (target_width low) v) s) b) (target_assigns low (take (target_width low) v) s b (omega (arith, tl)) (subst (λ c. (c || contains (assigns low) b) ≡ true) e (sym (contains-append (assigns high) (assigns low) b) ∙ k))))
 
 pub assignment_within : (t : Target) (e : Expression) (s : State) (b : ℕ) → fits_target t ≡ true → is_written (assignment_writes t e s) b ≡ true → contains (target_bits t) b ≡ true
 assignment_within t e s b f h = target_within t (assigned_value e (target_width t) s) s b f (length_assigned e (target_width t) s) (sym (written_last (target_writes t (assigned_value e (target_width t) s) s) b) ∙ h)
@@ -146,6 +153,7 @@ assignment_assigns t e s b h = written_last (target_writes t (assigned_value e (
 pub target_reads_law : (g : Target) (v : BitList) (s t : State) → Agree (target_reads g) s t → target_writes g v s ≡ target_writes g v t
 target_reads_law (Whole signal) v s t h = refl
 target_reads_law (PartOf signal part index) v s t h = ap {B = List Write} (λ i. pair_up (bits_at signal (places part (sign index) i)) v) (value_reads index (width index) (sign index) s t h)
+target_reads_law (WordOf signal index) v s t h = ap {B = List Write} (λ i. pair_up (bits_at signal (word_places signal (sign index) i)) v) (value_reads index (width index) (sign index) s t h)
 target_reads_law (Both high low) v s t h =
     ap {B = List Write} (λ ws. ws ++ target_writes low (take (target_width low) v) s) (target_reads_law high (drop (target_width low) v) s t (agree-left (target_reads high) (target_reads low) s t h))
     ∙ ap {B = List Write} (λ ws. target_writes high (drop (target_width low) v) t ++ ws) (target_reads_law low (take (target_width low) v) s t (agree-right (target_reads high) (target_reads low) s t h))

@@ -6,7 +6,7 @@ use Rattle.vs_design.specs.Designs.{Design}
 use Rattle.vs_design.specs.Fits.{fits_process}
 use Rattle.vs_design.specs.Elaborated.{IsLawfulDesign}
 use Rattle.vs_design.specs.Sizes.{size}
-use Rattle.vs_design.specs.Rules.{mixed_assigns, missing_bits, latches, shared_bits}
+use Rattle.vs_design.specs.Rules.{function_latches, mixed_assigns, missing_bits, latches, shared_bits}
 use Rattle.vs_design.specs.Clocks.{clock_input, clock_nets, root_of, reads_clock, has_other_clock}
 use Rattle.vs_design.specs.Resets.{has_other_form}
 use Rattle.vs_design.specs.Levels.{level_order, has_no_cycle}
@@ -24,6 +24,8 @@ pub record IsAcceptedDesign (d : Design) (name : List ℕ) : Type 0 where
   pub fit : list_all fits_process d.processes ≡ true
   -- TooLarge
   pub small : size d ≤ 16777216
+  -- FunctionLatch
+  pub no_function_latch : is_empty (function_latches d.functions) ≡ true
   -- MixedAssign
   pub unmixed : list_all (λ p. is_empty (mixed_assigns p)) d.processes ≡ true
   -- Sensitivity

@@ -5,7 +5,7 @@ pub use Rattle.vs_base.specs.declared.events.Edge.{Edge}
 pub use Rattle.vs_base.specs.declared.events.Edge.TheVariants.{Any, Posedge, Negedge}
 pub use Rattle.vs_base.specs.Events.{is_edge}
 use Rattle.vs_design.specs.Expressions.{Signal, signal_length, Expression}
-use Rattle.vs_design.specs.Statements.{Target, Statement}
+use Rattle.vs_design.specs.Statements.{Target, Statement, Function}
 
 -- an instance (12.1.2) or a generate block (12.4); the top has no parent
 pub record Scope : Type 0 where
@@ -32,6 +32,8 @@ pub record Design : Type 0 where
   pub scopes : List Scope
   pub signals : List Signal
   pub processes : List Process
+  -- those that are declared, whether or not they are called
+  pub functions : List Function
 
 abbrev pub has_edge : Event → Bool
 has_edge e = is_edge e.edge

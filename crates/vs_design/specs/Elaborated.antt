@@ -3,11 +3,12 @@ use Rattle.std.specs.Prelude.{◌≡◌, ℕ, suc, ◌+◌, ◌≤◌, Bool, tru
 use Rattle.std.specs.List.{list_all}
 use Rattle.vs_four.specs.declared.Range.{Range}
 use Rattle.vs_four.specs.Selects.{range_length, Part}
-use Rattle.vs_design.specs.Expressions.{Signal, signal_length, Source, OfSignal, OfConstant, Expression, Literal, Name, Select, Unary, Binary, Choice, Join, Repeat, At, is_constant}
-use Rattle.vs_design.specs.Statements.{Target, Whole, PartOf, Both, Statement, Empty, Assignment, Then, If, Case, Arms, Arm, Default}
-use Rattle.vs_design.specs.Designs.{Scope, Event, is_edge, Port, Written, InputPort, OutputPort, Process, Continuous, Always, Design, bit_count}
-use Rattle.vs_design.specs.Footprints.{is_net, is_variable}
+use Rattle.vs_design.specs.Expressions.{Signal, signal_length, Source, OfSignal, OfConstant, Expression, Literal, Name, Select, Word, Unary, Binary, Choice, Join, Repeat, At, Call, Items, NoItem, Item, Header, local_signals, is_constant}
+use Rattle.vs_design.specs.Statements.{Target, Whole, PartOf, WordOf, Both, Statement, Empty, Assignment, Then, If, Case, Arms, Arm, Default, Function}
+use Rattle.vs_design.specs.Designs.{Scope, Event, is_edge, is_clocked, Port, Written, InputPort, OutputPort, Process, Continuous, Always, Design, bit_count}
+use Rattle.vs_design.specs.Footprints.{is_input, is_net, is_variable, is_memory}
 use Rattle.vs_design.specs.Fits.{fits_64}
+use Rattle.vs_design.specs.Rules.{mixed_in}
 use Rattle.vs_design.specs.Clocks.{same_name, name_of}
 
 -- ---- scopes and signals
@@ -54,6 +55,15 @@ is_lawful_range (Some r) = nat_le r.left 65535 && nat_le r.right 65535 && nat_le
 abbrev pub is_declared : Design → Signal → Bool
 is_declared d s = nat_lt s.scope (length d.scopes) && is_lawful_range s.range && (not s.input || (s.net && (s.scope == 0)))
 
+-- a memory has up to 1,024 words, by addresses of at most 65,535 (4.9)
+abbrev pub are_lawful_words : Option Range → Bool
+are_lawful_words None = true
+are_lawful_words (Some r) = nat_le r.right r.left && nat_le r.left 65535 && nat_le (range_length r) 1024
+
+-- and is a variable
+abbrev pub is_lawful_memory : Signal → Bool
+is_lawful_memory s = are_lawful_words s.words && (not (is_memory s) || is_variable s)
+
 abbrev pub same_range : Option Range → Option Range → Bool
 same_range None None = true
 same_range (Some r) (Some s) = (r.left == s.left) && (r.right == s.right)
@@ -65,7 +75,7 @@ same_flag false b = not b
 
 abbrev pub same_signal : Signal → Signal → Bool
 same_signal s t =
-    same_name s.name t.name && (s.scope == t.scope) && (s.number == t.number) && same_flag s.net t.net && same_flag s.input t.input && same_range s.range t.range && same_flag s.signed t.signed && (s.first == t.first)
+    same_name s.name t.name && (s.scope == t.scope) && (s.number == t.number) && same_flag s.net t.net && same_flag s.input t.input && same_range s.range t.range && same_flag s.signed t.signed && (s.first == t.first) && same_range s.words t.words
 
 abbrev pub is_this : Signal → Option Signal → Bool
 is_this s (Some t) = same_signal s t
@@ -75,38 +85,78 @@ is_this s None = false
 abbrev pub is_signal : Design → Signal → Bool
 is_signal d s = is_this s (slice_get d.signals s.number)
 
+-- one that isn't a memory, and one that is
+abbrev pub is_plain : Design → Signal → Bool
+is_plain d s = is_signal d s && not (is_memory s)
+
+abbrev pub has_words : Design → Signal → Bool
+has_words d s = is_signal d s && is_memory s
+
 -- ---- expressions, targets and statements
 
 -- a select has 1 to 64 bits, and the declared range of its signal or of its parameter; that of a parameter has as many bits as its value
 abbrev pub is_formed_select : Design → Source → Part → Bool
-is_formed_select d (OfSignal signal) part = is_signal d signal && same_range signal.range (Some part.range) && fits_64 part.width
+is_formed_select d (OfSignal signal) part = is_plain d signal && same_range signal.range (Some part.range) && fits_64 part.width
 is_formed_select d (OfConstant bits) part = is_lawful_range (Some part.range) && (range_length part.range == length bits) && fits_64 part.width
-
--- a literal has 1 to 64 bits, and 32 where no size was given (3.5.1); a replication has a count from 1 to 64
-abbrev pub is_formed : Design → Expression → Bool
-is_formed d (Literal bits signed sized) = fits_64 (length bits) && (sized || (length bits == 32))
-is_formed d (Name signal) = is_signal d signal
-is_formed d (Select source part index) = is_formed_select d source part && is_formed d index
-is_formed d (Unary op a) = is_formed d a
-is_formed d (Binary op a b) = is_formed d a && is_formed d b
-is_formed d (Choice c p q) = is_formed d c && is_formed d p && is_formed d q
-is_formed d (Join high low) = is_formed d high && is_formed d low
-is_formed d (Repeat count a) = fits_64 count && is_formed d a
-is_formed d (At place e) = is_formed d e
-
--- a target that writes signals of this kind alone
-abbrev pub is_formed_target : Design → (Signal → Bool) → Target → Bool
-is_formed_target d allowed (Whole signal) = is_signal d signal && allowed signal
-is_formed_target d allowed (PartOf signal part index) = is_formed_select d (OfSignal signal) part && allowed signal && is_formed d index
-is_formed_target d allowed (Both high low) = is_formed_target d allowed high && is_formed_target d allowed low
 
 abbrev pub has_constant_selects : Target → Bool
 has_constant_selects (Whole signal) = true
 has_constant_selects (PartOf signal part index) = is_constant index
+has_constant_selects (WordOf signal index) = is_constant index
 has_constant_selects (Both high low) = has_constant_selects high && has_constant_selects low
 
--- a block writes variables (table 6-1)
+-- a local signal of a function is of the function's scope, and no net and no memory
+abbrev pub is_local : Design → Header → Signal → Bool
+is_local d h s = (s.scope == h.result.scope) && nat_lt s.scope (length d.scopes) && is_lawful_range s.range && not s.net && not (is_memory s)
+
+-- a function has an input (10.4.1), and its local signals have numbers and bits of their own
+abbrev pub is_formed_header : Design → Header → Bool
+is_formed_header d h = not (is_nil h.inputs) && are_numbered 0 0 (local_signals h) && have_bits_from 0 (local_signals h) && list_all (is_local d h) (local_signals h) && list_all is_input h.inputs && list_all is_variable (h.result ∷ h.own)
+
+-- what names mean in a function: its local signals
+abbrev pub inside : Design → Header → Design
+inside d h = record { scopes = d.scopes; signals = local_signals h; processes = []; functions = [] }
+
+abbrev pub has_items : Items → Bool
+has_items NoItem = false
+has_items (Item e es) = true
+
+-- there are as many arguments as inputs
+abbrev pub are_as_many : Items → List Signal → Bool
+are_as_many NoItem [] = true
+are_as_many NoItem (input ∷ inputs) = false
+are_as_many (Item e es) [] = false
+are_as_many (Item e es) (input ∷ inputs) = are_as_many es inputs
+
 abbrev mutual
+  -- a literal has 1 to 64 bits, and 32 where no size was given (3.5.1); a replication has a count from 1 to 64
+  pub is_formed : Design → Expression → Bool
+  is_formed d (Literal bits signed sized) = fits_64 (length bits) && (sized || (length bits == 32))
+  is_formed d (Name signal) = is_plain d signal
+  is_formed d (Select source part index) = is_formed_select d source part && is_formed d index
+  is_formed d (Word signal index) = has_words d signal && is_formed d index
+  is_formed d (Unary op a) = is_formed d a
+  is_formed d (Binary op a b) = is_formed d a && is_formed d b
+  is_formed d (Choice c p q) = is_formed d c && is_formed d p && is_formed d q
+  is_formed d (Join high low) = is_formed d high && is_formed d low
+  is_formed d (Repeat count a) = fits_64 count && is_formed d a
+  is_formed d (At place e) = is_formed d e
+  -- a function writes its result and its own variables alone, by blocking assignments (10.4.4)
+  is_formed d (Call header statement arguments) =
+      is_formed_header d header && is_nil (mixed_in false statement) && is_formed_statement (inside d header) statement && are_as_many arguments header.inputs && are_formed d arguments
+
+  pub are_formed : Design → Items → Bool
+  are_formed d NoItem = true
+  are_formed d (Item e es) = is_formed d e && are_formed d es
+
+  -- a target that writes signals of this kind alone
+  pub is_formed_target : Design → (Signal → Bool) → Target → Bool
+  is_formed_target d allowed (Whole signal) = is_plain d signal && allowed signal
+  is_formed_target d allowed (PartOf signal part index) = is_formed_select d (OfSignal signal) part && allowed signal && is_formed d index
+  is_formed_target d allowed (WordOf signal index) = has_words d signal && allowed signal && is_formed d index
+  is_formed_target d allowed (Both high low) = is_formed_target d allowed high && is_formed_target d allowed low
+
+  -- a block writes variables (table 6-1)
   pub is_formed_statement : Design → Statement → Bool
   is_formed_statement d Empty = true
   is_formed_statement d (Assignment place target e blocking) = is_formed_target d is_variable target && is_formed d e
@@ -115,14 +165,35 @@ abbrev mutual
   is_formed_statement d (Case kind subject arms) = is_formed d subject && are_formed_arms d arms
 
   pub are_formed_arms : Design → Arms → Bool
-  are_formed_arms d (Arm items statement rest) = not (is_nil items) && list_all (is_formed d) items && is_formed_statement d statement && are_formed_arms d rest
+  are_formed_arms d (Arm items statement rest) = has_items items && are_formed d items && is_formed_statement d statement && are_formed_arms d rest
   are_formed_arms d (Default statement) = is_formed_statement d statement
+
+abbrev pub is_formed_function : Design → Function → Bool
+is_formed_function d f = is_formed_header d f.header && is_nil (mixed_in false f.statement) && is_formed_statement (inside d f.header) f.statement
+
+-- no target in it is a word of a memory
+abbrev pub is_wordless : Target → Bool
+is_wordless (WordOf signal index) = false
+is_wordless (Both high low) = is_wordless high && is_wordless low
+is_wordless _ = true
+
+abbrev mutual
+  pub writes_no_word : Statement → Bool
+  writes_no_word Empty = true
+  writes_no_word (Assignment place target e blocking) = is_wordless target
+  writes_no_word (Then first rest) = writes_no_word first && writes_no_word rest
+  writes_no_word (If c taken other) = writes_no_word taken && writes_no_word other
+  writes_no_word (Case kind subject arms) = arms_write_no_word arms
+
+  pub arms_write_no_word : Arms → Bool
+  arms_write_no_word (Arm items statement rest) = writes_no_word statement && arms_write_no_word rest
+  arms_write_no_word (Default statement) = writes_no_word statement
 
 -- ---- processes
 
--- an edge is one of a scalar
+-- an event is no memory's, and an edge is one of a scalar
 abbrev pub is_formed_event : Design → Event → Bool
-is_formed_event d e = is_signal d e.signal && (not (is_edge e.edge) || is_none e.signal.range)
+is_formed_event d e = is_plain d e.signal && (not (is_edge e.edge) || is_none e.signal.range)
 
 abbrev pub are_formed_events : Design → Bool → List Event → Bool
 are_formed_events d true events = is_nil events
@@ -143,11 +214,19 @@ abbrev pub is_formed_process : Design → Process → Bool
 is_formed_process d (Continuous place port target_place target e) = is_formed_target d is_net target && has_constant_selects target && is_formed d e && is_formed_port port target e
 is_formed_process d (Always place star events statement) = are_formed_events d star events && is_formed_statement d statement
 
+-- a clocked block alone writes words of memories
+abbrev pub has_clocked_words : Process → Bool
+has_clocked_words (Continuous place port target_place target e) = true
+has_clocked_words (Always place star events statement) = is_clocked (Always place star events statement) || writes_no_word statement
+
 pub record IsLawfulDesign (d : Design) : Type 0 where
   pub scopes : are_scopes d.scopes ≡ true
   pub numbered : are_numbered 0 0 d.signals ≡ true
   pub bits_numbered : have_bits_from 0 d.signals ≡ true
   pub declared : list_all (is_declared d) d.signals ≡ true
+  pub memories : list_all is_lawful_memory d.signals ≡ true
   pub formed : list_all (is_formed_process d) d.processes ≡ true
+  pub functions : list_all (is_formed_function d) d.functions ≡ true
+  pub clocked_words : list_all has_clocked_words d.processes ≡ true
   pub few_bits : bit_count d ≤ 1048576
   pub few_processes : length d.processes ≤ 65536

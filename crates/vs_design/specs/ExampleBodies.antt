@@ -4,7 +4,7 @@ use Rattle.vs_four.specs.declared.Bit4.{Bit4}
 use Rattle.vs_four.specs.declared.Bit4.TheVariants.{Zero, One, X, Z}
 use Rattle.vs_four.specs.Selects.{Part, one_bit}
 use Rattle.vs_net.specs.Network.{State, Write, write_all}
-use Rattle.vs_design.specs.Expressions.{Signal, Expression, Name}
+use Rattle.vs_design.specs.Expressions.{Signal, Expression, Name, items_of}
 use Rattle.vs_design.specs.Statements.{Whole, PartOf, Both, CaseKind, Exact, CaseZ, CaseX, Empty, Assignment, Then, If, Case, Arm, Default}
 use Rattle.vs_design.specs.Bodies.{body}
 use Rattle.vs_design.specs.Footprints.{reads_of, writes_of, waits_of}
@@ -32,7 +32,7 @@ w_wide = wire_of (codes "v") 4 (to_zero 3) 7
 
 -- 1 where the item matches, and else 0
 abbrev pub matched : CaseKind → Expression → Expression → Bit4
-matched kind subject item = write_all all_unknown (body (Case kind subject (Arm (item ∷ []) (blocking 0 y (dec 1 1)) (Default (blocking 0 y (dec 1 0))))) all_unknown).writes 0
+matched kind subject item = write_all all_unknown (body (Case kind subject (Arm (items_of (item ∷ [])) (blocking 0 y (dec 1 1)) (Default (blocking 0 y (dec 1 0))))) all_unknown).writes 0
 
 -- the writes of `2'b11` to a part of q
 abbrev pub into : Part → Expression → List Write

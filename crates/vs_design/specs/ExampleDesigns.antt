@@ -107,33 +107,35 @@ quiet = design_of (clk_signal ∷ d1 ∷ q2 ∷ y3 ∷ []) (on_posedge 60 clk_si
 
 -- `inv g(a, y);` of `module inv(input p, output q); assign q = ~p; endmodule`
 abbrev pub p3_inner : Signal
-p3_inner = record { name = codes "p"; scope = 1; number = 3; net = true; input = false; range = None; signed = false; first = 3 }
+p3_inner = record { name = codes "p"; scope = 1; number = 3; net = true; input = false; range = None; signed = false; first = 3; words = None }
 
 abbrev pub q4_inner : Signal
-q4_inner = record { name = codes "q"; scope = 1; number = 4; net = true; input = false; range = None; signed = false; first = 4 }
+q4_inner = record { name = codes "q"; scope = 1; number = 4; net = true; input = false; range = None; signed = false; first = 4; words = None }
 
 abbrev pub port : Design
 port = record {
   scopes = top_scope ∷ record { name = codes "g"; parent = Some 0; instance = true } ∷ [];
   signals = clk_signal ∷ a1 ∷ y2_net ∷ p3_inner ∷ q4_inner ∷ [];
   processes = Continuous 100 InputPort 100 (Whole p3_inner) (Name a1) ∷ Continuous 100 OutputPort 109 (Whole y2_net) (Name q4_inner) ∷ assign 36 (Whole q4_inner) (Unary BitNot (Name p3_inner)) ∷ [];
+  functions = [];
 }
 
 -- `reg1 r((clk), d, y);` of `module reg1(input c, input d, output reg q); always @(posedge c) q <= d; endmodule`: its net c is a clock net
 abbrev pub c3_inner : Signal
-c3_inner = record { name = codes "c"; scope = 1; number = 3; net = true; input = false; range = None; signed = false; first = 3 }
+c3_inner = record { name = codes "c"; scope = 1; number = 3; net = true; input = false; range = None; signed = false; first = 3; words = None }
 
 abbrev pub d4_inner : Signal
-d4_inner = record { name = codes "d"; scope = 1; number = 4; net = true; input = false; range = None; signed = false; first = 4 }
+d4_inner = record { name = codes "d"; scope = 1; number = 4; net = true; input = false; range = None; signed = false; first = 4; words = None }
 
 abbrev pub q5_inner : Signal
-q5_inner = record { name = codes "q"; scope = 1; number = 5; net = false; input = false; range = None; signed = false; first = 5 }
+q5_inner = record { name = codes "q"; scope = 1; number = 5; net = false; input = false; range = None; signed = false; first = 5; words = None }
 
 abbrev pub clocked_instance : Design
 clocked_instance = record {
   scopes = top_scope ∷ record { name = codes "r"; parent = Some 0; instance = true } ∷ [];
   signals = clk_signal ∷ d1 ∷ y2_net ∷ c3_inner ∷ d4_inner ∷ q5_inner ∷ [];
   processes = Continuous 130 InputPort 130 (Whole c3_inner) (At 138 (At 139 (Name clk_signal))) ∷ Continuous 130 InputPort 130 (Whole d4_inner) (Name d1) ∷ Continuous 130 OutputPort 145 (Whole y2_net) (Name q5_inner) ∷ on_posedge 47 c3_inner (nonblocking 67 q5_inner (Name d4_inner)) ∷ [];
+  functions = [];
 }
 
 abbrev pub a_wide : Signal
@@ -210,16 +212,16 @@ abbrev pub y3_output : Signal
 y3_output = wire_of (codes "y") 3 None 3
 
 abbrev pub c4_leaf : Signal
-c4_leaf = record { name = codes "clk"; scope = 1; number = 4; net = true; input = false; range = None; signed = false; first = 4 }
+c4_leaf = record { name = codes "clk"; scope = 1; number = 4; net = true; input = false; range = None; signed = false; first = 4; words = None }
 
 abbrev pub r5_leaf : Signal
-r5_leaf = record { name = codes "r"; scope = 1; number = 5; net = true; input = false; range = None; signed = false; first = 5 }
+r5_leaf = record { name = codes "r"; scope = 1; number = 5; net = true; input = false; range = None; signed = false; first = 5; words = None }
 
 abbrev pub d6_leaf : Signal
-d6_leaf = record { name = codes "d"; scope = 1; number = 6; net = true; input = false; range = None; signed = false; first = 6 }
+d6_leaf = record { name = codes "d"; scope = 1; number = 6; net = true; input = false; range = None; signed = false; first = 6; words = None }
 
 abbrev pub q7_leaf : Signal
-q7_leaf = record { name = codes "q"; scope = 1; number = 7; net = false; input = false; range = None; signed = false; first = 7 }
+q7_leaf = record { name = codes "q"; scope = 1; number = 7; net = false; input = false; range = None; signed = false; first = 7; words = None }
 
 abbrev pub reset_through_port : Design
 reset_through_port = record {
@@ -228,6 +230,7 @@ reset_through_port = record {
   processes =
       Continuous 130 InputPort 130 (Whole c4_leaf) (Name clk_signal) ∷ Continuous 130 InputPort 130 (Whole r5_leaf) (At 133 (Name r1)) ∷ Continuous 130 InputPort 130 (Whole d6_leaf) (Name d2_input) ∷ Continuous 130 OutputPort 145 (Whole y3_output) (Name q7_leaf)
       ∷ Always 47 false (record { signal = r5_leaf; edge = Negedge } ∷ record { signal = c4_leaf; edge = Posedge } ∷ []) (If (Unary LogicalNot (Name r5_leaf)) (nonblocking 67 q7_leaf (dec 1 1)) (nonblocking 80 q7_leaf (Name d6_leaf))) ∷ [];
+  functions = [];
 }
 
 pub record DesignsComputed : Type 0 where

@@ -18,13 +18,13 @@ use Rattle.vs_design.specs.Networks.{network_of}
 -- ---- signals of the top, by number and first bit
 
 abbrev pub input_of : List ℕ → ℕ → Option Range → ℕ → Signal
-input_of name number range first = record { name = name; scope = 0; number = number; net = true; input = true; range = range; signed = false; first = first }
+input_of name number range first = record { name = name; scope = 0; number = number; net = true; input = true; range = range; signed = false; first = first; words = None }
 
 abbrev pub wire_of : List ℕ → ℕ → Option Range → ℕ → Signal
-wire_of name number range first = record { name = name; scope = 0; number = number; net = true; input = false; range = range; signed = false; first = first }
+wire_of name number range first = record { name = name; scope = 0; number = number; net = true; input = false; range = range; signed = false; first = first; words = None }
 
 abbrev pub reg_of : List ℕ → ℕ → Option Range → ℕ → Signal
-reg_of name number range first = record { name = name; scope = 0; number = number; net = false; input = false; range = range; signed = false; first = first }
+reg_of name number range first = record { name = name; scope = 0; number = number; net = false; input = false; range = range; signed = false; first = first; words = None }
 
 -- `[left:right]`
 abbrev pub range_of : ℕ → ℕ → Range
@@ -89,7 +89,7 @@ abbrev pub top_scope : Scope
 top_scope = record { name = codes "top"; parent = None; instance = true }
 
 abbrev pub design_of : List Signal → List Process → Design
-design_of signals processes = record { scopes = top_scope ∷ []; signals = signals; processes = processes }
+design_of signals processes = record { scopes = top_scope ∷ []; signals = signals; processes = processes; functions = [] }
 
 -- ---- waveforms
 

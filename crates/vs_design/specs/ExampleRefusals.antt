@@ -1,6 +1,6 @@
 -- Worked designs that are refused, and with what.
 use Rattle.std.specs.Prelude.{◌≡◌, false, List, [], ◌∷◌, None, Some, codes, replicate}
-use Rattle.vs_design.specs.Expressions.{Signal, BitNot, Multiply, Divide, BitAnd, BitOr, Name, Unary, Binary, Join, At}
+use Rattle.vs_design.specs.Expressions.{Signal, BitNot, Multiply, Divide, BitAnd, BitOr, Name, Unary, Binary, Join, At, items_of}
 use Rattle.vs_design.specs.Statements.{Whole, Both, Statement, Exact, Empty, If, Then, Case, Arm, Default}
 use Rattle.vs_design.specs.Designs.{Any, Posedge, Always, Process, Design}
 use Rattle.vs_design.specs.Levels.{has_no_cycle}
@@ -102,7 +102,7 @@ abbrev pub lesser_block : Design
 lesser_block = blocks (on_star 0 (If (Name a1) (blocking 20 y3 (Name b2)) Empty) ∷ on_star 40 (nonblocking 50 y3 (Name a1)) ∷ [])
 
 abbrev pub first_in_text : Design
-first_in_text = blocks (on_star 0 (Case Exact (Name a1) (Arm (dec 1 1 ∷ []) (nonblocking 30 y3 (Name b2)) (Default (nonblocking 20 y3 (Name a1))))) ∷ [])
+first_in_text = blocks (on_star 0 (Case Exact (Name a1) (Arm (items_of (dec 1 1 ∷ [])) (nonblocking 30 y3 (Name b2)) (Default (nonblocking 20 y3 (Name a1))))) ∷ [])
 
 pub record RefusalsComputed : Type 0 where
   -- 1,024 products of 64 bits are too large

@@ -2,7 +2,7 @@
 use Rattle.std.specs.Prelude.{◌≡◌, true, [], ◌∷◌, None, codes}
 use Rattle.vs_four.specs.declared.Bit4.TheVariants.{Zero, One, X, Z}
 use Rattle.vs_four.specs.Selects.{one_bit}
-use Rattle.vs_design.specs.Expressions.{Signal, OfConstant, Add, Divide, BitAnd, CaseEqual, ShiftLeft, Name, Select, Binary, Choice}
+use Rattle.vs_design.specs.Expressions.{Signal, OfConstant, Add, Divide, BitAnd, CaseEqual, ShiftLeft, Name, Select, Binary, Choice, items_of}
 use Rattle.vs_design.specs.Statements.{PartOf, Exact, Assignment, If, Case, Arm, Default}
 use Rattle.vs_design.specs.Sets.{Set4, only, known_set, any_result, any_value, union}
 use Rattle.vs_design.specs.Lifted.{Family, own_sets}
@@ -64,7 +64,7 @@ pub record SetsComputed : Type 0 where
   -- an `if` too, and an arm whose item surely matches ends a case
   pub if_both : lifted_body (If (Name scalar) (blocking 0 target (dec 1 1)) (blocking 0 target (lit (Z ∷ [])))) known_family 6 ≡ union (only One) (only Z)
   pub if_other : lifted_body (If (lit (X ∷ [])) (blocking 0 target (dec 1 1)) (blocking 0 target (lit (Z ∷ [])))) known_family 6 ≡ only Z
-  pub case_ends : lifted_body (Case Exact (dec 1 1) (Arm (dec 1 1 ∷ []) (blocking 0 target (dec 1 1)) (Default (blocking 0 target (dec 1 0))))) known_family 6 ≡ only One
-  pub case_open : lifted_body (Case Exact (Name scalar) (Arm (dec 1 1 ∷ []) (blocking 0 target (dec 1 1)) (Default (blocking 0 target (lit (Z ∷ [])))))) known_family 6 ≡ union (only One) (only Z)
+  pub case_ends : lifted_body (Case Exact (dec 1 1) (Arm (items_of (dec 1 1 ∷ [])) (blocking 0 target (dec 1 1)) (Default (blocking 0 target (dec 1 0))))) known_family 6 ≡ only One
+  pub case_open : lifted_body (Case Exact (Name scalar) (Arm (items_of (dec 1 1 ∷ [])) (blocking 0 target (dec 1 1)) (Default (blocking 0 target (lit (Z ∷ [])))))) known_family 6 ≡ union (only One) (only Z)
   -- a write by a variable index keeps the old sets too
   pub write_variable : lifted_body (Assignment 0 (PartOf two_bits (one_bit (range_of 1 0)) (Name scalar)) (lit (Z ∷ [])) true) known_family 1 ≡ any_value_but_x

@@ -1,7 +1,7 @@
 -- Worked sizes: what each kind of expression, assignment, statement and process weighs, and what bits of inputs and registers do.
 use Rattle.std.specs.Prelude.{◌≡◌, ℕ, List, [], ◌∷◌, None, codes, map, replicate}
 use Rattle.vs_four.specs.Selects.{one_bit}
-use Rattle.vs_design.specs.Expressions.{Signal, OfSignal, UnaryOp, Plus, Minus, BitNot, LogicalNot, ReduceAnd, ReduceNand, ReduceOr, ReduceNor, ReduceXor, ReduceXnor, Signed, Unsigned, BinaryOp, Add, Subtract, Multiply, BitAnd, BitOr, BitXor, BitXnor, Less, LessEqual, Greater, GreaterEqual, Equal, NotEqual, CaseEqual, CaseNotEqual, LogicalAnd, LogicalOr, ShiftLeft, ShiftRight, ShiftLeftArith, ShiftRightArith, Expression, Name, Select, Unary, Binary, Choice, Join, Repeat, At}
+use Rattle.vs_design.specs.Expressions.{Signal, OfSignal, UnaryOp, Plus, Minus, BitNot, LogicalNot, ReduceAnd, ReduceNand, ReduceOr, ReduceNor, ReduceXor, ReduceXnor, Signed, Unsigned, BinaryOp, Add, Subtract, Multiply, BitAnd, BitOr, BitXor, BitXnor, Less, LessEqual, Greater, GreaterEqual, Equal, NotEqual, CaseEqual, CaseNotEqual, LogicalAnd, LogicalOr, ShiftLeft, ShiftRight, ShiftLeftArith, ShiftRightArith, Expression, Name, Select, Unary, Binary, Choice, Join, Repeat, At, items_of}
 use Rattle.vs_design.specs.Statements.{Whole, PartOf, Both, Exact, Statement, Then, If, Case, Arm, Default}
 use Rattle.vs_design.specs.Designs.{InputPort, Continuous, Design}
 use Rattle.vs_design.specs.Sizes.{weight, assignment_weight, statement_weight, process_weight, size}
@@ -48,7 +48,7 @@ in_eight es = map (λ e. weight e 8) es
 
 -- `case (b) d, 8'd1: y = a; 8'd2: y = a; default: y = a; endcase`
 abbrev pub a_case : Statement
-a_case = Case Exact (Name b8) (Arm (Name d8 ∷ dec 8 1 ∷ []) (blocking 0 y4 (Name a4)) (Arm (dec 8 2 ∷ []) (blocking 0 y4 (Name a4)) (Default (blocking 0 y4 (Name a4)))))
+a_case = Case Exact (Name b8) (Arm (items_of (Name d8 ∷ dec 8 1 ∷ [])) (blocking 0 y4 (Name a4)) (Arm (items_of (dec 8 2 ∷ [])) (blocking 0 y4 (Name a4)) (Default (blocking 0 y4 (Name a4)))))
 
 abbrev pub d1_input : Signal
 d1_input = input_of (codes "d") 1 None 1

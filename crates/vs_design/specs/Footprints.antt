@@ -1,10 +1,10 @@
 -- The bits that a process reads, writes and waits on (IEEE 1364-2005, 9.7.5 and 11.6.1).
-use Rattle.std.specs.Prelude.{ℕ, Bool, true, false, not, ◌&&◌, List, [], ◌∷◌, ◌++◌, map, filter, if◌then◌else◌, ◌==◌, Option, Some, None}
+use Rattle.std.specs.Prelude.{ℕ, Bool, true, false, not, ◌&&◌, List, [], ◌∷◌, ◌++◌, map, filter, if◌then◌else◌, ◌==◌, Option, Some, None, is_some}
 use Rattle.std.specs.List.{list_any}
 use Rattle.vs_four.specs.Selects.{Part, places}
-use Rattle.vs_design.specs.Expressions.{Signal, Source, OfSignal, OfConstant, Expression, Literal, Name, Select, Unary, Binary, Choice, Join, Repeat, At, sign, is_constant}
-use Rattle.vs_design.specs.Values.{count_from, bits_of_signal, constant_value}
-use Rattle.vs_design.specs.Statements.{Target, Whole, PartOf, Both, Statement, Empty, Assignment, Then, If, Case, Arms, Arm, Default}
+use Rattle.vs_design.specs.Expressions.{Signal, Source, OfSignal, OfConstant, Expression, Literal, Name, Select, Word, Unary, Binary, Choice, Join, Repeat, At, Call, Items, NoItem, Item, sign, is_constant}
+use Rattle.vs_design.specs.Values.{count_from, bits_of_signal, word_places, constant_value}
+use Rattle.vs_design.specs.Statements.{Target, Whole, PartOf, WordOf, Both, Statement, Empty, Assignment, Then, If, Case, Arms, Arm, Default}
 use Rattle.vs_design.specs.Bodies.{bits_at}
 use Rattle.vs_design.specs.Designs.{Event, Process, Continuous, Always, is_combinational, Design}
 
@@ -21,62 +21,75 @@ abbrev pub selected_bits : Signal → Part → Expression → List ℕ
 selected_bits signal part index =
     if is_constant index then somes (bits_at signal (places part (sign index) (constant_value index))) else bits_of_signal signal
 
+-- the bits of a word: by a constant address its own, by any other address all of the memory
+abbrev pub addressed_bits : Signal → Expression → List ℕ
+addressed_bits signal index = if is_constant index then somes (bits_at signal (word_places signal (sign index) (constant_value index))) else bits_of_signal signal
+
 abbrev pub source_bits : Source → Part → Expression → List ℕ
 source_bits (OfSignal signal) part index = selected_bits signal part index
 source_bits (OfConstant bits) part index = []
 
--- the bits that an expression reads
-abbrev pub read_bits : Expression → List ℕ
-read_bits (Literal bits signed sized) = []
-read_bits (Name signal) = bits_of_signal signal
-read_bits (Select source part index) = source_bits source part index ++ read_bits index
-read_bits (Unary op a) = read_bits a
-read_bits (Binary op a b) = read_bits a ++ read_bits b
-read_bits (Choice c p q) = read_bits c ++ (read_bits p ++ read_bits q)
-read_bits (Join high low) = read_bits high ++ read_bits low
-read_bits (Repeat count a) = read_bits a
-read_bits (At place e) = read_bits e
+-- the bits that an expression reads; a call those that its arguments read
+abbrev mutual
+  pub read_bits : Expression → List ℕ
+  read_bits (Literal bits signed sized) = []
+  read_bits (Name signal) = bits_of_signal signal
+  read_bits (Select source part index) = source_bits source part index ++ read_bits index
+  read_bits (Word signal index) = addressed_bits signal index ++ read_bits index
+  read_bits (Unary op a) = read_bits a
+  read_bits (Binary op a b) = read_bits a ++ read_bits b
+  read_bits (Choice c p q) = read_bits c ++ (read_bits p ++ read_bits q)
+  read_bits (Join high low) = read_bits high ++ read_bits low
+  read_bits (Repeat count a) = read_bits a
+  read_bits (At place e) = read_bits e
+  read_bits (Call header statement arguments) = items_reads arguments
+
+  pub items_reads : Items → List ℕ
+  items_reads NoItem = []
+  items_reads (Item e es) = read_bits e ++ items_reads es
 
 abbrev pub source_signals : Source → List Signal
 source_signals (OfSignal signal) = signal ∷ []
 source_signals (OfConstant bits) = []
 
 -- the signals that it names, whether or not a bit of them is in range
-abbrev pub read_signals : Expression → List Signal
-read_signals (Literal bits signed sized) = []
-read_signals (Name signal) = signal ∷ []
-read_signals (Select source part index) = source_signals source ++ read_signals index
-read_signals (Unary op a) = read_signals a
-read_signals (Binary op a b) = read_signals a ++ read_signals b
-read_signals (Choice c p q) = read_signals c ++ (read_signals p ++ read_signals q)
-read_signals (Join high low) = read_signals high ++ read_signals low
-read_signals (Repeat count a) = read_signals a
-read_signals (At place e) = read_signals e
+abbrev mutual
+  pub read_signals : Expression → List Signal
+  read_signals (Literal bits signed sized) = []
+  read_signals (Name signal) = signal ∷ []
+  read_signals (Select source part index) = source_signals source ++ read_signals index
+  read_signals (Word signal index) = signal ∷ read_signals index
+  read_signals (Unary op a) = read_signals a
+  read_signals (Binary op a b) = read_signals a ++ read_signals b
+  read_signals (Choice c p q) = read_signals c ++ (read_signals p ++ read_signals q)
+  read_signals (Join high low) = read_signals high ++ read_signals low
+  read_signals (Repeat count a) = read_signals a
+  read_signals (At place e) = read_signals e
+  read_signals (Call header statement arguments) = items_signals arguments
+
+  pub items_signals : Items → List Signal
+  items_signals NoItem = []
+  items_signals (Item e es) = read_signals e ++ items_signals es
 
 -- the bits that a target writes; a bit that it has twice is there twice
 abbrev pub target_bits : Target → List ℕ
 target_bits (Whole signal) = bits_of_signal signal
 target_bits (PartOf signal part index) = selected_bits signal part index
+target_bits (WordOf signal index) = addressed_bits signal index
 target_bits (Both high low) = target_bits high ++ target_bits low
 
 -- the bits, and the signals, that the indices of a target read
 abbrev pub target_reads : Target → List ℕ
 target_reads (Whole signal) = []
 target_reads (PartOf signal part index) = read_bits index
+target_reads (WordOf signal index) = read_bits index
 target_reads (Both high low) = target_reads high ++ target_reads low
 
 abbrev pub target_signals : Target → List Signal
 target_signals (Whole signal) = []
 target_signals (PartOf signal part index) = read_signals index
+target_signals (WordOf signal index) = read_signals index
 target_signals (Both high low) = target_signals high ++ target_signals low
-
-abbrev pub items_reads : List Expression → List ℕ
-items_reads [] = []
-items_reads (e ∷ es) = read_bits e ++ items_reads es
-
-abbrev pub items_signals : List Expression → List Signal
-items_signals [] = []
-items_signals (e ∷ es) = read_signals e ++ items_signals es
 
 abbrev mutual
   pub statement_reads : Statement → List ℕ
@@ -165,6 +178,17 @@ net_bits d = signals_bits (filter is_net d.signals)
 
 abbrev pub variable_bits : Design → List ℕ
 variable_bits d = signals_bits (filter is_variable d.signals)
+
+-- a memory is a variable that has words, and these are the bits of all memories
+abbrev pub is_memory : Signal → Bool
+is_memory s = is_some s.words
+
+-- the signals whose values a waveform shows: all but memories (4.9), in their order
+abbrev pub shown_signals : Design → List Signal
+shown_signals d = filter (λ s. not (is_memory s)) d.signals
+
+abbrev pub memory_bits : Design → List ℕ
+memory_bits d = signals_bits (filter is_memory d.signals)
 
 -- of the bits from 0 to count - 1 those in the list, in ascending order and each once
 abbrev pub ascending : ℕ → List ℕ → List ℕ

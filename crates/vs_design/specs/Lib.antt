@@ -1,4 +1,6 @@
+pub mod Trees
 pub mod Expressions
+pub mod Effects
 pub mod Values
 pub mod Statements
 pub mod Bodies
@@ -12,6 +14,7 @@ pub mod Clocks
 pub mod Levels
 pub mod Races
 pub mod Sets
+pub mod LiftedParts
 pub mod Lifted
 pub mod LiftedBodies
 pub mod TimeZero
@@ -21,12 +24,14 @@ pub mod Accepted
 pub mod Refusals
 pub mod Cycles
 pub mod Equations
+pub mod Calls
 pub mod Resets
 pub mod Networks
 pub mod Sleepers
 pub mod Bounds
 pub mod Answers
 pub mod SlotValues
+pub mod Memories
 pub mod TreeLaws
 pub mod Laws
 pub mod RefusalLaws
@@ -34,8 +39,11 @@ pub mod ExampleParts
 pub mod ExampleElaborated
 pub mod ExampleValues
 pub mod ExampleBodies
+pub mod ExampleCalls
 pub mod ExampleSets
 pub mod ExampleSizes
 pub mod ExampleDesigns
 pub mod ExampleBlocking
 pub mod ExampleRefusals
+pub mod ExampleMemories
+pub mod ExampleTogether

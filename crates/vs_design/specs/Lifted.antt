@@ -1,19 +1,18 @@
--- The sets of values that an expression may have, where each bit of the design has a set.
-use Rattle.std.specs.Prelude.{ℕ, Bool, true, false, ◌&&◌, List, [], ◌∷◌, ◌++◌, map, length, max, replicate, if◌then◌else◌, is_some}
+-- The sets of values that an expression may have, and the bits after a statement with blocking assignments, where each bit of the design has a set.
+use Rattle.std.specs.Prelude.{ℕ, Bool, true, false, ◌&&◌, List, [], ◌∷◌, ◌++◌, map, length, max, replicate, if◌then◌else◌, Some, is_some}
 use Rattle.std.specs.List.{list_all}
 use Rattle.vs_four.specs.declared.Bit4.TheVariants.{Zero, One, X}
 use Rattle.vs_four.specs.Logic.{BitList, map2, all_known}
 use Rattle.vs_four.specs.Tables.{and_bit, or_bit, xor_bit, xnor_bit, not_bit, same_bit}
 use Rattle.vs_four.specs.Lengths.{last_or, extend_with, extend_literal, cut, join, repeat}
 use Rattle.vs_four.specs.Shifts.{distance}
-use Rattle.vs_four.specs.Selects.{Part, places, at_place}
-use Rattle.vs_design.specs.Sets.{Set4, only, any_result, any_value, image, image2, is_known_set, all_of, set_and, set_or, set_xor, arithmetic, set_match, variable, set_shift_by, set_shift, set_choose}
-use Rattle.vs_design.specs.Expressions.{Source, OfSignal, OfConstant, UnaryOp, Minus, BitNot, LogicalNot, ReduceAnd, ReduceNand, ReduceOr, ReduceNor, ReduceXor, ReduceXnor, BinaryOp, Add, Subtract, Multiply, Divide, Remainder, BitAnd, BitOr, BitXor, BitXnor, Less, LessEqual, Greater, GreaterEqual, Equal, NotEqual, CaseEqual, CaseNotEqual, LogicalAnd, LogicalOr, ShiftLeft, ShiftRight, ShiftLeftArith, ShiftRightArith, Expression, Literal, Name, Select, Unary, Binary, Choice, Join, Repeat, At, unary_way, way, width, sign, is_constant}
-use Rattle.vs_design.specs.Values.{bits_of_signal, value, constant_value, left_width, right_width, left_sign, right_sign}
-
--- a set for each bit, by number
-abbrev pub Family : Type 0
-Family = ℕ → Set4
+use Rattle.vs_four.specs.Selects.{range_length, Part, one_bit, places, at_place}
+use Rattle.vs_design.specs.Sets.{Set4, only, any_result, any_value, image, image2, is_known_set, all_of, all_words, set_and, set_or, set_xor, arithmetic, set_match, variable, set_shift_by, set_shift, set_choose}
+use Rattle.vs_design.specs.Expressions.{Signal, signal_length, word_length, addresses, Source, OfSignal, OfConstant, UnaryOp, Minus, BitNot, LogicalNot, ReduceAnd, ReduceNand, ReduceOr, ReduceNor, ReduceXor, ReduceXnor, BinaryOp, Add, Subtract, Multiply, Divide, Remainder, BitAnd, BitOr, BitXor, BitXnor, Less, LessEqual, Greater, GreaterEqual, Equal, NotEqual, CaseEqual, CaseNotEqual, LogicalAnd, LogicalOr, ShiftLeft, ShiftRight, ShiftLeftArith, ShiftRightArith, Expression, Literal, Name, Select, Word, Unary, Binary, Choice, Join, Repeat, At, Call, Items, NoItem, Item, unary_way, way, width, sign, is_constant}
+use Rattle.vs_design.specs.Values.{bits_of_signal, word_places, value, constant_value, left_width, right_width, left_sign, right_sign}
+use Rattle.vs_design.specs.Statements.{target_width, CaseKind, Statement, Empty, Assignment, Then, If, Case, Arms, Arm, Default, case_width, case_sign}
+use Rattle.vs_design.specs.LiftedParts.{put_each, write_sets, join_branches, matches_of, join_arms}
+pub use Rattle.vs_design.specs.LiftedParts.{Family}
 
 abbrev pub extend_sets : ℕ → Bool → List Set4 → List Set4
 extend_sets w signed ss = extend_with (if signed then last_or (only Zero) ss else only Zero) w ss
@@ -46,6 +45,13 @@ set_select part index index_sets ss =
     if is_constant index
     then map (at_place (only X) ss) (places part (sign index) (constant_value index))
     else replicate part.width (variable index_sets (surely_inside part (sign index) index_sets) (all_of ss))
+
+-- and so does a read of a word, with words for bits
+abbrev pub set_word : Signal → Expression → List Set4 → List Set4 → List Set4
+set_word signal index index_sets ss =
+    if is_constant index
+    then map (at_place (only X) ss) (word_places signal (sign index) (constant_value index))
+    else map (variable index_sets (surely_inside (one_bit (addresses signal)) (sign index) index_sets)) (all_words (word_length signal) (range_length (addresses signal)) ss)
 
 abbrev pub lift_unary : UnaryOp → List Set4 → List Set4
 lift_unary Minus ss = replicate (length ss) (arithmetic ss)
@@ -118,21 +124,52 @@ lift_operator Divided op w s t b quotient ss ts = quotient
 lift_operator Moved op w s t b quotient ss ts = extend_sets w s (lift_shift op t b ts ss)
 lift_operator FromSets op w s t b quotient ss ts = extend_sets w s (lift_binary op ss ts)
 
--- the sets of the bits of an expression in length w and sign s. Constants are lifted like any other operands: `1'd1 + 1'd1` has the sets {0, 1}
-abbrev pub lifted : Expression → ℕ → Bool → Family → List Set4
-lifted (Literal bits signed sized) w s sets = map only (extend_literal w s sized bits)
-lifted (Name signal) w s sets = extend_sets w s (map sets (bits_of_signal signal))
-lifted (Select source part index) w s sets = extend_sets w s (set_select part index (lifted index (width index) (sign index) sets) (source_sets sets source))
-lifted (Unary op a) w s sets =
-    extend_sets w s (lift_unary op (lifted a (left_width (unary_way op) w (width a) 0) (left_sign (unary_way op) s (sign a) false) sets))
-lifted (Binary op a b) w s sets =
-    lift_operator (lift_of op) op w s (left_sign (way op) s (sign a) (sign b)) b (lift_quotient (Binary op a b) w s)
-    (lifted a (left_width (way op) w (width a) (width b)) (left_sign (way op) s (sign a) (sign b)) sets)
-    (lifted b (right_width (way op) w (width a) (width b)) (right_sign (way op) s (sign a) (sign b)) sets)
-lifted (Choice c p q) w s sets = set_choose (set_or (lifted c (width c) (sign c) sets)) (lifted p w s sets) (lifted q w s sets)
-lifted (Join high low) w s sets = extend_sets w s (join (lifted high (width high) (sign high) sets) (lifted low (width low) (sign low) sets))
-lifted (Repeat count a) w s sets = extend_sets w s (repeat count (lifted a (width a) (sign a) sets))
-lifted (At place e) w s sets = lifted e w s sets
+abbrev mutual
+  -- the sets of the bits of an expression in length w and sign s. Constants are lifted like any other operands: `1'd1 + 1'd1` has the sets {0, 1}
+  pub lifted : Expression → ℕ → Bool → Family → List Set4
+  lifted (Literal bits signed sized) w s sets = map only (extend_literal w s sized bits)
+  lifted (Name signal) w s sets = extend_sets w s (map sets (bits_of_signal signal))
+  lifted (Select source part index) w s sets = extend_sets w s (set_select part index (lifted index (width index) (sign index) sets) (source_sets sets source))
+  lifted (Word signal index) w s sets = extend_sets w s (set_word signal index (lifted index (width index) (sign index) sets) (map sets (bits_of_signal signal)))
+  lifted (Unary op a) w s sets =
+      extend_sets w s (lift_unary op (lifted a (left_width (unary_way op) w (width a) 0) (left_sign (unary_way op) s (sign a) false) sets))
+  lifted (Binary op a b) w s sets =
+      lift_operator (lift_of op) op w s (left_sign (way op) s (sign a) (sign b)) b (lift_quotient (Binary op a b) w s)
+      (lifted a (left_width (way op) w (width a) (width b)) (left_sign (way op) s (sign a) (sign b)) sets)
+      (lifted b (right_width (way op) w (width a) (width b)) (right_sign (way op) s (sign a) (sign b)) sets)
+  lifted (Choice c p q) w s sets = set_choose (set_or (lifted c (width c) (sign c) sets)) (lifted p w s sets) (lifted q w s sets)
+  lifted (Join high low) w s sets = extend_sets w s (join (lifted high (width high) (sign high) sets) (lifted low (width low) (sign low) sets))
+  lifted (Repeat count a) w s sets = extend_sets w s (repeat count (lifted a (width a) (sign a) sets))
+  lifted (At place e) w s sets = lifted e w s sets
+  -- those of a call are what its statement leaves in its result, where it begins with the sets of the arguments and with x alone in all other local bits
+  lifted (Call header statement arguments) w s sets = extend_sets w s (map (lifted_body statement (argument_sets arguments header.inputs sets (λ b. only X))) (bits_of_signal header.result))
+
+  -- the sets of all of them in one context
+  pub lifted_items : Items → ℕ → Bool → Family → List (List Set4)
+  lifted_items NoItem w s sets = []
+  lifted_items (Item e rest) w s sets = lifted e w s sets ∷ lifted_items rest w s sets
+
+  -- the local sets where each input has those of its argument
+  pub argument_sets : Items → List Signal → Family → Family → Family
+  argument_sets NoItem inputs sets begin = begin
+  argument_sets (Item e rest) [] sets begin = begin
+  argument_sets (Item e rest) (input ∷ inputs) sets begin =
+      argument_sets rest inputs sets (put_each (map Some (bits_of_signal input)) (cut (signal_length input) (lifted e (max (width e) (signal_length input)) (sign e) sets)) begin)
+
+  -- the sets after a statement with blocking assignments; branches start from the same sets
+  pub lifted_body : Statement → Family → Family
+  lifted_body Empty sets = sets
+  lifted_body (Assignment place target e true) sets = write_sets target (cut (target_width target) (lifted e (max (width e) (target_width target)) (sign e) sets)) sets
+  lifted_body (Assignment place target e false) sets = sets
+  lifted_body (Then first rest) sets = lifted_body rest (lifted_body first sets)
+  lifted_body (If c taken other) sets = join_branches (set_or (lifted c (width c) (sign c) sets)) (lifted_body taken sets) (lifted_body other sets)
+  lifted_body (Case kind subject arms) sets =
+      lifted_arms arms kind (case_width subject arms) (case_sign subject arms) (lifted subject (case_width subject arms) (case_sign subject arms) sets) sets
+
+  pub lifted_arms : Arms → CaseKind → ℕ → Bool → List Set4 → Family → Family
+  lifted_arms (Arm items statement rest) kind w s subject sets =
+      join_arms (matches_of kind subject (lifted_items items w s sets)) (lifted_body statement sets) (lifted_arms rest kind w s subject sets)
+  lifted_arms (Default statement) kind w s subject sets = lifted_body statement sets
 
 abbrev pub own_sets : Expression → Family → List Set4
 own_sets e sets = lifted e (width e) (sign e) sets

@@ -8,12 +8,12 @@ use Rattle.vs_design.specs.Footprints.{contains, writes_of}
 use Rattle.vs_design.specs.Fits.{fits_process}
 use Rattle.vs_design.specs.Elaborated.{IsLawfulDesign}
 use Rattle.vs_design.specs.Sizes.{size}
-use Rattle.vs_design.specs.Rules.{mixed_assigns, missing_bits, latches, shared_bits, drivers}
+use Rattle.vs_design.specs.Rules.{function_latches, mixed_assigns, missing_bits, latches, shared_bits, drivers}
 use Rattle.vs_design.specs.Clocks.{clock_input, clock_nets, root_of, reads_clock, has_other_clock}
 use Rattle.vs_design.specs.Resets.{has_other_form}
 use Rattle.vs_design.specs.Levels.{level_order}
 use Rattle.vs_design.specs.TimeZero.{families, is_uncertain}
-use Rattle.vs_design.specs.Refusals.{WidthRefusal, TooWide, Division, TooLarge, wide_in, divisions_in, width_refusal, BlockRefusal, MixedAssign, Sensitivity, Latch, block_refusal, DriverRefusal, TwoDrivers, driver_refusal, ClockRefusal, NoClock, ClockRead, NotTheClock, ResetForm, clock_refusal, ZeroRefusal, TimeZero, zero_refusal}
+use Rattle.vs_design.specs.Refusals.{WidthRefusal, TooWide, Division, TooLarge, wide_in, divisions_in, width_refusal, BlockRefusal, FunctionLatch, MixedAssign, Sensitivity, Latch, block_refusal, DriverRefusal, TwoDrivers, driver_refusal, ClockRefusal, NoClock, ClockRead, NotTheClock, ResetForm, clock_refusal, ZeroRefusal, TimeZero, zero_refusal}
 
 -- n is the least of these numbers
 pub record IsLeastOf (ns : List ℕ) (n : ℕ) : Type 0 where
@@ -49,14 +49,15 @@ is_some_of (n ∷ ns) = true
 abbrev pub breaks_block : Process → Bool
 breaks_block process = is_some_of (mixed_assigns process) || is_some_of (missing_bits process) || is_some_of (latches process)
 
--- the first process that breaks a rule on blocks; within it the first mixed assignment in the text, then the least signal with a missing bit, then the least bit that may latch
+-- the first function that may latch; where there is none, the first process that breaks a rule on blocks; within it the first mixed assignment in the text, then the least signal with a missing bit, then the least bit that may latch
 abbrev pub IsBlockRefusal : Design → BlockRefusal → Type 0
-IsBlockRefusal d (MixedAssign at) = (p : ℕ) × (process : Process) × IsFirstOf d breaks_block p process × IsLeastOf (mixed_assigns process) at
+IsBlockRefusal d (FunctionLatch at) = IsLeastOf (function_latches d.functions) at
+IsBlockRefusal d (MixedAssign at) = (function_latches d.functions ≡ []) × (p : ℕ) × (process : Process) × IsFirstOf d breaks_block p process × IsLeastOf (mixed_assigns process) at
 IsBlockRefusal d (Sensitivity p signal at) =
-    (process : Process) × IsFirstOf d breaks_block p process × (at ≡ process_place process) × (mixed_assigns process ≡ [])
+    (function_latches d.functions ≡ []) × (process : Process) × IsFirstOf d breaks_block p process × (at ≡ process_place process) × (mixed_assigns process ≡ [])
     × ((b : ℕ) × IsLeastOf (missing_bits process) b × ((s : Signal) × (slice_get d.signals signal ≡ Some s) × (contains (bits_of_signal s) b ≡ true)))
     × ((q : ℕ) (s : Signal) (b : ℕ) → slice_get d.signals q ≡ Some s → contains (bits_of_signal s) b ≡ true → contains (missing_bits process) b ≡ true → signal ≤ q)
-IsBlockRefusal d (Latch p bit at) = (process : Process) × IsFirstOf d breaks_block p process × (at ≡ process_place process) × (mixed_assigns process ≡ []) × (missing_bits process ≡ []) × IsLeastOf (latches process) bit
+IsBlockRefusal d (Latch p bit at) = (function_latches d.functions ≡ []) × (process : Process) × IsFirstOf d breaks_block p process × (at ≡ process_place process) × (mixed_assigns process ≡ []) × (missing_bits process ≡ []) × IsLeastOf (latches process) bit
 
 abbrev pub BlockRefusalIs : Type 0
 BlockRefusalIs = (d : Design) → IsLawfulDesign d → (r : BlockRefusal) → block_refusal d ≡ Some r → IsBlockRefusal d r

@@ -1,13 +1,13 @@
 -- What a refusal of an elaborated design carries, and which comes first. A refusal's `at` is a place in the text.
 use Rattle.std.specs.Prelude.{◌≡◌, ℕ, zero, suc, Bool, true, not, ◌&&◌, List, [], ◌∷◌, ◌++◌, min, get_or, if◌then◌else◌, nat_le, nat_lt, Option, Some, None, option_map}
-use Rattle.vs_design.specs.Expressions.{Signal, Expression, Literal, Name, Select, Unary, Binary, Choice, Join, Repeat, At, width, is_constant}
-use Rattle.vs_design.specs.Statements.{Target, Whole, PartOf, Both, target_width, Statement, Empty, Assignment, Then, If, Case, Arms, Arm, Default}
+use Rattle.vs_design.specs.Expressions.{Signal, Expression, Literal, Name, Select, Word, Unary, Binary, Choice, Join, Repeat, At, Call, Items, NoItem, Item, width, is_constant}
+use Rattle.vs_design.specs.Statements.{Target, Whole, PartOf, WordOf, Both, target_width, Statement, Empty, Assignment, Then, If, Case, Arms, Arm, Default}
 use Rattle.vs_design.specs.Designs.{Process, Continuous, Always, process_place, Design}
 use Rattle.vs_design.specs.Values.{bits_of_signal}
 use Rattle.vs_design.specs.Footprints.{contains}
 use Rattle.vs_design.specs.Fits.{is_division}
 use Rattle.vs_design.specs.Sizes.{size}
-use Rattle.vs_design.specs.Rules.{mixed_assigns, missing_bits, latches, drivers, shared_bits}
+use Rattle.vs_design.specs.Rules.{function_latches, mixed_assigns, missing_bits, latches, drivers, shared_bits}
 use Rattle.vs_design.specs.Clocks.{clock_input, clock_nets, root_of, reads_clock, has_other_clock}
 use Rattle.vs_design.specs.Resets.{has_other_form}
 use Rattle.vs_design.specs.Levels.{level_order, has_no_cycle}
@@ -46,45 +46,94 @@ pub data WidthRefusal : Type 0 where
 abbrev pub over_64 : ℕ → ℕ → List ℕ
 over_64 at n = if nat_lt 64 n then (at ∷ []) else []
 
--- the places of the expressions in it that are over 64 bits; it begins at this place unless it says another
-abbrev pub wide_places : ℕ → Expression → List ℕ
-wide_places at (Literal bits signed sized) = over_64 at (width (Literal bits signed sized))
-wide_places at (Name signal) = over_64 at (width (Name signal))
-wide_places at (Select source part index) = over_64 at (width (Select source part index)) ++ wide_places at index
-wide_places at (Unary op a) = over_64 at (width (Unary op a)) ++ wide_places at a
-wide_places at (Binary op a b) = over_64 at (width (Binary op a b)) ++ (wide_places at a ++ wide_places at b)
-wide_places at (Choice c p q) = over_64 at (width (Choice c p q)) ++ (wide_places at c ++ (wide_places at p ++ wide_places at q))
-wide_places at (Join high low) = over_64 at (width (Join high low)) ++ (wide_places at high ++ wide_places at low)
-wide_places at (Repeat count a) = over_64 at (width (Repeat count a)) ++ wide_places at a
-wide_places at (At place e) = over_64 place (width e) ++ wide_places place e
+abbrev mutual
+  -- the places of the expressions in it that are over 64 bits; it begins at this place unless it says another. Those in the statement of a function count with each call
+  pub wide_places : ℕ → Expression → List ℕ
+  wide_places at (Literal bits signed sized) = over_64 at (width (Literal bits signed sized))
+  wide_places at (Name signal) = over_64 at (width (Name signal))
+  wide_places at (Select source part index) = over_64 at (width (Select source part index)) ++ wide_places at index
+  wide_places at (Word signal index) = over_64 at (width (Word signal index)) ++ wide_places at index
+  wide_places at (Unary op a) = over_64 at (width (Unary op a)) ++ wide_places at a
+  wide_places at (Binary op a b) = over_64 at (width (Binary op a b)) ++ (wide_places at a ++ wide_places at b)
+  wide_places at (Choice c p q) = over_64 at (width (Choice c p q)) ++ (wide_places at c ++ (wide_places at p ++ wide_places at q))
+  wide_places at (Join high low) = over_64 at (width (Join high low)) ++ (wide_places at high ++ wide_places at low)
+  wide_places at (Repeat count a) = over_64 at (width (Repeat count a)) ++ wide_places at a
+  wide_places at (At place e) = over_64 place (width e) ++ wide_places place e
+  wide_places at (Call header statement arguments) = over_64 at (width (Call header statement arguments)) ++ (wide_in_items at arguments ++ wide_in_statement header.place statement)
+
+  pub wide_in_items : ℕ → Items → List ℕ
+  wide_in_items at NoItem = []
+  wide_in_items at (Item e es) = wide_places at e ++ wide_in_items at es
+
+  pub wide_in_indices : ℕ → Target → List ℕ
+  wide_in_indices at (Whole signal) = []
+  wide_in_indices at (PartOf signal part index) = wide_places at index
+  wide_in_indices at (WordOf signal index) = wide_places at index
+  wide_in_indices at (Both high low) = wide_in_indices at high ++ wide_in_indices at low
+
+  pub wide_in_statement : ℕ → Statement → List ℕ
+  wide_in_statement at Empty = []
+  wide_in_statement at (Assignment place target e blocking) = over_64 place (target_width target) ++ (wide_in_indices place target ++ wide_places place e)
+  wide_in_statement at (Then first rest) = wide_in_statement at first ++ wide_in_statement at rest
+  wide_in_statement at (If c taken other) = wide_places at c ++ (wide_in_statement at taken ++ wide_in_statement at other)
+  wide_in_statement at (Case kind subject arms) = wide_places at subject ++ wide_in_arms at arms
+
+  pub wide_in_arms : ℕ → Arms → List ℕ
+  wide_in_arms at (Arm items statement rest) = wide_in_items at items ++ (wide_in_statement at statement ++ wide_in_arms at rest)
+  wide_in_arms at (Default statement) = wide_in_statement at statement
 
 -- where an expression begins
 abbrev pub place_in : ℕ → Expression → ℕ
 place_in at (At place e) = place
 place_in at _ = at
 
--- the places of the divisions at run time; a division begins where its first operand does
-abbrev pub division_places : ℕ → Expression → List ℕ
-division_places at (Literal bits signed sized) = []
-division_places at (Name signal) = []
-division_places at (Select source part index) = division_places at index
-division_places at (Unary op a) = division_places at a
-division_places at (Binary op a b) =
-    (if is_division op && not (is_constant a && is_constant b) then (place_in at a ∷ []) else []) ++ (division_places at a ++ division_places at b)
-division_places at (Choice c p q) = division_places at c ++ (division_places at p ++ division_places at q)
-division_places at (Join high low) = division_places at high ++ division_places at low
-division_places at (Repeat count a) = division_places at a
-division_places at (At place e) = division_places place e
+abbrev mutual
+  -- the places of the divisions at run time; a division begins where its first operand does
+  pub division_places : ℕ → Expression → List ℕ
+  division_places at (Literal bits signed sized) = []
+  division_places at (Name signal) = []
+  division_places at (Select source part index) = division_places at index
+  division_places at (Word signal index) = division_places at index
+  division_places at (Unary op a) = division_places at a
+  division_places at (Binary op a b) =
+      (if is_division op && not (is_constant a && is_constant b) then (place_in at a ∷ []) else []) ++ (division_places at a ++ division_places at b)
+  division_places at (Choice c p q) = division_places at c ++ (division_places at p ++ division_places at q)
+  division_places at (Join high low) = division_places at high ++ division_places at low
+  division_places at (Repeat count a) = division_places at a
+  division_places at (At place e) = division_places place e
+  division_places at (Call header statement arguments) = divisions_in_items at arguments ++ divisions_in_statement header.place statement
+
+  pub divisions_in_items : ℕ → Items → List ℕ
+  divisions_in_items at NoItem = []
+  divisions_in_items at (Item e es) = division_places at e ++ divisions_in_items at es
+
+  pub divisions_in_indices : ℕ → Target → List ℕ
+  divisions_in_indices at (Whole signal) = []
+  divisions_in_indices at (PartOf signal part index) = division_places at index
+  divisions_in_indices at (WordOf signal index) = division_places at index
+  divisions_in_indices at (Both high low) = divisions_in_indices at high ++ divisions_in_indices at low
+
+  pub divisions_in_statement : ℕ → Statement → List ℕ
+  divisions_in_statement at Empty = []
+  divisions_in_statement at (Assignment place target e blocking) = (divisions_in_indices place target ++ division_places place e)
+  divisions_in_statement at (Then first rest) = divisions_in_statement at first ++ divisions_in_statement at rest
+  divisions_in_statement at (If c taken other) = division_places at c ++ (divisions_in_statement at taken ++ divisions_in_statement at other)
+  divisions_in_statement at (Case kind subject arms) = division_places at subject ++ divisions_in_arms at arms
+
+  pub divisions_in_arms : ℕ → Arms → List ℕ
+  divisions_in_arms at (Arm items statement rest) = divisions_in_items at items ++ (divisions_in_statement at statement ++ divisions_in_arms at rest)
+  divisions_in_arms at (Default statement) = divisions_in_statement at statement
 
 -- f of all expressions of a target, one after the other, and of a statement, with the places where they begin at the latest
 abbrev pub in_indices : (ℕ → Expression → List ℕ) → ℕ → Target → List ℕ
 in_indices f at (Whole signal) = []
 in_indices f at (PartOf signal part index) = f at index
+in_indices f at (WordOf signal index) = f at index
 in_indices f at (Both high low) = in_indices f at high ++ in_indices f at low
 
-abbrev pub in_items : (ℕ → Expression → List ℕ) → ℕ → List Expression → List ℕ
-in_items f at [] = []
-in_items f at (e ∷ es) = f at e ++ in_items f at es
+abbrev pub in_items : (ℕ → Expression → List ℕ) → ℕ → Items → List ℕ
+in_items f at NoItem = []
+in_items f at (Item e es) = f at e ++ in_items f at es
 
 -- a target's own length counts too
 abbrev pub in_assignment : (ℕ → Expression → List ℕ) → (ℕ → ℕ → List ℕ) → ℕ → Target → Expression → List ℕ
@@ -130,6 +179,8 @@ width_refusal d = otherwise (first_found (λ p process. earlier (least (wide_in 
 -- ---- blocks and drivers
 
 pub data BlockRefusal : Type 0 where
+  -- at the function
+  FunctionLatch : (at : ℕ) → BlockRefusal
   -- at the assignment
   MixedAssign : (at : ℕ) → BlockRefusal
   -- at the process, as all that follow
@@ -147,8 +198,9 @@ block_refusal_of d p process =
     otherwise (option_map MixedAssign (least (mixed_assigns process)))
     (otherwise (option_map (λ b. Sensitivity p (signal_of d.signals b) (process_place process)) (least (missing_bits process))) (option_map (λ b. Latch p b (process_place process)) (least (latches process))))
 
+-- before them the first function in the text that may latch
 abbrev pub block_refusal : Design → Option BlockRefusal
-block_refusal d = first_found (block_refusal_of d) 0 d.processes
+block_refusal d = otherwise (option_map FunctionLatch (least (function_latches d.functions))) (first_found (block_refusal_of d) 0 d.processes)
 
 abbrev pub place_at : List Process → ℕ → ℕ
 place_at [] p = 0

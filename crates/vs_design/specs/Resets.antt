@@ -9,6 +9,7 @@ use Rattle.vs_design.specs.Statements.{Statement, Empty, Assignment, Then, If, C
 use Rattle.vs_design.specs.Bodies.{body}
 use Rattle.vs_design.specs.Designs.{Edge, Any, Posedge, Negedge, Event, Process, Always, Design}
 use Rattle.vs_design.specs.Footprints.{statement_signals}
+use Rattle.vs_design.specs.Calls.{statement_calls}
 use Rattle.vs_design.specs.Sets.{Set4, only, union}
 use Rattle.vs_design.specs.Clocks.{name_of, Events, ByBoth, events_of, clock_nets, one_bit_inputs, root_of}
 use Rattle.vs_design.specs.Elaborated.{has_constant_selects}
@@ -48,9 +49,9 @@ abbrev mutual
   arms_constant (Arm items statement rest) = are_constant statement && arms_constant rest
   arms_constant (Default statement) = are_constant statement
 
--- the branch names no signal but as a target, and its targets have constant selects
+-- the branch names no signal but as a target, a call counting as naming one, and its targets have constant selects
 abbrev pub is_fixed : Statement → Bool
-is_fixed s = has_none (statement_signals s) && are_constant s
+is_fixed s = has_none (statement_signals s) && not (statement_calls s) && are_constant s
 
 -- the first branch of a statement of the form, an `if`. A `begin` and `end` round one statement alone is no statement of its own
 abbrev pub reset_branch : Edge → ℕ → Statement → Option Statement

@@ -1,6 +1,6 @@
 -- The rules on blocks and drivers, each as the list of the places or bits that break it.
 use Rattle.std.specs.Prelude.{ℕ, suc, Bool, not, ◌&&◌, ◌||◌, List, [], ◌∷◌, ◌++◌, filter, length, replicate, if◌then◌else◌, ◌==◌, nat_lt}
-use Rattle.vs_design.specs.Statements.{Statement, Empty, Assignment, Then, If, Case, Arms, Arm, Default}
+use Rattle.vs_design.specs.Statements.{Statement, Empty, Assignment, Then, If, Case, Arms, Arm, Default, Function}
 use Rattle.vs_design.specs.Designs.{Process, Continuous, Always, is_clocked, is_combinational, Design}
 use Rattle.vs_design.specs.Footprints.{contains, target_bits, statement_bits, writes_of, reads_of, wait_signals, signals_bits, without}
 use Rattle.vs_design.specs.Latches.{latch_bits}
@@ -31,6 +31,15 @@ missing_bits p = if is_combinational p then without (reads_of p) (signals_bits (
 abbrev pub latches : Process → List ℕ
 latches (Continuous place port target_place target e) = []
 latches (Always place star events statement) = if is_combinational (Always place star events statement) then latch_bits statement else []
+
+abbrev pub place_where : ℕ → List ℕ → List ℕ
+place_where place [] = []
+place_where place (b ∷ bs) = place ∷ []
+
+-- the rule FunctionLatch: the places of the functions in which a variable of its own, or the result, that it writes somewhere reaches a read of it, or the end, unassigned on some path
+abbrev pub function_latches : List Function → List ℕ
+function_latches [] = []
+function_latches (f ∷ fs) = place_where f.header.place (latch_bits f.statement) ++ function_latches fs
 
 -- how often the bit is in the list
 abbrev pub times : ℕ → List ℕ → ℕ

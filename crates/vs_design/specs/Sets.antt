@@ -1,5 +1,5 @@
 -- Sets of values of a bit, and the operators lifted to them: a lifted operator gives a set that has every value which the operator gives of members.
-use Rattle.std.specs.Prelude.{ℕ, Bool, true, false, not, ◌&&◌, ◌||◌, List, [], ◌∷◌, length, replicate, if◌then◌else◌}
+use Rattle.std.specs.Prelude.{ℕ, zero, suc, Bool, true, false, not, ◌&&◌, ◌||◌, List, [], ◌∷◌, length, replicate, take, drop, if◌then◌else◌}
 use Rattle.std.specs.List.{list_any, list_all}
 use Rattle.vs_four.specs.declared.Bit4.{Bit4}
 use Rattle.vs_four.specs.declared.Bit4.TheVariants.{Zero, One, X, Z}
@@ -83,6 +83,11 @@ set_or ss = fold_sets or_bit Zero ss
 
 abbrev pub set_xor : List Set4 → Set4
 set_xor ss = fold_sets xor_bit Zero ss
+
+-- of so many words of k bits, one after the other, the union bit by bit
+abbrev pub all_words : ℕ → ℕ → List Set4 → List Set4
+all_words k zero ss = replicate k none
+all_words k (suc n) ss = map2 union (take k ss) (all_words k n (drop k ss))
 
 -- each bit of a lifted sum, difference, product or comparison, by all bits of its operands: {x} if one has only x or z, {0, 1} if all are within {0, 1}, else {0, 1, x}
 abbrev pub arithmetic : List Set4 → Set4

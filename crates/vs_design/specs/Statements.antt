@@ -1,23 +1,17 @@
--- Statements and their targets (IEEE 1364-2005, clause 9).
-use Rattle.std.specs.Prelude.{ℕ, ◌+◌, Bool, ◌&&◌, List, [], ◌∷◌, max}
+-- Targets and cases: their lengths and signs, and how items are compared (IEEE 1364-2005, clause 9).
+use Rattle.std.specs.Prelude.{ℕ, ◌+◌, Bool, ◌&&◌, max}
 use Rattle.vs_four.specs.declared.Bit4.{Bit4}
 use Rattle.vs_four.specs.Logic.{BitList, identical, matches_z, matches_x}
-use Rattle.vs_four.specs.Selects.{Part}
+use Rattle.vs_design.specs.Expressions.{signal_length, word_length, Expression, Items, NoItem, Item, width, sign}
 pub use Rattle.vs_base.specs.declared.events.CaseKind.{CaseKind}
 pub use Rattle.vs_base.specs.declared.events.CaseKind.TheVariants.{Exact, CaseZ, CaseX}
-use Rattle.vs_design.specs.Expressions.{Signal, signal_length, Expression, width, sign}
+pub use Rattle.vs_design.specs.Trees.{Target, Whole, PartOf, WordOf, Both, Statement, Empty, Assignment, Then, If, Case, Arms, Arm, Default, Function}
 
--- the left side of an assignment: a signal, a select of one, or a concatenation (table 6-1)
-pub data Target : Type 0 where
-  Whole : (signal : Signal) → Target
-  PartOf : (signal : Signal) (part : Part) (index : Expression) → Target
-  -- `{high, low}`; longer ones nest
-  Both : (high low : Target) → Target
-
--- its length in bits
+-- the length of a target in bits
 abbrev pub target_width : Target → ℕ
 target_width (Whole signal) = signal_length signal
 target_width (PartOf signal part index) = part.width
+target_width (WordOf signal index) = word_length signal
 target_width (Both high low) = target_width high + target_width low
 
 -- how an item is compared (9.5, 9.5.1)
@@ -26,32 +20,14 @@ case_match Exact a b = identical a b
 case_match CaseZ a b = matches_z a b
 case_match CaseX a b = matches_x a b
 
-mutual
-  pub data Statement : Type 0 where
-    -- a lone `;` and a branch that isn't there
-    Empty : Statement
-    -- `=` (9.2.1), or `<=` where it isn't blocking (9.2.2); `place` is where it begins in the text
-    Assignment : (place : ℕ) (target : Target) (e : Expression) (blocking : Bool) → Statement
-    -- one after the other (9.8.1); longer sequences nest
-    Then : (first rest : Statement) → Statement
-    -- 9.4
-    If : (c : Expression) (taken other : Statement) → Statement
-    -- 9.5
-    Case : (kind : CaseKind) (subject : Expression) (arms : Arms) → Statement
-
-  -- the items in the order of the text, and at the end the default, which is empty where there is none
-  pub data Arms : Type 0 where
-    Arm : (items : List Expression) (statement : Statement) (rest : Arms) → Arms
-    Default : (statement : Statement) → Arms
-
 -- the greatest length of these and w
-abbrev pub widest : ℕ → List Expression → ℕ
-widest w [] = w
-widest w (e ∷ es) = widest (max w (width e)) es
+abbrev pub widest : ℕ → Items → ℕ
+widest w NoItem = w
+widest w (Item e es) = widest (max w (width e)) es
 
-abbrev pub all_signed : Bool → List Expression → Bool
-all_signed s [] = s
-all_signed s (e ∷ es) = all_signed (s && sign e) es
+abbrev pub all_signed : Bool → Items → Bool
+all_signed s NoItem = s
+all_signed s (Item e es) = all_signed (s && sign e) es
 
 abbrev pub arms_width : Arms → ℕ → ℕ
 arms_width (Arm items statement rest) w = arms_width rest (widest w items)

@@ -6,13 +6,17 @@
 ghost use Rattle.vs_design.specs.Answers.{AcceptedOrRefused, NotBoth};
 ghost use Rattle.vs_design.specs.ExampleBodies.{BodiesComputed};
 ghost use Rattle.vs_design.specs.ExampleBlocking.{BlockingComputed};
+ghost use Rattle.vs_design.specs.ExampleCalls.{CallsComputed};
 ghost use Rattle.vs_design.specs.ExampleDesigns.{DesignsComputed};
 ghost use Rattle.vs_design.specs.ExampleElaborated.{ElaboratedComputed};
+ghost use Rattle.vs_design.specs.ExampleMemories.{MemoriesComputed};
 ghost use Rattle.vs_design.specs.ExampleRefusals.{RefusalsComputed};
 ghost use Rattle.vs_design.specs.ExampleSets.{SetsComputed};
 ghost use Rattle.vs_design.specs.ExampleSizes.{SizesComputed};
+ghost use Rattle.vs_design.specs.ExampleTogether.{TogetherComputed};
 ghost use Rattle.vs_design.specs.ExampleValues.{ValuesComputed};
 ghost use Rattle.vs_design.specs.Laws.{AcceptedExactly, AcceptedIsLawful, AscendingHas, AscendingRises, BitsOfDesign, BoundOfDesign, ClockNetsAre, EveryOrderOfDesign, LevelOrderIs, LevelRunOfDesign, OneFamilies, OnePassOfDesign, OneSolutionOfDesign, OrderOrCycle, RunsEndOfDesign, SleepersOfDesign, SleepingIs, StarMissesNone, UnmixedHasNoRace};
+ghost use Rattle.vs_design.specs.Memories.{WordsAre};
 ghost use Rattle.vs_design.specs.Paths.{LatchBitsAre};
 ghost use Rattle.vs_design.specs.RefusalLaws.{BlockRefusalIs, ClockRefusalIs, DriverRefusalIs, DriversAre, WidthRefusalIs, ZeroRefusalIs};
 ghost use Rattle.vs_design.specs.SlotValues.{SlotValuesAre};
@@ -31,7 +35,7 @@ pub fn reads_law()
     ensures body { BodyReads }
 {}
 
-/// What is written: by an assign exactly its target's bits, by a statement bits of its own, at least those that it assigns on every path; a combinational block leaves no updates, and a clocked one makes no blocking writes.
+/// What is written: by an assign exactly its target's bits, by a statement bits of its own, at least those that it assigns on every path; a combinational block leaves no updates, and a statement without blocking assignments writes nothing at once.
 pub fn write_law()
     ensures assign { AssignWritesExactly }
     ensures body { BodyWritesWithin }
@@ -135,6 +139,11 @@ pub fn exists_law()
     ensures { LevelRunOfDesign }
 {}
 
+/// Each word of a memory has, at the end of each slot, the last value that a clocked block or an active reset gave it, at once or by an update, and is all x before the first (IEEE 1364-2005, 4.9).
+pub fn memory_law()
+    ensures { WordsAre }
+{}
+
 /// One pass over any level order of an accepted design solves the equations of a slot.
 pub fn pass_law()
     ensures { OnePassOfDesign }
@@ -170,6 +179,11 @@ pub fn body_examples()
     ensures { BodiesComputed }
 {}
 
+/// Worked functions and calls (IEEE 1364-2005, 10.4): their values, sizes and sets, and what refuses them.
+pub fn call_examples()
+    ensures { CallsComputed }
+{}
+
 /// Worked sets of values.
 pub fn set_examples()
     ensures { SetsComputed }
@@ -188,6 +202,16 @@ pub fn design_examples()
 /// Worked designs with blocking assignments in clocked blocks: their sizes, which of them have a race, that the rule MixedAssign refuses them, and the values that their networks have at the end of each slot.
 pub fn blocking_examples()
     ensures { BlockingComputed }
+{}
+
+/// Worked memories: places of words, what is read and written, sizes, and the values at the end of each slot.
+pub fn memory_examples()
+    ensures { MemoriesComputed }
+{}
+
+/// Worked designs in which memories, functions and blocking assignments meet: a call with a word as its argument, and a word that a run writes twice at once.
+pub fn together_examples()
+    ensures { TogetherComputed }
 {}
 
 /// Worked designs that are refused, and with what.

@@ -1,4 +1,4 @@
-use Rattle.vs_design.proofs.SetValue.{value_in}
+use Rattle.vs_design.proofs.SetCalls.{value_in}
 use Rattle.vs_design.proofs.SetStatement.{body_in}
 use Rattle.vs_design.proofs.SetReads.{lifted_reads}
 use Rattle.vs_design.proofs.SetReadsBody.{body_sets_read}

@@ -1,0 +1,321 @@
+-- The words of memories are those that their updates give.
+use Rattle.std.proofs.Common.{◌≡◌, ◌≢◌, ℕ, zero, suc, ◌+◌, ◌*◌, ◌<◌, Bool, true, false, List, [], ◌∷◌, ◌++◌, ◌||◌, ◌&&◌, ◌==◌, if◌then◌else◌, ◌⊎◌, inl, inr, refl, sym, ap, ◌∙◌, subst, map, Option, Some, None}
+use Rattle.std.specs.Prelude.{slice_get, not}
+use Rattle.std.specs.List.{list_all}
+use Rattle.vs_four.specs.declared.Bit4.TheVariants.{X}
+use Rattle.vs_four.specs.Logic.{BitList}
+use Rattle.vs_four.specs.Tables.{same}
+use Rattle.vs_four.specs.Numbers.{all_x}
+use Rattle.vs_four.specs.Selects.{range_length}
+use Rattle.vs_net.specs.Network.{State, Write, Update, Effect, write_all, is_written, flatten, to_value}
+use Rattle.vs_net.specs.Network as N
+use Rattle.vs_net.specs.Queue.{Slot, Fall, Rise}
+use Rattle.vs_net.specs.Solution.{reset_effects, beginning, IsSlotEnd, IsSolution}
+use Rattle.vs_net.proofs.Beginning.{begins_none}
+use Rattle.vs_net.proofs.Basics.{write_all_at, write_all_covered, write_all_other, write_all-append}
+use Rattle.vs_design.specs.Expressions.{Signal, word_length, addresses}
+use Rattle.vs_design.specs.Values.{count_from, bits_of_signal, read}
+use Rattle.vs_design.specs.Statements.{Statement}
+use Rattle.vs_design.specs.Bodies.{body}
+use Rattle.vs_design.specs.Designs.{Event, Process, Continuous, Always, is_clocked, Design}
+use Rattle.vs_design.specs.Footprints.{contains, statement_bits, writes_of, net_bits, variable_bits, input_bits, is_memory, is_variable}
+use Rattle.vs_design.specs.Clocks.{clock_nets, root_of, events_of}
+use Rattle.vs_design.specs.Resets.{reset_of}
+use Rattle.vs_design.specs.Networks.{network_of, idle_value}
+use Rattle.vs_design.specs.Elaborated.{are_lawful_words, is_lawful_memory, is_formed_process, is_formed_statement, are_formed_events, has_clocked_words, writes_no_word}
+use Rattle.vs_design.specs.Accepted.{IsAcceptedDesign}
+use Rattle.vs_design.specs.SlotValues.{register_value}
+use Rattle.vs_design.specs.Memories.{word_bits, block_effects, effects_if, process_effects, slot_effects, word_after, word_along, WordsAre}
+use Rattle.vs_design.proofs.Lists.{by_test, and_both, or_right, contains_head}
+use Rattle.vs_design.proofs.Writes.{either_way, written-append}
+use Rattle.vs_design.proofs.Parts.{all_at}
+use Rattle.vs_design.proofs.Drivers.{one_process}
+use Rattle.vs_design.proofs.Formed.{filtered_bits}
+use Rattle.vs_design.proofs.Facts.{assign_facts, block_facts}
+use Rattle.vs_design.proofs.LawfulParts.{variables_not_inputs, variables_not_nets}
+use Rattle.vs_design.proofs.TreeFacts.{body_within_bits}
+use Rattle.vs_design.proofs.ResetLaws.{given, reset_is}
+use Rattle.vs_design.proofs.SlotEnds.{slot_values_are}
+use Rattle.vs_design.proofs.WholeWords.{AllOrNone, AllHave, have_append, word_in_bits, unworded_apart, body_all}
+
+-- ---- lists of updates
+
+flatten-append : (us vs : List Update) → flatten (us ++ vs) ≡ flatten us ++ flatten vs
+unfolding flatten
+flatten-append [] vs = refl
+flatten-append (u ∷ us) vs = ap {B = List Write} (λ ws. u ++ ws) (flatten-append us vs) ∙ assoc u (flatten us) (flatten vs)
+  where
+    assoc : (xs ys zs : List Write) → xs ++ (ys ++ zs) ≡ (xs ++ ys) ++ zs
+    assoc [] ys zs = refl
+    assoc (x ∷ xs) ys zs = ap {B = List Write} (λ ws. x ∷ ws) (assoc xs ys zs)
+
+nothing_written : (b : ℕ) → is_written (flatten []) b ≡ false
+unfolding flatten is_written
+nothing_written b = refl
+
+nothing_changed : (s : State) (b : ℕ) → write_all s (flatten []) b ≡ s b
+unfolding flatten write_all
+nothing_changed s b = refl
+
+given_written : (x : Effect) (b : ℕ) → is_written (flatten (given x)) b ≡ (is_written x.writes b || is_written (flatten x.updates) b)
+unfolding flatten
+given_written x b = written-append x.writes (flatten x.updates) b
+
+-- ---- one word after some updates
+
+all_have : (f : ℕ → Bool) (bits : List ℕ) → ((b : ℕ) → contains bits b ≡ true → f b ≡ true) → list_all f bits ≡ true
+all_have f [] h = refl
+all_have f (b ∷ bits) h = both (f b) (list_all f bits) (h b (contains_head b bits)) (all_have f bits (λ c k. h c (or_right (c == b) (contains bits c) k)))
+  where
+    both : (a c : Bool) → a ≡ true → c ≡ true → (a && c) ≡ true
+    both true c p q = q
+    both false c p q = cc
+
+read_same : (bits : List ℕ) (s t : State) → ((b : ℕ) → contains bits b ≡ true → s b ≡ t b) → read s bits ≡ read t bits
+read_same [] s t h = refl
+read_same (b ∷ bits) s t h =
+    let head : s b ≡ t b = h b (contains_head b bits) in
+    let rest : read s bits ≡ read t bits = read_same bits s t (λ c k. h c (or_right (c == b) (contains bits c) k)) in
+    cc
+
+list_has : (f : ℕ → Bool) (bits : List ℕ) (b : ℕ) → list_all f bits ≡ true → contains bits b ≡ true → f b ≡ true
+list_has f [] b h k = cc
+list_has f (c ∷ bits) b h k =
+    let p = and_both (f c) (list_all f bits) h in
+    by_test (b == c)
+    (λ e. subst (λ x. f x ≡ true) (sym (Rattle.std.proofs.Common.eqb-true b c e)) p.0)
+    (λ e. list_has f bits b p.1 (subst (λ x. (x || contains bits b) ≡ true) e k))
+
+-- an update gives a word its value, or leaves it
+one_update : (bits : List ℕ) (u : Update) (s : State) → AllOrNone bits u → read (write_all s u) bits ≡ (if list_all (is_written u) bits then read (write_all (λ b. X) u) bits else read s bits)
+one_update bits u s h =
+    by_test (list_all (is_written u) bits)
+    (λ e. rw e (read_same bits (write_all s u) (write_all (λ b. X) u) (λ b k. write_all_covered u s (λ b. X) b (list_has (is_written u) bits b e k))))
+    (λ e. rw e (read_same bits (write_all s u) s (λ b k. write_all_other u s b (none b k e))))
+  where
+    none : (b : ℕ) → contains bits b ≡ true → list_all (is_written u) bits ≡ false → is_written u b ≡ false
+    none b k e = by_test (is_written u b) (λ w. absurd (either_way (list_all (is_written u) bits) (all_have (is_written u) bits (λ c m. h b c k m w)) e)) (λ w. w)
+
+after_updates : (bits : List ℕ) (us : List Update) (s : State) → AllHave (AllOrNone bits) us → read (write_all s (flatten us)) bits ≡ word_after us bits (read s bits)
+unfolding flatten
+after_updates bits [] s h = read_same bits (write_all s []) s (λ b k. nothing_changed s b)
+after_updates bits (u ∷ us) s h =
+    ap {B = BitList} (λ (t : State). read t bits) (write_all-append u (flatten us) s)
+    ∙ after_updates bits us (write_all s u) h.1
+    ∙ ap {B = BitList} (word_after us bits) (one_update bits u s h.0)
+
+-- ---- who writes a bit
+
+-- a process that writes the bit, or none does
+pub data AWriter (ps : List Process) (b : ℕ) : Type 0 where
+  a_writer : (p : ℕ) (x : Process) → slice_get ps p ≡ Some x → contains (writes_of x) b ≡ true → AWriter ps b
+  no_writer : ((p : ℕ) (x : Process) → slice_get ps p ≡ Some x → contains (writes_of x) b ≡ false) → AWriter ps b
+
+find_writer : (ps : List Process) (b : ℕ) → AWriter ps b
+find_writer [] b = no_writer (λ p x e. cc)
+find_writer (y ∷ ps) b = by_test (contains (writes_of y) b) (λ e. a_writer zero y refl e) (λ e. later (find_writer ps b) e)
+  where
+    some_is : (x y : Process) → Some x ≡ Some y → x ≡ y
+    some_is x y e = cc
+
+    later : AWriter ps b → contains (writes_of y) b ≡ false → AWriter (y ∷ ps) b
+    later (a_writer p x e w) k = a_writer (suc p) x e w
+    later (no_writer f) k = no_writer none
+      where
+        none : (p : ℕ) (x : Process) → slice_get (y ∷ ps) p ≡ Some x → contains (writes_of x) b ≡ false
+        none zero x e = subst (λ z. contains (writes_of z) b ≡ false) (some_is y x e) k
+        none (suc p) x e = f p x e
+
+module _ (d : Design) (name : List ℕ) (a : IsAcceptedDesign d name) where
+  abbrev clock : ℕ
+  clock = a.clock.first
+
+  formed_at : (p place : ℕ) (star : Bool) (events : List Event) (st : Statement) → slice_get d.processes p ≡ Some (Always place star events st) → is_formed_statement d st ≡ true
+  formed_at p place star events st h = (and_both (are_formed_events d star events) (is_formed_statement d st) (all_at (is_formed_process d) d.processes p (Always place star events st) a.lawful.formed h)).1
+
+  -- ---- the updates of a block are those of its statement, or none
+
+  module _ (slot : Slot) (before : State) where
+    abbrev updates_of : Process → List Update
+    updates_of x = process_effects d clock slot before x
+
+    data FromBody (st : Statement) (us : List Update) : Type 0 where
+      of_none : us ≡ [] → FromBody st us
+      of_body : (s : State) → us ≡ given (body st s) → FromBody st us
+
+    from_body : (p place : ℕ) (star : Bool) (events : List Event) (st : Statement) → slice_get d.processes p ≡ Some (Always place star events st) → FromBody st (updates_of (Always place star events st))
+    from_body p place star events st h = by_kind (is_clocked (Always place star events st))
+      where
+        reset : Option N.Reset
+        reset = reset_of d clock (Always place star events st)
+
+        resets : (v : State) (o : Option N.Reset) → reset ≡ o → FromBody st (reset_effects o v)
+        resets v None e = of_none refl
+        resets v (Some r) e = active (same (v r.input) (to_value r.edge))
+          where
+            active : (t : Bool) → FromBody st (if t then N.branch r else [])
+            active true = of_body (λ b. to_value r.edge) (sym ((reset_is d (root_of d clock) (events_of (clock_nets d clock) (root_of d clock) events) st r e).run (formed_at p place star events st h) (λ b. to_value r.edge) refl))
+            active false = of_none refl
+
+        in_slot : (x : Slot) → FromBody st (block_effects reset st x before)
+        in_slot (Fall v) = resets v reset refl
+        in_slot Rise = of_body before refl
+
+        by_kind : (c : Bool) → FromBody st (effects_if c reset st slot before)
+        by_kind true = in_slot slot
+        by_kind false = of_none refl
+
+    -- so they write bits of the block alone
+    within : (p b : ℕ) (x : Process) → slice_get d.processes p ≡ Some x → is_written (flatten (updates_of x)) b ≡ true → contains (writes_of x) b ≡ true
+    within p b (Continuous place port target_place target e) h w = absurd (either_way (is_written (flatten []) b) w (nothing_written b))
+    within p b (Always place star events st) h w = go (updates_of (Always place star events st)) (from_body p place star events st h) w
+      where
+        go : (us : List Update) → FromBody st us → is_written (flatten us) b ≡ true → contains (statement_bits st) b ≡ true
+        go us (of_none e) w = absurd (either_way (is_written (flatten []) b) (subst (λ (us : List Update). is_written (flatten us) b ≡ true) e w) (nothing_written b))
+        go us (of_body s e) w = by_part s (subst (λ (us : List Update). is_written (flatten us) b ≡ true) e w)
+          where
+            by_part : (s : State) → is_written (flatten (given (body st s))) b ≡ true → contains (statement_bits st) b ≡ true
+            by_part s w = by_test (is_written (body st s).writes b)
+                (λ q. body_within_bits st (block_facts d name a p place star events st h).fit s b (inl q))
+                (λ q. body_within_bits st (block_facts d name a p place star events st h).fit s b (inr (subst (λ c. (c || is_written (flatten (body st s).updates) b) ≡ true) q (sym (given_written (body st s) b) ∙ w))))
+
+    -- ---- all updates at one bit
+
+    none_written : (b : ℕ) (ps : List Process) → ((q : ℕ) (y : Process) → slice_get ps q ≡ Some y → is_written (flatten (updates_of y)) b ≡ false) → is_written (flatten (slot_effects d clock slot before ps)) b ≡ false
+    none_written b [] h = nothing_written b
+    none_written b (y ∷ ps) h =
+        ap (λ ws. is_written ws b) (flatten-append (updates_of y) (slot_effects d clock slot before ps))
+        ∙ written-append (flatten (updates_of y)) (flatten (slot_effects d clock slot before ps)) b
+        ∙ neither _ _ (h zero y refl) (none_written b ps (λ q z e. h (suc q) z e))
+      where
+        neither : (s t : Bool) → s ≡ false → t ≡ false → (s || t) ≡ false
+        neither true t p q = cc
+        neither false t p q = q
+
+    one_writes : (b : ℕ) (ps : List Process) (p : ℕ) (x : Process) → slice_get ps p ≡ Some x → ((q : ℕ) (y : Process) → slice_get ps q ≡ Some y → q ≢ p → is_written (flatten (updates_of y)) b ≡ false)
+        → write_all before (flatten (slot_effects d clock slot before ps)) b ≡ write_all before (flatten (updates_of x)) b
+    one_writes b [] p x e h = cc
+    one_writes b (y ∷ ps) zero x e h =
+        ap (λ ws. write_all before ws b) (flatten-append (updates_of y) (slot_effects d clock slot before ps))
+        ∙ ap (λ (t : State). t b) (write_all-append (flatten (updates_of y)) (flatten (slot_effects d clock slot before ps)) before)
+        ∙ write_all_other (flatten (slot_effects d clock slot before ps)) (write_all before (flatten (updates_of y))) b (none_written b ps (λ q z f. h (suc q) z f (λ n. apart q n)))
+        ∙ ap (λ z. write_all before (flatten (updates_of z)) b) (some_is y x e)
+      where
+        some_is : (x y : Process) → Some x ≡ Some y → x ≡ y
+        some_is x y e = cc
+
+        apart : (q : ℕ) → suc q ≡ zero → ⊥
+        apart q n = cc
+    one_writes b (y ∷ ps) (suc p) x e h =
+        ap (λ ws. write_all before ws b) (flatten-append (updates_of y) (slot_effects d clock slot before ps))
+        ∙ ap (λ (t : State). t b) (write_all-append (flatten (updates_of y)) (flatten (slot_effects d clock slot before ps)) before)
+        ∙ write_all_at (flatten (slot_effects d clock slot before ps)) (write_all before (flatten (updates_of y))) before b (write_all_other (flatten (updates_of y)) before b (h zero y refl (λ n. apart n)))
+        ∙ one_writes b ps p x e (λ q z f n. h (suc q) z f (λ m. n (before_suc q m)))
+      where
+        apart : zero ≡ suc p → ⊥
+        apart n = cc
+
+        before_suc : (q : ℕ) → suc q ≡ suc p → q ≡ p
+        before_suc q m = cc
+
+  -- ---- a memory's bits
+
+  module _ (i : ℕ) (s : Signal) (at : slice_get d.signals i ≡ Some s) (memory : is_memory s ≡ true) where
+    variable_is : is_variable s ≡ true
+    variable_is = go (is_memory s) (is_variable s) memory (and_both (are_lawful_words s.words) (not (is_memory s) || is_variable s) (all_at is_lawful_memory d.signals i s a.lawful.memories at)).1
+      where
+        go : (m v : Bool) → m ≡ true → (not m || v) ≡ true → v ≡ true
+        go true v p q = q
+        go false v p q = cc
+
+    of_variable : (b : ℕ) → contains (bits_of_signal s) b ≡ true → contains (variable_bits d) b ≡ true
+    of_variable b h = filtered_bits is_variable d.signals i s b at variable_is h
+
+    -- clocked blocks alone write them
+    clocked_writer : (p b : ℕ) (x : Process) → contains (bits_of_signal s) b ≡ true → slice_get d.processes p ≡ Some x → contains (writes_of x) b ≡ true → is_clocked x ≡ true
+    clocked_writer p b (Continuous place port target_place target e) k h w = absurd (variables_not_nets d name a clock b (of_variable b k) ((assign_facts d name a p place port target_place target e h).nets b w))
+    clocked_writer p b (Always place star events st) k h w =
+        by_test (is_clocked (Always place star events st))
+        (λ e. e)
+        (λ e. absurd (unworded_apart d a.lawful.bits_numbered i s at memory st b (formed_at p place star events st h)
+        (subst (λ c. (c || writes_no_word st) ≡ true) e (all_at has_clocked_words d.processes p (Always place star events st) a.lawful.clocked_words h)) w k))
+
+    -- at the end of a slot they have what all updates give
+    slot_bit : (slot : Slot) (before t : State) → IsSlotEnd (network_of d clock) before slot t → (b : ℕ) → contains (bits_of_signal s) b ≡ true → t b ≡ write_all before (flatten (slot_effects d clock slot before d.processes)) b
+    slot_bit slot before t h b k = go (find_writer d.processes b)
+      where
+        go : AWriter d.processes b → t b ≡ write_all before (flatten (slot_effects d clock slot before d.processes)) b
+        go (no_writer f) =
+            ((slot_values_are d name a before slot t).0 h).kept b f (by_test (contains (input_bits d) b) (λ e. absurd (variables_not_inputs d name a clock b (of_variable b k) e)) (λ e. e))
+            ∙ sym (write_all_other (flatten (slot_effects d clock slot before d.processes)) before b (none_written slot before b d.processes (λ q y e. silent q y e (f q y e))))
+          where
+            silent : (q : ℕ) (y : Process) → slice_get d.processes q ≡ Some y → contains (writes_of y) b ≡ false → is_written (flatten (updates_of slot before y)) b ≡ false
+            silent q y e n = by_test (is_written (flatten (updates_of slot before y)) b) (λ w. absurd (either_way (contains (writes_of y) b) (within slot before q b y e w) n)) (λ w. w)
+        go (a_writer p x e w) = written x e w (clocked_writer p b x k e w) ∙ sym (one_writes slot before b d.processes p x e others)
+          where
+            others : (q : ℕ) (y : Process) → slice_get d.processes q ≡ Some y → q ≢ p → is_written (flatten (updates_of slot before y)) b ≡ false
+            others q y f n = by_test (is_written (flatten (updates_of slot before y)) b) (λ v. absurd (n (one_process d p q x y b a.one_driver e f w (within slot before q b y f v)))) (λ v. v)
+
+            written : (x : Process) → slice_get d.processes p ≡ Some x → contains (writes_of x) b ≡ true → is_clocked x ≡ true → t b ≡ write_all before (flatten (updates_of slot before x)) b
+            written (Continuous place port target_place target e) f v c = cc
+            written (Always place star events st) f v c =
+                ((slot_values_are d name a before slot t).0 h).register p place star events st f c b v
+                ∙ by_slot slot (reset_of d clock (Always place star events st))
+                ∙ ap (λ g. write_all before (flatten (effects_if g (reset_of d clock (Always place star events st)) st slot before)) b) (sym c)
+              where
+                by_slot : (x : Slot) (o : Option N.Reset) → register_value o st x before b ≡ write_all before (flatten (block_effects o st x before)) b
+                by_slot (Fall v) o = refl
+                by_slot Rise o = refl
+
+    -- ---- slot by slot
+
+    module _ (k : ℕ) (low : k < range_length (addresses s)) where
+      abbrev bits : List ℕ
+      bits = word_bits s k
+
+      updates_all : (slot : Slot) (before : State) (p : ℕ) (x : Process) → slice_get d.processes p ≡ Some x → AllHave (AllOrNone bits) (updates_of slot before x)
+      updates_all slot before p (Continuous place port target_place target e) h = tt
+      updates_all slot before p (Always place star events st) h = go (updates_of slot before (Always place star events st)) (from_body slot before p place star events st h)
+        where
+          go : (us : List Update) → FromBody slot before st us → AllHave (AllOrNone bits) us
+          go us (of_none e) = subst (AllHave (AllOrNone bits)) (sym e) tt
+          go us (of_body r e) = subst (AllHave (AllOrNone bits)) (sym e) (body_all d a.lawful.bits_numbered i s at memory k low st r (formed_at p place star events st h))
+
+      slot_all : (slot : Slot) (before : State) (ps : List Process) → ((p : ℕ) (x : Process) → slice_get ps p ≡ Some x → AllHave (AllOrNone bits) (updates_of slot before x)) → AllHave (AllOrNone bits) (slot_effects d clock slot before ps)
+      slot_all slot before [] h = tt
+      slot_all slot before (x ∷ ps) h = have_append (AllOrNone bits) (updates_of slot before x) (slot_effects d clock slot before ps) (h zero x refl) (slot_all slot before ps (λ p y e. h (suc p) y e))
+
+      slot_word : (slot : Slot) (before t : State) → IsSlotEnd (network_of d clock) before slot t → read t bits ≡ word_after (slot_effects d clock slot before d.processes) bits (read before bits)
+      slot_word slot before t h =
+          read_same bits t (write_all before (flatten (slot_effects d clock slot before d.processes))) (λ b m. slot_bit slot before t h b (word_in_bits s k b low m))
+          ∙ after_updates bits (slot_effects d clock slot before d.processes) before (slot_all slot before d.processes (λ p x e. updates_all slot before p x e))
+
+      along : (v : BitList) (before : State) (slots : List Slot) (xs : List State) → v ≡ read before bits → IsSolution (network_of d clock) before slots xs → map (λ x. read x bits) xs ≡ word_along d clock bits v before slots xs
+      along v before [] [] e h = refl
+      along v before [] (x ∷ xs) e h = absurd h
+      along v before (slot ∷ slots) [] e h = absurd h
+      along v before (slot ∷ slots) (x ∷ xs) e h =
+          let w : BitList = word_after (slot_effects d clock slot before d.processes) bits v in
+          let one : read x bits ≡ word_after (slot_effects d clock slot before d.processes) bits v = slot_word slot before x h.0 ∙ ap {B = BitList} (word_after (slot_effects d clock slot before d.processes) bits) (sym e) in
+          ap {B = List BitList} (λ r. r ∷ map (λ y. read y bits) xs) one
+          ∙ ap {B = List BitList} (λ r. word_after (slot_effects d clock slot before d.processes) bits v ∷ r) (along (word_after (slot_effects d clock slot before d.processes) bits v) x slots xs (sym one) h.1)
+
+      idle_word : (bs : List ℕ) → ((b : ℕ) → contains bs b ≡ true → idle_value d b ≡ X) → read (idle_value d) bs ≡ map (λ b. X) bs
+      idle_word [] h = refl
+      idle_word (b ∷ bs) h =
+          let head : idle_value d b ≡ X = h b (contains_head b bs) in
+          let rest : read (idle_value d) bs ≡ map (λ b. X) bs = idle_word bs (λ c m. h c (or_right (c == b) (contains bs c) m)) in
+          cc
+
+      all_of_x : (f n : ℕ) → map (λ b. X) (count_from f n) ≡ all_x n
+      all_of_x f zero = refl
+      all_of_x f (suc n) = ap {B = BitList} (λ r. X ∷ r) (all_of_x (suc f) n)
+
+      idle_bit : (b : ℕ) → contains (bits_of_signal s) b ≡ true → idle_value d b ≡ X
+      idle_bit b h = by_test (contains (net_bits d) b) (λ e. absurd (variables_not_nets d name a clock b (of_variable b h) e)) (λ e. rw e refl)
+
+      begins : all_x (word_length s) ≡ read (beginning (network_of d clock)) bits
+      begins = sym (read_same bits (beginning (network_of d clock)) (idle_value d) (λ b h. begins_none (network_of d clock) (λ p. refl) b) ∙ idle_word bits (λ b h. idle_bit b (word_in_bits s k b low h)) ∙ all_of_x (s.first + k * word_length s) (word_length s))
+
+pub words_are : WordsAre
+words_are d name a slots xs h i s at memory k low = along d name a i s at memory k low (all_x (word_length s)) (beginning (network_of d a.clock.first)) slots xs (begins d name a i s at memory k low) h

@@ -1,0 +1,62 @@
+-- The words of memories (IEEE 1364-2005, 4.9): what each holds at the end of a slot, from what its writers give it alone.
+use Rattle.std.specs.Prelude.{◌≡◌, ℕ, ◌+◌, ◌*◌, ◌<◌, Bool, true, false, List, [], ◌∷◌, ◌++◌, map, if◌then◌else◌, Option, Some, slice_get}
+use Rattle.std.specs.List.{list_all}
+use Rattle.vs_four.specs.declared.Bit4.TheVariants.{X}
+use Rattle.vs_four.specs.Logic.{BitList}
+use Rattle.vs_four.specs.Numbers.{all_x}
+use Rattle.vs_four.specs.Selects.{range_length}
+use Rattle.vs_net.specs.Network.{State, Update, write_all, is_written}
+use Rattle.vs_net.specs.Network as N
+use Rattle.vs_net.specs.Queue.{Slot, Fall, Rise}
+use Rattle.vs_net.specs.Solution.{reset_effects, beginning, IsSolution}
+use Rattle.vs_design.specs.Expressions.{Signal, word_length, addresses}
+use Rattle.vs_design.specs.Values.{count_from, read}
+use Rattle.vs_design.specs.Statements.{Statement}
+use Rattle.vs_design.specs.Bodies.{body}
+use Rattle.vs_design.specs.Designs.{Process, Continuous, Always, is_clocked, Design}
+use Rattle.vs_design.specs.Footprints.{is_memory}
+use Rattle.vs_design.specs.Resets.{reset_of}
+use Rattle.vs_design.specs.Networks.{network_of}
+use Rattle.vs_design.specs.Accepted.{IsAcceptedDesign}
+
+-- the bits of the word at this place, least significant first; words are placed by ascending address
+abbrev pub word_bits : Signal → ℕ → List ℕ
+word_bits s n = count_from (s.first + n * word_length s) (word_length s)
+
+-- what a clocked block gives in a slot, its blocking writes and then its updates: where the clock rises that of its statement, on the values at the end of the slot before, and where it falls that of its reset branch, where its reset input is active
+abbrev pub block_effects : Option N.Reset → Statement → Slot → State → List Update
+block_effects reset st (Fall vector) before = reset_effects reset vector
+block_effects reset st Rise before = (body st before).writes ∷ (body st before).updates
+
+abbrev pub effects_if : Bool → Option N.Reset → Statement → Slot → State → List Update
+effects_if true reset st slot before = block_effects reset st slot before
+effects_if false reset st slot before = []
+
+abbrev pub process_effects : Design → ℕ → Slot → State → Process → List Update
+process_effects d clock slot before (Continuous place port target_place target e) = []
+process_effects d clock slot before (Always place star events st) = effects_if (is_clocked (Always place star events st)) (reset_of d clock (Always place star events st)) st slot before
+
+-- that of all clocked blocks, by number
+abbrev pub slot_effects : Design → ℕ → Slot → State → List Process → List Update
+slot_effects d clock slot before [] = []
+slot_effects d clock slot before (p ∷ ps) = process_effects d clock slot before p ++ slot_effects d clock slot before ps
+
+-- the last value that one of these, each what a run writes at once or an update, gives the word of these bits, else the value that it had
+abbrev pub word_after : List Update → List ℕ → BitList → BitList
+word_after [] bits v = v
+word_after (u ∷ us) bits v = word_after us bits (if list_all (is_written u) bits then read (write_all (λ b. X) u) bits else v)
+
+-- slot by slot the last value that one has given the word of these bits, from this value on; the values at the end of each slot are those of xs
+abbrev pub word_along : Design → ℕ → List ℕ → BitList → State → List Slot → List State → List BitList
+word_along d clock bits v before [] xs = []
+word_along d clock bits v before (slot ∷ slots) [] = []
+word_along d clock bits v before (slot ∷ slots) (x ∷ xs) = let w = word_after (slot_effects d clock slot before d.processes) bits v in w ∷ word_along d clock bits w x slots xs
+
+-- a word is all x until it is given a value, and then has the last one
+abbrev pub word : Design → ℕ → Signal → ℕ → State → List Slot → List State → List BitList
+word d clock s n before slots xs = word_along d clock (word_bits s n) (all_x (word_length s)) before slots xs
+
+-- in the solution of an accepted design each word of a memory is that at the end of each slot
+abbrev pub WordsAre : Type 0
+WordsAre = (d : Design) (name : List ℕ) (a : IsAcceptedDesign d name) → let n = network_of d a.clock.first in (slots : List Slot) (xs : List State) → IsSolution n (beginning n) slots xs
+    → (i : ℕ) (s : Signal) → slice_get d.signals i ≡ Some s → is_memory s ≡ true → (k : ℕ) → k < range_length (addresses s) → map (λ x. read x (word_bits s k)) xs ≡ word d a.clock.first s k (beginning n) slots xs
