@@ -12,7 +12,7 @@ use Rattle.vs_design.specs.Statements as T
 use Rattle.vs_design.specs.Fits.{fits_process}
 use Rattle.vs_design.specs.Footprints.{contains, without, all_reads, reads_of, writes_of, waits_of, wait_signals, signals_bits, statement_bits}
 use Rattle.vs_design.specs.Latches.{assigned_after, early_reads, latch_bits}
-use Rattle.vs_design.specs.Rules.{mixed_in, mixed_assigns, missing_bits, latches}
+use Rattle.vs_design.specs.Rules.{mixed_in, mixed_assigns, missing_bits, latches, function_latches}
 use Rattle.vs_design.specs.Refusals.{least, otherwise, first_found, signal_of, block_refusal_of, block_refusal, width_refusal}
 use Rattle.vs_design.specs.Refusals as R
 use Rattle.vs_flat.specs.declared.processes.Event.{Event}
@@ -198,22 +198,26 @@ process_there [] p h = absurd (omega (arith, h))
 process_there (x ∷ ps) zero h = (x, refl)
 process_there (x ∷ ps) (suc p) h = process_there ps p (omega (arith, h))
 
+-- where there are no functions, none has a latch
+no_functions : (d : Design) → d.functions ≡ [] → block_refusal d ≡ first_found (block_refusal_of d) 0 d.processes
+no_functions d none = ap (λ fs. otherwise (option_map R.FunctionLatch (least (function_latches fs))) (first_found (block_refusal_of d) 0 d.processes)) none
+
 -- what is found at a process, and at none before it, is found in the design
-first_of_all : (d : Design) (p : ℕ) (x : D.Process) (r : R.BlockRefusal) → slice_get d.processes p ≡ Some x → ((q : ℕ) (y : D.Process) → q < p → slice_get d.processes q ≡ Some y → block_refusal_of d q y ≡ None) → block_refusal_of d p x ≡ Some r → block_refusal d ≡ Some r
-first_of_all d p x r at none h =
+first_of_all : (d : Design) → d.functions ≡ [] → (p : ℕ) (x : D.Process) (r : R.BlockRefusal) → slice_get d.processes p ≡ Some x → ((q : ℕ) (y : D.Process) → q < p → slice_get d.processes q ≡ Some y → block_refusal_of d q y ≡ None) → block_refusal_of d p x ≡ Some r → block_refusal d ≡ Some r
+first_of_all d plain p x r at none h =
     let from = λ (q : ℕ). let e : 0 + q ≡ q = omega arith in e in
-    found_first (block_refusal_of d) 0 d.processes p x r at (ap (λ m. block_refusal_of d m x) (from p) ∙ h) (λ q y l k. ap (λ m. block_refusal_of d m y) (from q) ∙ none q y l k)
+    no_functions d plain ∙ found_first (block_refusal_of d) 0 d.processes p x r at (ap (λ m. block_refusal_of d m x) (from p) ∙ h) (λ q y l k. ap (λ m. block_refusal_of d m y) (from q) ∙ none q y l k)
 
-pub first_refused : (d : Design) (p : ℕ) (x : D.Process) (e : BlockError) → slice_get d.processes p ≡ Some x → ((q : ℕ) (y : D.Process) → q < p → slice_get d.processes q ≡ Some y → block_refusal_of d q y ≡ None) → IsErrorOf d p x e → IsBlockError d e
-first_refused d p x (MixedAssign at) there none h = first_of_all d p x (R.MixedAssign at) there none h
-first_refused d p x (Sensitivity process signal at) there none h = first_of_all d p x (R.Sensitivity process signal at) there none h
-first_refused d p x (Latch process bit at) there none h = first_of_all d p x (R.Latch process bit at) there none h
-first_refused d p x Memory there none h = tt
+pub first_refused : (d : Design) → d.functions ≡ [] → (p : ℕ) (x : D.Process) (e : BlockError) → slice_get d.processes p ≡ Some x → ((q : ℕ) (y : D.Process) → q < p → slice_get d.processes q ≡ Some y → block_refusal_of d q y ≡ None) → IsErrorOf d p x e → IsBlockError d e
+first_refused d plain p x (MixedAssign at) there none h = first_of_all d plain p x (R.MixedAssign at) there none h
+first_refused d plain p x (Sensitivity process signal at) there none h = first_of_all d plain p x (R.Sensitivity process signal at) there none h
+first_refused d plain p x (Latch process bit at) there none h = first_of_all d plain p x (R.Latch process bit at) there none h
+first_refused d plain p x Memory there none h = tt
 
-pub none_refused : (d : Design) (n : ℕ) → length d.processes ≤ n → ((q : ℕ) (y : D.Process) → q < n → slice_get d.processes q ≡ Some y → block_refusal_of d q y ≡ None) → block_refusal d ≡ None
-none_refused d n many none =
+pub none_refused : (d : Design) → d.functions ≡ [] → (n : ℕ) → length d.processes ≤ n → ((q : ℕ) (y : D.Process) → q < n → slice_get d.processes q ≡ Some y → block_refusal_of d q y ≡ None) → block_refusal d ≡ None
+none_refused d plain n many none =
     let from = λ (q : ℕ). let e : 0 + q ≡ q = omega arith in e in
-    found_none (block_refusal_of d) 0 d.processes (λ q y l k. ap (λ m. block_refusal_of d m y) (from q) ∙ none q y (omega (arith, l, many)) k)
+    no_functions d plain ∙ found_none (block_refusal_of d) 0 d.processes (λ q y l k. ap (λ m. block_refusal_of d m y) (from q) ∙ none q y (omega (arith, l, many)) k)
 
 -- what `?` hands on
 pub refused_exit : {A : Type 0} (d : Design) (r : Result A BlockError) (e : BlockError) → IsErrAnd r (λ y. y ≡ e) → IsBlockError d e → IfErr r (IsBlockError d)

@@ -132,27 +132,27 @@ module _ (tree : ℕ → E.Expression) (body : ℕ → T.Statement) (other : Opt
   or_order false false true = refl
   or_order false false false = refl
 
-  arm_early : (x : Arm) (rest : T.Arms) (bits : List ℕ) (b : ℕ) → contains (early_in_arms (T.Arm (map tree x.items) (body x.statement) rest) bits) b
-      ≡ (contains (without (items_reads (map tree x.items)) bits) b || (contains (early_reads (body x.statement) bits) b || contains (early_in_arms rest bits) b))
+  arm_early : (x : Arm) (rest : T.Arms) (bits : List ℕ) (b : ℕ) → contains (early_in_arms (T.Arm (E.items_of (map tree x.items)) (body x.statement) rest) bits) b
+      ≡ (contains (without (items_reads (E.items_of (map tree x.items))) bits) b || (contains (early_reads (body x.statement) bits) b || contains (early_in_arms rest bits) b))
   arm_early x rest bits b =
-      contains-append (without (items_reads (map tree x.items)) bits) (early_reads (body x.statement) bits ++ early_in_arms rest bits) b
-      ∙ ap {B = Bool} (λ t. contains (without (items_reads (map tree x.items)) bits) b || t) (contains-append (early_reads (body x.statement) bits) (early_in_arms rest bits) b)
+      contains-append (without (items_reads (E.items_of (map tree x.items))) bits) (early_reads (body x.statement) bits ++ early_in_arms rest bits) b
+      ∙ ap {B = Bool} (λ t. contains (without (items_reads (E.items_of (map tree x.items))) bits) b || t) (contains-append (early_reads (body x.statement) bits) (early_in_arms rest bits) b)
 
   early_more : (arms : List Arm) (arm : Arm) (bits : List ℕ) (b : ℕ) → contains (early_in_arms (arms_tree tree body other (arms ++ arm ∷ [])) bits) b
-      ≡ (contains (early_in_arms (arms_tree tree body other arms) bits) b || (contains (without (items_reads (map tree arm.items)) bits) b || contains (early_reads (body arm.statement) bits) b))
+      ≡ (contains (early_in_arms (arms_tree tree body other arms) bits) b || (contains (without (items_reads (E.items_of (map tree arm.items))) bits) b || contains (early_reads (body arm.statement) bits) b))
   early_more [] arm bits b =
-      arm_early arm (T.Default (branch body other)) bits b ∙ or_order (contains (without (items_reads (map tree arm.items)) bits) b) (contains (early_reads (body arm.statement) bits) b) (contains (early_reads (branch body other) bits) b)
+      arm_early arm (T.Default (branch body other)) bits b ∙ or_order (contains (without (items_reads (E.items_of (map tree arm.items))) bits) b) (contains (early_reads (body arm.statement) bits) b) (contains (early_reads (branch body other) bits) b)
   early_more (x ∷ xs) arm bits b =
-      let items = contains (without (items_reads (map tree x.items)) bits) b in
+      let items = contains (without (items_reads (E.items_of (map tree x.items))) bits) b in
       let here = contains (early_reads (body x.statement) bits) b in
       arm_early x (arms_tree tree body other (xs ++ arm ∷ [])) bits b
       ∙ ap {B = Bool} (λ t. items || (here || t)) (early_more xs arm bits b)
-      ∙ or_turned items here (contains (early_in_arms (arms_tree tree body other xs) bits) b) (contains (without (items_reads (map tree arm.items)) bits) b) (contains (early_reads (body arm.statement) bits) b)
-      ∙ ap {B = Bool} (λ t. t || (contains (without (items_reads (map tree arm.items)) bits) b || contains (early_reads (body arm.statement) bits) b)) (sym (arm_early x (arms_tree tree body other xs) bits b))
+      ∙ or_turned items here (contains (early_in_arms (arms_tree tree body other xs) bits) b) (contains (without (items_reads (E.items_of (map tree arm.items))) bits) b) (contains (early_reads (body arm.statement) bits) b)
+      ∙ ap {B = Bool} (λ t. t || (contains (without (items_reads (E.items_of (map tree arm.items))) bits) b || contains (early_reads (body arm.statement) bits) b)) (sym (arm_early x (arms_tree tree body other xs) bits b))
 
   pub arms_step : (own : List ℕ) (assigned zeroth first second : List Bool) (arms : List Arm) (i : ℕ) (arm : Arm) (paths found : List ℕ) → i < length arms → arm ≡ get_or arms i arm
       → IsWalked own (assigned_in_arms (arms_tree tree body other (take i arms))) (early_in_arms (arms_tree tree body other (take i arms))) assigned zeroth first paths
-      → IsArmWalked own (items_reads (map tree arm.items)) (body arm.statement) assigned first second paths found
+      → IsArmWalked own (items_reads (E.items_of (map tree arm.items))) (body arm.statement) assigned first second paths found
       → IsWalked own (assigned_in_arms (arms_tree tree body other (take (i + 1) arms))) (early_in_arms (arms_tree tree body other (take (i + 1) arms))) assigned zeroth second found
   arms_step own assigned zeroth first second arms i arm paths found h is walked more =
       let longer : take (i + 1) arms ≡ take i arms ++ arm ∷ [] = take_more arms i arm h ∙ ap (λ x. take i arms ++ x ∷ []) (sym is) in
@@ -161,7 +161,7 @@ module _ (tree : ℕ → E.Expression) (body : ℕ → T.Statement) (other : Opt
             ap {B = Bool} (λ (xs : List Arm). contains (assigned_in_arms (arms_tree tree body other xs) bits) b) longer ∙ assigned_more (take i arms) arm bits b
             ∙ ap {B = Bool} (λ t. t && contains (assigned_after (body arm.statement) bits) b) (walked.assigns k l bits stands) ∙ sym (more.assigns k l bits stands);
         reads = λ k l bits stands. let b = bit_at own k in
-            let items = items_reads (map tree arm.items) in
+            let items = items_reads (E.items_of (map tree arm.items)) in
             let early = contains (early_in_arms (arms_tree tree body other (take i arms)) bits) b in
             let here = contains (early_reads (body arm.statement) bits) b in
             more.reads k l bits stands
@@ -251,13 +251,13 @@ walked_next own ss s start assigned next before noted after found more done step
 
 -- ---- items
 
-reads_end : (es : List E.Expression) (e : E.Expression) → items_reads (es ++ e ∷ []) ≡ items_reads es ++ read_bits e
+reads_end : (es : List E.Expression) (e : E.Expression) → items_reads (E.items_of (es ++ e ∷ [])) ≡ items_reads (E.items_of es) ++ read_bits e
 reads_end [] e = append-nil (read_bits e)
-reads_end (x ∷ es) e = ap (λ bs. read_bits x ++ bs) (reads_end es e) ∙ sym (append_assoc (read_bits x) (items_reads es) (read_bits e))
+reads_end (x ∷ es) e = ap (λ bs. read_bits x ++ bs) (reads_end es e) ∙ sym (append_assoc (read_bits x) (items_reads (E.items_of es)) (read_bits e))
 
-pub items_more : (tree : ℕ → E.Expression) (items : List ℕ) (i : ℕ) → i < length items → items_reads (map tree (take i items)) ++ read_bits (tree (get_or items i 0)) ≡ items_reads (map tree (take (i + 1) items))
+pub items_more : (tree : ℕ → E.Expression) (items : List ℕ) (i : ℕ) → i < length items → items_reads (E.items_of (map tree (take i items))) ++ read_bits (tree (get_or items i 0)) ≡ items_reads (E.items_of (map tree (take (i + 1) items)))
 items_more tree items i h =
-    sym (reads_end (map tree (take i items)) (tree (get_or items i 0))) ∙ ap items_reads (sym (map_more tree items i (get_or items i 0) h (sym (get_or_default_zero items i (get_or items i 0) h))))
+    sym (reads_end (map tree (take i items)) (tree (get_or items i 0))) ∙ ap (λ es. items_reads (E.items_of es)) (sym (map_more tree items i (get_or items i 0) h (sym (get_or_default_zero items i (get_or items i 0) h))))
 
 -- ---- the same of lists that are equal
 

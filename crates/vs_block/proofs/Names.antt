@@ -3,7 +3,8 @@ use Rattle.std.proofs.Common.{◌≡◌, ℕ, zero, suc, ◌<◌, true, ◌&&◌
 use Rattle.std.specs.Prelude.{option_map, slice_get, option_to_list, is_some}
 use Rattle.std.specs.List.{list_all, flat_map}
 use Rattle.std.proofs.lemmas.List.Folds.{list_all-append}
-use Rattle.vs_design.specs.Fits.{fits, divides_constants, is_fit, fits_target, fits_statement, fits_arms}
+use Rattle.vs_design.specs.Expressions.{items_of}
+use Rattle.vs_design.specs.Fits.{fits, divides_constants, is_fit, fit_items, fits_target, fits_statement, fits_arms}
 use Rattle.vs_flat.specs.declared.placed.Placed.{Placed}
 use Rattle.vs_flat.specs.declared.expressions.Node.{Node}
 use Rattle.vs_flat.specs.declared.expressions.Node.TheVariants.{Literal, Name, Bit, Part, Unary, Binary, Choice, Join}
@@ -75,10 +76,10 @@ branch_of : (a : Arena) (s : ℕ) (b : Option ℕ) → all_below s (option_to_li
 branch_of a s None h k = tt
 branch_of a s (Some p) h k = part_of a s p (first_below s p [] h) k
 
-values_of : (a : Arena) (items : List ℕ) → all_below (length a.nodes) items ≡ true → list_all is_fit (map (tree_of a) items) ≡ true → AreValues a items
+values_of : (a : Arena) (items : List ℕ) → all_below (length a.nodes) items ≡ true → fit_items (items_of (map (tree_of a) items)) ≡ true → AreValues a items
 values_of a [] h f k l = absurd (omega arith)
-values_of a (e ∷ es) h f zero l = fit_value a e (first_below (length a.nodes) e es h) (and_both (is_fit (tree_of a e)) (list_all is_fit (map (tree_of a) es)) f).0
-values_of a (e ∷ es) h f (suc k) l = values_of a es (rest_below (length a.nodes) e es h) (and_both (is_fit (tree_of a e)) (list_all is_fit (map (tree_of a) es)) f).1 k (omega (arith, l))
+values_of a (e ∷ es) h f zero l = fit_value a e (first_below (length a.nodes) e es h) (and_both (is_fit (tree_of a e)) (fit_items (items_of (map (tree_of a) es))) f).0
+values_of a (e ∷ es) h f (suc k) l = values_of a es (rest_below (length a.nodes) e es h) (and_both (is_fit (tree_of a e)) (fit_items (items_of (map (tree_of a) es))) f).1 k (omega (arith, l))
 
 parts_of : (a : Arena) (s : ℕ) (parts : List ℕ) → all_below s parts ≡ true → fits_statement (sequence (map (body_of a) parts)) ≡ true → AreParts a s parts
 parts_of a s [] h f k l = absurd (omega arith)
@@ -92,8 +93,8 @@ arms_of : (a : Arena) (s : ℕ) (other : Option ℕ) (arms : List Arm) → all_b
     → fits_arms (arms_tree (tree_of a) (body_of a) other arms) ≡ true → AreArms a s arms
 arms_of a s other [] h i f k arm at = absurd (let z : ⊥ = cc in z)
 arms_of a s other (x ∷ xs) h i f zero arm at =
-    let whole = and_both (list_all is_fit (map (tree_of a) x.items) && fits_statement (body_of a x.statement)) (fits_arms (arms_tree (tree_of a) (body_of a) other xs)) f in
-    let here = and_both (list_all is_fit (map (tree_of a) x.items)) (fits_statement (body_of a x.statement)) whole.0 in
+    let whole = and_both (fit_items (items_of (map (tree_of a) x.items)) && fits_statement (body_of a x.statement)) (fits_arms (arms_tree (tree_of a) (body_of a) other xs)) f in
+    let here = and_both (fit_items (items_of (map (tree_of a) x.items))) (fits_statement (body_of a x.statement)) whole.0 in
     let same : x ≡ arm = cc in
     subst (IsArm a s) same (record {
       items = values_of a x.items (both_below (length a.nodes) x.items (flat_map (λ (y : Arm). y.items) xs) h).0 here.0;
@@ -101,11 +102,11 @@ arms_of a s other (x ∷ xs) h i f zero arm at =
     })
 arms_of a s other (x ∷ xs) h i f (suc k) arm at =
     arms_of a s other xs (both_below (length a.nodes) x.items (flat_map (λ (y : Arm). y.items) xs) h).1 (rest_below s x.statement (map (λ (y : Arm). y.statement) xs) i)
-    (and_both (list_all is_fit (map (tree_of a) x.items) && fits_statement (body_of a x.statement)) (fits_arms (arms_tree (tree_of a) (body_of a) other xs)) f).1 k arm at
+    (and_both (fit_items (items_of (map (tree_of a) x.items)) && fits_statement (body_of a x.statement)) (fits_arms (arms_tree (tree_of a) (body_of a) other xs)) f).1 k arm at
 
 default_fits : (a : Arena) (other : Option ℕ) (arms : List Arm) → fits_arms (arms_tree (tree_of a) (body_of a) other arms) ≡ true → fits_statement (branch (body_of a) other) ≡ true
 default_fits a other [] f = f
-default_fits a other (x ∷ xs) f = default_fits a other xs (and_both (list_all is_fit (map (tree_of a) x.items) && fits_statement (body_of a x.statement)) (fits_arms (arms_tree (tree_of a) (body_of a) other xs)) f).1
+default_fits a other (x ∷ xs) f = default_fits a other xs (and_both (fit_items (items_of (map (tree_of a) x.items)) && fits_statement (body_of a x.statement)) (fits_arms (arms_tree (tree_of a) (body_of a) other xs)) f).1
 
 is_there : {A : Type 0} (o : Option A) (d : A) → o ≡ Some d → is_some o ≡ true
 is_there None d h = cc

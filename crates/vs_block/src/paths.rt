@@ -5,6 +5,7 @@
 ghost use Rattle.std.specs.Prelude.{◌≡◌, ◌<◌, ◌≤◌, ◌++◌, length, map, true, false, IfOk, OnOk};
 ghost use Rattle.std.specs.List.Sorted.{IsStrictlyIncreasing};
 ghost use Rattle.vs_design.specs.Fits.{fits_statement};
+ghost use Rattle.vs_design.specs.Expressions.{items_of};
 ghost use Rattle.vs_design.specs.Footprints.{read_bits, target_reads, items_reads};
 ghost use Rattle.vs_design.specs.Latches.{assigned_after, early_reads, assigned_in_arms, early_in_arms, assigns};
 ghost use Rattle.vs_flat.specs.Trees.{branch, sequence, arms_tree, target_tree};
@@ -35,7 +36,7 @@ fn note_values(
     requires assigned { length assigned.now ≡ length own.now }
     requires early { length early.old ≡ length own.now }
     requires items { AreValues shapes.now items.now }
-    ensures { OnOk result (AreNoted own.now (items_reads (map (tree_of shapes.now) items.now)) assigned.now early.old early.new) }
+    ensures { OnOk result (AreNoted own.now (items_reads (items_of (map (tree_of shapes.now) items.now))) assigned.now early.old early.new) }
 {
     let mut read = Vec::new(alloc);
     for item in items {
@@ -209,7 +210,7 @@ fn walk_arm(
     requires arm { IsArm shapes.now s arm.now }
     requires fresh { AreFresh own.now assigned.old paths.now }
     ensures same { OnOk result (assigned.new ≡ assigned.old) }
-    ensures walked { IfOk result (λ v. IsArmWalked own.now (items_reads (map (tree_of shapes.now) arm.now.items)) (body_of shapes.now arm.now.statement) assigned.old early.old early.new paths.now v.items) }
+    ensures walked { IfOk result (λ v. IsArmWalked own.now (items_reads (items_of (map (tree_of shapes.now) arm.now.items))) (body_of shapes.now arm.now.statement) assigned.old early.old early.new paths.now v.items) }
 {
     note_values(alloc, shapes, arm.items.as_slice(), own, assigned, early)?;
     let found = walk(alloc, shapes, arm.statement, own, assigned, early)?;

@@ -8,7 +8,7 @@ use Rattle.std.proofs.lemmas.Option.{slice_get_within, get_or_from_slice_get}
 use Rattle.vs_design.specs.Expressions as E
 use Rattle.vs_design.specs.Expressions.{Signal, signal_length, Expression, Name, At}
 use Rattle.vs_design.specs.Values.{count_from, bits_of_signal}
-use Rattle.vs_design.specs.Statements.{Whole, PartOf, Both}
+use Rattle.vs_design.specs.Statements.{Whole, PartOf, WordOf, Both}
 use Rattle.vs_design.specs.Designs.{Process, Written, InputPort, OutputPort, Continuous, Always, Design, bit_count}
 use Rattle.vs_design.specs.Footprints.{contains, all_reads, read_bits, writes_of, waits_of}
 use Rattle.vs_design.specs.Clocks.{name_of}
@@ -57,6 +57,8 @@ named_target (Name signal) s h = let e : signal ≡ s = cc in ap (λ z. Some (Wh
 named_target (E.Select source part index) s h = cc
 named_target (E.Unary op a) s h = cc
 named_target (E.Binary op a b) s h = cc
+named_target (E.Word signal index) s h = cc
+named_target (E.Call header statement arguments) s h = cc
 named_target (E.Choice c p q) s h = cc
 named_target (E.Join high low) s h = cc
 named_target (E.Repeat count a) s h = cc
@@ -93,6 +95,8 @@ name_read (Name signal) b h = one_is signal b h
 name_read (E.Select source part index) b h = cc
 name_read (E.Unary op a) b h = cc
 name_read (E.Binary op a c) b h = cc
+name_read (E.Word signal index) b h = cc
+name_read (E.Call header statement arguments) b h = cc
 name_read (E.Choice c p q) b h = cc
 name_read (E.Join high low) b h = cc
 name_read (E.Repeat count a) b h = cc
@@ -110,6 +114,7 @@ copy_in : (x : Process) (b t : ℕ) → port_bits x ≡ Some (b, t) → (contain
 copy_in (Continuous place Written target_place target e) b t h = cc
 copy_in (Continuous place InputPort target_place (Whole signal) e) b t h = let p = both_are (bit_of (name_of e)) (one_bit signal) b t h in (name_read e b p.0, one_is signal t p.1)
 copy_in (Continuous place InputPort target_place (PartOf signal part index) e) b t h = cc
+copy_in (Continuous place InputPort target_place (WordOf signal index) e) b t h = cc
 copy_in (Continuous place InputPort target_place (Both high low) e) b t h = cc
 copy_in (Continuous place OutputPort target_place target e) b t h = cc
 copy_in (Always place star events statement) b t h = cc

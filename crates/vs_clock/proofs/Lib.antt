@@ -4,6 +4,7 @@ pub mod ByKind
 pub mod Least
 pub mod Finding
 pub mod Ruled
+pub mod NoCalls
 pub mod Fixed
 pub mod Branches
 pub mod Refusing

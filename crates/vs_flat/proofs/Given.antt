@@ -49,12 +49,14 @@ named_target : (e : E.Expression) → is_some (name_of e) ≡ true → is_some (
 named_target (E.Literal bits signed sized) h = cc
 named_target (E.Name signal) h = refl
 named_target (E.Select source part index) h = cc
+named_target (E.Word signal index) h = cc
 named_target (E.Unary op a) h = cc
 named_target (E.Binary op a b) h = cc
 named_target (E.Choice c p q) h = cc
 named_target (E.Join high low) h = cc
 named_target (E.Repeat count a) h = cc
 named_target (E.At place e) h = named_target e h
+named_target (E.Call header statement arguments) h = cc
 
 port_target : (port : Port) (e : E.Expression) → is_target port e ≡ true → is_some (target_of e) ≡ true
 port_target P.Written e h = h

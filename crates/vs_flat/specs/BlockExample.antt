@@ -47,13 +47,13 @@ block_arena = record empty_arena {
 }
 
 abbrev pub plain_clk : E.Signal
-plain_clk = record { name = 99 ∷ 108 ∷ 107 ∷ []; scope = 0; number = 0; net = true; input = true; range = None; signed = false; first = 0 }
+plain_clk = record { name = 99 ∷ 108 ∷ 107 ∷ []; scope = 0; number = 0; net = true; input = true; range = None; signed = false; first = 0; words = None }
 
 abbrev pub vector_a : E.Signal
-vector_a = record { name = 97 ∷ []; scope = 0; number = 1; net = true; input = true; range = Some four_bits; signed = false; first = 1 }
+vector_a = record { name = 97 ∷ []; scope = 0; number = 1; net = true; input = true; range = Some four_bits; signed = false; first = 1; words = None }
 
 abbrev pub register_q : E.Signal
-register_q = record { name = 113 ∷ []; scope = 0; number = 2; net = false; input = false; range = Some four_bits; signed = false; first = 5 }
+register_q = record { name = 113 ∷ []; scope = 0; number = 2; net = false; input = false; range = Some four_bits; signed = false; first = 5; words = None }
 
 abbrev pub plain_index : ℕ → ℕ → E.Expression
 plain_index place n = E.At place (E.Literal (bits_of 32 n) true false)
@@ -74,8 +74,9 @@ block_design = record {
       (T.If (bit_of_a 84 0)
       (T.Assignment 90 (T.Whole register_q) (E.At 95 (E.Repeat 2 (E.Join (bit_of_a 98 1) (E.At 104 (E.Literal (bits_of 1 0) false true))))) false)
       (T.Case T.Exact (E.At 129 (E.Select (E.OfSignal vector_a) two_bits (plain_index 131 2)))
-      (T.Arm (E.At 140 (E.Literal (bits_of 2 1) false true) ∷ [])
+      (T.Arm (E.Item (E.At 140 (E.Literal (bits_of 2 1) false true)) E.NoItem)
       (T.Assignment 146 (T.PartOf register_q (one_bit four_bits) (plain_index 148 1)) (E.At 154 (E.Unary E.BitNot (bit_of_a 155 2))) false)
       (T.Default T.Empty))))
       ∷ [];
+  functions = [];
 }

@@ -1,5 +1,5 @@
 -- The plain design that a flat one stands for.
-use Rattle.std.specs.Prelude.{ℕ, List, map}
+use Rattle.std.specs.Prelude.{ℕ, List, [], map}
 use Rattle.vs_design.specs.Expressions as E
 use Rattle.vs_design.specs.Statements as T
 use Rattle.vs_design.specs.Designs as D
@@ -41,4 +41,5 @@ design_of a = record {
   scopes = map scope_of a.scopes;
   signals = arena_signals a;
   processes = map (process_of (signal_at (arena_signals a)) (tree_at (arena_trees a)) (statement_at (arena_statements a))) a.processes;
+  functions = [];
 }

@@ -28,7 +28,7 @@ example_arena = record example_ports {
 }
 
 abbrev pub plain_net : List ℕ → ℕ → Bool → E.Signal
-plain_net name number input = record { name = name; scope = 0; number = number; net = true; input = input; range = None; signed = false; first = number }
+plain_net name number input = record { name = name; scope = 0; number = number; net = true; input = input; range = None; signed = false; first = number; words = None }
 
 abbrev pub plain_a : E.Signal
 plain_a = plain_net (97 ∷ []) 1 true
@@ -44,4 +44,5 @@ example_design = record {
   scopes = record { name = 116 ∷ 111 ∷ 112 ∷ []; parent = None; instance = true } ∷ [];
   signals = plain_net (99 ∷ 108 ∷ 107 ∷ []) 0 true ∷ plain_a ∷ plain_b ∷ plain_y ∷ [];
   processes = D.Continuous 51 D.Written 58 (T.Whole plain_y) (E.At 62 (E.Binary E.BitAnd (E.At 62 (E.Name plain_a)) (E.At 66 (E.Name plain_b)))) ∷ [];
+  functions = [];
 }

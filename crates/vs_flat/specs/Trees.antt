@@ -14,13 +14,13 @@ use Rattle.vs_flat.specs.Targets.{source_of, target_of}
 
 -- what a number stands for that nothing has
 abbrev pub no_signal : E.Signal
-no_signal = record { name = []; scope = 0; number = 0; net = true; input = false; range = None; signed = false; first = 0 }
+no_signal = record { name = []; scope = 0; number = 0; net = true; input = false; range = None; signed = false; first = 0; words = None }
 
 abbrev pub no_expression : E.Expression
 no_expression = E.Literal [] false true
 
 abbrev pub signal_of : ℕ → Signal → E.Signal
-signal_of number s = record { name = s.name; scope = s.scope; number = number; net = s.net; input = s.input; range = s.range; signed = s.signed; first = s.first_bit }
+signal_of number s = record { name = s.name; scope = s.scope; number = number; net = s.net; input = s.input; range = s.range; signed = s.signed; first = s.first_bit; words = None }
 
 -- the signals, of which the first has this number
 abbrev pub signals_from : ℕ → List Signal → List E.Signal
@@ -87,7 +87,7 @@ sequence (s ∷ next ∷ ss) = T.Then s (sequence (next ∷ ss))
 
 abbrev pub arms_tree : (ℕ → E.Expression) → (ℕ → T.Statement) → Option ℕ → List Arm → T.Arms
 arms_tree tree statement other [] = T.Default (branch statement other)
-arms_tree tree statement other (arm ∷ arms) = T.Arm (map tree arm.items) (statement arm.statement) (arms_tree tree statement other arms)
+arms_tree tree statement other (arm ∷ arms) = T.Arm (E.items_of (map tree arm.items)) (statement arm.statement) (arms_tree tree statement other arms)
 
 abbrev pub statement_tree : (ℕ → E.Expression) → (ℕ → T.Statement) → ℕ → Statement → T.Statement
 statement_tree tree statement place S.Empty = T.Empty

@@ -1,11 +1,12 @@
 -- Expressions in which nothing is over 64 bits or divided at run time, and their parts.
 use Rattle.std.proofs.Common.{◌≡◌, ◌+◌, ◌*◌, ℕ, Bool, true, false, not, length, refl, arith}
 use Rattle.std.specs.Prelude.{◌&&◌, ◌||◌, ◌==◌, nat_le}
+use Rattle.std.specs.List.{list_all}
 use Rattle.std.proofs.lemmas.Bool.Decides.{nat_tests}
 use Rattle.vs_four.specs.Selects.{range_length}
-use Rattle.vs_design.specs.Expressions.{Expression, Literal, Name, Select, Unary, Binary, Choice, Join, Repeat, At, signal_length, width, is_constant, UnaryOp, unary_length, binary_length, Way, InContext, Own, Compared, Shifted, way}
+use Rattle.vs_design.specs.Expressions.{Expression, Literal, Name, Select, Word, Unary, Binary, Choice, Join, Repeat, At, Call, signal_length, word_length, width, is_constant, UnaryOp, unary_length, binary_length, Way, InContext, Own, Compared, Shifted, way}
 use Rattle.vs_design.specs.Expressions as E
-use Rattle.vs_design.specs.Fits.{source_length, is_fit, is_division, fits, divides_constants, fits_64}
+use Rattle.vs_design.specs.Fits.{source_length, is_fit, fit_items, fits_signal, fits_statement, is_division, fits, divides_constants, fits_64}
 use Rattle.vs_sets.specs.FitParts.{Is64, FitParts}
 
 -- ---- both tests
@@ -53,6 +54,7 @@ parts (Select source part index) p q =
     let wide = left3 (fits_64 part.width) (range_length part.range == source_length source) (fits index) p in
     let range = middle3 (fits_64 part.width) (range_length part.range == source_length source) (fits index) p in
     (is64_of part.width wide, same_number _ _ range, fit index (and_right (fits_64 part.width && (range_length part.range == source_length source)) (fits index) p) q)
+parts (Word signal index) p q = (is64_of (word_length signal) (and_left (fits_64 (word_length signal)) (fits index) p), fit index (and_right (fits_64 (word_length signal)) (fits index) p) q)
 parts (Unary op a) p q = fit a p q
 parts (Binary op a b) p q =
     let divides = not (is_division op) || (is_constant a && is_constant b) in
@@ -71,6 +73,15 @@ parts (Join high low) p q = (
 )
 parts (Repeat count a) p q = (is64_of (count * width a) (and_left (fits_64 (count * width a)) (fits a) p), fit a (and_right (fits_64 (count * width a)) (fits a) p) q)
 parts (At place e) p q = parts e p q
+parts (Call header statement arguments) p q =
+    let result = fits_64 (signal_length header.result) in
+    let inputs = list_all fits_signal header.inputs in
+    let inner = and_left (result && inputs && fit_items arguments) (fits_statement statement) p in (
+      is64_of (signal_length header.result) (left3 result inputs (fit_items arguments) inner),
+      middle3 result inputs (fit_items arguments) inner,
+      and_right (result && inputs) (fit_items arguments) inner,
+      and_right (result && inputs && fit_items arguments) (fits_statement statement) p,
+    )
 
 pub fit_parts : (e : Expression) → is_fit e ≡ true → FitParts e
 fit_parts e h = parts e (and_left (fits e) (divides_constants e) h) (and_right (fits e) (divides_constants e) h)
@@ -104,6 +115,7 @@ width64 : (e : Expression) → fits e ≡ true → Is64 (width e)
 width64 (Literal bits signed sized) p = is64_of (length bits) p
 width64 (Name signal) p = is64_of (signal_length signal) p
 width64 (Select source part index) p = is64_of part.width (left3 (fits_64 part.width) (range_length part.range == source_length source) (fits index) p)
+width64 (Word signal index) p = is64_of (word_length signal) (and_left (fits_64 (word_length signal)) (fits index) p)
 width64 (Unary op a) p = unary_is64 op (width a) (width64 a p)
 width64 (Binary op a b) p = binary_is64 (way op) (width a) (width b) (width64 a (and_left _ _ p)) (width64 b (and_right (fits a) (fits b) p))
 width64 (Choice c a b) p =
@@ -113,6 +125,9 @@ width64 (Choice c a b) p =
 width64 (Join high low) p = is64_of (width high + width low) (left3 (fits_64 (width high + width low)) (fits high) (fits low) p)
 width64 (Repeat count a) p = is64_of (count * width a) (and_left (fits_64 (count * width a)) (fits a) p)
 width64 (At place e) p = width64 e p
+width64 (Call header statement arguments) p =
+    let inputs = list_all fits_signal header.inputs in
+    is64_of (signal_length header.result) (left3 (fits_64 (signal_length header.result)) inputs (fit_items arguments) (and_left (fits_64 (signal_length header.result) && inputs && fit_items arguments) (fits_statement statement) p))
 
 -- an expression has 1 to 64 bits
 pub fit_width : (e : Expression) → is_fit e ≡ true → Is64 (width e)

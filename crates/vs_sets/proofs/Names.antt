@@ -15,7 +15,8 @@ use Rattle.vs_flat.specs.Arena.{Arena}
 use Rattle.vs_flat.specs.Named.{all_below}
 use Rattle.vs_flat.specs.Lawful.{IsLawful}
 use Rattle.vs_flat.specs.Laws.{CountsStay}
-use Rattle.vs_flat.specs.Trees.{signal_at}
+use Rattle.vs_flat.specs.declared.processes.Signal.{Signal}
+use Rattle.vs_flat.specs.Trees.{signals_from, signal_at}
 use Rattle.vs_flat.specs.DesignOf.{arena_signals, design_of}
 use Rattle.vs_sets.specs.FitParts.{Is64}
 use Rattle.vs_sets.specs.Nodes.{EachBelow, signal_of}
@@ -63,9 +64,17 @@ few_bits (Some r) h =
     let k : range_length r ≤ 64 = grind (arith, nat_tests, and_right (nat_le r.left 65535 && nat_le r.right 65535) (nat_le (range_length r) 64) h) in
     (some_bits r, k)
 
+-- a signal of an arena is no memory
+not_a_memory : (ss : List Signal) (first n : ℕ) → (signal_at (signals_from first ss) n).words ≡ None
+not_a_memory [] first n = refl
+not_a_memory (s ∷ ss) first zero = refl
+not_a_memory (s ∷ ss) first (suc n) = not_a_memory ss (suc first) n
+
 -- and there are 1 to 64 of them
 pub signal_few : CountsStay → (a : Arena) (n : ℕ) → IsLawful a → n < length a.signals → Is64 (E.signal_length (signal_of a n))
-signal_few counts a n lawful h = few_bits (signal_of a n).range (declared_at (design_of a) (arena_signals a) n lawful.design.declared (omega (arith, (counts a).signals)))
+signal_few counts a n lawful h =
+    let plain = ap (λ words. E.words_length words (E.range_or_one (signal_of a n).range)) (not_a_memory a.signals 0 n) in
+    subst Is64 (sym plain) (few_bits (signal_of a n).range (declared_at (design_of a) (arena_signals a) n lawful.design.declared (omega (arith, (counts a).signals))))
 
 -- ---- their sets
 

@@ -2,6 +2,8 @@
 use Rattle.std.proofs.Common.{◌≡◌, ℕ, zero, suc, ◌+◌, ◌<◌, ◌≤◌, Bool, true, false, List, [], ◌∷◌, ◌++◌, length, map, take, drop, get_or, Option, Some, None, refl, sym, ap, ap₂, ◌∙◌, subst, arith, ◌⊎◌, inl, inr}
 use Rattle.std.specs.Prelude.{◌&&◌, ◌||◌, ◌==◌, slice_get, slice_index, if◌then◌else◌, All}
 use Rattle.std.specs.List.{list_all}
+use Rattle.vs_design.specs.Expressions.{items_of}
+use Rattle.vs_design.specs.Fits.{fit_items}
 use mathlib.Core.Path.{fun_ext}
 use Rattle.std.proofs.lemmas.List.{drop_more}
 use Rattle.std.proofs.lemmas.List.Folds.{list_any-append}
@@ -80,16 +82,16 @@ arm_facts tree st other bits [] h c k arm e = absurd (let z : ⊥ = cc in z)
 arm_facts tree st other bits (x ∷ arms) h c zero arm e =
     let same : x ≡ arm = cc in
     subst (λ (y : F.Arm). (fits_statement (st y.statement) ≡ true) × Covers bits (st y.statement)) same
-    (and_right (list_all is_fit (map tree x.items)) _ (and_left _ _ h), left_covers bits (statement_bits (st x.statement)) (arms_bits (R.arms_tree tree st other arms)) c)
+    (and_right (fit_items (items_of (map tree x.items))) _ (and_left _ _ h), left_covers bits (statement_bits (st x.statement)) (arms_bits (R.arms_tree tree st other arms)) c)
 arm_facts tree st other bits (x ∷ arms) h c (suc k) arm e =
-    arm_facts tree st other bits arms (and_right (list_all is_fit (map tree x.items) && fits_statement (st x.statement)) _ h) (right_covers bits (statement_bits (st x.statement)) (arms_bits (R.arms_tree tree st other arms)) c) k arm e
+    arm_facts tree st other bits arms (and_right (fit_items (items_of (map tree x.items)) && fits_statement (st x.statement)) _ h) (right_covers bits (statement_bits (st x.statement)) (arms_bits (R.arms_tree tree st other arms)) c) k arm e
 
 other_facts : (tree : ℕ → Expression) (st : ℕ → Statement) (other : Option ℕ) (bits : List ℕ) (arms : List F.Arm) → fits_arms (R.arms_tree tree st other arms) ≡ true
     → ((b : ℕ) → contains (arms_bits (R.arms_tree tree st other arms)) b ≡ true → contains bits b ≡ true)
     → (fits_statement (R.branch st other) ≡ true) × Covers bits (R.branch st other)
 other_facts tree st other bits [] h c = (h, c)
 other_facts tree st other bits (x ∷ arms) h c =
-    other_facts tree st other bits arms (and_right (list_all is_fit (map tree x.items) && fits_statement (st x.statement)) _ h) (right_covers bits (statement_bits (st x.statement)) (arms_bits (R.arms_tree tree st other arms)) c)
+    other_facts tree st other bits arms (and_right (fit_items (items_of (map tree x.items)) && fits_statement (st x.statement)) _ h) (right_covers bits (statement_bits (st x.statement)) (arms_bits (R.arms_tree tree st other arms)) c)
 
 pub case_facts : (a : Arena) (nodes n : ℕ) (bits : List ℕ) (arms : List F.Arm) (other : Option ℕ) → ArmsBelow nodes n arms → BranchBelow n other → fits_arms (arms_of a other arms) ≡ true
     → ((b : ℕ) → contains (arms_bits (arms_of a other arms)) b ≡ true → contains bits b ≡ true) → (b : Option ℕ) → IsOneOf arms other b → BranchFacts a n bits b

@@ -14,8 +14,8 @@ use Rattle.vs_design.specs.Sets.{Set4}
 use Rattle.vs_design.specs.Lifted.{Family}
 use Rattle.vs_design.specs.LiftedBodies.{write_sets}
 use Rattle.std.specs.Prelude.{unwrap_or}
-use Rattle.vs_design.specs.Expressions.{Expression, Source, OfSignal, OfConstant, Signal, signal_length, Literal, Name, Select, Unary, Binary, Choice, Join, Repeat, At, width}
-use Rattle.vs_design.specs.Statements.{Target, Whole, PartOf, Both, target_width}
+use Rattle.vs_design.specs.Expressions.{Expression, Source, OfSignal, OfConstant, Signal, signal_length, word_length, Literal, Name, Select, Word, Unary, Binary, Choice, Join, Repeat, At, Call, width}
+use Rattle.vs_design.specs.Statements.{Target, Whole, PartOf, WordOf, Both, target_width}
 use Rattle.vs_flat.specs.Targets.{target_of, both_of}
 use Rattle.vs_flat.specs.Trees.{joined, no_signal}
 use Rattle.vs_design.specs.Fits.{is_fit, fits_target, fits_64}
@@ -82,6 +82,7 @@ width_at (Literal bits signed sized) t h = absurd (let z : ⊥ = cc in z)
 width_at (Name signal) t h = let same : t ≡ Whole signal = cc in ap target_width same
 width_at (Select (OfSignal signal) p index) t h = let same : t ≡ PartOf signal p index = cc in ap target_width same
 width_at (Select (OfConstant bits) p index) t h = absurd (let z : ⊥ = cc in z)
+width_at (Word signal index) t h = let same : t ≡ WordOf signal index = cc in ap target_width same
 width_at (Unary op a) t h = absurd (let z : ⊥ = cc in z)
 width_at (Binary op a b) t h = absurd (let z : ⊥ = cc in z)
 width_at (Choice c p q) t h = absurd (let z : ⊥ = cc in z)
@@ -95,6 +96,7 @@ width_at (Repeat count a) t h = at (count == 1) refl h (λ e. width_at a t e) wh
   at true e h p = let one = same_number count 1 e in p h ∙ (omega (arith, one, ap (λ n. n * width a) one))
   at false e h p = absurd (let z : ⊥ = cc in z)
 width_at (At place e) t h = width_at e t h
+width_at (Call header statement arguments) t h = absurd (let z : ⊥ = cc in z)
 
 pub target_length : (e : Expression) → IsTarget e → target_width (target_tree e) ≡ width e
 target_length e h = width_at e (target_tree e) h.is
@@ -102,6 +104,7 @@ target_length e h = width_at e (target_tree e) h.is
 few_bits : (t : Target) → fits_target t ≡ true → Is64 (target_width t)
 few_bits (Whole signal) h = is64_of (signal_length signal) h
 few_bits (PartOf signal p index) h = is64_of p.width (and_left (fits_64 p.width) _ (and_left (fits_64 p.width && (range_length p.range == signal_length signal)) (is_fit index) h))
+few_bits (WordOf signal index) h = is64_of (word_length signal) (and_left (fits_64 (word_length signal)) (is_fit index) h)
 few_bits (Both high low) h = is64_of (target_width high + target_width low) (and_left (fits_64 (target_width high + target_width low)) _ (and_left (fits_64 (target_width high + target_width low) && fits_target high) (fits_target low) h))
 
 pub target_few : (e : Expression) → IsTarget e → Is64 (width e)

@@ -67,7 +67,7 @@ assignment_twice s place target e blocking is b = ap (λ x. is_twice x b) is ∙
 pub if_twice : (c : Expression) (taken other : Statement) (b : ℕ) → (is_twice taken b || is_twice other b) ≡ is_twice (If c taken other) b
 if_twice c taken other b = sym (two_max (most_writes taken b) (most_writes other b))
 
-arm_twice : (items : List Expression) (s : Statement) (rest : Arms) (b : ℕ) → is_twice_in (Arm items s rest) b ≡ (is_twice s b || is_twice_in rest b)
+arm_twice : (items : Rattle.vs_design.specs.Expressions.Items) (s : Statement) (rest : Arms) (b : ℕ) → is_twice_in (Arm items s rest) b ≡ (is_twice s b || is_twice_in rest b)
 arm_twice items s rest b = two_max (most_writes s b) (arms_most rest b)
 
 most_next : (s : Statement) (ss : List Statement) (b : ℕ) → most_writes (R.sequence (s ∷ ss)) b ≡ most_writes s b + most_writes (R.sequence ss) b
@@ -180,7 +180,7 @@ arms_from : (tree : ℕ → Expression) (st : ℕ → Statement) (other : Rattle
 arms_from tree st other [] k arm b e = absurd (let z : ⊥ = cc in z)
 arms_from tree st other (x ∷ arms) zero arm b e =
     let same : x ≡ arm = cc in
-    arm_twice (map tree x.items) (st x.statement) (R.arms_tree tree st other arms) b ∙ ap (λ (y : F.Arm). is_twice (st y.statement) b || is_twice_in (R.arms_tree tree st other arms) b) same
+    arm_twice (Rattle.vs_design.specs.Expressions.items_of (map tree x.items)) (st x.statement) (R.arms_tree tree st other arms) b ∙ ap (λ (y : F.Arm). is_twice (st y.statement) b || is_twice_in (R.arms_tree tree st other arms) b) same
 arms_from tree st other (x ∷ arms) (suc k) arm b e = arms_from tree st other arms k arm b e
 
 pub arm_added : (tree : ℕ → Expression) (st : ℕ → Statement) (other : Rattle.std.proofs.Common.Option ℕ) (arms : List F.Arm) (k : ℕ) (arm : F.Arm) (out more before : List ℕ) → slice_get arms k ≡ Some arm

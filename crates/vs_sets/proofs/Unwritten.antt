@@ -8,8 +8,8 @@ use Rattle.std.proofs.lemmas.Bool.{cond-false}
 use Rattle.vs_net.specs.Network.{put}
 use Rattle.vs_four.specs.Selects.{places}
 use Rattle.vs_design.specs.Expressions.{sign, is_constant}
-use Rattle.vs_design.specs.Values.{bits_of_signal, constant_value}
-use Rattle.vs_design.specs.Statements.{Target, Whole, PartOf, Both, target_width, CaseKind, Statement, Empty, Assignment, Then, If, Case, Arms, Arm, Default, case_width, case_sign}
+use Rattle.vs_design.specs.Values.{bits_of_signal, word_places, constant_value}
+use Rattle.vs_design.specs.Statements.{Target, Whole, PartOf, WordOf, Both, target_width, CaseKind, Statement, Empty, Assignment, Then, If, Case, Arms, Arm, Default, case_width, case_sign}
 use Rattle.vs_design.specs.Bodies.{bits_at}
 use Rattle.vs_design.specs.Footprints.{contains, somes, target_bits, statement_bits, arms_bits}
 use Rattle.vs_design.specs.Sets.{Set4, none, union, is_only_one, all_of, set_or}
@@ -57,6 +57,11 @@ write_other (PartOf signal p index) ss f b h = at (is_constant index) h where
   at : (k : Bool) → contains (if k then somes (bits_at signal (places p (sign index) (constant_value index))) else bits_of_signal signal) b ≡ false
       → (if k then put_each (bits_at signal (places p (sign index) (constant_value index))) ss f else widen (bits_of_signal signal) (all_of ss) f) b ≡ f b
   at true h = each_other (bits_at signal (places p (sign index) (constant_value index))) ss f b h
+  at false h = cond-false (contains (bits_of_signal signal) b) _ _ h
+write_other (WordOf signal index) ss f b h = at (is_constant index) h where
+  at : (k : Bool) → contains (if k then somes (bits_at signal (word_places signal (sign index) (constant_value index))) else bits_of_signal signal) b ≡ false
+      → (if k then put_each (bits_at signal (word_places signal (sign index) (constant_value index))) ss f else widen (bits_of_signal signal) (all_of ss) f) b ≡ f b
+  at true h = each_other (bits_at signal (word_places signal (sign index) (constant_value index))) ss f b h
   at false h = cond-false (contains (bits_of_signal signal) b) _ _ h
 write_other (Both high low) ss f b h =
     write_other low (take (target_width low) ss) (write_sets high (drop (target_width low) ss) f) b (right_lacks (target_bits high) (target_bits low) b h)

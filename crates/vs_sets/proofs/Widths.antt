@@ -1,19 +1,20 @@
 -- Lifted sets are as many as the bits of their context.
-use Rattle.std.proofs.Common.{◌≡◌, ◌≤◌, ◌+◌, ◌-◌, ◌*◌, ℕ, zero, suc, Bool, true, false, ℤ, pos, if◌then◌else◌, List, [], ◌∷◌, ◌++◌, length, map, drop, refl, sym, ap, ◌∙◌, arith, length-append, None}
+use Rattle.std.proofs.Common.{◌≡◌, ◌≤◌, ◌+◌, ◌-◌, ◌*◌, ℕ, zero, suc, Bool, true, false, ℤ, pos, if◌then◌else◌, List, [], ◌∷◌, ◌++◌, length, map, take, drop, refl, sym, ap, ◌∙◌, arith, length-append, Option, Some, None}
+use Rattle.vs_four.specs.declared.Range.{Range}
 use Rattle.std.specs.Prelude.{replicate, max, min, ◌+ℤ◌, ◌-ℤ◌}
 use Rattle.vs_flat.specs.Trees.{joined}
-use Rattle.std.proofs.lemmas.List.{append-nil, length-map, length-replicate, length-take}
+use Rattle.std.proofs.lemmas.List.{append-nil, length-map, length-replicate, length-take, length-drop}
 use Rattle.vs_four.specs.declared.Bit4.TheVariants.{Zero, X}
 use Rattle.vs_four.specs.Logic.{map2, all_known, BitList}
 use Rattle.vs_four.specs.Numbers.{integer}
 use Rattle.vs_four.specs.Lengths.{last_or, join, repeat, extend_literal}
 use Rattle.vs_four.specs.Shifts.{move_up, move_down, distance}
-use Rattle.vs_four.specs.Selects.{Part, is_descending, indices, indices_up, indices_down, places, at_place, least_index, greatest_index}
-use Rattle.vs_design.specs.Sets.{Set4, only, any_result, any_value, set_shift_by, set_shift, set_choose, set_or}
+use Rattle.vs_four.specs.Selects.{Part, range_length, one_bit, is_descending, indices, indices_up, indices_down, places, at_place, least_index, greatest_index}
+use Rattle.vs_design.specs.Sets.{Set4, only, union, all_words, variable, any_result, any_value, set_shift_by, set_shift, set_choose, set_or}
 use Rattle.vs_design.specs.Expressions as E
-use Rattle.vs_design.specs.Expressions.{Expression, Literal, Name, Select, Unary, Binary, Choice, Join, Repeat, At, UnaryOp, BinaryOp, unary_length, binary_length, unary_way, way, width, sign, is_constant, signal_length}
-use Rattle.vs_design.specs.Values.{left_width, right_width, left_sign, right_sign, count_from, bits_of_signal, value, constant_value}
-use Rattle.vs_design.specs.Lifted.{Family, Lift, FromSets, Moved, Divided, lift_of, lift_operator, lift_quotient, lift_shift, fill_set, is_left, extend_sets, lift_unary, lift_binary, set_select, source_sets, lifted, own_sets}
+use Rattle.vs_design.specs.Expressions.{Expression, Literal, Name, Select, Word, Unary, Binary, Choice, Join, Repeat, At, Call, UnaryOp, BinaryOp, unary_length, binary_length, unary_way, way, width, sign, is_constant, signal_length, word_length, addresses}
+use Rattle.vs_design.specs.Values.{left_width, right_width, left_sign, right_sign, count_from, bits_of_signal, address_place, spread, word_places, value, constant_value}
+use Rattle.vs_design.specs.Lifted.{Family, Lift, FromSets, Moved, Divided, lift_of, lift_operator, lift_quotient, lift_shift, fill_set, is_left, extend_sets, lift_unary, lift_binary, set_select, set_word, surely_inside, source_sets, lifted, argument_sets, lifted_body, own_sets}
 use Rattle.vs_design.specs.TreeLaws.{ValueLength}
 use Rattle.vs_sets.specs.PartSets.{part_sets}
 use Rattle.vs_sets.proofs.Steps.{length-map2}
@@ -59,6 +60,32 @@ length-set_select p index index_sets ss = at (is_constant index) where
   at : (k : Bool) → length (if k then map (at_place (only X) ss) (places p (sign index) (constant_value index)) else replicate p.width (Rattle.vs_design.specs.Sets.variable index_sets (Rattle.vs_design.specs.Lifted.surely_inside p (sign index) index_sets) (Rattle.vs_design.specs.Sets.all_of ss))) ≡ p.width
   at true = length-map (places p (sign index) (constant_value index)) (at_place (only X) ss) ∙ length-places p (sign index) (constant_value index)
   at false = length-replicate p.width _
+
+pub length-all_words : (k n : ℕ) (ss : List Set4) → length ss ≡ n * k → length (all_words k n ss) ≡ k
+length-all_words k zero ss h = length-replicate k _
+length-all_words k (suc n) ss h =
+    let t = length-take k ss in
+    let d = length-drop k ss in
+    let rest : length (all_words k n (drop k ss)) ≡ k = length-all_words k n (drop k ss) (omega (arith, d, h)) in
+    let first : length (take k ss) ≡ k = omega (arith, t, h) in
+    length-map2 union (take k ss) (all_words k n (drop k ss)) (first ∙ sym rest) ∙ first
+
+length-spread : (k : ℕ) (p : Option ℕ) → length (spread k p) ≡ k
+length-spread k None = length-replicate k _
+length-spread k (Some n) = length-map (count_from (n * k) k) Some ∙ length-count_from (n * k) k
+
+-- a signal has as many bits as its words have
+pub words_are : (s : E.Signal) → signal_length s ≡ range_length (addresses s) * word_length s
+words_are s = go s.words (E.range_or_one s.range) where
+  go : (o : Option Range) (k : ℕ) → E.words_length o k ≡ range_length (E.range_or_zero o) * k
+  go None k = omega arith
+  go (Some r) k = refl
+
+pub length-set_word : (signal : E.Signal) (index : Expression) (index_sets ss : List Set4) → length ss ≡ signal_length signal → length (set_word signal index index_sets ss) ≡ word_length signal
+length-set_word signal index index_sets ss h = at (is_constant index) where
+  at : (k : Bool) → length (if k then map (at_place (only X) ss) (word_places signal (sign index) (constant_value index)) else map (variable index_sets (surely_inside (one_bit (addresses signal)) (sign index) index_sets)) (all_words (word_length signal) (range_length (addresses signal)) ss)) ≡ word_length signal
+  at true = length-map (word_places signal (sign index) (constant_value index)) (at_place (only X) ss) ∙ length-spread (word_length signal) (address_place signal (sign index) (constant_value index))
+  at false = length-map (all_words (word_length signal) (range_length (addresses signal)) ss) _ ∙ length-all_words (word_length signal) (range_length (addresses signal)) ss (h ∙ words_are signal)
 
 -- ---- operators
 
@@ -201,6 +228,9 @@ length-lifted law (Name signal) w s sets h = length-extend_sets w s (map sets (b
 length-lifted law (Select source part index) w s sets h =
     let ss = set_select part index (lifted index (width index) (sign index) sets) (source_sets sets source) in
     length-extend_sets w s ss (omega (arith, length-set_select part index (lifted index (width index) (sign index) sets) (source_sets sets source)))
+length-lifted law (Word signal index) w s sets h =
+    let ss = set_word signal index (lifted index (width index) (sign index) sets) (map sets (bits_of_signal signal)) in
+    length-extend_sets w s ss (omega (arith, length-set_word signal index (lifted index (width index) (sign index) sets) (map sets (bits_of_signal signal)) (length-signal sets signal)))
 length-lifted law (Unary op a) w s sets h =
     let inner = left_width (unary_way op) w (width a) 0 in
     let own = left_sign (unary_way op) s (sign a) false in
@@ -232,6 +262,9 @@ length-lifted law (Repeat count a) w s sets h =
     let e = length-lifted law a (width a) (sign a) sets (omega arith) in
     length-extend_sets w s (repeat count ss) (rw (length-repeat count ss, e) h)
 length-lifted law (At place e) w s sets h = length-lifted law e w s sets h
+length-lifted law (Call header statement arguments) w s sets h =
+    let after = lifted_body statement (argument_sets arguments header.inputs sets (λ b. only X)) in
+    length-extend_sets w s (map after (bits_of_signal header.result)) (omega (arith, length-signal after header.result))
 
 pub length-own : ValueLength → (e : Expression) (sets : Family) → length (own_sets e sets) ≡ width e
 length-own law e sets = length-lifted law e (width e) (sign e) sets (omega arith)

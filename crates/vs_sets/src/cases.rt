@@ -1,12 +1,13 @@
 //! Which arms of a case may be taken (IEEE 1364-2005, 9.5).
 
 ghost use Rattle.std.specs.Prelude.{◌≡◌, ◌≤◌, ◌<◌, ◌+◌, ℕ, length, map, true, false, max, IfOk, All};
-ghost use Rattle.std.specs.List.{list_any, list_all};
+ghost use Rattle.std.specs.List.{list_any};
 ghost use Rattle.vs_design.specs.Designs.{bit_count};
 ghost use Rattle.vs_design.specs.Expressions as E;
 ghost use Rattle.vs_design.specs.Statements as T;
-ghost use Rattle.vs_design.specs.Fits.{is_fit, fits_arms};
+ghost use Rattle.vs_design.specs.Fits.{fit_items, fits_arms};
 ghost use Rattle.vs_design.specs.Lifted as L;
+ghost use Rattle.vs_design.specs.Expressions.{items_of};
 ghost use Rattle.vs_design.specs.LiftedBodies.{match_bit, item_sets};
 ghost use Rattle.vs_design.specs.Sets.{Set4 as SetOf, is_only_one};
 ghost use Rattle.vs_design.specs.Sleepers.{arms_at_once};
@@ -54,12 +55,12 @@ fn match_items(
     items: &[u32],
 ) -> Match
     requires there { EachBelow (length lifter.now.shapes.now.nodes) items.now }
-    requires fit { list_all is_fit (map (tree_of lifter.now.shapes.now) items.now) ≡ true }
+    requires fit { fit_items (items_of (map (tree_of lifter.now.shapes.now) items.now)) ≡ true }
     requires within { are_within context.width (map (tree_of lifter.now.shapes.now) items.now) ≡ true }
     requires few { context.width ≤ 64 }
     requires many { length subject.now ≡ context.width }
-    ensures sure { result.sure ≡ list_any is_only_one (item_sets kind context.width context.signed subject.now (map (tree_of lifter.now.shapes.now) items.now) (family_of lifter.now.table.now)) }
-    ensures may { result.may ≡ list_any (λ m. m.one?) (item_sets kind context.width context.signed subject.now (map (tree_of lifter.now.shapes.now) items.now) (family_of lifter.now.table.now)) }
+    ensures sure { result.sure ≡ list_any is_only_one (item_sets kind context.width context.signed subject.now (items_of (map (tree_of lifter.now.shapes.now) items.now)) (family_of lifter.now.table.now)) }
+    ensures may { result.may ≡ list_any (λ m. m.one?) (item_sets kind context.width context.signed subject.now (items_of (map (tree_of lifter.now.shapes.now) items.now)) (family_of lifter.now.table.now)) }
 {
     let mut found = Match {
         sure: false,

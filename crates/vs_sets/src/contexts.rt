@@ -1,9 +1,8 @@
 //! Contexts of expressions that stand by themselves, and of the items of a case (IEEE 1364-2005, 5.4.1 and 9.5).
 
 ghost use Rattle.std.specs.Prelude.{◌≡◌, ◌≤◌, ◌<◌, length, map, true};
-ghost use Rattle.std.specs.List.{list_all};
 ghost use Rattle.vs_design.specs.Expressions as E;
-ghost use Rattle.vs_design.specs.Fits.{is_fit, fits_arms};
+ghost use Rattle.vs_design.specs.Fits.{is_fit, fit_items, fits_arms};
 ghost use Rattle.vs_design.specs.Statements as T;
 ghost use Rattle.vs_sets.specs.FitParts.{Is64};
 ghost use Rattle.vs_sets.specs.Nodes.{EachBelow, tree_of};
@@ -27,10 +26,10 @@ pub fn own_context(shapes: &Shapes, e: u32) -> Context
 /// The context of a case's items, with those of one arm more.
 fn with_items(shapes: &Shapes, context: Context, items: &[u32]) -> Context
     requires there { EachBelow (length shapes.now.nodes) items.now }
-    requires fit { list_all is_fit (map (tree_of shapes.now) items.now) ≡ true }
+    requires fit { fit_items (E.items_of (map (tree_of shapes.now) items.now)) ≡ true }
     requires few { context.width ≤ 64 }
-    ensures width { result.width ≡ T.widest context.width (map (tree_of shapes.now) items.now) }
-    ensures signed { result.signed ≡ T.all_signed context.signed (map (tree_of shapes.now) items.now) }
+    ensures width { result.width ≡ T.widest context.width (E.items_of (map (tree_of shapes.now) items.now)) }
+    ensures signed { result.signed ≡ T.all_signed context.signed (E.items_of (map (tree_of shapes.now) items.now)) }
     ensures few { result.width ≤ 64 }
 {
     let mut all = context;

@@ -5,10 +5,9 @@ use Rattle.std.proofs.lemmas.Option.{slice_get-get_or}
 use Rattle.vs_base.specs.declared.events.CaseKind.{CaseKind}
 use Rattle.vs_flat.specs.declared.statements.Statement.TheVariants as S
 use Rattle.vs_shape.specs.Nodes.{tree_of}
-use Rattle.std.specs.List.{list_all}
 use Rattle.vs_design.specs.Expressions as E
 use Rattle.vs_design.specs.Statements as T
-use Rattle.vs_design.specs.Fits.{is_fit, fits_statement, fits_arms}
+use Rattle.vs_design.specs.Fits.{fit_items, is_fit, fits_statement, fits_arms}
 use Rattle.vs_design.specs.Footprints.{read_signals, target_bits, target_signals, items_signals, statement_signals, arms_signals, signals_bits}
 use Rattle.vs_flat.specs.Arena.{Arena}
 use Rattle.vs_flat.specs.declared.statements.Arm.{Arm}
@@ -43,7 +42,7 @@ walked_case W.Nonblocking k e arms = refl
 walked_case W.Reads k e arms = refl
 walked_case W.Signals k e arms = signals_bits-append (read_signals e) (arms_signals arms)
 
-walked_arm : (w : Walk) (items : List E.Expression) (s : T.Statement) (rest : T.Arms) → walked_arms w (T.Arm items s rest) ≡ walked_items w items ++ (walked_statement w s ++ walked_arms w rest)
+walked_arm : (w : Walk) (items : E.Items) (s : T.Statement) (rest : T.Arms) → walked_arms w (T.Arm items s rest) ≡ walked_items w items ++ (walked_statement w s ++ walked_arms w rest)
 walked_arm W.Writes items s rest = refl
 walked_arm W.Blocking items s rest = refl
 walked_arm W.Nonblocking items s rest = refl
@@ -72,19 +71,19 @@ walked_then W.Nonblocking s t = refl
 walked_then W.Reads s t = refl
 walked_then W.Signals s t = signals_bits-append (statement_signals s) (statement_signals t)
 
-pub walked_no_items : (w : Walk) → walked_items w [] ≡ []
+pub walked_no_items : (w : Walk) → walked_items w E.NoItem ≡ []
 walked_no_items W.Writes = refl
 walked_no_items W.Blocking = refl
 walked_no_items W.Nonblocking = refl
 walked_no_items W.Reads = refl
 walked_no_items W.Signals = refl
 
-walked_item : (w : Walk) (e : E.Expression) (es : List E.Expression) → walked_items w (e ∷ es) ≡ walked_expression w e ++ walked_items w es
+walked_item : (w : Walk) (e : E.Expression) (es : List E.Expression) → walked_items w (E.items_of (e ∷ es)) ≡ walked_expression w e ++ walked_items w (E.items_of es)
 walked_item W.Writes e es = refl
 walked_item W.Blocking e es = refl
 walked_item W.Nonblocking e es = refl
 walked_item W.Reads e es = refl
-walked_item W.Signals e es = signals_bits-append (read_signals e) (items_signals es)
+walked_item W.Signals e es = signals_bits-append (read_signals e) (items_signals (E.items_of es))
 
 walked_sequence : (w : Walk) (s : T.Statement) (ss : List T.Statement) → walked_statement w (sequence (s ∷ ss)) ≡ walked_statement w s ++ walked_statement w (sequence ss)
 walked_sequence w s [] = sym (append-nil (walked_statement w s)) ∙ ap (λ bs. walked_statement w s ++ bs) (sym (walked_empty w))
@@ -105,20 +104,20 @@ module _ {A B : Type 0} (f : List B → List ℕ) (g : B → List ℕ) (make : A
       ∙ append_assoc before (g (make (get_or xs n d))) (f (map make (drop (suc n) xs)))
       ∙ ap (λ bs. before ++ bs) (sym (from xs n h)) ∙ is
 
-pub with_item : (w : Walk) (tree : ℕ → E.Expression) (xs : List ℕ) (n : ℕ) (before after all : List ℕ) → n < length xs → before ++ walked_items w (map tree (drop n xs)) ≡ all → after ≡ before ++ walked_expression w (tree (get_or xs n 0))
-    → after ++ walked_items w (map tree (drop (n + 1) xs)) ≡ all
-with_item w tree xs n before after all h is pushed = with_one (walked_items w) (walked_expression w) tree (walked_item w) 0 xs n before after all h is pushed
+pub with_item : (w : Walk) (tree : ℕ → E.Expression) (xs : List ℕ) (n : ℕ) (before after all : List ℕ) → n < length xs → before ++ walked_items w (E.items_of (map tree (drop n xs))) ≡ all → after ≡ before ++ walked_expression w (tree (get_or xs n 0))
+    → after ++ walked_items w (E.items_of (map tree (drop (n + 1) xs))) ≡ all
+with_item w tree xs n before after all h is pushed = with_one (λ es. walked_items w (E.items_of es)) (walked_expression w) tree (walked_item w) 0 xs n before after all h is pushed
 
 pub with_statement : (w : Walk) (tree : ℕ → T.Statement) (xs : List ℕ) (n : ℕ) (before after all : List ℕ) → n < length xs → before ++ walked_statement w (sequence (map tree (drop n xs))) ≡ all → after ≡ before ++ walked_statement w (tree (get_or xs n 0))
     → after ++ walked_statement w (sequence (map tree (drop (n + 1) xs))) ≡ all
 with_statement w tree xs n before after all h is pushed = with_one (λ ss. walked_statement w (sequence ss)) (walked_statement w) tree (walked_sequence w) 0 xs n before after all h is pushed
 
 arms_from : (w : Walk) (tree : ℕ → E.Expression) (body : ℕ → T.Statement) (other : Option ℕ) (arms : List Arm) (n : ℕ) (arm : Arm) → slice_get arms n ≡ Some arm
-    → walked_arms w (arms_tree tree body other (drop n arms)) ≡ walked_items w (map tree arm.items) ++ (walked_statement w (body arm.statement) ++ walked_arms w (arms_tree tree body other (drop (suc n) arms)))
+    → walked_arms w (arms_tree tree body other (drop n arms)) ≡ walked_items w (E.items_of (map tree arm.items)) ++ (walked_statement w (body arm.statement) ++ walked_arms w (arms_tree tree body other (drop (suc n) arms)))
 arms_from w tree body other [] n arm at = cc
 arms_from w tree body other (a ∷ arms) zero arm at =
-    walked_arm w (map tree a.items) (body a.statement) (arms_tree tree body other arms)
-    ∙ ap (λ (x : Arm). walked_items w (map tree x.items) ++ (walked_statement w (body x.statement) ++ walked_arms w (arms_tree tree body other arms))) (same a arm at)
+    walked_arm w (E.items_of (map tree a.items)) (body a.statement) (arms_tree tree body other arms)
+    ∙ ap (λ (x : Arm). walked_items w (E.items_of (map tree x.items)) ++ (walked_statement w (body x.statement) ++ walked_arms w (arms_tree tree body other arms))) (same a arm at)
   where
     same : (a b : Arm) → Some a ≡ Some b → a ≡ b
     same a b e = cc
@@ -126,12 +125,12 @@ arms_from w tree body other (a ∷ arms) (suc n) arm at = arms_from w tree body 
 
 -- one more arm
 pub with_arm : (w : Walk) (tree : ℕ → E.Expression) (body : ℕ → T.Statement) (other : Option ℕ) (arms : List Arm) (n : ℕ) (arm : Arm) (before between after all : List ℕ) → slice_get arms n ≡ Some arm
-    → before ++ walked_arms w (arms_tree tree body other (drop n arms)) ≡ all → between ≡ before ++ walked_items w (map tree arm.items) → after ≡ between ++ walked_statement w (body arm.statement)
+    → before ++ walked_arms w (arms_tree tree body other (drop n arms)) ≡ all → between ≡ before ++ walked_items w (E.items_of (map tree arm.items)) → after ≡ between ++ walked_statement w (body arm.statement)
     → after ++ walked_arms w (arms_tree tree body other (drop (n + 1) arms)) ≡ all
 with_arm w tree body other arms n arm before between after all at is items pushed =
     let next : n + 1 ≡ suc n = omega arith in
     let rest = walked_arms w (arms_tree tree body other (drop (suc n) arms)) in
-    let here = walked_items w (map tree arm.items) in
+    let here = walked_items w (E.items_of (map tree arm.items)) in
     let then = walked_statement w (body arm.statement) in
     ap (λ k. after ++ walked_arms w (arms_tree tree body other (drop k arms))) next
     ∙ ap (λ bs. bs ++ rest) (pushed ∙ ap (λ bs. bs ++ then) items)
@@ -145,9 +144,9 @@ drop_none zero (x ∷ xs) h = absurd (omega arith)
 drop_none (suc n) (x ∷ xs) h = drop_none n xs (omega arith)
 
 -- after the last
-pub all_items : (w : Walk) (tree : ℕ → E.Expression) (xs : List ℕ) (n : ℕ) (out all : List ℕ) → length xs ≤ n → out ++ walked_items w (map tree (drop n xs)) ≡ all → out ≡ all
+pub all_items : (w : Walk) (tree : ℕ → E.Expression) (xs : List ℕ) (n : ℕ) (out all : List ℕ) → length xs ≤ n → out ++ walked_items w (E.items_of (map tree (drop n xs))) ≡ all → out ≡ all
 all_items w tree xs n out all done is =
-    sym (append-nil out) ∙ ap (λ bs. out ++ bs) (sym (walked_no_items w)) ∙ ap (λ ys. out ++ walked_items w (map tree ys)) (sym (drop_none n xs done)) ∙ is
+    sym (append-nil out) ∙ ap (λ bs. out ++ bs) (sym (walked_no_items w)) ∙ ap (λ ys. out ++ walked_items w (E.items_of (map tree ys))) (sym (drop_none n xs done)) ∙ is
 
 pub all_statements : (w : Walk) (tree : ℕ → T.Statement) (xs : List ℕ) (n : ℕ) (out all : List ℕ) → length xs ≤ n → out ++ walked_statement w (sequence (map tree (drop n xs))) ≡ all → out ≡ all
 all_statements w tree xs n out all done is =
@@ -160,10 +159,10 @@ all_arms w tree body other arms n out all done is =
 
 -- ---- what fits
 
-pub item_fits : (tree : ℕ → E.Expression) (xs : List ℕ) (k : ℕ) → list_all is_fit (map tree xs) ≡ true → k < length xs → is_fit (tree (get_or xs k 0)) ≡ true
+pub item_fits : (tree : ℕ → E.Expression) (xs : List ℕ) (k : ℕ) → fit_items (E.items_of (map tree xs)) ≡ true → k < length xs → is_fit (tree (get_or xs k 0)) ≡ true
 item_fits tree [] k f h = absurd (omega arith)
-item_fits tree (x ∷ xs) zero f h = (and_both (is_fit (tree x)) (list_all is_fit (map tree xs)) f).0
-item_fits tree (x ∷ xs) (suc k) f h = item_fits tree xs k (and_both (is_fit (tree x)) (list_all is_fit (map tree xs)) f).1 (omega arith)
+item_fits tree (x ∷ xs) zero f h = (and_both (is_fit (tree x)) (fit_items (E.items_of (map tree xs))) f).0
+item_fits tree (x ∷ xs) (suc k) f h = item_fits tree xs k (and_both (is_fit (tree x)) (fit_items (E.items_of (map tree xs))) f).1 (omega arith)
 
 pub statement_fits : (tree : ℕ → T.Statement) (xs : List ℕ) (k : ℕ) → fits_statement (sequence (map tree xs)) ≡ true → k < length xs → fits_statement (tree (get_or xs k 0)) ≡ true
 statement_fits tree [] k f h = absurd (omega arith)
@@ -173,21 +172,21 @@ statement_fits tree (x ∷ y ∷ xs) zero f h = (and_both (fits_statement (tree 
 statement_fits tree (x ∷ y ∷ xs) (suc k) f h = statement_fits tree (y ∷ xs) k (and_both (fits_statement (tree x)) (fits_statement (sequence (map tree (y ∷ xs)))) f).1 (omega arith)
 
 pub arm_fits : (tree : ℕ → E.Expression) (body : ℕ → T.Statement) (other : Option ℕ) (arms : List Arm) (k : ℕ) (arm : Arm) → fits_arms (arms_tree tree body other arms) ≡ true → slice_get arms k ≡ Some arm
-    → (list_all is_fit (map tree arm.items) ≡ true) × (fits_statement (body arm.statement) ≡ true)
+    → (fit_items (E.items_of (map tree arm.items)) ≡ true) × (fits_statement (body arm.statement) ≡ true)
 arm_fits tree body other [] k arm f at = cc
 arm_fits tree body other (a ∷ arms) zero arm f at =
-    let whole = and_both (list_all is_fit (map tree a.items) && fits_statement (body a.statement)) (fits_arms (arms_tree tree body other arms)) f in
-    let here = and_both (list_all is_fit (map tree a.items)) (fits_statement (body a.statement)) whole.0 in
-    subst (λ (x : Arm). (list_all is_fit (map tree x.items) ≡ true) × (fits_statement (body x.statement) ≡ true)) (same a arm at) (here.0, here.1)
+    let whole = and_both (fit_items (E.items_of (map tree a.items)) && fits_statement (body a.statement)) (fits_arms (arms_tree tree body other arms)) f in
+    let here = and_both (fit_items (E.items_of (map tree a.items))) (fits_statement (body a.statement)) whole.0 in
+    subst (λ (x : Arm). (fit_items (E.items_of (map tree x.items)) ≡ true) × (fits_statement (body x.statement) ≡ true)) (same a arm at) (here.0, here.1)
   where
     same : (a b : Arm) → Some a ≡ Some b → a ≡ b
     same a b e = cc
 arm_fits tree body other (a ∷ arms) (suc k) arm f at =
-    arm_fits tree body other arms k arm (and_both (list_all is_fit (map tree a.items) && fits_statement (body a.statement)) (fits_arms (arms_tree tree body other arms)) f).1 at
+    arm_fits tree body other arms k arm (and_both (fit_items (E.items_of (map tree a.items)) && fits_statement (body a.statement)) (fits_arms (arms_tree tree body other arms)) f).1 at
 
 pub default_fits : (tree : ℕ → E.Expression) (body : ℕ → T.Statement) (other : Option ℕ) (arms : List Arm) → fits_arms (arms_tree tree body other arms) ≡ true → fits_statement (branch body other) ≡ true
 default_fits tree body other [] f = f
-default_fits tree body other (a ∷ arms) f = default_fits tree body other arms (and_both (list_all is_fit (map tree a.items) && fits_statement (body a.statement)) (fits_arms (arms_tree tree body other arms)) f).1
+default_fits tree body other (a ∷ arms) f = default_fits tree body other arms (and_both (fit_items (E.items_of (map tree a.items)) && fits_statement (body a.statement)) (fits_arms (arms_tree tree body other arms)) f).1
 
 pub body_is : (a kept : Arena) (s : ℕ) (n m : Statement) → kept ≡ a → body_of kept s ≡ body_of_statement kept (body_place kept s) n → n ≡ m → body_of a s ≡ body_of_statement a (body_place a s) m
 body_is a kept s n m same tree is =

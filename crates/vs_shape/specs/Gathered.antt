@@ -1,7 +1,7 @@
 -- What a walk gathers: the bits that are read, or all bits of the signals that are named.
 use Rattle.std.specs.Prelude.{ℕ, ◌+◌, Bool, true, false, if◌then◌else◌, List, [], map, Option, option_map}
 use Rattle.vs_four.specs.Selects.{Part}
-use Rattle.vs_design.specs.Expressions.{Source, Expression}
+use Rattle.vs_design.specs.Expressions.{Source, Expression, Items}
 use Rattle.vs_design.specs.Statements.{Target, Statement, Arms}
 use Rattle.vs_design.specs.Footprints.{source_bits, source_signals, read_bits, read_signals, target_bits, target_reads, target_signals, items_reads, items_signals, statement_bits, statement_reads, statement_signals, arms_bits, arms_reads, arms_signals, signals_bits}
 use Rattle.vs_design.specs.Races.{blocking_bits, arms_blocking, nonblocking_bits, arms_nonblocking}
@@ -40,7 +40,7 @@ walked_target W.Nonblocking blocking target = if blocking then [] else target_bi
 walked_target W.Reads blocking target = target_reads target
 walked_target W.Signals blocking target = signals_bits (target_signals target)
 
-abbrev pub walked_items : Walk → List Expression → List ℕ
+abbrev pub walked_items : Walk → Items → List ℕ
 walked_items W.Writes es = []
 walked_items W.Blocking es = []
 walked_items W.Nonblocking es = []

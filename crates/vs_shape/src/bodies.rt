@@ -1,8 +1,8 @@
 //! Walks over statements that gather bits (IEEE 1364-2005, 9.7.5 and 11.6.1).
 
 ghost use Rattle.std.specs.Prelude.{◌≡◌, ◌<◌, ◌++◌, true, length, map, OnOk};
-ghost use Rattle.std.specs.List.{list_all};
-ghost use Rattle.vs_design.specs.Fits.{is_fit, fits_statement};
+ghost use Rattle.vs_design.specs.Expressions.{items_of};
+ghost use Rattle.vs_design.specs.Fits.{fit_items, is_fit, fits_statement};
 ghost use Rattle.vs_flat.specs.Trees.{target_tree};
 ghost use Rattle.vs_shape.specs.Nodes.{EachBelow, tree_of};
 ghost use Rattle.vs_shape.specs.Bodies.{body_of};
@@ -79,8 +79,8 @@ impl Shapes {
     /// Adds what a statement's walk gathers of the items of an arm.
     fn push_in_items(&self, items: &[u32], walk: Walk, out: &mut Vec<u32>) -> Result<(), AllocError>
         requires there { EachBelow (length self.now.nodes) items.now }
-        requires fit { list_all is_fit (map (tree_of self.now) items.now) ≡ true }
-        ensures { OnOk result (out.new.items ≡ out.old.items ++ walked_items walk (map (tree_of self.now) items.now)) }
+        requires fit { fit_items (items_of (map (tree_of self.now) items.now)) ≡ true }
+        ensures { OnOk result (out.new.items ≡ out.old.items ++ walked_items walk (items_of (map (tree_of self.now) items.now))) }
     {
         for item in items {
             self.push_in_expression(*item, walk, out)?;

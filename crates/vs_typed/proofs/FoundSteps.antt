@@ -3,8 +3,8 @@ use Rattle.std.proofs.Common.{◌≡◌, ℕ, zero, suc, ◌+◌, ◌*◌, ◌<�
 use Rattle.std.specs.Prelude.{◌==◌, ◌&&◌, nat_lt, unwrap_or, slice_get}
 use Rattle.std.proofs.lemmas.Bool.Decides.{nat_tests}
 use Rattle.std.proofs.lemmas.List.{append-nil, drop_more}
-use Rattle.vs_design.specs.Expressions.{Expression, Literal, Name, Select, Unary, Binary, Choice, Join, Repeat, At, OfSignal, OfConstant, width}
-use Rattle.vs_design.specs.Statements.{Target, Whole, PartOf, Both, target_width, Statement}
+use Rattle.vs_design.specs.Expressions.{Expression, Literal, Name, Select, Word, Unary, Binary, Choice, Join, Repeat, At, Call, items_of, OfSignal, OfConstant, width}
+use Rattle.vs_design.specs.Statements.{Target, Whole, PartOf, WordOf, Both, target_width, Statement}
 use Rattle.vs_flat.specs.declared.statements.Arm as F
 use Rattle.vs_flat.specs.Targets.{target_of, both_of}
 use Rattle.vs_flat.specs.Trees.{joined, no_signal, target_tree, sequence, arms_tree}
@@ -98,6 +98,7 @@ width_at (Literal bits signed sized) t h = absurd (let z : ⊥ = cc in z)
 width_at (Name signal) t h = let same : t ≡ Whole signal = cc in ap target_width same
 width_at (Select (OfSignal signal) p index) t h = let same : t ≡ PartOf signal p index = cc in ap target_width same
 width_at (Select (OfConstant bits) p index) t h = absurd (let z : ⊥ = cc in z)
+width_at (Word signal index) t h = let same : t ≡ WordOf signal index = cc in ap target_width same
 width_at (Unary op a) t h = absurd (let z : ⊥ = cc in z)
 width_at (Binary op a b) t h = absurd (let z : ⊥ = cc in z)
 width_at (Choice c p q) t h = absurd (let z : ⊥ = cc in z)
@@ -111,6 +112,7 @@ width_at (Repeat count a) t h = at (count == 1) refl h (λ e. width_at a t e) wh
   at true e h p = let one : count ≡ 1 = grind (arith, nat_tests, e) in p h ∙ (omega (arith, one, ap (λ n. n * width a) one))
   at false e h p = absurd (let z : ⊥ = cc in z)
 width_at (At place e) t h = width_at e t h
+width_at (Call header statement arguments) t h = absurd (let z : ⊥ = cc in z)
 
 -- a target has the length of its expression
 pub target_length : (e : Expression) → HasTargetTree e → target_width (target_tree e) ≡ width e
@@ -119,11 +121,11 @@ target_length e h = width_at e (target_tree e) h
 -- ---- items, sequences and arms
 
 pub item_step : (rule : Rule) (at : ℕ) (tree : ℕ → Expression) (items : List ℕ) (k : ℕ) (best after : Option ℕ) → k < length items → after ≡ least_from best (places_of rule at (tree (get_or items k 0)))
-    → least_from after (item_places rule at (map tree (drop (k + 1) items))) ≡ least_from best (item_places rule at (map tree (drop k items)))
+    → least_from after (item_places rule at (items_of (map tree (drop (k + 1) items)))) ≡ least_from best (item_places rule at (items_of (map tree (drop k items))))
 item_step rule at tree items k best after h is =
-    ap (λ b. least_from b (item_places rule at (map tree (drop (k + 1) items)))) is
-    ∙ sym (from_append best (places_of rule at (tree (get_or items k 0))) (item_places rule at (map tree (drop (k + 1) items))))
-    ∙ ap (λ ps. least_from best (item_places rule at (map tree ps))) (sym (drop_more items k 0 h))
+    ap (λ b. least_from b (item_places rule at (items_of (map tree (drop (k + 1) items))))) is
+    ∙ sym (from_append best (places_of rule at (tree (get_or items k 0))) (item_places rule at (items_of (map tree (drop (k + 1) items)))))
+    ∙ ap (λ ps. least_from best (item_places rule at (items_of (map tree ps)))) (sym (drop_more items k 0 h))
 
 next_places : (rule : Rule) (at : ℕ) (s : Statement) (ss : List Statement) → statement_places rule at (sequence (s ∷ ss)) ≡ statement_places rule at s ++ statement_places rule at (sequence ss)
 next_places rule at s [] = sym (append-nil (statement_places rule at s))
@@ -138,18 +140,18 @@ sequence_step rule at st parts k best after h is =
     ∙ ap (λ ps. least_from best (statement_places rule at (sequence (map st ps)))) (sym (drop_more parts k 0 h))
 
 arms_from : (rule : Rule) (at : ℕ) (tree : ℕ → Expression) (st : ℕ → Statement) (other : Option ℕ) (arms : List F.Arm) (k : ℕ) (arm : F.Arm) → slice_get arms k ≡ Some arm
-    → arms_places rule at (arms_tree tree st other (drop k arms)) ≡ item_places rule at (map tree arm.items) ++ (statement_places rule at (st arm.statement) ++ arms_places rule at (arms_tree tree st other (drop (suc k) arms)))
+    → arms_places rule at (arms_tree tree st other (drop k arms)) ≡ item_places rule at (items_of (map tree arm.items)) ++ (statement_places rule at (st arm.statement) ++ arms_places rule at (arms_tree tree st other (drop (suc k) arms)))
 arms_from rule at tree st other [] k arm e = absurd (let z : ⊥ = cc in z)
 arms_from rule at tree st other (x ∷ arms) zero arm e =
     let same : x ≡ arm = cc in
-    ap (λ (y : F.Arm). item_places rule at (map tree y.items) ++ (statement_places rule at (st y.statement) ++ arms_places rule at (arms_tree tree st other arms))) same
+    ap (λ (y : F.Arm). item_places rule at (items_of (map tree y.items)) ++ (statement_places rule at (st y.statement) ++ arms_places rule at (arms_tree tree st other arms))) same
 arms_from rule at tree st other (x ∷ arms) (suc k) arm e = arms_from rule at tree st other arms k arm e
 
 pub arm_step : (rule : Rule) (at : ℕ) (tree : ℕ → Expression) (st : ℕ → Statement) (other : Option ℕ) (arms : List F.Arm) (k : ℕ) (arm : F.Arm) (best items after : Option ℕ) → slice_get arms k ≡ Some arm
-    → items ≡ least_from best (item_places rule at (map tree arm.items)) → after ≡ least_from items (statement_places rule at (st arm.statement))
+    → items ≡ least_from best (item_places rule at (items_of (map tree arm.items))) → after ≡ least_from items (statement_places rule at (st arm.statement))
     → least_from after (arms_places rule at (arms_tree tree st other (drop (k + 1) arms))) ≡ least_from best (arms_places rule at (arms_tree tree st other (drop k arms)))
 arm_step rule at tree st other arms k arm best items after e i s =
-    let here = item_places rule at (map tree arm.items) in
+    let here = item_places rule at (items_of (map tree arm.items)) in
     let body = statement_places rule at (st arm.statement) in
     let rest = arms_places rule at (arms_tree tree st other (drop (suc k) arms)) in
     let on : k + 1 ≡ suc k = omega arith in

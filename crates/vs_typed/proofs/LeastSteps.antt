@@ -3,13 +3,13 @@ use Rattle.std.proofs.Common.{◌≡◌, ℕ, zero, suc, ◌+◌, ◌*◌, ◌<�
 use Rattle.std.specs.Prelude.{nat_lt}
 use Rattle.std.proofs.lemmas.Bool.Decides.{nat_tests}
 use Rattle.std.proofs.lemmas.List.{append-nil, drop_more}
-use Rattle.vs_design.specs.Expressions.{Expression, Literal, Name, Select, Unary, Binary, Choice, Join, Repeat, At, width}
+use Rattle.vs_design.specs.Expressions.{Expression, Literal, Name, Select, Word, Unary, Binary, Choice, Join, Repeat, At, Call, width}
 use Rattle.vs_design.specs.Refusals.{least_with, over_64}
 use Rattle.vs_flat.specs.Trees.{joined, copy_count}
 use Rattle.vs_shape.specs.Nodes.{EachBelow}
 use Rattle.vs_typed.specs.declared.places.Rule.{Rule}
 use Rattle.vs_typed.specs.declared.places.Rule.TheVariants.{Wide, Division}
-use Rattle.vs_typed.specs.Places.{places_of, own_places, least_from, head_places, rest_places, IsPlain, part_places}
+use Rattle.vs_typed.specs.Places.{places_of, own_places, least_from, head_places, call_places, rest_places, IsPlain, part_places}
 
 -- ---- lists
 
@@ -115,21 +115,25 @@ placed_node rule at place x best plain = go rule x plain where
   go Wide (Literal bits signed sized) p = alone (length bits)
   go Wide (Name signal) p = alone (width (Name signal))
   go Wide (Select source part index) p = twice (width (Select source part index)) (places_of Wide place index)
+  go Wide (Word signal index) p = twice (width (Word signal index)) (places_of Wide place index)
   go Wide (Unary op a) p = twice (width (Unary op a)) (places_of Wide place a)
   go Wide (Binary op a b) p = twice (width (Binary op a b)) (places_of Wide place a ++ places_of Wide place b)
   go Wide (Choice c d e) p = twice (width (Choice c d e)) (places_of Wide place c ++ (places_of Wide place d ++ places_of Wide place e))
   go Wide (Join high low) p = twice (width (Join high low)) (places_of Wide place high ++ places_of Wide place low)
   go Wide (Repeat count a) p = twice (width (Repeat count a)) (places_of Wide place a)
   go Wide (At q e) p = absurd p
+  go Wide (Call header statement arguments) p = twice (width (Call header statement arguments)) (call_places Wide place arguments header.place statement)
   go Division (Literal bits signed sized) p = none []
   go Division (Name signal) p = none []
   go Division (Select source part index) p = none (places_of Division place index)
+  go Division (Word signal index) p = none (places_of Division place index)
   go Division (Unary op a) p = none (places_of Division place a)
   go Division (Binary op a b) p = from_append best (head_places Division place (Binary op a b)) (places_of Division place a ++ places_of Division place b)
   go Division (Choice c d e) p = none (places_of Division place c ++ (places_of Division place d ++ places_of Division place e))
   go Division (Join high low) p = none (places_of Division place high ++ places_of Division place low)
   go Division (Repeat count a) p = none (places_of Division place a)
   go Division (At q e) p = absurd p
+  go Division (Call header statement arguments) p = none (call_places Division place arguments header.place statement)
 
 pub node_done : (rule : Rule) (at place : ℕ) (best head found : Option ℕ) (t x : Expression) → t ≡ At place x → IsPlain x → head ≡ least_from best (head_places rule place x) → found ≡ least_from head (rest_places rule place x)
     → found ≡ least_from best (places_of rule at t)

@@ -9,7 +9,7 @@ use Rattle.std.specs.List.{list_any}
 use Rattle.vs_design.specs.Statements.{Statement}
 use Rattle.vs_design.specs.Designs.{Event, Process, Always, Design, has_edge, is_clocked, bit_count}
 use Rattle.vs_design.specs.Elaborated.{IsLawfulDesign}
-use Rattle.vs_design.specs.Footprints.{statement_bits, writes_of, waits_of, ascending}
+use Rattle.vs_design.specs.Footprints.{is_memory, memory_bits, signals_bits, statement_bits, writes_of, waits_of, ascending}
 use Rattle.vs_design.specs.Races.{doubled, doubled_bits}
 use Rattle.vs_design.specs.Sizes.{distinct, statement_weight, process_weight, sleeper_weight, register_bits}
 use Rattle.vs_design.specs.Sleepers.{is_sleeping}
@@ -17,7 +17,10 @@ use Rattle.vs_reads.specs.Footprint.{footprints_of, waits_at, writes_at}
 use Rattle.vs_reads.specs.Laws.{HasBitsOf, EachIsOfItsProcess, EachHasItsBits}
 use Rattle.vs_typed.proofs.Distinct.{ascending_count}
 use Rattle.vs_design.specs.Refusals.{WidthRefusal, first_found, otherwise}
-use Rattle.vs_flat.specs.Trees.{signal_at, no_signal}
+use Rattle.vs_flat.specs.Trees.{signals_from, signal_at, no_signal}
+use Rattle.vs_flat.specs.declared.processes.Signal as F
+use Rattle.vs_flat.specs.Arena.{Arena}
+use Rattle.vs_flat.specs.DesignOf.{design_of}
 
 next_process : (ps : List Process) (p : ℕ) (x : Process) → slice_get ps p ≡ Some x → take (p + 1) ps ≡ take p ps ++ x ∷ []
 next_process ps p x h = take_more ps p x (slice_get_within ps p x h) ∙ ap (λ y. take p ps ++ y ∷ []) (get_or_from_slice_get ps p x x h)
@@ -112,3 +115,13 @@ sleeper_is lists bits d lawful p x at asleep e =
     let h = bits d lawful p x at in
     ap (λ k. if k then (length (waits_at (footprints_of d) p) + 1 + length (writes_at (footprints_of d) p)) else 0) e
     ∙ ap₂ (λ m n. if is_sleeping d x then (m + 1 + n) else 0) (has_count (bit_count d) (waits_at (footprints_of d) p) (waits_of x) h.waits f.waits) (has_count (bit_count d) (writes_at (footprints_of d) p) (writes_of x) h.writes f.writes)
+
+-- ---- memories
+
+-- an arena has none
+none_of : (ss : List F.Signal) (first : ℕ) → signals_bits (filter is_memory (signals_from first ss)) ≡ []
+none_of [] first = refl
+none_of (s ∷ ss) first = none_of ss (suc first)
+
+pub no_memories : (a : Arena) (bits : List ℕ) → bits ++ memory_bits (design_of a) ≡ bits
+no_memories a bits = ap (λ more. bits ++ more) (none_of a.signals 0) ∙ append-nil bits

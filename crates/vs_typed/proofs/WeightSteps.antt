@@ -2,12 +2,11 @@
 use Rattle.std.proofs.Common.{◌≡◌, ℕ, zero, suc, ◌+◌, ◌<◌, Bool, true, false, if◌then◌else◌, List, [], ◌∷◌, length, map, drop, get_or, Option, Some, None, Result, Ok, Err, refl, sym, ap, ◌∙◌, subst, arith}
 use Rattle.std.specs.Prelude.{◌==◌, unwrap_or, IfOk, slice_get}
 use Rattle.std.proofs.lemmas.List.{drop_more}
-use Rattle.vs_design.specs.Expressions.{Expression, Join, Repeat, At}
+use Rattle.vs_design.specs.Expressions.{Expression, Join, Repeat, At, items_of}
 use Rattle.vs_design.specs.Statements.{Whole, Statement}
-use Rattle.vs_design.specs.Fits.{is_fit, fits_target}
+use Rattle.vs_design.specs.Fits.{is_fit, fit_items, fits_target}
 use Rattle.vs_design.specs.Sizes.{target_weight, items_weight, statement_weight}
 use Rattle.std.specs.Prelude.{◌&&◌}
-use Rattle.std.specs.List.{list_all}
 use Rattle.vs_design.specs.Fits.{fits_statement, fits_arms}
 use Rattle.vs_flat.specs.declared.statements.Arm as F
 use Rattle.vs_flat.specs.Arena.{Arena}
@@ -88,8 +87,8 @@ target_step tree parts k sum after h is = let e = ap (λ ps. target_weights (map
 -- ---- items and sequences
 
 pub item_step : (tree : ℕ → Expression) (items : List ℕ) (w k sum after : ℕ) → k < length items → after ≡ sum + (w + 1) + Rattle.vs_design.specs.Sizes.weight (tree (get_or items k 0)) w
-    → after + items_weight (map tree (drop (k + 1) items)) w ≡ sum + items_weight (map tree (drop k items)) w
-item_step tree items w k sum after h is = let e = ap (λ ps. items_weight (map tree ps) w) (drop_more items k 0 h) in omega (arith, is, e)
+    → after + items_weight (items_of (map tree (drop (k + 1) items))) w ≡ sum + items_weight (items_of (map tree (drop k items))) w
+item_step tree items w k sum after h is = let e = ap (λ ps. items_weight (items_of (map tree ps)) w) (drop_more items k 0 h) in omega (arith, is, e)
 
 next_weight : (s : Statement) (ss : List Statement) → statement_weight (sequence (s ∷ ss)) ≡ statement_weight s + statement_weight (sequence ss)
 next_weight s [] = omega arith
@@ -103,17 +102,17 @@ sequence_step st parts k sum after h is =
 
 -- ---- arms
 
-pub each_item : (tree : ℕ → Expression) (items : List ℕ) (k : ℕ) → list_all is_fit (map tree items) ≡ true → k < length items → is_fit (tree (get_or items k 0)) ≡ true
+pub each_item : (tree : ℕ → Expression) (items : List ℕ) (k : ℕ) → fit_items (items_of (map tree items)) ≡ true → k < length items → is_fit (tree (get_or items k 0)) ≡ true
 each_item tree [] k h inside = absurd (omega arith)
 each_item tree (x ∷ items) zero h inside = and_left _ _ h
 each_item tree (x ∷ items) (suc k) h inside = each_item tree items k (and_right (is_fit (tree x)) _ h) (omega arith)
 
-arm_items : (tree : ℕ → Expression) (st : ℕ → Statement) (other : Option ℕ) (arms : List F.Arm) (k : ℕ) (arm : F.Arm) → fits_arms (arms_tree tree st other arms) ≡ true → slice_get arms k ≡ Some arm → list_all is_fit (map tree arm.items) ≡ true
+arm_items : (tree : ℕ → Expression) (st : ℕ → Statement) (other : Option ℕ) (arms : List F.Arm) (k : ℕ) (arm : F.Arm) → fits_arms (arms_tree tree st other arms) ≡ true → slice_get arms k ≡ Some arm → fit_items (items_of (map tree arm.items)) ≡ true
 arm_items tree st other [] k arm h e = absurd (let z : ⊥ = cc in z)
 arm_items tree st other (x ∷ arms) zero arm h e =
     let same : x ≡ arm = cc in
-    subst (λ (y : F.Arm). list_all is_fit (map tree y.items) ≡ true) same (and_left _ _ (and_left _ _ h))
-arm_items tree st other (x ∷ arms) (suc k) arm h e = arm_items tree st other arms k arm (and_right (list_all is_fit (map tree x.items) && fits_statement (st x.statement)) _ h) e
+    subst (λ (y : F.Arm). fit_items (items_of (map tree y.items)) ≡ true) same (and_left _ _ (and_left _ _ h))
+arm_items tree st other (x ∷ arms) (suc k) arm h e = arm_items tree st other arms k arm (and_right (fit_items (items_of (map tree x.items)) && fits_statement (st x.statement)) _ h) e
 
 -- what is known of the arms of a case
 pub arms_fit : (a : Arena) (s : ℕ) (arms : List F.Arm) (other : Option ℕ) → ArmsBelow (length a.nodes) s arms → BranchBelow s other → fits_arms (arms_of a other arms) ≡ true → EachArmFits a s arms × BranchFits a s other

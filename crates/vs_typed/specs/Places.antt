@@ -1,6 +1,6 @@
 -- The places of what is refused, by rule, and the least of them.
 use Rattle.std.specs.Prelude.{◌≡◌, ◌<◌, ℕ, length, not, ◌&&◌, List, [], ◌∷◌, ◌++◌, if◌then◌else◌, Option, Some, None}
-use Rattle.vs_design.specs.Expressions.{Expression, Literal, Name, Select, Unary, Binary, Choice, Join, Repeat, At, BinaryOp, width, is_constant}
+use Rattle.vs_design.specs.Expressions.{Expression, Literal, Name, Select, Word, Unary, Binary, Choice, Join, Repeat, At, Call, Items, BinaryOp, width, is_constant}
 use Rattle.vs_design.specs.Statements.{Target, target_width, Statement, Arms}
 use Rattle.vs_flat.specs.declared.processes.Kind.{Kind}
 use Rattle.vs_flat.specs.declared.processes.Kind.TheVariants as K
@@ -10,7 +10,7 @@ use Rattle.vs_flat.specs.Targets.{target_of}
 use Rattle.vs_flat.specs.Trees.{target_tree}
 use Rattle.vs_design.specs.Designs.{Process}
 use Rattle.vs_design.specs.Fits.{is_division}
-use Rattle.vs_design.specs.Refusals.{least, least_with, over_64, place_in, wide_places, division_places, in_indices, in_items, in_statement, in_arms, in_process}
+use Rattle.vs_design.specs.Refusals.{least, least_with, over_64, place_in, wide_places, wide_in_items, wide_in_statement, division_places, divisions_in_items, divisions_in_statement, in_indices, in_items, in_statement, in_arms, in_process}
 use Rattle.vs_typed.specs.declared.places.Rule.{Rule}
 use Rattle.vs_typed.specs.declared.places.Rule.TheVariants.{Wide, Division}
 
@@ -37,16 +37,23 @@ head_places Wide at e = over_64 at (width e)
 head_places Division at (Binary op a b) = divided_at at op a b
 head_places Division at _ = []
 
+-- of a call's arguments, and of its function's statement, which begins at this place
+abbrev pub call_places : Rule → ℕ → Items → ℕ → Statement → List ℕ
+call_places Wide at arguments place statement = wide_in_items at arguments ++ wide_in_statement place statement
+call_places Division at arguments place statement = divisions_in_items at arguments ++ divisions_in_statement place statement
+
 abbrev pub rest_places : Rule → ℕ → Expression → List ℕ
 rest_places rule at (Literal bits signed sized) = []
 rest_places rule at (Name signal) = []
 rest_places rule at (Select source part index) = places_of rule at index
+rest_places rule at (Word signal index) = places_of rule at index
 rest_places rule at (Unary op a) = places_of rule at a
 rest_places rule at (Binary op a b) = places_of rule at a ++ places_of rule at b
 rest_places rule at (Choice c p q) = places_of rule at c ++ (places_of rule at p ++ places_of rule at q)
 rest_places rule at (Join high low) = places_of rule at high ++ places_of rule at low
 rest_places rule at (Repeat count a) = places_of rule at a
 rest_places rule at (At place e) = places_of rule at (At place e)
+rest_places rule at (Call header statement arguments) = call_places rule at arguments header.place statement
 
 -- no place stands before it
 abbrev pub IsPlain : Expression → Type 0
@@ -61,7 +68,7 @@ part_places rule at (e ∷ es) = places_of rule at e ++ part_places rule at es
 abbrev pub target_places : Rule → ℕ → Target → List ℕ
 target_places rule at target = in_indices (places_of rule) at target
 
-abbrev pub item_places : Rule → ℕ → List Expression → List ℕ
+abbrev pub item_places : Rule → ℕ → Items → List ℕ
 item_places rule at es = in_items (places_of rule) at es
 
 abbrev pub statement_places : Rule → ℕ → Statement → List ℕ

@@ -5,6 +5,7 @@ ghost use Rattle.vs_design.specs.Statements as T;
 ghost use Rattle.vs_flat.specs.Trees.{branch, sequence, target_tree};
 ghost use Rattle.vs_shape.specs.Bodies.{EachArmNames, OtherBelow, body_of};
 ghost use Rattle.vs_shape.specs.Nodes.{EachBelow, tree_of};
+ghost use Rattle.vs_design.specs.Expressions.{items_of};
 ghost use Rattle.vs_typed.specs.Places.{HasTargetTree, assignment_places, item_places, least_from, own_places, statement_places, target_places, arms_places};
 ghost use Rattle.vs_typed.specs.Weights.{arms_of};
 
@@ -83,7 +84,7 @@ pub(crate) fn least_assignment(
 /// The least place so far, and those of the items of an arm.
 fn least_items(shapes: &Shapes, rule: Rule, items: &[u32], best: Option<u32>) -> Option<u32>
     requires { EachBelow (length shapes.now.nodes) items.now }
-    ensures { (at : ℕ) → result ≡ least_from best (item_places rule at (map (tree_of shapes.now) items.now)) }
+    ensures { (at : ℕ) → result ≡ least_from best (item_places rule at (items_of (map (tree_of shapes.now) items.now))) }
 {
     let mut least = best;
     for item in items {

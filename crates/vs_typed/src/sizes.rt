@@ -5,6 +5,7 @@ ghost use Rattle.std.specs.List.{list_all};
 ghost use Rattle.vs_design.specs.Designs as D;
 ghost use Rattle.vs_design.specs.Expressions as E;
 ghost use Rattle.vs_design.specs.Fits.{fits_process};
+ghost use Rattle.vs_design.specs.Footprints.{memory_bits};
 ghost use Rattle.vs_design.specs.Races.{doubled_bits};
 ghost use Rattle.vs_design.specs.Sizes as S;
 ghost use Rattle.vs_design.specs.Sleepers.{is_sleeping};
@@ -86,10 +87,10 @@ fn push_registers(shapes: &Shapes, p: u32, bits: &mut Vec<u32>) -> Result<(), Al
     }
 }
 
-/// How many register bits there are: bits that clocked blocks write.
+/// How many register bits there are: bits that clocked blocks write, and those of memories, of which a flat design has none.
 fn register_count(alloc: Global, shapes: &Shapes) -> Result<u64, AllocError>
     requires fits { list_all fits_process (design_of shapes.now).processes ≡ true }
-    ensures { IfOk result (λ n. n ≡ S.distinct (S.register_bits (design_of shapes.now).processes)) }
+    ensures { IfOk result (λ n. n ≡ S.distinct (S.register_bits (design_of shapes.now).processes ++ memory_bits (design_of shapes.now))) }
 {
     trees_law();
     let mut bits = Vec::new(alloc);

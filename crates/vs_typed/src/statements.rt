@@ -1,6 +1,7 @@
 //! What statements cost (IEEE 1364-2005, clause 9).
 
 ghost use Rattle.std.specs.Prelude.{◌≡◌, ◌≤◌, ◌<◌, ◌+◌, length, map, true, IfOk};
+ghost use Rattle.vs_design.specs.Expressions.{items_of};
 ghost use Rattle.vs_design.specs.Fits.{fits_statement};
 ghost use Rattle.vs_design.specs.Sizes as S;
 ghost use Rattle.vs_design.specs.Statements as T;
@@ -22,7 +23,7 @@ use vs_shape::Shapes;
 /// The greatest length of these items and w.
 fn widest(shapes: &Shapes, items: &[u32], w: u64) -> u64
     requires { EachFits shapes.now (length shapes.now.nodes) items.now }
-    ensures { result ≡ T.widest w (map (tree_of shapes.now) items.now) }
+    ensures { result ≡ T.widest w (items_of (map (tree_of shapes.now) items.now)) }
 {
     let mut most = w;
     for item in items {
@@ -46,7 +47,7 @@ fn arms_width(shapes: &Shapes, s: u32, arms: &[Arm], other: Option<u32>, w: u64)
 /// The total with what the items of an arm cost in a length of w bits.
 fn add_items(shapes: &Shapes, items: &[u32], w: u64, total: u64) -> Result<u64, AllocError>
     requires { EachFits shapes.now (length shapes.now.nodes) items.now }
-    ensures { IfOk result (λ t. t ≡ total + S.items_weight (map (tree_of shapes.now) items.now) w) }
+    ensures { IfOk result (λ t. t ≡ total + S.items_weight (items_of (map (tree_of shapes.now) items.now)) w) }
 {
     let mut sum = total;
     for item in items {

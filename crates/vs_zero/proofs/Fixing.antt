@@ -1,17 +1,17 @@
 -- Statements that read no signal, and what they do.
 use Rattle.std.proofs.Common.{◌≡◌, ℕ, zero, suc, ◌+◌, ◌<◌, Bool, true, false, List, [], ◌∷◌, ◌++◌, length, map, drop, get_or, Option, Some, refl, sym, ap, ◌∙◌, arith}
-use Rattle.std.specs.Prelude.{◌&&◌, slice_index, if◌then◌else◌}
-use Rattle.std.specs.List.{list_all}
+use Rattle.std.specs.Prelude.{not, ◌||◌, ◌&&◌, slice_index, if◌then◌else◌}
 use Rattle.std.proofs.lemmas.List.{drop_more}
 use Rattle.vs_four.specs.Logic.{BitList}
 use Rattle.vs_net.specs.Network.{State, Write, Update, write_all, flatten}
-use Rattle.vs_design.specs.Expressions.{Signal, OfSignal, OfConstant, Expression, Literal, Name, Select, Unary, Binary, Choice, Join, Repeat, At, is_constant}
+use Rattle.vs_design.specs.Expressions.{Signal, OfSignal, OfConstant, Expression, Literal, Name, Select, Word, Unary, Binary, Choice, Join, Repeat, At, Call, Items, NoItem, Item, items_of, is_constant}
 use Rattle.vs_design.specs.Statements.{Target, CaseKind, Statement, Empty, Assignment, Then, If, Case, Arms, Arm, Default}
 use Rattle.vs_design.specs.Bodies.{assignment_writes, body, arms_body, is_taken}
+use Rattle.vs_design.specs.Calls.{calls, items_call, target_calls, statement_calls, arms_call}
 use Rattle.vs_design.specs.Elaborated.{has_constant_selects}
-use Rattle.vs_design.specs.Fits.{is_fit, fits_target, fits_statement, fits_arms}
+use Rattle.vs_design.specs.Fits.{is_fit, fit_items, fits_target, fits_statement, fits_arms}
 use Rattle.vs_design.specs.Footprints.{read_signals, target_signals, items_signals, statement_signals, arms_signals}
-use Rattle.vs_design.specs.Resets.{has_none, are_constant, arms_constant, branch_updates}
+use Rattle.vs_design.specs.Resets.{has_none, are_constant, arms_constant, is_fixed, branch_updates}
 use Rattle.vs_design.specs.Rules.{mixed_in, mixed_in_arms}
 use Rattle.vs_design.specs.TreeLaws.{NoWrites}
 use Rattle.vs_flat.specs.declared.statements.Arm as F
@@ -34,31 +34,71 @@ none_right : (xs ys : List Signal) → has_none (xs ++ ys) ≡ true → has_none
 none_right [] ys h = h
 none_right (x ∷ xs) ys h = absurd (let z : ⊥ = cc in z)
 
-pub constant_by : (e : Expression) → has_none (read_signals e) ≡ true → is_constant e ≡ true
-constant_by (Literal bits signed sized) h = refl
-constant_by (Name signal) h = absurd (let z : ⊥ = cc in z)
-constant_by (Select (OfSignal signal) part index) h = absurd (let z : ⊥ = cc in z)
-constant_by (Select (OfConstant bits) part index) h = constant_by index h
-constant_by (Unary op a) h = constant_by a h
-constant_by (Binary op a b) h = and_both (is_constant a) (is_constant b) (constant_by a (none_left (read_signals a) (read_signals b) h)) (constant_by b (none_right (read_signals a) (read_signals b) h))
-constant_by (Choice c p q) h =
+-- neither does
+not_left : (a b : Bool) → (a || b) ≡ false → a ≡ false
+not_left true b h = h
+not_left false b h = refl
+
+not_right : (a b : Bool) → (a || b) ≡ false → b ≡ false
+not_right true b h = absurd (let z : ⊥ = cc in z)
+not_right false b h = h
+
+-- what names no signal and calls no function is constant
+constant_by : (e : Expression) → calls e ≡ false → has_none (read_signals e) ≡ true → is_constant e ≡ true
+constant_by (Literal bits signed sized) n h = refl
+constant_by (Name signal) n h = absurd (let z : ⊥ = cc in z)
+constant_by (Select (OfSignal signal) part index) n h = absurd (let z : ⊥ = cc in z)
+constant_by (Select (OfConstant bits) part index) n h = constant_by index n h
+constant_by (Word signal index) n h = absurd (let z : ⊥ = cc in z)
+constant_by (Unary op a) n h = constant_by a n h
+constant_by (Binary op a b) n h =
+    and_both (is_constant a) (is_constant b) (constant_by a (not_left (calls a) (calls b) n) (none_left (read_signals a) (read_signals b) h)) (constant_by b (not_right (calls a) (calls b) n) (none_right (read_signals a) (read_signals b) h))
+constant_by (Choice c p q) n h =
     let rest = none_right (read_signals c) (read_signals p ++ read_signals q) h in
+    let first = not_left (calls c || calls p) (calls q) n in
     and_both (is_constant c && is_constant p) (is_constant q)
-    (and_both (is_constant c) (is_constant p) (constant_by c (none_left (read_signals c) (read_signals p ++ read_signals q) h)) (constant_by p (none_left (read_signals p) (read_signals q) rest)))
-    (constant_by q (none_right (read_signals p) (read_signals q) rest))
-constant_by (Join high low) h = and_both (is_constant high) (is_constant low) (constant_by high (none_left (read_signals high) (read_signals low) h)) (constant_by low (none_right (read_signals high) (read_signals low) h))
-constant_by (Repeat count a) h = constant_by a h
-constant_by (At place e) h = constant_by e h
+    (and_both (is_constant c) (is_constant p) (constant_by c (not_left (calls c) (calls p) first) (none_left (read_signals c) (read_signals p ++ read_signals q) h)) (constant_by p (not_right (calls c) (calls p) first) (none_left (read_signals p) (read_signals q) rest)))
+    (constant_by q (not_right (calls c || calls p) (calls q) n) (none_right (read_signals p) (read_signals q) rest))
+constant_by (Join high low) n h =
+    and_both (is_constant high) (is_constant low) (constant_by high (not_left (calls high) (calls low) n) (none_left (read_signals high) (read_signals low) h)) (constant_by low (not_right (calls high) (calls low) n) (none_right (read_signals high) (read_signals low) h))
+constant_by (Repeat count a) n h = constant_by a n h
+constant_by (At place e) n h = constant_by e n h
+constant_by (Call header statement arguments) n h = absurd (let z : ⊥ = cc in z)
 
-items_by : (es : List Expression) → has_none (items_signals es) ≡ true → are_constants es ≡ true
-items_by [] h = refl
-items_by (e ∷ es) h = and_both (is_constant e) (are_constants es) (constant_by e (none_left (read_signals e) (items_signals es) h)) (items_by es (none_right (read_signals e) (items_signals es) h))
+items_by : (es : Items) → items_call es ≡ false → has_none (items_signals es) ≡ true → are_constants es ≡ true
+items_by NoItem n h = refl
+items_by (Item e es) n h =
+    and_both (is_constant e) (are_constants es) (constant_by e (not_left (calls e) (items_call es) n) (none_left (read_signals e) (items_signals es) h)) (items_by es (not_right (calls e) (items_call es) n) (none_right (read_signals e) (items_signals es) h))
 
-arms_by : (arms : Arms) → has_none (arms_signals arms) ≡ true → arms_are_constants arms ≡ true
-arms_by (Arm items statement rest) h =
-    and_both (are_constants items) (arms_are_constants rest) (items_by items (none_left (items_signals items) (statement_signals statement ++ arms_signals rest) h))
-    (arms_by rest (none_right (statement_signals statement) (arms_signals rest) (none_right (items_signals items) (statement_signals statement ++ arms_signals rest) h)))
-arms_by (Default statement) h = refl
+arms_by : (arms : Arms) → arms_call arms ≡ false → has_none (arms_signals arms) ≡ true → arms_are_constants arms ≡ true
+arms_by (Arm items statement rest) n h =
+    and_both (are_constants items) (arms_are_constants rest)
+    (items_by items (not_left (items_call items) (statement_calls statement) (not_left (items_call items || statement_calls statement) (arms_call rest) n)) (none_left (items_signals items) (statement_signals statement ++ arms_signals rest) h))
+    (arms_by rest (not_right (items_call items || statement_calls statement) (arms_call rest) n) (none_right (statement_signals statement) (arms_signals rest) (none_right (items_signals items) (statement_signals statement ++ arms_signals rest) h)))
+arms_by (Default statement) n h = refl
+
+-- what the form of a branch says of it
+record FixedParts (s : Statement) : Type 0 where
+  signals : has_none (statement_signals s) ≡ true
+  no_calls : statement_calls s ≡ false
+  selects : are_constant s ≡ true
+
+isnt : (b : Bool) → not b ≡ true → b ≡ false
+isnt true h = absurd (let z : ⊥ = cc in z)
+isnt false h = refl
+
+parts_of : (s : Statement) → is_fixed s ≡ true → FixedParts s
+parts_of s h =
+    let front = and_left (has_none (statement_signals s) && not (statement_calls s)) (are_constant s) h in
+    record {
+      signals = and_left (has_none (statement_signals s)) (not (statement_calls s)) front;
+      no_calls = isnt (statement_calls s) (and_right (has_none (statement_signals s)) (not (statement_calls s)) front);
+      selects = and_right (has_none (statement_signals s) && not (statement_calls s)) (are_constant s) h;
+    }
+
+fixed_of : (s : Statement) → has_none (statement_signals s) ≡ true → statement_calls s ≡ false → are_constant s ≡ true → is_fixed s ≡ true
+fixed_of s signals no_calls selects =
+    and_both (has_none (statement_signals s) && not (statement_calls s)) (are_constant s) (and_both (has_none (statement_signals s)) (not (statement_calls s)) signals (ap not no_calls)) selects
 
 -- ---- no list
 
@@ -81,10 +121,10 @@ pub record FixedAssign (target : Target) (e : Expression) (blocking : Bool) : Ty
 
 pub fixed_assign : (place : ℕ) (target : Target) (e : Expression) (blocking : Bool) → IsFixed (Assignment place target e blocking) → FixedAssign target e blocking
 fixed_assign place target e blocking h =
-    let signals : has_none (target_signals target ++ read_signals e) ≡ true = and_left _ _ h.fixed in
+    let parts = parts_of (Assignment place target e blocking) h.fixed in
     record {
-      selects = and_right (has_none (target_signals target ++ read_signals e)) _ h.fixed;
-      constant = constant_by e (none_right (target_signals target) (read_signals e) signals);
+      selects = parts.selects;
+      constant = constant_by e (not_right (target_calls target) (calls e) parts.no_calls) (none_right (target_signals target) (read_signals e) parts.signals);
       fits = and_left _ _ h.fits;
       fit = and_right (fits_target target) _ h.fits;
       later = by_mix blocking h.unmixed;
@@ -102,20 +142,20 @@ pub record FixedIf (c : Expression) (taken other : Statement) : Type 0 where
 
 pub fixed_if : (c : Expression) (taken other : Statement) → IsFixed (If c taken other) → FixedIf c taken other
 fixed_if c taken other h =
-    let signals : has_none (read_signals c ++ (statement_signals taken ++ statement_signals other)) ≡ true = and_left _ _ h.fixed in
-    let rest = none_right (read_signals c) (statement_signals taken ++ statement_signals other) signals in
-    let constants : (are_constant taken && are_constant other) ≡ true = and_right (has_none (read_signals c ++ (statement_signals taken ++ statement_signals other))) _ h.fixed in
+    let parts = parts_of (If c taken other) h.fixed in
+    let rest = none_right (read_signals c) (statement_signals taken ++ statement_signals other) parts.signals in
+    let front = not_left (calls c || statement_calls taken) (statement_calls other) parts.no_calls in
     let first : (is_fit c && fits_statement taken) ≡ true = and_left _ _ h.fits in
     record {
-      constant = constant_by c (none_left (read_signals c) (statement_signals taken ++ statement_signals other) signals);
+      constant = constant_by c (not_left (calls c) (statement_calls taken) front) (none_left (read_signals c) (statement_signals taken ++ statement_signals other) parts.signals);
       fit = and_left _ _ first;
       taken_fixed = record {
-        fixed = and_both (has_none (statement_signals taken)) (are_constant taken) (none_left (statement_signals taken) (statement_signals other) rest) (and_left _ _ constants);
+        fixed = fixed_of taken (none_left (statement_signals taken) (statement_signals other) rest) (not_right (calls c) (statement_calls taken) front) (and_left (are_constant taken) (are_constant other) parts.selects);
         fits = and_right (is_fit c) _ first;
         unmixed = left_empty (mixed_in true taken) (mixed_in true other) h.unmixed;
       };
       other_fixed = record {
-        fixed = and_both (has_none (statement_signals other)) (are_constant other) (none_right (statement_signals taken) (statement_signals other) rest) (and_right (are_constant taken) _ constants);
+        fixed = fixed_of other (none_right (statement_signals taken) (statement_signals other) rest) (not_right (calls c || statement_calls taken) (statement_calls other) parts.no_calls) (and_right (are_constant taken) (are_constant other) parts.selects);
         fits = and_right (is_fit c && fits_statement taken) _ h.fits;
         unmixed = right_empty (mixed_in true taken) (mixed_in true other) h.unmixed;
       };
@@ -127,16 +167,15 @@ pub record FixedThen (first rest : Statement) : Type 0 where
 
 pub fixed_then : (first rest : Statement) → IsFixed (Then first rest) → FixedThen first rest
 fixed_then first rest h =
-    let signals : has_none (statement_signals first ++ statement_signals rest) ≡ true = and_left _ _ h.fixed in
-    let constants : (are_constant first && are_constant rest) ≡ true = and_right (has_none (statement_signals first ++ statement_signals rest)) _ h.fixed in
+    let parts = parts_of (Then first rest) h.fixed in
     record {
       first_fixed = record {
-        fixed = and_both (has_none (statement_signals first)) (are_constant first) (none_left (statement_signals first) (statement_signals rest) signals) (and_left _ _ constants);
+        fixed = fixed_of first (none_left (statement_signals first) (statement_signals rest) parts.signals) (not_left (statement_calls first) (statement_calls rest) parts.no_calls) (and_left (are_constant first) (are_constant rest) parts.selects);
         fits = and_left _ _ h.fits;
         unmixed = left_empty (mixed_in true first) (mixed_in true rest) h.unmixed;
       };
       rest_fixed = record {
-        fixed = and_both (has_none (statement_signals rest)) (are_constant rest) (none_right (statement_signals first) (statement_signals rest) signals) (and_right (are_constant first) _ constants);
+        fixed = fixed_of rest (none_right (statement_signals first) (statement_signals rest) parts.signals) (not_right (statement_calls first) (statement_calls rest) parts.no_calls) (and_right (are_constant first) (are_constant rest) parts.selects);
         fits = and_right (fits_statement first) _ h.fits;
         unmixed = right_empty (mixed_in true first) (mixed_in true rest) h.unmixed;
       };
@@ -148,56 +187,59 @@ pub record FixedCase (subject : Expression) (arms : Arms) : Type 0 where
   pub constants : arms_are_constants arms ≡ true
   pub fits : fits_arms arms ≡ true
   pub signals : has_none (arms_signals arms) ≡ true
+  pub no_calls : arms_call arms ≡ false
   pub selects : arms_constant arms ≡ true
   pub unmixed : mixed_in_arms true arms ≡ []
 
 pub fixed_case : (kind : CaseKind) (subject : Expression) (arms : Arms) → IsFixed (Case kind subject arms) → FixedCase subject arms
 fixed_case kind subject arms h =
-    let signals : has_none (read_signals subject ++ arms_signals arms) ≡ true = and_left _ _ h.fixed in
-    let rest = none_right (read_signals subject) (arms_signals arms) signals in
+    let parts = parts_of (Case kind subject arms) h.fixed in
+    let rest = none_right (read_signals subject) (arms_signals arms) parts.signals in
+    let none = not_right (calls subject) (arms_call arms) parts.no_calls in
     record {
-      constant = constant_by subject (none_left (read_signals subject) (arms_signals arms) signals);
+      constant = constant_by subject (not_left (calls subject) (arms_call arms) parts.no_calls) (none_left (read_signals subject) (arms_signals arms) parts.signals);
       fit = and_left _ _ h.fits;
-      constants = arms_by arms rest;
+      constants = arms_by arms none rest;
       fits = and_right (is_fit subject) _ h.fits;
       signals = rest;
-      selects = and_right (has_none (read_signals subject ++ arms_signals arms)) _ h.fixed;
+      no_calls = none;
+      selects = parts.selects;
       unmixed = h.unmixed;
     }
 
 -- the arm that is taken
 abbrev FixedArms : Arms → Type 0
-FixedArms arms = (has_none (arms_signals arms) ≡ true) × (arms_constant arms ≡ true) × (fits_arms arms ≡ true) × (mixed_in_arms true arms ≡ [])
+FixedArms arms = ((has_none (arms_signals arms) ≡ true) × (arms_call arms ≡ false)) × (arms_constant arms ≡ true) × (fits_arms arms ≡ true) × (mixed_in_arms true arms ≡ [])
 
 pub taken_fixed : (a : Arena) (nodes n : ℕ) (kind : CaseKind) (w : ℕ) (s : Bool) (v : BitList) (other : Option ℕ) (arms : List F.Arm) → FixedArms (arms_of a other arms) → ArmsBelow nodes n arms → BranchBelow n other
     → IsFixedBranch a n (taken_arm (tree_of a) kind w s v other arms)
 taken_fixed a nodes n kind w s v other [] h below otherwise =
-    record { earlier = otherwise; fixed = record { fixed = and_both (has_none (statement_signals (R.branch (statement_of a) other))) (are_constant (R.branch (statement_of a) other)) h.0 h.1; fits = h.2; unmixed = h.3 } }
+    record { earlier = otherwise; fixed = record { fixed = fixed_of (R.branch (statement_of a) other) h.0.0 h.0.1 h.1; fits = h.2; unmixed = h.3 } }
 taken_fixed a nodes n kind w s v other (arm ∷ arms) h below otherwise =
-    go (is_taken kind w s v (map (tree_of a) arm.items) unknown)
+    go (is_taken kind w s v (items_of (map (tree_of a) arm.items)) unknown)
     (taken_fixed a nodes n kind w s v other arms
-    (none_right (statement_signals st) (arms_signals rest) signals, and_right (are_constant st) _ h.1, and_right (list_all is_fit items && fits_statement st) _ h.2, right_empty (mixed_in true st) (mixed_in_arms true rest) h.3)
+    ((none_right (statement_signals st) (arms_signals rest) signals, not_right (items_call items || statement_calls st) (arms_call rest) h.0.1), and_right (are_constant st) _ h.1, and_right (fit_items items && fits_statement st) _ h.2, right_empty (mixed_in true st) (mixed_in_arms true rest) h.3)
     (λ k arm e. below (suc k) arm e) otherwise)
   where
     st : Statement
     st = statement_of a arm.statement
 
-    items : List Expression
-    items = map (tree_of a) arm.items
+    items : Items
+    items = items_of (map (tree_of a) arm.items)
 
     rest : Arms
     rest = arms_of a other arms
 
     signals : has_none (statement_signals st ++ arms_signals rest) ≡ true
-    signals = none_right (items_signals items) (statement_signals st ++ arms_signals rest) h.0
+    signals = none_right (items_signals items) (statement_signals st ++ arms_signals rest) h.0.0
 
     go : (t : Bool) → IsFixedBranch a n (taken_arm (tree_of a) kind w s v other arms) → IsFixedBranch a n (if t then Some arm.statement else taken_arm (tree_of a) kind w s v other arms)
     go false k = k
     go true k = record {
       earlier = (below zero arm refl).1;
       fixed = record {
-        fixed = and_both (has_none (statement_signals st)) (are_constant st) (none_left (statement_signals st) (arms_signals rest) signals) (and_left _ _ h.1);
-        fits = and_right (list_all is_fit items) _ (and_left _ _ h.2);
+        fixed = fixed_of st (none_left (statement_signals st) (arms_signals rest) signals) (not_right (items_call items) (statement_calls st) (not_left (items_call items || statement_calls st) (arms_call rest) h.0.1)) (and_left (are_constant st) (arms_constant rest) h.1);
+        fits = and_right (fit_items items) _ (and_left _ _ h.2);
         unmixed = left_empty (mixed_in true st) (mixed_in_arms true rest) h.3;
       };
     }
@@ -246,7 +288,7 @@ updated_then law first rest m s =
 pub updated_arms : (a : Arena) (kind : CaseKind) (w : ℕ) (g : Bool) (v : BitList) (other : Option ℕ) (arms : List F.Arm) (s : State)
     → write_all s (flatten (arms_body (arms_of a other arms) kind w g v unknown).updates) ≡ updated (R.branch (statement_of a) (taken_arm (tree_of a) kind w g v other arms)) s
 updated_arms a kind w g v other [] s = refl
-updated_arms a kind w g v other (arm ∷ arms) s = go (is_taken kind w g v (map (tree_of a) arm.items) unknown) (updated_arms a kind w g v other arms s)
+updated_arms a kind w g v other (arm ∷ arms) s = go (is_taken kind w g v (items_of (map (tree_of a) arm.items)) unknown) (updated_arms a kind w g v other arms s)
   where
     go : (t : Bool) → write_all s (flatten (arms_body (arms_of a other arms) kind w g v unknown).updates) ≡ updated (R.branch (statement_of a) (taken_arm (tree_of a) kind w g v other arms)) s
         → write_all s (flatten (if t then body (statement_of a arm.statement) unknown else arms_body (arms_of a other arms) kind w g v unknown).updates)

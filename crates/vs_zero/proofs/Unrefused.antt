@@ -7,9 +7,9 @@ use Rattle.vs_design.specs.Accepted.{is_empty}
 use Rattle.vs_design.specs.Elaborated.{IsLawfulDesign}
 use Rattle.vs_design.specs.Equations.{IsOrderly}
 use Rattle.vs_design.specs.Levels.{at_number, is_ready, is_order_after, is_level_order}
-use Rattle.vs_design.specs.Refusals.{least, otherwise, first_found, BlockRefusal, MixedAssign, Sensitivity, Latch, block_refusal_of, block_refusal, driver_refusal, signal_of}
+use Rattle.vs_design.specs.Refusals.{least, otherwise, first_found, BlockRefusal, FunctionLatch, MixedAssign, Sensitivity, Latch, block_refusal_of, block_refusal, driver_refusal, signal_of}
 use Rattle.vs_design.specs.Designs.{process_place}
-use Rattle.vs_design.specs.Rules.{mixed_assigns, missing_bits, latches, shared_bits}
+use Rattle.vs_design.specs.Rules.{mixed_assigns, missing_bits, latches, function_latches, shared_bits}
 use Rattle.vs_design.specs.Footprints.{contains}
 use Rattle.vs_reads.proofs.Numbered.{at_is}
 use Rattle.vs_shape.proofs.Names.{and_both}
@@ -42,7 +42,8 @@ pub record IsClean (x : Process) : Type 0 where
 
 pub clean : (d : Design) → block_refusal d ≡ None → (p : ℕ) (x : Process) → slice_get d.processes p ≡ Some x → IsClean x
 clean d h p x e =
-    let f = each_none (block_refusal_of d) 0 d.processes p x h e in
+    let functions = option_map FunctionLatch (least (function_latches d.functions)) in
+    let f = each_none (block_refusal_of d) 0 d.processes p x (first_none functions (first_found (block_refusal_of d) 0 d.processes) h).1 e in
     let n = f.0 in
     let one = first_none (option_map MixedAssign (least (mixed_assigns x))) (otherwise (option_map (λ b. Sensitivity n (signal_of d.signals b) (process_place x)) (least (missing_bits x))) (option_map (λ b. Latch n b (process_place x)) (least (latches x)))) f.1 in
     let two = first_none (option_map (λ b. Sensitivity n (signal_of d.signals b) (process_place x)) (least (missing_bits x))) (option_map (λ b. Latch n b (process_place x)) (least (latches x))) one.1 in

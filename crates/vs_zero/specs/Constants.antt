@@ -1,8 +1,7 @@
 -- Statements that read no signal.
 use Rattle.std.specs.Prelude.{◌≡◌, ◌<◌, ℕ, Bool, true, ◌&&◌, List, [], ◌∷◌, length, map, if◌then◌else◌, Option, Some, slice_index}
-use Rattle.std.specs.List.{list_all}
 use Rattle.vs_four.specs.Logic.{BitList}
-use Rattle.vs_design.specs.Expressions.{Expression, is_constant}
+use Rattle.vs_design.specs.Expressions.{Expression, Items, NoItem, Item, items_of, is_constant}
 use Rattle.vs_net.specs.Network.{State, Update, flatten, write_all}
 use Rattle.vs_design.specs.Statements.{CaseKind, Statement, Arms, Arm, Default}
 use Rattle.vs_design.specs.Bodies.{body, is_taken}
@@ -15,8 +14,9 @@ use Rattle.vs_sets.specs.StatementParts.{BranchBelow, statement_of}
 use Rattle.vs_flat.specs.declared.statements.Arm as F
 use Rattle.vs_zero.specs.States.{unknown}
 
-abbrev pub are_constants : List Expression → Bool
-are_constants es = list_all is_constant es
+abbrev pub are_constants : Items → Bool
+are_constants NoItem = true
+are_constants (Item e es) = is_constant e && are_constants es
 
 -- all items of a case
 abbrev pub arms_are_constants : Arms → Bool
@@ -26,7 +26,7 @@ arms_are_constants (Default statement) = true
 -- the statement of the first arm that matches, or else the default
 abbrev pub taken_arm : (ℕ → Expression) → CaseKind → ℕ → Bool → BitList → Option ℕ → List F.Arm → Option ℕ
 taken_arm tree kind w s v other [] = other
-taken_arm tree kind w s v other (arm ∷ arms) = if is_taken kind w s v (map tree arm.items) unknown then Some arm.statement else taken_arm tree kind w s v other arms
+taken_arm tree kind w s v other (arm ∷ arms) = if is_taken kind w s v (items_of (map tree arm.items)) unknown then Some arm.statement else taken_arm tree kind w s v other arms
 
 -- ---- statements
 

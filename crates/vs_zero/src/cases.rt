@@ -1,10 +1,10 @@
 //! Which arm a case of constants takes (IEEE 1364-2005, 9.5).
 
 ghost use Rattle.std.specs.Prelude.{◌≡◌, ◌≤◌, ◌<◌, ℕ, length, map, true};
-ghost use Rattle.std.specs.List.{list_all};
 ghost use Rattle.vs_four.specs.Tables.{is_one};
+ghost use Rattle.vs_design.specs.Expressions.{items_of};
 ghost use Rattle.vs_design.specs.Bodies.{is_taken};
-ghost use Rattle.vs_design.specs.Fits.{is_fit, fits_arms};
+ghost use Rattle.vs_design.specs.Fits.{fit_items, fits_arms};
 ghost use Rattle.vs_design.specs.Statements.{case_match};
 ghost use Rattle.vs_flat.specs.Trees.{branch};
 ghost use Rattle.vs_sets.specs.Matches.{are_within, items_at};
@@ -34,12 +34,12 @@ fn is_match(kind: CaseKind, a: Bits, b: Bits) -> bool
 /// Whether one of these items matches this value of the case's expression.
 fn is_taken(shapes: &Shapes, kind: CaseKind, context: Context, subject: Bits, items: &[u32]) -> bool
     requires there { EachBelow (length shapes.now.nodes) items.now }
-    requires fit { list_all is_fit (map (tree_of shapes.now) items.now) ≡ true }
-    requires constant { are_constants (map (tree_of shapes.now) items.now) ≡ true }
+    requires fit { fit_items (items_of (map (tree_of shapes.now) items.now)) ≡ true }
+    requires constant { are_constants (items_of (map (tree_of shapes.now) items.now)) ≡ true }
     requires within { are_within context.width (map (tree_of shapes.now) items.now) ≡ true }
     requires few { context.width ≤ 64 }
     requires many { length subject ≡ context.width }
-    ensures { result ≡ is_taken kind context.width context.signed subject (map (tree_of shapes.now) items.now) unknown }
+    ensures { result ≡ is_taken kind context.width context.signed subject (items_of (map (tree_of shapes.now) items.now)) unknown }
 {
     for item in items {
         let value = shapes.value(*item, context.width, context.signed);

@@ -1,4 +1,4 @@
-use Rattle.std.proofs.Common.{◌<◌, length, ap, arith}
+use Rattle.std.proofs.Common.{◌<◌, length, refl, ap, arith}
 use Rattle.vs_flat.specs.Arena.{Arena}
 use Rattle.vs_flat.specs.DesignOf.{design_of}
 use Rattle.vs_block.proofs.Blocks.{process_there, first_refused, none_refused, refused_exit}
@@ -12,10 +12,10 @@ returns-in_err-check_process-clause-refused c =
     let within : p < length d.processes = omega (arith, same, (c.trees_law.ensures.counts c.args.typed.now).processes, c.process_count-p-end.ensures.count, c.loop-p-test.true) in
     let x = process_there d.processes p within in
     refused_exit d c.from_residual.result c.in_err-check_process.field-0.0 c.from_residual.ensures.1
-    (first_refused d p x.0 c.in_err-check_process.field-0.0 x.1 c.loop-p.invariant (c.in_err-check_process.ensures.refused x.0 x.1))
+    (first_refused d refl p x.0 c.in_err-check_process.field-0.0 x.1 c.loop-p.invariant (c.in_err-check_process.ensures.refused x.0 x.1))
 
 pub returns-clause-unrefused : goal.returns-clause-unrefused
 returns-clause-unrefused c =
     let d = design_of c.args.typed.now in
     let same = ap (λ (a : Arena). length a.processes) c.flat.ensures.same in
-    none_refused d c.loop-p.p (omega (arith, same, (c.trees_law.ensures.counts c.args.typed.now).processes, c.process_count-p-end.ensures.count, c.loop-p-test.false)) c.loop-p.invariant
+    none_refused d refl c.loop-p.p (omega (arith, same, (c.trees_law.ensures.counts c.args.typed.now).processes, c.process_count-p-end.ensures.count, c.loop-p-test.false)) c.loop-p.invariant

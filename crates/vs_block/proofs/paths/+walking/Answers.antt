@@ -1,6 +1,7 @@
 use Rattle.std.proofs.Common.{List, map, take, get_or, refl, sym, ap, ◌∙◌, subst, arith}
 use Rattle.std.proofs.lemmas.List.{take_all}
 use Rattle.std.proofs.lemmas.Grind.{get_or_default_zero}
+use Rattle.vs_design.specs.Expressions.{items_of}
 use Rattle.vs_design.specs.Footprints.{items_reads}
 use Rattle.vs_flat.specs.declared.statements.Arm.{Arm}
 use Rattle.vs_flat.specs.Trees.{branch, arms_tree, target_tree}
@@ -58,8 +59,8 @@ walk_arm-returns-clause-walked t c =
     let own = c.args.own.now in
     let start = c.args.assigned.now in
     if_ok c.shared_bits.result c.shared_bits.ensures.shared
-    (λ v f. arm_walked own (items_reads (map (tree_of a) c.args.arm.now.items)) (body_of a c.args.arm.now.statement) start c.args.early.now c.note_values.new.early c.walk.new.early c.args.paths.now c.in_ok-found.found.items v.items
-    (subst (λ (es : List _). AreNoted own (items_reads (map (tree_of a) es)) start c.args.early.now c.note_values.new.early) c.as_slice.ensures c.in_ok-note_values.ensures) c.in_ok-found.ensures.walked
+    (λ v f. arm_walked own (items_reads (items_of (map (tree_of a) c.args.arm.now.items))) (body_of a c.args.arm.now.statement) start c.args.early.now c.note_values.new.early c.walk.new.early c.args.paths.now c.in_ok-found.found.items v.items
+    (subst (λ (es : List _). AreNoted own (items_reads (items_of (map (tree_of a) es))) start c.args.early.now c.note_values.new.early) c.as_slice.ensures c.in_ok-note_values.ensures) c.in_ok-found.ensures.walked
     (shared_as own _ _ _ _ _ _ v.items refl c.as_slice-2.ensures.value c.in_ok-found.ensures.same f))
 
 pub walk_arms-loop-arm-init : goal.walk_arms-loop-arm-init
@@ -97,7 +98,7 @@ walk_arms-loop-arm-preserved t c =
       walked =
           arms_step (tree_of a) (body_of a) c.args.other own c.args.assigned.now c.args.early.now c.loop-arm.early c.walk_arm.new.early c.args.arms.now c.loop-arm.arm-index arm c.loop-arm.found.items c.in_ok-found-2.found.items c.loop-arm-test.true
           c.arm-item.is c.loop-arm.invariant.walked
-          (arm_as own (items_reads (map (tree_of a) arm.items)) (body_of a arm.statement) _ _ c.loop-arm.early c.walk_arm.new.early _ _ c.in_ok-found-2.found.items start c.as_slice.ensures.value c.in_ok-found-2.ensures.walked);
+          (arm_as own (items_reads (items_of (map (tree_of a) arm.items))) (body_of a arm.statement) _ _ c.loop-arm.early c.walk_arm.new.early _ _ c.in_ok-found-2.found.items start c.as_slice.ensures.value c.in_ok-found-2.ensures.walked);
     }
 
 pub walk_arms-returns-clause-same : goal.walk_arms-returns-clause-same

@@ -6,7 +6,7 @@ use Rattle.vs_flat.proofs.laws.example_law.Goals as goal
 
 example_lawful : IsLawful example_arena
 example_lawful = record {
-  design = record { scopes = refl; numbered = refl; bits_numbered = refl; declared = refl; formed = refl; few_bits = omega arith; few_processes = omega arith };
+  design = record { scopes = refl; numbered = refl; bits_numbered = refl; declared = refl; memories = refl; formed = refl; functions = refl; clocked_words = refl; few_bits = omega arith; few_processes = omega arith };
   few_scopes = omega arith;
   few_nodes = omega arith;
   few_statements = omega arith;
@@ -24,7 +24,7 @@ example_lawful = record {
 
 block_lawful : IsLawful block_arena
 block_lawful = record {
-  design = record { scopes = refl; numbered = refl; bits_numbered = refl; declared = refl; formed = refl; few_bits = omega arith; few_processes = omega arith };
+  design = record { scopes = refl; numbered = refl; bits_numbered = refl; declared = refl; memories = refl; formed = refl; functions = refl; clocked_words = refl; few_bits = omega arith; few_processes = omega arith };
   few_scopes = omega arith;
   few_nodes = omega arith;
   few_statements = omega arith;

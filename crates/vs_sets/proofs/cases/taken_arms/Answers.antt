@@ -1,7 +1,8 @@
 use Rattle.std.proofs.Common.{◌≡◌, ◌+◌, ◌++◌, [], ◌∷◌, false, Some, drop, map, refl, sym, ap, ◌∙◌}
-use Rattle.std.specs.List.{list_all, list_any}
+use Rattle.std.specs.List.{list_any}
 use Rattle.std.proofs.lemmas.Bool.{cond-true, cond-false}
-use Rattle.vs_design.specs.Fits.{is_fit}
+use Rattle.vs_design.specs.Expressions.{items_of}
+use Rattle.vs_design.specs.Fits.{fit_items}
 use Rattle.vs_design.specs.Sets.{Set4, is_only_one}
 use Rattle.vs_design.specs.LiftedBodies.{item_sets}
 use Rattle.vs_design.specs.Sleepers.{at_once, arms_at_once}
@@ -21,7 +22,7 @@ pub match_items-found-requires-clause-fit : goal.match_items-found-requires-clau
 match_items-found-requires-clause-fit c =
     let a = c.args.lifter.now.shapes.now in
     let x = c.arm-item.result in
-    ap (λ ns. list_all is_fit (map (tree_of a) ns)) (c.as_slice.ensures ∙ ap (λ y. y.items) c.arm-item.is)
+    ap (λ ns. fit_items (items_of (map (tree_of a) ns))) (c.as_slice.ensures ∙ ap (λ y. y.items) c.arm-item.is)
     ∙ arm_fit (tree_of a) (statement_of a) c.args.other c.args.arms.now c.loop-arm.arm-index x c.requires.fit c.loop-arm-test.true
 
 pub match_items-found-requires-clause-within : goal.match_items-found-requires-clause-within
@@ -50,8 +51,8 @@ loop-arm-preserved c =
     let subject = c.args.subject.now in
     let arm = c.arm-item.result in
     let k = c.loop-arm.arm-index in
-    let items = ap (λ ns. item_sets kind w s subject (map (tree_of a) ns) f) c.as_slice.ensures in
-    let unsure : list_any is_only_one (item_sets kind w s subject (map (tree_of a) arm.items) f) ≡ false = ap (λ ms. list_any is_only_one ms) (sym items) ∙ sym c.match_items-found.ensures.sure ∙ c.if-found.false in
+    let items = ap (λ ns. item_sets kind w s subject (items_of (map (tree_of a) ns)) f) c.as_slice.ensures in
+    let unsure : list_any is_only_one (item_sets kind w s subject (items_of (map (tree_of a) arm.items)) f) ≡ false = ap (λ ms. list_any is_only_one ms) (sym items) ∙ sym c.match_items-found.ensures.sure ∙ c.if-found.false in
     let step = arm_step (tree_of a) (statement_of a) c.args.other c.args.arms.now k arm kind w s subject f c.loop-arm-test.true c.arm-item.is unsure in
     let may = ap (λ ms. list_any (λ (m : Set4). m.one?) ms) (sym items) ∙ sym c.match_items-found.ensures.may in
     let rest = taken_arms (arms_at_once (arms_of a c.args.other (drop (k + 1) c.args.arms.now))) kind w s subject f in

@@ -1,6 +1,7 @@
 use Rattle.std.proofs.Common.{ℕ, List, map, sym, ap, ◌∙◌}
 use Rattle.vs_flat.specs.declared.statements.Arm.{Arm}
 use Rattle.vs_flat.specs.Trees.{branch}
+use Rattle.vs_design.specs.Expressions.{items_of}
 use Rattle.vs_shape.specs.Nodes.{tree_of}
 use Rattle.vs_shape.specs.Bodies.{body_of, body_of_statement, body_place}
 use Rattle.vs_shape.proofs.Walking.{arm_at}
@@ -20,7 +21,7 @@ least_arms-loop-arm-preserved t c at =
     let rule = c.args.rule in
     arm_step rule at (tree_of a) (body_of a) c.args.other c.args.arms.now c.loop-arm.arm-index c.arm-item.result c.loop-arm.least c.least_items-least.result c.least_statement-least.result
     (arm_at c.args.arms.now c.loop-arm.arm-index c.arm-item.result c.arm-item.is c.loop-arm-test.true)
-    (c.least_items-least.ensures at ∙ ap (λ (xs : List ℕ). least_from c.loop-arm.least (item_places rule at (map (tree_of a) xs))) c.as_slice.ensures) (c.least_statement-least.ensures at)
+    (c.least_items-least.ensures at ∙ ap (λ (xs : List ℕ). least_from c.loop-arm.least (item_places rule at (items_of (map (tree_of a) xs)))) c.as_slice.ensures) (c.least_statement-least.ensures at)
     ∙ c.loop-arm.invariant at
 
 pub least_branch-returns-in-Some : goal.least_branch-returns-in-Some

@@ -1,6 +1,6 @@
 use Rattle.std.proofs.Common.{map, sym, ap, ◌∙◌}
-use Rattle.std.specs.List.{list_all}
-use Rattle.vs_design.specs.Fits.{is_fit}
+use Rattle.vs_design.specs.Expressions.{items_of}
+use Rattle.vs_design.specs.Fits.{fit_items}
 use Rattle.vs_sets.specs.Matches.{are_within}
 use Rattle.vs_sets.specs.Nodes.{tree_of}
 use Rattle.vs_sets.specs.StatementParts.{statement_of}
@@ -12,13 +12,13 @@ use Rattle.vs_zero.proofs.cases.taken_branch.Goals as goal
 pub is_taken-requires-clause-fit : goal.is_taken-requires-clause-fit
 is_taken-requires-clause-fit c =
     let a = c.args.shapes.now in
-    ap (λ ns. list_all is_fit (map (tree_of a) ns)) (c.as_slice.ensures ∙ ap (λ y. y.items) c.arm-item.is)
+    ap (λ ns. fit_items (items_of (map (tree_of a) ns))) (c.as_slice.ensures ∙ ap (λ y. y.items) c.arm-item.is)
     ∙ arm_fit (tree_of a) (statement_of a) c.args.other c.args.arms.now c.loop-arm.arm-index c.arm-item.result c.requires.fit c.loop-arm-test.true
 
 pub is_taken-requires-clause-constant : goal.is_taken-requires-clause-constant
 is_taken-requires-clause-constant c =
     let a = c.args.shapes.now in
-    ap (λ ns. are_constants (map (tree_of a) ns)) (c.as_slice.ensures ∙ ap (λ y. y.items) c.arm-item.is)
+    ap (λ ns. are_constants (items_of (map (tree_of a) ns))) (c.as_slice.ensures ∙ ap (λ y. y.items) c.arm-item.is)
     ∙ arm_constant (tree_of a) (statement_of a) c.args.other c.args.arms.now c.loop-arm.arm-index c.arm-item.result c.requires.constant c.loop-arm-test.true
 
 pub is_taken-requires-clause-within : goal.is_taken-requires-clause-within

@@ -82,7 +82,7 @@ run-run_branch-requires-in-Case t c =
     let tree = c.statement_node.ensures.tree ∙ ap made c.in-Case.is in
     let names = subst (HasStatementNames (length a.nodes) c.args.s) c.in-Case.is c.statement_node.ensures.names in
     let f = fixed_case c.in-Case.kind (tree_of a c.in-Case.of) (arms_of a c.in-Case.other c.in-Case.arms) (subst IsFixed tree c.requires.fixed) in
-    let taken = taken_fixed a (length a.nodes) c.args.s c.in-Case.kind c.case_context-context.result.width c.case_context-context.result.signed c.value-subject.result c.in-Case.other c.in-Case.arms (f.signals, f.selects, f.fits, f.unmixed) names.1 names.2 in (
+    let taken = taken_fixed a (length a.nodes) c.args.s c.in-Case.kind c.case_context-context.result.width c.case_context-context.result.signed c.value-subject.result c.in-Case.other c.in-Case.arms ((f.signals, f.no_calls), f.selects, f.fits, f.unmixed) names.1 names.2 in (
       omega arith,
       (
         c.requires.covers,

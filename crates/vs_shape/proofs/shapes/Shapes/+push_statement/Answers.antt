@@ -1,7 +1,7 @@
 use Rattle.std.proofs.Common.{◌≡◌, ◌<◌, ◌++◌, true, map, get_or, length, refl, sym, ap, ◌∙◌, subst, arith, rules}
 use Rattle.std.specs.Prelude.{Some, slice_get}
-use Rattle.std.specs.List.{list_all}
-use Rattle.vs_design.specs.Fits.{is_fit, fits_statement}
+use Rattle.vs_design.specs.Expressions.{items_of}
+use Rattle.vs_design.specs.Fits.{fit_items, fits_statement}
 use Rattle.vs_flat.specs.declared.statements.Statement.{Statement}
 use Rattle.vs_flat.specs.declared.statements.Statement.TheVariants as S
 use Rattle.vs_flat.specs.Trees.{target_tree, branch, sequence}
@@ -18,7 +18,7 @@ push_in_items-requires-clause-fit t c =
     let all = case_fits c.args.walk a c.flat.result.now c.args.s c.statement_of.result.now c.flat.ensures.same c.statement_of.ensures.tree c.in-Case.kind c.in-Case.of c.in-Case.arms c.in-Case.other c.in-Case.is c.requires.fits in
     let at = arm_at c.as_slice-arm-items.result.now c.loop-arm.arm-index c.arm-item.result c.arm-item.is c.loop-arm-test.true in
     let here = arm_fits (tree_of a) (body_of a) c.in-Case.other c.in-Case.arms c.loop-arm.arm-index c.arm-item.result all (ap (λ xs. slice_get xs c.loop-arm.arm-index) (sym c.as_slice-arm-items.ensures) ∙ at) in
-    subst (λ xs. list_all is_fit (map (tree_of a) xs) ≡ true) (sym c.as_slice.ensures) here.0
+    subst (λ xs. fit_items (items_of (map (tree_of a) xs)) ≡ true) (sym c.as_slice.ensures) here.0
 
 pub push_statement-requires-in-loop-arm : goal.push_statement-requires-in-loop-arm
 push_statement-requires-in-loop-arm t c =
@@ -38,7 +38,7 @@ loop-arm-preserved t c =
     let a = c.args.self.now in
     with_arm c.args.walk (tree_of a) (body_of a) c.in-Case.other c.as_slice-arm-items.result.now c.loop-arm.arm-index c.arm-item.result c.loop-arm.out.items c.push_in_items.new.out.items c.push_statement-in-loop-arm.new.out.items _
     (arm_at c.as_slice-arm-items.result.now c.loop-arm.arm-index c.arm-item.result c.arm-item.is c.loop-arm-test.true) c.loop-arm.invariant
-    (c.in_ok-push_in_items-in-Case.ensures ∙ ap (λ xs. c.loop-arm.out.items ++ walked_items c.args.walk (map (tree_of a) xs)) c.as_slice.ensures) c.in_ok-push_statement-in-Case.ensures
+    (c.in_ok-push_in_items-in-Case.ensures ∙ ap (λ xs. c.loop-arm.out.items ++ walked_items c.args.walk (items_of (map (tree_of a) xs))) c.as_slice.ensures) c.in_ok-push_statement-in-Case.ensures
 
 pub push_statement-requires-in-Some-other : goal.push_statement-requires-in-Some-other
 push_statement-requires-in-Some-other t c =
