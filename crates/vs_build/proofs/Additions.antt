@@ -66,7 +66,7 @@ statements_named a p k =
     omega (arith, times-append k first (flat_map f (a.processes ++ p ∷ [])), times-append k first (flat_map f a.processes), times-flat f a.processes p k)
 
 wider_process : (a : Arena) (p : Process) → IsWider (design_of a) (design_of (with_process a p))
-wider_process a p = same_signals (design_of a) (design_of (with_process a p)) refl
+wider_process a p = same_signals (design_of a) (design_of (with_process a p)) (omega arith) refl
 
 pub process_kept : (a : Arena) (rs bs : List ℕ) (p : Process) → IsGrowing a (rs ++ kind_expressions p.kind) (bs ++ kind_statements p.kind) → covers_process a p ≡ true → has_target (tree_at (arena_trees a)) p.kind ≡ true
     → IsGrowing (with_process a p) rs bs
@@ -99,7 +99,7 @@ process_draft a rs bs p = ap (λ d. record (draft_of a rs bs) { design = d }) (p
 pub scope_kept : (a : Arena) (rs bs : List ℕ) (s : Scope) → IsGrowing a rs bs → length a.scopes < 2 ^ 32 - 1 → IsGrowing (with_scope a s) rs bs
 scope_kept a rs bs s g room =
     let b : Arena = with_scope a s in
-    let wider : IsWider (design_of a) (design_of b) = same_signals (design_of a) (design_of b) refl in
+    let wider : IsWider (design_of a) (design_of b) = same_signals (design_of a) (design_of b) (omega (arith, ap (λ (d : D.Design). length d.scopes) (scope_added a s), length-append (design_of a).scopes (scope_of s ∷ []))) refl in
     record {
       few_scopes = omega (arith, room, length-append a.scopes (s ∷ []));
       few_nodes = g.few_nodes;
@@ -125,7 +125,7 @@ pub signal_kept : (a : Arena) (rs bs : List ℕ) (s : Signal) → IsGrowing a rs
 signal_kept a rs bs s g =
     let b : Arena = with_signal a s in
     let trees : arena_trees b ≡ arena_trees a = trees_with_signal a s g.names in
-    let wider : IsWider (design_of a) (design_of b) = more_signals (design_of a) (design_of b) (signal_of (length a.signals) s) (ap (λ (d : D.Design). d.signals) (signal_added a s g.names)) in
+    let wider : IsWider (design_of a) (design_of b) = more_signals (design_of a) (design_of b) (signal_of (length a.signals) s) (omega arith) (ap (λ (d : D.Design). d.signals) (signal_added a s g.names)) in
     record {
       few_scopes = g.few_scopes;
       few_nodes = g.few_nodes;

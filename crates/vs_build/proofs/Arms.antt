@@ -24,12 +24,14 @@ pub begins_twice : (p q : ℕ) (e : Expression) → begins_at p (begins_at q e) 
 begins_twice p q (E.Literal bits signed sized) = refl
 begins_twice p q (E.Name signal) = refl
 begins_twice p q (E.Select source part index) = refl
+begins_twice p q (E.Word signal index) = refl
 begins_twice p q (E.Unary op a) = refl
 begins_twice p q (E.Binary op a b) = refl
 begins_twice p q (E.Choice c a b) = refl
 begins_twice p q (E.Join a b) = refl
 begins_twice p q (E.Repeat n a) = refl
 begins_twice p q (E.At r e) = refl
+begins_twice p q (E.Call header statement arguments) = refl
 
 pub begins_itself : (e : tree.Expr) (find : Find) (needed : Bool) → begins_at (expr_place e) (typed e find needed).expression ≡ (typed e find needed).expression
 begins_itself (tree.Number n) find needed = refl

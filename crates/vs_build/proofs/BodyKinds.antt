@@ -10,7 +10,7 @@ use Rattle.vs_design.specs.Designs as D
 use Rattle.vs_design.specs.Designs.{Design}
 use Rattle.vs_design.specs.Footprints.{is_variable}
 use Rattle.vs_design.specs.Fits.{fits_64}
-use Rattle.vs_design.specs.Elaborated.{is_signal, is_formed, is_formed_select, is_formed_target, is_formed_statement, are_formed_arms}
+use Rattle.vs_design.specs.Elaborated.{is_plain, is_formed, is_formed_select, is_formed_target, is_formed_statement, are_formed_arms, has_words}
 use Rattle.vs_flat.specs.declared.statements.Arm.{Arm}
 use Rattle.vs_base.specs.declared.events.CaseKind.{CaseKind}
 use Rattle.vs_flat.specs.declared.statements.Statement.TheVariants as S
@@ -78,7 +78,7 @@ repeated_target d false o t f k = cc
 -- a target that writes variables is one of a formed expression
 variable_target : (d : Design) (e : E.Expression) (t : T.Target) → target_of e ≡ Some t → is_formed d e ≡ true → writes_variables t ≡ true → is_formed_target d is_variable t ≡ true
 variable_target d (E.Literal bits signed sized) t e h w = cc
-variable_target d (E.Name s) t e h w = subst (λ x. is_formed_target d is_variable x ≡ true) (same e) (and_true (is_signal d s) (is_variable s) h (subst (λ x. writes_variables x ≡ true) (sym (same e)) w))
+variable_target d (E.Name s) t e h w = subst (λ x. is_formed_target d is_variable x ≡ true) (same e) (and_true (is_plain d s) (is_variable s) h (subst (λ x. writes_variables x ≡ true) (sym (same e)) w))
   where
     same : Some (T.Whole s) ≡ Some t → T.Whole s ≡ t
     same k = cc
@@ -90,6 +90,13 @@ variable_target d (E.Select (E.OfSignal s) p i) t e h w =
     same : Some (T.PartOf s p i) ≡ Some t → T.PartOf s p i ≡ t
     same k = cc
 variable_target d (E.Select (E.OfConstant bits) p i) t e h w = cc
+variable_target d (E.Word s i) t e h w =
+    let b = and_both (has_words d s) (is_formed d i) h in
+    subst (λ x. is_formed_target d is_variable x ≡ true) (same e)
+    (and_true (has_words d s && is_variable s) (is_formed d i) (and_true (has_words d s) (is_variable s) b.0 (subst (λ x. writes_variables x ≡ true) (sym (same e)) w)) b.1)
+  where
+    same : Some (T.WordOf s i) ≡ Some t → T.WordOf s i ≡ t
+    same k = cc
 variable_target d (E.Unary op a) t e h w = cc
 variable_target d (E.Binary op a b) t e h w = cc
 variable_target d (E.Choice c p q) t e h w = cc
@@ -98,6 +105,7 @@ variable_target d (E.Join a b) t e h w =
     joined_target d (target_of a) (target_of b) t (λ x k v. variable_target d a x k f.0 v) (λ y k v. variable_target d b y k f.1 v) e w
 variable_target d (E.Repeat n a) t e h w = repeated_target d (n == 1) (target_of a) t (λ k. variable_target d a t k (and_both (fits_64 n) (is_formed d a) h).1 w) e
 variable_target d (E.At p a) t e h w = variable_target d a t e h w
+variable_target d (E.Call header statement arguments) t e h w = cc
 
 formed_target : (d : Design) (e : E.Expression) → is_some (target_of e) ≡ true → is_formed d e ≡ true → writes_variables (target_tree e) ≡ true → is_formed_target d is_variable (target_tree e) ≡ true
 formed_target d e s h w = by (target_of e) refl s w

@@ -1,5 +1,5 @@
 -- Arms that are cut from one list of labels and one of statements.
-use Rattle.std.proofs.Common.{◌≡◌, ℕ, zero, suc, ◌+◌, ◌-◌, ◌<◌, ◌≤◌, Bool, true, not, ◌&&◌, nat_lt, List, [], ◌∷◌, ◌++◌, length, get_or, map, take, drop, Option, slice_get, refl, sym, ap, ◌∙◌, arith, append_assoc, drop-cons}
+use Rattle.std.proofs.Common.{◌≡◌, ℕ, zero, suc, ◌+◌, ◌-◌, ◌<◌, ◌≤◌, Bool, true, ◌&&◌, nat_lt, List, [], ◌∷◌, ◌++◌, length, get_or, map, take, drop, Option, slice_get, refl, sym, ap, ◌∙◌, arith, append_assoc, drop-cons}
 use Rattle.std.specs.Prelude.{option_to_list}
 use Rattle.std.specs.List.{list_all, flat_map}
 use Rattle.std.proofs.lemmas.Bool.{ltb-true}
@@ -7,7 +7,7 @@ use Rattle.std.proofs.lemmas.List.{take-append-drop, length-drop, length-map, ge
 use Rattle.vs_design.specs.Expressions as E
 use Rattle.vs_design.specs.Statements as T
 use Rattle.vs_design.specs.Designs.{Design}
-use Rattle.vs_design.specs.Elaborated.{is_nil, is_formed, is_formed_statement, are_formed_arms}
+use Rattle.vs_design.specs.Elaborated.{has_items, are_formed, is_formed, is_formed_statement, are_formed_arms}
 use Rattle.vs_ast.specs.declared.statements.CaseArm.{CaseArm}
 use Rattle.vs_flat.specs.declared.statements.Arm.{Arm}
 use Rattle.vs_flat.specs.Named.{all_below}
@@ -95,10 +95,14 @@ cut_statements (n ∷ ns) labels (x ∷ xs) h = ap (λ ys. x ∷ ys) (cut_statem
 
 -- ---- what they stand for
 
-some_taken : {A : Type 0} (f : ℕ → A) (n : ℕ) (xs : List ℕ) → 0 < n → 0 < length xs → not (is_nil (map f (take n xs))) ≡ true
+some_taken : (f : ℕ → E.Expression) (n : ℕ) (xs : List ℕ) → 0 < n → 0 < length xs → has_items (E.items_of (map f (take n xs))) ≡ true
 some_taken f zero xs h k = absurd (let no : ⊥ = omega (arith, h) in no)
 some_taken f (suc n) [] h k = absurd (let no : ⊥ = omega (arith, k) in no)
 some_taken f (suc n) (x ∷ xs) h k = refl
+
+all_items : (d : Design) (es : List E.Expression) → list_all (is_formed d) es ≡ true → are_formed d (E.items_of es) ≡ true
+all_items d [] h = refl
+all_items d (e ∷ es) h = let b = and_both (is_formed d e) (list_all (is_formed d) es) h in and_true (is_formed d e) (are_formed d (E.items_of es)) b.0 (all_items d es b.1)
 
 pub cut_formed : (d : Design) (tree : ℕ → E.Expression) (statement : ℕ → T.Statement) (other : Option ℕ) (ns labels statements : List ℕ) → length labels ≡ total ns → length ns ≤ length statements → list_all (λ n. nat_lt 0 n) ns ≡ true
     → list_all (λ k. is_formed d (tree k)) labels ≡ true → list_all (λ k. is_formed_statement d (statement k)) statements ≡ true → is_formed_statement d (branch statement other) ≡ true
@@ -110,10 +114,10 @@ cut_formed d tree statement other (n ∷ ns) labels (x ∷ xs) l k some h g f =
     let positive : 0 < n = ltb-true 0 n b.0 in
     let c = and_both (is_formed_statement d (statement x)) (list_all (λ m. is_formed_statement d (statement m)) xs) g in
     let rest = arms_tree tree statement other (cut ns (drop n labels) xs) in
-    let items = map tree (take n labels) in
-    and_true (not (is_nil items) && list_all (is_formed d) items && is_formed_statement d (statement x)) (are_formed_arms d rest)
-    (and_true (not (is_nil items) && list_all (is_formed d) items) (is_formed_statement d (statement x))
-    (and_true (not (is_nil items)) (list_all (is_formed d) items) (some_taken tree n labels positive (omega (arith, l, positive))) (all_mapped tree (is_formed d) (take n labels) (all_taken (λ m. is_formed d (tree m)) n labels h))) c.0)
+    let items = E.items_of (map tree (take n labels)) in
+    and_true (has_items items && are_formed d items && is_formed_statement d (statement x)) (are_formed_arms d rest)
+    (and_true (has_items items && are_formed d items) (is_formed_statement d (statement x))
+    (and_true (has_items items) (are_formed d items) (some_taken tree n labels positive (omega (arith, l, positive))) (all_items d (map tree (take n labels)) (all_mapped tree (is_formed d) (take n labels) (all_taken (λ m. is_formed d (tree m)) n labels h)))) c.0)
     (cut_formed d tree statement other ns (drop n labels) xs (omega (arith, l, length-drop n labels)) (omega (arith, k)) b.1 (all_dropped (λ m. is_formed d (tree m)) n labels h) c.1 f)
 
 pub cut_tree : (tree : ℕ → E.Expression) (statement : ℕ → T.Statement) (other : Option ℕ) (made : List Labelled) (labels statements : List ℕ) → map tree labels ≡ flat_map (λ (a : Labelled). a.labels) made
@@ -128,9 +132,9 @@ cut_tree tree statement other (a ∷ made) labels (x ∷ xs) h g =
     let later : map statement (take (length made) xs) ≡ map (λ (b : Labelled). b.statement) made = cc in
     let items : map tree (take n labels) ≡ a.labels = map_take tree n labels ∙ ap (take n) h ∙ taken_end a.labels more in
     let rest : map tree (drop n labels) ≡ more = map_drop tree n labels ∙ ap (drop n) h ∙ dropped_end a.labels more in
-    ap (λ es. T.Arm es (statement x) (arms_tree tree statement other (cut (map (λ (b : Labelled). length b.labels) made) (drop n labels) xs))) items
-    ∙ ap (λ s. T.Arm a.labels s (arms_tree tree statement other (cut (map (λ (b : Labelled). length b.labels) made) (drop n labels) xs))) first
-    ∙ ap (λ r. T.Arm a.labels a.statement r) (cut_tree tree statement other made (drop n labels) xs rest later)
+    ap (λ es. T.Arm (E.items_of es) (statement x) (arms_tree tree statement other (cut (map (λ (b : Labelled). length b.labels) made) (drop n labels) xs))) items
+    ∙ ap (λ s. T.Arm (E.items_of a.labels) s (arms_tree tree statement other (cut (map (λ (b : Labelled). length b.labels) made) (drop n labels) xs))) first
+    ∙ ap (λ r. T.Arm (E.items_of a.labels) a.statement r) (cut_tree tree statement other made (drop n labels) xs rest later)
 
 -- ---- the loop
 

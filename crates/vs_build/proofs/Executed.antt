@@ -393,7 +393,7 @@ statements_of made = map (λ (a : Labelled). a.statement) made
 
 pub arms_are : (find : Find) (arms : tree.CaseArms) (other : TypedStatement) → (typed_arms arms find other).arms ≡ arms_with (labelled find arms) other.statement
 arms_are find tree.NoArm other = refl
-arms_are find (tree.AndArm labels s rest) other = ap (λ z. T.Arm (typed_list labels find).expressions (typed_statement s find).statement z) (arms_are find rest other)
+arms_are find (tree.AndArm labels s rest) other = ap (λ z. T.Arm (E.items_of (typed_list labels find).expressions) (typed_statement s find).statement z) (arms_are find rest other)
 
 arms_clean : (find : Find) (arms : tree.CaseArms) (other : TypedStatement) → (typed_arms arms find other).faults ≡ [] → ((typed_arms arms find (typed_fallback tree.NoFallback find)).faults ≡ []) × (other.faults ≡ [])
 arms_clean find tree.NoArm other h = (refl, h)

@@ -2,6 +2,7 @@
 use Rattle.std.proofs.Common.{◌≡◌, ℕ, ◌+◌, ◌≤◌, Bool, true, false, not, ◌&&◌, List, [], ◌∷◌, ◌++◌, max, min, nat_le, Option, Some, None, Result, OnOk, refl, sym, ap, ◌∙◌, subst, arith}
 use Rattle.std.proofs.lemmas.Bool.{leb-true}
 use Rattle.vs_four.specs.declared.Range.{Range}
+use Rattle.vs_four.specs.Logic.{BitList}
 use Rattle.vs_four.specs.Numbers.{bits_of, clog2}
 use Rattle.vs_four.specs.Selects.{Part, range_length}
 use Rattle.vs_design.specs.Expressions as E
@@ -11,6 +12,7 @@ use Rattle.vs_design.specs.Designs.{Design}
 use Rattle.vs_design.specs.Elaborated.{is_formed, is_formed_select}
 use Rattle.vs_grammar.specs.Trees as tree
 use Rattle.vs_grammar.specs.Trees.{expr_place}
+use Rattle.vs_grammar.specs.Depths.{expr_depth}
 use Rattle.vs_const.specs.declared.faults.Fault.{Fault}
 use Rattle.vs_const.specs.Faults.{fault, fault_if, names_signal}
 use Rattle.vs_const.specs.declared.rules.Rule.TheVariants.{BadRange}
@@ -274,5 +276,22 @@ clog2_constant d find needed place a b =
     nil_right [] = refl
     nil_right (x ∷ xs) = ap (λ ys. x ∷ ys) (nil_right xs)
 
-pub clog2_expression : (find : Find) (needed : Bool) (at place : ℕ) (a : tree.Expr) → begins_at at (typed (tree.Call place tree.Clog2 a) find needed).expression ≡ begins_at at (typed (tree.Call place tree.Clog2 a) find true).expression
-clog2_expression find needed at place a = refl
+clog2_literal : (t : Typed) (at inner place : ℕ) (good : Bool) → (clog2_typed good place t).good ≡ true
+    → E.At at (E.Literal (constant_value (begins_at inner (clog2_typed good place t).expression)) true true) ≡ begins_at at (begins_at inner (clog2_typed good place t).expression)
+clog2_literal t at inner place false h = cc
+clog2_literal t at inner place true h = of (clog2 (constant_value t.expression)) h
+  where
+    of : (n : Option ℕ) → (clog2_of n place t.faults).good ≡ true
+        → E.At at (E.Literal (constant_value (begins_at inner (clog2_of n place t.faults).expression)) true true) ≡ begins_at at (begins_at inner (clog2_of n place t.faults).expression)
+    of None k = cc
+    of (Some n) k = refl
+
+pub clog2_arm : {U F : Type 0} (r : Result U F) (s v : Draft) (d : Design) (find : Find) (needed : Bool) (at place : ℕ) (a : tree.Expr) (bits : BitList) → IsBuildable d find needed (tree.Call place tree.Clog2 a)
+    → bits ≡ constant_value (constant (tree.Call place tree.Clog2 a) find).expression → OnOk r (AddsExpression s v (E.At at (E.Literal bits true true)) 1)
+    → OnOk r (AddsExpression s v (begins_at at (typed (tree.Call place tree.Clog2 a) find needed).expression) (1 + expr_depth (tree.Call place tree.Clog2 a)))
+clog2_arm r s v d find needed at place a bits b e h =
+    let t = typed a find true in
+    let x = clog2_typed t.good (expr_place a) t in
+    let good : x.good ≡ true = (split x.good (not (is_over 64 x.length)) (clog2_constant d find needed place a b).good).0 in
+    ok_up_to r s v (begins_at at (begins_at place x.expression)) 1 (1 + expr_depth (tree.Call place tree.Clog2 a))
+    (subst (λ y. OnOk r (AddsExpression s v y 1)) (ap (λ z. E.At at (E.Literal z true true)) e ∙ clog2_literal t at place (expr_place a) t.good good) h) (omega arith)

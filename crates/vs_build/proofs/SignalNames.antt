@@ -1,19 +1,23 @@
 -- A name that means a signal of the design.
-use Rattle.std.proofs.Common.{◌≡◌, ℕ, zero, suc, ◌<◌, Bool, true, false, ◌&&◌, ◌==◌, List, [], ◌∷◌, Option, Some, None, length, get_or, slice_get, refl, sym, ap, ◌∙◌, subst, arith, eqb-true}
+use Rattle.std.proofs.Common.{◌≡◌, ℕ, zero, suc, ◌<◌, Bool, true, false, not, ◌&&◌, ◌==◌, List, [], ◌∷◌, Option, Some, None, is_some, length, get_or, slice_get, refl, sym, ap, ◌∙◌, subst, arith, eqb-true}
 use Rattle.vs_four.specs.declared.Range.{Range}
 use Rattle.vs_design.specs.Expressions as E
 use Rattle.vs_design.specs.Expressions.{Signal, Expression}
 use Rattle.vs_design.specs.Designs.{Design}
 use Rattle.vs_design.specs.Clocks.{same_name}
-use Rattle.vs_design.specs.Elaborated.{same_range, same_flag, same_signal, is_this, is_signal}
+use Rattle.vs_design.specs.Footprints.{is_memory}
+use Rattle.vs_design.specs.Elaborated.{same_range, same_flag, same_signal, is_this, is_signal, is_plain}
 use Rattle.vs_const.specs.declared.names.SignalShape.{SignalShape}
 use Rattle.vs_const.specs.declared.names.Named.TheVariants as named
 use Rattle.vs_const.specs.Meanings.{SignalMeaning, Meaning, ASignal, Means}
 use Rattle.vs_const.specs.Sound.{IsSound}
 use Rattle.vs_const.specs.Typed.{begins_at}
 use Rattle.vs_const.specs.Selects.{name_typed, base_of, signal_base_of, signal_typed, known_signal}
-use Rattle.vs_flat.specs.Trees.{signal_at}
-use Rattle.vs_flat.proofs.Agreeing.{and_both}
+use Rattle.vs_flat.specs.declared.processes.Signal.{Signal as FlatSignal}
+use Rattle.vs_flat.specs.Arena.{Arena}
+use Rattle.vs_flat.specs.Trees.{signal_at, signals_from}
+use Rattle.vs_flat.specs.DesignOf.{arena_signals, design_of}
+use Rattle.vs_flat.proofs.Agreeing.{and_both, and_true}
 use Rattle.vs_build.specs.Drafts.{Draft, AddsExpression}
 use Rattle.vs_build.specs.Buildable.{IsNameable, HasBits, AddsSource}
 
@@ -39,20 +43,21 @@ same_ranges (Some r) (Some s) h =
     let b = and_both (r.left == s.left) (r.right == s.right) h in
     ap (λ n. Some (record r { left = n })) (eqb-true r.left s.left b.0) ∙ ap (λ n. Some (record s { right = n })) (eqb-true r.right s.right b.1)
 
-eight : (a b c d e f g h : Bool) → (a && b && c && d && e && f && g && h) ≡ true → (a ≡ true) × (b ≡ true) × (c ≡ true) × (d ≡ true) × (e ≡ true) × (f ≡ true) × (g ≡ true) × (h ≡ true)
-eight a b c d e f g h k =
-    let p7 = and_both (a && b && c && d && e && f && g) h k in
+nine : (a b c d e f g h i : Bool) → (a && b && c && d && e && f && g && h && i) ≡ true → (a ≡ true) × (b ≡ true) × (c ≡ true) × (d ≡ true) × (e ≡ true) × (f ≡ true) × (g ≡ true) × (h ≡ true) × (i ≡ true)
+nine a b c d e f g h i k =
+    let p8 = and_both (a && b && c && d && e && f && g && h) i k in
+    let p7 = and_both (a && b && c && d && e && f && g) h p8.0 in
     let p6 = and_both (a && b && c && d && e && f) g p7.0 in
     let p5 = and_both (a && b && c && d && e) f p6.0 in
     let p4 = and_both (a && b && c && d) e p5.0 in
     let p3 = and_both (a && b && c) d p4.0 in
     let p2 = and_both (a && b) c p3.0 in
     let p1 = and_both a b p2.0 in
-    (p1.0, p1.1, p2.1, p3.1, p4.1, p5.1, p6.1, p7.1)
+    (p1.0, p1.1, p2.1, p3.1, p4.1, p5.1, p6.1, p7.1, p8.1)
 
 same_signals : (s t : Signal) → same_signal s t ≡ true → s ≡ t
 same_signals s t h =
-    let p = eight (same_name s.name t.name) (s.scope == t.scope) (s.number == t.number) (same_flag s.net t.net) (same_flag s.input t.input) (same_range s.range t.range) (same_flag s.signed t.signed) (s.first == t.first) h in
+    let p = nine (same_name s.name t.name) (s.scope == t.scope) (s.number == t.number) (same_flag s.net t.net) (same_flag s.input t.input) (same_range s.range t.range) (same_flag s.signed t.signed) (s.first == t.first) (same_range s.words t.words) h in
     ap (λ x. record s { name = x }) (same_bytes s.name t.name p.0)
     ∙ ap (λ x. record s { name = t.name; scope = x }) (eqb-true s.scope t.scope p.1)
     ∙ ap (λ x. record s { name = t.name; scope = t.scope; number = x }) (eqb-true s.number t.number p.2)
@@ -60,7 +65,8 @@ same_signals s t h =
     ∙ ap (λ x. record s { name = t.name; scope = t.scope; number = t.number; net = t.net; input = x }) (same_flags s.input t.input p.4)
     ∙ ap (λ x. record s { name = t.name; scope = t.scope; number = t.number; net = t.net; input = t.input; range = x }) (same_ranges s.range t.range p.5)
     ∙ ap (λ x. record s { name = t.name; scope = t.scope; number = t.number; net = t.net; input = t.input; range = t.range; signed = x }) (same_flags s.signed t.signed p.6)
-    ∙ ap (λ x. record t { first = x }) (eqb-true s.first t.first p.7)
+    ∙ ap (λ x. record t { words = s.words; first = x }) (eqb-true s.first t.first p.7)
+    ∙ ap (λ x. record t { words = x }) (same_ranges s.words t.words p.8)
 
 found_is : (s d : Signal) (ss : List Signal) (n : ℕ) → is_this s (slice_get ss n) ≡ true → get_or ss n d ≡ s
 found_is s d [] zero h = cc
@@ -81,6 +87,16 @@ signal_is d s h = found_is s _ d.signals s.number h
 pub signal_within : (d : Design) (s : Signal) → is_signal d s ≡ true → s.number < length d.signals
 signal_within d s h = within s d.signals s.number h
 
+-- and is no memory where it is one of a flat design
+pub signal_plain : (a : Arena) (n : ℕ) → is_signal (design_of a) (signal_at (arena_signals a) n) ≡ true → is_plain (design_of a) (signal_at (arena_signals a) n) ≡ true
+signal_plain a n h = and_true (is_signal (design_of a) (signal_at (arena_signals a) n)) (not (is_memory (signal_at (arena_signals a) n))) h (ap (λ w. not (is_some w)) (wordless 0 a.signals n))
+  where
+    wordless : (first : ℕ) (ss : List FlatSignal) (i : ℕ) → (signal_at (signals_from first ss) i).words ≡ None
+    wordless first [] zero = refl
+    wordless first [] (suc i) = refl
+    wordless first (s ∷ ss) zero = refl
+    wordless first (s ∷ ss) (suc i) = wordless (suc first) ss i
+
 -- what a name that means a signal says
 pub record MeansThere (d : Design) (needed : Bool) (m : Meaning) (number : ℕ) (range : Option Range) : Type 0 where
   pub signal : SignalMeaning
@@ -89,20 +105,21 @@ pub record MeansThere (d : Design) (needed : Bool) (m : Meaning) (number : ℕ) 
   pub runs : needed ≡ false
   pub at : signal_at d.signals number ≡ signal.signal
   pub below : number < length d.signals
-  pub formed : is_signal d (signal_at d.signals number) ≡ true
+  pub formed : is_plain d (signal_at d.signals number) ≡ true
   pub same_range : range ≡ signal.signal.range
 
 there : (d : Design) (needed : Bool) (m : Meaning) (s : SignalShape) (t : SignalMeaning) → m ≡ ASignal t → s.number ≡ t.signal.number → s.range ≡ t.signal.range → needed ≡ false → IsSound d false (ASignal t) → MeansThere d needed m s.number s.range
 there d needed m s t e n r f sound =
-    let at : signal_at d.signals s.number ≡ t.signal = ap (signal_at d.signals) n ∙ signal_is d t.signal sound.0 in
+    let of_design = (and_both (is_signal d t.signal) (not (is_memory t.signal)) sound.0).0 in
+    let at : signal_at d.signals s.number ≡ t.signal = ap (signal_at d.signals) n ∙ signal_is d t.signal of_design in
     record {
       signal = t;
       means = e;
       known = sound.1;
       runs = f;
       at = at;
-      below = subst (λ k. k < length d.signals) (sym n) (signal_within d t.signal sound.0);
-      formed = ap (is_signal d) at ∙ sound.0;
+      below = subst (λ k. k < length d.signals) (sym n) (signal_within d t.signal of_design);
+      formed = ap (is_plain d) at ∙ sound.0;
       same_range = r;
     }
 

@@ -8,7 +8,7 @@ use Rattle.vs_design.specs.Expressions as E
 use Rattle.vs_design.specs.Expressions.{Expression}
 use Rattle.vs_design.specs.Statements.{Whole, PartOf}
 use Rattle.vs_design.specs.Designs.{Design}
-use Rattle.vs_design.specs.Elaborated.{is_signal, is_formed, is_formed_select}
+use Rattle.vs_design.specs.Elaborated.{is_plain, is_formed, is_formed_select}
 use Rattle.vs_grammar.specs.Trees as tree
 use Rattle.vs_grammar.specs.Trees.{expr_place, target_place}
 use Rattle.vs_grammar.specs.Shapes.{IsSelect, IsTarget, ArePartsOfTarget, AreTargets}
@@ -43,7 +43,7 @@ either_false false b h = (refl, h)
 pub record NamesSignal (d : Design) (place : ℕ) (selected : Bool) (m : Meaning) : Type 0 where
   pub s : SignalMeaning
   pub is : m ≡ ASignal s
-  pub of_design : is_signal d s.signal ≡ true
+  pub of_design : is_plain d s.signal ≡ true
   pub known : s.known ≡ true
   pub vector : (selected && is_scalar s) ≡ false
 
@@ -138,23 +138,27 @@ begins_target : (p : ℕ) (e : Expression) → target_of (begins_at p e) ≡ tar
 begins_target p (E.Literal bits signed sized) = refl
 begins_target p (E.Name signal) = refl
 begins_target p (E.Select source part index) = refl
+begins_target p (E.Word signal index) = refl
 begins_target p (E.Unary op a) = refl
 begins_target p (E.Binary op a b) = refl
 begins_target p (E.Choice c a b) = refl
 begins_target p (E.Join a b) = refl
 begins_target p (E.Repeat n a) = refl
 begins_target p (E.At q e) = refl
+begins_target p (E.Call header statement arguments) = refl
 
 begins_place : (p : ℕ) (e : Expression) → place_of (begins_at p e) ≡ p
 begins_place p (E.Literal bits signed sized) = refl
 begins_place p (E.Name signal) = refl
 begins_place p (E.Select source part index) = refl
+begins_place p (E.Word signal index) = refl
 begins_place p (E.Unary op a) = refl
 begins_place p (E.Binary op a b) = refl
 begins_place p (E.Choice c a b) = refl
 begins_place p (E.Join a b) = refl
 begins_place p (E.Repeat n a) = refl
 begins_place p (E.At q e) = refl
+begins_place p (E.Call header statement arguments) = refl
 
 mutual
   pub written : (d : Design) (find : Find) (procedural : Bool) (t : tree.Target) → IsTarget t → AreSound d false find → (typed_target t find procedural).faults ≡ [] → target_of (target_expression t find procedural) ≡ Some (typed_target t find procedural).target

@@ -1,8 +1,8 @@
 -- A design that is being built: what it is so far, and the expressions and statements that nothing in it names yet, in the order in which they were built.
 use Rattle.std.specs.Prelude.{◌≡◌, ◌≤◌, ◌+◌, ℕ, Bool, true, ◌&&◌, List, [], ◌∷◌, ◌++◌, map, length, max, nat_lt, is_some}
 use Rattle.std.specs.List.{list_all}
-use Rattle.vs_design.specs.Expressions.{Signal, Expression}
-use Rattle.vs_design.specs.Statements.{Target, Whole, PartOf, Both, Statement, Arms, Arm, Default}
+use Rattle.vs_design.specs.Expressions.{Signal, Expression, items_of}
+use Rattle.vs_design.specs.Statements.{Target, Whole, PartOf, WordOf, Both, Statement, Arms, Arm, Default}
 use Rattle.vs_design.specs.Designs.{Scope, Process, Design}
 use Rattle.vs_design.specs.Elaborated.{is_formed_select}
 use Rattle.vs_design.specs.Footprints.{is_variable}
@@ -29,7 +29,7 @@ pub record Draft : Type 0 where
 
 -- nothing was built
 abbrev pub no_design : Design
-no_design = record { scopes = []; signals = []; processes = [] }
+no_design = record { scopes = []; signals = []; processes = []; functions = [] }
 
 abbrev pub no_draft : Draft
 no_draft = record { design = no_design; expressions = []; statements = [] }
@@ -138,6 +138,7 @@ pub record EndsInParts (expressions statements : ℕ) (s : Draft) : Type 0 where
 abbrev pub writes_variables : Target → Bool
 writes_variables (Whole signal) = is_variable signal
 writes_variables (PartOf signal part index) = is_variable signal
+writes_variables (WordOf signal index) = is_variable signal
 writes_variables (Both high low) = writes_variables high && writes_variables low
 
 -- the last ones are what an assignment writes, and its expression (9.2)
@@ -157,7 +158,7 @@ pub record Labelled : Type 0 where
 -- arms in order, and at the end the default (9.5)
 abbrev pub arms_with : List Labelled → Statement → Arms
 arms_with [] other = Default other
-arms_with (a ∷ rest) other = Arm a.labels a.statement (arms_with rest other)
+arms_with (a ∷ rest) other = Arm (items_of a.labels) a.statement (arms_with rest other)
 
 abbrev pub total : List ℕ → ℕ
 total [] = 0

@@ -5,11 +5,11 @@ use Rattle.vs_four.specs.declared.Range.{Range}
 use Rattle.vs_four.specs.Logic.{BitList, all_known}
 use Rattle.vs_four.specs.Numbers.{integer, clog2}
 use Rattle.vs_four.specs.Selects.{Part, range_length, is_descending}
-use Rattle.vs_design.specs.Expressions.{OfSignal, OfConstant, Expression, Literal, Name, Select, Unary, Binary, Choice, Join, Repeat, At, UnaryOp, Signed, Unsigned, BinaryOp, Way, InContext, Own, Compared, Shifted, way, binary_length, width, sign, is_constant}
+use Rattle.vs_design.specs.Expressions.{OfSignal, OfConstant, Expression, Literal, Name, Select, Word, Unary, Binary, Choice, Join, Repeat, At, Call, UnaryOp, Signed, Unsigned, BinaryOp, Way, InContext, Own, Compared, Shifted, way, binary_length, width, sign, is_constant}
 use Rattle.vs_design.specs.Values.{constant_value}
 use Rattle.vs_design.specs.Designs.{Design}
 use Rattle.vs_design.specs.Fits.{fits_64}
-use Rattle.vs_design.specs.Elaborated.{is_signal, is_lawful_range, same_range, is_formed, is_formed_select}
+use Rattle.vs_design.specs.Elaborated.{is_plain, is_lawful_range, same_range, is_formed, is_formed_select}
 use Rattle.vs_grammar.specs.Trees as tree
 use Rattle.vs_grammar.specs.Trees.{expr_place}
 use Rattle.vs_grammar.specs.Shapes.{IsExpr, AreParts, IsSelect, IsLiteral}
@@ -73,11 +73,13 @@ pub begins_same : {A : Type 0} (f : Expression → A) → ((p : ℕ) (e : Expres
 begins_same f h p (Literal bits signed sized) = h p (Literal bits signed sized)
 begins_same f h p (Name signal) = h p (Name signal)
 begins_same f h p (Select source part index) = h p (Select source part index)
+begins_same f h p (Word signal index) = h p (Word signal index)
 begins_same f h p (Unary op a) = h p (Unary op a)
 begins_same f h p (Binary op a b) = h p (Binary op a b)
 begins_same f h p (Choice c a b) = h p (Choice c a b)
 begins_same f h p (Join a b) = h p (Join a b)
 begins_same f h p (Repeat n a) = h p (Repeat n a)
+begins_same f h p (Call header statement arguments) = h p (Call header statement arguments)
 begins_same f h p (At q e) = h p e ∙ sym (h q e)
 
 noted_fine : (d : Design) (needed : Bool) (place : ℕ) (t : Typed) → (t.faults ≡ [] → IsFine d needed t) → (noted needed place t).faults ≡ [] → IsFine d needed (noted needed place t)
@@ -335,7 +337,7 @@ value_base_fine d needed v r f l = record { good = refl; r = r; range = refl; fo
         (eq-eqb (range_length part.range) (length v.bits) (ap range_length e ∙ f.range))
         w
 
-pub signal_base_fine : (d : Design) (place : ℕ) (s : SignalMeaning) (range : Option Range) → s.signal.range ≡ range → is_signal d s.signal ≡ true → s.known ≡ true → fault_if (is_scalar s) WrongKind place ≡ [] → IsFineBase d false (signal_base (fault_if (is_scalar s) WrongKind place) s)
+pub signal_base_fine : (d : Design) (place : ℕ) (s : SignalMeaning) (range : Option Range) → s.signal.range ≡ range → is_plain d s.signal ≡ true → s.known ≡ true → fault_if (is_scalar s) WrongKind place ≡ [] → IsFineBase d false (signal_base (fault_if (is_scalar s) WrongKind place) s)
 signal_base_fine d place s None e h k f = absurd (no (scalar s.known s.signal.range k e) (no_fault (is_scalar s) WrongKind place f))
   where
     scalar : (b : Bool) (r : Option Range) → b ≡ true → r ≡ None → (b && is_none r) ≡ true
@@ -357,7 +359,7 @@ signal_base_fine d place s (Some r) e h k f = record { good = k; r = r; range = 
     three false b c h k l = cc
 
     formed : (part : Part) → part.range ≡ r → fits_64 part.width ≡ true → is_formed_select d (OfSignal s.signal) part ≡ true
-    formed part i w = three (is_signal d s.signal) (same_range s.signal.range (Some part.range)) (fits_64 part.width) h (subst (λ q. same_range q (Some part.range) ≡ true) (sym e) (subst (λ q. same_range (Some r) (Some q) ≡ true) (sym i) (same_itself r))) w
+    formed part i w = three (is_plain d s.signal) (same_range s.signal.range (Some part.range)) (fits_64 part.width) h (subst (λ q. same_range q (Some part.range) ≡ true) (sym e) (subst (λ q. same_range (Some r) (Some q) ≡ true) (sym i) (same_itself r))) w
 
 base_fine : (d : Design) (needed : Bool) (place : ℕ) (m : Meaning) → IsSound d needed m → (base_of needed place m).faults ≡ [] → IsFineBase d needed (base_of needed place m)
 base_fine d true place (AValue v r) s h = value_base_fine d true v r s.0 s.1

@@ -18,7 +18,7 @@ abbrev pub to_zero : ℕ → Range
 to_zero left = record { left = left; right = 0 }
 
 abbrev pub vector : Signal
-vector = record { name = 118 ∷ []; scope = 0; number = 0; net = true; input = false; range = Some (to_zero 3); signed = false; first = 0 }
+vector = record { name = 118 ∷ []; scope = 0; number = 0; net = true; input = false; range = Some (to_zero 3); signed = false; first = 0; words = None }
 
 -- `v` is a signal of four bits, `p` a parameter of value `4'd9`, `d` one whose value another fault leaves undefined, `g` a generate block
 abbrev pub letter : ℕ → Meaning

@@ -2,7 +2,7 @@
 use Rattle.std.specs.Prelude.{◌≡◌, ℕ, Bool, true, false, List, [], Some}
 use Rattle.vs_design.specs.Expressions.{width, is_constant}
 use Rattle.vs_design.specs.Designs.{Design}
-use Rattle.vs_design.specs.Elaborated.{is_signal, is_lawful_range, is_formed}
+use Rattle.vs_design.specs.Elaborated.{is_plain, is_lawful_range, is_formed}
 use Rattle.vs_grammar.specs.Trees.{Expr}
 use Rattle.vs_grammar.specs.Shapes.{IsExpr}
 use Rattle.vs_const.specs.Meanings.{SignalMeaning, Meaning, AValue, Undefined, ASignal, Another, Unknown, Find, IsFairValue}
@@ -12,7 +12,7 @@ use Rattle.vs_const.specs.Expressions.{typed}
 -- what a name means where no fault was met: a value with its range, a known signal of the design (in a constant any signal is a fault), or nothing that an expression can name
 abbrev pub IsSoundSignal : Design → Bool → SignalMeaning → Type 0
 IsSoundSignal d true s = Unit {0}
-IsSoundSignal d false s = (is_signal d s.signal ≡ true) × (s.known ≡ true) × (s.signal.input ≡ true → s.input ≡ true)
+IsSoundSignal d false s = (is_plain d s.signal ≡ true) × (s.known ≡ true) × (s.signal.input ≡ true → s.input ≡ true)
 
 -- of a name
 abbrev pub IsSound : Design → Bool → Meaning → Type 0

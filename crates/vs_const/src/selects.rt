@@ -55,7 +55,7 @@ fn signal_length(range: Option<Range>) -> u32
 
 /// A signal, which is no constant.
 fn signal_name(needed: bool, place: u32, s: SignalShape) -> Checked
-    ensures { (m : SignalMeaning) → s.range ≡ m.signal.range → s.signed ≡ m.signal.signed → s.known ≡ m.known
+    ensures { (m : SignalMeaning) → s.range ≡ m.signal.range → s.signed ≡ m.signal.signed → s.known ≡ m.known → m.signal.words ≡ None
         → Checks result (spec.signal_typed needed place m) }
 {
     if needed {

@@ -5,6 +5,7 @@ use Rattle.std.proofs.lemmas.List.{append-nil}
 use Rattle.std.proofs.lemmas.List.Sums.{sum_by-append}
 use Rattle.vs_design.specs.Expressions as design
 use Rattle.vs_design.specs.Expressions.{signal_length}
+use Rattle.vs_design.specs.Statements.{Function}
 use Rattle.vs_design.specs.Designs.{Scope, Process, Design, bit_count}
 use Rattle.vs_design.specs.Elaborated.{is_signal}
 use Rattle.vs_grammar.specs.Trees as tree
@@ -61,24 +62,24 @@ counted_read r c e few p h = record {
 abbrev pub design_with : Design → Task → Survey → Design
 design_with d t s = both_designs d (scope_part t s)
 
-wider_by : (c d : Design) (ss : List design.Signal) → d.signals ≡ c.signals ++ ss → IsWider c d
-wider_by c d [] e = same_signals c d (e ∙ append-nil c.signals)
-wider_by c d (s ∷ ss) e = of (more_signals c m s refl) (wider_by m d ss (e ∙ sym (append_assoc c.signals (s ∷ []) ss)))
+wider_by : (c d : Design) (ss : List design.Signal) → length c.scopes ≤ length d.scopes → d.signals ≡ c.signals ++ ss → IsWider c d
+wider_by c d [] n e = same_signals c d n (e ∙ append-nil c.signals)
+wider_by c d (s ∷ ss) n e = of (more_signals c m s (omega arith) refl) (wider_by m d ss n (e ∙ sym (append_assoc c.signals (s ∷ []) ss)))
   where
     m : Design
-    m = record { scopes = c.scopes; signals = c.signals ++ s ∷ []; processes = c.processes }
+    m = record { scopes = c.scopes; signals = c.signals ++ s ∷ []; processes = c.processes; functions = c.functions }
 
     of : IsWider c m → IsWider m d → IsWider c d
-    of a b = record { signals = λ x h. b.signals x (a.signals x h) }
+    of a b = record { scopes = n; signals = λ x h. b.signals x (a.signals x h) }
 
 pub wider_with : (d : Design) (t : Task) (s : Survey) → IsWider d (design_with d t s)
-wider_with d t s = wider_by d (design_with d t s) s.signals refl
+wider_with d t s = wider_by d (design_with d t s) s.signals (omega (arith, length-append d.scopes (scope_part t s).scopes)) refl
 
 abbrev a_scope : List ℕ → Option ℕ → Bool → Scope
 a_scope name parent instance = record { name = name; parent = parent; instance = instance }
 
-abbrev with_scope : Design → Survey → Scope → List Process → Design
-with_scope d s x ps = record { scopes = d.scopes ++ x ∷ []; signals = d.signals ++ s.signals; processes = ps }
+abbrev with_scope : Design → Survey → Scope → List Process → List Function → Design
+with_scope d s x ps fs = record { scopes = d.scopes ++ x ∷ []; signals = d.signals ++ s.signals; processes = ps; functions = fs }
 
 -- a scope and then its signals
 pub scope_added : (d e f : Draft) (x : Scope) (t : Task) (s : Survey) (ss : List Signal) → e ≡ and_scope d x → f ≡ and_signals e (map signal ss) → map signal ss ≡ s.signals
@@ -87,10 +88,11 @@ scope_added d e f x t s ss added signals same name parent instance =
     ap (λ (y : Draft). y.design) signals
     ∙ ap (λ (y : Draft). (and_signals y (map signal ss)).design) added
     ∙ ap (λ (ys : List design.Signal). (and_signals (and_scope d x) ys).design) same
-    ∙ ap (with_scope d.design s x) (sym (append-nil d.design.processes))
-    ∙ ap (λ n. with_scope d.design s (a_scope n x.parent x.instance) (d.design.processes ++ [])) name
-    ∙ ap (λ p. with_scope d.design s (a_scope t.name p x.instance) (d.design.processes ++ [])) parent
-    ∙ ap (λ i. with_scope d.design s (a_scope t.name t.parent i) (d.design.processes ++ [])) instance
+    ∙ ap (λ ps. with_scope d.design s x ps d.design.functions) (sym (append-nil d.design.processes))
+    ∙ ap (with_scope d.design s x (d.design.processes ++ [])) (sym (append-nil d.design.functions))
+    ∙ ap (λ n. with_scope d.design s (a_scope n x.parent x.instance) (d.design.processes ++ []) (d.design.functions ++ [])) name
+    ∙ ap (λ p. with_scope d.design s (a_scope t.name p x.instance) (d.design.processes ++ []) (d.design.functions ++ [])) parent
+    ∙ ap (λ i. with_scope d.design s (a_scope t.name t.parent i) (d.design.processes ++ []) (d.design.functions ++ [])) instance
 
 -- the signals come behind those of the design
 pub signals_follow : (r : Reading) (e : Draft) (x : Scope) (s : Survey) (ss : List Signal) → IsRead r → e ≡ and_scope (draft r.builder) x

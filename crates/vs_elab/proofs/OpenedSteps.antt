@@ -152,7 +152,7 @@ more_read n r s m h = record {
   few_bits = subst (λ (c : Counts). c.start.bit ≤ 2 ^ 20) (sym m.counts) h.few_bits;
   few_instances = subst (λ (c : Counts). c.instances ≤ 4096) (sym m.counts) h.few_instances;
   few_processes = subst (λ (c : Counts). c.processes ≤ 2 ^ 16) (sym m.counts) h.few_processes;
-  seen = subst (AreSeen (design_so_far s)) (sym m.frames) (seen_wider (design_so_far r) (design_so_far s) (same_signals (design_so_far r) (design_so_far s) m.signals) r.frames.items h.seen);
+  seen = subst (AreSeen (design_so_far s)) (sym m.frames) (seen_wider (design_so_far r) (design_so_far s) (same_signals (design_so_far r) (design_so_far s) (omega (arith, ap length m.scopes)) m.signals) r.frames.items h.seen);
 }
 
 -- ---- a scope is opened

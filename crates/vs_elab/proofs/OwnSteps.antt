@@ -3,6 +3,7 @@ use Rattle.std.proofs.Common.{◌≡◌, ℕ, ◌+◌, ◌<◌, ◌≤◌, ◌^�
 use Rattle.std.specs.Borrow.{Bor}
 use Rattle.std.proofs.lemmas.List.{append-nil}
 use Rattle.vs_design.specs.Expressions.{Signal}
+use Rattle.vs_design.specs.Statements.{Function}
 use Rattle.vs_design.specs.Designs.{Scope, Process, Design}
 use Rattle.vs_grammar.specs.Trees as tree
 use Rattle.vs_grammar.specs.Depths.{assign_depth, statement_depth}
@@ -124,14 +125,15 @@ always_built old new here env part b e is h =
 
 -- ---- one process more
 
-abbrev of_parts : List Scope → List Signal → List Process → Design
-of_parts a b c = record { scopes = a; signals = b; processes = c }
+abbrev of_parts : List Scope → List Signal → List Process → List Function → Design
+of_parts a b c d = record { scopes = a; signals = b; processes = c; functions = d }
 
 -- the design has it behind all others
 pub process_behind : (s : Draft) (v : Draft) (q : Process) → v ≡ and_process s q → v.design ≡ both_designs s.design (of_processes (q ∷ []))
 process_behind s v q e =
-    ap (λ (z : Draft). z.design) e ∙ ap (λ xs. of_parts xs s.design.signals (s.design.processes ++ q ∷ [])) (sym (append-nil s.design.scopes))
-    ∙ ap (λ xs. of_parts (s.design.scopes ++ []) xs (s.design.processes ++ q ∷ [])) (sym (append-nil s.design.signals))
+    ap (λ (z : Draft). z.design) e ∙ ap (λ xs. of_parts xs s.design.signals (s.design.processes ++ q ∷ []) s.design.functions) (sym (append-nil s.design.scopes))
+    ∙ ap (λ xs. of_parts (s.design.scopes ++ []) xs (s.design.processes ++ q ∷ []) s.design.functions) (sym (append-nil s.design.signals))
+    ∙ ap (of_parts (s.design.scopes ++ []) (s.design.signals ++ []) (s.design.processes ++ q ∷ [])) (sym (append-nil s.design.functions))
 
 -- one process more has been built, and nothing else
 pub one_built : (old new : Reading) (q : Process) → draft new.builder ≡ and_process (draft old.builder) q → new.frames.items ≡ old.frames.items → new.counts ≡ old.counts → HasMore 1 old new

@@ -1,7 +1,7 @@
 -- The stack of what is pending, one part more.
 use Rattle.std.proofs.Common.{◌≡◌, ℕ, List, [], ◌∷◌, ◌++◌, map, flat_map, Option, Some, sym, ap, ◌∙◌, append_assoc}
 use Rattle.std.specs.Prelude.{option_to_list}
-use Rattle.std.proofs.lemmas.List.{append-nil, map-append, reverse-append}
+use Rattle.std.proofs.lemmas.List.{map-append, reverse-append}
 use Rattle.vs_grammar.specs.Trees as tree
 use Rattle.vs_scope.specs.declared.frames.Frame.{Frame}
 use Rattle.vs_elab.specs.declared.pending.Part.{Part}

@@ -1,5 +1,5 @@
 -- What has been read stays so with processes more.
-use Rattle.std.proofs.Common.{◌≡◌, ◌≤◌, ◌^◌, false, List, [], ◌∷◌, length, Some, None, sym, ap, ◌∙◌, subst}
+use Rattle.std.proofs.Common.{◌≡◌, ◌≤◌, ◌^◌, false, List, [], ◌∷◌, length, Some, None, sym, ap, ◌∙◌, subst, arith}
 use Rattle.vs_design.specs.Designs.{Process, Design, bit_count}
 use Rattle.vs_elaborated.specs.Environments.{Declared, Later, OfSignal, OfParameter, OfGenvar, OfScope, Entry}
 use Rattle.vs_elaborated.specs.Sound.{IsSoundDeclared, AreSoundEntries, AreSoundFrames}
@@ -40,5 +40,5 @@ read_wired old new ps f n d r = record {
   few_bits = subst (λ (x : Counts). x.start.bit ≤ 2 ^ 20) (sym n) r.few_bits;
   few_instances = subst (λ (x : Counts). x.instances ≤ 4096) (sym n) r.few_instances;
   few_processes = subst (λ (x : Counts). x.processes ≤ 2 ^ 16) (sym n) r.few_processes;
-  seen = subst (AreSeen (design_so_far new)) (sym f) λ i h. frames_wider (design_so_far old) (design_so_far new) (same_signals (design_so_far old) (design_so_far new) (ap (λ (x : Design). x.signals) d)) (env_at (envs old.frames.items) (Some i)).frames (r.seen i h);
+  seen = subst (AreSeen (design_so_far new)) (sym f) λ i h. frames_wider (design_so_far old) (design_so_far new) (same_signals (design_so_far old) (design_so_far new) (omega (arith, ap (λ (x : Design). length x.scopes) d)) (ap (λ (x : Design). x.signals) d)) (env_at (envs old.frames.items) (Some i)).frames (r.seen i h);
 }

@@ -3,6 +3,7 @@ use Rattle.std.proofs.Common.{◌≡◌, ℕ, suc, List, [], ◌∷◌, ◌++◌
 use Rattle.std.specs.Prelude.{Result, Ok, Err}
 use Rattle.std.proofs.lemmas.List.{append-nil}
 use Rattle.vs_design.specs.Expressions.{Signal}
+use Rattle.vs_design.specs.Statements.{Function}
 use Rattle.vs_design.specs.Designs.{Scope, Process, Design}
 use Rattle.vs_grammar.specs.Trees.{Source}
 use Rattle.vs_const.specs.declared.faults.Fault.{Fault}
@@ -15,20 +16,22 @@ use Rattle.vs_elab.specs.Stacks.{Pending, pending, rest_of, built_then, scope_pa
 
 -- ---- designs one after the other
 
-abbrev of_parts : List Scope → List Signal → List Process → Design
-of_parts a b c = record { scopes = a; signals = b; processes = c }
+abbrev of_parts : List Scope → List Signal → List Process → List Function → Design
+of_parts a b c d = record { scopes = a; signals = b; processes = c; functions = d }
 
 pub both_grouped : (a b c : Design) → both_designs (both_designs a b) c ≡ both_designs a (both_designs b c)
 both_grouped a b c =
-    ap (λ x. of_parts x ((a.signals ++ b.signals) ++ c.signals) ((a.processes ++ b.processes) ++ c.processes)) (append_assoc a.scopes b.scopes c.scopes)
-    ∙ ap (λ x. of_parts (a.scopes ++ (b.scopes ++ c.scopes)) x ((a.processes ++ b.processes) ++ c.processes)) (append_assoc a.signals b.signals c.signals)
-    ∙ ap (λ x. of_parts (a.scopes ++ (b.scopes ++ c.scopes)) (a.signals ++ (b.signals ++ c.signals)) x) (append_assoc a.processes b.processes c.processes)
+    ap (λ x. of_parts x ((a.signals ++ b.signals) ++ c.signals) ((a.processes ++ b.processes) ++ c.processes) ((a.functions ++ b.functions) ++ c.functions)) (append_assoc a.scopes b.scopes c.scopes)
+    ∙ ap (λ x. of_parts (a.scopes ++ (b.scopes ++ c.scopes)) x ((a.processes ++ b.processes) ++ c.processes) ((a.functions ++ b.functions) ++ c.functions)) (append_assoc a.signals b.signals c.signals)
+    ∙ ap (λ x. of_parts (a.scopes ++ (b.scopes ++ c.scopes)) (a.signals ++ (b.signals ++ c.signals)) x ((a.functions ++ b.functions) ++ c.functions)) (append_assoc a.processes b.processes c.processes)
+    ∙ ap (of_parts (a.scopes ++ (b.scopes ++ c.scopes)) (a.signals ++ (b.signals ++ c.signals)) (a.processes ++ (b.processes ++ c.processes))) (append_assoc a.functions b.functions c.functions)
 
 pub both_nothing : (a : Design) → both_designs a (of_processes []) ≡ a
 both_nothing a =
-    ap (λ x. of_parts x (a.signals ++ []) (a.processes ++ [])) (append-nil a.scopes)
-    ∙ ap (λ x. of_parts a.scopes x (a.processes ++ [])) (append-nil a.signals)
-    ∙ ap (λ x. of_parts a.scopes a.signals x) (append-nil a.processes)
+    ap (λ x. of_parts x (a.signals ++ []) (a.processes ++ []) (a.functions ++ [])) (append-nil a.scopes)
+    ∙ ap (λ x. of_parts a.scopes x (a.processes ++ []) (a.functions ++ [])) (append-nil a.signals)
+    ∙ ap (λ x. of_parts a.scopes a.signals x (a.functions ++ [])) (append-nil a.processes)
+    ∙ ap (of_parts a.scopes a.signals a.processes) (append-nil a.functions)
 
 -- what is built, one part more, and then the rest
 pub built_more : (a b : Design) (r : Result Design Fault) → built_then a (built_then b r) ≡ built_then (both_designs a b) r

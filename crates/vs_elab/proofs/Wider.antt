@@ -7,13 +7,13 @@ use Rattle.vs_const.specs.Sound.{IsSoundSignal, IsSound, AreSound}
 use Rattle.vs_elaborated.specs.Environments.{Entry}
 use Rattle.vs_build.specs.Buildable.{IsBuildable}
 use Rattle.vs_build.specs.Outputs.{IsOutput}
-use Rattle.vs_build.proofs.Wider.{IsWider}
+use Rattle.vs_build.proofs.Wider.{IsWider, plain_wider}
 use Rattle.vs_items.specs.declared.connections.Connection.{Connection}
 use Rattle.vs_elab.specs.Wiring.{IsWirable}
 
 pub signal_wider : (c d : Design) → IsWider c d → (needed : Bool) (s : SignalMeaning) → IsSoundSignal c needed s → IsSoundSignal d needed s
 signal_wider c d w true s h = h
-signal_wider c d w false s h = (w.signals s.signal h.0, h.1, h.2)
+signal_wider c d w false s h = (plain_wider c d w s.signal h.0, h.1, h.2)
 
 meaning_wider : (c d : Design) → IsWider c d → (needed : Bool) (m : Meaning) → IsSound c needed m → IsSound d needed m
 meaning_wider c d w needed (AValue v r) h = h

@@ -34,7 +34,7 @@ built_then built r = then_do r λ d. Ok (both_designs built d)
 
 -- the scope with its signals
 abbrev pub scope_part : Task → Survey → Design
-scope_part k s = record { scopes = record { name = k.name; parent = k.parent; instance = is_instance k.contents } ∷ []; signals = s.signals; processes = [] }
+scope_part k s = record { scopes = record { name = k.name; parent = k.parent; instance = is_instance k.contents } ∷ []; signals = s.signals; processes = []; functions = [] }
 
 -- the ports of an instance (12.3.9.2)
 abbrev pub ports_part : Task → Survey → List Connection → Design

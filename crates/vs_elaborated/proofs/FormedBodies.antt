@@ -2,11 +2,11 @@
 use Rattle.std.proofs.Common.{◌≡◌, ℕ, Bool, true, false, not, ◌&&◌, ◌||◌, List, [], ◌∷◌, ◌++◌, Option, Some, None, is_none, is_some, refl, sym, ap, ◌∙◌, subst}
 use Rattle.std.specs.List.{list_all}
 use Rattle.vs_four.specs.declared.Range.{Range}
-use Rattle.vs_design.specs.Expressions.{Signal, OfSignal}
+use Rattle.vs_design.specs.Expressions.{Signal, OfSignal, items_of}
 use Rattle.vs_design.specs.Designs.{Design, Edge, is_edge}
 use Rattle.vs_design.specs.Footprints.{is_net, is_variable}
 use Rattle.vs_design.specs.Fits.{fits_64}
-use Rattle.vs_design.specs.Elaborated.{is_nil, is_signal, same_range, is_formed, is_formed_select, is_formed_target, has_constant_selects, is_formed_statement, are_formed_arms, is_formed_event, are_formed_events}
+use Rattle.vs_design.specs.Elaborated.{is_plain, has_items, are_formed, same_range, is_formed, is_formed_select, is_formed_target, has_constant_selects, is_formed_statement, are_formed_arms, is_formed_event, are_formed_events}
 use Rattle.vs_grammar.specs.Trees as tree
 use Rattle.vs_grammar.specs.Trees.{expr_place, target_place}
 use Rattle.vs_grammar.specs.Shapes.{IsExpr, IsSelect, IsTarget, ArePartsOfTarget, AreTargets, IsStatement, IsFallback, AreStatements, AreArms, OneOrMore, Each, IsControl, AreParts, AreExprs}
@@ -55,7 +55,7 @@ either_false false b h = (refl, h)
 
 -- what a name gives to a target
 pub record IsFineName (d : Design) (procedural selected : Bool) (m : Meaning) : Type 0 where
-  pub signal : is_signal d (meant_signal m) ≡ true
+  pub signal : is_plain d (meant_signal m) ≡ true
   pub allowed_to : allowed procedural (meant_signal m) ≡ true
   pub range : selected ≡ true → (r : Range) × ((meant_signal m).range ≡ Some r)
 
@@ -104,13 +104,13 @@ part_target_fine d procedural m b t r n e f = record {
     three false b c h k l = cc
 
     select : is_formed_select d (OfSignal (meant_signal m)) t.part ≡ true
-    select = three (is_signal d (meant_signal m)) (same_range (meant_signal m).range (Some t.part.range)) (fits_64 t.part.width) n.signal (subst (λ q. same_range q (Some t.part.range) ≡ true) (sym e) (subst (λ q. same_range (Some r) (Some q) ≡ true) (sym f.range) (same_itself r))) f.fits
+    select = three (is_plain d (meant_signal m)) (same_range (meant_signal m).range (Some t.part.range)) (fits_64 t.part.width) n.signal (subst (λ q. same_range q (Some t.part.range) ≡ true) (sym e) (subst (λ q. same_range (Some r) (Some q) ≡ true) (sym f.range) (same_itself r))) f.fits
 
 module _ (d : Design) (find : Find) (s : AreSound d false find) where
   selected_target_fine : (select : tree.Select) (name : tree.Name) (procedural : Bool) → IsSelect select → (selected_target select name find procedural).faults ≡ [] → IsFineTarget d procedural (selected_target select name find procedural)
   selected_target_fine tree.Whole name procedural x h =
       let n = name_of_target d procedural false name.place (find name.bytes) (s name.bytes) h in
-      record { formed = both (is_signal d (meant_signal (find name.bytes))) (allowed procedural (meant_signal (find name.bytes))) n.signal n.allowed_to; constant = λ k. refl }
+      record { formed = both (is_plain d (meant_signal (find name.bytes))) (allowed procedural (meant_signal (find name.bytes))) n.signal n.allowed_to; constant = λ k. refl }
   selected_target_fine (tree.BitAt bracket index) name procedural x h =
       let m = find name.bytes in
       let b = target_base procedural name.place true m in
@@ -160,13 +160,13 @@ module _ (d : Design) (find : Find) (s : AreSound d false find) where
 
   -- ---- statements
 
-  list_fine : (es : List tree.Expr) → Each IsExpr es → (typed_list es find).faults ≡ [] → list_all (is_formed d) (typed_list es find).expressions ≡ true
+  list_fine : (es : List tree.Expr) → Each IsExpr es → (typed_list es find).faults ≡ [] → are_formed d (items_of (typed_list es find).expressions) ≡ true
   list_fine [] x h = refl
   list_fine (e ∷ es) x h =
       let n = both_nil (typed e find false).faults (typed_list es find).faults h in
-      both (is_formed d (typed e find false).expression) (list_all (is_formed d) (typed_list es find).expressions) (typed_fine d find e false s x.0 n.0).formed (list_fine es x.1 n.1)
+      both (is_formed d (typed e find false).expression) (are_formed d (items_of (typed_list es find).expressions)) (typed_fine d find e false s x.0 n.0).formed (list_fine es x.1 n.1)
 
-  labels_fine : (es : List tree.Expr) → OneOrMore IsExpr es → (typed_list es find).faults ≡ [] → (list_all (is_formed d) (typed_list es find).expressions ≡ true) × (not (is_nil (typed_list es find).expressions) ≡ true)
+  labels_fine : (es : List tree.Expr) → OneOrMore IsExpr es → (typed_list es find).faults ≡ [] → (are_formed d (items_of (typed_list es find).expressions) ≡ true) × (has_items (items_of (typed_list es find).expressions) ≡ true)
   labels_fine [] x h = absurd x
   labels_fine (e ∷ es) x h = (list_fine (e ∷ es) (x.0, x.1) h, refl)
 
@@ -211,7 +211,7 @@ module _ (d : Design) (find : Find) (s : AreSound d false find) where
         let n = both_nil es.faults ((typed_statement st find).faults ++ r.faults) h in
         let m = both_nil (typed_statement st find).faults r.faults n.1 in
         let l = labels_fine labels x.0 n.0 in
-        four (not (is_nil es.expressions)) (list_all (is_formed d) es.expressions) (is_formed_statement d (typed_statement st find).statement) (are_formed_arms d r.arms) l.1 l.0 (statement_fine st x.1 m.0) (arms_fine rest other x.2 k m.1)
+        four (has_items (items_of es.expressions)) (are_formed d (items_of es.expressions)) (is_formed_statement d (typed_statement st find).statement) (are_formed_arms d r.arms) l.1 l.0 (statement_fine st x.1 m.0) (arms_fine rest other x.2 k m.1)
       where
         four : (a b c e : Bool) → a ≡ true → b ≡ true → c ≡ true → e ≡ true → (a && b && c && e) ≡ true
         four true true true true h k l m = refl
@@ -225,7 +225,7 @@ module _ (d : Design) (find : Find) (s : AreSound d false find) where
   event_fine : (place : ℕ) (edge : Edge) (m : Meaning) → IsSound d false m → event_faults place edge m ≡ [] → is_formed_event d (record { signal = meant_signal m; edge = edge }) ≡ true
   event_fine place edge (AValue v r) q h = cc
   event_fine place edge (Undefined r) q h = absurd q
-  event_fine place edge (ASignal m) q h = both (is_signal d m.signal) (not (is_edge edge) || is_none m.signal.range) q.0 (scalar (is_edge edge) m.signal.range (no_fault (is_edge edge && is_some m.signal.range) WrongKind place h))
+  event_fine place edge (ASignal m) q h = both (is_plain d m.signal) (not (is_edge edge) || is_none m.signal.range) q.0 (scalar (is_edge edge) m.signal.range (no_fault (is_edge edge && is_some m.signal.range) WrongKind place h))
     where
       scalar : (a : Bool) (r : Option Range) → (a && is_some r) ≡ false → (not a || is_none r) ≡ true
       scalar true None k = refl

@@ -5,7 +5,7 @@ use Rattle.std.specs.List.{list_all}
 use Rattle.std.proofs.lemmas.Bool.{lt-ltb}
 use Rattle.vs_design.specs.Expressions.{Signal, signal_length}
 use Rattle.vs_design.specs.Designs.{Process, Design, bit_count}
-use Rattle.vs_design.specs.Elaborated.{is_signal, is_lawful_range, is_declared, is_formed_process, IsLawfulDesign}
+use Rattle.vs_design.specs.Elaborated.{is_signal, is_lawful_range, is_declared, is_formed_process, is_formed_function, is_lawful_memory, has_clocked_words, IsLawfulDesign}
 use Rattle.vs_grammar.specs.Trees.{Module, Source}
 use Rattle.vs_grammar.specs.Shapes.{Each, OneOrMore, IsModule, IsShaped}
 use Rattle.vs_const.specs.declared.faults.Fault.{Fault}
@@ -25,23 +25,26 @@ use Rattle.vs_elaborated.proofs.FinePieces.{found_shaped, survey_pieces}
 use Rattle.vs_elaborated.proofs.PortNames.{IsDirected, IsDirectedPiece, AreDirectedPieces, survey_directed}
 use Rattle.vs_elaborated.proofs.PortsFormed.{IsDeclaredSignal, AreFineSignals, survey_signals, port_formed}
 use Rattle.vs_elaborated.proofs.InDesign.{AreIn, in_design}
+use Rattle.vs_elaborated.proofs.Wordless.{AreWordless, memory_one, process_unworded}
 
 abbrev pub AreFormed : Design → List Process → Type 0
 AreFormed d ps = Each (λ (p : Process). is_formed_process d p ≡ true) ps
 
--- a signal of lawful range, an input only where it is a net of the top
+-- a signal of lawful range that is no memory, an input only where it is a net of the top
 abbrev pub IsFineSignal : Signal → Type 0
-IsFineSignal s = (is_lawful_range s.range ≡ true) × (s.input ≡ true → (s.net ≡ true) × (s.scope ≡ 0))
+IsFineSignal s = (is_lawful_range s.range ≡ true) × (s.input ≡ true → (s.net ≡ true) × (s.scope ≡ 0)) × (s.words ≡ None)
 
 pub record FineRead (d : Design) (limits : Limits) (k : Task) (r : Read) : Type 0 where
   pub formed : AreFormed d r.design.processes
   pub declared : Each IsFineSignal r.design.signals
+  pub functions : r.design.functions ≡ []
   pub bits : r.totals.bits ≤ limits.bits
   pub ports : is_none k.parent ≡ false → (place : ℕ) (c : Connection) → IsFineConnection d c → IsDirected (declarations_of k.contents) c → is_formed_process d (port_assign place r.entries c) ≡ true
 
 pub record FineParts (d : Design) (limits : Limits) (r : ReadPieces) : Type 0 where
   pub formed : AreFormed d r.design.processes
   pub declared : Each IsFineSignal r.design.signals
+  pub functions : r.design.functions ≡ []
   pub bits : r.totals.bits ≤ limits.bits
 
 -- where the signals that were read are those of the design
@@ -75,7 +78,7 @@ never_top o m n h k = absurd (no (sym k ∙ has_parent o m h))
     no e = cc
 
 piece_fine : (d : Design) (limits : Limits) (read : Task → Totals → Result Read Fault) → ReadsFine d limits read → (m : ℕ) (p : Piece) → IsFinePiece d p → IsDirectedPiece p → IsChild m p → (t : Totals) → t.bits ≤ limits.bits → PartsAreFine d limits (read_piece read p t)
-piece_fine d limits read h m (Own p) f g c t b = λ i. record { formed = (f, tt); declared = tt; bits = b }
+piece_fine d limits read h m (Own p) f g c t b = λ i. record { formed = (f, tt); declared = tt; functions = refl; bits = b }
 piece_fine d limits read h m (Instance connections task) f g c t b = of (read task t) (h task t f.1 (never_top task.parent m t.scopes c) b)
   where
     of : (r : Result Read Fault) → ReadIsFine d limits task r → PartsAreFine d limits (then_do r λ s. Ok (record { design = both_designs (of_processes (map (port_assign task.place s.entries) connections)) s.design; totals = s.totals }))
@@ -85,17 +88,18 @@ piece_fine d limits read h m (Instance connections task) f g c t b = of (read ta
         record {
           formed = each_append (λ (p : Process). is_formed_process d p ≡ true) (map (port_assign task.place s.entries) connections) s.design.processes (ports_formed d task.place task limits s u (has_parent task.parent m c) connections f.0 g) u.formed;
           declared = u.declared;
+          functions = u.functions;
           bits = u.bits;
         }
 piece_fine d limits read h m (Within task) f g c t b = of (read task t) (h task t f (never_top task.parent m t.scopes c) b)
   where
     of : (r : Result Read Fault) → ReadIsFine d limits task r → PartsAreFine d limits (then_do r λ s. Ok (record { design = s.design; totals = s.totals }))
     of (Err e) q = tt
-    of (Ok s) q = λ i. let u = q i in record { formed = u.formed; declared = u.declared; bits = u.bits }
+    of (Ok s) q = λ i. let u = q i in record { formed = u.formed; declared = u.declared; functions = u.functions; bits = u.bits }
 
 pieces_fine : (d : Design) (limits : Limits) (read : Task → Totals → Result Read Fault) → ReadsFine d limits read → (m : ℕ) (ps : List Piece) → AreFinePieces d ps → AreDirectedPieces ps → AreChildren m ps → (t : Totals) → t.bits ≤ limits.bits
     → PartsAreFine d limits (read_pieces read ps t)
-pieces_fine d limits read h m [] f g c t b = λ i. record { formed = tt; declared = tt; bits = b }
+pieces_fine d limits read h m [] f g c t b = λ i. record { formed = tt; declared = tt; functions = refl; bits = b }
 pieces_fine d limits read h m (p ∷ ps) f g c t b = of (read_piece read p t) (piece_fine d limits read h m p f.0 g.0 c.0 t b) (λ u l. pieces_fine d limits read h m ps f.1 g.1 c.1 u l)
   where
     of : (r : Result ReadPieces Fault) → PartsAreFine d limits r → ((u : Totals) → u.bits ≤ limits.bits → PartsAreFine d limits (read_pieces read ps u))
@@ -107,6 +111,7 @@ pieces_fine d limits read h m (p ∷ ps) f g c t b = of (read_piece read p t) (p
         both_fine b u v = record {
           formed = each_append (λ (p : Process). is_formed_process d p ≡ true) a.design.processes b.design.processes u.formed v.formed;
           declared = each_append IsFineSignal a.design.signals b.design.signals u.declared v.declared;
+          functions = ap (λ fs. fs ++ b.design.functions) u.functions ∙ v.functions;
           bits = v.bits;
         }
 
@@ -126,7 +131,7 @@ counted_bits k t = of (is_instance k.contents)
 
 fine_signals : (top : Bool) (scope : ℕ) → (top ≡ true → scope ≡ 0) → (ss : List Signal) → Each (IsDeclaredSignal top scope) ss → Each IsFineSignal ss
 fine_signals top scope h [] x = tt
-fine_signals top scope h (s ∷ ss) x = ((x.0.0, λ i. let k = x.0.1 i in (k.0, x.0.2 ∙ h k.1)), fine_signals top scope h ss x.1)
+fine_signals top scope h (s ∷ ss) x = ((x.0.0, λ i. let k = x.0.1 i in (k.0, x.0.2 ∙ h k.1), x.0.3), fine_signals top scope h ss x.1)
 
 pub scope_fine : (d : Design) (left : ℕ) (limits : Limits) (source : Source) → AreModules source.modules → ReadsFine d limits (read_scope left limits source)
 scope_fine d zero limits source x k t s top b = tt
@@ -152,6 +157,7 @@ scope_fine d (suc left) limits source x k t s top b =
         record {
           formed = u.formed;
           declared = each_append IsFineSignal own q.design.signals (fine_signals (is_none k.parent) (counted k t).scopes (λ e. counted_scopes k t ∙ top e) own g.declared) u.declared;
+          functions = u.functions;
           bits = u.bits;
           ports = λ e. port_formed d limits source k (counted k t) (survey_names d limits source k (counted k t) s.frames s.overrides s.shaped w.0 h) h e;
         }
@@ -179,12 +185,24 @@ declared_all : (d : Design) (ss : List Signal) → AreBelow (length d.scopes) ss
 declared_all d [] b f = tt
 declared_all d (s ∷ ss) b f = (declared_one d s b.0 f.0, declared_all d ss b.1 f.1)
 
+memories_all : (ss : List Signal) → Each IsFineSignal ss → Each (λ (s : Signal). is_lawful_memory s ≡ true) ss
+memories_all [] f = tt
+memories_all (s ∷ ss) f = (memory_one s f.0.2, memories_all ss f.1)
+
+wordless_all : (ss : List Signal) → Each IsFineSignal ss → AreWordless ss
+wordless_all [] f = tt
+wordless_all (s ∷ ss) f = (f.0.2, wordless_all ss f.1)
+
+unworded_all : (d : Design) → AreWordless d.signals → (ps : List Process) → AreFormed d ps → Each (λ (p : Process). has_clocked_words p ≡ true) ps
+unworded_all d w [] f = tt
+unworded_all d w (p ∷ ps) f = (process_unworded d w p f.0, unworded_all d w ps f.1)
+
 sum_from : (k : ℕ) (ss : List Signal) → fold (λ (n : ℕ) (s : Signal). n + signal_length s) k ss ≡ k + bits_of_all ss
 sum_from k [] = omega arith
 sum_from k (s ∷ ss) = sum_from (k + signal_length s) ss ∙ omega arith
 
 abbrev pub IsFineDesign : Limits → Design → Type 0
-IsFineDesign limits d = AreFormed d d.processes × Each IsFineSignal d.signals × (bit_count d ≤ limits.bits)
+IsFineDesign limits d = AreFormed d d.processes × Each IsFineSignal d.signals × (bit_count d ≤ limits.bits) × (d.functions ≡ [])
 
 abbrev pub DesignIsFine : Limits → Result Design Fault → Type 0
 DesignIsFine limits (Ok d) = IsFineDesign limits d
@@ -205,7 +223,7 @@ elaborated_fine limits source top x = unless (DesignIsFine limits) (λ e. tt) (l
 
     read : (m : Module) → (r : Result Read Fault) → GoodRead no_totals r → ((d : Design) → ReadIsFine d limits (top_task m) r) → DesignIsFine limits (then_do r λ s. Ok s.design)
     read m (Err e) g f = tt
-    read m (Ok s) g f = let u = f s.design (in_design s.design g.numbered) in (u.formed, u.declared, subst (λ n. n ≤ limits.bits) (g.bits ∙ sym (sum_from 0 s.design.signals)) u.bits)
+    read m (Ok s) g f = let u = f s.design (in_design s.design g.numbered) in (u.formed, u.declared, subst (λ n. n ≤ limits.bits) (g.bits ∙ sym (sum_from 0 s.design.signals)) u.bits, u.functions)
 
     found : (o : Option Module) → find_in source.modules top ≡ o → DesignIsFine limits (elaborated_top limits source o)
     found None e = tt
@@ -223,7 +241,10 @@ lawful_result (Ok d) g n f x = record {
   numbered = g.numbered;
   bits_numbered = g.bits_numbered;
   declared = all_true (is_declared d) d.signals (declared_all d d.signals g.below x.1);
+  memories = all_true is_lawful_memory d.signals (memories_all d.signals x.1);
   formed = all_true (is_formed_process d) d.processes x.0;
+  functions = ap (list_all (is_formed_function d)) x.3;
+  clocked_words = all_true has_clocked_words d.processes (unworded_all d (wordless_all d.signals x.1) d.processes x.0);
   few_bits = x.2;
   few_processes = f;
 }

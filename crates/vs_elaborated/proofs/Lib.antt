@@ -10,6 +10,7 @@ mod InDesign
 mod FirstNames
 mod PortNames
 mod PortsFormed
+mod Wordless
 mod LawfulDesigns
 mod LowBlocks
 mod SoundScopes

@@ -155,7 +155,7 @@ bits_signals ss = sym (bits_from 0 ss ∙ omega arith)
 
 -- a scope's own part
 abbrev pub own_part : Task → Survey → Design
-own_part k s = record { scopes = record { name = k.name; parent = k.parent; instance = is_instance k.contents } ∷ []; signals = s.signals; processes = [] }
+own_part k s = record { scopes = record { name = k.name; parent = k.parent; instance = is_instance k.contents } ∷ []; signals = s.signals; processes = []; functions = [] }
 
 pub good_survey : (limits : Limits) (source : Source) (k : Task) (t : Totals) → GoesOn t (own_part k (survey limits source k t)) (survey limits source k t).totals
 good_survey limits source k t =

@@ -6,7 +6,7 @@ use Rattle.vs_design.specs.Statements.{Target, Whole}
 use Rattle.vs_design.specs.Designs.{Design, InputPort, OutputPort, Continuous}
 use Rattle.vs_design.specs.Clocks.{same_name}
 use Rattle.vs_design.specs.Footprints.{is_net}
-use Rattle.vs_design.specs.Elaborated.{is_signal, is_formed, is_formed_target, has_constant_selects, is_formed_process, is_lawful_range}
+use Rattle.vs_design.specs.Elaborated.{is_plain, is_formed, is_formed_target, has_constant_selects, is_formed_process, is_lawful_range}
 use Rattle.vs_grammar.specs.Trees as tree
 use Rattle.vs_grammar.specs.Trees.{Source}
 use Rattle.vs_grammar.specs.Shapes.{Each}
@@ -86,7 +86,7 @@ port_signal b w limits source k t p h = port_entry AnyMeaning tt b w limits sour
 -- ---- it is a signal of the design
 
 abbrev pub WithIn : Design → (SignalMeaning → Type 0) → SignalMeaning → Type 0
-WithIn d Q m = (is_signal d m.signal ≡ true) × Q m
+WithIn d Q m = (is_plain d m.signal ≡ true) × Q m
 
 pub entry_in : (d : Design) (Q : SignalMeaning → Type 0) (es : List Entry) (w : List ℕ) → AreSoundEntries d false es → IsSignalWith Q (find_entry es w) → IsSignalWith (WithIn d Q) (find_entry es w)
 entry_in d Q [] w s h = absurd h
@@ -116,7 +116,7 @@ input_formed d place e f (Some x) h = of x.name x.place x.declared h
 
     of : (n : List ℕ) (p : ℕ) (y : Declared) → IsDeclaredWith (WithIn d IsNetMeaning) y → is_formed_process d (Continuous place InputPort place (Whole (entry_signal (Some (record { name = n; place = p; declared = y })))) e) ≡ true
     of n p Later k = absurd k
-    of n p (OfSignal m) k = four (is_signal d m.signal) m.signal.net m.signal.input (is_formed d e) k.0 k.1.0 k.1.1 f
+    of n p (OfSignal m) k = four (is_plain d m.signal) m.signal.net m.signal.input (is_formed d e) k.0 k.1.0 k.1.1 f
     of n p (OfParameter v r) k = absurd k
     of n p OfGenvar k = absurd k
     of n p OfScope k = absurd k
@@ -134,7 +134,7 @@ output_formed d place target_place t f g (Some x) h = of x.name x.place x.declar
 
     of : (n : List ℕ) (p : ℕ) (y : Declared) → IsDeclaredWith (WithIn d AnyMeaning) y → is_formed_process d (Continuous place OutputPort target_place t (At place (NameOf (entry_signal (Some (record { name = n; place = p; declared = y })))))) ≡ true
     of n p Later k = absurd k
-    of n p (OfSignal m) k = four (is_formed_target d is_net t) (has_constant_selects t) (is_signal d m.signal) f g k.0
+    of n p (OfSignal m) k = four (is_formed_target d is_net t) (has_constant_selects t) (is_plain d m.signal) f g k.0
     of n p (OfParameter v r) k = absurd k
     of n p OfGenvar k = absurd k
     of n p OfScope k = absurd k
@@ -154,6 +154,7 @@ pub record IsDeclaredSaid (top : Bool) (scope : ℕ) (s : SaidSignal) : Type 0 w
   pub range : is_lawful_range s.meaning.signal.range ≡ true
   pub input : s.meaning.signal.input ≡ true → (s.meaning.signal.net ≡ true) × (top ≡ true)
   pub scope_is : s.meaning.signal.scope ≡ scope
+  pub words : s.meaning.signal.words ≡ None
 
 said_declared : (d : Design) (env : Env) → AreSoundFrames d true env.frames → (ds : List Declaration) (names : List Named) (start : Start) → Each (IsFirst [] ds) names → Each (λ (n : Named). IsShapedSort n.first.sort) names
     → range_faults env (map (λ (n : Named). n.first) names) ≡ [] → Each (IsDeclaredSaid start.top start.scope) (said_signals env start names)
@@ -173,6 +174,7 @@ said_declared d env s ds (n ∷ ns) start f x h = of n.first.name n.first.sort n
             range = r.lawful;
             input = λ e. let i = split (is_input t.kind || is_input (second_sort t second).kind) start.top e in (input_net t second g i.0, i.1);
             scope_is = refl;
+            words = refl;
           },
           rest (after start (said_signal env start m t).meaning) k.1,
         )
@@ -194,7 +196,7 @@ not_over most total (s ∷ ss) top scope x b h =
         by false g j = let l = r n (ltb-false most n g) j in omega (arith, e, l)
 
 abbrev pub IsDeclaredSignal : Bool → ℕ → Signal → Type 0
-IsDeclaredSignal top scope s = (is_lawful_range s.range ≡ true) × (s.input ≡ true → (s.net ≡ true) × (top ≡ true)) × (s.scope ≡ scope)
+IsDeclaredSignal top scope s = (is_lawful_range s.range ≡ true) × (s.input ≡ true → (s.net ≡ true) × (top ≡ true)) × (s.scope ≡ scope) × (s.words ≡ None)
 
 pub record AreFineSignals (d : Design) (limits : Limits) (source : Source) (k : Task) (t : Totals) : Type 0 where
   pub declared : Each (IsDeclaredSignal (is_none k.parent) t.scopes) (survey limits source k t).signals
@@ -230,4 +232,4 @@ survey_signals d limits source k t s b h =
   where
     each : (ss : List SaidSignal) → Each (IsDeclaredSaid (is_none k.parent) t.scopes) ss → Each (IsDeclaredSignal (is_none k.parent) t.scopes) (signals_of ss)
     each [] x = tt
-    each (s ∷ ss) x = ((x.0.range, x.0.input, x.0.scope_is), each ss x.1)
+    each (s ∷ ss) x = ((x.0.range, x.0.input, x.0.scope_is, x.0.words), each ss x.1)

@@ -5,11 +5,11 @@ use Rattle.std.proofs.lemmas.Bool.{leb-true, le-leb, ltb-false}
 use Rattle.vs_four.specs.declared.Bit4.TheVariants.{X}
 use Rattle.vs_four.specs.declared.Range.{Range}
 use Rattle.vs_four.specs.Selects.{Part, range_length}
-use Rattle.vs_design.specs.Expressions.{range_or_one, OfSignal as SignalSource, OfConstant, Expression, Literal, Name, Select, Unary, Binary, Choice, Join, Repeat, At, UnaryOp, Plus, Minus, BitNot, LogicalNot, ReduceAnd, ReduceNand, ReduceOr, ReduceNor, ReduceXor, ReduceXnor, Signed, Unsigned, unary_length, Way, InContext, Own, Compared, Shifted, way, binary_length, width, sign}
+use Rattle.vs_design.specs.Expressions.{Signal, range_or_one, words_length, signal_length, OfSignal as SignalSource, OfConstant, Expression, Literal, Name, Select, Word, Unary, Binary, Choice, Join, Repeat, At, Call, UnaryOp, Plus, Minus, BitNot, LogicalNot, ReduceAnd, ReduceNand, ReduceOr, ReduceNor, ReduceXor, ReduceXnor, Signed, Unsigned, unary_length, Way, InContext, Own, Compared, Shifted, way, binary_length, width, sign}
 use Rattle.vs_design.specs.Values.{constant_value}
 use Rattle.vs_design.specs.Designs.{Design}
 use Rattle.vs_design.specs.Fits.{fits_64}
-use Rattle.vs_design.specs.Elaborated.{is_signal, is_lawful_range, same_range, is_formed, is_formed_select}
+use Rattle.vs_design.specs.Elaborated.{is_signal, is_plain, is_lawful_range, same_range, is_formed, is_formed_select}
 use Rattle.vs_design.proofs.Lengths.{length_bits_of, length_value, length_assigned}
 use Rattle.vs_design.specs.Clocks.{same_name}
 use Rattle.vs_grammar.specs.Trees as tree
@@ -118,8 +118,15 @@ times_some : (n m : ℕ) → 1 ≤ n → 1 ≤ m → 1 ≤ n * m
 times_some zero m h k = absurd (omega arith)
 times_some (suc n) m h k = omega (arith, k)
 
+signal_some : (s : Signal) → 1 ≤ signal_length s
+signal_some s = words_some s.words
+  where
+    words_some : (words : Option Range) → 1 ≤ words_length words (range_or_one s.range)
+    words_some None = range_some s.range
+    words_some (Some r) = times_some (range_length r) (range_or_one s.range) (leb-true 1 (range_length r) (length_some r)) (range_some s.range)
+
 select_width : (d : Design) (source : _) (part : Part) → is_formed_select d source part ≡ true → fits_64 part.width ≡ true
-select_width d (SignalSource s) part h = last (is_signal d s) (same_range s.range (Some part.range)) (fits_64 part.width) h
+select_width d (SignalSource s) part h = last (is_plain d s) (same_range s.range (Some part.range)) (fits_64 part.width) h
   where
     last : (a b c : Bool) → (a && b && c) ≡ true → c ≡ true
     last true true c h = h
@@ -134,8 +141,9 @@ select_width d (OfConstant bits) part h = last (is_lawful_range (Some part.range
 
 pub wide : (d : Design) (e : Expression) → is_formed d e ≡ true → 1 ≤ width e
 wide d (Literal bits signed sized) h = fits_some (length bits) (split (fits_64 (length bits)) (sized || (length bits == 32)) h).0
-wide d (Name s) h = range_some s.range
+wide d (Name s) h = signal_some s
 wide d (Select source part index) h = fits_some part.width (select_width d source part (split (is_formed_select d source part) (is_formed d index) h).0)
+wide d (Word signal index) h = range_some signal.range
 wide d (Unary op a) h = unary_some op (width a) (wide d a h)
 wide d (Binary op a b) h = binary_some (way op) (width a) (width b) (wide d a (split (is_formed d a) (is_formed d b) h).0)
 wide d (Choice c p q) h = let k = wide d p (middle (is_formed d c) (is_formed d p) (is_formed d q) h) in omega (arith, k)
@@ -147,6 +155,7 @@ wide d (Choice c p q) h = let k = wide d p (middle (is_formed d c) (is_formed d 
 wide d (Join high low) h = let k = wide d high (split (is_formed d high) (is_formed d low) h).0 in omega (arith, k)
 wide d (Repeat count a) h = let k = split (fits_64 count) (is_formed d a) h in times_some count (width a) (fits_some count k.0) (wide d a k.1)
 wide d (At place e) h = wide d e h
+wide d (Call header statement arguments) h = signal_some header.result
 
 pub constant_fine : (d : Design) (e : tree.Expr) (find : Find) → AreSound d true find → IsExpr e → (constant e find).faults ≡ [] → IsConstantFine d (constant e find)
 constant_fine d e find s x h =
@@ -393,7 +402,7 @@ all_settled d (s ∷ ss) es k g = all_settled d ss (put_signal s.meaning es) k.1
 
 -- the signals of a scope whose ranges have no fault
 signal_sound : (d : Design) (env : Env) (start : Start) (n : Named) (s : SignalSort) → is_signal d (said_signal env start n s).meaning.signal ≡ true → (said_range s.range env).known ≡ true → IsSoundSignal d false (said_signal env start n s).meaning
-signal_sound d env start n s h k = (h, k, λ i. (split (said_signal env start n s).meaning.input start.top i).0)
+signal_sound d env start n s h k = (both (is_signal d (said_signal env start n s).meaning.signal) true h refl, k, λ i. (split (said_signal env start n s).meaning.input start.top i).0)
 
 pub signals_sound : (d : Design) (env : Env) → AreSoundFrames d true env.frames → (names : List Named) (start : Start) → Each (λ (s : SaidSignal). is_signal d s.meaning.signal ≡ true) (said_signals env start names)
     → Each (λ (n : Named). IsShapedSort n.first.sort) names → range_faults env (map (λ (n : Named). n.first) names) ≡ [] → Each (λ (s : SaidSignal). IsSoundSignal d false s.meaning) (said_signals env start names)

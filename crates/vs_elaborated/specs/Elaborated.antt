@@ -18,11 +18,11 @@ use Rattle.vs_elaborated.specs.Surveys.{Totals, no_totals, Survey, survey}
 
 -- what the first has comes first
 abbrev pub both_designs : Design → Design → Design
-both_designs a b = record { scopes = a.scopes ++ b.scopes; signals = a.signals ++ b.signals; processes = a.processes ++ b.processes }
+both_designs a b = record { scopes = a.scopes ++ b.scopes; signals = a.signals ++ b.signals; processes = a.processes ++ b.processes; functions = a.functions ++ b.functions }
 
 -- processes alone
 abbrev pub of_processes : List Process → Design
-of_processes ps = record { scopes = []; signals = []; processes = ps }
+of_processes ps = record { scopes = []; signals = []; processes = ps; functions = [] }
 
 -- what follows, unless there was a fault
 abbrev pub then_do : {A B : Type 0} → Result A Fault → (A → Result B Fault) → Result B Fault
@@ -85,7 +85,7 @@ limit_faults limits t totals = fault_if (is_instance t.contents && nat_lt limits
 
 -- a scope with its signals, before all within it
 abbrev pub scope_design : Task → Survey → Design → Design
-scope_design t s inner = both_designs (record { scopes = record { name = t.name; parent = t.parent; instance = is_instance t.contents } ∷ []; signals = s.signals; processes = [] }) inner
+scope_design t s inner = both_designs (record { scopes = record { name = t.name; parent = t.parent; instance = is_instance t.contents } ∷ []; signals = s.signals; processes = []; functions = [] }) inner
 
 -- a scope, and then those within it in text order; `left` bounds how deep scopes stand within one another
 abbrev pub read_scope : (left : ℕ) → Limits → Source → Task → Totals → Result Read Fault

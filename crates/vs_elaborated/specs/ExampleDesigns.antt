@@ -107,7 +107,7 @@ connected connections = codes "module m(input [1:0] p, output q); endmodule modu
 
 -- a net of a scope
 abbrev pub net_in : (scope : ℕ) → List ℕ → (number : ℕ) → Option Range → (first : ℕ) → Signal
-net_in scope name number range first = record { name = name; scope = scope; number = number; net = true; input = false; range = range; signed = false; first = first }
+net_in scope name number range first = record { name = name; scope = scope; number = number; net = true; input = false; range = range; signed = false; first = first; words = None }
 
 -- the signals of this design
 abbrev pub y_outside : Signal

@@ -42,7 +42,7 @@ signal_meaning env start name s t =
     let r = said_range s.range env in
     let input = is_input s.kind || is_input t.kind in
     record {
-      signal = record { name = name.bytes; scope = start.scope; number = start.signal; net = not (is_reg s.kind || is_reg t.kind); input = input && start.top; range = r.range; signed = s.signed || t.signed; first = start.bit };
+      signal = record { name = name.bytes; scope = start.scope; number = start.signal; net = not (is_reg s.kind || is_reg t.kind); input = input && start.top; range = r.range; signed = s.signed || t.signed; first = start.bit; words = None };
       input = input;
       known = r.known;
     }

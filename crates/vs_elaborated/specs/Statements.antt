@@ -1,6 +1,6 @@
 -- Statements and events over signals, with their faults (IEEE 1364-2005, clause 9).
 use Rattle.std.specs.Prelude.{ℕ, Bool, true, false, ◌&&◌, List, [], ◌∷◌, ◌++◌, is_some}
-use Rattle.vs_design.specs.Expressions.{Expression}
+use Rattle.vs_design.specs.Expressions.{Expression, items_of}
 use Rattle.vs_design.specs.Statements.{Statement, Empty, Assignment, Then, If, Case, Arms, Arm, Default}
 use Rattle.vs_design.specs.Designs.{Event, Edge, is_edge}
 use Rattle.vs_grammar.specs.Trees as tree
@@ -74,7 +74,7 @@ abbrev mutual
       let es = typed_list labels find in
       let s = typed_statement statement find in
       let r = typed_arms rest find other in
-      record { arms = Arm es.expressions s.statement r.arms; faults = es.faults ++ (s.faults ++ r.faults) }
+      record { arms = Arm (items_of es.expressions) s.statement r.arms; faults = es.faults ++ (s.faults ++ r.faults) }
 
 -- ---- event controls (9.7)
 

@@ -1,8 +1,8 @@
 -- What worked texts elaborate to. In all of them the top is called `top`.
 use Rattle.std.specs.Prelude.{◌≡◌, ℕ, List, ◌++◌, filter, length, map, codes, nat_lt, Result, Ok, Err}
 use Rattle.vs_lexer.specs.declared.token.Token.{Token}
-use Rattle.vs_design.specs.Expressions.{Expression, Literal, Name, Select, Unary, Binary, Choice, Join, Repeat, At}
-use Rattle.vs_design.specs.Statements.{Target, Whole, PartOf, Both, Statement, Empty, Assignment, Then, If, Case, Arms, Arm, Default}
+use Rattle.vs_design.specs.Expressions.{Expression, Literal, Name, Select, Word, Unary, Binary, Choice, Join, Repeat, At, Call, Items, NoItem, Item}
+use Rattle.vs_design.specs.Statements.{Target, Whole, PartOf, WordOf, Both, Statement, Empty, Assignment, Then, If, Case, Arms, Arm, Default}
 use Rattle.vs_design.specs.Designs.{Process, Continuous, Always, Design}
 use Rattle.vs_grammar.specs.Trees.{Source}
 use Rattle.vs_grammar.specs.Spelled.{Spells}
@@ -55,25 +55,33 @@ pub record Shows {A : Type 0} (view : Design → A) (what : A) (text : List ℕ)
 
 -- ---- designs but for the places in their texts
 
--- an expression
-abbrev pub unplaced : Expression → Expression
-unplaced (Literal bits signed sized) = Literal bits signed sized
-unplaced (Name signal) = Name signal
-unplaced (Select source part index) = Select source part (unplaced index)
-unplaced (Unary op a) = Unary op (unplaced a)
-unplaced (Binary op a b) = Binary op (unplaced a) (unplaced b)
-unplaced (Choice c p q) = Choice (unplaced c) (unplaced p) (unplaced q)
-unplaced (Join high low) = Join (unplaced high) (unplaced low)
-unplaced (Repeat count a) = Repeat count (unplaced a)
-unplaced (At place e) = unplaced e
-
--- a target
-abbrev pub unplaced_target : Target → Target
-unplaced_target (Whole signal) = Whole signal
-unplaced_target (PartOf signal part index) = PartOf signal part (unplaced index)
-unplaced_target (Both high low) = Both (unplaced_target high) (unplaced_target low)
-
 abbrev mutual
+  -- an expression
+  pub unplaced : Expression → Expression
+  unplaced (Literal bits signed sized) = Literal bits signed sized
+  unplaced (Name signal) = Name signal
+  unplaced (Select source part index) = Select source part (unplaced index)
+  unplaced (Word signal index) = Word signal (unplaced index)
+  unplaced (Unary op a) = Unary op (unplaced a)
+  unplaced (Binary op a b) = Binary op (unplaced a) (unplaced b)
+  unplaced (Choice c p q) = Choice (unplaced c) (unplaced p) (unplaced q)
+  unplaced (Join high low) = Join (unplaced high) (unplaced low)
+  unplaced (Repeat count a) = Repeat count (unplaced a)
+  unplaced (At place e) = unplaced e
+  unplaced (Call header statement arguments) = Call (record header { place = 0 }) (unplaced_statement statement) (unplaced_items arguments)
+
+  -- expressions in order
+  pub unplaced_items : Items → Items
+  unplaced_items NoItem = NoItem
+  unplaced_items (Item e rest) = Item (unplaced e) (unplaced_items rest)
+
+  -- a target
+  pub unplaced_target : Target → Target
+  unplaced_target (Whole signal) = Whole signal
+  unplaced_target (PartOf signal part index) = PartOf signal part (unplaced index)
+  unplaced_target (WordOf signal index) = WordOf signal (unplaced index)
+  unplaced_target (Both high low) = Both (unplaced_target high) (unplaced_target low)
+
   pub unplaced_statement : Statement → Statement
   unplaced_statement Empty = Empty
   unplaced_statement (Assignment place target e blocking) = Assignment 0 (unplaced_target target) (unplaced e) blocking
@@ -82,7 +90,7 @@ abbrev mutual
   unplaced_statement (Case kind subject arms) = Case kind (unplaced subject) (unplaced_arms arms)
 
   pub unplaced_arms : Arms → Arms
-  unplaced_arms (Arm items statement rest) = Arm (map unplaced items) (unplaced_statement statement) (unplaced_arms rest)
+  unplaced_arms (Arm items statement rest) = Arm (unplaced_items items) (unplaced_statement statement) (unplaced_arms rest)
   unplaced_arms (Default statement) = Default (unplaced_statement statement)
 
 -- a process, at place 0

@@ -3,7 +3,7 @@ use Rattle.std.proofs.Common.{◌≡◌, ◌≤◌, ◌+◌, ℕ, zero, suc, Boo
 use Rattle.std.proofs.lemmas.List.{map-append}
 use Rattle.vs_grammar.specs.Shapes.{Given}
 use Rattle.vs_ast.specs.Views as view
-use Rattle.vs_design.specs.Expressions.{signal_length}
+use Rattle.vs_design.specs.Expressions.{signal_length, range_or_one}
 use Rattle.vs_const.specs.declared.faults.Fault.{Fault}
 use Rattle.vs_const.specs.Faults.{least, better}
 use Rattle.vs_const.specs.Meanings.{SignalMeaning}
@@ -135,6 +135,6 @@ pub signalled_as : (env : Env) (start a b : Start) (rest all : List Named) (l m 
 signalled_as env start a b rest all l m f g x y z h =
     subst (λ (s : Start). IsSignalled env start s rest all m g) (sym x) (subst (λ (s : List Signal). IsSignalled env start a rest all s g) (sym y) (subst (λ (s : Option Fault). IsSignalled env start a rest all l s) (sym z) h))
 
--- where a signal's range is found
-pub range_is : (c : SignalFound) (x : SaidSignal) → IsSaidSignal c x → x.meaning.signal.range ≡ c.signal.range
-range_is c x h = sym (ap (λ (m : SignalMeaning). m.signal.range) h.meaning)
+-- how many bits a signal has, by its range
+pub length_is : (c : SignalFound) (x : SaidSignal) → IsSaidSignal c x → signal_length x.meaning.signal ≡ range_or_one c.signal.range
+length_is c x h = sym (ap (λ (m : SignalMeaning). signal_length m.signal) h.meaning)

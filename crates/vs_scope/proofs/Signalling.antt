@@ -16,7 +16,7 @@ use Rattle.vs_scope.specs.Signalled.{second_faults}
 
 abbrev meaning_of : List ℕ → ℕ → ℕ → Bool → Bool → Option Range → Bool → ℕ → Bool → Bool → SignalMeaning
 meaning_of name scope number net input range signed first is_input known =
-    record { signal = record { name = name; scope = scope; number = number; net = net; input = input; range = range; signed = signed; first = first }; input = is_input; known = known }
+    record { signal = record { name = name; scope = scope; number = number; net = net; input = input; range = range; signed = signed; first = first; words = None }; input = is_input; known = known }
 
 pub same_meaning : (scope number first : ℕ) (n m : List ℕ) (a b c d e f g h k l : Bool) (r q : Option Range) → n ≡ m → a ≡ b → c ≡ d → e ≡ f → g ≡ h → k ≡ l → r ≡ q
     → meaning_of n scope number a c r e first g k ≡ meaning_of m scope number b d q f first h l

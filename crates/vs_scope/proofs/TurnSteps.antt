@@ -1,5 +1,5 @@
 -- The turns of a loop, one after the other.
-use Rattle.std.proofs.Common.{◌≡◌, ℕ, zero, suc, ◌+◌, ◌==◌, Bool, true, false, ◌||◌, List, [], ◌∷◌, ◌++◌, length, nat_lt, nat_le, Option, Some, None, if◌then◌else◌, refl, sym, ap, ◌∙◌, subst, append_assoc, arith, length-append}
+use Rattle.std.proofs.Common.{◌≡◌, ℕ, zero, suc, ◌+◌, ◌-◌, ◌<◌, ◌==◌, Bool, true, false, ◌||◌, List, [], ◌∷◌, ◌++◌, length, nat_lt, nat_le, Option, Some, None, if◌then◌else◌, refl, sym, ap, ◌∙◌, subst, append_assoc, arith, length-append}
 use Rattle.std.specs.List.{list_any}
 use Rattle.std.proofs.lemmas.Bool.{eqb-true}
 use Rattle.vs_grammar.specs.Trees.{GenerateHead}
@@ -140,6 +140,35 @@ zero_is left n h = grind arith
 not_zero : (left : ℕ) → (left == 0) ≡ false → (l : ℕ) × (left ≡ suc l)
 not_zero zero h = cc
 not_zero (suc l) h = (l, refl)
+
+-- the turns that a loop may still take
+abbrev pub turns_left : ℕ → Option ℕ → ℕ
+turns_left n None = 0
+turns_left n (Some v) = 1 + (4096 - n)
+
+-- a turn that is followed by another one was taken, so one fewer is left
+pub turn_falls : (values new : List ℕ) (v : ℕ) (c : TurnedOf) (again is_last : Bool) (head : GenerateHead) (is_same : Bool) (seen_there : Env) (total : ℕ) → is_last ≡ nat_le 4096 (length values)
+    → IsTurned c (turned again is_last head is_same seen_there total) → new ≡ (if c.taken then values ++ v ∷ [] else values) → turns_left (length new) c.next < 1 + (4096 - length values)
+turn_falls values new v c again is_last head is_same seen_there total l ct vs = by t.taken refl
+  where
+    t : Turned
+    t = turned again is_last head is_same seen_there total
+
+    tells : Tells again is_last total t
+    tells = turned_tells again is_last head is_same seen_there total
+
+    under : (n : ℕ) → nat_le 4096 n ≡ false → n < 4096
+    under n h = grind arith
+
+    fewer : (n m : ℕ) (o : Option ℕ) → n < 4096 → m ≡ n + 1 → turns_left m o < 1 + (4096 - n)
+    fewer n m None h k = omega arith
+    fewer n m (Some u) h k = omega arith
+
+    by : (b : Bool) → t.taken ≡ b → turns_left (length new) c.next < 1 + (4096 - length values)
+    by false h = subst (λ (o : Option ℕ). turns_left (length new) o < 1 + (4096 - length values)) (sym (ct.next ∙ tells.none h)) (omega arith)
+    by true h =
+        let kept : new ≡ values ++ v ∷ [] = vs ∙ ap (λ (b : Bool). if b then values ++ v ∷ [] else values) (ct.taken ∙ h) in
+        fewer (length values) (length new) c.next (under (length values) (sym l ∙ tells.room h)) (ap length kept ∙ length-append values (v ∷ []))
 
 module _ (head : GenerateHead) (is_same : Bool) (genvar : ℕ) (env : Env) (total first : ℕ) where
   abbrev pub whole : Turns

@@ -31,7 +31,7 @@ declaration d = record { name = view.name d.name.now; sort = sort d.sort }
 
 -- a signal
 abbrev pub signal_meaning : Signal → SignalMeaning
-signal_meaning s = record { signal = record { name = s.name.now; scope = s.scope; number = s.number; net = s.net; input = s.input; range = s.range; signed = s.signed; first = s.first }; input = s.is_input; known = s.known }
+signal_meaning s = record { signal = record { name = s.name.now; scope = s.scope; number = s.number; net = s.net; input = s.input; range = s.range; signed = s.signed; first = s.first; words = None }; input = s.is_input; known = s.known }
 
 -- a signal of which nothing is known
 abbrev pub unknown_signal : SignalMeaning

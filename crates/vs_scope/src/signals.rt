@@ -1,7 +1,7 @@
 //! The signals of a scope, with their ranges and numbers (IEEE 1364-2005, 3.2, 3.3 and 12.3.3).
 
 ghost use Rattle.std.specs.Prelude.{◌≡◌, ◌&&◌, ◌||◌, ◌∷◌, [], not, Bool, IfOk, map, flat_map};
-ghost use Rattle.vs_design.specs.Expressions.{range_or_one};
+ghost use Rattle.vs_design.specs.Expressions.{range_or_one, signal_length};
 ghost use Rattle.vs_design.specs.Elaborated.{same_range};
 ghost use Rattle.vs_grammar.specs.Shapes.{IsRange, Given};
 ghost use Rattle.vs_ast.specs.Views as view;
@@ -220,7 +220,7 @@ fn signal_at<'a>(
 
 /// Where the next signal begins, behind one of this range. More signals or bits than 32 bits count are too many for memory.
 fn after(start: Start, range: Option<Range>) -> Result<Start, AllocError>
-    ensures { (m : SignalMeaning) → m.signal.range ≡ range → IfOk result (λ r. start_of r ≡ spec.after (start_of start) m) }
+    ensures { (m : SignalMeaning) → signal_length m.signal ≡ range_or_one range → IfOk result (λ r. start_of r ≡ spec.after (start_of start) m) }
 {
     let signal = start.signal.checked_add(1).ok_or(AllocError)?;
     let length = u32::try_from(length_or_one(range)).map_err(|_| AllocError)?;

@@ -1,6 +1,7 @@
 //! The turns of a generate loop (IEEE 1364-2005, 12.4.1).
 
-ghost use Rattle.std.specs.Prelude.{◌≡◌, ◌++◌, ◌∷◌, ◌||◌, [], ◌==◌, true, false, None, nat_lt, suc, length, Bool, ℕ, List, IfOk, OnOk, if◌then◌else◌};
+ghost use Rattle.std.specs.Prelude.{◌≡◌, ◌++◌, ◌∷◌, ◌||◌, [], ◌==◌, true, false, None, nat_lt, nat_le, suc, length, Bool, ℕ, List, IfOk, OnOk, if◌then◌else◌};
+ghost use Rattle.std.specs.List.{list_any};
 ghost use Rattle.vs_grammar.specs.Shapes.{IsExpr, IsHead};
 ghost use Rattle.vs_ast.specs.Views as view;
 ghost use Rattle.vs_const.specs.Checks.{ChecksNatural};
@@ -228,6 +229,29 @@ fn push_if(values: &mut Vec<u32>, taken: bool, v: u32) -> Result<(), AllocError>
     Ok(())
 }
 
+/// The turn at one value of a loop's variable: the value is seen from now on, and kept if its turn is taken.
+fn one_turn(
+    alloc: Global,
+    head: &GenerateHead,
+    is_same: bool,
+    inside: &View<'_, '_>,
+    total: u32,
+    v: u32,
+    seen: &mut IndexSet<u32>,
+    values: &mut Vec<u32>,
+) -> Result<Turned, AllocError>
+    requires { IsHead (view.generate_head head.now) }
+    ensures seen { OnOk result (seen.new.keys ≡ (if list_any (λ u. v == u) seen.old.keys then seen.old.keys else seen.old.keys ++ v ∷ [])) }
+    ensures values { IfOk result (λ t. values.new.items ≡ (if t.taken then values.old.items ++ v ∷ [] else values.old.items)) }
+    ensures turned { IfOk result (λ t. IsTurned t (turned (list_any (λ u. v == u) seen.old.keys) (nat_le the_limits.turns (length values.old.items)) (view.generate_head head.now) is_same (view_env inside.now) total)) }
+{
+    let is_new = seen.insert(v)?;
+    let is_last = values.as_slice().len() >= MOST_TURNS;
+    let t = turn_at(alloc, head, is_same, inside, !is_new, is_last, total)?;
+    push_if(values, t.taken, v)?;
+    Ok(t)
+}
+
 /// The turns of a loop from a first value on.
 pub(crate) fn turns_from(
     alloc: Global,
@@ -248,11 +272,17 @@ pub(crate) fn turns_from(
     let mut count = total;
     let mut next = Some(first);
     while let Some(v) = next {
-        let is_new = seen.insert(v)?;
         let inside = inside_of(here, Turn { genvar, value: v });
-        let is_last = values.as_slice().len() >= MOST_TURNS;
-        let t = turn_at(alloc, head, is_same, &inside, !is_new, is_last, count)?;
-        push_if(&mut values, t.taken, v)?;
+        let t = one_turn(
+            alloc,
+            head,
+            is_same,
+            &inside,
+            count,
+            v,
+            &mut seen,
+            &mut values,
+        )?;
         fault = first_of(fault, t.fault);
         count = t.count;
         next = t.next;

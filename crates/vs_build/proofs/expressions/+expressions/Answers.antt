@@ -2,6 +2,7 @@ use Rattle.std.proofs.Common.{rules, ℕ, true, false, OnOk, ◌+◌, ◌≡◌,
 use Rattle.vs_four.specs.Numbers.{bits_of}
 use Rattle.vs_four.specs.Selects.{range_length}
 use Rattle.vs_design.specs.Expressions as E
+use Rattle.vs_design.specs.Values.{constant_value}
 use Rattle.vs_grammar.specs.Trees as tree
 use Rattle.vs_grammar.specs.Trees.{expr_place}
 use Rattle.vs_grammar.specs.Depths.{expr_depth, exprs_depth, select_depth}
@@ -11,13 +12,14 @@ use Rattle.vs_ast.specs.declared.expressions.Expr.{the_lemmas}
 use Rattle.vs_const.specs.Typed.{begins_at, natural}
 use Rattle.vs_const.specs.Expressions.{constant, typed}
 use Rattle.vs_const.proofs.Rows.{some_part}
+use Rattle.vs_const.proofs.Sizes.{unary_size, left_size, right_size, condition_size, yes_size, no_size, call_size, brackets_size, falls}
 use Rattle.vs_flat.specs.Targets.{source_of}
 use Rattle.vs_build.specs.Drafts.{Draft, AddsExpression, EndsInSelect}
 use Rattle.vs_build.specs.Growth.{draft}
 use Rattle.vs_build.specs.Buildable.{IsBuildable, IsSelectable, AreBuildable, HasBits, IsNumbered, AreBounds, IsRangeOf, IsConstant, part_expressions, selected_by}
-use Rattle.vs_build.proofs.Arms.{child, child_ends, children_end, ends_three, after, same_design, ok_up_to, unary_operand, binary_left, binary_right, choice_condition, choice_yes, choice_no, unary_arm, binary_arm, choice_arm}
+use Rattle.vs_build.proofs.Arms.{begins_twice, begins_itself, child, child_ends, children_end, ends_three, after, same_design, ok_up_to, unary_operand, brackets_inner, binary_left, binary_right, choice_condition, choice_yes, choice_no, unary_arm, binary_arm, choice_arm}
 use Rattle.vs_build.proofs.Lists.{concatenation_view, replication_view, each_part, part_levels, part_falls, taken_more, taken_all, parts_none, parts_more, parts_are, ends_parts, part_after, part_count, concatenation_parts, join_arm, replication_is, replication_expression, deeper_up_to}
-use Rattle.vs_build.proofs.Selects.{named_select, named_expression, bit_taken, bit_index, moving_taken, moving_is, between_is, between_taken, select_ends, select_arm, signed_operand, unsigned_operand, clog2_constant}
+use Rattle.vs_build.proofs.Selects.{named_select, named_expression, bit_taken, bit_index, moving_taken, moving_is, between_is, between_taken, select_ends, select_arm, signed_operand, unsigned_operand, clog2_constant, clog2_arm}
 use Rattle.vs_build.proofs.expressions.+expressions.Goals as goal
 
 pub expression-unary-requires : goal.expression-unary-requires
@@ -31,11 +33,11 @@ expression-returns-in_ok-operand-in-Unary g t c =
 
 pub expression-operand-requires-in-Binary : goal.expression-operand-requires-in-Binary
 expression-operand-requires-in-Binary g t c κs within =
-    (search (rules, the_lemmas), (within, (child (draft c.args.builder.now).design (g.E.Env.names c.args.env.now) c.args.needed c.deref-in-Binary.result.now c.in-Binary.left.value c.deref-in-Binary.ensures (binary_left (draft c.args.builder.now).design (g.E.Env.names c.args.env.now) c.args.needed c.in-Binary.op (view.expr c.in-Binary.left.value) (view.expr c.in-Binary.right.value) (subst (λ x. IsBuildable (draft c.args.builder.now).design (g.E.Env.names c.args.env.now) c.args.needed (view.expr x)) c.in-Binary.is c.requires)))))
+    (omega (arith, falls c.args.e.now c.deref-in-Binary.result.now _ _ (left_size _ c.in-Binary.left c.in-Binary.right) c.in-Binary.is c.deref-in-Binary.ensures, c.decreases), (within, (child (draft c.args.builder.now).design (g.E.Env.names c.args.env.now) c.args.needed c.deref-in-Binary.result.now c.in-Binary.left.value c.deref-in-Binary.ensures (binary_left (draft c.args.builder.now).design (g.E.Env.names c.args.env.now) c.args.needed c.in-Binary.op (view.expr c.in-Binary.left.value) (view.expr c.in-Binary.right.value) (subst (λ x. IsBuildable (draft c.args.builder.now).design (g.E.Env.names c.args.env.now) c.args.needed (view.expr x)) c.in-Binary.is c.requires)))))
 
 pub expression-operand-requires-in-Binary-2 : goal.expression-operand-requires-in-Binary-2
 expression-operand-requires-in-Binary-2 g t c κs within =
-    (search (rules, the_lemmas), (within, (after (draft c.args.builder.now) (draft c.operand-in-Binary.new.builder) (typed (view.expr c.deref-in-Binary.result.now) (g.E.Env.names c.args.env.now) c.args.needed).expression (1 + expr_depth (view.expr c.deref-in-Binary.result.now)) (g.E.Env.names c.args.env.now) c.args.needed (view.expr c.deref-in-Binary-2.result.now) c.in_ok-operand-in-Binary.ensures (child (draft c.args.builder.now).design (g.E.Env.names c.args.env.now) c.args.needed c.deref-in-Binary-2.result.now c.in-Binary.right.value c.deref-in-Binary-2.ensures (binary_right (draft c.args.builder.now).design (g.E.Env.names c.args.env.now) c.args.needed c.in-Binary.op (view.expr c.in-Binary.left.value) (view.expr c.in-Binary.right.value) (subst (λ x. IsBuildable (draft c.args.builder.now).design (g.E.Env.names c.args.env.now) c.args.needed (view.expr x)) c.in-Binary.is c.requires))))))
+    (omega (arith, falls c.args.e.now c.deref-in-Binary-2.result.now _ _ (right_size _ c.in-Binary.left c.in-Binary.right) c.in-Binary.is c.deref-in-Binary-2.ensures, c.decreases), (within, (after (draft c.args.builder.now) (draft c.operand-in-Binary.new.builder) (typed (view.expr c.deref-in-Binary.result.now) (g.E.Env.names c.args.env.now) c.args.needed).expression (1 + expr_depth (view.expr c.deref-in-Binary.result.now)) (g.E.Env.names c.args.env.now) c.args.needed (view.expr c.deref-in-Binary-2.result.now) c.in_ok-operand-in-Binary.ensures (child (draft c.args.builder.now).design (g.E.Env.names c.args.env.now) c.args.needed c.deref-in-Binary-2.result.now c.in-Binary.right.value c.deref-in-Binary-2.ensures (binary_right (draft c.args.builder.now).design (g.E.Env.names c.args.env.now) c.args.needed c.in-Binary.op (view.expr c.in-Binary.left.value) (view.expr c.in-Binary.right.value) (subst (λ x. IsBuildable (draft c.args.builder.now).design (g.E.Env.names c.args.env.now) c.args.needed (view.expr x)) c.in-Binary.is c.requires))))))
 
 pub expression-binary-requires : goal.expression-binary-requires
 expression-binary-requires g t c =
@@ -48,15 +50,15 @@ expression-returns-in_ok-operand-in-Binary-2 g t c =
 
 pub expression-operand-requires-in-Choice : goal.expression-operand-requires-in-Choice
 expression-operand-requires-in-Choice g t c κs within =
-    (search (rules, the_lemmas), (within, (child (draft c.args.builder.now).design (g.E.Env.names c.args.env.now) c.args.needed c.deref-in-Choice.result.now c.in-Choice.condition.value c.deref-in-Choice.ensures (choice_condition (draft c.args.builder.now).design (g.E.Env.names c.args.env.now) c.args.needed (view.expr c.in-Choice.condition.value) (view.expr c.in-Choice.yes.value) (view.expr c.in-Choice.no.value) (subst (λ x. IsBuildable (draft c.args.builder.now).design (g.E.Env.names c.args.env.now) c.args.needed (view.expr x)) c.in-Choice.is c.requires)))))
+    (omega (arith, falls c.args.e.now c.deref-in-Choice.result.now _ _ (condition_size c.in-Choice.condition c.in-Choice.yes c.in-Choice.no) c.in-Choice.is c.deref-in-Choice.ensures, c.decreases), (within, (child (draft c.args.builder.now).design (g.E.Env.names c.args.env.now) c.args.needed c.deref-in-Choice.result.now c.in-Choice.condition.value c.deref-in-Choice.ensures (choice_condition (draft c.args.builder.now).design (g.E.Env.names c.args.env.now) c.args.needed (view.expr c.in-Choice.condition.value) (view.expr c.in-Choice.yes.value) (view.expr c.in-Choice.no.value) (subst (λ x. IsBuildable (draft c.args.builder.now).design (g.E.Env.names c.args.env.now) c.args.needed (view.expr x)) c.in-Choice.is c.requires)))))
 
 pub expression-operand-requires-in-Choice-2 : goal.expression-operand-requires-in-Choice-2
 expression-operand-requires-in-Choice-2 g t c κs within =
-    (search (rules, the_lemmas), (within, (after (draft c.args.builder.now) (draft c.operand-in-Choice.new.builder) (typed (view.expr c.deref-in-Choice.result.now) (g.E.Env.names c.args.env.now) c.args.needed).expression (1 + expr_depth (view.expr c.deref-in-Choice.result.now)) (g.E.Env.names c.args.env.now) c.args.needed (view.expr c.deref-in-Choice-2.result.now) c.in_ok-operand-in-Choice.ensures (child (draft c.args.builder.now).design (g.E.Env.names c.args.env.now) c.args.needed c.deref-in-Choice-2.result.now c.in-Choice.yes.value c.deref-in-Choice-2.ensures (choice_yes (draft c.args.builder.now).design (g.E.Env.names c.args.env.now) c.args.needed (view.expr c.in-Choice.condition.value) (view.expr c.in-Choice.yes.value) (view.expr c.in-Choice.no.value) (subst (λ x. IsBuildable (draft c.args.builder.now).design (g.E.Env.names c.args.env.now) c.args.needed (view.expr x)) c.in-Choice.is c.requires))))))
+    (omega (arith, falls c.args.e.now c.deref-in-Choice-2.result.now _ _ (yes_size c.in-Choice.condition c.in-Choice.yes c.in-Choice.no) c.in-Choice.is c.deref-in-Choice-2.ensures, c.decreases), (within, (after (draft c.args.builder.now) (draft c.operand-in-Choice.new.builder) (typed (view.expr c.deref-in-Choice.result.now) (g.E.Env.names c.args.env.now) c.args.needed).expression (1 + expr_depth (view.expr c.deref-in-Choice.result.now)) (g.E.Env.names c.args.env.now) c.args.needed (view.expr c.deref-in-Choice-2.result.now) c.in_ok-operand-in-Choice.ensures (child (draft c.args.builder.now).design (g.E.Env.names c.args.env.now) c.args.needed c.deref-in-Choice-2.result.now c.in-Choice.yes.value c.deref-in-Choice-2.ensures (choice_yes (draft c.args.builder.now).design (g.E.Env.names c.args.env.now) c.args.needed (view.expr c.in-Choice.condition.value) (view.expr c.in-Choice.yes.value) (view.expr c.in-Choice.no.value) (subst (λ x. IsBuildable (draft c.args.builder.now).design (g.E.Env.names c.args.env.now) c.args.needed (view.expr x)) c.in-Choice.is c.requires))))))
 
 pub expression-operand-requires-in-Choice-3 : goal.expression-operand-requires-in-Choice-3
 expression-operand-requires-in-Choice-3 g t c κs within =
-    (search (rules, the_lemmas), (within, (after (draft c.operand-in-Choice.new.builder) (draft c.operand-in-Choice-2.new.builder) (typed (view.expr c.deref-in-Choice-2.result.now) (g.E.Env.names c.args.env.now) c.args.needed).expression (1 + expr_depth (view.expr c.deref-in-Choice-2.result.now)) (g.E.Env.names c.args.env.now) c.args.needed (view.expr c.deref-in-Choice-3.result.now) c.in_ok-operand-in-Choice-2.ensures (after (draft c.args.builder.now) (draft c.operand-in-Choice.new.builder) (typed (view.expr c.deref-in-Choice.result.now) (g.E.Env.names c.args.env.now) c.args.needed).expression (1 + expr_depth (view.expr c.deref-in-Choice.result.now)) (g.E.Env.names c.args.env.now) c.args.needed (view.expr c.deref-in-Choice-3.result.now) c.in_ok-operand-in-Choice.ensures (child (draft c.args.builder.now).design (g.E.Env.names c.args.env.now) c.args.needed c.deref-in-Choice-3.result.now c.in-Choice.no.value c.deref-in-Choice-3.ensures (choice_no (draft c.args.builder.now).design (g.E.Env.names c.args.env.now) c.args.needed (view.expr c.in-Choice.condition.value) (view.expr c.in-Choice.yes.value) (view.expr c.in-Choice.no.value) (subst (λ x. IsBuildable (draft c.args.builder.now).design (g.E.Env.names c.args.env.now) c.args.needed (view.expr x)) c.in-Choice.is c.requires)))))))
+    (omega (arith, falls c.args.e.now c.deref-in-Choice-3.result.now _ _ (no_size c.in-Choice.condition c.in-Choice.yes c.in-Choice.no) c.in-Choice.is c.deref-in-Choice-3.ensures, c.decreases), (within, (after (draft c.operand-in-Choice.new.builder) (draft c.operand-in-Choice-2.new.builder) (typed (view.expr c.deref-in-Choice-2.result.now) (g.E.Env.names c.args.env.now) c.args.needed).expression (1 + expr_depth (view.expr c.deref-in-Choice-2.result.now)) (g.E.Env.names c.args.env.now) c.args.needed (view.expr c.deref-in-Choice-3.result.now) c.in_ok-operand-in-Choice-2.ensures (after (draft c.args.builder.now) (draft c.operand-in-Choice.new.builder) (typed (view.expr c.deref-in-Choice.result.now) (g.E.Env.names c.args.env.now) c.args.needed).expression (1 + expr_depth (view.expr c.deref-in-Choice.result.now)) (g.E.Env.names c.args.env.now) c.args.needed (view.expr c.deref-in-Choice-3.result.now) c.in_ok-operand-in-Choice.ensures (child (draft c.args.builder.now).design (g.E.Env.names c.args.env.now) c.args.needed c.deref-in-Choice-3.result.now c.in-Choice.no.value c.deref-in-Choice-3.ensures (choice_no (draft c.args.builder.now).design (g.E.Env.names c.args.env.now) c.args.needed (view.expr c.in-Choice.condition.value) (view.expr c.in-Choice.yes.value) (view.expr c.in-Choice.no.value) (subst (λ x. IsBuildable (draft c.args.builder.now).design (g.E.Env.names c.args.env.now) c.args.needed (view.expr x)) c.in-Choice.is c.requires)))))))
 
 pub expression-choice-requires : goal.expression-choice-requires
 expression-choice-requires g t c =
@@ -160,6 +162,17 @@ expression-constant_bits-requires g t c =
     subst (λ x. IsConstant (g.E.Env.names c.args.env.now) (view.expr x)) (sym c.in-Call.is)
     (subst (λ f. IsConstant (g.E.Env.names c.args.env.now) (tree.Call c.in-Call.place (view.system_function f) (view.expr c.in-Call.a.value))) (sym c.in-Clog2.is) (clog2_constant (draft c.args.builder.now).design (g.E.Env.names c.args.env.now) c.args.needed c.in-Call.place (view.expr c.in-Call.a.value) (subst (λ f. IsBuildable (draft c.args.builder.now).design (g.E.Env.names c.args.env.now) c.args.needed (tree.Call c.in-Call.place (view.system_function f) (view.expr c.in-Call.a.value))) c.in-Clog2.is (subst (λ x. IsBuildable (draft c.args.builder.now).design (g.E.Env.names c.args.env.now) c.args.needed (view.expr x)) c.in-Call.is c.requires))))
 
+pub expression-returns-in_ok-bits-in-Clog2 : goal.expression-returns-in_ok-bits-in-Clog2
+expression-returns-in_ok-bits-in-Clog2 g t c =
+    let bits =
+    subst (λ f. c.in_ok-bits-in-Clog2.bits ≡ constant_value (constant (tree.Call c.in-Call.place (view.system_function f) (view.expr c.in-Call.a.value)) (g.E.Env.names c.args.env.now)).expression) c.in-Clog2.is
+    (subst (λ x. c.in_ok-bits-in-Clog2.bits ≡ constant_value (constant (view.expr x) (g.E.Env.names c.args.env.now)).expression) c.in-Call.is c.in_ok-bits-in-Clog2.ensures)
+    in
+    subst (λ x. OnOk c.literal-in-Clog2.result (AddsExpression (draft c.args.builder.now) (draft c.literal-in-Clog2.new.self) (begins_at c.args.at (typed (view.expr x) (g.E.Env.names c.args.env.now) c.args.needed).expression) (1 + expr_depth (view.expr x)))) (sym c.in-Call.is)
+    (subst (λ f. OnOk c.literal-in-Clog2.result (AddsExpression (draft c.args.builder.now) (draft c.literal-in-Clog2.new.self) (begins_at c.args.at (typed (tree.Call c.in-Call.place (view.system_function f) (view.expr c.in-Call.a.value)) (g.E.Env.names c.args.env.now) c.args.needed).expression) (1 + (1 + expr_depth (view.expr c.in-Call.a.value))))) (sym c.in-Clog2.is)
+    (clog2_arm c.literal-in-Clog2.result (draft c.args.builder.now) (draft c.literal-in-Clog2.new.self) (draft c.args.builder.now).design (g.E.Env.names c.args.env.now) c.args.needed c.args.at c.in-Call.place (view.expr c.in-Call.a.value) c.in_ok-bits-in-Clog2.bits
+    (subst (λ f. IsBuildable (draft c.args.builder.now).design (g.E.Env.names c.args.env.now) c.args.needed (tree.Call c.in-Call.place (view.system_function f) (view.expr c.in-Call.a.value))) c.in-Clog2.is (subst (λ x. IsBuildable (draft c.args.builder.now).design (g.E.Env.names c.args.env.now) c.args.needed (view.expr x)) c.in-Call.is c.requires)) bits c.literal-in-Clog2.ensures))
+
 pub selected-bit-requires : goal.selected-bit-requires
 selected-bit-requires g t c =
     select_ends (draft c.args.builder.now).design (g.E.Env.names c.args.env.now) c.args.fixed c.args.needed (view.name c.args.name.now) (tree.BitAt c.in-Bit.bracket (view.expr c.in-Bit.index.value)) true 1 (typed (view.expr c.in-Bit.index.value) (g.E.Env.names c.args.env.now) c.args.needed).expression (draft c.args.builder.now) (draft c.operand.new.builder) (draft c.source.new.builder) (1 + expr_depth (view.expr c.in-Bit.index.value)) c.in_ok-range-in-Bit.range (bit_taken (draft c.args.builder.now).design (g.E.Env.names c.args.env.now) c.args.fixed c.args.needed (view.name c.args.name.now) c.in-Bit.bracket (view.expr c.in-Bit.index.value) (subst (λ x. IsSelectable (draft c.args.builder.now).design (g.E.Env.names c.args.env.now) c.args.fixed c.args.needed (view.name c.args.name.now) (view.select x)) c.in-Bit.is c.requires)) refl (subst (λ x. AddsExpression (draft c.args.builder.now) (draft c.operand.new.builder) (typed (view.expr x) (g.E.Env.names c.args.env.now) c.args.needed).expression (1 + expr_depth (view.expr x))) c.deref.ensures c.in_ok-operand-in-Bit.ensures) (omega (arith, (bit_index (draft c.args.builder.now).design (g.E.Env.names c.args.env.now) c.args.fixed c.args.needed (view.name c.args.name.now) c.in-Bit.bracket (view.expr c.in-Bit.index.value) (subst (λ x. IsSelectable (draft c.args.builder.now).design (g.E.Env.names c.args.env.now) c.args.fixed c.args.needed (view.name c.args.name.now) (view.select x)) c.in-Bit.is c.requires)).shallow)) c.in_ok-range-in-Bit.ensures
@@ -222,3 +235,37 @@ selected-returns-in_ok-range-in-Between g t c =
     subst (λ x. OnOk c.part.result (AddsExpression (draft c.args.builder.now) (draft c.part.new.self) (begins_at c.args.at (selected_by (view.select x) (view.name c.args.name.now) (g.E.Env.names c.args.env.now) c.args.fixed c.args.needed).expression) (1 + select_depth (view.select x)))) (sym c.in-Slice.is)
     (subst (λ k. OnOk c.part.result (AddsExpression (draft c.args.builder.now) (draft c.part.new.self) (begins_at c.args.at (selected_by (tree.Slice c.in-Slice.bracket (view.slice_kind k) (view.expr c.in-Slice.left.value) (view.expr c.in-Slice.right.value)) (view.name c.args.name.now) (g.E.Env.names c.args.env.now) c.args.fixed c.args.needed).expression) (1 + (1 + max (expr_depth (view.expr c.in-Slice.left.value)) (expr_depth (view.expr c.in-Slice.right.value)))))) (sym c.in-Between.is)
     (select_arm c.part.result (draft c.args.builder.now).design (g.E.Env.names c.args.env.now) c.args.fixed c.args.needed (view.name c.args.name.now) (tree.Slice c.in-Slice.bracket tree.Between (view.expr c.in-Slice.left.value) (view.expr c.in-Slice.right.value)) true (range_length c.in_ok-bounds-in-Between.bounds) (E.At (expr_place (view.expr c.in-Slice.left.value)) (E.Literal (bits_of 32 (min c.in_ok-bounds-in-Between.bounds.left c.in_ok-bounds-in-Between.bounds.right)) true true)) (draft c.args.builder.now) (draft c.literal.new.self) (draft c.source-in-Between.new.builder) (draft c.part.new.self) 1 c.args.at (1 + (1 + max (expr_depth (view.expr c.in-Slice.left.value)) (expr_depth (view.expr c.in-Slice.right.value)))) c.in_ok-range-in-Between.range (between_taken (draft c.args.builder.now).design (g.E.Env.names c.args.env.now) c.args.fixed c.args.needed (view.name c.args.name.now) c.in-Slice.bracket (view.expr c.in-Slice.left.value) (view.expr c.in-Slice.right.value) c.in_ok-bounds-in-Between.bounds (subst (λ k. IsSelectable (draft c.args.builder.now).design (g.E.Env.names c.args.env.now) c.args.fixed c.args.needed (view.name c.args.name.now) (tree.Slice c.in-Slice.bracket (view.slice_kind k) (view.expr c.in-Slice.left.value) (view.expr c.in-Slice.right.value))) c.in-Between.is (subst (λ x. IsSelectable (draft c.args.builder.now).design (g.E.Env.names c.args.env.now) c.args.fixed c.args.needed (view.name c.args.name.now) (view.select x)) c.in-Slice.is c.requires)) (subst (λ x. IsRangeOf (g.E.Env.names c.args.env.now) (view.expr c.in-Slice.left.value) (view.expr x) c.in_ok-bounds-in-Between.bounds) c.deref-in-Between-2.ensures (subst (λ x. IsRangeOf (g.E.Env.names c.args.env.now) (view.expr x) (view.expr c.deref-in-Between-2.result.now) c.in_ok-bounds-in-Between.bounds) c.deref-in-Between.ensures c.in_ok-bounds-in-Between.ensures.range))) (subst (λ p. AddsExpression (draft c.args.builder.now) (draft c.literal.new.self) (E.At p (E.Literal (bits_of 32 (min c.in_ok-bounds-in-Between.bounds.left c.in_ok-bounds-in-Between.bounds.right)) true true)) 1) (c.place_of.ensures ∙ ap (λ x. expr_place (view.expr x)) c.deref-in-Between-3.ensures) (subst (λ z. AddsExpression (draft c.args.builder.now) (draft c.literal.new.self) (E.At c.place_of.result (E.Literal z true true)) 1) (c.of_number.ensures ∙ ap (bits_of 32) c.lesser.ensures) c.in_ok-literal-in-Between.ensures)) c.in_ok-range-in-Between.ensures (subst (λ n. (p k : Draft) (t u : E.Expression) (x y : ℕ) → AddsExpression p k t x → AddsExpression k (draft c.source-in-Between.new.builder) u y → OnOk c.part.result (AddsExpression p (draft c.part.new.self) (E.At c.args.at (E.Select (source_of u) (record { range = c.in_ok-range-in-Between.range; up = true; width = n }) t)) (1 + max x y))) c.range_length.ensures c.part.ensures) (omega arith)))
+
+pub expression-operand-requires : goal.expression-operand-requires
+expression-operand-requires g t c κs within =
+    (omega (arith, falls c.args.e.now c.deref.result.now _ _ (unary_size _ _ c.in-Unary.a) c.in-Unary.is c.deref.ensures, c.decreases), (within, child (draft c.args.builder.now).design (g.E.Env.names c.args.env.now) c.args.needed c.deref.result.now c.in-Unary.a.value c.deref.ensures (unary_operand (draft c.args.builder.now).design (g.E.Env.names c.args.env.now) c.args.needed _ _ (view.expr c.in-Unary.a.value) (subst (λ x. IsBuildable (draft c.args.builder.now).design (g.E.Env.names c.args.env.now) c.args.needed (view.expr x)) c.in-Unary.is c.requires))))
+
+pub expression-expression-requires : goal.expression-expression-requires
+expression-expression-requires g t c κs within =
+    (omega (arith, falls c.args.e.now c.deref-in-Brackets.result.now _ _ (brackets_size _ c.in-Brackets.inner) c.in-Brackets.is c.deref-in-Brackets.ensures, c.decreases), (within, child (draft c.args.builder.now).design (g.E.Env.names c.args.env.now) c.args.needed c.deref-in-Brackets.result.now c.in-Brackets.inner.value c.deref-in-Brackets.ensures (brackets_inner (draft c.args.builder.now).design (g.E.Env.names c.args.env.now) c.args.needed _ (view.expr c.in-Brackets.inner.value) (subst (λ x. IsBuildable (draft c.args.builder.now).design (g.E.Env.names c.args.env.now) c.args.needed (view.expr x)) c.in-Brackets.is c.requires))))
+
+pub expression-operand-requires-in-AsSigned : goal.expression-operand-requires-in-AsSigned
+expression-operand-requires-in-AsSigned g t c κs within =
+    (omega (arith, falls c.args.e.now c.deref-in-AsSigned.result.now _ _ (call_size _ _ c.in-Call.a) c.in-Call.is c.deref-in-AsSigned.ensures, c.decreases), (within, child (draft c.args.builder.now).design (g.E.Env.names c.args.env.now) c.args.needed c.deref-in-AsSigned.result.now c.in-Call.a.value c.deref-in-AsSigned.ensures (signed_operand (draft c.args.builder.now).design (g.E.Env.names c.args.env.now) c.args.needed c.in-Call.place (view.expr c.in-Call.a.value) (subst (λ f. IsBuildable (draft c.args.builder.now).design (g.E.Env.names c.args.env.now) c.args.needed (tree.Call c.in-Call.place (view.system_function f) (view.expr c.in-Call.a.value))) c.in-AsSigned.is (subst (λ x. IsBuildable (draft c.args.builder.now).design (g.E.Env.names c.args.env.now) c.args.needed (view.expr x)) c.in-Call.is c.requires)))))
+
+pub expression-operand-requires-in-AsUnsigned : goal.expression-operand-requires-in-AsUnsigned
+expression-operand-requires-in-AsUnsigned g t c κs within =
+    (omega (arith, falls c.args.e.now c.deref-in-AsUnsigned.result.now _ _ (call_size _ _ c.in-Call.a) c.in-Call.is c.deref-in-AsUnsigned.ensures, c.decreases), (within, child (draft c.args.builder.now).design (g.E.Env.names c.args.env.now) c.args.needed c.deref-in-AsUnsigned.result.now c.in-Call.a.value c.deref-in-AsUnsigned.ensures (unsigned_operand (draft c.args.builder.now).design (g.E.Env.names c.args.env.now) c.args.needed c.in-Call.place (view.expr c.in-Call.a.value) (subst (λ f. IsBuildable (draft c.args.builder.now).design (g.E.Env.names c.args.env.now) c.args.needed (tree.Call c.in-Call.place (view.system_function f) (view.expr c.in-Call.a.value))) c.in-AsUnsigned.is (subst (λ x. IsBuildable (draft c.args.builder.now).design (g.E.Env.names c.args.env.now) c.args.needed (view.expr x)) c.in-Call.is c.requires)))))
+
+pub expression-returns-in-Brackets : goal.expression-returns-in-Brackets
+expression-returns-in-Brackets g t c =
+    let inner = view.expr c.in-Brackets.inner.value in
+    let adds : OnOk c.expression.result (AddsExpression (draft c.args.builder.now) (draft c.expression.new.builder) (begins_at c.args.at (typed inner (g.E.Env.names c.args.env.now) c.args.needed).expression) (1 + expr_depth inner)) =
+    subst (λ x. OnOk c.expression.result (AddsExpression (draft c.args.builder.now) (draft c.expression.new.builder) (begins_at c.args.at (typed (view.expr x) (g.E.Env.names c.args.env.now) c.args.needed).expression) (1 + expr_depth (view.expr x)))) c.deref-in-Brackets.ensures c.expression.ensures in
+    subst (λ x. OnOk c.expression.result (AddsExpression (draft c.args.builder.now) (draft c.expression.new.builder) (begins_at c.args.at (typed (view.expr x) (g.E.Env.names c.args.env.now) c.args.needed).expression) (1 + expr_depth (view.expr x)))) (sym c.in-Brackets.is)
+    (ok_up_to c.expression.result (draft c.args.builder.now) (draft c.expression.new.builder) (begins_at c.args.at (typed (tree.Brackets c.in-Brackets.place inner) (g.E.Env.names c.args.env.now) c.args.needed).expression) (1 + expr_depth inner) (1 + (1 + expr_depth inner)) (subst (λ e. OnOk c.expression.result (AddsExpression (draft c.args.builder.now) (draft c.expression.new.builder) e (1 + expr_depth inner))) (sym (begins_twice c.args.at c.in-Brackets.place (typed inner (g.E.Env.names c.args.env.now) c.args.needed).expression)) adds) (omega arith))
+
+pub operand-expression-requires : goal.operand-expression-requires
+operand-expression-requires g t c κs within = (omega (arith, c.decreases), (within, c.requires))
+
+pub operand-returns : goal.operand-returns
+operand-returns g t c =
+    let e = view.expr c.args.e.now in
+    let tree = (typed e (g.E.Env.names c.args.env.now) c.args.needed).expression in
+    subst (λ x. OnOk c.expression.result (AddsExpression (draft c.args.builder.now) (draft c.expression.new.builder) x (1 + expr_depth e)))
+    (ap (λ (p : ℕ). begins_at p tree) c.place_of.ensures ∙ begins_itself e (g.E.Env.names c.args.env.now) c.args.needed) c.expression.ensures

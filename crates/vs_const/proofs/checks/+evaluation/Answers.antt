@@ -1,15 +1,19 @@
-use Rattle.std.proofs.Common.{rules, false, ◌-◌, IfOk, subst, sym, true, length, arith, ◌<◌}
+use Rattle.std.proofs.Common.{◌≡◌, false, ◌-◌, IfOk, subst, sym, ap, ◌∙◌, true, length, arith, ◌<◌}
+use denote.Param.Weighed.{most}
 use Rattle.vs_ast.specs.Views as view
-use Rattle.vs_ast.proofs.Rows.{expr_rows}
-use Rattle.vs_ast.specs.declared.expressions.Expr.{the_lemmas}
+use Rattle.vs_ast.proofs.expressions.Expr.TheLaws.{the_size}
+use Rattle.vs_ast.specs.declared.expressions.Expr.{Expr}
 use Rattle.vs_grammar.specs.Trees as tree
 use Rattle.vs_grammar.specs.Trees.{expr_place}
-use Rattle.vs_grammar.specs.Shapes.{IsExpr}
-use Rattle.vs_const.specs.Expressions.{selected, typed, call_typed, argument_needed}
-use Rattle.vs_const.specs.Typed.{unary_typed}
+use Rattle.vs_grammar.specs.Shapes.{IsExpr, AreParts}
+use Rattle.vs_const.specs.declared.found.Found.{Found}
+use Rattle.vs_const.specs.Checks.{ChecksNumber}
+use Rattle.vs_const.specs.Expressions.{selected, typed, typed_parts, number, replication_typed, call_typed, argument_needed}
+use Rattle.vs_const.specs.Typed.{unary_typed, choice_typed, noted, number_of}
 use Rattle.vs_const.specs.Found.{Finds, Says}
 use Rattle.vs_const.specs.Meanings.{Means}
 use Rattle.vs_const.proofs.Rows.{some_part, part_shaped, part_falls, last_arm, more_arm}
+use Rattle.vs_const.proofs.Sizes.{unary_size, left_size, right_size, condition_size, yes_size, no_size, parts_size, count_size, copied_size, call_size, brackets_size, falls, concatenation_view, replication_view}
 use Rattle.vs_const.proofs.Arms.{binary_arm, clog2_arm, between_arm, moving_arm}
 use Rattle.vs_const.proofs.checks.+evaluation.Goals as goal
 
@@ -33,14 +37,114 @@ find_call-returns-in_ok-a-in-Clog2 g t c =
     subst (λ x. Finds c.args.needed c.find_clog2.result (call_typed (view.system_function x) (expr_place (view.expr c.args.operand.now)) (typed (view.expr c.args.operand.now) (g.E.Env.names c.args.env.now) (argument_needed (view.system_function x) c.args.needed)))) (sym c.in-Clog2.is)
     (clog2_arm c.args.needed (g.E.Env.names c.args.env.now) c.args.operand.now c.place_of.result c.in_ok-a-in-Clog2.a c.find_clog2.result c.place_of.ensures c.in_ok-a-in-Clog2.ensures c.find_clog2.ensures)
 
+pub find-check-requires : goal.find-check-requires
+find-check-requires g t c κs within =
+    let w = c.in-Unary in
+    let less = falls c.args.e.now c.deref.result.now _ _ (unary_size w.place w.op w.operand) w.is c.deref.ensures in
+    let shaped : IsExpr (view.expr c.deref.result.now) = subst (λ x. IsExpr (view.expr x)) (sym c.deref.ensures) (subst (λ x. IsExpr (view.expr x)) w.is c.requires.shaped) in
+    (omega (arith, less, c.decreases), (within, (shaped, c.requires.fair)))
+
+pub find-check-requires-in-Binary : goal.find-check-requires-in-Binary
+find-check-requires-in-Binary g t c κs within =
+    let w = c.in-Binary in
+    let less = falls c.args.e.now c.deref-in-Binary.result.now _ _ (left_size w.op w.left w.right) w.is c.deref-in-Binary.ensures in
+    let shaped : IsExpr (view.expr c.deref-in-Binary.result.now) = subst (λ x. IsExpr (view.expr x)) (sym c.deref-in-Binary.ensures) (subst (λ x. IsExpr (view.expr x)) w.is c.requires.shaped).0 in
+    (omega (arith, less, c.decreases), (within, (shaped, c.requires.fair)))
+
+pub find-check-requires-in-Binary-2 : goal.find-check-requires-in-Binary-2
+find-check-requires-in-Binary-2 g t c κs within =
+    let w = c.in-Binary in
+    let less = falls c.args.e.now c.deref-in-Binary-2.result.now _ _ (right_size w.op w.left w.right) w.is c.deref-in-Binary-2.ensures in
+    let shaped : IsExpr (view.expr c.deref-in-Binary-2.result.now) = subst (λ x. IsExpr (view.expr x)) (sym c.deref-in-Binary-2.ensures) (subst (λ x. IsExpr (view.expr x)) w.is c.requires.shaped).1 in
+    (omega (arith, less, c.decreases), (within, (shaped, c.requires.fair)))
+
+pub find-check-requires-in-Choice : goal.find-check-requires-in-Choice
+find-check-requires-in-Choice g t c κs within =
+    let w = c.in-Choice in
+    let less = falls c.args.e.now c.deref-in-Choice.result.now _ _ (condition_size w.condition w.yes w.no) w.is c.deref-in-Choice.ensures in
+    let shaped : IsExpr (view.expr c.deref-in-Choice.result.now) = subst (λ x. IsExpr (view.expr x)) (sym c.deref-in-Choice.ensures) (subst (λ x. IsExpr (view.expr x)) w.is c.requires.shaped).0 in
+    (omega (arith, less, c.decreases), (within, (shaped, c.requires.fair)))
+
+pub find-check-requires-in-Choice-2 : goal.find-check-requires-in-Choice-2
+find-check-requires-in-Choice-2 g t c κs within =
+    let w = c.in-Choice in
+    let less = falls c.args.e.now c.deref-in-Choice-2.result.now _ _ (yes_size w.condition w.yes w.no) w.is c.deref-in-Choice-2.ensures in
+    let shaped : IsExpr (view.expr c.deref-in-Choice-2.result.now) = subst (λ x. IsExpr (view.expr x)) (sym c.deref-in-Choice-2.ensures) (subst (λ x. IsExpr (view.expr x)) w.is c.requires.shaped).1 in
+    (omega (arith, less, c.decreases), (within, (shaped, c.requires.fair)))
+
+pub find-check-requires-in-Choice-3 : goal.find-check-requires-in-Choice-3
+find-check-requires-in-Choice-3 g t c κs within =
+    let w = c.in-Choice in
+    let less = falls c.args.e.now c.deref-in-Choice-3.result.now _ _ (no_size w.condition w.yes w.no) w.is c.deref-in-Choice-3.ensures in
+    let shaped : IsExpr (view.expr c.deref-in-Choice-3.result.now) = subst (λ x. IsExpr (view.expr x)) (sym c.deref-in-Choice-3.ensures) (subst (λ x. IsExpr (view.expr x)) w.is c.requires.shaped).2 in
+    (omega (arith, less, c.decreases), (within, (shaped, c.requires.fair)))
+
+pub find-numbered-requires : goal.find-numbered-requires
+find-numbered-requires g t c κs within =
+    let w = c.in-Replication in
+    let less = falls c.args.e.now c.deref-in-Replication-2.result.now _ _ (count_size w.place w.count w.parts) w.is c.deref-in-Replication-2.ensures in
+    let shaped : IsExpr (view.expr c.deref-in-Replication-2.result.now) = subst (λ x. IsExpr (view.expr x)) (sym c.deref-in-Replication-2.ensures) (subst IsExpr (ap view.expr w.is ∙ replication_view w.place w.count w.parts) c.requires.shaped).0 in
+    (omega (arith, less, c.decreases), (within, (shaped, c.requires.fair)))
+
+pub find-find_call-requires : goal.find-find_call-requires
+find-find_call-requires g t c κs within =
+    let w = c.in-Call in
+    let less = falls c.args.e.now c.deref-in-Call.result.now _ _ (call_size w.place w.function w.operand) w.is c.deref-in-Call.ensures in
+    let shaped : IsExpr (view.expr c.deref-in-Call.result.now) = subst (λ x. IsExpr (view.expr x)) (sym c.deref-in-Call.ensures) (subst (λ x. IsExpr (view.expr x)) w.is c.requires.shaped) in
+    (omega (arith, less, c.decreases), (within, (shaped, c.requires.fair)))
+
+pub find-find-requires : goal.find-find-requires
+find-find-requires g t c κs within =
+    let w = c.in-Brackets in
+    let less = falls c.args.e.now c.deref-in-Brackets.result.now _ _ (brackets_size w.place w.inner) w.is c.deref-in-Brackets.ensures in
+    let shaped : IsExpr (view.expr c.deref-in-Brackets.result.now) = subst (λ x. IsExpr (view.expr x)) (sym c.deref-in-Brackets.ensures) (subst (λ x. IsExpr (view.expr x)) w.is c.requires.shaped) in
+    (omega (arith, less, c.decreases), (within, (shaped, c.requires.fair)))
+
 pub find-find_parts-requires : goal.find-find_parts-requires
-find-find_parts-requires g t c = search (rules, expr_rows, the_lemmas)
+find-find_parts-requires g t c κs within =
+    let w = c.in-Concatenation in
+    let list = c.deref-in-Concatenation.ensures.value in
+    let less : most the_size c.deref-in-Concatenation.result.now < the_size c.args.e.now = subst (λ es. most the_size es < the_size c.args.e.now) (sym list) (subst (λ x. most the_size w.parts.items < the_size x) (sym w.is) (parts_size w.place w.parts)) in
+    let shaped : AreParts (view.exprs c.deref-in-Concatenation.result.now) = subst (λ es. AreParts (view.exprs es)) (sym list) (subst IsExpr (ap view.expr w.is ∙ concatenation_view w.place w.parts) c.requires.shaped) in
+    (omega (arith, less, c.decreases), (within, (shaped, c.requires.fair)))
+
+pub find-find_parts-requires-in-Replication : goal.find-find_parts-requires-in-Replication
+find-find_parts-requires-in-Replication g t c κs within =
+    let w = c.in-Replication in
+    let list = c.deref-in-Replication.ensures.value in
+    let less : most the_size c.deref-in-Replication.result.now < the_size c.args.e.now = subst (λ es. most the_size es < the_size c.args.e.now) (sym list) (subst (λ x. most the_size w.parts.items < the_size x) (sym w.is) (copied_size w.place w.count w.parts)) in
+    let shaped : AreParts (view.exprs c.deref-in-Replication.result.now) = subst (λ es. AreParts (view.exprs es)) (sym list) (subst IsExpr (ap view.expr w.is ∙ replication_view w.place w.count w.parts) c.requires.shaped).1 in
+    (omega (arith, less, c.decreases), (within, (shaped, c.requires.fair)))
 
 pub find-returns-in_ok-c-in-Concatenation : goal.find-returns-in_ok-c-in-Concatenation
-find-returns-in_ok-c-in-Concatenation g t c = search (rules, expr_rows, the_lemmas)
+find-returns-in_ok-c-in-Concatenation g t c =
+    let w = c.in-Concatenation in
+    let find = g.E.Env.names c.args.env.now in
+    let finds = subst (λ es. Finds c.args.needed c.in_ok-c-in-Concatenation.c (typed_parts (view.exprs es) find c.args.needed)) c.deref-in-Concatenation.ensures.value c.in_ok-c-in-Concatenation.ensures in
+    subst (λ x. IfOk c.find_concatenation.result (λ s. Finds c.args.needed s (typed x find c.args.needed))) (sym (ap view.expr w.is ∙ concatenation_view w.place w.parts))
+    (c.find_concatenation.ensures (typed_parts (view.exprs w.parts.items) find c.args.needed) finds)
 
 pub find-returns-in_ok-n-in-Replication : goal.find-returns-in_ok-n-in-Replication
-find-returns-in_ok-n-in-Replication g t c = search (rules, expr_rows, the_lemmas)
+find-returns-in_ok-n-in-Replication g t c =
+    let w = c.in-Replication in
+    let find = g.E.Env.names c.args.env.now in
+    let count = view.expr w.count.value in
+    let finds = subst (λ es. Finds c.args.needed c.in_ok-c-in-Replication.c (typed_parts (view.exprs es) find c.args.needed)) c.deref-in-Replication.ensures.value c.in_ok-c-in-Replication.ensures in
+    let at : c.place_of-in-Replication.result ≡ expr_place count = c.place_of-in-Replication.ensures ∙ ap (λ x. expr_place (view.expr x)) c.deref-in-Replication-3.ensures in
+    let checks : ChecksNumber c.in_ok-n-in-Replication.n (number count find) = subst (λ x. ChecksNumber c.in_ok-n-in-Replication.n (number (view.expr x) find)) c.deref-in-Replication-2.ensures c.in_ok-n-in-Replication.ensures in
+    subst (λ x. IfOk c.find_replication.result (λ s. Finds c.args.needed s (typed x find c.args.needed))) (sym (ap view.expr w.is ∙ replication_view w.place w.count w.parts))
+    (subst (λ p. IfOk c.find_replication.result (λ s. Finds c.args.needed s (noted c.args.needed w.place (replication_typed p (typed count find true) (typed_parts (view.exprs w.parts.items) find c.args.needed))))) at
+    (c.find_replication.ensures (typed count find true) (typed_parts (view.exprs w.parts.items) find c.args.needed) (subst (λ p. ChecksNumber c.in_ok-n-in-Replication.n (number_of p (typed count find true))) (sym at) checks) finds))
+
+pub find-returns-in_ok-q-in-Choice : goal.find-returns-in_ok-q-in-Choice
+find-returns-in_ok-q-in-Choice g t c =
+    let w = c.in-Choice in
+    let find = g.E.Env.names c.args.env.now in
+    let says = λ (f : Found) (x : Expr). Says c.args.needed f (typed (view.expr x) find c.args.needed) in
+    let all = choice_typed (typed (view.expr w.condition.value) find c.args.needed) (typed (view.expr w.yes.value) find c.args.needed) (typed (view.expr w.no.value) find c.args.needed) in
+    subst (λ x. IfOk c.find_choice.result (λ s. Finds c.args.needed s (typed (view.expr x) find c.args.needed))) (sym w.is)
+    (subst (λ p. IfOk c.find_choice.result (λ s. Finds c.args.needed s (noted c.args.needed p all))) (c.place_of-in-Choice.ensures ∙ ap (λ x. expr_place (view.expr x)) c.deref-in-Choice-4.ensures)
+    (c.find_choice.ensures _ _ _ (subst (says c.in_ok-c-in-Choice.c) c.deref-in-Choice.ensures c.in_ok-c-in-Choice.ensures) (subst (says c.in_ok-p-in-Choice.p) c.deref-in-Choice-2.ensures c.in_ok-p-in-Choice.ensures) (subst (says c.in_ok-q-in-Choice.q) c.deref-in-Choice-3.ensures c.in_ok-q-in-Choice.ensures)))
 
 pub find_selected-returns-in_ok-m-in-Between : goal.find_selected-returns-in_ok-m-in-Between
 find_selected-returns-in_ok-m-in-Between g t c =
@@ -65,11 +169,6 @@ find_selected-returns-in_ok-a-in-Downward g t c =
     (moving_arm c.args.needed false (g.E.Env.names c.args.env.now) (view.name c.args.name.now) c.in-Slice.left.value c.in-Slice.right.value _ _ _ c.place_of-in-Downward.result c.find-named.result c.in_ok-a-in-Downward.a c.in_ok-n-in-Slice.n c.find_moving-in-Downward.result
     c.requires.fair (subst (λ b. Means c.find-named.result (g.E.Env.names c.args.env.now b)) c.as_slice.ensures c.find-named.ensures) c.deref-in-Downward.ensures c.deref-in-Slice.ensures c.deref-in-Downward-2.ensures c.place_of-in-Downward.ensures
     c.in_ok-a-in-Downward.ensures c.in_ok-n-in-Slice.ensures c.find_moving-in-Downward.ensures))
-
-pub find-find_parts-requires-in-Replication : goal.find-find_parts-requires-in-Replication
-find-find_parts-requires-in-Replication g t c κs within =
-    let x = subst (λ e. IsExpr (view.expr e)) c.in-Replication.is c.requires.shaped in
-    (search (rules, expr_rows, the_lemmas), (within, (search (rules, expr_rows, the_lemmas, x.1), c.requires.fair)))
 
 pub find_parts-find-requires : goal.find_parts-find-requires
 find_parts-find-requires g t c κs within =

@@ -1,19 +1,15 @@
-use Rattle.std.proofs.Common.{◌≡◌, ◌==◌, ℕ, Bool, true, false, not, List, [], ◌∷◌, length, nat_le, Option, Some, None, refl, sym, ap, ◌∙◌, subst}
+use Rattle.std.proofs.Common.{◌≡◌, ◌==◌, ◌<◌, ℕ, Bool, List, [], ◌∷◌, length, nat_le, Option, Some, None, refl, sym, subst}
 use Rattle.std.specs.List.{list_any}
 use Rattle.vs_ast.specs.Views as view
 use Rattle.vs_elaborated.specs.Environments.{Env}
 use Rattle.vs_scope.specs.Frames.{view_env}
 use Rattle.vs_scope.specs.Turns.{IsTurned, turned}
-use Rattle.vs_scope.proofs.TurnSteps.{IsTurning, whole, turning_start, turning_more, turning_end}
+use Rattle.vs_scope.proofs.TurnSteps.{IsTurning, whole, turns_left, turn_falls, turning_start, turning_more, turning_end}
 use Rattle.vs_scope.proofs.turns.turns_from.Goals as goal
 
 nothing : (xs : List ℕ) → length xs ≡ 0 → xs ≡ []
 nothing [] h = refl
 nothing (x ∷ xs) h = cc
-
-not_not : (b : Bool) → not (not b) ≡ b
-not_not true = refl
-not_not false = refl
 
 pub loop-next-init : goal.loop-next-init
 loop-next-init c =
@@ -29,14 +25,21 @@ loop-next-preserved c =
     let head = view.generate_head c.args.head.now in
     let env = view_env c.args.here.now in
     let all = whole head c.args.is_same c.args.genvar env c.args.total c.args.first in
-    let again : Bool = not c.in_ok-is_new.is_new in
-    let is_last : Bool = nat_le 4096 (length c.as_slice.result.now) in
-    turning_more head c.args.is_same c.args.genvar env all c.loop-next.values.items c.loop-next.seen.keys c.push_if.new.values.items c.insert.new.self.keys c.loop-next.fault c.first_of-fault.result c.loop-next.count c.in-Some.v c.in_ok-t.t again is_last
+    let again : Bool = list_any (λ (u : ℕ). c.in-Some.v == u) c.loop-next.seen.keys in
+    let is_last : Bool = nat_le 4096 (length c.loop-next.values.items) in
+    turning_more head c.args.is_same c.args.genvar env all c.loop-next.values.items c.loop-next.seen.keys c.one_turn.new.values.items c.one_turn.new.seen.keys c.loop-next.fault c.first_of-fault.result c.loop-next.count c.in-Some.v c.in_ok-t.t again is_last
     (subst (λ (x : Option ℕ). IsTurning head c.args.is_same c.args.genvar env all c.loop-next.values.items c.loop-next.seen.keys c.loop-next.fault c.loop-next.count x) c.in-Some.is c.loop-next.invariant)
-    (ap not c.in_ok-is_new.ensures.added ∙ not_not (list_any (λ (x : ℕ). c.in-Some.v == x) c.loop-next.seen.keys))
-    (ap (λ (x : List ℕ). nat_le 4096 (length x)) c.as_slice.ensures.value)
-    (subst (λ (x : Env). IsTurned c.in_ok-t.t (turned again is_last head c.args.is_same x c.loop-next.count)) c.inside_of-inside.ensures c.in_ok-t.ensures)
-    c.in_ok-push_if.ensures c.in_ok-is_new.ensures.keys c.first_of-fault.ensures
+    refl refl
+    (subst (λ (x : Env). IsTurned c.in_ok-t.t (turned again is_last head c.args.is_same x c.loop-next.count)) c.inside_of-inside.ensures c.in_ok-t.ensures.turned)
+    c.in_ok-t.ensures.values c.in_ok-t.ensures.seen c.first_of-fault.ensures
+
+pub loop-next-smaller : goal.loop-next-smaller
+loop-next-smaller c =
+    let head = view.generate_head c.args.head.now in
+    let again : Bool = list_any (λ (u : ℕ). c.in-Some.v == u) c.loop-next.seen.keys in
+    let is_last : Bool = nat_le 4096 (length c.loop-next.values.items) in
+    subst (λ (x : Option ℕ). turns_left (length c.one_turn.new.values.items) c.in_ok-t.t.next < turns_left (length c.loop-next.values.items) x) (sym c.in-Some.is)
+    (turn_falls c.loop-next.values.items c.one_turn.new.values.items c.in-Some.v c.in_ok-t.t again is_last head c.args.is_same (view_env c.inside_of-inside.result) c.loop-next.count refl c.in_ok-t.ensures.turned c.in_ok-t.ensures.values)
 
 pub returns : goal.returns
 returns c =

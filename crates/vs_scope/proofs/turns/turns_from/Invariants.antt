@@ -1,12 +1,8 @@
-use Rattle.std.proofs.Common.{◌+◌, ◌-◌, ℕ, length, Option, Some, None}
+use Rattle.std.proofs.Common.{length}
 use Rattle.vs_ast.specs.Views as view
 use Rattle.vs_scope.specs.Frames.{view_env}
-use Rattle.vs_scope.proofs.TurnSteps.{IsTurning, whole}
+use Rattle.vs_scope.proofs.TurnSteps.{IsTurning, whole, turns_left}
 use Rattle.vs_scope.proofs.turns.turns_from.Given as goal
-
-abbrev pub turns_left : ℕ → Option ℕ → ℕ
-turns_left n None = 0
-turns_left n (Some v) = 1 + (4096 - n)
 
 abbrev pub invariant-loop-next : goal.invariant-loop-next
 invariant-loop-next l =

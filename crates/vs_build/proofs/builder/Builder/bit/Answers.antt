@@ -1,9 +1,21 @@
-use Rattle.std.proofs.Common.{rules, ◌-◌, ◌∷◌, [], take, length}
+use Rattle.std.proofs.Common.{rules, arith, ◌-◌, ◌∷◌, [], take, length}
 use Rattle.vs_four.specs.Selects.{one_bit}
 use Rattle.vs_flat.specs.declared.expressions.Node.TheVariants as N
 use Rattle.vs_build.proofs.Steps.{step_kept}
 use Rattle.vs_build.proofs.NodeKinds.{select_found, select_enough, select_adds, bit_is, last_added}
 use Rattle.vs_build.proofs.builder.Builder.bit.Goals as goal
+
+pub overflow_sub-n : goal.overflow_sub-n
+overflow_sub-n c = omega (arith, c.len-n.ensures, select_enough c.self.inside.flat c.self.inside.roots.items c.self.inside.bodies.items c.args.self.now (one_bit c.args.range) c.self.view_is c.requires)
+
+pub overflow_sub-n-2 : goal.overflow_sub-n-2
+overflow_sub-n-2 c = omega (arith, c.len-n.ensures, select_enough c.self.inside.flat c.self.inside.roots.items c.self.inside.bodies.items c.args.self.now (one_bit c.args.range) c.self.view_is c.requires)
+
+pub index-index-requires : goal.index-index-requires
+index-index-requires c = omega (arith, c.len-n.ensures, select_enough c.self.inside.flat c.self.inside.roots.items c.self.inside.bodies.items c.args.self.now (one_bit c.args.range) c.self.view_is c.requires)
+
+pub index-of-requires : goal.index-of-requires
+index-of-requires c = omega (arith, c.len-n.ensures, select_enough c.self.inside.flat c.self.inside.roots.items c.self.inside.bodies.items c.args.self.now (one_bit c.args.range) c.self.view_is c.requires)
 
 pub add_over-requires-clause-covered : goal.add_over-requires-clause-covered
 add_over-requires-clause-covered c = (select_found c.self.inside.flat c.self.inside.roots.items c.self.inside.bodies.items c.args.self.now (N.Bit c.index-of.result.now c.args.range c.index-index.result.now) (one_bit c.args.range) c.len-n.result c.index-index.result.now c.index-of.result.now c.args.at c.self.invariant c.self.view_is c.requires (bit_is c.self.inside.flat c.args.range c.index-index.result.now c.index-of.result.now) (search rules) c.index-index.ensures c.index-of.ensures).covers

@@ -1,8 +1,26 @@
-use Rattle.std.proofs.Common.{rules, ◌-◌, ◌∷◌, [], take, length}
+use Rattle.std.proofs.Common.{rules, arith, ◌-◌, ◌∷◌, [], take, length}
 use Rattle.vs_flat.specs.declared.expressions.Node.TheVariants as N
 use Rattle.vs_build.proofs.Steps.{step_kept}
 use Rattle.vs_build.proofs.NodeKinds.{choice_found, choice_adds, with_enough, last_added}
 use Rattle.vs_build.proofs.builder.Builder.choice.Goals as goal
+
+pub overflow_sub-n : goal.overflow_sub-n
+overflow_sub-n c = omega (arith, c.len-n.ensures, with_enough 3 c.self.inside.flat c.self.inside.roots.items c.self.inside.bodies.items c.args.self.now c.self.view_is c.requires)
+
+pub overflow_sub-n-2 : goal.overflow_sub-n-2
+overflow_sub-n-2 c = omega (arith, c.len-n.ensures, with_enough 3 c.self.inside.flat c.self.inside.roots.items c.self.inside.bodies.items c.args.self.now c.self.view_is c.requires)
+
+pub overflow_sub-n-3 : goal.overflow_sub-n-3
+overflow_sub-n-3 c = omega (arith, c.len-n.ensures, with_enough 3 c.self.inside.flat c.self.inside.roots.items c.self.inside.bodies.items c.args.self.now c.self.view_is c.requires)
+
+pub index-c-requires : goal.index-c-requires
+index-c-requires c = omega (arith, c.len-n.ensures, with_enough 3 c.self.inside.flat c.self.inside.roots.items c.self.inside.bodies.items c.args.self.now c.self.view_is c.requires)
+
+pub index-p-requires : goal.index-p-requires
+index-p-requires c = omega (arith, c.len-n.ensures, with_enough 3 c.self.inside.flat c.self.inside.roots.items c.self.inside.bodies.items c.args.self.now c.self.view_is c.requires)
+
+pub index-q-requires : goal.index-q-requires
+index-q-requires c = omega (arith, c.len-n.ensures, with_enough 3 c.self.inside.flat c.self.inside.roots.items c.self.inside.bodies.items c.args.self.now c.self.view_is c.requires)
 
 pub add_over-requires-clause-covered : goal.add_over-requires-clause-covered
 add_over-requires-clause-covered c = (choice_found c.self.inside.flat c.self.inside.roots.items c.self.inside.bodies.items c.args.self.now c.len-n.result c.index-c.result.now c.index-p.result.now c.index-q.result.now c.args.at c.self.invariant c.self.view_is c.requires (search rules) c.index-c.ensures c.index-p.ensures c.index-q.ensures).covers

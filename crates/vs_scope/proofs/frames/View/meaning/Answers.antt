@@ -8,9 +8,9 @@ use Rattle.vs_scope.proofs.frames.View.meaning.Goals as goal
 pub returns-in-Announced : goal.returns-in-Announced
 returns-in-Announced c =
     let e = c.args.e.now in
-    (unknown_signal, ap (λ (d : Declared). declared_meaning (view_env c.args.self.now) e.first.name.now.place (declared d)) c.in-Announced.is, refl, refl, refl, refl)
+    (unknown_signal, ap (λ (d : Declared). declared_meaning (view_env c.args.self.now) e.first.name.now.place (declared d)) c.in-Announced.is, refl, refl, refl, refl, refl)
 
 pub returns-in-Signal : goal.returns-in-Signal
 returns-in-Signal c =
     let e = c.args.e.now in
-    (signal_meaning c.in-Signal.s, ap (λ (d : Declared). declared_meaning (view_env c.args.self.now) e.first.name.now.place (declared d)) c.in-Signal.is, refl, refl, refl, refl)
+    (signal_meaning c.in-Signal.s, ap (λ (d : Declared). declared_meaning (view_env c.args.self.now) e.first.name.now.place (declared d)) c.in-Signal.is, refl, refl, refl, refl, refl)
