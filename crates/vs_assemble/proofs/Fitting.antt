@@ -10,7 +10,7 @@ use Rattle.vs_design.specs.Clocks.{clock_nets}
 use Rattle.vs_design.specs.Levels.{is_level_order}
 use Rattle.vs_design.specs.Laws.{LevelOrderIs}
 use Rattle.vs_design.specs.Footprints.{waits_of, writes_of}
-use Rattle.vs_design.specs.Sizes.{distinct, register_bits, size, sleeper_weight}
+use Rattle.vs_design.specs.Sizes.{distinct, register_bits, sleeper_weight}
 use Rattle.vs_design.specs.Sleepers.{is_sleeping}
 use Rattle.std.proofs.lemmas.List.Sums.{sum_by-cons}
 use Rattle.vs_cone.specs.Cones.{is_port_or}
@@ -46,6 +46,7 @@ pub record PlanFits (d : Design) (settling blocks : List ℕ) : Type 0 where
   pub blocks_there : AreThere d blocks
   pub few_falls : sum_by (may_store d) blocks + sum_by (may_store d) settling ≤ 16777216
   pub few_rises : sum_by (may_store d) blocks ≤ 16777216
+  pub few_registers : distinct (register_bits d.processes) ≤ 16777216
 
 pub plan_fits : StoresFit → LevelOrderIs → (d : Design) (clock : ℕ) → IsAcceptedAt d clock → (order : List ℕ) → is_level_order d order ≡ true
     → (settling blocks registers falling : List ℕ) → IsPlanOf d clock order settling blocks registers falling → PlanFits d settling blocks
@@ -56,6 +57,7 @@ plan_fits fit levels d clock at order ordered settling blocks registers falling 
   few_falls = subst (λ ps. sum_by (may_store d) ps + sum_by (may_store d) settling ≤ 16777216) (sym plan.blocks_are)
       (subst (λ ps. sum_by (may_store d) (clocked d) + sum_by (may_store d) ps ≤ 16777216) (sym plan.settling_are) (omega (arith, fits.fall, at.accepted.small)));
   few_rises = subst (λ ps. sum_by (may_store d) ps ≤ 16777216) (sym plan.blocks_are) (omega (arith, fits.rise, at.accepted.small));
+  few_registers = omega (arith, fits.rise, at.accepted.small);
 }
   where
     within : AreWithin d (may_store d)
@@ -72,7 +74,7 @@ copy_cost l [] = refl
 copy_cost l (b ∷ bs) = let long : length (map home (b ∷ bs)) ≡ length (b ∷ bs) = length-map (b ∷ bs) home in omega (arith, long)
 
 -- the copy makes few stores
-pub copy_small : FewAreApart → (d : Design) (l : Layout) (regs : List ℕ) → AreRegisters d regs → size d ≤ 16777216 → length_of (copy_shadows l regs) ≤ 16777216
+pub copy_small : FewAreApart → (d : Design) (l : Layout) (regs : List ℕ) → AreRegisters d regs → distinct (register_bits d.processes) ≤ 16777216 → length_of (copy_shadows l regs) ≤ 16777216
 copy_small fewer d l regs are small =
     let cost = copy_cost l regs in
     let own = fewer (register_bits d.processes) regs are.once (λ b h. sym (are.has b) ∙ h) in
@@ -104,7 +106,7 @@ sleepers_small d k (x ∷ xs) =
     omega (arith, rest, sum, here))
 
 -- all slots below the temporaries can be numbered
-pub first_low : (d : Design) (l : Layout) (clock : ℕ) → IsAcceptedAt d clock → IsTightLayout d l → l.first_temp ≤ 67108868
-first_low d l clock at tight =
+pub first_low : (d : Design) (l : Layout) (clock : ℕ) → IsAcceptedAt d clock → IsTightLayout d l → distinct (register_bits d.processes) ≤ 16777216 → l.first_temp ≤ 67108868
+first_low d l clock at tight registers =
     let masks = sleepers_small d 0 d.processes in
-    omega (arith, tight.first, masks, at.accepted.small, at.accepted.lawful.few_bits)
+    omega (arith, tight.first, masks, registers, at.accepted.small, at.accepted.lawful.few_bits)

@@ -11,13 +11,13 @@ use Rattle.vs_four.specs.declared.Bit4.TheVariants.{X, Z}
 use Rattle.vs_design.specs.Expressions.{Signal, range_or_one, signal_length}
 use Rattle.vs_design.specs.Values.{count_from, bits_of_signal}
 use Rattle.vs_design.specs.Elaborated.{have_bits_from}
-use Rattle.vs_design.specs.Footprints.{contains, without, signals_bits, is_input, is_net}
+use Rattle.vs_design.specs.Footprints.{contains, without, signals_bits, is_input, is_net, is_memory}
 use Rattle.vs_flat.specs.declared.processes.Signal as F
 use Rattle.vs_flat.specs.Arena.{Arena, bit_count}
 use Rattle.vs_flat.specs.Trees.{signal_of, signals_from}
-use Rattle.vs_flat.specs.DesignOf.{arena_signals}
+use Rattle.vs_flat.specs.DesignOf.{arena_signals, design_of}
 use Rattle.vs_program.specs.declared.compiled.Span.{Span}
-use Rattle.vs_program.specs.Compiled.{span_of}
+use Rattle.vs_program.specs.Compiled.{span_of, shown_signals}
 use Rattle.vs_assemble.specs.Plans.{idle_bits}
 use Rattle.vs_assemble.proofs.Lists.{by_test}
 use Rattle.vs_assemble.proofs.Planned.{count_next}
@@ -108,6 +108,14 @@ spans_more a n s so_far span at is h =
 
 pub spans_all : (a : Arena) (n count : ℕ) (so_far : List Span) → count ≡ length a.signals → count ≤ n → so_far ++ map span_of (drop n (arena_signals a)) ≡ map span_of (arena_signals a) → so_far ≡ map span_of (arena_signals a)
 spans_all a n count so_far is past h = made_all (map span_of) refl (arena_signals a) n so_far (map span_of (arena_signals a)) (past_all a n count is past) h
+
+-- a flat design has no memory
+pub all_shown : (a : Arena) → shown_signals (design_of a) ≡ (design_of a).signals
+all_shown a = from 0 a.signals
+  where
+    from : (k : ℕ) (ss : List F.Signal) → filter (λ s. not (is_memory s)) (signals_from k ss) ≡ signals_from k ss
+    from k [] = refl
+    from k (s ∷ ss) = ap (λ (xs : List Signal). signal_of k s ∷ xs) (from (suc k) ss)
 
 -- ---- the data inputs
 

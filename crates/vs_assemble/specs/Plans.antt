@@ -12,7 +12,7 @@ use Rattle.vs_cone.specs.Counts.{clocked, stores_of}
 use Rattle.vs_program.specs.declared.compiled.Span.{Span}
 use Rattle.vs_program.specs.Lowered.{Layout}
 use Rattle.vs_program.specs.Layouts.{AreRegisters, IsLayoutOf, first_mask, sleepers, slots_of_design}
-use Rattle.vs_program.specs.Compiled.{span_of}
+use Rattle.vs_program.specs.Compiled.{span_of, shown_signals}
 use Rattle.vs_program.specs.Made.{AreClockNets, first_processes}
 use Rattle.vs_assemble.specs.Flags.{HasBitsOf}
 
@@ -61,10 +61,10 @@ idle_bits (s ∷ ss) = replicate (signal_length s) (if is_net s then Z else X) +
 abbrev pub begin_bits : Design → List Bit4
 begin_bits d = (Zero ∷ One ∷ X ∷ Z ∷ []) ++ idle_bits d.signals
 
--- what a program has besides its calls: the design's bits, data inputs, clock nets and signals, and what the bits begin with
+-- what a program has besides its calls: the design's bits, data inputs, clock nets and shown signals, and what the bits begin with
 pub record IsFrameOf (d : Design) (clock : ℕ) (bits : ℕ) (inputs clocks : List ℕ) (initial : List Bit4) (signals : List Span) : Type 0 where
   pub bits_are : bits ≡ bit_count d
   pub inputs_are : inputs ≡ data_bits d clock
   pub clocks_are : AreClockNets d clock clocks
   pub initial_is : initial ≡ begin_bits d
-  pub signals_are : signals ≡ map span_of d.signals
+  pub signals_are : signals ≡ map span_of (shown_signals d)

@@ -39,7 +39,7 @@ pub struct Frame {
     pub clocks: Vec<u32>,
     /// What the slots of the constants and of the bits begin with.
     pub initial: Vec<Bit4>,
-    /// The bits of each signal, by its number.
+    /// The bits of each signal that a waveform shows, in their order: of all but memories.
     pub signals: Vec<Span>,
 }
 

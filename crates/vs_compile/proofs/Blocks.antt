@@ -2,7 +2,7 @@
 use Rattle.std.proofs.Common.{◌≡◌, ℕ, ◌+◌, ◌<◌, ◌≤◌, Bool, true, false, ◌&&◌, ◌||◌, ◌==◌, List, [], ◌∷◌, ◌++◌, if◌then◌else◌, Option, Some, None, refl, sym, ap, ◌∙◌, subst, arith, append-nil, eqb-true}
 use Rattle.std.specs.List.{list_any}
 use Rattle.vs_net.specs.Network as N
-use Rattle.vs_design.specs.Expressions.{Signal, signal_length, BitNot, LogicalNot, Expression, Literal, Name, Select, Unary, Binary, Choice, Join, Repeat, At, is_constant, width, unary_way}
+use Rattle.vs_design.specs.Expressions.{Signal, signal_length, BitNot, LogicalNot, Expression, Literal, Name, Select, Word, Unary, Binary, Choice, Join, Repeat, At, Call, is_constant, width, unary_way}
 use Rattle.vs_design.specs.Values.{left_width}
 use Rattle.vs_design.specs.Statements.{Statement, Empty, Assignment, Then, If, Case}
 use Rattle.vs_design.specs.Designs.{Edge, Any, Posedge, Negedge, Event, Process, Continuous, Always, has_edge, is_clocked, Design}
@@ -64,11 +64,13 @@ named_wide (Name x) s is one = (ap signal_length (some_is x s is) ∙ one, refl)
 named_wide (At place e) s is one = named_wide e s is one
 named_wide (Literal bits signed sized) s is one = cc
 named_wide (Select source part index) s is one = cc
+named_wide (Word signal index) s is one = cc
 named_wide (Unary op a) s is one = cc
 named_wide (Binary op a b) s is one = cc
 named_wide (Choice c p q) s is one = cc
 named_wide (Join high low) s is one = cc
 named_wide (Repeat count a) s is one = cc
+named_wide (Call header statement arguments) s is one = cc
 
 inverted_heavy : (e : Expression) (s : Signal) → inverted e ≡ Some s → signal_length s ≡ 1 → 2 ≤ width e + weight e (width e)
 inverted_heavy (Unary BitNot a) s is one =
@@ -86,10 +88,12 @@ inverted_heavy (Unary _ a) s is one = cc
 inverted_heavy (Name x) s is one = cc
 inverted_heavy (Literal bits signed sized) s is one = cc
 inverted_heavy (Select source part index) s is one = cc
+inverted_heavy (Word signal index) s is one = cc
 inverted_heavy (Binary op a b) s is one = cc
 inverted_heavy (Choice c p q) s is one = cc
 inverted_heavy (Join high low) s is one = cc
 inverted_heavy (Repeat count a) s is one = cc
+inverted_heavy (Call header statement arguments) s is one = cc
 
 condition_heavy : (edge : Edge) (b : ℕ) (c : Expression) → is_condition edge b c ≡ true → 1 + inverse_weight (net_edge edge) ≤ width c + weight c (width c)
 condition_heavy Posedge b c h = let r = one_wide b (name_of c) h in let w = named_wide c r.0 r.1 r.2 in omega (arith, w.0)

@@ -3,7 +3,7 @@ use Rattle.std.proofs.Common.{◌≡◌, ℕ, suc, ◌+◌, ◌≤◌, Bool, tru
 use Rattle.std.specs.Prelude.{slice_index, sum_by}
 use Rattle.std.proofs.lemmas.List.Sums.{sum_by-cons}
 use Rattle.vs_design.specs.Designs.{Process, Design, bit_count}
-use Rattle.vs_design.specs.Footprints.{contains, waits_of, writes_of}
+use Rattle.vs_design.specs.Footprints.{contains, memory_bits, waits_of, writes_of}
 use Rattle.vs_design.specs.Sizes.{distinct, register_bits, sleeper_weight}
 use Rattle.vs_design.specs.Sleepers.{is_sleeping}
 use Rattle.vs_cone.specs.Lists.{FewAreApart}
@@ -12,7 +12,7 @@ use Rattle.vs_program.specs.Lowered.{Layout, home}
 use Rattle.vs_program.specs.Layouts.{AreRegisters, IsLayoutOf, LayoutsFit, first_mask, layout_of, sleepers, sleepers_from}
 use Rattle.vs_assemble.specs.Plans.{IsTightLayout}
 use Rattle.vs_compile.specs.Laid.{HasPlaces, IsTable}
-use Rattle.vs_compile.proofs.Lists.{by_test, distinct_within}
+use Rattle.vs_compile.proofs.Lists.{by_test, distinct_left, distinct_within}
 
 pub register_count : FewAreApart → (d : Design) (regs : List ℕ) → AreRegisters d regs → length regs ≡ distinct (register_bits d.processes)
 register_count few d regs are =
@@ -66,9 +66,13 @@ sleepers_small d k (x ∷ xs) =
     omega (arith, rest, sum, here))
 
 pub few_registers : FewAreApart → (d : Design) (clock : ℕ) → IsAcceptedAt d clock → (regs : List ℕ) → AreRegisters d regs → length regs ≤ 16777216
-few_registers few d clock at regs are = let own = register_count few d regs are in omega (arith, own, at.accepted.small)
+few_registers few d clock at regs are =
+    let own = register_count few d regs are in
+    let left = distinct_left (register_bits d.processes) (memory_bits d) in
+    omega (arith, own, left, at.accepted.small)
 
 pub first_low : (d : Design) (l : Layout) (clock : ℕ) → IsAcceptedAt d clock → IsTightLayout d l → l.first_temp ≤ 67108868
 first_low d l clock at tight =
     let rest = sleepers_small d 0 d.processes in
-    omega (arith, tight.first, rest, at.accepted.small, at.accepted.lawful.few_bits)
+    let left = distinct_left (register_bits d.processes) (memory_bits d) in
+    omega (arith, tight.first, rest, left, at.accepted.small, at.accepted.lawful.few_bits)

@@ -178,3 +178,28 @@ place_at (c ∷ bs) (suc k) apart h =
     let low : k < length bs = omega (arith, h) in
     let other = differ bs c (get_or bs k 0) apart.0 (member_at bs k low) in
     ap (λ (z : Bool). if z then 0 else suc (place_of bs (get_or bs k 0))) other ∙ ap suc (place_at bs k apart.1 low)
+
+-- ---- more numbers, of which no fewer are different
+
+-- each number of a list once
+once_each : List ℕ → List ℕ
+once_each [] = []
+once_each (x ∷ xs) = if contains xs x then once_each xs else (x ∷ once_each xs)
+
+once_has : (xs : List ℕ) (c : ℕ) → contains xs c ≡ true → contains (once_each xs) c ≡ true
+unfolding once_each
+once_has [] c h = cc
+once_has (x ∷ xs) c h =
+    by_test (contains xs x)
+    (λ e. rw e (by_test (c == x) (λ k. once_has xs c (ap (contains xs) (eqb-true c x k) ∙ e)) (λ k. once_has xs c (sym (ap (λ (u : Bool). u || contains xs c) k) ∙ h))))
+    (λ e. rw e (by_test (c == x) (λ k. ap (λ (u : Bool). u || contains (once_each xs) c) k) (λ k. ap (λ (u : Bool). u || contains (once_each xs) c) k ∙ once_has xs c (sym (ap (λ (u : Bool). u || contains xs c) k) ∙ h))))
+
+once_length : (xs : List ℕ) → length (once_each xs) ≡ distinct xs
+unfolding once_each
+once_length [] = refl
+once_length (x ∷ xs) = let rest = once_length xs in by_test (contains xs x) (λ e. rw e (omega (arith, rest))) (λ e. rw e (omega (arith, rest)))
+
+pub distinct_left : (xs ys : List ℕ) → distinct xs ≤ distinct (xs ++ ys)
+distinct_left xs ys =
+    let within = distinct_within xs (once_each (xs ++ ys)) (λ b h. once_has (xs ++ ys) b (contains-append xs ys b ∙ ap (λ (u : Bool). u || contains ys b) h)) in
+    omega (arith, within, once_length (xs ++ ys))

@@ -2,8 +2,8 @@
 use Rattle.std.proofs.Common.{◌≡◌, ℕ, Bool, true, false, not, ◌&&◌, ◌||◌, ◌==◌, List, [], ◌∷◌, ◌++◌, length, Option, Some, None, if◌then◌else◌, sym, ap, ◌∙◌, refl, eqb-true, eq-eqb}
 use Rattle.std.specs.List.{list_any}
 use Rattle.std.proofs.lemmas.Bool.{both_ways}
-use Rattle.vs_design.specs.Expressions.{Expression, Signal, signal_length, Literal, Name, Select, Unary, Binary, Choice, Join, Repeat, At}
-use Rattle.vs_design.specs.Statements.{Whole, PartOf, Both}
+use Rattle.vs_design.specs.Expressions.{Expression, Signal, signal_length, Literal, Name, Select, Word, Unary, Binary, Choice, Join, Repeat, At, Call}
+use Rattle.vs_design.specs.Statements.{Whole, PartOf, WordOf, Both}
 use Rattle.vs_design.specs.Values.{bits_of_signal, count_from}
 use Rattle.vs_design.specs.Designs.{Process, Continuous, Always, Written, InputPort, OutputPort}
 use Rattle.vs_design.specs.Footprints.{contains, read_bits}
@@ -20,11 +20,13 @@ name_reads (Name signal) s h = let same : signal ≡ s = some_is signal s h in a
 name_reads (At place e) s h = name_reads e s h
 name_reads (Literal bits signed sized) s h = cc
 name_reads (Select source part index) s h = cc
+name_reads (Word signal index) s h = cc
 name_reads (Unary op a) s h = cc
 name_reads (Binary op a b) s h = cc
 name_reads (Choice c p q) s h = cc
 name_reads (Join high low) s h = cc
 name_reads (Repeat count a) s h = cc
+name_reads (Call header statement arguments) s h = cc
 
 one_bit : (s : Signal) → signal_length s ≡ 1 → contains (bits_of_signal s) s.first ≡ true
 one_bit s one = ap (λ n. contains (count_from s.first n) s.first) one ∙ ap (λ c. c || false) (eq-eqb s.first s.first refl)
@@ -53,6 +55,7 @@ port_needs nets (Continuous place InputPort target_place (Whole signal) e) h = o
         named.1)
         (λ k. absurd (both_ways (is_clock_port nets (Continuous place InputPort target_place (Whole signal) e)) (none_left (Some source) k is) h))
 port_needs nets (Continuous place InputPort target_place (PartOf signal part index) e) h = cc
+port_needs nets (Continuous place InputPort target_place (WordOf signal index) e) h = cc
 port_needs nets (Continuous place InputPort target_place (Both high low) e) h = cc
 port_needs nets (Continuous place Written target_place target e) h = cc
 port_needs nets (Continuous place OutputPort target_place target e) h = cc

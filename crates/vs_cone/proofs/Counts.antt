@@ -8,9 +8,9 @@ use Rattle.vs_net.specs.Lawful.{IsLawful}
 use Rattle.vs_net.specs.Network.{writes}
 use Rattle.vs_design.specs.Expressions.{Signal, signal_length}
 use Rattle.vs_design.specs.Values.{count_from, bits_of_signal}
-use Rattle.vs_design.specs.Statements.{Whole, PartOf, Both}
+use Rattle.vs_design.specs.Statements.{Whole, PartOf, WordOf, Both}
 use Rattle.vs_design.specs.Designs.{Process, Continuous, Always, Written, InputPort, OutputPort, is_clocked, Design, top_inputs}
-use Rattle.vs_design.specs.Footprints.{contains, without, signals_bits, input_bits, writes_of}
+use Rattle.vs_design.specs.Footprints.{contains, without, signals_bits, input_bits, memory_bits, writes_of}
 use Rattle.vs_design.specs.Clocks.{name_of, is_one_of, port_target, port_targets, nets_within, clock_nets, is_clock_port}
 use Rattle.vs_design.specs.Sizes.{distinct, process_weight, register_bits, sleeper_weight}
 use Rattle.vs_design.specs.Cycles.{AreApart}
@@ -21,6 +21,7 @@ use Rattle.vs_cone.specs.Given.{data_bits}
 use Rattle.vs_cone.specs.Counts.{clocked_from, stores_of, AreWithin, StoresFit}
 use Rattle.vs_cone.proofs.Writes.{by_test}
 use Rattle.vs_cone.proofs.Processes.{in_left, in_right, contains-append, process_number, writes_are}
+use Rattle.vs_cone.proofs.Lists.{distinct_more}
 use Rattle.vs_cone.proofs.Given.{register_block, clock_input_bit}
 
 -- ---- sums over parts of a list
@@ -120,6 +121,7 @@ target_same nets more sub (Continuous place InputPort target_place (Whole signal
     inr (ap (λ (c : Bool). if c then (signal.first ∷ []) else []) (h ∙ sym also)))
     (λ h. inl (ap (λ (c : Bool). if c then (signal.first ∷ []) else []) h))
 target_same nets more sub (Continuous place InputPort target_place (PartOf signal part index) e) = inl refl
+target_same nets more sub (Continuous place InputPort target_place (WordOf signal index) e) = inl refl
 target_same nets more sub (Continuous place InputPort target_place (Both high low) e) = inl refl
 target_same nets more sub (Continuous place Written target_place target e) = inl refl
 target_same nets more sub (Continuous place OutputPort target_place target e) = inl refl
@@ -193,6 +195,7 @@ each_weighs d nets (Continuous place InputPort target_place (Whole signal) e) =
     rw h (omega (arith, one)))
     (λ h. rw h (omega arith))
 each_weighs d nets (Continuous place InputPort target_place (PartOf signal part index) e) = omega arith
+each_weighs d nets (Continuous place InputPort target_place (WordOf signal index) e) = omega arith
 each_weighs d nets (Continuous place InputPort target_place (Both high low) e) = omega arith
 each_weighs d nets (Continuous place Written target_place target e) = omega arith
 each_weighs d nets (Continuous place OutputPort target_place target e) = omega arith
@@ -343,9 +346,10 @@ stores_fit lawful levels d name a order ordered stores resets within resetting =
     let zeroed = clocked_fit d resets 0 d.processes (λ j x e. subst (λ n. resets n ≤ stores_of d x) (zero_add j) (resetting.each j x e)) in
     let bits = bits_fit d.processes (sole L) in
     let inputs = inputs_count d a.clock.first (clock_input_bit d name a.clock a.clock_found) in
+    let registers = distinct_more (register_bits d.processes) (register_bits d.processes ++ memory_bits d) (λ b h. in_left (register_bits d.processes) (memory_bits d) b h) in
     record {
-      fall = omega (arith, nets, own, apart, weighed, zeroed, bits, inputs);
-      rise = omega (arith, nets, own, apart, weighed, blocks, bits, inputs);
+      fall = omega (arith, nets, own, apart, weighed, zeroed, bits, inputs, registers);
+      rise = omega (arith, nets, own, apart, weighed, blocks, bits, inputs, registers);
       cones = λ changed. cones_fit d stores changed (but_ports d a.clock.first order);
     }
   where

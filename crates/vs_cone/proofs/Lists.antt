@@ -97,6 +97,43 @@ no_more (b ∷ bs) xs h all =
 pub few_are_apart : FewAreApart
 few_are_apart all bits apart own = no_more all bits apart own
 
+-- each number of a list once
+once_each : List ℕ → List ℕ
+once_each [] = []
+once_each (x ∷ xs) = if contains xs x then once_each xs else (x ∷ once_each xs)
+
+once_among : (xs : List ℕ) (c : ℕ) → contains (once_each xs) c ≡ true → contains xs c ≡ true
+unfolding once_each
+once_among [] c h = cc
+once_among (x ∷ xs) c h =
+    by_test (contains xs x)
+    (λ e. in_rest x xs c (once_among xs c (subst (λ (z : Bool). contains (if z then once_each xs else (x ∷ once_each xs)) c ≡ true) e h)))
+    (λ e.
+    first_or x (once_each xs) c (subst (λ (z : Bool). contains (if z then once_each xs else (x ∷ once_each xs)) c ≡ true) e h)
+    (λ is. subst (λ z. contains (x ∷ xs) z ≡ true) (sym is) (in_first x xs))
+    (λ k. in_rest x xs c (once_among xs c k)))
+
+once_apart : (xs : List ℕ) → AreApart (once_each xs)
+unfolding once_each
+once_apart [] = tt
+once_apart (x ∷ xs) =
+    by_test (contains xs x)
+    (λ e. subst (λ (z : Bool). AreApart (if z then once_each xs else (x ∷ once_each xs))) (sym e) (once_apart xs))
+    (λ e.
+    subst (λ (z : Bool). AreApart (if z then once_each xs else (x ∷ once_each xs))) (sym e)
+    (by_test (contains (once_each xs) x) (λ k. absurd (both_ways (contains xs x) e (once_among xs x k))) (λ k. k), once_apart xs))
+
+once_length : (xs : List ℕ) → length (once_each xs) ≡ distinct xs
+unfolding once_each
+once_length [] = refl
+once_length (x ∷ xs) = let rest = once_length xs in by_test (contains xs x) (λ e. rw e (omega (arith, rest))) (λ e. rw e (omega (arith, rest)))
+
+-- of more numbers no fewer are different
+pub distinct_more : (xs bs : List ℕ) → ((c : ℕ) → contains xs c ≡ true → contains bs c ≡ true) → distinct xs ≤ distinct bs
+distinct_more xs bs all =
+    let few = no_more bs (once_each xs) (once_apart xs) (λ c h. all c (once_among xs c h)) in
+    omega (arith, few, once_length xs)
+
 -- numbers in order are different
 counted_low : (test : ℕ → Bool) (k n b : ℕ) → b < k → contains (filter test (count_from k n)) b ≡ false
 counted_low test k zero b l = refl

@@ -1,6 +1,6 @@
 -- The arms of a case, in whichever environment its block writes.
 use Rattle.std.proofs.Common.{◌≡◌, ℕ, zero, suc, ◌+◌, ◌<◌, ◌≤◌, Bool, true, false, ◌&&◌, ◌-◌, List, [], ◌∷◌, ◌++◌, map, drop, get_or, length, slice_index, Some, Option, refl, sym, ap, ◌∙◌, subst, arith, append-nil}
-use Rattle.std.specs.List.{All, list_all}
+use Rattle.std.specs.List.{All}
 use Rattle.std.specs.Prelude.{slice_get}
 use Rattle.std.specs.List.Sorted.{IsStrictlyIncreasing}
 use Rattle.std.proofs.lemmas.List.{drop_more, length-map}
@@ -8,8 +8,8 @@ use Rattle.std.proofs.lemmas.List.Elements.{All-nil, All-cons, All-weaker}
 use Rattle.std.proofs.lemmas.List.Sums.{sum_by-append}
 use Rattle.vs_four.specs.Logic.{BitList}
 use Rattle.vs_net.specs.Network as N
-use Rattle.vs_design.specs.Expressions.{Expression}
-use Rattle.vs_design.specs.Fits.{is_fit, fits_statement, fits_arms}
+use Rattle.vs_design.specs.Expressions.{Expression, items_of, width}
+use Rattle.vs_design.specs.Fits.{is_fit, fit_items, fits_statement, fits_arms}
 use Rattle.vs_design.specs.Footprints.{contains, statement_bits, arms_bits}
 use Rattle.vs_design.specs.Rules.{mixed_in, mixed_in_arms}
 use Rattle.vs_design.specs.Sizes.{distinct, items_weight, statement_weight, arms_weight}
@@ -27,7 +27,7 @@ use Rattle.vs_values.specs.Coded.{Coding}
 use Rattle.vs_values.specs.Environments.{placed}
 use Rattle.vs_lower.specs.Joined.{IsJoined, differing_bits, join_args}
 use Rattle.vs_values.specs.Made.{IsCallable}
-use Rattle.vs_lower.specs.Stated.{IsStatementReady, AddsArm, AddsArms, AddsBranch, AddsCases, AddsStatement, AreAmong, AreArmsReady, AreInOrder, IsArmReady}
+use Rattle.vs_lower.specs.Stated.{IsStatementReady, AddsArm, AddsArms, AddsBranch, AddsCases, AddsStatement, AreAmong, AreArmsReady, AreInOrder, IsArmReady, listed}
 use Rattle.vs_lower.specs.Tested.{AddsTests}
 use Rattle.vs_values.proofs.Adding.{env_more}
 use Rattle.vs_lower.proofs.Branched.{statement_kept, written_long}
@@ -51,11 +51,18 @@ rest_none : (xs ys : List ℕ) → (xs ++ ys) ≡ [] → ys ≡ []
 rest_none [] ys h = h
 rest_none (x ∷ xs) ys h = cc
 
-pub all_true : (p : Expression → Bool) (es : List Expression) → list_all p es ≡ true → All (λ e. p e ≡ true) es
-all_true p [] h = All-nil (λ e. p e ≡ true)
-all_true p (e ∷ es) h = let q = both_true (p e) (list_all p es) h in All-cons (λ e. p e ≡ true) e es q.0 (all_true p es q.1)
+pub all_fit : (es : List Expression) → fit_items (items_of es) ≡ true → All (λ e. is_fit e ≡ true) es
+all_fit [] h = All-nil (λ e. is_fit e ≡ true)
+all_fit (e ∷ es) h = let q = both_true (is_fit e) (fit_items (items_of es)) h in All-cons (λ e. is_fit e ≡ true) e es q.0 (all_fit es q.1)
 
-items_count : (es : List Expression) (w : ℕ) → length es ≤ items_weight es w
+all_listed : (w : ℕ) (es : List Expression) → All (λ e. width e ≤ w) (listed (items_of es)) → All (λ e. width e ≤ w) es
+all_listed w es h = subst (All (λ e. width e ≤ w)) (same es) h
+  where
+    same : (es : List Expression) → listed (items_of es) ≡ es
+    same [] = refl
+    same (e ∷ es) = ap (λ (xs : List Expression). e ∷ xs) (same es)
+
+items_count : (es : List Expression) (w : ℕ) → length es ≤ items_weight (items_of es) w
 items_count [] w = omega arith
 items_count (e ∷ es) w = omega (arith, items_count es w)
 
@@ -86,7 +93,7 @@ arms_grown clocked now later subject old new kind w s many arms bits slots o =
     let total = total_of old new d.calls d.is in
     record { grown = d.done.added.grown; slots = omega (arith, d.done.added.paid, d.done.added.stores); stores = omega (arith, total, d.done.added.stores) }
 
-pub tests_grown : (now subject : List ℕ) (old new : Coding) (kind : CaseKind) (w : ℕ) (s : Bool) (items : List Expression) (ms : List ℕ) → AddsTests now subject old new kind w s items ms → HasGrown old new (items_weight items w)
+pub tests_grown : (now subject : List ℕ) (old new : Coding) (kind : CaseKind) (w : ℕ) (s : Bool) (items : List Expression) (ms : List ℕ) → AddsTests now subject old new kind w s items ms → HasGrown old new (items_weight (items_of items) w)
 tests_grown now subject old new kind w s items ms x =
     let d = x.condition any in
     let total = total_of old new x.calls x.is in
@@ -101,7 +108,7 @@ statement_grown now later old new st now1 later1 d =
 
 -- what stands behind an arm needs no more
 pub ready_behind : (count : ℕ) (now later subject : List ℕ) (code : Coding) (clocked : Bool) (w many : ℕ) (items : List Expression) (st : Statement) (rest : Arms)
-    → AreArmsReady count now later subject code clocked w many (Arm items st rest) → AreArmsReady count now later subject code clocked w many rest
+    → AreArmsReady count now later subject code clocked w many (Arm (items_of items) st rest) → AreArmsReady count now later subject code clocked w many rest
 ready_behind count now later subject code clocked w many items st rest r = record {
   now_env = r.now_env;
   later_env = r.later_env;
@@ -112,7 +119,7 @@ ready_behind count now later subject code clocked w many items st rest r = recor
   some = r.some;
   at_most_64 = r.at_most_64;
   wide = r.wide.1;
-  fit = (both_true (list_all is_fit items && fits_statement st) (fits_arms rest) r.fit).1;
+  fit = (both_true (fit_items (items_of items) && fits_statement st) (fits_arms rest) r.fit).1;
   unmixed = rest_none (mixed_in clocked st) (mixed_in_arms clocked rest) r.unmixed;
   slots = omega (arith, r.slots);
   few = omega (arith, r.few);
@@ -150,7 +157,7 @@ default_cases clocked now later subject old new kind w s many st bits slots b = 
 
 -- an arm, after what stands behind it
 pub ready_arm : (count : ℕ) (now later subject : List ℕ) (c0 c1 : Coding) (clocked : Bool) (kind : CaseKind) (w : ℕ) (s : Bool) (writes : List ℕ) (items : List Expression) (st : Statement) (rest : Arms) (bits behind : List ℕ)
-    → AreArmsReady count now later subject c0 clocked w (distinct writes) (Arm items st rest) → 1 ≤ length items → AreInOrder count bits writes
+    → AreArmsReady count now later subject c0 clocked w (distinct writes) (Arm (items_of items) st rest) → 1 ≤ length items → AreInOrder count bits writes
     → AddsCases clocked now later subject c0 c1 kind w s (distinct writes) rest bits behind
     → IsArmReady count now later subject c1 clocked w items st bits behind
 ready_arm count now later subject c0 c1 clocked kind w s writes items st rest bits behind r some i o =
@@ -158,8 +165,8 @@ ready_arm count now later subject c0 c1 clocked kind w s writes items st rest bi
     let k = arms_kept clocked now later subject c0 c1 kind w s (distinct writes) rest bits behind o in
     let env = written clocked o.now_after o.later_after in
     let long : length env ≡ count = k.long ∙ written_long clocked count now later r.now_bits r.later_bits in
-    let x = both_true (list_all is_fit items && fits_statement st) (fits_arms rest) r.fit in
-    let y = both_true (list_all is_fit items) (fits_statement st) x.0 in
+    let x = both_true (fit_items (items_of items) && fits_statement st) (fits_arms rest) r.fit in
+    let y = both_true (fit_items (items_of items)) (fits_statement st) x.0 in
     let most = distinct_most writes bits (rising_once bits i.rising) i.alone in
     record {
       now_env = env_more now c0.next c1.next g.grown r.now_env;
@@ -171,8 +178,8 @@ ready_arm count now later subject c0 c1 clocked kind w s writes items st rest bi
       some = r.some;
       at_most_64 = r.at_most_64;
       items_some = some;
-      items_fit = all_true is_fit items y.0;
-      items_wide = r.wide.0;
+      items_fit = all_fit items y.0;
+      items_wide = all_listed w items r.wide.0;
       fit = y.1;
       unmixed = first_none (mixed_in clocked st) (mixed_in_arms clocked rest) r.unmixed;
       behind_long = sym (ap (λ (xs : List ℕ). length xs) o.are ∙ length-map bits (slice_index env));
@@ -217,7 +224,7 @@ behind_placed clocked count now later subject old new kind w s many arms bits sl
 
 -- what is joined
 pub arm_joins : (clocked : Bool) (count : ℕ) (now later subject : List ℕ) (c0 c1 c4 : Coding) (kind : CaseKind) (w : ℕ) (s : Bool) (writes : List ℕ) (items : List Expression) (st : Statement) (rest : Arms) (bits behind slots : List ℕ)
-    → AreArmsReady count now later subject c0 clocked w (distinct writes) (Arm items st rest) → 1 ≤ length items → AreInOrder count bits writes → AreAmong (statement_bits st ++ arms_bits rest) writes
+    → AreArmsReady count now later subject c0 clocked w (distinct writes) (Arm (items_of items) st rest) → 1 ≤ length items → AreInOrder count bits writes → AreAmong (statement_bits st ++ arms_bits rest) writes
     → (o : AddsCases clocked now later subject c0 c1 kind w s (distinct writes) rest bits behind)
     → (a : AddsArm clocked now later subject c1 c4 kind w s items st bits behind slots)
     → (differing_bits bits (picked (written clocked a.branch.now_after a.branch.later_after) bits) (written clocked o.now_after o.later_after) ≡ [] → ⊥)
@@ -240,10 +247,10 @@ arm_joins clocked count now later subject c0 c1 c4 kind w s writes items st rest
     (omega (arith, r.slots, g1.slots, g2.slots, g3.slots)) (omega (arith, r.few, g1.stores, g2.stores, g3.stores))
 
 pub adds_arm : (clocked : Bool) (count : ℕ) (now later subject : List ℕ) (c0 c1 c4 : Coding) (kind : CaseKind) (w : ℕ) (s : Bool) (writes : List ℕ) (items : List Expression) (st : Statement) (rest : Arms) (bits behind slots : List ℕ)
-    → AreArmsReady count now later subject c0 clocked w (distinct writes) (Arm items st rest) → 1 ≤ length items → AreInOrder count bits writes → AreAmong (statement_bits st ++ arms_bits rest) writes
+    → AreArmsReady count now later subject c0 clocked w (distinct writes) (Arm (items_of items) st rest) → 1 ≤ length items → AreInOrder count bits writes → AreAmong (statement_bits st ++ arms_bits rest) writes
     → AddsCases clocked now later subject c0 c1 kind w s (distinct writes) rest bits behind
     → AddsArm clocked now later subject c1 c4 kind w s items st bits behind slots
-    → AddsCases clocked now later subject c0 c4 kind w s (distinct writes) (Arm items st rest) bits slots
+    → AddsCases clocked now later subject c0 c4 kind w s (distinct writes) (Arm (items_of items) st rest) bits slots
 adds_arm false count now later subject c0 c1 c4 kind w s writes items st rest bits behind slots r some i among o a =
     let b = a.branch in
     let placed_is = behind_placed false count now later subject c0 c1 kind w s (distinct writes) rest bits behind r.now_bits r.later_bits i.inside (λ c h. i.all c (right_among (statement_bits st) (arms_bits rest) writes among c h)) o in
@@ -344,7 +351,7 @@ pub record ArmAt (a : Arena) (s : ℕ) (other : Option ℕ) (arms : List F.Arm) 
   pub items : All (λ e. e < length a.nodes) arm.items
   pub statement : arm.statement < s
   pub some : 1 ≤ length arm.items
-  pub tree : arms_tree (tree_of a) (body_of a) other (drop n arms) ≡ Arm (map (tree_of a) arm.items) (body_of a arm.statement) (arms_tree (tree_of a) (body_of a) other (drop (n + 1) arms))
+  pub tree : arms_tree (tree_of a) (body_of a) other (drop n arms) ≡ Arm (items_of (map (tree_of a) arm.items)) (body_of a arm.statement) (arms_tree (tree_of a) (body_of a) other (drop (n + 1) arms))
 
 pub arm_there : (a : Arena) (s : ℕ) (other : Option ℕ) (arms : List F.Arm) (n : ℕ) (d : F.Arm) → n < length arms → EachArmNames (length a.nodes) s arms → All (λ (arm : F.Arm). 1 ≤ length arm.items) arms → ArmAt a s other arms n (get_or arms n d)
 arm_there a s other arms n d l names some =
@@ -440,10 +447,10 @@ branch_among tree st other (a ∷ arms) b h =
 pub items_are_fit : (tree : ℕ → Expression) (st : ℕ → Statement) (other : Option ℕ) (arms : List F.Arm) → fits_arms (arms_tree tree st other arms) ≡ true → All (λ (arm : F.Arm). All (λ e. is_fit (tree e) ≡ true) arm.items) arms
 items_are_fit tree st other [] h = All-nil (λ (arm : F.Arm). All (λ e. is_fit (tree e) ≡ true) arm.items)
 items_are_fit tree st other (a ∷ arms) h =
-    let x = both_true (list_all is_fit (map tree a.items) && fits_statement (st a.statement)) (fits_arms (arms_tree tree st other arms)) h in
-    let y = both_true (list_all is_fit (map tree a.items)) (fits_statement (st a.statement)) x.0 in
+    let x = both_true (fit_items (items_of (map tree a.items)) && fits_statement (st a.statement)) (fits_arms (arms_tree tree st other arms)) h in
+    let y = both_true (fit_items (items_of (map tree a.items))) (fits_statement (st a.statement)) x.0 in
     All-cons (λ (arm : F.Arm). All (λ e. is_fit (tree e) ≡ true) arm.items) a arms (each_fit a.items y.0) (items_are_fit tree st other arms x.1)
   where
-    each_fit : (es : List ℕ) → list_all is_fit (map tree es) ≡ true → All (λ e. is_fit (tree e) ≡ true) es
+    each_fit : (es : List ℕ) → fit_items (items_of (map tree es)) ≡ true → All (λ e. is_fit (tree e) ≡ true) es
     each_fit [] k = All-nil (λ e. is_fit (tree e) ≡ true)
-    each_fit (e ∷ es) k = let q = both_true (is_fit (tree e)) (list_all is_fit (map tree es)) k in All-cons (λ e. is_fit (tree e) ≡ true) e es q.0 (each_fit es q.1)
+    each_fit (e ∷ es) k = let q = both_true (is_fit (tree e)) (fit_items (items_of (map tree es))) k in All-cons (λ e. is_fit (tree e) ≡ true) e es q.0 (each_fit es q.1)

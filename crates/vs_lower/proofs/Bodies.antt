@@ -3,7 +3,7 @@ use Rattle.std.proofs.Common.{ℕ, ◌+◌, ◌<◌, Bool, List, [], ◌∷◌, 
 use Rattle.std.specs.List.{All, range_with_len}
 use Rattle.vs_four.specs.Logic.{BitList}
 use Rattle.vs_net.specs.Network as N
-use Rattle.vs_design.specs.Expressions.{Expression, width, sign}
+use Rattle.vs_design.specs.Expressions.{Expression, width, sign, items_of}
 use Rattle.vs_design.specs.Values.{value, own_value}
 use Rattle.vs_design.specs.Statements.{CaseKind, Statement, Empty, Then, If, Case, Arms, Arm, Default, case_width, case_sign}
 use Rattle.vs_design.specs.Bodies.{body, arms_body}
@@ -59,31 +59,31 @@ default_done now later tv m kind w s sv written st c now1 later1 n o = done_with
 pub arm_done_now : (now later tv : List ℕ) (m : ℕ) (kind : CaseKind) (w : ℕ) (s : Bool) (sv : N.State → BitList) (written : ℕ) (items : List Expression) (st : Statement) (rest : Arms)
     → (cc : List Call) (tc : List ℕ) (n : ℕ) (ct : List Call) (now1 : List ℕ) (n1 : ℕ) (co : List Call) (now2 : List ℕ) (n2 : ℕ) (js : List ℕ)
     → IsEnv now m → IsEnv later m → All (λ slot. slot < m) tv
-    → IsCondition now tv sv n2 cc tc n (items_weight items w) (λ state. matches_of kind w s (sv state) items state)
+    → IsCondition now tv sv n2 cc tc n (items_weight (items_of items) w) (λ state. matches_of kind w s (sv state) items state)
     → IsStatementDone now later n st ct now1 later n1
     → IsDone now later tv sv m (λ state. arms_body rest kind w s (sv state) state) (arms_bits rest) (arms_weight rest w written) co now2 later n2
     → IsJoin now1 now2 (statement_bits st) (arms_bits rest) js (join_call tc now1 now2 js n1) written
-    → IsDone now later tv sv m (λ state. arms_body (Arm items st rest) kind w s (sv state) state) (arms_bits (Arm items st rest)) (arms_weight (Arm items st rest) w written)
+    → IsDone now later tv sv m (λ state. arms_body (Arm (items_of items) st rest) kind w s (sv state) state) (arms_bits (Arm (items_of items) st rest)) (arms_weight (Arm (items_of items) st rest) w written)
     (((co ++ cc) ++ ct) ++ join_call tc now1 now2 js n1 ∷ []) (placed now2 (map Some js) (range_with_len n1 (length js))) later (n1 + length js)
 arm_done_now now later tv m kind w s sv written items st rest cc tc n ct now1 n1 co now2 n2 js e f low c t o j =
-    done_as now later tv sv m _ (λ state. arms_body (Arm items st rest) kind w s (sv state) state) (statement_bits st ++ arms_bits rest) (arms_weight rest w written + items_weight items w + statement_weight st + written) (arms_weight (Arm items st rest) w written) _ _ _ _
+    done_as now later tv sv m _ (λ state. arms_body (Arm (items_of items) st rest) kind w s (sv state) state) (statement_bits st ++ arms_bits rest) (arms_weight rest w written + items_weight (items_of items) w + statement_weight st + written) (arms_weight (Arm (items_of items) st rest) w written) _ _ _ _
     (λ state. ap (λ (b : Bool). if b then body st state else arms_body rest kind w s (sv state) state) (taken_is kind w s (sv state) items state)) (omega arith)
-    (done_arm_now now later tv sv m (λ state. matches_of kind w s (sv state) items state) cc tc n (items_weight items w) (body st) (statement_bits st) (statement_weight st) ct now1 n1
+    (done_arm_now now later tv sv m (λ state. matches_of kind w s (sv state) items state) cc tc n (items_weight (items_of items) w) (body st) (statement_bits st) (statement_weight st) ct now1 n1
     (λ state. arms_body rest kind w s (sv state) state) (arms_bits rest) (arms_weight rest w written) co now2 n2 js written e f low c t o j)
 
 pub arm_done_later : (now later tv : List ℕ) (m : ℕ) (kind : CaseKind) (w : ℕ) (s : Bool) (sv : N.State → BitList) (written : ℕ) (items : List Expression) (st : Statement) (rest : Arms)
     → (cc : List Call) (tc : List ℕ) (n : ℕ) (ct : List Call) (later1 : List ℕ) (n1 : ℕ) (co : List Call) (later2 : List ℕ) (n2 : ℕ) (js : List ℕ)
     → IsEnv now m → IsEnv later m → All (λ slot. slot < m) tv
-    → IsCondition now tv sv n2 cc tc n (items_weight items w) (λ state. matches_of kind w s (sv state) items state)
+    → IsCondition now tv sv n2 cc tc n (items_weight (items_of items) w) (λ state. matches_of kind w s (sv state) items state)
     → IsStatementDone now later n st ct now later1 n1
     → IsDone now later tv sv m (λ state. arms_body rest kind w s (sv state) state) (arms_bits rest) (arms_weight rest w written) co now later2 n2
     → IsJoin later1 later2 (statement_bits st) (arms_bits rest) js (join_call tc later1 later2 js n1) written
-    → IsDone now later tv sv m (λ state. arms_body (Arm items st rest) kind w s (sv state) state) (arms_bits (Arm items st rest)) (arms_weight (Arm items st rest) w written)
+    → IsDone now later tv sv m (λ state. arms_body (Arm (items_of items) st rest) kind w s (sv state) state) (arms_bits (Arm (items_of items) st rest)) (arms_weight (Arm (items_of items) st rest) w written)
     (((co ++ cc) ++ ct) ++ join_call tc later1 later2 js n1 ∷ []) now (placed later2 (map Some js) (range_with_len n1 (length js))) (n1 + length js)
 arm_done_later now later tv m kind w s sv written items st rest cc tc n ct later1 n1 co later2 n2 js e f low c t o j =
-    done_as now later tv sv m _ (λ state. arms_body (Arm items st rest) kind w s (sv state) state) (statement_bits st ++ arms_bits rest) (arms_weight rest w written + items_weight items w + statement_weight st + written) (arms_weight (Arm items st rest) w written) _ _ _ _
+    done_as now later tv sv m _ (λ state. arms_body (Arm (items_of items) st rest) kind w s (sv state) state) (statement_bits st ++ arms_bits rest) (arms_weight rest w written + items_weight (items_of items) w + statement_weight st + written) (arms_weight (Arm (items_of items) st rest) w written) _ _ _ _
     (λ state. ap (λ (b : Bool). if b then body st state else arms_body rest kind w s (sv state) state) (taken_is kind w s (sv state) items state)) (omega arith)
-    (done_arm_later now later tv sv m (λ state. matches_of kind w s (sv state) items state) cc tc n (items_weight items w) (body st) (statement_bits st) (statement_weight st) ct later1 n1
+    (done_arm_later now later tv sv m (λ state. matches_of kind w s (sv state) items state) cc tc n (items_weight (items_of items) w) (body st) (statement_bits st) (statement_weight st) ct later1 n1
     (λ state. arms_body rest kind w s (sv state) state) (arms_bits rest) (arms_weight rest w written) co later2 n2 js written e f low c t o j)
 
 pub case_done : (now later : List ℕ) (m : ℕ) (kind : CaseKind) (subject : Expression) (arms : Arms) (c : List Call) (tv : List ℕ) (n : ℕ) (d : List Call) (now1 later1 : List ℕ) (p : ℕ)
@@ -108,12 +108,12 @@ if_done_same now later m c taken other cc tc n ct now1 later1 n1 co n2 e f v t o
 pub arm_done_same : (now later tv : List ℕ) (m : ℕ) (kind : CaseKind) (w : ℕ) (s : Bool) (sv : N.State → BitList) (written : ℕ) (items : List Expression) (st : Statement) (rest : Arms)
     → (cc : List Call) (tc : List ℕ) (n : ℕ) (ct : List Call) (now1 later1 : List ℕ) (n1 : ℕ) (co : List Call) (n2 : ℕ)
     → IsEnv now m → IsEnv later m → All (λ slot. slot < m) tv
-    → IsCondition now tv sv n2 cc tc n (items_weight items w) (λ state. matches_of kind w s (sv state) items state)
+    → IsCondition now tv sv n2 cc tc n (items_weight (items_of items) w) (λ state. matches_of kind w s (sv state) items state)
     → IsStatementDone now later n st ct now1 later1 n1
     → IsDone now later tv sv m (λ state. arms_body rest kind w s (sv state) state) (arms_bits rest) (arms_weight rest w written) co now1 later1 n2
-    → IsDone now later tv sv m (λ state. arms_body (Arm items st rest) kind w s (sv state) state) (arms_bits (Arm items st rest)) (arms_weight (Arm items st rest) w written) ((co ++ cc) ++ ct) now1 later1 n1
+    → IsDone now later tv sv m (λ state. arms_body (Arm (items_of items) st rest) kind w s (sv state) state) (arms_bits (Arm (items_of items) st rest)) (arms_weight (Arm (items_of items) st rest) w written) ((co ++ cc) ++ ct) now1 later1 n1
 arm_done_same now later tv m kind w s sv written items st rest cc tc n ct now1 later1 n1 co n2 e f low c t o =
-    done_as now later tv sv m _ (λ state. arms_body (Arm items st rest) kind w s (sv state) state) (statement_bits st ++ arms_bits rest) (arms_weight rest w written + items_weight items w + statement_weight st) (arms_weight (Arm items st rest) w written) _ _ _ _
+    done_as now later tv sv m _ (λ state. arms_body (Arm (items_of items) st rest) kind w s (sv state) state) (statement_bits st ++ arms_bits rest) (arms_weight rest w written + items_weight (items_of items) w + statement_weight st) (arms_weight (Arm (items_of items) st rest) w written) _ _ _ _
     (λ state. ap (λ (b : Bool). if b then body st state else arms_body rest kind w s (sv state) state) (taken_is kind w s (sv state) items state)) (omega arith)
-    (done_arm_same now later tv sv m (λ state. matches_of kind w s (sv state) items state) cc tc n (items_weight items w) (body st) (statement_bits st) (statement_weight st) ct now1 later1 n1
+    (done_arm_same now later tv sv m (λ state. matches_of kind w s (sv state) items state) cc tc n (items_weight (items_of items) w) (body st) (statement_bits st) (statement_weight st) ct now1 later1 n1
     (λ state. arms_body rest kind w s (sv state) state) (arms_bits rest) (arms_weight rest w written) co n2 e f low c t o)

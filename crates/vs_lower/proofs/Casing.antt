@@ -4,7 +4,7 @@ use Rattle.std.specs.List.{All}
 use Rattle.std.proofs.lemmas.List.Elements.{All-weaker}
 use Rattle.vs_four.specs.Logic.{BitList}
 use Rattle.vs_net.specs.Network as N
-use Rattle.vs_design.specs.Expressions.{Expression}
+use Rattle.vs_design.specs.Expressions.{Expression, items_of}
 use Rattle.vs_design.specs.Statements.{CaseKind, Statement, Arms, Arm, Default}
 use Rattle.vs_design.specs.Bodies.{arms_body}
 use Rattle.vs_design.specs.Footprints.{contains, statement_bits, arms_bits}
@@ -57,7 +57,7 @@ pub adds_arm_now : (now later subject : List ℕ) (sv : N.State → BitList) (c0
     → ((b : ℕ) → contains (statement_bits st ++ arms_bits rest) b ≡ true → contains all b ≡ true)
     → ((differing_bits all (picked now1 all) now2 ≡ [] → ⊥) → CanJoin now1 now2 (statement_bits st) (arms_bits rest) written (differing_bits all (picked now1 all) now2) ms c3)
     → IsJoined ms all (picked now1 all) now2 now3 c3 c4
-    → AddsArms now later subject sv c0 c4 kind w s (distinct written) (Arm items st rest) now3 later
+    → AddsArms now later subject sv c0 c4 kind w s (distinct written) (Arm (items_of items) st rest) now3 later
 adds_arm_now now later subject sv c0 c1 c2 c3 c4 kind w s written items st rest ms all now1 now2 now3 e f low o x t sup can (inl q) =
     let cond = x.condition sv in
     let same = fork_same now1 now2 all (statement_bits st ++ arms_bits rest) c3.next (fork_arm_now now later subject sv c0 c1 c2 c3 kind w s (distinct written) st rest now1 later now2 later cond.added.grown o t) sup q.none in
@@ -66,7 +66,7 @@ adds_arm_now now later subject sv c0 c1 c2 c3 c4 kind w s written items st rest 
     record {
       calls = (o.calls ++ x.calls) ++ t.calls;
       is = ap (λ (k : Coding). k.calls) q.same ∙ three_added c0.calls o.calls x.calls t.calls c1.calls c2.calls c3.calls o.is x.is t.is;
-      done = subst (λ (k : Coding). IsDone now later subject sv c0.next (λ state. arms_body (Arm items st rest) kind w s (sv state) state) (arms_bits (Arm items st rest)) (arms_weight (Arm items st rest) w (distinct written)) ((o.calls ++ x.calls) ++ t.calls) now3 later k.next) (sym q.same)
+      done = subst (λ (k : Coding). IsDone now later subject sv c0.next (λ state. arms_body (Arm (items_of items) st rest) kind w s (sv state) state) (arms_bits (Arm (items_of items) st rest)) (arms_weight (Arm (items_of items) st rest) w (distinct written)) ((o.calls ++ x.calls) ++ t.calls) now3 later k.next) (sym q.same)
           (arm_done_same now later subject c0.next kind w s sv (distinct written) items st rest x.calls ms c2.next t.calls now3 later c3.next o.calls c1.next e f low cond arm behind);
     }
 adds_arm_now now later subject sv c0 c1 c2 c3 c4 kind w s written items st rest ms all now1 now2 now3 e f low o x t sup can (inr q) =
@@ -79,8 +79,8 @@ adds_arm_now now later subject sv c0 c1 c2 c3 c4 kind w s written items st rest 
           ∙ ap (λ (y : Call). c3.calls ++ y ∷ []) (is_join_call ms now1 now2 all c3.next)
           ∙ ap (λ (y : List Call). y ++ join_call ms now1 now2 js c3.next ∷ []) before
           ∙ append_assoc c0.calls ((o.calls ++ x.calls) ++ t.calls) (join_call ms now1 now2 js c3.next ∷ []);
-      done = subst (λ (k : Coding). IsDone now later subject sv c0.next (λ state. arms_body (Arm items st rest) kind w s (sv state) state) (arms_bits (Arm items st rest)) (arms_weight (Arm items st rest) w (distinct written)) cs now3 later k.next) (sym q.call)
-          (subst (λ (env : List ℕ). IsDone now later subject sv c0.next (λ state. arms_body (Arm items st rest) kind w s (sv state) state) (arms_bits (Arm items st rest)) (arms_weight (Arm items st rest) w (distinct written)) cs env later (c3.next + length js)) (sym q.slots)
+      done = subst (λ (k : Coding). IsDone now later subject sv c0.next (λ state. arms_body (Arm (items_of items) st rest) kind w s (sv state) state) (arms_bits (Arm (items_of items) st rest)) (arms_weight (Arm (items_of items) st rest) w (distinct written)) cs now3 later k.next) (sym q.call)
+          (subst (λ (env : List ℕ). IsDone now later subject sv c0.next (λ state. arms_body (Arm (items_of items) st rest) kind w s (sv state) state) (arms_bits (Arm (items_of items) st rest)) (arms_weight (Arm (items_of items) st rest) w (distinct written)) cs env later (c3.next + length js)) (sym q.slots)
           (arm_done_now now later subject c0.next kind w s sv (distinct written) items st rest x.calls ms c2.next t.calls now1 c3.next o.calls now2 c1.next js e f low (x.condition sv) t.done o.done (can q.some).join));
     }
 
@@ -92,7 +92,7 @@ pub adds_arm_later : (now later subject : List ℕ) (sv : N.State → BitList) (
     → ((b : ℕ) → contains (statement_bits st ++ arms_bits rest) b ≡ true → contains all b ≡ true)
     → ((differing_bits all (picked later1 all) later2 ≡ [] → ⊥) → CanJoin later1 later2 (statement_bits st) (arms_bits rest) written (differing_bits all (picked later1 all) later2) ms c3)
     → IsJoined ms all (picked later1 all) later2 later3 c3 c4
-    → AddsArms now later subject sv c0 c4 kind w s (distinct written) (Arm items st rest) now later3
+    → AddsArms now later subject sv c0 c4 kind w s (distinct written) (Arm (items_of items) st rest) now later3
 adds_arm_later now later subject sv c0 c1 c2 c3 c4 kind w s written items st rest ms all later1 later2 later3 e f low o x t sup can (inl q) =
     let cond = x.condition sv in
     let same = fork_same later1 later2 all (statement_bits st ++ arms_bits rest) c3.next (fork_arm_later now later subject sv c0 c1 c2 c3 kind w s (distinct written) st rest now later1 now later2 cond.added.grown o t) sup q.none in
@@ -101,7 +101,7 @@ adds_arm_later now later subject sv c0 c1 c2 c3 c4 kind w s written items st res
     record {
       calls = (o.calls ++ x.calls) ++ t.calls;
       is = ap (λ (k : Coding). k.calls) q.same ∙ three_added c0.calls o.calls x.calls t.calls c1.calls c2.calls c3.calls o.is x.is t.is;
-      done = subst (λ (k : Coding). IsDone now later subject sv c0.next (λ state. arms_body (Arm items st rest) kind w s (sv state) state) (arms_bits (Arm items st rest)) (arms_weight (Arm items st rest) w (distinct written)) ((o.calls ++ x.calls) ++ t.calls) now later3 k.next) (sym q.same)
+      done = subst (λ (k : Coding). IsDone now later subject sv c0.next (λ state. arms_body (Arm (items_of items) st rest) kind w s (sv state) state) (arms_bits (Arm (items_of items) st rest)) (arms_weight (Arm (items_of items) st rest) w (distinct written)) ((o.calls ++ x.calls) ++ t.calls) now later3 k.next) (sym q.same)
           (arm_done_same now later subject c0.next kind w s sv (distinct written) items st rest x.calls ms c2.next t.calls now later3 c3.next o.calls c1.next e f low cond arm behind);
     }
 adds_arm_later now later subject sv c0 c1 c2 c3 c4 kind w s written items st rest ms all later1 later2 later3 e f low o x t sup can (inr q) =
@@ -114,7 +114,7 @@ adds_arm_later now later subject sv c0 c1 c2 c3 c4 kind w s written items st res
           ∙ ap (λ (y : Call). c3.calls ++ y ∷ []) (is_join_call ms later1 later2 all c3.next)
           ∙ ap (λ (y : List Call). y ++ join_call ms later1 later2 js c3.next ∷ []) before
           ∙ append_assoc c0.calls ((o.calls ++ x.calls) ++ t.calls) (join_call ms later1 later2 js c3.next ∷ []);
-      done = subst (λ (k : Coding). IsDone now later subject sv c0.next (λ state. arms_body (Arm items st rest) kind w s (sv state) state) (arms_bits (Arm items st rest)) (arms_weight (Arm items st rest) w (distinct written)) cs now later3 k.next) (sym q.call)
-          (subst (λ (env : List ℕ). IsDone now later subject sv c0.next (λ state. arms_body (Arm items st rest) kind w s (sv state) state) (arms_bits (Arm items st rest)) (arms_weight (Arm items st rest) w (distinct written)) cs now env (c3.next + length js)) (sym q.slots)
+      done = subst (λ (k : Coding). IsDone now later subject sv c0.next (λ state. arms_body (Arm (items_of items) st rest) kind w s (sv state) state) (arms_bits (Arm (items_of items) st rest)) (arms_weight (Arm (items_of items) st rest) w (distinct written)) cs now later3 k.next) (sym q.call)
+          (subst (λ (env : List ℕ). IsDone now later subject sv c0.next (λ state. arms_body (Arm (items_of items) st rest) kind w s (sv state) state) (arms_bits (Arm (items_of items) st rest)) (arms_weight (Arm (items_of items) st rest) w (distinct written)) cs now env (c3.next + length js)) (sym q.slots)
           (arm_done_later now later subject c0.next kind w s sv (distinct written) items st rest x.calls ms c2.next t.calls later1 c3.next o.calls later2 c1.next js e f low (x.condition sv) t.done o.done (can q.some).join));
     }

@@ -1,7 +1,7 @@
 -- An assign lowered.
-use Rattle.std.proofs.Common.{◌≡◌, ℕ, zero, suc, ◌+◌, ◌<◌, ◌≤◌, ◌^◌, Bool, true, false, not, ◌||◌, ◌==◌, if◌then◌else◌, List, [], ◌∷◌, ◌++◌, map, length, slice_index, replicate, Option, Some, None, sym, ap, ◌∙◌, subst, refl, arith, add-one, append_assoc, length-append, eqb-true, eq-eqb, true≢false, ◌⊎◌}
+use Rattle.std.proofs.Common.{◌≡◌, ℕ, zero, suc, ◌+◌, ◌*◌, ◌<◌, ◌≤◌, ◌^◌, Bool, true, false, not, ◌||◌, ◌==◌, if◌then◌else◌, List, [], ◌∷◌, ◌++◌, map, length, slice_index, replicate, Option, Some, None, sym, ap, ◌∙◌, subst, refl, arith, add-one, append_assoc, length-append, eqb-true, eq-eqb, true≢false, ◌⊎◌}
 use Rattle.std.specs.List.{All}
-use Rattle.std.specs.Prelude.{ℤ, pos, ◌+ℤ◌, ◌-ℤ◌}
+use Rattle.std.specs.Prelude.{option_map, ℤ, pos, ◌+ℤ◌, ◌-ℤ◌}
 use Rattle.std.specs.List.Sorted.{IsStrictlyIncreasing}
 use Rattle.std.proofs.lemmas.List.{length-map}
 use Rattle.std.proofs.lemmas.List.Elements.{All-nil, All-cons}
@@ -13,11 +13,11 @@ use Rattle.vs_four.specs.Selects.{Part, places, place_of, indices, indices_up, i
 use Rattle.vs_design.specs.Bodies.{assignment_writes, bits_at, effect_of}
 use Rattle.vs_design.specs.Designs.{Continuous, Port}
 use Rattle.vs_design.specs.Elaborated.{has_constant_selects}
-use Rattle.vs_design.specs.Expressions.{Expression, Signal, sign, signal_length}
+use Rattle.vs_design.specs.Expressions.{Expression, Signal, sign, signal_length, word_length}
 use Rattle.vs_design.specs.Footprints.{contains, read_bits, target_bits, somes}
 use Rattle.vs_design.specs.Sizes.{distinct}
-use Rattle.vs_design.specs.Statements.{Target, Whole, PartOf, Both, target_width}
-use Rattle.vs_design.specs.Values.{constant_value, count_from}
+use Rattle.vs_design.specs.Statements.{Target, Whole, PartOf, WordOf, Both, target_width}
+use Rattle.vs_design.specs.Values.{constant_value, count_from, bits_of_signal, address_place, spread, word_places}
 use Rattle.vs_program.specs.Lowered.{Layout, home}
 use Rattle.vs_code.specs.Calls.{Call, IsCall, call_cost, length_of}
 use Rattle.vs_lower.specs.Assigned.{AddsRun, IsAssignReady, assign_most}
@@ -83,6 +83,10 @@ signal_bits_length : (n first : ℕ) → length (count_from first n) ≡ n
 signal_bits_length zero first = refl
 signal_bits_length (suc n) first = ap suc (signal_bits_length n (suc first))
 
+spread_length : (k : ℕ) (o : Option ℕ) → length (spread k o) ≡ k
+spread_length k None = none_length k None
+spread_length k (Some n) = length-map (count_from (n * k) k) (λ m. Some m) ∙ signal_bits_length k (n * k)
+
 fixed_length : (t : Target) → has_constant_selects t ≡ true → length (target_bits t) ≤ target_width t
 fixed_length (Whole signal) h = omega (arith, signal_bits_length (signal_length signal) signal.first)
 fixed_length (PartOf signal part index) h =
@@ -91,6 +95,11 @@ fixed_length (PartOf signal part index) h =
   where
     bits_at_length : (signal : Signal) (ps : List (Option ℕ)) → length (bits_at signal ps) ≡ length ps
     bits_at_length signal ps = length-map ps _
+fixed_length (WordOf signal index) h =
+    let v = constant_value index in
+    let ps = word_places signal (sign index) v in
+    let is : target_bits (WordOf signal index) ≡ somes (bits_at signal ps) = ap (λ (b : Bool). if b then somes (bits_at signal ps) else bits_of_signal signal) h in
+    omega (arith, ap (λ (bs : List ℕ). length bs) is, somes_length (bits_at signal ps), length-map ps (λ p. option_map (λ n. signal.first + n) p), spread_length (word_length signal) (address_place signal (sign index) v))
 fixed_length (Both high low) h =
     let p = both_true (has_constant_selects high) (has_constant_selects low) h in
     omega (arith, fixed_length high p.0, fixed_length low p.1, length-append (target_bits high) (target_bits low))

@@ -9,7 +9,7 @@ use Rattle.vs_four.specs.declared.Bit4.TheVariants.{Zero, One, X, Z}
 use Rattle.vs_four.specs.Tables.{is_one, or_bit}
 use Rattle.vs_four.specs.Logic.{BitList, fold_with, truth}
 use Rattle.vs_net.specs.Network as N
-use Rattle.vs_design.specs.Expressions.{Expression}
+use Rattle.vs_design.specs.Expressions.{Expression, items_of}
 use Rattle.vs_design.specs.Values.{value}
 use Rattle.vs_design.specs.Statements.{CaseKind, Exact, CaseZ, CaseX, case_match}
 use Rattle.vs_design.specs.Bodies.{is_taken}
@@ -54,12 +54,12 @@ fold_one first [] = or_false (is_one first)
     or_false false = refl
 fold_one first (x ∷ xs) = fold_one (or_bit first x) xs ∙ ap (λ a. a || list_any is_one xs) (or_one first x) ∙ or_assoc (is_one first) (is_one x) (list_any is_one xs)
 
-any_map : (f : Expression → Bit4) (items : List Expression) → list_any is_one (map f items) ≡ list_any (λ e. is_one (f e)) items
-any_map f [] = refl
-any_map f (e ∷ items) = ap (λ b. is_one (f e) || b) (any_map f items)
+any_of : (kind : CaseKind) (w : ℕ) (s : Bool) (v : BitList) (items : List Expression) (state : N.State) → list_any is_one (matches_of kind w s v items state) ≡ is_taken kind w s v (items_of items) state
+any_of kind w s v [] state = refl
+any_of kind w s v (e ∷ items) state = ap (λ b. is_one (case_match kind v (value e w s state)) || b) (any_of kind w s v items state)
 
-pub taken_is : (kind : CaseKind) (w : ℕ) (s : Bool) (v : BitList) (items : List Expression) (state : N.State) → is_one (truth (matches_of kind w s v items state)) ≡ is_taken kind w s v items state
-taken_is kind w s v items state = fold_one Zero (matches_of kind w s v items state) ∙ any_map (λ e. case_match kind v (value e w s state)) items
+pub taken_is : (kind : CaseKind) (w : ℕ) (s : Bool) (v : BitList) (items : List Expression) (state : N.State) → is_one (truth (matches_of kind w s v items state)) ≡ is_taken kind w s v (items_of items) state
+taken_is kind w s v items state = fold_one Zero (matches_of kind w s v items state) ∙ any_of kind w s v items state
 
 -- ---- the calls of the tests, one item more each
 

@@ -1,9 +1,10 @@
 -- Each arm of a formed case has an item.
-use Rattle.std.proofs.Common.{◌≡◌, ℕ, ◌≤◌, true, not, ◌&&◌, List, [], ◌∷◌, map, length, Option, arith}
-use Rattle.std.specs.List.{All, list_all}
+use Rattle.std.proofs.Common.{◌≡◌, ℕ, ◌≤◌, true, ◌&&◌, List, [], ◌∷◌, map, length, Option, arith}
+use Rattle.std.specs.List.{All}
 use Rattle.std.proofs.lemmas.List.Elements.{All-nil, All-cons}
 use Rattle.vs_design.specs.Designs.{Design}
-use Rattle.vs_design.specs.Elaborated.{is_nil, is_formed, is_formed_statement, are_formed_arms}
+use Rattle.vs_design.specs.Elaborated.{has_items, is_formed, are_formed, is_formed_statement, are_formed_arms}
+use Rattle.vs_design.specs.Expressions as E
 use Rattle.vs_design.specs.Expressions.{Expression}
 use Rattle.vs_design.specs.Statements as T
 use Rattle.vs_flat.specs.declared.statements.Arm.{Arm}
@@ -16,17 +17,17 @@ use Rattle.vs_shape.specs.Nodes.{tree_of}
 use Rattle.vs_lower.specs.Stated.{HasItems}
 use Rattle.vs_values.proofs.Values.{both_true}
 
-some_items : (xs : List ℕ) (tree : ℕ → Expression) → not (is_nil (map tree xs)) ≡ true → 1 ≤ length xs
+some_items : (xs : List ℕ) (tree : ℕ → Expression) → has_items (E.items_of (map tree xs)) ≡ true → 1 ≤ length xs
 some_items [] tree h = cc
 some_items (x ∷ xs) tree h = omega arith
 
 have_items : (d : Design) (tree : ℕ → Expression) (st : ℕ → T.Statement) (other : Option ℕ) (arms : List Arm) → are_formed_arms d (arms_tree tree st other arms) ≡ true → All (λ (arm : Arm). 1 ≤ length arm.items) arms
 have_items d tree st other [] h = All-nil (λ (arm : Arm). 1 ≤ length arm.items)
 have_items d tree st other (a ∷ arms) h =
-    let items = map tree a.items in
-    let x = both_true (not (is_nil items) && list_all (is_formed d) items && is_formed_statement d (st a.statement)) (are_formed_arms d (arms_tree tree st other arms)) h in
-    let y = both_true (not (is_nil items) && list_all (is_formed d) items) (is_formed_statement d (st a.statement)) x.0 in
-    All-cons (λ (arm : Arm). 1 ≤ length arm.items) a arms (some_items a.items tree (both_true (not (is_nil items)) (list_all (is_formed d) items) y.0).0) (have_items d tree st other arms x.1)
+    let items = E.items_of (map tree a.items) in
+    let x = both_true (has_items items && are_formed d items && is_formed_statement d (st a.statement)) (are_formed_arms d (arms_tree tree st other arms)) h in
+    let y = both_true (has_items items && are_formed d items) (is_formed_statement d (st a.statement)) x.0 in
+    All-cons (λ (arm : Arm). 1 ≤ length arm.items) a arms (some_items a.items tree (both_true (has_items items) (are_formed d items) y.0).0) (have_items d tree st other arms x.1)
 
 pub items_of : (d : Design) (a : Arena) (place : ℕ) (b : Statement) → is_formed_statement d (body_of_statement a place b) ≡ true → HasItems b
 items_of d a place S.Empty h = tt

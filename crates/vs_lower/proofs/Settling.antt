@@ -11,7 +11,7 @@ use Rattle.vs_net.specs.Network as N
 use Rattle.vs_design.specs.Expressions as E
 use Rattle.vs_design.specs.Expressions.{width, sign, is_constant}
 use Rattle.vs_design.specs.Fits.{fits_64, fits_target}
-use Rattle.vs_design.specs.Statements.{Target, Whole, PartOf, Both, target_width}
+use Rattle.vs_design.specs.Statements.{Target, Whole, PartOf, WordOf, Both, target_width}
 use Rattle.vs_design.specs.Bodies.{target_writes}
 use Rattle.vs_design.specs.Footprints.{contains, target_bits}
 use Rattle.vs_design.specs.Sizes.{target_weight}
@@ -31,6 +31,7 @@ use Rattle.vs_values.proofs.Values.{both_true}
 pub some_leaf : (t : Target) → 1 ≤ length (leaves_of t)
 some_leaf (Whole signal) = omega arith
 some_leaf (PartOf signal part index) = omega arith
+some_leaf (WordOf signal index) = omega arith
 some_leaf (Both high low) = omega (arith, some_leaf high, some_length (leaves_of high) (leaves_of low))
   where
     some_length : (xs ys : List Target) → length xs ≤ length (xs ++ ys)
@@ -40,22 +41,31 @@ some_leaf (Both high low) = omega (arith, some_leaf high, some_length (leaves_of
 pub leaf_widths : (t : Target) → target_width t ≡ sum_by target_width (leaves_of t)
 leaf_widths (Whole signal) = sym (sum_by-cons target_width (Whole signal) [] ∙ omega arith)
 leaf_widths (PartOf signal part index) = sym (sum_by-cons target_width (PartOf signal part index) [] ∙ omega arith)
+leaf_widths (WordOf signal index) = sym (sum_by-cons target_width (WordOf signal index) [] ∙ omega arith)
 leaf_widths (Both high low) = omega (arith, leaf_widths high, leaf_widths low, sum_by-append target_width (leaves_of high) (leaves_of low))
 
 split_weight : (signal : E.Signal) (part : _) (index : E.Expression) (b : Bool) → is_constant index ≡ b → target_weight (PartOf signal part index) ≡ write_weight (PartOf signal part index) + index_weight (PartOf signal part index)
 split_weight signal part index true h = grind (arith, constant_weight index (width index) h)
 split_weight signal part index false h = grind arith
 
+word_weight : (signal : E.Signal) (index : E.Expression) (b : Bool) → is_constant index ≡ b → target_weight (WordOf signal index) ≡ write_weight (WordOf signal index) + index_weight (WordOf signal index)
+word_weight signal index true h = grind (arith, constant_weight index (width index) h)
+word_weight signal index false h = grind arith
+
 pub leaf_weights : (t : Target) → target_weight t ≡ sum_by write_weight (leaves_of t) + sum_by index_weight (leaves_of t)
 leaf_weights (Whole signal) = sym (omega (arith, sum_by-cons write_weight (Whole signal) [], sum_by-cons index_weight (Whole signal) []))
 leaf_weights (PartOf signal part index) =
     let here = split_weight signal part index (is_constant index) refl in
     omega (arith, here, sum_by-cons write_weight (PartOf signal part index) [], sum_by-cons index_weight (PartOf signal part index) [])
+leaf_weights (WordOf signal index) =
+    let here = word_weight signal index (is_constant index) refl in
+    omega (arith, here, sum_by-cons write_weight (WordOf signal index) [], sum_by-cons index_weight (WordOf signal index) [])
 leaf_weights (Both high low) = omega (arith, leaf_weights high, leaf_weights low, sum_by-append write_weight (leaves_of high) (leaves_of low), sum_by-append index_weight (leaves_of high) (leaves_of low))
 
 pub leaf_fits : (t : Target) → fits_target t ≡ true → All (λ x. fits_target x ≡ true) (leaves_of t)
 leaf_fits (Whole signal) h = All-cons (λ x. fits_target x ≡ true) (Whole signal) [] h (All-nil (λ x. fits_target x ≡ true))
 leaf_fits (PartOf signal part index) h = All-cons (λ x. fits_target x ≡ true) (PartOf signal part index) [] h (All-nil (λ x. fits_target x ≡ true))
+leaf_fits (WordOf signal index) h = All-cons (λ x. fits_target x ≡ true) (WordOf signal index) [] h (All-nil (λ x. fits_target x ≡ true))
 leaf_fits (Both high low) h =
     let p = both_true (fits_64 (target_width high + target_width low) && fits_target high) (fits_target low) h in
     let q = both_true (fits_64 (target_width high + target_width low)) (fits_target high) p.0 in
@@ -64,6 +74,7 @@ leaf_fits (Both high low) h =
 pub leaf_indices : (t : Target) (state : N.State) → index_values t state ≡ flat_map (λ x. index_values x state) (leaves_of t)
 leaf_indices (Whole signal) state = sym (append-nil ([] ∷ []))
 leaf_indices (PartOf signal part index) state = sym (append-nil (index_values (PartOf signal part index) state))
+leaf_indices (WordOf signal index) state = sym (append-nil (index_values (WordOf signal index) state))
 leaf_indices (Both high low) state =
     ap (λ (vs : List BitList). vs ++ index_values low state) (leaf_indices high state)
     ∙ ap (λ (vs : List BitList). flat_map (λ x. index_values x state) (leaves_of high) ++ vs) (leaf_indices low state)
@@ -82,6 +93,7 @@ joined_indices t (u ∷ ts) state = ap (λ (vs : List BitList). index_values t s
 leaf_bits : (t : Target) → target_bits t ≡ flat_map target_bits (leaves_of t)
 leaf_bits (Whole signal) = sym (append-nil (target_bits (Whole signal)))
 leaf_bits (PartOf signal part index) = sym (append-nil (target_bits (PartOf signal part index)))
+leaf_bits (WordOf signal index) = sym (append-nil (target_bits (WordOf signal index)))
 leaf_bits (Both high low) =
     ap (λ (bs : List ℕ). bs ++ target_bits low) (leaf_bits high) ∙ ap (λ (bs : List ℕ). flat_map target_bits (leaves_of high) ++ bs) (leaf_bits low) ∙ sym (flat_map-append target_bits (leaves_of high) (leaves_of low))
 
@@ -126,6 +138,7 @@ joined_width (t ∷ ts) l = width_joined t ts
 joined_writes : (t : Target) (v : BitList) (s : N.State) → target_writes t v s ≡ target_writes (joined_target (leaves_of t)) v s
 joined_writes (Whole signal) v s = refl
 joined_writes (PartOf signal part index) v s = refl
+joined_writes (WordOf signal index) v s = refl
 joined_writes (Both high low) v s =
     let k : target_width low ≡ target_width (joined_target (leaves_of low)) = leaf_widths low ∙ sym (joined_width (leaves_of low) (some_leaf low)) in
     ap (λ (n : ℕ). target_writes high (drop n v) s ++ target_writes low (take n v) s) k
@@ -169,6 +182,7 @@ width_of_target (E.Literal bits signed sized) s = cc
 width_of_target (E.Name signal) s = refl
 width_of_target (E.Select (E.OfSignal signal) part index) s = refl
 width_of_target (E.Select (E.OfConstant bits) part index) s = cc
+width_of_target (E.Word signal index) s = refl
 width_of_target (E.Unary op a) s = cc
 width_of_target (E.Binary op a b) s = cc
 width_of_target (E.Choice c p q) s = cc
@@ -186,3 +200,4 @@ width_of_target (E.Repeat count a) s = by (width_of_target a) (count == 1) refl 
         one ∙ again k ∙ ap (λ (b : Bool). target_width (unwrap_or (if b then target_of a else None) (Whole no_signal))) (sym h)
     by again false h k = cc
 width_of_target (E.At place e) s = width_of_target e s
+width_of_target (E.Call header statement arguments) s = cc

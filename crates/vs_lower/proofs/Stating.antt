@@ -1,13 +1,13 @@
 -- Assignments as statements, and what the parts of a statement need.
 use Rattle.std.proofs.Common.{◌≡◌, ℕ, ◌<◌, ◌≤◌, max, Bool, true, false, not, ◌&&◌, List, [], ◌∷◌, ◌++◌, map, refl, sym, ap, ◌∙◌, subst, arith, Some}
-use Rattle.std.specs.List.{All, list_all}
+use Rattle.std.specs.List.{All}
 use Rattle.std.specs.List.Sorted.{IsStrictlyIncreasing}
 use Rattle.std.proofs.lemmas.List.Elements.{All-nil, All-cons, All-head}
 use Rattle.vs_four.specs.Logic.{BitList}
 use Rattle.vs_net.specs.Network as N
 use Rattle.vs_design.specs.Bodies.{assignment_writes, body, effect_of}
-use Rattle.vs_design.specs.Expressions.{Expression, width}
-use Rattle.vs_design.specs.Fits.{fits, divides_constants, is_fit, fits_statement, fits_arms}
+use Rattle.vs_design.specs.Expressions.{Expression, Items, NoItem, Item, width}
+use Rattle.vs_design.specs.Fits.{fits, divides_constants, is_fit, fit_items, fits_statement, fits_arms}
 use Rattle.vs_design.specs.Footprints.{contains, arms_bits, target_bits}
 use Rattle.vs_design.specs.Sizes.{distinct, statement_weight}
 use Rattle.vs_design.specs.Statements.{CaseKind, Target, Assignment, Case, Arms, Arm, Default, arms_width, case_width, case_sign, widest}
@@ -17,7 +17,7 @@ use Rattle.vs_lower.specs.Branched.{unwritten, written}
 use Rattle.vs_values.specs.Coded.{Coding}
 use Rattle.vs_values.specs.Environments.{placed}
 use Rattle.vs_values.specs.Ready.{IsReady}
-use Rattle.vs_lower.specs.Stated.{IsStatementReady, AddsCases, AddsStatement, AreArmsReady, AreInOrder, AreInside, ItemsWithin}
+use Rattle.vs_lower.specs.Stated.{IsStatementReady, AddsCases, AddsStatement, AreArmsReady, AreInOrder, AreInside, ItemsWithin, listed}
 use Rattle.vs_values.specs.Valued.{AddsValue}
 use Rattle.vs_values.proofs.Adding.{env_more}
 use Rattle.vs_lower.proofs.Armed.{behind_placed}
@@ -65,35 +65,35 @@ in_order count bits slice these rising same is inside =
 
 -- ---- a case
 
-widest_more : (w : ℕ) (es : List Expression) → w ≤ widest w es
-widest_more w [] = omega arith
-widest_more w (e ∷ es) = omega (arith, widest_more (max w (width e)) es)
+widest_more : (w : ℕ) (es : Items) → w ≤ widest w es
+widest_more w NoItem = omega arith
+widest_more w (Item e es) = omega (arith, widest_more (max w (width e)) es)
 
 arms_wider : (arms : Arms) (w : ℕ) → w ≤ arms_width arms w
 arms_wider (Arm items st rest) w = omega (arith, widest_more w items, arms_wider rest (widest w items))
 arms_wider (Default st) w = omega arith
 
-items_under : (w top : ℕ) (es : List Expression) → widest w es ≤ top → All (λ e. width e ≤ top) es
-items_under w top [] h = All-nil (λ e. width e ≤ top)
-items_under w top (e ∷ es) h =
-    All-cons (λ x. width x ≤ top) e es (omega (arith, h, widest_more (max w (width e)) es)) (items_under (max w (width e)) top es h)
+items_under : (w top : ℕ) (es : Items) → widest w es ≤ top → All (λ e. width e ≤ top) (listed es)
+items_under w top NoItem h = All-nil (λ e. width e ≤ top)
+items_under w top (Item e es) h =
+    All-cons (λ x. width x ≤ top) e (listed es) (omega (arith, h, widest_more (max w (width e)) es)) (items_under (max w (width e)) top es h)
 
 pub within : (arms : Arms) (w top : ℕ) → arms_width arms w ≤ top → ItemsWithin top arms
 within (Arm items st rest) w top h = (items_under w top items (omega (arith, h, arms_wider rest (widest w items))), within rest (widest w items) top h)
 within (Default st) w top h = tt
 
 -- an item that fits has at most 64 bits
-items_64 : (es : List Expression) (w : ℕ) → list_all is_fit es ≡ true → w ≤ 64 → widest w es ≤ 64
-items_64 [] w h l = l
-items_64 (e ∷ es) w h l =
-    let p = both_true (is_fit e) (list_all is_fit es) h in
+items_64 : (es : Items) (w : ℕ) → fit_items es ≡ true → w ≤ 64 → widest w es ≤ 64
+items_64 NoItem w h l = l
+items_64 (Item e es) w h l =
+    let p = both_true (is_fit e) (fit_items es) h in
     let m = fits_length e (both_true (fits e) (divides_constants e) p.0).0 in
     items_64 es (max w (width e)) p.1 (omega (arith, l, m.1))
 
 arms_64 : (arms : Arms) (w : ℕ) → fits_arms arms ≡ true → w ≤ 64 → arms_width arms w ≤ 64
 arms_64 (Arm items st rest) w h l =
-    let p = both_true (list_all is_fit items && fits_statement st) (fits_arms rest) h in
-    arms_64 rest (widest w items) p.1 (items_64 items w (both_true (list_all is_fit items) (fits_statement st) p.0).0 l)
+    let p = both_true (fit_items items && fits_statement st) (fits_arms rest) h in
+    arms_64 rest (widest w items) p.1 (items_64 items w (both_true (fit_items items) (fits_statement st) p.0).0 l)
 arms_64 (Default st) w h l = l
 
 pub record CaseLengths (subject : Expression) (arms : Arms) : Type 0 where

@@ -6,10 +6,10 @@ use Rattle.std.proofs.lemmas.List.Elements.{All-nil, All-cons, All-contains, All
 use Rattle.std.proofs.lemmas.List.FromFn.{length-range_with_len}
 use Rattle.vs_four.specs.Logic.{BitList}
 use Rattle.vs_net.specs.Network as N
-use Rattle.vs_design.specs.Expressions.{Expression, width, sign}
+use Rattle.vs_design.specs.Expressions.{Expression, word_length, width, sign}
 use Rattle.vs_design.specs.Fits.{fits_64, fits, divides_constants, is_fit, fits_target}
 use Rattle.vs_design.specs.Values.{assigned_value}
-use Rattle.vs_design.specs.Statements.{Target, Whole, PartOf, Both, target_width}
+use Rattle.vs_design.specs.Statements.{Target, Whole, PartOf, WordOf, Both, target_width}
 use Rattle.vs_design.specs.Bodies.{assignment_writes, effect_of}
 use Rattle.vs_design.specs.Footprints.{read_bits, target_bits}
 use Rattle.vs_design.specs.Sizes.{weight}
@@ -43,6 +43,7 @@ use Rattle.vs_values.proofs.Values.{both_true}
 pub target_length : (t : Target) → fits_target t ≡ true → (1 ≤ target_width t) × (target_width t ≤ 64)
 target_length (Whole signal) h = fits_64_is _ h
 target_length (PartOf signal part index) h = fits_64_is part.width (both_true (fits_64 part.width) _ (both_true _ (is_fit index) h).0).0
+target_length (WordOf signal index) h = fits_64_is _ (both_true (fits_64 (word_length signal)) (is_fit index) h).0
 target_length (Both high low) h = fits_64_is (target_width high + target_width low) (both_true (fits_64 (target_width high + target_width low)) (fits_target high) (both_true _ (fits_target low) h).0).0
 
 -- the length of a target that fits is not capped

@@ -3,7 +3,7 @@ use Rattle.std.proofs.Common.{◌≡◌, ℕ, zero, suc, ◌+◌, ◌<◌, ◌�
 use Rattle.std.specs.List.{All, range_with_len}
 use Rattle.std.proofs.lemmas.List.{take_more}
 use Rattle.std.proofs.lemmas.List.Elements.{All-nil, All-cons, All-weaker}
-use Rattle.vs_design.specs.Expressions.{Expression}
+use Rattle.vs_design.specs.Expressions.{Expression, items_of}
 use Rattle.vs_design.specs.Sizes.{weight, items_weight}
 use Rattle.vs_design.specs.Statements.{CaseKind}
 use Rattle.vs_code.specs.Kernels.{takes}
@@ -20,18 +20,18 @@ use Rattle.vs_values.proofs.Adding.{env_more, is_fresh_call}
 use Rattle.vs_lower.proofs.Matching.{tests_none, tests_more, match_takes, match_room, match_cost}
 use Rattle.vs_values.proofs.Readying.{stores_of}
 
-items_more : (es : List Expression) (e : Expression) (w : ℕ) → items_weight (es ++ e ∷ []) w ≡ items_weight es w + (weight e w + (w + 1))
+items_more : (es : List Expression) (e : Expression) (w : ℕ) → items_weight (items_of (es ++ e ∷ [])) w ≡ items_weight (items_of es) w + (weight e w + (w + 1))
 items_more [] e w = omega arith
 items_more (x ∷ es) e w = omega (arith, items_more es e w)
 
-items_at : (es : List Expression) (w n : ℕ) (d : Expression) → n < length es → items_weight (take n es) w + (weight (get_or es n d) w + (w + 1)) ≤ items_weight es w
+items_at : (es : List Expression) (w n : ℕ) (d : Expression) → n < length es → items_weight (items_of (take n es)) w + (weight (get_or es n d) w + (w + 1)) ≤ items_weight (items_of es) w
 items_at [] w n d l = absurd (omega arith)
 items_at (x ∷ es) w zero d l = omega arith
 items_at (x ∷ es) w (suc n) d l = omega (arith, items_at es w n d (omega arith))
 
 -- the stores and the slots so far
 so_far : (env subject : List ℕ) (code one : Coding) (kind : CaseKind) (w : ℕ) (s : Bool) (items : List Expression) (ms : List ℕ) → AddsTests env subject code one kind w s items ms
-    → (one.next ≤ code.next + items_weight items w) × (length_of one.calls ≤ length_of code.calls + items_weight items w) × (code.next ≤ one.next)
+    → (one.next ≤ code.next + items_weight (items_of items) w) × (length_of one.calls ≤ length_of code.calls + items_weight (items_of items) w) × (code.next ≤ one.next)
 so_far env subject code one kind w s items ms a =
     let added = (a.condition (λ state. [])).added in
     (omega (arith, added.paid, added.stores), omega (arith, added.stores, stores_of code.calls a.calls one.calls a.is), added.grown)
@@ -87,13 +87,13 @@ adds_test bits env subject code one two three kind w s items ms te to n d l r a 
     let one_call = fresh_call (match_kernel kind) (subject ∷ te ∷ []) two.next 1 in
     let calls = (a.calls ++ v.calls) ++ one_call ∷ [] in
     let long : length te ≡ w = v.value.length in
-    let total : items_weight (take n items) w + weight e w + (w + 1) ≡ items_weight (take n items ++ e ∷ []) w = omega (arith, items_more (take n items) e w) in
+    let total : items_weight (items_of (take n items)) w + weight e w + (w + 1) ≡ items_weight (items_of (take n items ++ e ∷ [])) w = omega (arith, items_more (take n items) e w) in
     let all : AddsTests env subject code (with_call two (match_kernel kind) (subject ∷ te ∷ []) 1) kind w s (take n items ++ e ∷ []) (ms ++ range_with_len two.next 1) = record {
       calls = calls;
       is = ap (λ (x : List Call). x ++ one_call ∷ []) (v.is ∙ ap (λ (x : List Call). x ++ v.calls) a.is ∙ append_assoc code.calls a.calls v.calls) ∙ append_assoc code.calls (a.calls ++ v.calls) (one_call ∷ []);
       condition = λ sv.
           subst (λ (k : ℕ). IsCondition env subject sv code.next calls (ms ++ range_with_len two.next 1) (two.next + 1) k (λ state. matches_of kind w s (sv state) (take n items ++ e ∷ []) state)) total
-          (tests_more env subject sv code.next kind w s (take n items) e a.calls ms one.next (items_weight (take n items) w) v.calls te two.next (weight e w) r.is_env r.below r.long r.some (omega (arith, r.at_most_64))
+          (tests_more env subject sv code.next kind w s (take n items) e a.calls ms one.next (items_weight (items_of (take n items)) w) v.calls te two.next (weight e w) r.is_env r.below r.long r.some (omega (arith, r.at_most_64))
           (omega (arith, r.slots, f.0, at, added.paid, added.stores)) (a.condition sv) v.value.values long);
     } in
     subst (AddsTests env subject code three kind w s (take (n + 1) items)) (sym is)

@@ -1,6 +1,6 @@
 -- The matches of a case's items, and the length and the sign that the items of all arms share.
 use Rattle.std.specs.Prelude.{ℕ, Bool, List, [], ◌∷◌, map}
-use Rattle.vs_design.specs.Expressions.{Expression}
+use Rattle.vs_design.specs.Expressions.{Expression, items_of}
 use Rattle.vs_four.specs.Logic.{BitList}
 use Rattle.vs_net.specs.Network.{State}
 use Rattle.vs_design.specs.Values.{value}
@@ -16,11 +16,11 @@ matches_of kind w s v items state = map (λ e. case_match kind v (value e w s st
 
 abbrev pub arms_widest : (ℕ → Expression) → List Arm → ℕ → ℕ
 arms_widest tree [] w = w
-arms_widest tree (arm ∷ arms) w = arms_widest tree arms (widest w (map tree arm.items))
+arms_widest tree (arm ∷ arms) w = arms_widest tree arms (widest w (items_of (map tree arm.items)))
 
 abbrev pub arms_signed : (ℕ → Expression) → List Arm → Bool → Bool
 arms_signed tree [] s = s
-arms_signed tree (arm ∷ arms) s = arms_signed tree arms (all_signed s (map tree arm.items))
+arms_signed tree (arm ∷ arms) s = arms_signed tree arms (all_signed s (items_of (map tree arm.items)))
 
 -- how a case compares
 abbrev pub match_kernel : CaseKind → AnyKernel

@@ -4,7 +4,7 @@ use Rattle.vs_net.specs.Network as N
 use Rattle.vs_code.specs.Calls.{Call, State, AreCalled}
 use Rattle.vs_four.specs.Logic.{BitList}
 use Rattle.vs_design.specs.Values.{own_value}
-use Rattle.vs_design.specs.Statements.{Target, Whole, PartOf, Both, Statement}
+use Rattle.vs_design.specs.Statements.{Target, Whole, PartOf, WordOf, Both, Statement}
 use Rattle.vs_design.specs.Bodies.{target_writes, body}
 use Rattle.vs_design.specs.Footprints.{contains, target_bits, statement_bits}
 use Rattle.vs_design.specs.Sizes.{statement_weight}
@@ -43,6 +43,7 @@ IsStatementDone now later mark st calls now_after later_after next = IsDone now 
 abbrev pub index_values : Target → N.State → List BitList
 index_values (Whole signal) state = [] ∷ []
 index_values (PartOf signal part index) state = own_value index state ∷ []
+index_values (WordOf signal index) state = own_value index state ∷ []
 index_values (Both high low) state = index_values high state ++ index_values low state
 
 -- What calls do that write a value, in the slots `tv`, to a target whose indices are in the slots `tis`

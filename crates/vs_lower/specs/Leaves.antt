@@ -1,6 +1,6 @@
 -- The parts of a target that are no concatenations, in the order of the text.
 use Rattle.std.specs.Prelude.{◌≡◌, ◌<◌, length, All, List, [], ◌∷◌, ◌++◌, map}
-use Rattle.vs_design.specs.Statements.{Target, Whole, PartOf, Both}
+use Rattle.vs_design.specs.Statements.{Target, Whole, PartOf, WordOf, Both}
 use Rattle.vs_flat.specs.Arena.{Arena}
 use Rattle.vs_flat.specs.DesignOf.{arena_signals, arena_trees}
 use Rattle.vs_flat.specs.Trees.{signal_at, tree_at, no_signal}
@@ -10,6 +10,7 @@ use Rattle.vs_lower.specs.declared.leaves.Leaf.TheVariants as L
 abbrev pub leaves_of : Target → List Target
 leaves_of (Whole signal) = Whole signal ∷ []
 leaves_of (PartOf signal part index) = PartOf signal part index ∷ []
+leaves_of (WordOf signal index) = WordOf signal index ∷ []
 leaves_of (Both high low) = leaves_of high ++ leaves_of low
 
 -- the concatenation of these, which are some

@@ -1,9 +1,9 @@
 -- What the lowering of statements needs and gives.
-use Rattle.std.specs.Prelude.{◌≡◌, ℕ, ◌+◌, ◌<◌, ◌≤◌, ◌^◌, Bool, true, List, [], map, ◌++◌, length, slice_index, All, Some}
+use Rattle.std.specs.Prelude.{◌≡◌, ℕ, ◌+◌, ◌<◌, ◌≤◌, ◌^◌, Bool, true, List, [], ◌∷◌, map, ◌++◌, length, slice_index, All, Some}
 use Rattle.std.specs.List.Sorted.{IsStrictlyIncreasing}
 use Rattle.vs_four.specs.Logic.{BitList}
 use Rattle.vs_net.specs.Network as N
-use Rattle.vs_design.specs.Expressions.{Expression, width}
+use Rattle.vs_design.specs.Expressions.{Expression, Items, NoItem, Item, items_of, width}
 use Rattle.vs_design.specs.Statements.{CaseKind, Statement, Arms, Arm, Default}
 use Rattle.vs_design.specs.Bodies.{body, arms_body}
 use Rattle.vs_design.specs.Fits.{is_fit, fits_statement, fits_arms}
@@ -93,9 +93,14 @@ pub record AddsCases (clocked : Bool) (now later subject : List ℕ) (old new : 
   pub other : unwritten clocked now_after later_after ≡ unwritten clocked now later
   pub are : slots ≡ map (slice_index (written clocked now_after later_after)) bits
 
+-- the items as a list
+abbrev pub listed : Items → List Expression
+listed NoItem = []
+listed (Item e rest) = e ∷ listed rest
+
 -- no item is longer
 abbrev pub ItemsWithin : ℕ → Arms → Type 0
-ItemsWithin w (Arm items st rest) = All (λ e. width e ≤ w) items × ItemsWithin w rest
+ItemsWithin w (Arm items st rest) = All (λ e. width e ≤ w) (listed items) × ItemsWithin w rest
 ItemsWithin w (Default st) = Unit {0}
 
 -- The arms fit into the context that they share with the case's expression, whose slots these are, and there is room.
@@ -131,8 +136,8 @@ pub record IsArmReady (count : ℕ) (now later subject : List ℕ) (code : Codin
   pub unmixed : mixed_in clocked st ≡ []
   pub behind_long : length bits ≡ length behind
   pub behind_below : All (λ slot. slot < code.next) behind
-  pub slots : code.next + (items_weight items w + statement_weight st + length bits) < 2 ^ 32
-  pub few : length_of code.calls + (items_weight items w + statement_weight st + length bits) ≤ 2 ^ 32
+  pub slots : code.next + (items_weight (items_of items) w + statement_weight st + length bits) < 2 ^ 32
+  pub few : length_of code.calls + (items_weight (items_of items) w + statement_weight st + length bits) ≤ 2 ^ 32
 
 -- what is added for its tests, its statement, and the join with what stands behind it
 pub record AddsArm (clocked : Bool) (now later subject : List ℕ) (old new : Coding) (kind : CaseKind) (w : ℕ) (s : Bool) (items : List Expression) (st : Statement) (bits behind slots : List ℕ) : Type 0 where

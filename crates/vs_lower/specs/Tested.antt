@@ -2,7 +2,7 @@
 use Rattle.std.specs.Prelude.{◌≡◌, ℕ, ◌+◌, ◌<◌, ◌≤◌, ◌^◌, Bool, true, List, ◌++◌, length, All}
 use Rattle.vs_four.specs.Logic.{BitList}
 use Rattle.vs_net.specs.Network as N
-use Rattle.vs_design.specs.Expressions.{Expression, width}
+use Rattle.vs_design.specs.Expressions.{Expression, items_of, width}
 use Rattle.vs_design.specs.Fits.{is_fit}
 use Rattle.vs_design.specs.Sizes.{items_weight}
 use Rattle.vs_design.specs.Statements.{CaseKind}
@@ -22,11 +22,11 @@ pub record AreTestsReady (bits : ℕ) (env subject : List ℕ) (code : Coding) (
   pub at_most_64 : w ≤ 64
   pub fit : All (λ e. is_fit e ≡ true) items
   pub wide : All (λ e. width e ≤ w) items
-  pub slots : code.next + items_weight items w < 2 ^ 32
-  pub few : length_of code.calls + items_weight items w ≤ 2 ^ 32
+  pub slots : code.next + items_weight (items_of items) w < 2 ^ 32
+  pub few : length_of code.calls + items_weight (items_of items) w ≤ 2 ^ 32
 
 -- what is added for the matches of these items, in whatever value the case's expression has
 pub record AddsTests (env subject : List ℕ) (old new : Coding) (kind : CaseKind) (w : ℕ) (s : Bool) (items : List Expression) (ms : List ℕ) : Type 0 where
   pub calls : List Call
   pub is : new.calls ≡ old.calls ++ calls
-  pub condition : (sv : N.State → BitList) → IsCondition env subject sv old.next calls ms new.next (items_weight items w) (λ state. matches_of kind w s (sv state) items state)
+  pub condition : (sv : N.State → BitList) → IsCondition env subject sv old.next calls ms new.next (items_weight (items_of items) w) (λ state. matches_of kind w s (sv state) items state)

@@ -4,9 +4,9 @@ use Rattle.std.specs.List.{flat_map}
 use Rattle.vs_four.specs.Selects.{range_length}
 use Rattle.vs_design.specs.Expressions.{Expression, width, is_constant}
 use Rattle.vs_design.specs.Values.{constant_value}
-use Rattle.vs_design.specs.Statements.{Target, PartOf, target_width}
+use Rattle.vs_design.specs.Statements.{Target, PartOf, WordOf, target_width}
 use Rattle.vs_design.specs.Fits.{fits_target}
-use Rattle.vs_design.specs.Sizes.{weight}
+use Rattle.vs_design.specs.Sizes.{weight, address_weight}
 use Rattle.vs_flat.specs.Arena.{Arena, bit_count}
 use Rattle.vs_code.specs.Calls.{Call, length_of}
 use Rattle.vs_values.specs.Added.{IsEnv, AreValues}
@@ -34,6 +34,7 @@ pub record IsIndex (index : Expression) (ti : List ℕ) : Type 0 where
 -- of a part of a target that is no concatenation; a whole signal has no index
 abbrev pub IsIndexed : Target → List ℕ → Type 0
 IsIndexed (PartOf signal part index) ti = IsIndex index ti
+IsIndexed (WordOf signal index) ti = IsIndex index ti
 IsIndexed target ti = Unit {0}
 
 abbrev pub AreIndexed : List Target → List (List ℕ) → Type 0
@@ -43,6 +44,7 @@ AreIndexed ts tis = ⊥
 
 abbrev pub index_weight : Target → ℕ
 index_weight (PartOf signal part index) = weight index (width index)
+index_weight (WordOf signal index) = weight index (width index)
 index_weight target = 0
 
 -- what is added for these slots of a part's index
@@ -64,6 +66,7 @@ pub record AddsIndices (env : List ℕ) (old new : Coding) (targets : List Targe
 -- what the write of a part weighs besides its index
 abbrev pub write_weight : Target → ℕ
 write_weight (PartOf signal part index) = if is_constant index then 0 else part.width * (range_length part.range * (width index + 1))
+write_weight (WordOf signal index) = if is_constant index then 0 else address_weight signal (width index)
 write_weight target = 0
 
 -- what a call of the write of a value, in the slots `value`, to the parts of a target needs

@@ -17,8 +17,8 @@ use vs_values::own;
 pub(crate) fn with_items(typed: &Typed, context: Context, items: &[u32]) -> Context
     requires items { All (λ e. e < length typed.now.nodes) items.now }
     requires fit { All (λ e. is_fit (tree_at (arena_trees typed.now) e) ≡ true) items.now }
-    ensures width { result.width ≡ widest context.width (map (tree_at (arena_trees typed.now)) items.now) }
-    ensures signed { result.signed ≡ all_signed context.signed (map (tree_at (arena_trees typed.now)) items.now) }
+    ensures width { result.width ≡ widest context.width (E.items_of (map (tree_at (arena_trees typed.now)) items.now)) }
+    ensures signed { result.signed ≡ all_signed context.signed (E.items_of (map (tree_at (arena_trees typed.now)) items.now)) }
 {
     let mut all = context;
     for n in 0..items.len() {

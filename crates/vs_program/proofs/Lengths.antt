@@ -5,8 +5,8 @@ use Rattle.vs_design.specs.Expressions.{signal_length}
 use Rattle.vs_design.specs.Designs.{Design}
 use Rattle.vs_program.specs.declared.compiled.Span.{Span}
 use Rattle.vs_program.specs.Program.{Program}
-use Rattle.vs_program.specs.Compiled.{IsProgramOf, span_of}
+use Rattle.vs_program.specs.Compiled.{IsProgramOf, span_of, shown_signals}
 
 -- a program's signals have the lengths of the design's
-pub lengths_of_spans : (d : Design) (clock : ℕ) (p : Program) → IsProgramOf d clock p → map (λ (s : Span). s.length) p.signals ≡ map signal_length d.signals
-lengths_of_spans d clock p h = ap (map (λ (s : Span). s.length)) h.signals ∙ map-map (λ (s : Span). s.length) span_of d.signals
+pub lengths_of_spans : (d : Design) (clock : ℕ) (p : Program) → IsProgramOf d clock p → map (λ (s : Span). s.length) p.signals ≡ map signal_length (shown_signals d)
+lengths_of_spans d clock p h = ap (map (λ (s : Span). s.length)) h.signals ∙ map-map (λ (s : Span). s.length) span_of (shown_signals d)

@@ -1,15 +1,15 @@
 -- The slots of a made program are there, and its stores are within the size of the design.
-use Rattle.std.proofs.Common.{◌≡◌, ℕ, zero, suc, ◌+◌, ◌*◌, ◌^◌, ◌<◌, ◌≤◌, Bool, true, false, not, List, [], ◌∷◌, ◌++◌, ◌&&◌, ◌||◌, ◌==◌, if◌then◌else◌, nat_lt, nat_le, map, length, get_or, Option, Some, None, sym, ap, ◌∙◌, subst, refl, arith, eqb-true, slice_get, length-append}
-use Rattle.std.specs.Prelude.{sum_by}
+use Rattle.std.proofs.Common.{◌≡◌, ℕ, zero, suc, ◌+◌, ◌*◌, ◌^◌, ◌<◌, ◌≤◌, Bool, true, false, not, List, [], ◌∷◌, ◌&&◌, ◌||◌, ◌==◌, if◌then◌else◌, nat_lt, nat_le, map, length, Option, Some, None, sym, ap, ◌∙◌, subst, refl, arith, eqb-true, slice_get}
+use Rattle.std.specs.Prelude.{sum_by, filter, is_some}
 use Rattle.std.specs.List.{list_all}
 use Rattle.std.proofs.lemmas.Bool.{and_parts}
 use Rattle.std.proofs.lemmas.List.{length-map}
 use Rattle.std.proofs.lemmas.List.Sums.{sum_by-append, sum_by-cons}
 use Rattle.vs_four.specs.declared.Range.{Range}
 use Rattle.vs_four.specs.Selects.{range_length, is_descending}
-use Rattle.vs_design.specs.Expressions.{Signal, signal_length, range_or_one}
+use Rattle.vs_design.specs.Expressions.{Signal, signal_length, range_or_one, words_length}
 use Rattle.vs_design.specs.Designs.{Process, Design, bit_count}
-use Rattle.vs_design.specs.Footprints.{contains}
+use Rattle.vs_design.specs.Footprints.{contains, is_memory}
 use Rattle.vs_design.specs.Sizes.{register_bits, process_weight, size}
 use Rattle.vs_design.specs.Elaborated.{have_bits_from, is_declared, is_lawful_range}
 use Rattle.vs_design.specs.Levels.{is_level_order}
@@ -27,7 +27,7 @@ use Rattle.vs_program.specs.Compiled.{span_of}
 use Rattle.vs_program.specs.Layouts.{slots_of_design, widest_of}
 use Rattle.vs_program.specs.Layouts.{IsLayoutOf, mask_of}
 use Rattle.vs_program.specs.Made.{AreCallsOf, AreResetsOf, IsMadeOf, copy_shadows, fall_processes, rise_processes}
-use Rattle.vs_program.proofs.Lists.{in_first, in_rest}
+use Rattle.vs_program.proofs.Lists.{by_test, in_first, in_rest}
 use Rattle.vs_program.proofs.Passes.{lt_true}
 use Rattle.vs_program.proofs.Layouts.{few_registers}
 use Rattle.vs_program.proofs.Sleeping.{lowered_stores, sleepers_small}
@@ -116,24 +116,40 @@ true_le : (m n : ℕ) → nat_le m n ≡ true → m ≤ n
 true_le m n h = grind arith
 
 positive : (s : Signal) → 1 ≤ signal_length s
-positive s = of_range s.range
+positive s = times s.words (range_or_one s.range) (of_range s.range)
   where
+    long : (r : Range) → 1 ≤ range_length r
+    long r = by_test (is_descending r) (λ e. rw e (omega arith)) (λ e. rw e (omega arith))
+
     of_range : (r : Option Range) → 1 ≤ range_or_one r
     of_range None = omega arith
-    of_range (Some r) = go (is_descending r)
-      where
-        go : (c : Bool) → 1 ≤ (if c then suc (Rattle.std.proofs.Common.◌-◌ r.left r.right) else suc (Rattle.std.proofs.Common.◌-◌ r.right r.left))
-        go true = omega arith
-        go false = omega arith
+    of_range (Some r) = long r
 
-few_bits : (s : Signal) → is_lawful_range s.range ≡ true → signal_length s ≤ 64
-few_bits s h = of_range s.range h
+    product : (m n : ℕ) → 1 ≤ m → 1 ≤ n → 1 ≤ m * n
+    product (suc m) n h k = omega arith
+    product zero n h k = absurd (omega arith)
+
+    times : (o : Option Range) (k : ℕ) → 1 ≤ k → 1 ≤ words_length o k
+    times None k h = h
+    times (Some r) k h = product (range_length r) k (long r) h
+
+-- all but a memory
+few_bits : (s : Signal) → is_memory s ≡ false → is_lawful_range s.range ≡ true → signal_length s ≤ 64
+few_bits s plain h = no_words s.words plain
   where
     of_range : (r : Option Range) → is_lawful_range r ≡ true → range_or_one r ≤ 64
     of_range None h = omega arith
     of_range (Some r) h = true_le (range_length r) 64 (and_parts (nat_le r.left 65535 && nat_le r.right 65535) (nat_le (range_length r) 64) h).1
 
-spans_fit : (d : Design) (k count : ℕ) (ss : List Signal) → list_all (is_declared d) ss ≡ true → have_bits_from k ss ≡ true → k + sum_by signal_length ss ≤ count → list_all (spans count) (map span_of ss) ≡ true
+    no_words : (o : Option Range) → is_some o ≡ false → words_length o (range_or_one s.range) ≤ 64
+    no_words None e = of_range s.range h
+    no_words (Some r) e = cc
+
+abbrev kept : Bool → Signal → List Signal → List Signal
+kept c s ss = if not c then (s ∷ ss) else ss
+
+spans_fit : (d : Design) (k count : ℕ) (ss : List Signal) → list_all (is_declared d) ss ≡ true → have_bits_from k ss ≡ true → k + sum_by signal_length ss ≤ count
+    → list_all (spans count) (map span_of (filter (λ s. not (is_memory s)) ss)) ≡ true
 spans_fit d k count [] declared numbered l = refl
 spans_fit d k count (s ∷ ss) declared numbered l =
     let a = and_parts (is_declared d s) (list_all (is_declared d) ss) declared in
@@ -142,13 +158,18 @@ spans_fit d k count (s ∷ ss) declared numbered l =
     let sum = sum_by-cons signal_length s ss in
     let range = and_parts (nat_lt s.scope (length d.scopes) && is_lawful_range s.range) (not s.input || (s.net && (s.scope == 0))) a.0 in
     let lawful : is_lawful_range s.range ≡ true = (and_parts (nat_lt s.scope (length d.scopes)) (is_lawful_range s.range) range.0).1 in
-    let few = few_bits s lawful in
     let some = positive s in
+    let c3 : nat_le (s.first + signal_length s) count ≡ true = le_true (s.first + signal_length s) count (omega (arith, first, sum, l)) in
+    let rest = spans_fit d (k + signal_length s) count ss a.1 b.1 (omega (arith, sum, l)) in
+    by_test (is_memory s)
+    (λ e. ap (λ (c : Bool). list_all (spans count) (map span_of (kept c s (filter (λ t. not (is_memory t)) ss)))) e ∙ rest)
+    (λ e.
+    let few = few_bits s e lawful in
     let c1 : nat_le 1 (signal_length s) ≡ true = le_true 1 (signal_length s) some in
     let c2 : nat_le (signal_length s) 64 ≡ true = le_true (signal_length s) 64 few in
-    let c3 : nat_le (s.first + signal_length s) count ≡ true = le_true (s.first + signal_length s) count (omega (arith, first, sum, l)) in
     let here : spans count (span_of s) ≡ true = ap (λ z. z && nat_le (signal_length s) 64 && nat_le (s.first + signal_length s) count) c1 ∙ ap (λ z. z && nat_le (s.first + signal_length s) count) c2 ∙ c3 in
-    ap (λ z. z && list_all (spans count) (map span_of ss)) here ∙ spans_fit d (k + signal_length s) count ss a.1 b.1 (omega (arith, sum, l))
+    ap (λ (c : Bool). list_all (spans count) (map span_of (kept c s (filter (λ t. not (is_memory t)) ss)))) e
+    ∙ ap (λ z. z && list_all (spans count) (map span_of (filter (λ t. not (is_memory t)) ss))) here ∙ rest)
 
 -- the widest process, and the registers, are within the size
 widest_small : (xs : List Process) → widest_of xs ≤ sum_by process_weight xs
@@ -160,13 +181,14 @@ pub in_range : FewAreApart → StoresFit → SourcesOfDesign → (d : Design) (n
 in_range fewer fit sources d name a order ordered l low regs p made =
     let from : SourcesAre d a.clock.first = sources d name a in
     let fits = small fewer fit d name a order ordered l low regs p made in
+    let stores : StoresFitIn d a.clock.first order (may d) (may d) = fit d name a order ordered (may d) (may d) (within d) (within d) in
     let bits : l.bits ≡ bit_count d = low.bits in
     let temps = low.layout.temps_above in
     let homes : home p.bits ≤ length p.initial = subst (λ k. home k ≤ length p.initial) (bits ∙ sym made.bits) (omega (arith, temps, made.slots)) in
-    let fit : length p.initial ≤ slots_of_design d = made.few_slots in
+    let few : length p.initial ≤ slots_of_design d = made.few_slots in
     let wide = widest_small d.processes in
     let masks = sleepers_small d 0 d.processes in
-    let few_slots : length p.initial < 2 ^ 32 = omega (arith, fit, wide, masks, a.small, a.lawful.few_bits) in
+    let few_slots : length p.initial < 2 ^ 32 = omega (arith, few, wide, masks, stores.rise, a.small, a.lawful.few_bits) in
     record {
       count = few_slots;
       bits = homes;

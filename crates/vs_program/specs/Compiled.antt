@@ -9,6 +9,7 @@ use Rattle.vs_design.specs.Expressions.{Signal, signal_length}
 use Rattle.vs_design.specs.Values.{count_from}
 use Rattle.vs_design.specs.Designs.{Design, bit_count}
 use Rattle.vs_design.specs.Footprints.{contains}
+pub use Rattle.vs_design.specs.Footprints.{shown_signals}
 use Rattle.vs_design.specs.Clocks.{clock_nets}
 use Rattle.vs_design.specs.Networks.{network_of}
 use Rattle.vs_design.specs.Sizes.{size}
@@ -66,7 +67,7 @@ pub record IsProgramOf (d : Design) (clock : ℕ) (p : Program) : Type 0 where
   pub bits : p.bits ≡ bit_count d
   pub inputs : p.inputs ≡ data_bits d clock
   pub clocks : (b : ℕ) → contains p.clocks b ≡ contains (clock_nets d clock) b
-  pub signals : p.signals ≡ map span_of d.signals
+  pub signals : p.signals ≡ map span_of (shown_signals d)
   -- it begins with the constants, and with the values that the bits have before anything writes them (4.2)
   pub constants : HasConstants (initial_slots p)
   pub idle : values p.bits (initial_slots p) ≡ (network_of d clock).idle

@@ -20,7 +20,7 @@ use Rattle.vs_code.specs.Calls.{Call, length_of}
 use Rattle.vs_program.specs.Lowered.{Layout, IsLoweredProcess, IsLoweredReset, IsLoweredSleeper, HasConstants, home}
 use Rattle.vs_program.specs.Layouts.{slots_of_design, AreRegisters, IsLayoutOf, sleepers, mask_of}
 use Rattle.vs_program.specs.Program.{Program, IsInRange, AreIn, values, initial_slots}
-use Rattle.vs_program.specs.Compiled.{IsProgramOf, span_of}
+use Rattle.vs_program.specs.Compiled.{IsProgramOf, span_of, shown_signals}
 
 -- these are calls of the process, as one that sleeps or one that doesn't
 abbrev pub IsLoweredAs : Layout → ℕ → Option Sleeper → Process → List Call → Type 0
@@ -76,7 +76,7 @@ pub record IsMadeOf (d : Design) (clock : ℕ) (order regs : List ℕ) (l : Layo
   pub inputs : p.inputs ≡ data_bits d clock
   pub clocks : AreClockNets d clock p.clocks
   pub registers : AreRegisters d regs
-  pub signals : p.signals ≡ map span_of d.signals
+  pub signals : p.signals ≡ map span_of (shown_signals d)
   pub constants : HasConstants (initial_slots p)
   pub idle : values p.bits (initial_slots p) ≡ (network_of d clock).idle
   pub masks : (q : ℕ) → contains (sleepers d) q ≡ true → initial_slots p (mask_of d q) ≡ Zero

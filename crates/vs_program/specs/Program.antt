@@ -20,7 +20,7 @@ pub record Program : Type 0 where
   pub clocks : List ℕ
   -- what each slot begins with
   pub initial : List Bit4
-  -- the bits of each signal, by its number
+  -- the bits of each signal that a waveform shows, in their order: of all but memories
   pub signals : List Span
   -- the calls that settle a first slot, in which the clock falls, and those that settle a later one
   pub first : List Call

@@ -74,7 +74,7 @@ pub struct Parts {
     pub clocks: Vec<u32>,
     /// What each slot begins with, in every lane.
     pub initial: Vec<Bit4>,
-    /// The bits of each signal, by its number.
+    /// The bits of each signal that a waveform shows, in their order: of all but memories.
     pub signals: Vec<Span>,
     /// The calls of all phases, each kept once.
     pub calls: Program,
@@ -155,7 +155,7 @@ impl Compiled {
         self.initial.as_slice()
     }
 
-    /// The bits of each signal, by its number.
+    /// The bits of each signal that a waveform shows, in their order: of all but memories.
     pub fn signals(&self) -> &[Span]
         ensures { result.now ≡ self.now.signals }
     {

@@ -1,12 +1,13 @@
 -- What the operands need, of what their operator needs.
 use Rattle.std.proofs.Common.{◌≡◌, ℕ, ◌+◌, ◌*◌, ◌<◌, ◌≤◌, ◌^◌, Bool, true, false, not, ◌&&◌, ◌||◌, nat_le, List, [], ◌∷◌, ◌++◌, map, length, sym, ap, ◌∙◌, subst, refl, arith, true≢false, append_assoc, inl}
-use Rattle.std.specs.List.{All, range_with_len}
+use Rattle.std.specs.List.{All, list_all, range_with_len}
 use Rattle.std.proofs.lemmas.List.{length-map}
 use Rattle.std.proofs.lemmas.List.Sums.{sum_by-append}
 use Rattle.std.proofs.lemmas.List.Elements.{All-nil, All-cons, All-weaker, All-head}
 use Rattle.vs_four.specs.Logic.{BitList}
-use Rattle.vs_design.specs.Expressions.{BinaryOp, Expression, Literal, Name, Select, Unary, Binary, Choice, Join, Repeat, At, Way, InContext, Own, Compared, Shifted, way, unary_length, UnaryOp, binary_length, width, sign, is_constant}
-use Rattle.vs_design.specs.Fits.{fits_64, fits, is_division, divides_constants, is_fit}
+use Rattle.vs_design.specs.Expressions.{signal_length, word_length, BinaryOp, Expression, Literal, Name, Select, Word, Unary, Binary, Choice, Join, Repeat, At, Way, InContext, Own, Compared, Shifted, way, unary_length, UnaryOp, binary_length, width, sign, is_constant}
+use Rattle.vs_design.specs.Expressions as E
+use Rattle.vs_design.specs.Fits.{fits_64, fits_signal, fits, fit_items, fits_statement, is_division, divides_constants, is_fit}
 use Rattle.vs_design.specs.Sizes.{weight, is_shift}
 use Rattle.vs_design.specs.Values.{left_width, right_width, left_sign, right_sign, apply_binary}
 use Rattle.vs_design.specs.Footprints.{read_bits}
@@ -59,7 +60,12 @@ fits_length (Choice c p q) h =
     (omega arith, omega arith)
 fits_length (Join high low) h = fits_64_is (width high + width low) (both_true _ _ (both_true _ (fits low) h).0).0
 fits_length (Repeat count a) h = fits_64_is (count * width a) (both_true _ (fits a) h).0
+fits_length (Word signal index) h = fits_64_is _ (both_true (fits_64 (word_length signal)) (fits index) h).0
 fits_length (At place e) h = fits_length e h
+fits_length (E.Call header statement arguments) h =
+    let p = both_true (fits_64 (signal_length header.result) && list_all fits_signal header.inputs && fit_items arguments) (fits_statement statement) h in
+    let q = both_true (fits_64 (signal_length header.result) && list_all fits_signal header.inputs) (fit_items arguments) p.0 in
+    fits_64_is _ (both_true (fits_64 (signal_length header.result)) (list_all fits_signal header.inputs) q.0).0
 
 -- ---- the operands of two
 

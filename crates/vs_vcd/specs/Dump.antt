@@ -5,9 +5,11 @@ use Rattle.vs_four.specs.Logic.{BitList}
 pub record Dump : Type 0 where
   -- the text of the head
   pub head : List ℕ
+  -- the numbers of the signals that have lines
+  pub numbers : List ℕ
   -- the half-period
   pub half : ℕ
-  -- the values of the slot that was begun last, by signal
+  -- their values in the slot that was begun last
   pub last : List BitList
   -- what is left of the part that was begun last
   pub left : List ℕ

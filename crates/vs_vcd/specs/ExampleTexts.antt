@@ -25,7 +25,7 @@ abbrev pub block_of_top : List ℕ → Scope
 block_of_top name = record { name = name; parent = Some 0; instance = false }
 
 abbrev pub design_with : List Scope → List Signal → Design
-design_with scopes signals = record { scopes = scopes; signals = signals; processes = [] }
+design_with scopes signals = record { scopes = scopes; signals = signals; processes = []; functions = [] }
 
 -- `module top(input clk, input a, input b, output y); assign y = a & b; endmodule`
 abbrev pub and_design : Design
@@ -87,7 +87,7 @@ abbrev pub nested_scopes : List Scope
 nested_scopes = top ∷ record { name = codes "u"; parent = Some 0; instance = true } ∷ record { name = codes "g"; parent = Some 1; instance = false } ∷ record { name = codes "v"; parent = Some 0; instance = true } ∷ []
 
 abbrev pub reg_in : ℕ → ℕ → Signal
-reg_in scope number = record { name = codes "r"; scope = scope; number = number; net = false; input = false; range = None; signed = false; first = number }
+reg_in scope number = record { name = codes "r"; scope = scope; number = number; net = false; input = false; range = None; signed = false; first = number; words = None }
 
 abbrev pub nested_design : Design
 nested_design = design_with nested_scopes (reg_in 0 0 ∷ reg_in 1 1 ∷ reg_in 2 2 ∷ reg_in 3 3 ∷ [])
@@ -100,9 +100,29 @@ nested_text = lines (
     codes "$upscope $end" ∷ codes "$enddefinitions $end" ∷
     codes "#0" ∷ codes "$dumpvars" ∷ codes "x!" ∷ codes "z\"" ∷ codes "x#" ∷ codes "x$" ∷ codes "$end" ∷ codes "#7" ∷ [])
 
+-- a memory of two words of two bits, whose number is between those of the clock and of q
+abbrev pub words_of_two : Signal
+words_of_two = record (reg_of (codes "m") 1 (to_zero 1) 1) { words = to_zero 1 }
+
+abbrev pub memory_design : Design
+memory_design = design_with (top ∷ []) (clk_signal ∷ words_of_two ∷ reg_of (codes "q") 2 None 5 ∷ [])
+
+-- a word gets a value, and then q
+abbrev pub memory_ends : List State
+memory_ends = state_of (Zero ∷ X ∷ X ∷ X ∷ X ∷ X ∷ []) ∷ state_of (One ∷ One ∷ Zero ∷ X ∷ X ∷ X ∷ []) ∷ state_of (One ∷ One ∷ Zero ∷ X ∷ X ∷ One ∷ []) ∷ []
+
+abbrev pub memory_text : List ℕ
+memory_text = lines (
+    codes "$version cyclesim $end" ∷ codes "$timescale 1ns $end" ∷ codes "$scope module top $end" ∷
+    codes "$var wire 1 ! clk $end" ∷ codes "$var reg 1 # q $end" ∷
+    codes "$upscope $end" ∷ codes "$enddefinitions $end" ∷
+    codes "#0" ∷ codes "$dumpvars" ∷ codes "0!" ∷ codes "x#" ∷ codes "$end" ∷
+    codes "#5" ∷ codes "1!" ∷ codes "#10" ∷ codes "1#" ∷ codes "#15" ∷ [])
+
 abbrev pub TextsComputed : Type 0
 TextsComputed = (vcd and_design 5 and_ends ≡ and_text) × (vcd register_design 5 register_ends ≡ register_text)
     × (vcd adder_design 5 adder_ends ≡ adder_text) × (vcd nested_design 7 (state_of (X ∷ Z ∷ X ∷ X ∷ []) ∷ []) ≡ nested_text)
+    × (vcd memory_design 5 memory_ends ≡ memory_text)
 
 -- bits least significant first, digits most significant first
 abbrev pub DigitsComputed : Type 0

@@ -4,6 +4,7 @@ use Rattle.std.specs.List.{flat_map}
 use Rattle.vs_four.specs.declared.Range.{Range}
 use Rattle.vs_design.specs.Expressions.{Signal, signal_length}
 use Rattle.vs_design.specs.Designs.{Scope, Design}
+pub use Rattle.vs_design.specs.Footprints.{shown_signals}
 use Rattle.vs_vcd.specs.Numerals.{decimal, identifier}
 use Rattle.vs_vcd.specs.Values.{line}
 
@@ -52,5 +53,6 @@ scopes_in signals outer n (s ∷ ss) = elim (stands_in outer s.parent) [
   | false ↦ scopes_in signals outer (suc n) ss
 ]
 
+-- the signals that are shown have lines; a memory's number stands on none
 abbrev pub head_text : Design → List ℕ
-head_text d = line (codes "$version cyclesim $end") ++ line (codes "$timescale 1ns $end") ++ scopes_in d.signals None 0 d.scopes ++ line (codes "$enddefinitions $end")
+head_text d = line (codes "$version cyclesim $end") ++ line (codes "$timescale 1ns $end") ++ scopes_in (shown_signals d) None 0 d.scopes ++ line (codes "$enddefinitions $end")

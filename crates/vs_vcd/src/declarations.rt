@@ -4,7 +4,7 @@ ghost use Rattle.std.specs.Prelude.{◌≡◌, ◌<◌, ◌≤◌, ◌+◌, ◌+
 ghost use Rattle.vs_flat.specs.DesignOf.{design_of, scope_of};
 ghost use Rattle.vs_flat.specs.Trees.{signal_of};
 ghost use Rattle.vs_vcd.specs.Groups.{AreLinked};
-ghost use Rattle.vs_vcd.specs.Scopes.{variable_kind, range_text, variable_start, variable_line, variables, scope_kind, scope_line, scopes_in, head_text};
+ghost use Rattle.vs_vcd.specs.Scopes.{variable_kind, range_text, variable_start, variable_line, variables, scope_kind, scope_line, scopes_in, shown_signals, head_text};
 ghost use Rattle.vs_vcd.specs.Steps.{scope_key, scope_keys, signal_keys, step_text, steps_text, link_steps, IsStep, AreSteps};
 
 use crate::groups::Groups;
@@ -34,7 +34,7 @@ pub fn head(alloc: Global, flat: &Flat) -> Result<Vec<u8>, AllocError>
 
 /// Adds all scopes, each with its variables and the scopes in it.
 fn push_scopes(alloc: Global, text: &mut Vec<u8>, flat: &Flat) -> Result<(), AllocError>
-    ensures { OnOk result (text.new.items ≡ text.old.items ++ scopes_in (design_of flat.now).signals None 0 (design_of flat.now).scopes) }
+    ensures { OnOk result (text.new.items ≡ text.old.items ++ scopes_in (shown_signals (design_of flat.now)) None 0 (design_of flat.now).scopes) }
 {
     let scopes = scope_groups(alloc, flat)?;
     let variables = variable_groups(alloc, flat)?;

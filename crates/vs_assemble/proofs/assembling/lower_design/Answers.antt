@@ -41,7 +41,8 @@ lower_copy-requires-clause-call g c =
     let d = g.T.Processes.design c.args.lowering.now in
     let lay = g.T.Lowering.layout c.args.lowering.now in
     let at = c.requires.accepted in
-    let low = first_low d lay c.args.clock at c.requires.layout in
+    let fits = (plan_fits c.stores_law.ensures c.cycle_law.ensures.order (g.T.Processes.design c.args.lowering.now) c.args.clock c.requires.accepted c.args.order.now c.requires.order c.args.plan.now.settling.items c.args.plan.now.blocks.items c.args.plan.now.registers.items c.args.plan.now.falling.items c.requires.plan) in
+    let low = first_low d lay c.args.clock at c.requires.layout fits.few_registers in
     subst (λ (regs : List ℕ). All IsCall (copy_shadows lay regs)) (sym c.as_slice-2.ensures.value)
     (c.copy_law.ensures d at.name at.accepted lay c.requires.layout.layout (omega (arith, low)) c.args.plan.now.registers.items c.requires.plan.registers_are)
 
@@ -49,7 +50,7 @@ pub lower_copy-requires-clause-few : goal.lower_copy-requires-clause-few
 lower_copy-requires-clause-few g c =
     let fits = (plan_fits c.stores_law.ensures c.cycle_law.ensures.order (g.T.Processes.design c.args.lowering.now) c.args.clock c.requires.accepted c.args.order.now c.requires.order c.args.plan.now.settling.items c.args.plan.now.blocks.items c.args.plan.now.registers.items c.args.plan.now.falling.items c.requires.plan) in
     let lay = g.T.Lowering.layout c.args.lowering.now in
-    let copy = copy_small c.list_law.ensures.few (g.T.Processes.design c.args.lowering.now) lay c.args.plan.now.registers.items c.requires.plan.registers_are c.requires.accepted.accepted.small in
+    let copy = copy_small c.list_law.ensures.few (g.T.Processes.design c.args.lowering.now) lay c.args.plan.now.registers.items c.requires.plan.registers_are fits.few_registers in
     omega (
       arith,
       copy,
