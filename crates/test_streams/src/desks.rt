@@ -76,11 +76,9 @@ struct ByteByByte {
 }
 
 impl Desk for ByteByByte {
-    ghost register = { λ slow. memory.register slow.desk };
-
     ghost tells = { true };
 
-    ghost contents = { λ slow. memory.contents slow.desk };
+    ghost told = { λ slow. memory.told slow.desk };
 
     fn attach(&mut self, place: u32, path: String, way: Way) -> Result<(), Failed> {
         self.desk.attach(place, path, way)

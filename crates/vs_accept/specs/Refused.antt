@@ -32,13 +32,14 @@ token_refusal (lexer.BadLiteral at) = Some (refusal.At name.BadLiteral at)
 token_refusal (lexer.TooManyTokens at) = Some (refusal.At name.TooManyTokens at)
 token_refusal lexer.Memory = None
 
--- of its macros and conditional parts (clause 19)
+-- of its macros and conditional parts (clause 19), and of sizes in front of their numbers (3.5.1)
 abbrev pub macro_refusal : PreError → Option Refusal
 macro_refusal (macro.BadDirective at) = Some (refusal.At name.BadDirective at)
 macro_refusal (macro.UnknownMacro at) = Some (refusal.At name.UnknownMacro at)
 macro_refusal (macro.MacroLoop at) = Some (refusal.At name.MacroLoop at)
 macro_refusal (macro.MacroArguments at) = Some (refusal.At name.MacroArguments at)
 macro_refusal (macro.MacroLimit at) = Some (refusal.At name.MacroLimit at)
+macro_refusal (macro.BadLiteral at) = Some (refusal.At name.BadLiteral at)
 macro_refusal macro.Memory = None
 
 -- why the tokens of a text spell no tree (annex A), with the token that tells it
@@ -90,6 +91,7 @@ width_refusal byte (rule.Division at) = refusal.At name.Division (byte at)
 width_refusal byte (rule.TooLarge size) = refusal.TooLarge size
 
 abbrev pub block_refusal : (byte : ℕ → ℕ) → rule.BlockRefusal → Refusal
+block_refusal byte (rule.FunctionLatch at) = refusal.At name.FunctionLatch (byte at)
 block_refusal byte (rule.MixedAssign at) = refusal.At name.MixedAssign (byte at)
 block_refusal byte (rule.Sensitivity p signal at) = refusal.Sensitivity p signal (byte at)
 block_refusal byte (rule.Latch p bit at) = refusal.Latch p bit (byte at)

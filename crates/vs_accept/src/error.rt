@@ -62,6 +62,7 @@ impl From<PreError> for AcceptError {
                 AcceptError::Refused(Refusal::At(AtName::MacroArguments, at))
             }
             PreError::MacroLimit(at) => AcceptError::Refused(Refusal::At(AtName::MacroLimit, at)),
+            PreError::BadLiteral(at) => AcceptError::Refused(Refusal::At(AtName::BadLiteral, at)),
             PreError::Memory => AcceptError::Memory,
         }
     }

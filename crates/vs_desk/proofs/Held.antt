@@ -4,13 +4,13 @@ use Rattle.std.specs.Prelude.{if◌then◌else◌}
 use Rattle.std.specs.Ordering.{nat_cmp}
 use Rattle.std.specs.Option.{option_map}
 use Rattle.std.specs.Map.{lookup}
-use Rattle.std.specs.BTreeMap.{BTreeMap, is_at}
+use Rattle.std.specs.BTreeMap.{BTreeMap, get, is_at}
 use Rattle.std.proofs.lemmas.Slice.Eq.{bytes_eq-Decides}
 use Rattle.vs_desk.specs.declared.desk.Way.{Way}
 use Rattle.vs_desk.specs.declared.desk.Way.TheVariants.{Read, Write}
 use Rattle.vs_desk.specs.declared.place.Place.{Place}
 use Rattle.vs_desk.specs.Desk.{Attachment}
-use Rattle.vs_desk.specs.Files.{FileMap, holds_file}
+use Rattle.vs_desk.specs.Files.{FileMap, bytes_at, holds_file}
 use Rattle.vs_desk.specs.Place.{attachment_of, attached_in}
 use Rattle.vs_desk.specs.Tape.{is_emptied}
 
@@ -59,3 +59,11 @@ same_places places new same p = ap (λ es. option_map attachment_of (lookup (is_
 -- and the same files held
 pub same_holds : (files new : FileMap) → new.entries ≡ files.entries → (q : List ℕ) → holds_file new q ≡ holds_file files q
 same_holds files new same q = grind (arith, same)
+
+-- and the same bytes are in the files
+pub same_bytes : (files new : FileMap) → new.entries ≡ files.entries → (q : List ℕ) → bytes_at new q ≡ bytes_at files q
+same_bytes files new same q = grind (arith, same)
+
+-- and the same is at each place
+pub same_at : {S : Type 0} (places new : BTreeMap ℕ (Place S)) → new.entries ≡ places.entries → (p : ℕ) → get nat_cmp new p ≡ get nat_cmp places p
+same_at places new same p = ap (λ es. lookup (is_at (nat_cmp p)) es) same

@@ -1,6 +1,6 @@
 -- What a desk in memory tells after a call.
-use Rattle.std.proofs.Common.{◌≡◌, ◌≢◌, ℕ, List, Bool, true, false, not, ◌&&◌, ◌++◌, [], Option, Some, None, ◌==◌, IsNone, refl, sym, ◌∙◌, ap, arith, take, length}
-use Rattle.std.specs.Prelude.{if◌then◌else◌}
+use Rattle.std.proofs.Common.{◌≡◌, ◌≢◌, ℕ, List, Bool, true, false, not, ◌&&◌, ◌++◌, [], Option, Some, None, ◌==◌, IsNone, refl, sym, ◌∙◌, ap, arith, take, length, ◌<◌, ◌∷◌}
+use Rattle.std.specs.Prelude.{min, if◌then◌else◌}
 use Rattle.std.specs.Str.{bytes_eq}
 use Rattle.std.specs.Ordering.{nat_cmp}
 use Rattle.std.specs.Option.{option_map}
@@ -81,3 +81,8 @@ pub put_contents : (r : Register) (c d : Contents) (place : ℕ) (bytes : List �
     → ((p : ℕ) → d.put p ≡ (if p == place then c.put p ++ bytes else c.put p))
     → d ≡ with_put r c place (take (length bytes) bytes)
 put_contents r c d place bytes files left put = rw (take-length bytes) (same_contents _ _ files left put)
+
+-- where none was taken, none was left
+pub none_left : (xs : List ℕ) (n a b : ℕ) → n ≡ min (min a b) (length xs) → 0 < a → 0 < b → n ≡ 0 → xs ≡ []
+none_left [] n a b is some room none = refl
+none_left (x ∷ xs) n a b is some room none = absurd (omega (arith, is, some, room, none))

@@ -1,5 +1,5 @@
 -- What a desk tells, and what each call changes of it.
-use Rattle.std.specs.Prelude.{◌≡◌, ◌≢◌, ◌⊎◌, ℕ, ◌-◌, ◌^◌, ◌<◌, ◌==◌, not, ◌&&◌, List, [], ◌++◌, length, take, drop, Option, Some, None, IsSomeAnd, if◌then◌else◌}
+use Rattle.std.specs.Prelude.{◌≡◌, ◌≢◌, ◌⊎◌, ℕ, ◌-◌, ◌^◌, ◌<◌, ◌≤◌, ◌==◌, Bool, IsTrue, not, ◌&&◌, List, [], ◌++◌, length, take, drop, Option, Some, None, IsSomeAnd, Result, OnOk, OnErr, if◌then◌else◌}
 use Rattle.std.specs.Option.{option_map_or}
 use Rattle.std.specs.Str.{bytes_eq}
 use Rattle.vs_desk.specs.declared.desk.Way.{Way}
@@ -24,6 +24,12 @@ pub record Contents : Type 0 where
   pub files : List ℕ → List ℕ
   pub left : ℕ → List ℕ
   pub put : ℕ → List ℕ
+
+-- What a desk tells: its register, and its contents. Whether the contents are told is a matter of the kind of desk, so it is the same
+-- before and after each call. Of the contents of a desk that doesn't tell them nothing is known.
+pub record Told (tells : Bool) : Type 0 where
+  pub register : Register
+  pub contents : Contents
 
 -- no place but 0 is attached, and no call has failed
 abbrev pub no_register : Register
@@ -95,3 +101,34 @@ pub record Fails (old new : Register) (place : ℕ) (asked : List ℕ) : Type 0 
   pub noted : place ≢ 0 → new.failed ≡ place
   pub not_noted : place ≡ 0 → new.failed ≡ old.failed
   pub path : new.asked ≡ asked
+
+-- A call at the place failed, and no byte was taken or put.
+pub record FailsAlone {tells : Bool} (old new : Told tells) (place : ℕ) (asked : List ℕ) : Type 0 where
+  pub fails : Fails old.register new.register place asked
+  pub bytes : IsTrue tells → new.contents ≡ old.contents
+
+-- The place was attached in this way to the path, and nothing else has changed.
+pub record Attaches {tells : Bool} (old new : Told tells) (place : ℕ) (way : Way) (path : List ℕ) : Type 0 where
+  pub register : new.register ≡ with_place old.register place way path
+  pub bytes : IsTrue tells → new.contents ≡ with_attached old.contents place way path
+
+-- The first n of the bytes left at the place were taken, none only where none was left, and nothing else has changed.
+pub record Takes {tells : Bool} (old new : Told tells) (place n : ℕ) : Type 0 where
+  pub same : new.register ≡ old.register
+  pub available : IsTrue tells → n ≤ length (old.contents.left place)
+  pub bytes : IsTrue tells → new.contents ≡ with_taken old.contents place n
+  pub end : IsTrue tells → n ≡ 0 → old.contents.left place ≡ []
+
+-- These bytes were put at the place, and nothing else has changed.
+pub record Puts {tells : Bool} (old new : Told tells) (place : ℕ) (bytes : List ℕ) : Type 0 where
+  pub same : new.register ≡ old.register
+  pub put : IsTrue tells → new.contents ≡ with_put old.register old.contents place bytes
+
+-- What a call that is to put these bytes at a place does. On Ok they were put, and nothing else has changed. On Err a call there
+-- failed, and some first bytes were put, and not all.
+pub record PutsAll {tells : Bool} {V E : Type 0} (old new : Told tells) (place : ℕ) (bytes : List ℕ) (result : Result V E) : Type 0 where
+  pub same : OnOk result (new.register ≡ old.register)
+  pub put : IsTrue tells → OnOk result (new.contents ≡ with_put old.register old.contents place bytes)
+  pub places : new.register.attached ≡ old.register.attached
+  pub failed : OnErr result (Fails old.register new.register place old.register.asked)
+  pub part : IsTrue tells → OnErr result (PutsPart old.register old.contents new.contents place bytes)

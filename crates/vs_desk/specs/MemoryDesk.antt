@@ -1,10 +1,10 @@
 -- What a desk in memory tells, and which of its calls are to fail.
-use Rattle.std.specs.Prelude.{ℕ, ◌+◌, ◌-◌, ◌^◌, min, List, [], ◌++◌, Bool, Contains, if◌then◌else◌}
+use Rattle.std.specs.Prelude.{ℕ, ◌+◌, ◌-◌, ◌^◌, min, List, [], ◌++◌, Bool, true, Contains, if◌then◌else◌}
 use Rattle.std.specs.Ordering.{nat_cmp}
 use Rattle.std.specs.Str.{bytes_eq}
 use Rattle.std.specs.BTreeMap.{get}
 use Rattle.vs_desk.specs.declared.memory.MemoryDesk.{MemoryDesk}
-use Rattle.vs_desk.specs.Desk.{Register, Contents}
+use Rattle.vs_desk.specs.Desk.{Register, Contents, Told}
 use Rattle.vs_desk.specs.Failures.{register_of}
 use Rattle.vs_desk.specs.Files.{bytes_at, holds_file}
 use Rattle.vs_desk.specs.Place.{attached_in}
@@ -20,6 +20,10 @@ contents desk = record {
   left = λ p. left_on (get nat_cmp desk.tapes p);
   put = λ p. put_in desk.report.items desk.tapes p;
 }
+
+-- it tells its contents
+abbrev pub told : MemoryDesk → Told true
+told desk = record { register = register desk; contents = contents desk }
 
 -- whether it holds a file at the path
 unfoldable pub holds : MemoryDesk → List ℕ → Bool

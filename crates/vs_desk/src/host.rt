@@ -128,14 +128,11 @@ fn write_to<R: Files + Print>(
 #[tactic(auto, unfolding(crate::specs::Host::register))]
 impl<R: Files + Print> Desk for HostDesk<R> {
     ghost use Rattle.std.specs.Prelude.{false};
-    ghost use Rattle.vs_desk.specs.Desk.{no_contents};
-    ghost use Rattle.vs_desk.specs.Host.{register};
-
-    ghost register = { register };
+    ghost use Rattle.vs_desk.specs.Host.{told};
 
     ghost tells = { false };
 
-    ghost contents = { λ _. no_contents };
+    ghost told = { told };
 
     fn attach(&mut self, place: u32, path: String, way: Way) -> Result<(), Failed> {
         match attach_file(&self.rt, &mut self.places, place, path, way) {

@@ -134,28 +134,23 @@ impl MemoryDesk {
 impl Desk for MemoryDesk {
     ghost use Rattle.std.specs.Prelude.{◌≡◌, ◌≢◌, ◌<◌, ◌≤◌, ◌++◌, ℕ, List, [], Bool, true, false, min, length, take, drop, IsTrue, IsNone, IsErr, IfOk, OnOk, OnErr, ◌||◌, ◌↔◌, string_bytes};
     ghost use Rattle.vs_desk.specs.declared.desk.Way.TheVariants.{Read};
-    ghost use Rattle.vs_desk.specs.Desk.{IsAttached, IsWritable, Fails, with_place, with_attached, with_taken, with_put};
+    ghost use Rattle.vs_desk.specs.Desk.{IsAttached, IsWritable, FailsAlone, Attaches, Takes, Puts};
     ghost use Rattle.vs_desk.specs.Tape.{is_emptied};
     ghost use Rattle.vs_desk.specs.MemoryDesk as memory;
 
-    ghost register = { memory.register };
-
     ghost tells = { true };
 
-    ghost contents = { memory.contents };
+    ghost told = { memory.told };
 
     fn attach(&mut self, place: u32, path: String, way: Way) -> Result<(), Failed>
         requires no_report { place ≢ 0 }
         requires free { IsNone ((memory.register self.old).attached place) }
-        ensures attached { OnOk result (memory.register self.new
-            ≡ with_place (memory.register self.old) place way (string_bytes path)) }
-        ensures bytes { OnOk result (memory.contents self.new
-            ≡ with_attached (memory.contents self.old) place way (string_bytes path)) }
+        ensures attached { OnOk result
+            (Attaches (memory.told self.old) (memory.told self.new) place way (string_bytes path)) }
         ensures other_places { (p : ℕ) → p ≢ place →
             (memory.register self.new).attached p ≡ (memory.register self.old).attached p }
-        ensures failed { OnErr result (Fails (memory.register self.old)
-            (memory.register self.new) place (string_bytes path)) }
-        ensures bytes_kept { OnErr result (memory.contents self.new ≡ memory.contents self.old) }
+        ensures failed { OnErr result
+            (FailsAlone (memory.told self.old) (memory.told self.new) place (string_bytes path)) }
 
         // It fails where its number was listed, and with `Read` where there is no file.
         ensures planned { memory.NextFails (memory.plan self.old) → IsErr result }
@@ -191,17 +186,12 @@ impl Desk for MemoryDesk {
         requires attached { IsAttached (memory.register self.old) place Read }
         requires room { 0 < length buf.old }
         ensures within { IfOk result (λ n. n ≤ length buf.old) }
-        ensures available { IfOk result (λ n. n ≤ length ((memory.contents self.old).left place)) }
         ensures moved { IfOk result
             (λ n. buf.new ≡ take n ((memory.contents self.old).left place) ++ drop n buf.old) }
-        ensures bytes { IfOk result
-            (λ n. memory.contents self.new ≡ with_taken (memory.contents self.old) place n) }
-        ensures end { IfOk result (λ n. n ≡ 0 → (memory.contents self.old).left place ≡ []) }
-        ensures same { OnOk result (memory.register self.new ≡ memory.register self.old) }
+        ensures taken { IfOk result (λ n. Takes (memory.told self.old) (memory.told self.new) place n) }
         ensures places { (memory.register self.new).attached ≡ (memory.register self.old).attached }
-        ensures failed { OnErr result (Fails (memory.register self.old)
-            (memory.register self.new) place (memory.register self.old).asked) }
-        ensures bytes_kept { OnErr result (memory.contents self.new ≡ memory.contents self.old) }
+        ensures failed { OnErr result (FailsAlone (memory.told self.old) (memory.told self.new)
+            place (memory.register self.old).asked) }
 
         ensures buf_kept { OnErr result (buf.new ≡ buf.old) }
 
@@ -225,13 +215,10 @@ impl Desk for MemoryDesk {
         requires some { 0 < length bytes.now }
         ensures progress { IfOk result (λ n. 0 < n) }
         ensures within { IfOk result (λ n. n ≤ length bytes.now) }
-        ensures bytes { IfOk result (λ n. memory.contents self.new ≡ with_put
-            (memory.register self.old) (memory.contents self.old) place (take n bytes.now)) }
-        ensures same { OnOk result (memory.register self.new ≡ memory.register self.old) }
+        ensures put { IfOk result (λ n. Puts (memory.told self.old) (memory.told self.new) place (take n bytes.now)) }
         ensures places { (memory.register self.new).attached ≡ (memory.register self.old).attached }
-        ensures failed { OnErr result (Fails (memory.register self.old)
-            (memory.register self.new) place (memory.register self.old).asked) }
-        ensures bytes_kept { OnErr result (memory.contents self.new ≡ memory.contents self.old) }
+        ensures failed { OnErr result (FailsAlone (memory.told self.old) (memory.told self.new)
+            place (memory.register self.old).asked) }
 
         // It fails where its number was listed. Else it puts all bytes, unless memory runs out.
         ensures planned { memory.NextFails (memory.plan self.old) → IsErr result }

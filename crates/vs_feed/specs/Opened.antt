@@ -1,14 +1,17 @@
 -- What the opening of all stimuli makes.
-use Rattle.std.specs.Prelude.{◌≡◌, ℕ, ◌<◌, Bool, true, IsTrue, IsNone, List, [], length, map, slice_index_or, String, string_bytes, None}
+use Rattle.std.specs.Prelude.{◌≡◌, ◌≢◌, ◌⊎◌, ℕ, ◌+◌, ◌<◌, Bool, true, IsTrue, IsNone, List, [], length, map, take, slice_index_or, String, string_bytes, None, Some}
 use Rattle.std.specs.declared.alloc.Global.{Global}
 use Rattle.vs_desk.specs.declared.desk.Way.TheVariants.{Read}
-use Rattle.vs_desk.specs.Desk.{Register, Contents}
+use Rattle.vs_desk.specs.Desk.{Register, Contents, Told, Fails}
 use Rattle.vs_desk.specs.Places.{with_places, stimulus_place}
 use Rattle.vs_stim.specs.declared.input.Input.{Input}
+use Rattle.vs_stim.specs.declared.error.StimError.TheVariants as E
 use Rattle.vs_stim.specs.Header.{lengths}
-use Rattle.vs_stim.specs.Known.{Known, remaining, IsReadBy}
-use Rattle.vs_stim.specs.Reading.{reading, header_refusal}
+use Rattle.vs_stim.specs.Known.{Known, remaining, IsReadBy, IsUntold}
+use Rattle.vs_stim.specs.Reading.{first_place, reading, refused, header_refusal}
 use Rattle.vs_stim.specs.Row.{sizes}
+use Rattle.vs_stim.specs.Source.{IsHeaderError}
+use Rattle.vs_feed.specs.declared.reading.Stopped.{Stopped}
 use Rattle.vs_feed.specs.Lanes.{lane_at}
 
 -- the bytes of each path
@@ -45,3 +48,30 @@ pub record IsOpened (tells : Bool) (inputs : List Input) (before after : Content
 pub record AreOpened (tells : Bool) (inputs : List Input) (before after : Contents) (paths : List (List ℕ)) (ks : List Known) : Type 0 where
   pub lanes : length ks ≡ length paths
   pub each : (i : ℕ) → i < length ks → IsOpened tells inputs before after (path_at paths i) i (lane_at ks i)
+
+-- The attach of this lane's place failed, behind those of the earlier lanes.
+abbrev pub AttachFails : {tells : Bool} → List (List ℕ) → Told tells → Told tells → ℕ → Type 0
+AttachFails paths old new lane = Fails (with_lanes old.register (take lane paths)) new.register (stimulus_place lane) (path_at paths lane)
+
+-- A take at this lane's place failed, behind the attaches up to its own.
+abbrev pub TakeFails : {tells : Bool} → List (List ℕ) → Told tells → Told tells → ℕ → Type 0
+TakeFails paths old new lane = Fails (with_lanes old.register (take (lane + 1) paths)) new.register (stimulus_place lane) old.register.asked
+
+-- The first lane whose stimulus can't be opened on its path stopped the opening, with this error.
+pub record StopsOpening {tells : Bool} (inputs : List Input) (paths : List (List ℕ)) (old new : Told tells) (stopped : Stopped) : Type 0 where
+  pub lane : stopped.lane < length paths
+  pub error : IsHeaderError stopped.error
+  -- a refusal is that of the lane's text, and no earlier lane's text has one
+  pub refusal : IsTrue tells → stopped.error ≢ E.ReadFault → stopped.error ≢ E.Memory
+      → header_refusal inputs (old.contents.files (path_at paths stopped.lane)) ≡ Some stopped.error
+  pub reading : IsTrue tells → stopped.error ≢ E.ReadFault → stopped.error ≢ E.Memory
+      → reading inputs (old.contents.files (path_at paths stopped.lane)) ≡ refused stopped.error
+  pub before : IsTrue tells → HaveHeaders inputs old.contents.files paths stopped.lane
+  -- the places up to the lane's own are attached; where there was no memory, it may be those up to the one before
+  pub attached : stopped.error ≢ E.ReadFault → stopped.error ≢ E.Memory → new.register ≡ with_lanes old.register (take (stopped.lane + 1) paths)
+  pub memory : stopped.error ≡ E.Memory
+      → (new.register ≡ with_lanes old.register (take stopped.lane paths)) ⊎ (new.register ≡ with_lanes old.register (take (stopped.lane + 1) paths))
+  -- a fault is a failed call at the lane's place, and a take fails only behind bytes that tell neither a header nor a refusal
+  pub fault : stopped.error ≡ E.ReadFault → AttachFails paths old new stopped.lane ⊎ TakeFails paths old new stopped.lane
+  pub needed : IsTrue tells → stopped.error ≡ E.ReadFault → AttachFails paths old new stopped.lane
+      ⊎ IsUntold first_place (old.contents.files (path_at paths stopped.lane)) (new.contents.left (stimulus_place stopped.lane))

@@ -1,6 +1,6 @@
 //! The opening of the stimuli.
 
-ghost use Rattle.std.specs.Prelude.{◌≡◌, ◌≢◌, ◌⊎◌, ◌+◌, ◌<◌, ◌≤◌, [], ◌∷◌, ◌++◌, All, Ok, Err, Some, None, length, take, vec_len, string_bytes, IsNone, IsTrue, IfErr, IfOk, OnOk, OnErr};
+ghost use Rattle.std.specs.Prelude.{◌≡◌, ◌≢◌, ◌⊎◌, ◌+◌, ◌<◌, ◌≤◌, [], ◌∷◌, ◌++◌, All, Ok, Err, Some, None, length, vec_len, string_bytes, IsNone, IsTrue, IfErr, IfOk, OnOk, OnErr};
 ghost use Rattle.vs_desk.specs.Desk.{Fails, with_place};
 ghost use Rattle.vs_desk.specs.declared.desk.Way.TheVariants.{Read};
 ghost use Rattle.vs_desk.specs.Taking.{OnlyTaken};
@@ -10,7 +10,7 @@ ghost use Rattle.vs_stim.specs.Known.{IsUntold};
 ghost use Rattle.vs_stim.specs.Reading.{first_place, reading, refused, header_refusal};
 ghost use Rattle.vs_stim.specs.Source.{IsHeaderError};
 ghost use Rattle.vs_feed.specs.Lanes.{lane_at, OtherPlacesKept};
-ghost use Rattle.vs_feed.specs.Opened.{texts, path_at, with_lanes, AreFree, HaveHeaders, IsOpened, AreOpened};
+ghost use Rattle.vs_feed.specs.Opened.{texts, with_lanes, AreFree, HaveHeaders, IsOpened, AreOpened, StopsOpening};
 
 use crate::Stopped;
 use std::alloc::Global;
@@ -41,33 +41,33 @@ fn open_next<D: Desk>(
     stimuli: &mut Vec<Stimulus>,
 ) -> Result<(), Stopped>
     requires lane { length stimuli.old.items < most_lanes }
-    requires free { IsNone ((D.register desk.old).attached (stimulus_place (length stimuli.old.items))) }
+    requires free { IsNone ((D.told desk.old).register.attached (stimulus_place (length stimuli.old.items))) }
     requires inputs { All IsInput inputs.now }
     ensures added { OnOk result (stimuli.new.items ≡ stimuli.old.items ++ lane_at stimuli.new.items (length stimuli.old.items) ∷ []) }
-    ensures opened { OnOk result (IsOpened D.tells inputs.now (D.contents desk.old) (D.contents desk.new) (string_bytes path) (length stimuli.old.items)
+    ensures opened { OnOk result (IsOpened D.tells inputs.now (D.told desk.old).contents (D.told desk.new).contents (string_bytes path) (length stimuli.old.items)
         (lane_at stimuli.new.items (length stimuli.old.items))) }
-    ensures headed { IsTrue D.tells → OnOk result (header_refusal inputs.now ((D.contents desk.old).files (string_bytes path)) ≡ None) }
+    ensures headed { IsTrue D.tells → OnOk result (header_refusal inputs.now ((D.told desk.old).contents.files (string_bytes path)) ≡ None) }
 
     ensures lane { IfErr result (λ stopped. stopped.lane ≡ length stimuli.old.items) }
     ensures errors { IfErr result (λ stopped. IsHeaderError stopped.error) }
     ensures refused { IsTrue D.tells → IfErr result (λ stopped. stopped.error ≢ StimError.ReadFault → stopped.error ≢ StimError.Memory →
-        header_refusal inputs.now ((D.contents desk.old).files (string_bytes path)) ≡ Some stopped.error) }
+        header_refusal inputs.now ((D.told desk.old).contents.files (string_bytes path)) ≡ Some stopped.error) }
     ensures reading { IsTrue D.tells → IfErr result (λ stopped. stopped.error ≢ StimError.ReadFault → stopped.error ≢ StimError.Memory →
-        reading inputs.now ((D.contents desk.old).files (string_bytes path)) ≡ refused stopped.error) }
+        reading inputs.now ((D.told desk.old).contents.files (string_bytes path)) ≡ refused stopped.error) }
 
-    ensures attached { OnOk result (D.register desk.new ≡ with_place (D.register desk.old) (stimulus_place (length stimuli.old.items)) Read (string_bytes path)) }
+    ensures attached { OnOk result ((D.told desk.new).register ≡ with_place (D.told desk.old).register (stimulus_place (length stimuli.old.items)) Read (string_bytes path)) }
     ensures register { IfErr result (λ stopped. stopped.error ≢ StimError.ReadFault → stopped.error ≢ StimError.Memory →
-        D.register desk.new ≡ with_place (D.register desk.old) (stimulus_place (length stimuli.old.items)) Read (string_bytes path)) }
-    ensures memory { IfErr result (λ stopped. stopped.error ≡ StimError.Memory → (D.register desk.new ≡ D.register desk.old)
-        ⊎ (D.register desk.new ≡ with_place (D.register desk.old) (stimulus_place (length stimuli.old.items)) Read (string_bytes path))) }
+        (D.told desk.new).register ≡ with_place (D.told desk.old).register (stimulus_place (length stimuli.old.items)) Read (string_bytes path)) }
+    ensures memory { IfErr result (λ stopped. stopped.error ≡ StimError.Memory → ((D.told desk.new).register ≡ (D.told desk.old).register)
+        ⊎ ((D.told desk.new).register ≡ with_place (D.told desk.old).register (stimulus_place (length stimuli.old.items)) Read (string_bytes path))) }
     ensures fault { IfErr result (λ stopped. stopped.error ≡ StimError.ReadFault →
-        Fails (D.register desk.old) (D.register desk.new) (stimulus_place (length stimuli.old.items)) (string_bytes path)
-        ⊎ Fails (with_place (D.register desk.old) (stimulus_place (length stimuli.old.items)) Read (string_bytes path)) (D.register desk.new)
-        (stimulus_place (length stimuli.old.items)) (D.register desk.old).asked) }
+        Fails (D.told desk.old).register (D.told desk.new).register (stimulus_place (length stimuli.old.items)) (string_bytes path)
+        ⊎ Fails (with_place (D.told desk.old).register (stimulus_place (length stimuli.old.items)) Read (string_bytes path)) (D.told desk.new).register
+        (stimulus_place (length stimuli.old.items)) (D.told desk.old).register.asked) }
     ensures needed { IsTrue D.tells → IfErr result (λ stopped. stopped.error ≡ StimError.ReadFault →
-        Fails (D.register desk.old) (D.register desk.new) (stimulus_place (length stimuli.old.items)) (string_bytes path)
-        ⊎ IsUntold first_place ((D.contents desk.old).files (string_bytes path)) ((D.contents desk.new).left (stimulus_place (length stimuli.old.items)))) }
-    ensures others { IsTrue D.tells → OnlyTaken (stimulus_place (length stimuli.old.items)) (D.contents desk.old) (D.contents desk.new) }
+        Fails (D.told desk.old).register (D.told desk.new).register (stimulus_place (length stimuli.old.items)) (string_bytes path)
+        ⊎ IsUntold first_place ((D.told desk.old).contents.files (string_bytes path)) ((D.told desk.new).contents.left (stimulus_place (length stimuli.old.items)))) }
+    ensures others { IsTrue D.tells → OnlyTaken (stimulus_place (length stimuli.old.items)) (D.told desk.old).contents (D.told desk.new).contents }
 {
     let lane = stimuli.len() as u32;
     match Stimulus::begin(alloc, desk, lane, path, inputs) {
@@ -84,31 +84,14 @@ pub(crate) fn open_all<D: Desk>(
     inputs: &[Input],
 ) -> Result<Vec<Stimulus>, Stopped>
     requires lanes { length paths.items ≤ most_lanes }
-    requires free { AreFree (D.register desk.old) (length paths.items) }
+    requires free { AreFree (D.told desk.old).register (length paths.items) }
     requires inputs { All IsInput inputs.now }
-    ensures opened { IfOk result (λ stimuli. AreOpened D.tells inputs.now (D.contents desk.old) (D.contents desk.new) (texts paths.items) stimuli.items) }
-    ensures headers { IsTrue D.tells → OnOk result (HaveHeaders inputs.now (D.contents desk.old).files (texts paths.items) (length paths.items)) }
-    ensures attached { OnOk result (D.register desk.new ≡ with_lanes (D.register desk.old) (texts paths.items)) }
+    ensures opened { IfOk result (λ stimuli. AreOpened D.tells inputs.now (D.told desk.old).contents (D.told desk.new).contents (texts paths.items) stimuli.items) }
+    ensures headers { IsTrue D.tells → OnOk result (HaveHeaders inputs.now (D.told desk.old).contents.files (texts paths.items) (length paths.items)) }
+    ensures attached { OnOk result ((D.told desk.new).register ≡ with_lanes (D.told desk.old).register (texts paths.items)) }
 
-    ensures lane { IfErr result (λ stopped. stopped.lane < length paths.items) }
-    ensures errors { IfErr result (λ stopped. IsHeaderError stopped.error) }
-    ensures refused { IsTrue D.tells → IfErr result (λ stopped. stopped.error ≢ StimError.ReadFault → stopped.error ≢ StimError.Memory →
-        header_refusal inputs.now ((D.contents desk.old).files (path_at (texts paths.items) stopped.lane)) ≡ Some stopped.error) }
-    ensures reading { IsTrue D.tells → IfErr result (λ stopped. stopped.error ≢ StimError.ReadFault → stopped.error ≢ StimError.Memory →
-        reading inputs.now ((D.contents desk.old).files (path_at (texts paths.items) stopped.lane)) ≡ refused stopped.error) }
-    ensures before { IsTrue D.tells → IfErr result (λ stopped. HaveHeaders inputs.now (D.contents desk.old).files (texts paths.items) stopped.lane) }
-    ensures register { IfErr result (λ stopped. stopped.error ≢ StimError.ReadFault → stopped.error ≢ StimError.Memory →
-        D.register desk.new ≡ with_lanes (D.register desk.old) (take (stopped.lane + 1) (texts paths.items))) }
-    ensures memory { IfErr result (λ stopped. stopped.error ≡ StimError.Memory →
-        (D.register desk.new ≡ with_lanes (D.register desk.old) (take stopped.lane (texts paths.items)))
-        ⊎ (D.register desk.new ≡ with_lanes (D.register desk.old) (take (stopped.lane + 1) (texts paths.items)))) }
-    ensures fault { IfErr result (λ stopped. stopped.error ≡ StimError.ReadFault →
-        Fails (with_lanes (D.register desk.old) (take stopped.lane (texts paths.items))) (D.register desk.new) (stimulus_place stopped.lane) (path_at (texts paths.items) stopped.lane)
-        ⊎ Fails (with_lanes (D.register desk.old) (take (stopped.lane + 1) (texts paths.items))) (D.register desk.new) (stimulus_place stopped.lane) (D.register desk.old).asked) }
-    ensures needed { IsTrue D.tells → IfErr result (λ stopped. stopped.error ≡ StimError.ReadFault →
-        Fails (with_lanes (D.register desk.old) (take stopped.lane (texts paths.items))) (D.register desk.new) (stimulus_place stopped.lane) (path_at (texts paths.items) stopped.lane)
-        ⊎ IsUntold first_place ((D.contents desk.old).files (path_at (texts paths.items) stopped.lane)) ((D.contents desk.new).left (stimulus_place stopped.lane))) }
-    ensures others { IsTrue D.tells → OtherPlacesKept (length paths.items) (D.contents desk.old) (D.contents desk.new) }
+    ensures stopped { IfErr result (StopsOpening inputs.now (texts paths.items) (D.told desk.old) (D.told desk.new)) }
+    ensures others { IsTrue D.tells → OtherPlacesKept (length paths.items) (D.told desk.old).contents (D.told desk.new).contents }
 {
     attach_law();
     let mut stimuli = Vec::new(alloc);

@@ -28,18 +28,18 @@ pub struct Stopped {
 
 /// Reads the next vector of a stimulus, unless it has ended.
 fn read_lane<D: Desk>(stimulus: &mut Stimulus, desk: &mut D) -> Result<(), StimError>
-    requires { stimulus.old.live ≡ true → IsAttached (D.register desk.old) (stimulus_place stimulus.old.lane) Read }
-    ensures advanced { OnOk result (Advances D.tells (D.contents desk.old) (D.contents desk.new) stimulus.old stimulus.new) }
+    requires { stimulus.old.live ≡ true → IsAttached (D.told desk.old).register (stimulus_place stimulus.old.lane) Read }
+    ensures advanced { OnOk result (Advances D.tells (D.told desk.old).contents (D.told desk.new).contents stimulus.old stimulus.new) }
     ensures lane { stimulus.new.lane ≡ stimulus.old.lane }
     ensures sizes { sizes stimulus.new.vector ≡ sizes stimulus.old.vector }
 
     ensures was_live { OnErr result (stimulus.old.live ≡ true) }
     ensures ended { OnErr result (stimulus.new.live ≡ false) }
     ensures errors { IfErr result IsVectorError }
-    ensures refused { IsTrue D.tells → IfErr result (λ e. e ≢ StimError.ReadFault → remaining stimulus.old (D.contents desk.old) ≡ refused e) }
-    ensures desk { TakesAt D.register D.tells D.contents (stimulus_place stimulus.old.lane) desk.old desk.new StimError.ReadFault result }
+    ensures refused { IsTrue D.tells → IfErr result (λ e. e ≢ StimError.ReadFault → remaining stimulus.old (D.told desk.old).contents ≡ refused e) }
+    ensures desk { TakesAt (stimulus_place stimulus.old.lane) (D.told desk.old) (D.told desk.new) StimError.ReadFault result }
     ensures needed { IsTrue D.tells → result ≡ Err StimError.ReadFault →
-        IsUntold stimulus.old.at (text_left stimulus.old (D.contents desk.old)) ((D.contents desk.new).left (stimulus_place stimulus.old.lane)) }
+        IsUntold stimulus.old.at (text_left stimulus.old (D.told desk.old).contents) ((D.told desk.new).contents.left (stimulus_place stimulus.old.lane)) }
 {
     if stimulus.live() {
         stimulus.next(desk)?;
@@ -50,25 +50,25 @@ fn read_lane<D: Desk>(stimulus: &mut Stimulus, desk: &mut D) -> Result<(), StimE
 /// Reads the next vector of each stimulus that hasn't ended, by lane.
 pub(crate) fn read_all<D: Desk>(stimuli: &mut [Stimulus], desk: &mut D) -> Result<(), Stopped>
     requires lanes { AreLanes stimuli.old }
-    requires attached { AreAttached (D.register desk.old) stimuli.old }
+    requires attached { AreAttached (D.told desk.old).register stimuli.old }
     ensures lanes { AreLanes stimuli.new }
     ensures sizes { SameSizes stimuli.old stimuli.new }
-    ensures all { OnOk result (AreRead D.tells (length stimuli.old) (length stimuli.old) (D.contents desk.old) (D.contents desk.new) stimuli.old stimuli.new) }
-    ensures readable { OnOk result (AreAttached (D.register desk.new) stimuli.new) }
+    ensures all { OnOk result (AreRead D.tells (length stimuli.old) (length stimuli.old) (D.told desk.old).contents (D.told desk.new).contents stimuli.old stimuli.new) }
+    ensures readable { OnOk result (AreAttached (D.told desk.new).register stimuli.new) }
 
-    ensures part { IfErr result (λ stopped. AreRead D.tells stopped.lane (stopped.lane + 1) (D.contents desk.old) (D.contents desk.new) stimuli.old stimuli.new) }
+    ensures part { IfErr result (λ stopped. AreRead D.tells stopped.lane (stopped.lane + 1) (D.told desk.old).contents (D.told desk.new).contents stimuli.old stimuli.new) }
     ensures lane { IfErr result (λ stopped. stopped.lane < length stimuli.old) }
     ensures was_live { IfErr result (λ stopped. (lane_at stimuli.old stopped.lane).live ≡ true) }
     ensures ended { IfErr result (λ stopped. (lane_at stimuli.new stopped.lane).live ≡ false) }
     ensures errors { IfErr result (λ stopped. IsVectorError stopped.error) }
     ensures refused { IsTrue D.tells → IfErr result (λ stopped. stopped.error ≢ StimError.ReadFault →
-        remaining (lane_at stimuli.old stopped.lane) (D.contents desk.old) ≡ refused stopped.error) }
-    ensures same { OnOk result (D.register desk.new ≡ D.register desk.old) }
-    ensures register { IfErr result (λ stopped. stopped.error ≢ StimError.ReadFault → D.register desk.new ≡ D.register desk.old) }
+        remaining (lane_at stimuli.old stopped.lane) (D.told desk.old).contents ≡ refused stopped.error) }
+    ensures same { OnOk result ((D.told desk.new).register ≡ (D.told desk.old).register) }
+    ensures register { IfErr result (λ stopped. stopped.error ≢ StimError.ReadFault → (D.told desk.new).register ≡ (D.told desk.old).register) }
     ensures fault { IfErr result (λ stopped. stopped.error ≡ StimError.ReadFault →
-        Fails (D.register desk.old) (D.register desk.new) (stimulus_place stopped.lane) (D.register desk.old).asked) }
-    ensures needed { IsTrue D.tells → IfErr result (λ stopped. stopped.error ≡ StimError.ReadFault → IsUntoldAt stimuli.old stopped.lane (D.contents desk.old) (D.contents desk.new)) }
-    ensures others { IsTrue D.tells → OtherPlacesKept (length stimuli.old) (D.contents desk.old) (D.contents desk.new) }
+        Fails (D.told desk.old).register (D.told desk.new).register (stimulus_place stopped.lane) (D.told desk.old).register.asked) }
+    ensures needed { IsTrue D.tells → IfErr result (λ stopped. stopped.error ≡ StimError.ReadFault → IsUntoldAt stimuli.old stopped.lane (D.told desk.old).contents (D.told desk.new).contents) }
+    ensures others { IsTrue D.tells → OtherPlacesKept (length stimuli.old) (D.told desk.old).contents (D.told desk.new).contents }
 {
     for lane in 0..stimuli.len() {
         if let Err(error) = read_lane(&mut stimuli[lane], desk) {

@@ -78,6 +78,8 @@ pub enum AtName {
     Division,
     /// A `<=` in a combinational block, or a `=` in a clocked one (9.2).
     MixedAssign,
+    /// A function leaves a variable that it writes unassigned on some path to a read of it or to its end (10.4).
+    FunctionLatch,
 }
 
 /// Refusals that carry a process and its place.
@@ -181,6 +183,7 @@ impl AtName {
             AtName::TooWide => 50,
             AtName::Division => 51,
             AtName::MixedAssign => 54,
+            AtName::FunctionLatch => 56,
         }
     }
 
@@ -219,6 +222,7 @@ impl AtName {
             AtName::TooWide => "TooWide",
             AtName::Division => "Division",
             AtName::MixedAssign => "MixedAssign",
+            AtName::FunctionLatch => "FunctionLatch",
         }
     }
 }

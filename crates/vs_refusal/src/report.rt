@@ -1,10 +1,9 @@
 //! Text put on the report, at place 0 of a desk.
-ghost use Rattle.std.specs.Prelude.{◌≡◌, ◌++◌, decimal, IsTrue, OnOk, OnErr};
+ghost use Rattle.std.specs.Prelude.{decimal};
 ghost use Rattle.std.specs.List.{flat_map};
-ghost use Rattle.vs_desk.specs.Desk.{Fails, PutsPart, with_put};
+ghost use Rattle.vs_desk.specs.Desk.{PutsAll};
 ghost use Rattle.vs_refusal.specs.Refusals.{line, head_text, list_text, fields, field_text, numbers_text, more_numbers, next_number};
 ghost use Rattle.vs_refusal.specs.Endings.{ending_line};
-ghost use Rattle.vs_refusal.specs.Reports.{Reports};
 
 use crate::ending::Ending;
 use crate::refusal::{Field, Fields, Refusal};
@@ -13,14 +12,14 @@ use vs_desk::{Desk, Failed, put_all, put_law};
 
 /// Puts a text.
 fn put_text<D: Desk>(desk: &mut D, text: &str) -> Result<(), Failed>
-    ensures { Reports D.register D.tells D.contents desk.old desk.new text.now result }
+    ensures { PutsAll (D.told desk.old) (D.told desk.new) 0 text.now result }
 {
     put_all(desk, 0, text.as_bytes())
 }
 
 /// Puts a number in decimal digits.
 fn put_number<D: Desk>(desk: &mut D, number: u64) -> Result<(), Failed>
-    ensures { Reports D.register D.tells D.contents desk.old desk.new (decimal number) result }
+    ensures { PutsAll (D.told desk.old) (D.told desk.new) 0 (decimal number) result }
 {
     let mut buffer = Buffer::new();
     put_text(desk, buffer.format(number))
@@ -28,7 +27,7 @@ fn put_number<D: Desk>(desk: &mut D, number: u64) -> Result<(), Failed>
 
 /// Puts a field with one number.
 fn put_field<D: Desk>(desk: &mut D, field: Field) -> Result<(), Failed>
-    ensures { Reports D.register D.tells D.contents desk.old desk.new (field_text field) result }
+    ensures { PutsAll (D.told desk.old) (D.told desk.new) 0 (field_text field) result }
 {
     put_law();
     put_text(desk, field.label.text())?;
@@ -37,7 +36,7 @@ fn put_field<D: Desk>(desk: &mut D, field: Field) -> Result<(), Failed>
 
 /// Puts numbers, each behind a comma.
 fn put_more_numbers<D: Desk>(desk: &mut D, numbers: &[u32]) -> Result<(), Failed>
-    ensures { Reports D.register D.tells D.contents desk.old desk.new (more_numbers numbers.now) result }
+    ensures { PutsAll (D.told desk.old) (D.told desk.new) 0 (more_numbers numbers.now) result }
 {
     put_law();
     for number in numbers {
@@ -48,7 +47,7 @@ fn put_more_numbers<D: Desk>(desk: &mut D, numbers: &[u32]) -> Result<(), Failed
 
 /// Puts a comma and a number.
 fn put_next_number<D: Desk>(desk: &mut D, number: u32) -> Result<(), Failed>
-    ensures { Reports D.register D.tells D.contents desk.old desk.new (next_number number) result }
+    ensures { PutsAll (D.told desk.old) (D.told desk.new) 0 (next_number number) result }
 {
     put_law();
     put_text(desk, ",")?;
@@ -57,7 +56,7 @@ fn put_next_number<D: Desk>(desk: &mut D, number: u32) -> Result<(), Failed>
 
 /// Puts numbers with commas between them.
 fn put_numbers<D: Desk>(desk: &mut D, numbers: &[u32]) -> Result<(), Failed>
-    ensures { Reports D.register D.tells D.contents desk.old desk.new (numbers_text numbers.now) result }
+    ensures { PutsAll (D.told desk.old) (D.told desk.new) 0 (numbers_text numbers.now) result }
 {
     put_law();
     if numbers.is_empty() {
@@ -69,7 +68,7 @@ fn put_numbers<D: Desk>(desk: &mut D, numbers: &[u32]) -> Result<(), Failed>
 
 /// Puts the list that a refusal has, if it has one.
 fn put_list<D: Desk>(desk: &mut D, refusal: &Refusal) -> Result<(), Failed>
-    ensures { Reports D.register D.tells D.contents desk.old desk.new (list_text refusal.now) result }
+    ensures { PutsAll (D.told desk.old) (D.told desk.new) 0 (list_text refusal.now) result }
 {
     put_law();
     match refusal {
@@ -83,7 +82,7 @@ fn put_list<D: Desk>(desk: &mut D, refusal: &Refusal) -> Result<(), Failed>
 
 /// Puts the fields with one number, in order.
 fn put_fields<D: Desk, F: Fields>(desk: &mut D, fielded: &F) -> Result<(), Failed>
-    ensures { Reports D.register D.tells D.contents desk.old desk.new (flat_map field_text (F.fields_of fielded.now)) result }
+    ensures { PutsAll (D.told desk.old) (D.told desk.new) 0 (flat_map field_text (F.fields_of fielded.now)) result }
 {
     put_law();
     let mut n = 0;
@@ -96,7 +95,7 @@ fn put_fields<D: Desk, F: Fields>(desk: &mut D, fielded: &F) -> Result<(), Faile
 
 /// Puts a refusal's number and name.
 fn put_head<D: Desk>(desk: &mut D, refusal: &Refusal) -> Result<(), Failed>
-    ensures { Reports D.register D.tells D.contents desk.old desk.new (head_text refusal.now) result }
+    ensures { PutsAll (D.told desk.old) (D.told desk.new) 0 (head_text refusal.now) result }
 {
     put_law();
     put_text(desk, "refused ")?;
@@ -107,7 +106,7 @@ fn put_head<D: Desk>(desk: &mut D, refusal: &Refusal) -> Result<(), Failed>
 
 /// Puts a refusal's whole line.
 fn put_whole<D: Desk>(desk: &mut D, refusal: &Refusal) -> Result<(), Failed>
-    ensures { Reports D.register D.tells D.contents desk.old desk.new (line refusal.now) result }
+    ensures { PutsAll (D.told desk.old) (D.told desk.new) 0 (line refusal.now) result }
 {
     put_law();
     put_head(desk, refusal)?;
@@ -120,13 +119,9 @@ impl Refusal {
     /// Puts the refusal's line at place 0 of a desk, in pieces, and calls nothing but `put` there.
     /// It takes no memory.
     ///
-    /// On `Failed` some first bytes of the line were put.
+    /// On `Failed` some first bytes of the line were put, not all, and a call at place 0 failed.
     pub fn put_line<D: Desk>(&self, desk: &mut D) -> Result<(), Failed>
-        ensures line { IsTrue D.tells → OnOk result (D.contents desk.new ≡ with_put (D.register desk.old) (D.contents desk.old) 0 (line self.now)) }
-        ensures same { OnOk result (D.register desk.new ≡ D.register desk.old) }
-        ensures places { (D.register desk.new).attached ≡ (D.register desk.old).attached }
-        ensures failed { OnErr result (Fails (D.register desk.old) (D.register desk.new) 0 (D.register desk.old).asked) }
-        ensures part { IsTrue D.tells → OnErr result (PutsPart (D.register desk.old) (D.contents desk.old) (D.contents desk.new) 0 (line self.now)) }
+        ensures { PutsAll (D.told desk.old) (D.told desk.new) 0 (line self.now) result }
     {
         put_whole(desk, self)
     }
@@ -134,7 +129,7 @@ impl Refusal {
 
 /// Puts the whole line of an ending.
 fn put_ending<D: Desk>(desk: &mut D, ending: &Ending) -> Result<(), Failed>
-    ensures { Reports D.register D.tells D.contents desk.old desk.new (ending_line ending.now) result }
+    ensures { PutsAll (D.told desk.old) (D.told desk.new) 0 (ending_line ending.now) result }
 {
     put_law();
     put_text(desk, ending.text())?;
@@ -146,13 +141,9 @@ impl Ending {
     /// Puts the ending's line at place 0 of a desk, in pieces, and calls nothing but `put` there. It
     /// takes no memory.
     ///
-    /// On `Failed` some first bytes of the line were put.
+    /// On `Failed` some first bytes of the line were put, not all, and a call at place 0 failed.
     pub fn put_line<D: Desk>(&self, desk: &mut D) -> Result<(), Failed>
-        ensures line { IsTrue D.tells → OnOk result (D.contents desk.new ≡ with_put (D.register desk.old) (D.contents desk.old) 0 (ending_line self.now)) }
-        ensures same { OnOk result (D.register desk.new ≡ D.register desk.old) }
-        ensures places { (D.register desk.new).attached ≡ (D.register desk.old).attached }
-        ensures failed { OnErr result (Fails (D.register desk.old) (D.register desk.new) 0 (D.register desk.old).asked) }
-        ensures part { IsTrue D.tells → OnErr result (PutsPart (D.register desk.old) (D.contents desk.old) (D.contents desk.new) 0 (ending_line self.now)) }
+        ensures { PutsAll (D.told desk.old) (D.told desk.new) 0 (ending_line self.now) result }
     {
         put_ending(desk, self)
     }

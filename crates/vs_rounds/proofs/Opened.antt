@@ -32,6 +32,7 @@ new_wave : (run : Run) (r : Reading) (w : Wave) (now : State) (text : List ℕ) 
 new_wave run r w now text h idle empty = record {
   given = record { ends = []; solution = tt; text_is = empty };
   head_is = h.head_is;
+  numbers_are = h.numbers_are;
   half_is = h.half_is;
   handed_out = h.left_is;
   is_open = h.opened ∙ sym (ap not (not_ended r 0 (omega arith)));

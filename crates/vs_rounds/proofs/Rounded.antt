@@ -12,7 +12,7 @@ use Rattle.vs_design.specs.Designs.{Design}
 use Rattle.vs_design.specs.Values.{read, bits_of_signal}
 use Rattle.vs_program.specs.declared.compiled.Span.{Span}
 use Rattle.vs_program.specs.Program.{Program}
-use Rattle.vs_program.specs.Compiled.{IsProgramOf, span_of, span_bits}
+use Rattle.vs_program.specs.Compiled.{IsProgramOf, span_of, shown_signals, span_bits}
 use Rattle.vs_engine.specs.Lanes.{state}
 use Rattle.vs_stim.specs.Lines.{lines, all_lines}
 use Rattle.vs_stim.specs.Known.{Known, place_of, remaining, IsReadTo}
@@ -40,7 +40,7 @@ values_of_spans s [] = refl
 values_of_spans s (x ∷ xs) = ap (λ (vs : List BitList). read s (bits_of_signal x) ∷ vs) (values_of_spans s xs)
 
 signal_values_are : (d : Design) (clock : ℕ) (p : Program) (s : State) → IsProgramOf d clock p → signal_values p s ≡ values_of d s
-signal_values_are d clock p s h = ap (map (λ (x : Span). read s (span_bits x))) h.signals ∙ values_of_spans s d.signals
+signal_values_are d clock p s h = ap (map (λ (x : Span). read s (span_bits x))) h.signals ∙ values_of_spans s (shown_signals d)
 
 -- what is left of a text depends on what is left on the desk alone
 pub remaining_left : (s : Known) (c new : Contents) → new.left ≡ c.left → remaining s new ≡ remaining s c

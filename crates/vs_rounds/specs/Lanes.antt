@@ -14,7 +14,7 @@ use Rattle.vs_stim.specs.Reading.{Reading, reading, with_vector}
 use Rattle.vs_feed.specs.Lanes.{lane_at}
 use Rattle.vs_feed.specs.Reading.{AreTaken}
 use Rattle.vs_vcd.specs.Scopes.{head_text}
-use Rattle.vs_vcd.specs.Texts.{values_of}
+use Rattle.vs_vcd.specs.Texts.{shown_numbers, values_of}
 use Rattle.vs_waves.specs.Wave.{Wave, IsNewWave}
 use Rattle.vs_waves.specs.Puts.{wave_place}
 use Rattle.vs_rounds.specs.Drives.{Vector}
@@ -43,7 +43,7 @@ pub record Simulation (W : Type 0) : Type 0 where
 
 -- a wave of which nothing is left to put
 abbrev pub closed : Wave
-closed = record { dump = record { head = []; half = 0; last = []; left = [] }; is_open = false }
+closed = record { dump = record { head = []; numbers = []; half = 0; last = []; left = [] }; is_open = false }
 
 -- the wave of lane i; past the last lane, a closed one
 abbrev pub wave_at : List Wave → ℕ → Wave
@@ -71,6 +71,7 @@ pub record IsUnread (r : Reading) (k : ℕ) (live : Bool) (rest : Reading) : Typ
 pub record IsWaveAt (run : Run) (r : Reading) (k : ℕ) (w : Wave) (now : State) (text : List ℕ) : Type 0 where
   pub given : IsGiven run.design run.clock run.half r k text
   pub head_is : w.dump.head ≡ head_text run.design
+  pub numbers_are : w.dump.numbers ≡ shown_numbers run.design
   pub half_is : w.dump.half ≡ run.half
   pub handed_out : w.dump.left ≡ []
   pub is_open : w.is_open ≡ not (has_ended r k)

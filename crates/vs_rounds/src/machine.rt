@@ -73,20 +73,20 @@ impl<W: Lanes> Machine<W> {
 
     /// Reads the vectors of the next round, by lane.
     pub(crate) fn read<D: Desk>(&mut self, desk: &mut D) -> Result<(), Stop>
-        requires attached { AreAttached (D.register desk.old) self.old.stimuli }
+        requires attached { AreAttached (D.told desk.old).register self.old.stimuli }
         ensures waves { self.new.waves ≡ self.old.waves }
         ensures engine { self.new.engine ≡ self.old.engine }
         ensures lanes { OnOk result (length self.new.stimuli ≡ length self.old.stimuli) }
-        ensures same { OnOk result (D.register desk.new ≡ D.register desk.old) }
+        ensures same { OnOk result ((D.told desk.new).register ≡ (D.told desk.old).register) }
         ensures ready { (k : ℕ) → IsReady k self.old → OnOk result (IsReady k self.new) }
-        ensures attached { OnOk result (AreAttached (D.register desk.new) self.new.stimuli) }
-        ensures read { IsTrue D.tells → (run : Run) (k : ℕ) → HaveNext run k self.old.stimuli (D.contents desk.old)
-            → OnOk result (HaveVectors run k self.new.stimuli (D.contents desk.new)) }
-        ensures stops { IsTrue D.tells → (run : Run) (k : ℕ) → HaveNext run k self.old.stimuli (D.contents desk.old)
-            → IfErr result (ReadStops run (length self.old.stimuli) k (D.contents desk.new)) }
+        ensures attached { OnOk result (AreAttached (D.told desk.new).register self.new.stimuli) }
+        ensures read { IsTrue D.tells → (run : Run) (k : ℕ) → HaveNext run k self.old.stimuli (D.told desk.old).contents
+            → OnOk result (HaveVectors run k self.new.stimuli (D.told desk.new).contents) }
+        ensures stops { IsTrue D.tells → (run : Run) (k : ℕ) → HaveNext run k self.old.stimuli (D.told desk.old).contents
+            → IfErr result (ReadStops run (length self.old.stimuli) k (D.told desk.new).contents) }
         ensures lane { IfErr result (IsLaneOf (length self.old.stimuli)) }
-        ensures cause { IfErr result (HasCause (D.register desk.old) (D.register desk.new)) }
-        ensures others { IsTrue D.tells → OtherPlacesKept (length self.old.stimuli) (D.contents desk.old) (D.contents desk.new) }
+        ensures cause { IfErr result (HasCause (D.told desk.old).register (D.told desk.new).register) }
+        ensures others { IsTrue D.tells → OtherPlacesKept (length self.old.stimuli) (D.told desk.old).contents (D.told desk.new).contents }
     {
         if let Err(stopped) = self.drive.read(desk) {
             return Err(stop_of(stopped));
@@ -133,19 +133,19 @@ impl<W: Lanes> Machine<W> {
         requires lanes { length self.old.stimuli ≤ W.LANES }
         requires round { round ≤ 16777216 }
         requires ready { IsReady round self.old }
-        requires writable { AreWritable (D.register desk.old) (length self.old.waves) }
+        requires writable { AreWritable (D.told desk.old).register (length self.old.waves) }
         ensures count { IfOk result (λ n. n ≡ count_by (λ k. k.live) self.old.stimuli) }
         ensures stimuli { self.new.stimuli ≡ self.old.stimuli }
         ensures program { self.new.engine.program ≡ self.old.engine.program }
         ensures ready { OnOk result (IsReady (suc round) self.new) }
-        ensures same { OnOk result (D.register desk.new ≡ D.register desk.old) }
-        ensures done { IsTrue D.tells → (run : Run) → AreInRound W.lane run round self.old (D.contents desk.old)
-            → OnOk result (AreBeforeRound W.lane run (suc round) self.new (D.contents desk.new)) }
-        ensures stops { IsTrue D.tells → (run : Run) → AreInRound W.lane run round self.old (D.contents desk.old)
-            → IfErr result (StopsIn run (length self.old.stimuli) round (D.contents desk.new)) }
+        ensures same { OnOk result ((D.told desk.new).register ≡ (D.told desk.old).register) }
+        ensures done { IsTrue D.tells → (run : Run) → AreInRound W.lane run round self.old (D.told desk.old).contents
+            → OnOk result (AreBeforeRound W.lane run (suc round) self.new (D.told desk.new).contents) }
+        ensures stops { IsTrue D.tells → (run : Run) → AreInRound W.lane run round self.old (D.told desk.old).contents
+            → IfErr result (StopsIn run (length self.old.stimuli) round (D.told desk.new).contents) }
         ensures lane { IfErr result (IsLaneOf (length self.old.stimuli)) }
-        ensures cause { IfErr result (HasCause (D.register desk.old) (D.register desk.new)) }
-        ensures others { IsTrue D.tells → OthersStay (length self.old.stimuli) (D.contents desk.old) (D.contents desk.new) }
+        ensures cause { IfErr result (HasCause (D.told desk.old).register (D.told desk.new).register) }
+        ensures others { IsTrue D.tells → OthersStay (length self.old.stimuli) (D.told desk.old).contents (D.told desk.new).contents }
         ensures begun { 0 < count_by (λ k. k.live) self.old.stimuli → self.new.engine.begun ≡ true }
         ensures ticked { Ticks self.old.engine.program self.old.engine.begun (count_by (λ k. k.live) self.old.stimuli) steps.old steps.new }
     {

@@ -39,24 +39,24 @@ impl<W: Lanes> Machine<W> {
     /// has no known first vector (`Stop::Refused`) or whose place can't be read (`Stop::ReadFault`).
     pub fn begin<D: Desk>(&mut self, desk: &mut D) -> Result<(), Stop>
         requires ready { IsReady 0 self.old }
-        requires readable { AreAttached (D.register desk.old) self.old.stimuli }
+        requires readable { AreAttached (D.told desk.old).register self.old.stimuli }
         ensures waves { self.new.waves ≡ self.old.waves }
         ensures engine { self.new.engine ≡ self.old.engine }
         ensures lanes { OnOk result (length self.new.stimuli ≡ length self.old.stimuli) }
         ensures ready { OnOk result (IsReady 0 self.new) }
-        ensures readable { OnOk result (AreAttached (D.register desk.new) self.new.stimuli) }
-        ensures begun { IsTrue D.tells → (run : Run) → AreOpened W.lane run self.old (D.contents desk.old)
-            → OnOk result (AreBegun W.lane run self.new (D.contents desk.new)) }
-        ensures unrefused { IsTrue D.tells → (run : Run) → AreOpened W.lane run self.old (D.contents desk.old)
+        ensures readable { OnOk result (AreAttached (D.told desk.new).register self.new.stimuli) }
+        ensures begun { IsTrue D.tells → (run : Run) → AreOpened W.lane run self.old (D.told desk.old).contents
+            → OnOk result (AreBegun W.lane run self.new (D.told desk.new).contents) }
+        ensures unrefused { IsTrue D.tells → (run : Run) → AreOpened W.lane run self.old (D.told desk.old).contents
             → OnOk result (AreUnrefused run 0 (length self.old.stimuli) 1) }
 
         // The first lane without a known first vector stops it.
-        ensures stops { IsTrue D.tells → (run : Run) → AreOpened W.lane run self.old (D.contents desk.old)
-            → IfErr result (ReadStops run (length self.old.stimuli) 0 (D.contents desk.new)) }
+        ensures stops { IsTrue D.tells → (run : Run) → AreOpened W.lane run self.old (D.told desk.old).contents
+            → IfErr result (ReadStops run (length self.old.stimuli) 0 (D.told desk.new).contents) }
         ensures lane { IfErr result (IsLaneOf (length self.old.stimuli)) }
-        ensures cause { IfErr result (HasCause (D.register desk.old) (D.register desk.new)) }
-        ensures same { OnOk result (D.register desk.new ≡ D.register desk.old) }
-        ensures others { IsTrue D.tells → OtherPlacesKept (length self.old.stimuli) (D.contents desk.old) (D.contents desk.new) }
+        ensures cause { IfErr result (HasCause (D.told desk.old).register (D.told desk.new).register) }
+        ensures same { OnOk result ((D.told desk.new).register ≡ (D.told desk.old).register) }
+        ensures others { IsTrue D.tells → OtherPlacesKept (length self.old.stimuli) (D.told desk.old).contents (D.told desk.new).contents }
     {
         self.read(desk)
     }
@@ -78,16 +78,16 @@ impl<W: Lanes> Machine<W> {
         requires width { W.LANES ≤ most_lanes }
         requires lanes { length self.old.stimuli ≤ W.LANES }
         requires ready { IsReady 0 self.old }
-        requires readable { AreAttached (D.register desk.old) self.old.stimuli }
-        requires writable { AreWritable (D.register desk.old) (length self.old.waves) }
+        requires readable { AreAttached (D.told desk.old).register self.old.stimuli }
+        requires writable { AreWritable (D.told desk.old).register (length self.old.waves) }
 
         // Each lane gets all of its waveform.
-        ensures done { IsTrue D.tells → (run : Run) → AreInRound W.lane run 0 self.old (D.contents desk.old)
-            → OnOk result (AreDone run (length self.old.stimuli) (D.contents desk.new)) }
-        ensures counted { IsTrue D.tells → (run : Run) → AreInRound W.lane run 0 self.old (D.contents desk.old)
+        ensures done { IsTrue D.tells → (run : Run) → AreInRound W.lane run 0 self.old (D.told desk.old).contents
+            → OnOk result (AreDone run (length self.old.stimuli) (D.told desk.new).contents) }
+        ensures counted { IsTrue D.tells → (run : Run) → AreInRound W.lane run 0 self.old (D.told desk.old).contents
             → IfOk result (λ counts. AreCounted run (length self.old.stimuli) counts.vectors counts.settlings) }
         ensures most { IfOk result (λ counts. counts.settlings ≤ 33554434) }
-        ensures same { OnOk result (D.register desk.new ≡ D.register desk.old) }
+        ensures same { OnOk result ((D.told desk.new).register ≡ (D.told desk.old).register) }
         ensures operations { IfOk result (λ counts. steps.new ≡ steps.old + counts.operations) }
 
         // The engine's steps are those of a fall and a rise in each round, for all lanes together, within the design's size each.
@@ -97,11 +97,11 @@ impl<W: Lanes> Machine<W> {
         ensures ticked_always { (n : ℕ) × TicksRounds self.old.engine.program self.old.engine.begun n steps.old steps.new }
 
         // A stimulus or a call on the desk stops it, in some round; a stimulus not in the first, whose vectors were read before.
-        ensures stops { IsTrue D.tells → (run : Run) → AreInRound W.lane run 0 self.old (D.contents desk.old)
-            → IfErr result (λ stop. (k : ℕ) × StopsIn run (length self.old.stimuli) k (D.contents desk.new) stop) }
+        ensures stops { IsTrue D.tells → (run : Run) → AreInRound W.lane run 0 self.old (D.told desk.old).contents
+            → IfErr result (λ stop. (k : ℕ) × StopsIn run (length self.old.stimuli) k (D.told desk.new).contents stop) }
         ensures lane { IfErr result (IsLaneOf (length self.old.stimuli)) }
-        ensures cause { IfErr result (HasCause (D.register desk.old) (D.register desk.new)) }
-        ensures others { IsTrue D.tells → OthersStay (length self.old.stimuli) (D.contents desk.old) (D.contents desk.new) }
+        ensures cause { IfErr result (HasCause (D.told desk.old).register (D.told desk.new).register) }
+        ensures others { IsTrue D.tells → OthersStay (length self.old.stimuli) (D.told desk.old).contents (D.told desk.new).contents }
     {
         let slots = SlotOperations::of(self.engine());
         let mut vectors = 0;

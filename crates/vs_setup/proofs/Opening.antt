@@ -1,6 +1,6 @@
 -- Why a stimulus can't be opened.
 use Rattle.std.proofs.Common.{◌≡◌, ◌≢◌, ◌⊎◌, ℕ, ◌<◌, ◌≤◌, ◌+◌, List, [], ◌++◌, length, take, Some, arith, refl, inl, inr, IsTrue, Bool, true, false, Result, Ok, Err, IfOk, IfErr, sym, subst, ap, ◌∙◌}
-use Rattle.vs_desk.specs.Desk.{Register, Contents, Fails}
+use Rattle.vs_desk.specs.Desk.{Contents, Told, Fails}
 use Rattle.vs_desk.specs.Places.{design_place, stimulus_place}
 use Rattle.vs_stim.specs.declared.input.Input.{Input}
 use Rattle.vs_stim.specs.declared.error.StimError.{StimError}
@@ -8,7 +8,7 @@ use Rattle.vs_stim.specs.declared.error.StimError.TheVariants as E
 use Rattle.vs_stim.specs.Known.{IsUntold}
 use Rattle.vs_stim.specs.Reading.{first_place, header_refusal}
 use Rattle.vs_stim.specs.Source.{IsHeaderError}
-use Rattle.vs_feed.specs.Opened.{path_at, with_lanes, HaveHeaders}
+use Rattle.vs_feed.specs.Opened.{path_at, with_lanes, HaveHeaders, StopsOpening}
 use Rattle.vs_design.specs.Designs.{Design}
 use Rattle.vs_flat.specs.DesignOf.{design_of}
 use Rattle.vs_engine.specs.Lanes.{Running}
@@ -26,22 +26,7 @@ use Rattle.vs_setup.specs.declared.error.SetupError.TheVariants.{TooLong, Refuse
 use Rattle.vs_setup.specs.DesignText.{design_text, with_design, IsBehind, IsTooLong, DesignFails}
 use Rattle.vs_setup.specs.Loaded.{IsLoaded}
 use Rattle.vs_setup.specs.Prepared.{IsDesignLoaded}
-use Rattle.vs_setup.specs.Unprepared.{IsUnopened, IsUnprepared, IsDesignOf, IsRefusedBehind, IsLoadError, IsTextRefusal, IsFirstRefused, StimulusFails, error_of, design_error, accept_error}
-
--- what is known of the lane that stopped the opening
-pub record HasStopped (tells : Bool) (inputs : List Input) (stimuli : List (List ℕ)) (before : Register) (old : Contents) (now : Register) (new : Contents) (lane : ℕ) (error : StimError) : Type 0 where
-  pub is_lane : lane < length stimuli
-  pub is_header_error : IsHeaderError error
-  pub refused : IsTrue tells → error ≢ E.ReadFault → error ≢ E.Memory → header_refusal inputs (old.files (path_at stimuli lane)) ≡ Some error
-  pub earlier : IsTrue tells → HaveHeaders inputs old.files stimuli lane
-  pub register : error ≢ E.ReadFault → error ≢ E.Memory → now ≡ with_lanes before (take (lane + 1) stimuli)
-  pub memory : error ≡ E.Memory → (now ≡ with_lanes before (take lane stimuli)) ⊎ (now ≡ with_lanes before (take (lane + 1) stimuli))
-  pub fault : error ≡ E.ReadFault
-      → Fails (with_lanes before (take lane stimuli)) now (stimulus_place lane) (path_at stimuli lane)
-      ⊎ Fails (with_lanes before (take (lane + 1) stimuli)) now (stimulus_place lane) before.asked
-  pub needed : IsTrue tells → error ≡ E.ReadFault
-      → Fails (with_lanes before (take lane stimuli)) now (stimulus_place lane) (path_at stimuli lane)
-      ⊎ IsUntold first_place (old.files (path_at stimuli lane)) (new.left (stimulus_place lane))
+use Rattle.vs_setup.specs.Unprepared.{IsUnopened, IsUnprepared, IsDesignOf, IsRefusedBehind, IsLoadError, IsTextRefusal, IsFirstRefused, error_of, design_error, accept_error}
 
 -- a call that failed in the one way, or in the other, of which more is known where the desk tells
 both_known : (tells : Bool) (A B C : Type 0) → A ⊎ B → (IsTrue tells → A ⊎ C) → A ⊎ (B × (IsTrue tells → C))
@@ -62,35 +47,35 @@ text_refusal (E.LineTooLong line) h r m = h
 text_refusal E.ReadFault h r m = absurd (r refl)
 text_refusal E.Memory h r m = absurd (m refl)
 
-refusal : (tells : Bool) (inputs : List Input) (stimuli : List (List ℕ)) (before : Register) (old : Contents) (now : Register) (new : Contents) (lane : ℕ) (error : StimError)
-    → HasStopped tells inputs stimuli before old now new lane error → error ≢ E.ReadFault → error ≢ E.Memory
-    → (lane < length stimuli) × IsTextRefusal error × (now ≡ with_lanes before (take (lane + 1) stimuli)) × (IsTrue tells → IsFirstRefused inputs old stimuli lane error)
-refusal tells inputs stimuli before old now new lane error s r m =
-    (s.is_lane, text_refusal error s.is_header_error r m, s.register r m, λ t. record { refused = s.refused t r m; earlier = s.earlier t })
+refusal : {tells : Bool} (inputs : List Input) (stimuli : List (List ℕ)) (old new : Told tells) (lane : ℕ) (error : StimError)
+    → StopsOpening inputs stimuli old new (record { lane = lane; error = error }) → error ≢ E.ReadFault → error ≢ E.Memory
+    → (lane < length stimuli) × IsTextRefusal error × (new.register ≡ with_lanes old.register (take (lane + 1) stimuli)) × (IsTrue tells → IsFirstRefused inputs old.contents stimuli lane error)
+refusal inputs stimuli old new lane error s r m =
+    (s.lane, text_refusal error s.error r m, s.attached r m, λ t. record { refused = s.refusal t r m; earlier = s.before t })
 
-pub unopened : (tells : Bool) (inputs : List Input) (stimuli : List (List ℕ)) (before : Register) (old : Contents) (now : Register) (new : Contents) (lane : ℕ) (error : StimError)
-    → HasStopped tells inputs stimuli before old now new lane error → IsUnopened tells inputs stimuli before old now new (error_of lane error)
-unopened tells inputs stimuli before old now new lane E.BadHeader s = refusal tells inputs stimuli before old now new lane E.BadHeader s (λ e. cc) (λ e. cc)
-unopened tells inputs stimuli before old now new lane (E.BadVector line) s = refusal tells inputs stimuli before old now new lane (E.BadVector line) s (λ e. cc) (λ e. cc)
-unopened tells inputs stimuli before old now new lane E.FirstUnknown s = refusal tells inputs stimuli before old now new lane E.FirstUnknown s (λ e. cc) (λ e. cc)
-unopened tells inputs stimuli before old now new lane (E.UnknownReset line) s = refusal tells inputs stimuli before old now new lane (E.UnknownReset line) s (λ e. cc) (λ e. cc)
-unopened tells inputs stimuli before old now new lane E.NoVector s = refusal tells inputs stimuli before old now new lane E.NoVector s (λ e. cc) (λ e. cc)
-unopened tells inputs stimuli before old now new lane E.TooManyVectors s = refusal tells inputs stimuli before old now new lane E.TooManyVectors s (λ e. cc) (λ e. cc)
-unopened tells inputs stimuli before old now new lane E.StimulusTooLong s = refusal tells inputs stimuli before old now new lane E.StimulusTooLong s (λ e. cc) (λ e. cc)
-unopened tells inputs stimuli before old now new lane (E.LineTooLong line) s = refusal tells inputs stimuli before old now new lane (E.LineTooLong line) s (λ e. cc) (λ e. cc)
-unopened tells inputs stimuli before old now new lane E.ReadFault s =
-    let attach = Fails (with_lanes before (take lane stimuli)) now (stimulus_place lane) (path_at stimuli lane) in
-    let taking = Fails (with_lanes before (take (lane + 1) stimuli)) now (stimulus_place lane) before.asked in
-    let untold = IsUntold first_place (old.files (path_at stimuli lane)) (new.left (stimulus_place lane)) in
-    (lane, s.is_lane, refl, both_known tells attach taking untold (s.fault refl) (λ t. s.needed t refl), s.earlier)
-unopened tells inputs stimuli before old now new lane E.Memory s = of_memory (s.memory refl)
+pub unopened : {tells : Bool} (inputs : List Input) (stimuli : List (List ℕ)) (old new : Told tells) (lane : ℕ) (error : StimError)
+    → StopsOpening inputs stimuli old new (record { lane = lane; error = error }) → IsUnopened inputs stimuli old new (error_of lane error)
+unopened inputs stimuli old new lane E.BadHeader s = refusal inputs stimuli old new lane E.BadHeader s (λ e. cc) (λ e. cc)
+unopened inputs stimuli old new lane (E.BadVector line) s = refusal inputs stimuli old new lane (E.BadVector line) s (λ e. cc) (λ e. cc)
+unopened inputs stimuli old new lane E.FirstUnknown s = refusal inputs stimuli old new lane E.FirstUnknown s (λ e. cc) (λ e. cc)
+unopened inputs stimuli old new lane (E.UnknownReset line) s = refusal inputs stimuli old new lane (E.UnknownReset line) s (λ e. cc) (λ e. cc)
+unopened inputs stimuli old new lane E.NoVector s = refusal inputs stimuli old new lane E.NoVector s (λ e. cc) (λ e. cc)
+unopened inputs stimuli old new lane E.TooManyVectors s = refusal inputs stimuli old new lane E.TooManyVectors s (λ e. cc) (λ e. cc)
+unopened inputs stimuli old new lane E.StimulusTooLong s = refusal inputs stimuli old new lane E.StimulusTooLong s (λ e. cc) (λ e. cc)
+unopened inputs stimuli old new lane (E.LineTooLong line) s = refusal inputs stimuli old new lane (E.LineTooLong line) s (λ e. cc) (λ e. cc)
+unopened inputs stimuli old new lane E.ReadFault s =
+    let attach = Fails (with_lanes old.register (take lane stimuli)) new.register (stimulus_place lane) (path_at stimuli lane) in
+    let taking = Fails (with_lanes old.register (take (lane + 1) stimuli)) new.register (stimulus_place lane) old.register.asked in
+    let untold = IsUntold first_place (old.contents.files (path_at stimuli lane)) (new.contents.left (stimulus_place lane)) in
+    (lane, s.lane, refl, both_known _ attach taking untold (s.fault refl) (λ t. s.needed t refl), s.before)
+unopened inputs stimuli old new lane E.Memory s = of_memory (s.memory refl)
   where
-    of_memory : (now ≡ with_lanes before (take lane stimuli)) ⊎ (now ≡ with_lanes before (take (lane + 1) stimuli)) → (lanes : ℕ) × (lanes ≤ length stimuli) × (now ≡ with_lanes before (take lanes stimuli))
+    of_memory : (new.register ≡ with_lanes old.register (take lane stimuli)) ⊎ (new.register ≡ with_lanes old.register (take (lane + 1) stimuli)) → (lanes : ℕ) × (lanes ≤ length stimuli) × (new.register ≡ with_lanes old.register (take lanes stimuli))
     of_memory (inl e) =
-        let below = s.is_lane in
+        let below = s.lane in
         (lane, omega (arith, below), e)
     of_memory (inr e) =
-        let below = s.is_lane in
+        let below = s.lane in
         (lane + 1, omega (arith, below), e)
 
 -- an error that a result has
@@ -131,35 +116,35 @@ loaded_behind lane lanes tells job old text a inputs engine b l = record {
 }
 
 -- it can't be loaded
-pub unloaded : (tells : Bool) (job : Job) (before : Register) (old : Contents) (now : Register) (new : Contents) (text : List ℕ) (e : SetupError)
-    → IsLoadError (length job.head) text job.top job.clock e → now ≡ with_design before job.design → IsWhole tells job old new text → IsUnprepared tells job before old now new e
-unloaded tells job before old now new text TooLong h at w = absurd h
-unloaded tells job before old now new text (Refused r) h at w =
+pub unloaded : {tells : Bool} (job : Job) (old new : Told tells) (text : List ℕ) (e : SetupError)
+    → IsLoadError (length job.head) text job.top job.clock e → new.register ≡ with_design old.register job.design → IsWhole tells job old.contents new.contents text → IsUnprepared job old new e
+unloaded job old new text TooLong h at w = absurd h
+unloaded job old new text (Refused r) h at w =
     let b = w.behind in
     let P : List ℕ → Type 0 = λ xs. IsRefusedBehind (length job.head) xs job.top job.clock r in (
       at,
       (b.taken, subst P b.text_is h),
       λ t.
-          let whole : text ≡ design_text job old = b.text_is ∙ ap (λ (file : List ℕ). job.head ++ file) (b.taken_is t) in
+          let whole : text ≡ design_text job old.contents = b.text_is ∙ ap (λ (file : List ℕ). job.head ++ file) (b.taken_is t) in
           record { short = subst (λ (xs : List ℕ). length xs ≤ most_bytes) whole w.short; taken = w.taken t; refused = subst P whole h },
     )
-unloaded tells job before old now new text (Stimulus lane error) h at w = absurd h
-unloaded tells job before old now new text (ReadFault place) h at w = absurd h
-unloaded tells job before old now new text Memory h at w =
+unloaded job old new text (Stimulus lane error) h at w = absurd h
+unloaded job old new text (ReadFault place) h at w = absurd h
+unloaded job old new text Memory h at w =
     let none_below : 0 ≤ length job.stimuli = omega arith in
     inr (0, none_below, at)
 
 -- a design's text that can't be read
-pub undesigned : (tells : Bool) (job : Job) (before : Register) (old : Contents) (now : Register) (new : Contents) (path : List ℕ) (d : DesignError) → path ≡ job.design
-    → (d ≡ D.TooLong → IsTrue tells → IsTooLong job.head (old.files path) (new.left design_place)) → (d ≢ D.ReadFault → now ≡ with_design before path)
-    → (d ≡ D.ReadFault → DesignFails tells before old now new job.head path) → IsUnprepared tells job before old now new (design_error d)
-undesigned tells job before old now new path D.TooLong is long attached fails =
-    (attached (λ e. cc) ∙ ap (with_design before) is, λ t. subst (λ (p : List ℕ). IsTooLong job.head (old.files p) (new.left design_place)) is (long refl t))
-undesigned tells job before old now new path D.ReadFault is long attached fails =
-    inl (record { place_is = refl; fails = subst (λ (p : List ℕ). DesignFails tells before old now new job.head p) is (fails refl) })
-undesigned tells job before old now new path D.Memory is long attached fails =
+pub undesigned : {tells : Bool} (job : Job) (old new : Told tells) (path : List ℕ) (d : DesignError) → path ≡ job.design
+    → (d ≡ D.TooLong → IsTrue tells → IsTooLong job.head (old.contents.files path) (new.contents.left design_place)) → (d ≢ D.ReadFault → new.register ≡ with_design old.register path)
+    → (d ≡ D.ReadFault → DesignFails old new job.head path) → IsUnprepared job old new (design_error d)
+undesigned job old new path D.TooLong is long attached fails =
+    (attached (λ e. cc) ∙ ap (with_design old.register) is, λ t. subst (λ (p : List ℕ). IsTooLong job.head (old.contents.files p) (new.contents.left design_place)) is (long refl t))
+undesigned job old new path D.ReadFault is long attached fails =
+    inl (record { place_is = refl; fails = subst (λ (p : List ℕ). DesignFails old new job.head p) is (fails refl) })
+undesigned job old new path D.Memory is long attached fails =
     let none_below : 0 ≤ length job.stimuli = omega arith in
-    inr (0, none_below, attached (λ e. cc) ∙ ap (with_design before) is)
+    inr (0, none_below, attached (λ e. cc) ∙ ap (with_design old.register) is)
 
 -- an equal text is accepted as the same design
 with_text : (top clock : List ℕ) (d : Design) (text other : List ℕ) → text ≡ other → IsAcceptedText text top clock d → IsAcceptedText other top clock d
@@ -173,27 +158,27 @@ with_text top clock d text other e a = record {
 }
 
 -- a stimulus that can't be opened, behind a loaded design
-pub unprepared : {W : Type 0} (lane : W → ℕ → Bool) (lanes : ℕ) (tells : Bool) (job : Job) (before : Register) (old mid : Contents) (now : Register) (new : Contents) (a : Acceptance) (inputs : List Input) (engine : Running W)
-    → IsDesignLoaded lane lanes tells job old a inputs engine → (IsTrue tells → mid.files ≡ old.files)
-    → (e : SetupError) → IsUnopened tells inputs job.stimuli (with_design before job.design) mid now new e → IsUnprepared tells job before old now new e
+pub unprepared : {W : Type 0} {tells : Bool} (lane : W → ℕ → Bool) (lanes : ℕ) (job : Job) (old mid new : Told tells) (a : Acceptance) (inputs : List Input) (engine : Running W)
+    → IsDesignLoaded lane lanes tells job old.contents a inputs engine → (IsTrue tells → mid.contents.files ≡ old.contents.files)
+    → (e : SetupError) → IsUnopened inputs job.stimuli (record mid { register = with_design old.register job.design }) new e → IsUnprepared job old new e
 unfolding with_text
-unprepared lane lanes tells job before old mid now new a inputs engine l same e u = by_error e u
+unprepared {W} {tells} lane lanes job old mid new a inputs engine l same e u = by_error e u
   where
-    accepted : (t : IsTrue tells) → IsDesignOf job old (design_of a.flat)
+    accepted : (t : IsTrue tells) → IsDesignOf job old.contents (design_of a.flat)
     accepted t =
-        with_text job.top job.clock (design_of a.flat) (job.head ++ l.file) (design_text job old) (ap (λ (file : List ℕ). job.head ++ file) (l.file_is t)) l.loaded.accepted
+        with_text job.top job.clock (design_of a.flat) (job.head ++ l.file) (design_text job old.contents) (ap (λ (file : List ℕ). job.head ++ file) (l.file_is t)) l.loaded.accepted
 
     inputs_are : (t : IsTrue tells) → inputs ≡ data_inputs (design_of a.flat) (accepted t).accepted.clock.first
     inputs_are t = l.loaded.inputs_are
 
-    headers : (t : IsTrue tells) (n : ℕ) → HaveHeaders inputs mid.files job.stimuli n → HaveHeaders (data_inputs (design_of a.flat) (accepted t).accepted.clock.first) old.files job.stimuli n
-    headers t n h = subst (λ (is : List Input). HaveHeaders is old.files job.stimuli n) (inputs_are t) (subst (λ (files : List ℕ → List ℕ). HaveHeaders inputs files job.stimuli n) (same t) h)
+    headers : (t : IsTrue tells) (n : ℕ) → HaveHeaders inputs mid.contents.files job.stimuli n → HaveHeaders (data_inputs (design_of a.flat) (accepted t).accepted.clock.first) old.contents.files job.stimuli n
+    headers t n h = subst (λ (is : List Input). HaveHeaders is old.contents.files job.stimuli n) (inputs_are t) (subst (λ (files : List ℕ → List ℕ). HaveHeaders inputs files job.stimuli n) (same t) h)
 
-    refused : (t : IsTrue tells) (n : ℕ) (error : StimError) → header_refusal inputs (mid.files (path_at job.stimuli n)) ≡ Some error
-        → header_refusal (data_inputs (design_of a.flat) (accepted t).accepted.clock.first) (old.files (path_at job.stimuli n)) ≡ Some error
-    refused t n error h = ap (λ is. header_refusal is (old.files (path_at job.stimuli n))) (sym (inputs_are t)) ∙ ap (λ (files : List ℕ → List ℕ). header_refusal inputs (files (path_at job.stimuli n))) (sym (same t)) ∙ h
+    refused : (t : IsTrue tells) (n : ℕ) (error : StimError) → header_refusal inputs (mid.contents.files (path_at job.stimuli n)) ≡ Some error
+        → header_refusal (data_inputs (design_of a.flat) (accepted t).accepted.clock.first) (old.contents.files (path_at job.stimuli n)) ≡ Some error
+    refused t n error h = ap (λ is. header_refusal is (old.contents.files (path_at job.stimuli n))) (sym (inputs_are t)) ∙ ap (λ (files : List ℕ → List ℕ). header_refusal inputs (files (path_at job.stimuli n))) (sym (same t)) ∙ h
 
-    by_error : (e : SetupError) → IsUnopened tells inputs job.stimuli (with_design before job.design) mid now new e → IsUnprepared tells job before old now new e
+    by_error : (e : SetupError) → IsUnopened inputs job.stimuli (record mid { register = with_design old.register job.design }) new e → IsUnprepared job old new e
     by_error TooLong u = absurd u
     by_error (Refused r) u = absurd u
     by_error (Stimulus n error) u = (
@@ -212,7 +197,7 @@ unprepared lane lanes tells job before old mid now new a inputs engine l same e 
       place_is = u.2;
       fails = elim u.3 [
         | inl attach ↦ inl attach
-        | inr taking ↦ inr (taking.0, λ t. subst (λ (files : List ℕ → List ℕ). IsUntold first_place (files (path_at job.stimuli u.0)) (new.left (stimulus_place u.0))) (same t) (taking.1 t))
+        | inr taking ↦ inr (taking.0, λ t. subst (λ (files : List ℕ → List ℕ). IsUntold first_place (files (path_at job.stimuli u.0)) (new.contents.left (stimulus_place u.0))) (same t) (taking.1 t))
       ];
       earlier = λ t. record { design = design_of a.flat; accepted = accepted t; headers = headers t u.0 (u.4 t) };
     })

@@ -5,6 +5,7 @@ use Rattle.vs_desk.specs.Desk.{Contents}
 use Rattle.vs_design.specs.Expressions.{signal_length}
 use Rattle.vs_design.specs.Designs.{Design}
 use Rattle.vs_flat.specs.DesignOf.{design_of}
+use Rattle.vs_design.specs.Footprints.{shown_signals}
 use Rattle.vs_program.specs.Compiled.{IsProgramOf}
 use Rattle.vs_program.proofs.Lengths.{lengths_of_spans}
 use Rattle.vs_engine.specs.Lanes.{Running, state}
@@ -52,7 +53,7 @@ ready lane lanes tells job old mid new a inputs engine m p = record {
   waves = λ i h. each i (new_wave (design_of a.flat) job.half m.waves p.new_waves i (subst (λ n. i < n) (sym p.waves) h));
 }
   where
-    signals : map signal_length (design_of a.flat).signals ≡ signal_lengths m.engine.program
+    signals : map signal_length (shown_signals (design_of a.flat)) ≡ signal_lengths m.engine.program
     signals = sym (lengths_of_spans (design_of a.flat) _ m.engine.program (program_is lane lanes tells job old mid new a inputs engine m p))
 
     small : {w : Wave} → IsNewWave (design_of a.flat) job.half w → w.dump.half ≤ 1000000

@@ -5,7 +5,7 @@ use Rattle.std.proofs.lemmas.Bool.{and_parts}
 use Rattle.std.proofs.lemmas.List.Elements.{All-cons, All-nil}
 use Rattle.vs_four.specs.declared.Range.{Range}
 use Rattle.vs_four.specs.Selects.{range_length, is_descending}
-use Rattle.vs_design.specs.Expressions.{Signal, signal_length, range_or_one}
+use Rattle.vs_design.specs.Expressions.{Signal, range_or_one}
 use Rattle.vs_design.specs.Designs.{Design}
 use Rattle.vs_design.specs.Elaborated.{is_lawful_range, is_declared}
 use Rattle.vs_flat.specs.declared.processes.Signal as F
@@ -70,7 +70,7 @@ at_most_64 : (r : Option Range) → is_lawful_range r ≡ true → range_or_one 
 at_most_64 None h = omega arith
 at_most_64 (Some r) h = le_of (range_length r) 64 (and_parts (nat_le r.left 65535 && nat_le r.right 65535) (nat_le (range_length r) 64) h).1
 
-few_bits : (d : Design) (s : Signal) → is_declared d s ≡ true → signal_length s ≤ 64
+few_bits : (d : Design) (s : Signal) → is_declared d s ≡ true → range_or_one s.range ≤ 64
 few_bits d s h =
     let first = (and_parts (nat_lt s.scope (length d.scopes) && is_lawful_range s.range) (not s.input || (s.net && (s.scope == 0))) h).0 in
     at_most_64 s.range (and_parts (nat_lt s.scope (length d.scopes)) (is_lawful_range s.range) first).1
@@ -78,19 +78,23 @@ few_bits d s h =
 pub few_bits_at : (a : Arena) → IsLawful a → (n : ℕ) (s : F.Signal) → slice_get a.signals n ≡ Some s → range_or_one s.range ≤ 64
 few_bits_at a lawful n s e = few_bits (design_of a) (signal_of n s) (all_at (is_declared (design_of a)) (arena_signals a) n (signal_of n s) lawful.design.declared (signal_there a n s e))
 
-inputs_of : (d : Design) (resets : List ℕ) (clock : ℕ) (ss : List Signal) → list_all (is_declared d) ss ≡ true → All IsInput (inputs_among resets clock ss)
-inputs_of d resets clock [] h = All-nil IsInput
-inputs_of d resets clock (s ∷ ss) h =
-    let parts = and_parts (is_declared d s) (list_all (is_declared d) ss) h in
-    here (is_data_input clock s) (few_bits d s parts.0) (inputs_of d resets clock ss parts.1)
+-- a signal of an arena is no memory, so its bits are those of its range
+inputs_of : (d : Design) (resets : List ℕ) (clock k : ℕ) (ss : List F.Signal) → list_all (is_declared d) (signals_from k ss) ≡ true → All IsInput (inputs_among resets clock (signals_from k ss))
+inputs_of d resets clock k [] h = All-nil IsInput
+inputs_of d resets clock k (s ∷ ss) h =
+    let parts = and_parts (is_declared d (signal_of k s)) (list_all (is_declared d) (signals_from (suc k) ss)) h in
+    here (is_data_input clock (signal_of k s)) (few_bits d (signal_of k s) parts.0) (inputs_of d resets clock (suc k) ss parts.1)
   where
-    here : (c : Bool) → signal_length s ≤ 64 → All IsInput (inputs_among resets clock ss)
-        → All IsInput (map (input_of resets) (if c then (s ∷ filter (is_data_input clock) ss) else filter (is_data_input clock) ss))
-    here true few rest = All-cons IsInput (input_of resets s) (inputs_among resets clock ss) (record { some = one_or_more s.range; at_most_64 = few }) rest
-    here false few rest = rest
+    rest : List Signal
+    rest = signals_from (suc k) ss
+
+    here : (c : Bool) → range_or_one s.range ≤ 64 → All IsInput (inputs_among resets clock rest)
+        → All IsInput (map (input_of resets) (if c then (signal_of k s ∷ filter (is_data_input clock) rest) else filter (is_data_input clock) rest))
+    here true few others = All-cons IsInput (input_of resets (signal_of k s)) (inputs_among resets clock rest) (record { some = one_or_more s.range; at_most_64 = few }) others
+    here false few others = others
 
 pub are_inputs : (resets : List ℕ) (a : Arena) (clock : ℕ) → IsLawful a → All IsInput (inputs_among resets clock (design_of a).signals)
-are_inputs resets a clock lawful = inputs_of (design_of a) resets clock (arena_signals a) lawful.design.declared
+are_inputs resets a clock lawful = inputs_of (design_of a) resets clock 0 a.signals lawful.design.declared
 
 -- ---- the signals in order
 

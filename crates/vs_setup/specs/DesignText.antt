@@ -1,7 +1,7 @@
 -- The text of the design: the lines of the macros that the words define, and behind them the file, taken from its place.
 use Rattle.std.specs.Prelude.{◌≡◌, ◌⊎◌, ℕ, ◌+◌, ◌-◌, ◌<◌, ◌≤◌, Bool, IsTrue, List, ◌++◌, length, drop}
 use Rattle.vs_desk.specs.declared.desk.Way.TheVariants.{Read}
-use Rattle.vs_desk.specs.Desk.{Register, Contents, with_place, Fails}
+use Rattle.vs_desk.specs.Desk.{Register, Contents, Told, with_place, Fails}
 use Rattle.vs_desk.specs.Places.{design_place}
 use Rattle.vs_accept.specs.Accepted.{most_bytes}
 use Rattle.vs_job.specs.declared.job.Job.{Job}
@@ -32,6 +32,6 @@ pub record IsPartTaken (head file left : List ℕ) : Type 0 where
   pub left_is : left ≡ drop count file
 
 -- The attach of the design's place failed, or a take there did, behind a part of the path's file.
-abbrev pub DesignFails : Bool → Register → Contents → Register → Contents → (head path : List ℕ) → Type 0
-DesignFails tells old before new after head path =
-    Fails old new design_place path ⊎ (Fails (with_design old path) new design_place old.asked × (IsTrue tells → IsPartTaken head (before.files path) (after.left design_place)))
+abbrev pub DesignFails : {tells : Bool} → Told tells → Told tells → (head path : List ℕ) → Type 0
+DesignFails {tells} old new head path = Fails old.register new.register design_place path
+    ⊎ (Fails (with_design old.register path) new.register design_place old.register.asked × (IsTrue tells → IsPartTaken head (old.contents.files path) (new.contents.left design_place)))

@@ -1,6 +1,6 @@
 -- A run that can begin.
 use Rattle.std.specs.Prelude.{◌≡◌, ℕ, Bool, false, IsTrue, List, [], ◌++◌, All, length, map}
-use Rattle.vs_desk.specs.Desk.{Register, Contents}
+use Rattle.vs_desk.specs.Desk.{Contents, Told}
 use Rattle.vs_desk.specs.Places.{design_place}
 use Rattle.vs_design.specs.Designs.{Design}
 use Rattle.vs_design.specs.Sizes.{size as size_of}
@@ -31,12 +31,11 @@ pub record AreTextsKept (old new : Contents) : Type 0 where
 
 -- The design's file was taken to its end, accepted behind the head and loaded, each lane's stimulus is about to give its first vector, and nothing of the
 -- waveforms was begun, where the desk told this before and tells that now, and `lane` reads a lane of a word.
-pub record IsPrepared {W : Type 0} (lane : W → ℕ → Bool) (tells : Bool) (job : Job) (before : Register) (old : Contents) (now : Register) (new : Contents)
-    (m : Simulation W) (size : ℕ) (wave_paths : List (List ℕ)) : Type 0 where
+pub record IsPrepared {W : Type 0} (lane : W → ℕ → Bool) {tells : Bool} (job : Job) (old new : Told tells) (m : Simulation W) (size : ℕ) (wave_paths : List (List ℕ)) : Type 0 where
   -- the design
   pub file : List ℕ
-  pub file_is : IsTrue tells → file ≡ old.files job.design
-  pub taken : IsTrue tells → new.left design_place ≡ []
+  pub file_is : IsTrue tells → file ≡ old.contents.files job.design
+  pub taken : IsTrue tells → new.contents.left design_place ≡ []
   pub design : Design
   pub accepted : IsAcceptedText (job.head ++ file) job.top job.clock design
   pub size_is : size ≡ size_of design
@@ -46,14 +45,14 @@ pub record IsPrepared {W : Type 0} (lane : W → ℕ → Bool) (tells : Bool) (j
   pub all_inputs : All IsInput (data_inputs design accepted.accepted.clock.first)
   -- the lanes
   pub lanes : length m.stimuli ≡ length job.stimuli
-  pub headers : IsTrue tells → HaveHeaders (data_inputs design accepted.accepted.clock.first) old.files job.stimuli (length job.stimuli)
+  pub headers : IsTrue tells → HaveHeaders (data_inputs design accepted.accepted.clock.first) old.contents.files job.stimuli (length job.stimuli)
   pub ready : IsReady 0 m
-  pub opened : IsTrue tells → AreOpened lane (run_of job old.files design accepted.accepted.clock.first) m new
+  pub opened : IsTrue tells → AreOpened lane (run_of job old.contents.files design accepted.accepted.clock.first) m new.contents
   pub paths : wave_paths ≡ map vcd_path job.stimuli
   -- the desk
-  pub register_is : now ≡ with_texts before job job.stimuli
-  pub readable : AreAttached now m.stimuli
-  pub kept : IsTrue tells → AreTextsKept old new
+  pub register_is : new.register ≡ with_texts old.register job job.stimuli
+  pub readable : AreAttached new.register m.stimuli
+  pub kept : IsTrue tells → AreTextsKept old.contents new.contents
 
 -- the design's file was loaded behind the head, where the desk told this
 pub record IsDesignLoaded {W : Type 0} (lane : W → ℕ → Bool) (lanes : ℕ) (tells : Bool) (job : Job) (old : Contents) (a : Acceptance) (inputs : List Input) (engine : Running W) : Type 0 where

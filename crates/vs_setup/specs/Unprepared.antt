@@ -1,6 +1,6 @@
 -- Why a run can't begin, by the error.
 use Rattle.std.specs.Prelude.{◌≡◌, ℕ, ◌<◌, ◌≤◌, ◌+◌, ◌⊎◌, Bool, IsTrue, List, [], ◌++◌, length, take, Some}
-use Rattle.vs_desk.specs.Desk.{Register, Contents, Fails}
+use Rattle.vs_desk.specs.Desk.{Register, Contents, Told, Fails}
 use Rattle.vs_desk.specs.Places.{stimulus_place, design_place}
 use Rattle.vs_design.specs.Designs.{Design}
 use Rattle.vs_refusal.specs.declared.refusal.Refusal.{Refusal}
@@ -66,24 +66,24 @@ pub record IsHeaderRefusal (job : Job) (c : Contents) (lane : ℕ) (error : Stim
   pub first : IsFirstRefused (data_inputs design accepted.accepted.clock.first) c job.stimuli lane error
 
 -- The attach of this lane's stimulus failed, behind the earlier ones, or a take there did, behind bytes of its text that tell neither a header nor
--- a refusal.
-abbrev pub StimulusFails : Bool → List (List ℕ) → Register → Contents → Register → Contents → ℕ → Type 0
-StimulusFails tells stimuli before old now new lane = Fails (with_lanes before (take lane stimuli)) now (stimulus_place lane) (path_at stimuli lane)
-    ⊎ (Fails (with_lanes before (take (lane + 1) stimuli)) now (stimulus_place lane) before.asked
-    × (IsTrue tells → IsUntold first_place (text_of old stimuli lane) (new.left (stimulus_place lane))))
+-- a refusal, where the register was this before the first one.
+abbrev pub StimulusFails : {tells : Bool} → List (List ℕ) → Register → Told tells → Told tells → ℕ → Type 0
+StimulusFails {tells} stimuli start old new lane = Fails (with_lanes start (take lane stimuli)) new.register (stimulus_place lane) (path_at stimuli lane)
+    ⊎ (Fails (with_lanes start (take (lane + 1) stimuli)) new.register (stimulus_place lane) start.asked
+    × (IsTrue tells → IsUntold first_place (text_of old.contents stimuli lane) (new.contents.left (stimulus_place lane))))
 
 -- a fault at the place of the design
-pub record IsDesignFault (tells : Bool) (job : Job) (before : Register) (old : Contents) (now : Register) (new : Contents) (place : ℕ) : Type 0 where
+pub record IsDesignFault {tells : Bool} (job : Job) (old new : Told tells) (place : ℕ) : Type 0 where
   pub place_is : place ≡ design_place
-  pub fails : DesignFails tells before old now new job.head job.design
+  pub fails : DesignFails old new job.head job.design
 
 -- a fault at the place of a stimulus, behind the earlier ones
-pub record IsStimulusFault (tells : Bool) (job : Job) (before : Register) (old : Contents) (now : Register) (new : Contents) (place : ℕ) : Type 0 where
+pub record IsStimulusFault {tells : Bool} (job : Job) (old new : Told tells) (place : ℕ) : Type 0 where
   pub lane : ℕ
   pub is_lane : lane < length job.stimuli
   pub place_is : place ≡ stimulus_place lane
-  pub fails : StimulusFails tells job.stimuli (with_design before job.design) old now new lane
-  pub earlier : IsTrue tells → AreEarlierOpened job old lane
+  pub fails : StimulusFails job.stimuli (with_design old.register job.design) old new lane
+  pub earlier : IsTrue tells → AreEarlierOpened job old.contents lane
 
 -- a text is refused up to its header; a fault isn't that, nor is want of memory
 abbrev pub IsTextRefusal : StimError → Type 0
@@ -92,24 +92,24 @@ IsTextRefusal E.Memory = ⊥
 IsTextRefusal error = IsHeaderError error
 
 -- Why a run can't begin, where the desk told this before and tells that now.
-abbrev pub IsUnprepared : Bool → Job → Register → Contents → Register → Contents → SetupError → Type 0
-IsUnprepared tells job before old now new TooLong = (now ≡ with_design before job.design) × (IsTrue tells → IsTooLong job.head (old.files job.design) (new.left design_place))
-IsUnprepared tells job before old now new (Refused r) =
-    (now ≡ with_design before job.design) × IsSomeRefusal job r × (IsTrue tells → IsDesignRefused job old new r)
-IsUnprepared tells job before old now new (Stimulus lane error) =
-    (lane < length job.stimuli) × IsTextRefusal error × (now ≡ with_texts before job (take (lane + 1) job.stimuli)) × (IsTrue tells → IsHeaderRefusal job old lane error)
-IsUnprepared tells job before old now new (ReadFault place) = IsDesignFault tells job before old now new place ⊎ IsStimulusFault tells job before old now new place
-IsUnprepared tells job before old now new Memory = (now ≡ before) ⊎ ((lanes : ℕ) × (lanes ≤ length job.stimuli) × (now ≡ with_texts before job (take lanes job.stimuli)))
+abbrev pub IsUnprepared : {tells : Bool} → Job → Told tells → Told tells → SetupError → Type 0
+IsUnprepared {tells} job old new TooLong = (new.register ≡ with_design old.register job.design) × (IsTrue tells → IsTooLong job.head (old.contents.files job.design) (new.contents.left design_place))
+IsUnprepared {tells} job old new (Refused r) =
+    (new.register ≡ with_design old.register job.design) × IsSomeRefusal job r × (IsTrue tells → IsDesignRefused job old.contents new.contents r)
+IsUnprepared {tells} job old new (Stimulus lane error) =
+    (lane < length job.stimuli) × IsTextRefusal error × (new.register ≡ with_texts old.register job (take (lane + 1) job.stimuli)) × (IsTrue tells → IsHeaderRefusal job old.contents lane error)
+IsUnprepared {tells} job old new (ReadFault place) = IsDesignFault job old new place ⊎ IsStimulusFault job old new place
+IsUnprepared {tells} job old new Memory = (new.register ≡ old.register) ⊎ ((lanes : ℕ) × (lanes ≤ length job.stimuli) × (new.register ≡ with_texts old.register job (take lanes job.stimuli)))
 
 -- Why a stimulus can't be opened, where the design's inputs are these.
-abbrev pub IsUnopened : Bool → List Input → List (List ℕ) → Register → Contents → Register → Contents → SetupError → Type 0
-IsUnopened tells inputs stimuli before old now new TooLong = ⊥
-IsUnopened tells inputs stimuli before old now new (Refused r) = ⊥
-IsUnopened tells inputs stimuli before old now new (Stimulus lane error) =
-    (lane < length stimuli) × IsTextRefusal error × (now ≡ with_lanes before (take (lane + 1) stimuli)) × (IsTrue tells → IsFirstRefused inputs old stimuli lane error)
-IsUnopened tells inputs stimuli before old now new (ReadFault place) =
-    (lane : ℕ) × (lane < length stimuli) × (place ≡ stimulus_place lane) × StimulusFails tells stimuli before old now new lane × (IsTrue tells → HaveHeaders inputs old.files stimuli lane)
-IsUnopened tells inputs stimuli before old now new Memory = (lanes : ℕ) × (lanes ≤ length stimuli) × (now ≡ with_lanes before (take lanes stimuli))
+abbrev pub IsUnopened : {tells : Bool} → List Input → List (List ℕ) → Told tells → Told tells → SetupError → Type 0
+IsUnopened {tells} inputs stimuli old new TooLong = ⊥
+IsUnopened {tells} inputs stimuli old new (Refused r) = ⊥
+IsUnopened {tells} inputs stimuli old new (Stimulus lane error) =
+    (lane < length stimuli) × IsTextRefusal error × (new.register ≡ with_lanes old.register (take (lane + 1) stimuli)) × (IsTrue tells → IsFirstRefused inputs old.contents stimuli lane error)
+IsUnopened {tells} inputs stimuli old new (ReadFault place) =
+    (lane : ℕ) × (lane < length stimuli) × (place ≡ stimulus_place lane) × StimulusFails stimuli old.register old new lane × (IsTrue tells → HaveHeaders inputs old.contents.files stimuli lane)
+IsUnopened {tells} inputs stimuli old new Memory = (lanes : ℕ) × (lanes ≤ length stimuli) × (new.register ≡ with_lanes old.register (take lanes stimuli))
 
 -- the error of a stimulus that can't be opened
 abbrev pub error_of : ℕ → StimError → SetupError

@@ -49,17 +49,17 @@ impl From<AllocError> for DesignError {
 
 /// Takes bytes into the front of a block, at most so many.
 fn take_front<D: Desk>(desk: &mut D, block: &mut [u8], most: usize) -> Result<usize, Failed>
-    requires attached { IsAttached (D.register desk.old) design_place Read }
+    requires attached { IsAttached (D.told desk.old).register design_place Read }
     requires room { 0 < length block.old }
     requires some { 0 < most }
     ensures within { IfOk result (λ n. n ≤ length block.old) }
     ensures most { IfOk result (λ n. n ≤ most) }
-    ensures moved { IsTrue D.tells → IfOk result (λ n. take n block.new ++ (D.contents desk.new).left design_place ≡ (D.contents desk.old).left design_place) }
-    ensures end { IsTrue D.tells → IfOk result (λ n. n ≡ 0 → (D.contents desk.old).left design_place ≡ []) }
-    ensures only { IsTrue D.tells → OnlyTaken design_place (D.contents desk.old) (D.contents desk.new) }
-    ensures same { OnOk result (D.register desk.new ≡ D.register desk.old) }
-    ensures failed { OnErr result (Fails (D.register desk.old) (D.register desk.new) design_place (D.register desk.old).asked) }
-    ensures kept { IsTrue D.tells → OnErr result (D.contents desk.new ≡ D.contents desk.old) }
+    ensures moved { IsTrue D.tells → IfOk result (λ n. take n block.new ++ (D.told desk.new).contents.left design_place ≡ (D.told desk.old).contents.left design_place) }
+    ensures end { IsTrue D.tells → IfOk result (λ n. n ≡ 0 → (D.told desk.old).contents.left design_place ≡ []) }
+    ensures only { IsTrue D.tells → OnlyTaken design_place (D.told desk.old).contents (D.told desk.new).contents }
+    ensures same { OnOk result ((D.told desk.new).register ≡ (D.told desk.old).register) }
+    ensures failed { OnErr result (Fails (D.told desk.old).register (D.told desk.new).register design_place (D.told desk.old).register.asked) }
+    ensures kept { IsTrue D.tells → OnErr result ((D.told desk.new).contents ≡ (D.told desk.old).contents) }
 {
     let room = block.len().min(most);
     desk.take(DESIGN_PLACE, &mut block[..room])
@@ -67,14 +67,14 @@ fn take_front<D: Desk>(desk: &mut D, block: &mut [u8], most: usize) -> Result<us
 
 /// Takes a file to its end, and puts it behind the head.
 fn take_text<D: Desk>(alloc: Global, desk: &mut D, head: &[u8]) -> Result<Vec<u8>, DesignError>
-    requires attached { IsAttached (D.register desk.old) design_place Read }
+    requires attached { IsAttached (D.told desk.old).register design_place Read }
     requires head { length head.now ≤ most_bytes }
-    ensures text { IfOk result (λ text. IsBehind D.tells head.now ((D.contents desk.old).left design_place) text.items) }
-    ensures end { IsTrue D.tells → OnOk result ((D.contents desk.new).left design_place ≡ []) }
+    ensures text { IfOk result (λ text. IsBehind D.tells head.now ((D.told desk.old).contents.left design_place) text.items) }
+    ensures end { IsTrue D.tells → OnOk result ((D.told desk.new).contents.left design_place ≡ []) }
     ensures short { IfOk result (λ text. length text.items ≤ most_bytes) }
-    ensures long { IsTrue D.tells → result ≡ Err DesignError.TooLong → IsTooLong head.now ((D.contents desk.old).left design_place) ((D.contents desk.new).left design_place) }
-    ensures desk { TakesAt D.register D.tells D.contents design_place desk.old desk.new DesignError.ReadFault result }
-    ensures part { IsTrue D.tells → result ≡ Err DesignError.ReadFault → IsPartTaken head.now ((D.contents desk.old).left design_place) ((D.contents desk.new).left design_place) }
+    ensures long { IsTrue D.tells → result ≡ Err DesignError.TooLong → IsTooLong head.now ((D.told desk.old).contents.left design_place) ((D.told desk.new).contents.left design_place) }
+    ensures desk { TakesAt design_place (D.told desk.old) (D.told desk.new) DesignError.ReadFault result }
+    ensures part { IsTrue D.tells → result ≡ Err DesignError.ReadFault → IsPartTaken head.now ((D.told desk.old).contents.left design_place) ((D.told desk.new).contents.left design_place) }
 {
     let mut text = Vec::new(alloc);
     text.extend_from_slice(head)?;
@@ -102,16 +102,16 @@ pub fn read_design<D: Desk>(
     path: String,
     head: &[u8],
 ) -> Result<Vec<u8>, DesignError>
-    requires free { IsNone ((D.register desk.old).attached design_place) }
+    requires free { IsNone ((D.told desk.old).register.attached design_place) }
     requires head { length head.now ≤ most_bytes }
-    ensures text { IfOk result (λ text. IsBehind D.tells head.now ((D.contents desk.old).files (string_bytes path)) text.items) }
-    ensures end { IsTrue D.tells → OnOk result ((D.contents desk.new).left design_place ≡ []) }
+    ensures text { IfOk result (λ text. IsBehind D.tells head.now ((D.told desk.old).contents.files (string_bytes path)) text.items) }
+    ensures end { IsTrue D.tells → OnOk result ((D.told desk.new).contents.left design_place ≡ []) }
     ensures short { IfOk result (λ text. length text.items ≤ most_bytes) }
     ensures long { IsTrue D.tells → result ≡ Err DesignError.TooLong
-        → IsTooLong head.now ((D.contents desk.old).files (string_bytes path)) ((D.contents desk.new).left design_place) }
-    ensures only { IsTrue D.tells → OnlyTaken design_place (D.contents desk.old) (D.contents desk.new) }
-    ensures attached { result ≢ Err DesignError.ReadFault → D.register desk.new ≡ with_design (D.register desk.old) (string_bytes path) }
-    ensures failed { result ≡ Err DesignError.ReadFault → DesignFails D.tells (D.register desk.old) (D.contents desk.old) (D.register desk.new) (D.contents desk.new) head.now (string_bytes path) }
+        → IsTooLong head.now ((D.told desk.old).contents.files (string_bytes path)) ((D.told desk.new).contents.left design_place) }
+    ensures only { IsTrue D.tells → OnlyTaken design_place (D.told desk.old).contents (D.told desk.new).contents }
+    ensures attached { result ≢ Err DesignError.ReadFault → (D.told desk.new).register ≡ with_design (D.told desk.old).register (string_bytes path) }
+    ensures failed { result ≡ Err DesignError.ReadFault → DesignFails (D.told desk.old) (D.told desk.new) head.now (string_bytes path) }
 {
     desk.attach(DESIGN_PLACE, path, Way::Read)?;
     take_text(alloc, desk, head)

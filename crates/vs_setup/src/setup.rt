@@ -50,10 +50,10 @@ pub fn prepare<W: Lanes, D: Desk>(
 ) -> Result<Prepared<W>, SetupError>
     requires lanes { length job.now.stimuli ≤ W.LANES }
     requires job { IsJob job.now }
-    requires fresh { IsFresh (D.register desk.old) (length job.now.stimuli) }
-    ensures prepared { IfOk result (λ p. IsPrepared W.lane D.tells job.now (D.register desk.old) (D.contents desk.old) (D.register desk.new) (D.contents desk.new) p.machine p.size (map string_bytes p.wave_paths.items)) }
-    ensures unprepared { IfErr result (IsUnprepared D.tells job.now (D.register desk.old) (D.contents desk.old) (D.register desk.new) (D.contents desk.new)) }
-    ensures kept { IsTrue D.tells → AreTextsKept (D.contents desk.old) (D.contents desk.new) }
+    requires fresh { IsFresh (D.told desk.old).register (length job.now.stimuli) }
+    ensures prepared { IfOk result (λ p. IsPrepared W.lane job.now (D.told desk.old) (D.told desk.new) p.machine p.size (map string_bytes p.wave_paths.items)) }
+    ensures unprepared { IfErr result (IsUnprepared job.now (D.told desk.old) (D.told desk.new)) }
+    ensures kept { IsTrue D.tells → AreTextsKept (D.told desk.old).contents (D.told desk.new).contents }
 {
     let loaded = read_and_load::<W, D>(alloc, job, desk)?;
     let drive = open_stimuli(alloc, job, desk, &loaded.inputs)?;
@@ -67,13 +67,13 @@ fn read_and_load<W: Lanes, D: Desk>(
     job: &Job,
     desk: &mut D,
 ) -> Result<Loaded<W>, SetupError>
-    requires free { IsNone ((D.register desk.old).attached design_place) }
+    requires free { IsNone ((D.told desk.old).register.attached design_place) }
     requires head { length job.now.head ≤ most_head }
-    ensures loaded { IfOk result (λ l. IsDesignLoaded W.lane W.LANES D.tells job.now (D.contents desk.old) l.accepted l.inputs.items l.engine) }
-    ensures register { OnOk result (D.register desk.new ≡ with_design (D.register desk.old) job.now.design) }
-    ensures unprepared { IfErr result (IsUnprepared D.tells job.now (D.register desk.old) (D.contents desk.old) (D.register desk.new) (D.contents desk.new)) }
-    ensures taken { IsTrue D.tells → OnOk result ((D.contents desk.new).left design_place ≡ []) }
-    ensures only { IsTrue D.tells → OnlyTaken design_place (D.contents desk.old) (D.contents desk.new) }
+    ensures loaded { IfOk result (λ l. IsDesignLoaded W.lane W.LANES D.tells job.now (D.told desk.old).contents l.accepted l.inputs.items l.engine) }
+    ensures register { OnOk result ((D.told desk.new).register ≡ with_design (D.told desk.old).register job.now.design) }
+    ensures unprepared { IfErr result (IsUnprepared job.now (D.told desk.old) (D.told desk.new)) }
+    ensures taken { IsTrue D.tells → OnOk result ((D.told desk.new).contents.left design_place ≡ []) }
+    ensures only { IsTrue D.tells → OnlyTaken design_place (D.told desk.old).contents (D.told desk.new).contents }
 {
     let path = String::from_str(alloc, job.design.as_str())?;
     let text = read_design(alloc, desk, path, job.head.as_bytes())?;
@@ -101,15 +101,15 @@ fn open_stimuli<D: Desk>(
     inputs: &[Input],
 ) -> Result<Drive, SetupError>
     requires lanes { length job.now.stimuli ≤ most_lanes }
-    requires free { AreFree (D.register desk.old) (length job.now.stimuli) }
+    requires free { AreFree (D.told desk.old).register (length job.now.stimuli) }
     requires inputs { All IsInput inputs.now }
-    ensures opened { IfOk result (AreOpened D.tells inputs.now (D.contents desk.old) (D.contents desk.new) job.now.stimuli) }
-    ensures headers { IsTrue D.tells → OnOk result (HaveHeaders inputs.now (D.contents desk.old).files job.now.stimuli (length job.now.stimuli)) }
+    ensures opened { IfOk result (AreOpened D.tells inputs.now (D.told desk.old).contents (D.told desk.new).contents job.now.stimuli) }
+    ensures headers { IsTrue D.tells → OnOk result (HaveHeaders inputs.now (D.told desk.old).contents.files job.now.stimuli (length job.now.stimuli)) }
     ensures numbered { IfOk result AreLanes }
-    ensures register { OnOk result (D.register desk.new ≡ with_lanes (D.register desk.old) job.now.stimuli) }
-    ensures readable { IfOk result (AreAttached (D.register desk.new)) }
-    ensures unopened { IfErr result (IsUnopened D.tells inputs.now job.now.stimuli (D.register desk.old) (D.contents desk.old) (D.register desk.new) (D.contents desk.new)) }
-    ensures others { IsTrue D.tells → OtherPlacesKept (length job.now.stimuli) (D.contents desk.old) (D.contents desk.new) }
+    ensures register { OnOk result ((D.told desk.new).register ≡ with_lanes (D.told desk.old).register job.now.stimuli) }
+    ensures readable { IfOk result (AreAttached (D.told desk.new).register) }
+    ensures unopened { IfErr result (IsUnopened inputs.now job.now.stimuli (D.told desk.old) (D.told desk.new)) }
+    ensures others { IsTrue D.tells → OtherPlacesKept (length job.now.stimuli) (D.told desk.old).contents (D.told desk.new).contents }
 {
     let paths = stimulus_paths(alloc, job)?;
     match open(alloc, desk, paths, inputs) {

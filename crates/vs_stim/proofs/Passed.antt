@@ -4,7 +4,7 @@ use Rattle.std.proofs.lemmas.List.{length_push}
 use Rattle.std.specs.Prelude.{Option, Some, None, ◌==◌}
 use Rattle.std.proofs.lemmas.Bool.{cond-true, eq-eqb}
 use Rattle.vs_desk.specs.declared.desk.Way.TheVariants.{Read}
-use Rattle.vs_desk.specs.Desk.{Contents, with_attached}
+use Rattle.vs_desk.specs.Desk.{Contents, Told, with_attached}
 use Rattle.vs_four.specs.declared.Bit4.{Bit4}
 use Rattle.vs_stim.specs.declared.error.StimError.{StimError}
 use Rattle.vs_stim.specs.declared.error.StimError.TheVariants.{BadHeader, BadVector}
@@ -180,7 +180,7 @@ read_more is text cs count v o p h r = record {
 }
 
 -- what is left of a text whose place was attached, where nothing was taken
-pub opened_rest : (s : Source) (old mid : Contents) (place : ℕ) (path : List ℕ) → s.block ≡ [] → s.place ≡ place → mid ≡ with_attached old place Read path
+pub opened_rest : {tells : Bool} (s : Source) (old : Contents) (mid : Told tells) (place : ℕ) (path : List ℕ) → s.block ≡ [] → s.place ≡ place → mid.contents ≡ with_attached old place Read path
     → rest_of s mid ≡ old.files path
 opened_rest s old mid place path b p m =
     (λ i. b i ++ (m i).left (p i)) ∙ cond-true (place == place) (old.files path) (old.left place) (eq-eqb place place refl)

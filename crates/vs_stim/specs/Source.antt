@@ -1,6 +1,6 @@
 -- A text of which a part was read, in the middle of a line.
 use Rattle.std.specs.Prelude.{◌≡◌, ℕ, ◌+◌, ◌<◌, ◌≤◌, List, [], ◌∷◌, ◌++◌, length, Option, Some, None, Bool, true, false}
-use Rattle.vs_desk.specs.Desk.{Contents}
+use Rattle.vs_desk.specs.Desk.{Told}
 use Rattle.vs_stim.specs.declared.error.StimError.{StimError}
 use Rattle.vs_stim.specs.declared.input.Input.{Input}
 use Rattle.vs_stim.specs.declared.input.Column.{Column}
@@ -79,15 +79,15 @@ ComesBy LineEnd old new = PassesLf old new
 ComesBy TextEnd old new = Unit {0}
 
 -- the text that is left: what was taken and not yet read, and what is left on the desk
-abbrev pub rest_of : Source → Contents → List ℕ
-rest_of s contents = s.block ++ contents.left s.place
+abbrev pub rest_of : {tells : Bool} → Source → Told tells → List ℕ
+rest_of s told = s.block ++ told.contents.left s.place
 
 -- where a reader is in its text, where this is left of it
 abbrev pub open_before : Source → List ℕ → Open
 open_before s rest = record { at = record { number = s.number; start = s.start }; taken = s.length; rest = rest }
 
-abbrev pub open_at : Source → Contents → Open
-open_at s contents = open_before s (rest_of s contents)
+abbrev pub open_at : {tells : Bool} → Source → Told tells → Open
+open_at s told = open_before s (rest_of s told)
 
 -- a reader, where its block is all that is left of the text
 abbrev pub in_block : Source → Open

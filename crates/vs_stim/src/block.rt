@@ -65,13 +65,13 @@ impl Block {
     /// Takes bytes from the place.
     fn fill<D: Desk>(&mut self, desk: &mut D, place: u32) -> Result<(), Failed>
         requires empty { self.old ≡ [] }
-        requires attached { IsAttached (D.register desk.old) place Read }
-        ensures same { OnOk result (D.register desk.new ≡ D.register desk.old) }
-        ensures failed { OnErr result (Fails (D.register desk.old) (D.register desk.new) place (D.register desk.old).asked) }
+        requires attached { IsAttached (D.told desk.old).register place Read }
+        ensures same { OnOk result ((D.told desk.new).register ≡ (D.told desk.old).register) }
+        ensures failed { OnErr result (Fails (D.told desk.old).register (D.told desk.new).register place (D.told desk.old).register.asked) }
         ensures none { OnErr result (self.new ≡ []) }
-        ensures ahead { IsTrue D.tells → self.new ++ (D.contents desk.new).left place ≡ (D.contents desk.old).left place }
-        ensures end { IsTrue D.tells → OnOk result (self.new ≡ [] → (D.contents desk.old).left place ≡ []) }
-        ensures others { IsTrue D.tells → OnlyTaken place (D.contents desk.old) (D.contents desk.new) }
+        ensures ahead { IsTrue D.tells → self.new ++ (D.told desk.new).contents.left place ≡ (D.told desk.old).contents.left place }
+        ensures end { IsTrue D.tells → OnOk result (self.new ≡ [] → (D.told desk.old).contents.left place ≡ []) }
+        ensures others { IsTrue D.tells → OnlyTaken place (D.told desk.old).contents (D.told desk.new).contents }
     {
         self.next = 0;
         self.end = 0;
@@ -82,16 +82,16 @@ impl Block {
     /// The first byte that is left, in the block or on the desk. Bytes are taken only where the
     /// block has none.
     pub(crate) fn peek<D: Desk>(&mut self, desk: &mut D, place: u32) -> Result<Option<u8>, Failed>
-        requires { IsAttached (D.register desk.old) place Read }
-        ensures same { OnOk result (D.register desk.new ≡ D.register desk.old) }
-        ensures failed { OnErr result (Fails (D.register desk.old) (D.register desk.new) place (D.register desk.old).asked) }
-        ensures ahead { IsTrue D.tells → self.new ++ (D.contents desk.new).left place ≡ self.old ++ (D.contents desk.old).left place }
+        requires { IsAttached (D.told desk.old).register place Read }
+        ensures same { OnOk result ((D.told desk.new).register ≡ (D.told desk.old).register) }
+        ensures failed { OnErr result (Fails (D.told desk.old).register (D.told desk.new).register place (D.told desk.old).register.asked) }
+        ensures ahead { IsTrue D.tells → self.new ++ (D.told desk.new).contents.left place ≡ self.old ++ (D.told desk.old).contents.left place }
         ensures empty { OnErr result ((self.old ≡ []) × (self.new ≡ [])) }
         ensures none { IfOk result (λ byte. IfNone byte (self.new ≡ [])) }
         ensures none_before { IfOk result (λ byte. IfNone byte (self.old ≡ [])) }
-        ensures end { IsTrue D.tells → IfOk result (λ byte. IfNone byte ((D.contents desk.new).left place ≡ [])) }
+        ensures end { IsTrue D.tells → IfOk result (λ byte. IfNone byte ((D.told desk.new).contents.left place ≡ [])) }
         ensures some { IfOk result (λ byte. IfSome byte (λ b. self.new ≡ b ∷ drop 1 self.new)) }
-        ensures others { IsTrue D.tells → OnlyTaken place (D.contents desk.old) (D.contents desk.new) }
+        ensures others { IsTrue D.tells → OnlyTaken place (D.told desk.old).contents (D.told desk.new).contents }
         ensures frugal { self.old ≢ [] → (desk.new ≡ desk.old) × (self.new ≡ self.old) }
     {
         if let Some(byte) = self.first() {

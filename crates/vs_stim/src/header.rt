@@ -30,22 +30,22 @@ fn feed_heading<D: Desk>(
     requires source { IsSource source.old }
     requires inputs { All IsInput inputs.now }
     requires heading { IsHeading inputs.now heading.old }
-    requires attached { IsAttached (D.register desk.old) source.old.place Read }
+    requires attached { IsAttached (D.told desk.old).register source.old.place Read }
     ensures source { IsSource source.new }
     ensures heading { OnOk result (IsHeading inputs.now heading.new) }
     ensures place { source.new.place ≡ source.old.place }
     ensures moves { result ≡ Ok false → source.old.start < source.new.start }
     ensures begins { OnOk result (source.new.length ≡ 0) }
-    ensures says { IsTrue D.tells → OnOk result (heading_with inputs.now heading.new [] ≡ heading_with inputs.now heading.old (says (open_at source.old (D.contents desk.old)))) }
-    ensures passes { IsTrue D.tells → IfOk result (λ last. Passes last (open_at source.old (D.contents desk.old)) (open_at source.new (D.contents desk.new))) }
+    ensures says { IsTrue D.tells → OnOk result (heading_with inputs.now heading.new [] ≡ heading_with inputs.now heading.old (says (open_at source.old (D.told desk.old)))) }
+    ensures passes { IsTrue D.tells → IfOk result (λ last. Passes last (open_at source.old (D.told desk.old)) (open_at source.new (D.told desk.new))) }
 
-    ensures refused { IsTrue D.tells → IfErr result (λ e. e ≢ StimError.ReadFault → e ≢ StimError.Memory → line_refusal (open_at source.old (D.contents desk.old)) ≡ Some e) }
+    ensures refused { IsTrue D.tells → IfErr result (λ e. e ≢ StimError.ReadFault → e ≢ StimError.Memory → line_refusal (open_at source.old (D.told desk.old)) ≡ Some e) }
     ensures errors { IfErr result IsHeaderError }
-    ensures desk { TakesAt D.register D.tells D.contents source.old.place desk.old desk.new StimError.ReadFault result }
+    ensures desk { TakesAt source.old.place (D.told desk.old) (D.told desk.new) StimError.ReadFault result }
 
-    ensures went { IsTrue D.tells → result ≡ Err StimError.ReadFault → GoesOn (open_at source.old (D.contents desk.old)) (open_at source.new (D.contents desk.new)) }
+    ensures went { IsTrue D.tells → result ≡ Err StimError.ReadFault → GoesOn (open_at source.old (D.told desk.old)) (open_at source.new (D.told desk.new)) }
     ensures empty { result ≡ Err StimError.ReadFault → source.new.block ≡ [] }
-    ensures ends { IsTrue D.tells → result ≡ Ok false → PassesLf (open_at source.old (D.contents desk.old)) (open_at source.new (D.contents desk.new)) }
+    ensures ends { IsTrue D.tells → result ≡ Ok false → PassesLf (open_at source.old (D.told desk.old)) (open_at source.new (D.told desk.new)) }
 {
     'line: loop {
         match source.next_piece(desk)? {
@@ -67,7 +67,7 @@ fn read_heading<D: Desk>(
     requires inputs { All IsInput inputs.now }
     requires heading { IsHeading inputs.now heading.old }
     requires stage { heading.old.stage ≡ Start }
-    requires attached { IsAttached (D.register desk.old) source.old.place Read }
+    requires attached { IsAttached (D.told desk.old).register source.old.place Read }
     ensures source { IsSource source.new }
     ensures heading { OnOk result (IsHeading inputs.now heading.new) }
     ensures skipped { IfOk result (λ line. line.0 ≡ Skipped → (heading.new.titled ≡ false) × (heading.new.columns.items ≡ [])) }
@@ -75,16 +75,16 @@ fn read_heading<D: Desk>(
     ensures place { source.new.place ≡ source.old.place }
     ensures moves { IfOk result (λ line. line.1 ≡ false → source.old.start < source.new.start) }
     ensures begins { OnOk result (source.new.length ≡ 0) }
-    ensures says { IsTrue D.tells → IfOk result (λ line. as_said line.0 heading.new.columns.items ≡ header_line inputs.now (says (open_at source.old (D.contents desk.old)))) }
-    ensures passes { IsTrue D.tells → IfOk result (λ line. Passes line.1 (open_at source.old (D.contents desk.old)) (open_at source.new (D.contents desk.new))) }
+    ensures says { IsTrue D.tells → IfOk result (λ line. as_said line.0 heading.new.columns.items ≡ header_line inputs.now (says (open_at source.old (D.told desk.old)))) }
+    ensures passes { IsTrue D.tells → IfOk result (λ line. Passes line.1 (open_at source.old (D.told desk.old)) (open_at source.new (D.told desk.new))) }
 
-    ensures refused { IsTrue D.tells → IfErr result (λ e. e ≢ StimError.ReadFault → e ≢ StimError.Memory → line_refusal (open_at source.old (D.contents desk.old)) ≡ Some e) }
+    ensures refused { IsTrue D.tells → IfErr result (λ e. e ≢ StimError.ReadFault → e ≢ StimError.Memory → line_refusal (open_at source.old (D.told desk.old)) ≡ Some e) }
     ensures errors { IfErr result IsHeaderError }
-    ensures desk { TakesAt D.register D.tells D.contents source.old.place desk.old desk.new StimError.ReadFault result }
+    ensures desk { TakesAt source.old.place (D.told desk.old) (D.told desk.new) StimError.ReadFault result }
 
-    ensures went { IsTrue D.tells → result ≡ Err StimError.ReadFault → GoesOn (open_at source.old (D.contents desk.old)) (open_at source.new (D.contents desk.new)) }
+    ensures went { IsTrue D.tells → result ≡ Err StimError.ReadFault → GoesOn (open_at source.old (D.told desk.old)) (open_at source.new (D.told desk.new)) }
     ensures empty { result ≡ Err StimError.ReadFault → source.new.block ≡ [] }
-    ensures ends { IsTrue D.tells → IfOk result (λ line. line.1 ≡ false → PassesLf (open_at source.old (D.contents desk.old)) (open_at source.new (D.contents desk.new))) }
+    ensures ends { IsTrue D.tells → IfOk result (λ line. line.1 ≡ false → PassesLf (open_at source.old (D.told desk.old)) (open_at source.new (D.told desk.new))) }
 {
     let last = feed_heading(source, heading, inputs, desk)?;
     Ok((heading.finish(inputs)?, last))
@@ -100,24 +100,24 @@ pub(crate) fn find_header<D: Desk>(
     requires source { IsSource source.old }
     requires begins { source.old.length ≡ 0 }
     requires inputs { All IsInput inputs.now }
-    requires attached { IsAttached (D.register desk.old) source.old.place Read }
+    requires attached { IsAttached (D.told desk.old).register source.old.place Read }
     ensures source { IsSource source.new }
     ensures place { source.new.place ≡ source.old.place }
     ensures begins { OnOk result (source.new.length ≡ 0) }
     ensures columns { IfOk result (λ cs. All (IsColumn (lengths inputs.now)) cs.items) }
     ensures each { IfOk result (λ cs. each_once (length inputs.now) cs.items ≡ true) }
 
-    ensures found { IsTrue D.tells → IfOk result (λ cs. header_from inputs.now (open_at source.old (D.contents desk.old)) ≡ vectors_from cs.items 0 (open_at source.new (D.contents desk.new))) }
-    ensures passes { IsTrue D.tells → IfOk result (λ cs. PassesHeader inputs.now cs.items (open_at source.old (D.contents desk.old)) (open_at source.new (D.contents desk.new))) }
-    ensures refused { IsTrue D.tells → IfErr result (λ e. e ≢ StimError.ReadFault → e ≢ StimError.Memory → header_from inputs.now (open_at source.old (D.contents desk.old)) ≡ refused e) }
+    ensures found { IsTrue D.tells → IfOk result (λ cs. header_from inputs.now (open_at source.old (D.told desk.old)) ≡ vectors_from cs.items 0 (open_at source.new (D.told desk.new))) }
+    ensures passes { IsTrue D.tells → IfOk result (λ cs. PassesHeader inputs.now cs.items (open_at source.old (D.told desk.old)) (open_at source.new (D.told desk.new))) }
+    ensures refused { IsTrue D.tells → IfErr result (λ e. e ≢ StimError.ReadFault → e ≢ StimError.Memory → header_from inputs.now (open_at source.old (D.told desk.old)) ≡ refused e) }
 
-    ensures headed { IsTrue D.tells → OnOk result (header_fault_from inputs.now (open_at source.old (D.contents desk.old)) ≡ None) }
-    ensures faulty { IsTrue D.tells → IfErr result (λ e. e ≢ StimError.ReadFault → e ≢ StimError.Memory → header_fault_from inputs.now (open_at source.old (D.contents desk.old)) ≡ Some e) }
+    ensures headed { IsTrue D.tells → OnOk result (header_fault_from inputs.now (open_at source.old (D.told desk.old)) ≡ None) }
+    ensures faulty { IsTrue D.tells → IfErr result (λ e. e ≢ StimError.ReadFault → e ≢ StimError.Memory → header_fault_from inputs.now (open_at source.old (D.told desk.old)) ≡ Some e) }
 
     ensures errors { IfErr result IsHeaderError }
-    ensures desk { TakesAt D.register D.tells D.contents source.old.place desk.old desk.new StimError.ReadFault result }
+    ensures desk { TakesAt source.old.place (D.told desk.old) (D.told desk.new) StimError.ReadFault result }
     ensures needed { IsTrue D.tells → result ≡ Err StimError.ReadFault →
-        let o = open_at source.old (D.contents desk.old) in IsUntold o.at o.rest ((D.contents desk.new).left source.old.place) }
+        let o = open_at source.old (D.told desk.old) in IsUntold o.at o.rest ((D.told desk.new).contents.left source.old.place) }
 {
     let mut heading = Heading::new(alloc, inputs)?;
     'lines: loop {

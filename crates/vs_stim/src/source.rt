@@ -125,18 +125,18 @@ impl Source {
 
     /// The next byte of the text, which stays. It then stands first in the block.
     fn peek<D: Desk>(&mut self, desk: &mut D) -> Result<Option<u8>, StimError>
-        requires { IsAttached (D.register desk.old) self.old.place Read }
+        requires { IsAttached (D.told desk.old).register self.old.place Read }
         ensures block { self.new ≡ record self.old { block = self.new.block } }
-        ensures same { OnOk result (D.register desk.new ≡ D.register desk.old) }
+        ensures same { OnOk result ((D.told desk.new).register ≡ (D.told desk.old).register) }
         ensures fault { IfErr result (λ e. e ≡ StimError.ReadFault) }
-        ensures failed { OnErr result (Fails (D.register desk.old) (D.register desk.new) self.old.place (D.register desk.old).asked) }
+        ensures failed { OnErr result (Fails (D.told desk.old).register (D.told desk.new).register self.old.place (D.told desk.old).register.asked) }
         ensures empty { OnErr result (self.new.block ≡ []) }
-        ensures rest { IsTrue D.tells → rest_of self.new (D.contents desk.new) ≡ rest_of self.old (D.contents desk.old) }
-        ensures end { IsTrue D.tells → IfOk result (λ byte. IfNone byte (rest_of self.new (D.contents desk.new) ≡ [])) }
+        ensures rest { IsTrue D.tells → rest_of self.new (D.told desk.new) ≡ rest_of self.old (D.told desk.old) }
+        ensures end { IsTrue D.tells → IfOk result (λ byte. IfNone byte (rest_of self.new (D.told desk.new) ≡ [])) }
         ensures some { IfOk result (λ byte. IfSome byte (λ b. self.new.block ≡ b ∷ drop 1 self.new.block)) }
         ensures none { IfOk result (λ byte. IfNone byte (self.new.block ≡ [])) }
         ensures none_before { IfOk result (λ byte. IfNone byte (self.old.block ≡ [])) }
-        ensures others { IsTrue D.tells → OnlyTaken self.old.place (D.contents desk.old) (D.contents desk.new) }
+        ensures others { IsTrue D.tells → OnlyTaken self.old.place (D.told desk.old).contents (D.told desk.new).contents }
         ensures frugal { self.old.block ≢ [] → (desk.new ≡ desk.old) × (self.new ≡ self.old) }
     {
         Ok(self.block.peek(desk, self.place)?)
@@ -145,20 +145,20 @@ impl Source {
     /// Reads the next piece of the text.
     pub(crate) fn next_piece<D: Desk>(&mut self, desk: &mut D) -> Result<Piece, StimError>
         requires source { IsSource self.old }
-        requires attached { IsAttached (D.register desk.old) self.old.place Read }
+        requires attached { IsAttached (D.told desk.old).register self.old.place Read }
         ensures source { IsSource self.new }
         ensures moves { IfOk result (λ piece. Moves piece self.old self.new) }
         ensures place { self.new.place ≡ self.old.place }
-        ensures gives { IsTrue D.tells → IfOk result (λ piece. Gives piece (open_at self.old (D.contents desk.old)) (open_at self.new (D.contents desk.new))) }
+        ensures gives { IsTrue D.tells → IfOk result (λ piece. Gives piece (open_at self.old (D.told desk.old)) (open_at self.new (D.told desk.new))) }
 
-        ensures refused { IsTrue D.tells → IfErr result (λ e. e ≢ StimError.ReadFault → line_refusal (open_at self.old (D.contents desk.old)) ≡ Some e) }
+        ensures refused { IsTrue D.tells → IfErr result (λ e. e ≢ StimError.ReadFault → line_refusal (open_at self.old (D.told desk.old)) ≡ Some e) }
         ensures errors { IfErr result (IsReadError self.old.number) }
-        ensures desk { TakesAt D.register D.tells D.contents self.old.place desk.old desk.new StimError.ReadFault result }
+        ensures desk { TakesAt self.old.place (D.told desk.old) (D.told desk.new) StimError.ReadFault result }
         ensures frugal { IsTrue (is_told (in_block self.old)) → desk.new ≡ desk.old }
         ensures told { IsTrue (is_told (in_block self.old)) → IfOk result (λ piece. Gives piece (in_block self.old) (in_block self.new)) }
 
-        ensures comes { IsTrue D.tells → IfOk result (λ piece. ComesBy piece (open_at self.old (D.contents desk.old)) (open_at self.new (D.contents desk.new))) }
-        ensures went { IsTrue D.tells → result ≡ Err StimError.ReadFault → GoesOn (open_at self.old (D.contents desk.old)) (open_at self.new (D.contents desk.new)) }
+        ensures comes { IsTrue D.tells → IfOk result (λ piece. ComesBy piece (open_at self.old (D.told desk.old)) (open_at self.new (D.told desk.new))) }
+        ensures went { IsTrue D.tells → result ≡ Err StimError.ReadFault → GoesOn (open_at self.old (D.told desk.old)) (open_at self.new (D.told desk.new)) }
         ensures empty { result ≡ Err StimError.ReadFault → self.new.block ≡ [] }
     {
         match self.peek(desk)? {
@@ -181,21 +181,21 @@ impl Source {
     /// Reads a CR, which stands first in the block, and an LF behind it.
     fn read_cr<D: Desk>(&mut self, desk: &mut D) -> Result<Piece, StimError>
         requires source { IsSource self.old }
-        requires attached { IsAttached (D.register desk.old) self.old.place Read }
+        requires attached { IsAttached (D.told desk.old).register self.old.place Read }
         requires cr { self.old.block ≡ 13 ∷ drop 1 self.old.block }
         ensures source { IsSource self.new }
         ensures moves { IfOk result (λ piece. Moves piece self.old self.new) }
         ensures place { self.new.place ≡ self.old.place }
-        ensures gives { IsTrue D.tells → IfOk result (λ piece. Gives piece (open_at self.old (D.contents desk.old)) (open_at self.new (D.contents desk.new))) }
+        ensures gives { IsTrue D.tells → IfOk result (λ piece. Gives piece (open_at self.old (D.told desk.old)) (open_at self.new (D.told desk.new))) }
 
-        ensures refused { IsTrue D.tells → IfErr result (λ e. e ≢ StimError.ReadFault → line_refusal (open_at self.old (D.contents desk.old)) ≡ Some e) }
+        ensures refused { IsTrue D.tells → IfErr result (λ e. e ≢ StimError.ReadFault → line_refusal (open_at self.old (D.told desk.old)) ≡ Some e) }
         ensures errors { IfErr result (IsReadError self.old.number) }
-        ensures desk { TakesAt D.register D.tells D.contents self.old.place desk.old desk.new StimError.ReadFault result }
+        ensures desk { TakesAt self.old.place (D.told desk.old) (D.told desk.new) StimError.ReadFault result }
         ensures frugal { IsTrue (is_told (in_block self.old)) → desk.new ≡ desk.old }
         ensures told { IsTrue (is_told (in_block self.old)) → IfOk result (λ piece. Gives piece (in_block self.old) (in_block self.new)) }
 
-        ensures comes { IsTrue D.tells → IfOk result (λ piece. ComesBy piece (open_at self.old (D.contents desk.old)) (open_at self.new (D.contents desk.new))) }
-        ensures went { IsTrue D.tells → result ≡ Err StimError.ReadFault → GoesOn (open_at self.old (D.contents desk.old)) (open_at self.new (D.contents desk.new)) }
+        ensures comes { IsTrue D.tells → IfOk result (λ piece. ComesBy piece (open_at self.old (D.told desk.old)) (open_at self.new (D.told desk.new))) }
+        ensures went { IsTrue D.tells → result ≡ Err StimError.ReadFault → GoesOn (open_at self.old (D.told desk.old)) (open_at self.new (D.told desk.new)) }
         ensures empty { result ≡ Err StimError.ReadFault → self.new.block ≡ [] }
     {
         self.read_byte()?;

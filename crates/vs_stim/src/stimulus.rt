@@ -58,17 +58,17 @@ impl Stimulus {
         inputs: &[Input],
     ) -> Result<Stimulus, StimError>
         requires lane { stimulus_place lane < waveform_place 0 }
-        requires free { IsNone ((D.register desk.old).attached (stimulus_place lane)) }
+        requires free { IsNone ((D.told desk.old).register.attached (stimulus_place lane)) }
         requires inputs { All IsInput inputs.now }
 
         // Where the desk tells its bytes, the answer is what the definition reads first of the path's bytes.
-        ensures header { IsTrue D.tells → IfOk result (λ s. reading inputs.now ((D.contents desk.old).files (string_bytes path)) ≡ remaining s (D.contents desk.new)) }
-        ensures read { IsTrue D.tells → IfOk result (λ s. IsReadBy inputs.now ((D.contents desk.old).files (string_bytes path)) s (D.contents desk.new)) }
+        ensures header { IsTrue D.tells → IfOk result (λ s. reading inputs.now ((D.told desk.old).contents.files (string_bytes path)) ≡ remaining s (D.told desk.new).contents) }
+        ensures read { IsTrue D.tells → IfOk result (λ s. IsReadBy inputs.now ((D.told desk.old).contents.files (string_bytes path)) s (D.told desk.new).contents) }
         ensures refused { IsTrue D.tells → IfErr result (λ e. e ≢ StimError.ReadFault → e ≢ StimError.Memory →
-            reading inputs.now ((D.contents desk.old).files (string_bytes path)) ≡ refused e) }
-        ensures headed { IsTrue D.tells → OnOk result (header_refusal inputs.now ((D.contents desk.old).files (string_bytes path)) ≡ None) }
+            reading inputs.now ((D.told desk.old).contents.files (string_bytes path)) ≡ refused e) }
+        ensures headed { IsTrue D.tells → OnOk result (header_refusal inputs.now ((D.told desk.old).contents.files (string_bytes path)) ≡ None) }
         ensures faulty { IsTrue D.tells → IfErr result (λ e. e ≢ StimError.ReadFault → e ≢ StimError.Memory →
-            header_refusal inputs.now ((D.contents desk.old).files (string_bytes path)) ≡ Some e) }
+            header_refusal inputs.now ((D.told desk.old).contents.files (string_bytes path)) ≡ Some e) }
 
         // Whatever the desk tells.
         ensures errors { IfErr result IsHeaderError }
@@ -78,19 +78,19 @@ impl Stimulus {
         ensures sizes { IfOk result (λ s. sizes s.vector ≡ lengths inputs.now) }
 
         // On the desk the place is attached and bytes are taken there, and a fault is a failed call.
-        ensures attached { OnOk result (D.register desk.new ≡ with_place (D.register desk.old) (stimulus_place lane) Read (string_bytes path)) }
+        ensures attached { OnOk result ((D.told desk.new).register ≡ with_place (D.told desk.old).register (stimulus_place lane) Read (string_bytes path)) }
         ensures register { IfErr result (λ e. e ≢ StimError.ReadFault → e ≢ StimError.Memory →
-            D.register desk.new ≡ with_place (D.register desk.old) (stimulus_place lane) Read (string_bytes path)) }
-        ensures memory { result ≡ Err StimError.Memory → (D.register desk.new ≡ D.register desk.old)
-            ⊎ (D.register desk.new ≡ with_place (D.register desk.old) (stimulus_place lane) Read (string_bytes path)) }
-        ensures fault { result ≡ Err StimError.ReadFault → Fails (D.register desk.old) (D.register desk.new) (stimulus_place lane) (string_bytes path)
-            ⊎ Fails (with_place (D.register desk.old) (stimulus_place lane) Read (string_bytes path)) (D.register desk.new) (stimulus_place lane) (D.register desk.old).asked }
-        ensures others { IsTrue D.tells → OnlyTaken (stimulus_place lane) (D.contents desk.old) (D.contents desk.new) }
+            (D.told desk.new).register ≡ with_place (D.told desk.old).register (stimulus_place lane) Read (string_bytes path)) }
+        ensures memory { result ≡ Err StimError.Memory → ((D.told desk.new).register ≡ (D.told desk.old).register)
+            ⊎ ((D.told desk.new).register ≡ with_place (D.told desk.old).register (stimulus_place lane) Read (string_bytes path)) }
+        ensures fault { result ≡ Err StimError.ReadFault → Fails (D.told desk.old).register (D.told desk.new).register (stimulus_place lane) (string_bytes path)
+            ⊎ Fails (with_place (D.told desk.old).register (stimulus_place lane) Read (string_bytes path)) (D.told desk.new).register (stimulus_place lane) (D.told desk.old).register.asked }
+        ensures others { IsTrue D.tells → OnlyTaken (stimulus_place lane) (D.told desk.old).contents (D.told desk.new).contents }
 
         // Nothing is taken where the bytes that were taken tell the answer: a take fails only behind bytes that don't have the LF
         // of a line that isn't skipped, nor a byte past a limit.
-        ensures needed { IsTrue D.tells → result ≡ Err StimError.ReadFault → Fails (D.register desk.old) (D.register desk.new) (stimulus_place lane) (string_bytes path)
-            ⊎ IsUntold first_place ((D.contents desk.old).files (string_bytes path)) ((D.contents desk.new).left (stimulus_place lane)) }
+        ensures needed { IsTrue D.tells → result ≡ Err StimError.ReadFault → Fails (D.told desk.old).register (D.told desk.new).register (stimulus_place lane) (string_bytes path)
+            ⊎ IsUntold first_place ((D.told desk.old).contents.files (string_bytes path)) ((D.told desk.new).contents.left (stimulus_place lane)) }
     {
         let place = FIRST_STIMULUS + lane;
         let (mut source, values) = room(alloc, place, inputs)?;
@@ -125,16 +125,16 @@ impl Stimulus {
     /// stimulus is no longer live.
     pub fn next<D: Desk>(&mut self, desk: &mut D) -> Result<bool, StimError>
         requires live { IsTrue self.old.live }
-        requires attached { IsAttached (D.register desk.old) (stimulus_place self.old.lane) Read }
+        requires attached { IsAttached (D.told desk.old).register (stimulus_place self.old.lane) Read }
 
         // Where the desk tells its bytes, the answer is what the definition reads next.
         ensures vector { IsTrue D.tells → result ≡ Ok true →
-            remaining self.old (D.contents desk.old) ≡ with_vector self.new.vector (remaining self.new (D.contents desk.new)) }
+            remaining self.old (D.told desk.old).contents ≡ with_vector self.new.vector (remaining self.new (D.told desk.new).contents) }
         ensures read { IsTrue D.tells → result ≡ Ok true → (inputs : List Input) (text : List ℕ)
-            → IsReadBy inputs text self.old (D.contents desk.old) → IsReadBy inputs text self.new (D.contents desk.new) }
-        ensures end { IsTrue D.tells → result ≡ Ok false → remaining self.old (D.contents desk.old) ≡ whole }
-        ensures taken { IsTrue D.tells → result ≡ Ok false → text_left self.new (D.contents desk.new) ≡ [] }
-        ensures refused { IsTrue D.tells → IfErr result (λ e. e ≢ StimError.ReadFault → remaining self.old (D.contents desk.old) ≡ refused e) }
+            → IsReadBy inputs text self.old (D.told desk.old).contents → IsReadBy inputs text self.new (D.told desk.new).contents }
+        ensures end { IsTrue D.tells → result ≡ Ok false → remaining self.old (D.told desk.old).contents ≡ whole }
+        ensures taken { IsTrue D.tells → result ≡ Ok false → text_left self.new (D.told desk.new).contents ≡ [] }
+        ensures refused { IsTrue D.tells → IfErr result (λ e. e ≢ StimError.ReadFault → remaining self.old (D.told desk.old).contents ≡ refused e) }
 
         // Whatever the desk tells.
         ensures errors { IfErr result IsVectorError }
@@ -144,13 +144,13 @@ impl Stimulus {
         ensures sizes { sizes self.new.vector ≡ sizes self.old.vector }
 
         // On the desk only bytes at the place are taken, and a fault is a failed call there.
-        ensures desk { TakesAt D.register D.tells D.contents (stimulus_place self.old.lane) desk.old desk.new StimError.ReadFault result }
+        ensures desk { TakesAt (stimulus_place self.old.lane) (D.told desk.old) (D.told desk.new) StimError.ReadFault result }
 
         // Nothing is taken where the bytes that were taken tell the answer: they have the LF of a line that isn't skipped, or a
         // byte past a limit. So none is taken where the pending bytes do, and a take fails only behind bytes that don't.
         ensures frugal { IsTrue (pending_tells self.old) → desk.new ≡ desk.old }
         ensures needed { IsTrue D.tells → result ≡ Err StimError.ReadFault →
-            IsUntold self.old.at (text_left self.old (D.contents desk.old)) ((D.contents desk.new).left (stimulus_place self.old.lane)) }
+            IsUntold self.old.at (text_left self.old (D.told desk.old).contents) ((D.told desk.new).contents.left (stimulus_place self.old.lane)) }
     {
         self.live = false;
         let found = find_vector(&mut self.source, &mut self.row, self.count, desk)?;

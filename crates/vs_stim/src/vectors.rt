@@ -24,27 +24,27 @@ const VECTORS: u32 = 16_777_216;
 fn feed_row<D: Desk>(source: &mut Source, row: &mut Row, desk: &mut D) -> Result<bool, StimError>
     requires source { IsSource source.old }
     requires row { IsRow row.old }
-    requires attached { IsAttached (D.register desk.old) source.old.place Read }
+    requires attached { IsAttached (D.told desk.old).register source.old.place Read }
     ensures source { IsSource source.new }
     ensures row { IsRow row.new }
     ensures form { SameForm row.old row.new }
     ensures place { source.new.place ≡ source.old.place }
     ensures moves { result ≡ Ok false → source.old.start < source.new.start }
     ensures begins { OnOk result (source.new.length ≡ 0) }
-    ensures says { IsTrue D.tells → OnOk result (row_with row.new [] ≡ row_with row.old (says (open_at source.old (D.contents desk.old)))) }
-    ensures passes { IsTrue D.tells → IfOk result (λ last. Passes last (open_at source.old (D.contents desk.old)) (open_at source.new (D.contents desk.new))) }
+    ensures says { IsTrue D.tells → OnOk result (row_with row.new [] ≡ row_with row.old (says (open_at source.old (D.told desk.old)))) }
+    ensures passes { IsTrue D.tells → IfOk result (λ last. Passes last (open_at source.old (D.told desk.old)) (open_at source.new (D.told desk.new))) }
 
-    ensures refused { IsTrue D.tells → IfErr result (λ e. e ≢ StimError.ReadFault → line_refusal (open_at source.old (D.contents desk.old)) ≡ Some e) }
+    ensures refused { IsTrue D.tells → IfErr result (λ e. e ≢ StimError.ReadFault → line_refusal (open_at source.old (D.told desk.old)) ≡ Some e) }
     ensures errors { IfErr result (IsReadError source.old.number) }
-    ensures desk { TakesAt D.register D.tells D.contents source.old.place desk.old desk.new StimError.ReadFault result }
+    ensures desk { TakesAt source.old.place (D.told desk.old) (D.told desk.new) StimError.ReadFault result }
     ensures frugal { IsTrue (is_told (in_block source.old)) → desk.new ≡ desk.old }
     ensures told { IsTrue (is_told (in_block source.old)) → IfOk result (λ last. Passes last (in_block source.old) (in_block source.new)) }
     ensures told_last { IsTrue (is_told (in_block source.old)) → IfOk result (λ last. last ≡ false) }
     ensures told_says { IsTrue (is_told (in_block source.old)) → OnOk result (row_with row.new [] ≡ row_with row.old (says (in_block source.old))) }
 
-    ensures went { IsTrue D.tells → result ≡ Err StimError.ReadFault → GoesOn (open_at source.old (D.contents desk.old)) (open_at source.new (D.contents desk.new)) }
+    ensures went { IsTrue D.tells → result ≡ Err StimError.ReadFault → GoesOn (open_at source.old (D.told desk.old)) (open_at source.new (D.told desk.new)) }
     ensures empty { result ≡ Err StimError.ReadFault → source.new.block ≡ [] }
-    ensures ends { IsTrue D.tells → result ≡ Ok false → PassesLf (open_at source.old (D.contents desk.old)) (open_at source.new (D.contents desk.new)) }
+    ensures ends { IsTrue D.tells → result ≡ Ok false → PassesLf (open_at source.old (D.told desk.old)) (open_at source.new (D.told desk.new)) }
 {
     'line: loop {
         match source.next_piece(desk)? {
@@ -64,27 +64,27 @@ fn read_row<D: Desk>(
     requires source { IsSource source.old }
     requires row { IsRow row.old }
     requires each { IsTrue (each_input row.old) }
-    requires attached { IsAttached (D.register desk.old) source.old.place Read }
+    requires attached { IsAttached (D.told desk.old).register source.old.place Read }
     ensures source { IsSource source.new }
     ensures row { IsRow row.new }
     ensures form { SameForm row.old row.new }
     ensures place { source.new.place ≡ source.old.place }
     ensures moves { IfOk result (λ line. line.1 ≡ false → source.old.start < source.new.start) }
     ensures begins { OnOk result (source.new.length ≡ 0) }
-    ensures says { IsTrue D.tells → IfOk result (λ line. as_said line.0 row.new.values.items ≡ vector_line row.old.columns.items (says (open_at source.old (D.contents desk.old)))) }
-    ensures passes { IsTrue D.tells → IfOk result (λ line. Passes line.1 (open_at source.old (D.contents desk.old)) (open_at source.new (D.contents desk.new))) }
+    ensures says { IsTrue D.tells → IfOk result (λ line. as_said line.0 row.new.values.items ≡ vector_line row.old.columns.items (says (open_at source.old (D.told desk.old)))) }
+    ensures passes { IsTrue D.tells → IfOk result (λ line. Passes line.1 (open_at source.old (D.told desk.old)) (open_at source.new (D.told desk.new))) }
 
-    ensures refused { IsTrue D.tells → IfErr result (λ e. e ≢ StimError.ReadFault → line_refusal (open_at source.old (D.contents desk.old)) ≡ Some e) }
+    ensures refused { IsTrue D.tells → IfErr result (λ e. e ≢ StimError.ReadFault → line_refusal (open_at source.old (D.told desk.old)) ≡ Some e) }
     ensures errors { IfErr result (IsReadError source.old.number) }
-    ensures desk { TakesAt D.register D.tells D.contents source.old.place desk.old desk.new StimError.ReadFault result }
+    ensures desk { TakesAt source.old.place (D.told desk.old) (D.told desk.new) StimError.ReadFault result }
     ensures frugal { IsTrue (is_told (in_block source.old)) → desk.new ≡ desk.old }
     ensures told { IsTrue (is_told (in_block source.old)) → IfOk result (λ line. Passes line.1 (in_block source.old) (in_block source.new)) }
     ensures told_last { IsTrue (is_told (in_block source.old)) → IfOk result (λ line. line.1 ≡ false) }
     ensures told_says { IsTrue (is_told (in_block source.old)) → IfOk result (λ line. as_said line.0 row.new.values.items ≡ vector_line row.old.columns.items (says (in_block source.old))) }
 
-    ensures went { IsTrue D.tells → result ≡ Err StimError.ReadFault → GoesOn (open_at source.old (D.contents desk.old)) (open_at source.new (D.contents desk.new)) }
+    ensures went { IsTrue D.tells → result ≡ Err StimError.ReadFault → GoesOn (open_at source.old (D.told desk.old)) (open_at source.new (D.told desk.new)) }
     ensures empty { result ≡ Err StimError.ReadFault → source.new.block ≡ [] }
-    ensures ends { IsTrue D.tells → IfOk result (λ line. line.1 ≡ false → PassesLf (open_at source.old (D.contents desk.old)) (open_at source.new (D.contents desk.new))) }
+    ensures ends { IsTrue D.tells → IfOk result (λ line. line.1 ≡ false → PassesLf (open_at source.old (D.told desk.old)) (open_at source.new (D.told desk.new))) }
 {
     row.begin();
     let last = feed_row(source, row, desk)?;
@@ -185,7 +185,7 @@ pub(crate) fn find_vector<D: Desk>(
     requires row { IsRow row.old }
     requires each { IsTrue (each_input row.old) }
     requires count { count ≤ limits.vectors }
-    requires attached { IsAttached (D.register desk.old) source.old.place Read }
+    requires attached { IsAttached (D.told desk.old).register source.old.place Read }
     ensures source { IsSource source.new }
     ensures row { IsRow row.new }
     ensures form { SameForm row.old row.new }
@@ -193,19 +193,19 @@ pub(crate) fn find_vector<D: Desk>(
     ensures begins { OnOk result (source.new.length ≡ 0) }
     ensures room { result ≡ Ok true → count < limits.vectors }
 
-    ensures found { IsTrue D.tells → result ≡ Ok true → vectors_from row.old.columns.items count (open_at source.old (D.contents desk.old))
-        ≡ with_vector row.new.values.items (vectors_from row.old.columns.items (count + 1) (open_at source.new (D.contents desk.new))) }
+    ensures found { IsTrue D.tells → result ≡ Ok true → vectors_from row.old.columns.items count (open_at source.old (D.told desk.old))
+        ≡ with_vector row.new.values.items (vectors_from row.old.columns.items (count + 1) (open_at source.new (D.told desk.new))) }
     ensures passes { IsTrue D.tells → result ≡ Ok true
-        → PassesVector row.old.columns.items count row.new.values.items (open_at source.old (D.contents desk.old)) (open_at source.new (D.contents desk.new)) }
-    ensures whole { IsTrue D.tells → result ≡ Ok false → vectors_from row.old.columns.items count (open_at source.old (D.contents desk.old)) ≡ whole }
-    ensures end { IsTrue D.tells → result ≡ Ok false → rest_of source.new (D.contents desk.new) ≡ [] }
-    ensures refused { IsTrue D.tells → IfErr result (λ e. e ≢ StimError.ReadFault → vectors_from row.old.columns.items count (open_at source.old (D.contents desk.old)) ≡ refused e) }
+        → PassesVector row.old.columns.items count row.new.values.items (open_at source.old (D.told desk.old)) (open_at source.new (D.told desk.new)) }
+    ensures whole { IsTrue D.tells → result ≡ Ok false → vectors_from row.old.columns.items count (open_at source.old (D.told desk.old)) ≡ whole }
+    ensures end { IsTrue D.tells → result ≡ Ok false → rest_of source.new (D.told desk.new) ≡ [] }
+    ensures refused { IsTrue D.tells → IfErr result (λ e. e ≢ StimError.ReadFault → vectors_from row.old.columns.items count (open_at source.old (D.told desk.old)) ≡ refused e) }
 
     ensures errors { IfErr result IsVectorError }
-    ensures desk { TakesAt D.register D.tells D.contents source.old.place desk.old desk.new StimError.ReadFault result }
+    ensures desk { TakesAt source.old.place (D.told desk.old) (D.told desk.new) StimError.ReadFault result }
     ensures frugal { IsTrue (text_tells (in_block source.old)) → desk.new ≡ desk.old }
     ensures needed { IsTrue D.tells → result ≡ Err StimError.ReadFault →
-        let o = open_at source.old (D.contents desk.old) in IsUntold o.at o.rest ((D.contents desk.new).left source.old.place) }
+        let o = open_at source.old (D.told desk.old) in IsUntold o.at o.rest ((D.told desk.new).contents.left source.old.place) }
 {
     'lines: loop {
         let number = source.number;

@@ -1,6 +1,6 @@
 -- The job of a bench over a desk of its own.
 use Rattle.std.proofs.Common.{◌≡◌, ◌≢◌, ◌⊎◌, ℕ, zero, suc, Bool, true, [], ◌∷◌, length, refl, sym, ap, ◌∙◌, subst, inl, inr, arith, length-append}
-use Rattle.vs_desk.specs.Desk.{Register, Contents, no_register}
+use Rattle.vs_desk.specs.Desk.{Told, Register, Contents, no_register}
 use Rattle.vs_job.specs.declared.bench.Bench.{Bench}
 use Rattle.vs_job.specs.declared.job.Job.{Job}
 use Rattle.vs_job.specs.Bench.{IsBench}
@@ -35,15 +35,14 @@ pub all_unused : (lanes : ℕ) → IsUnused no_register lanes
 all_unused lanes = record { texts = record { design = refl; stimuli = λ i h. refl }; waves = λ i h. refl }
 
 -- how a bench ended, from how its job did
-pub bench_ended : (b : Bench) (j : Job) (before : Register) (old : Contents) (now : Register) (new : Contents) (inner o : Outcome) → j ≡ bench.job b.lanes
-    → before ≡ no_register → old ≡ bench.files b.vectors b.lanes → IsEnd true j before old now new inner → o ≡ of_bench inner → IsBenchEnd b o
-bench_ended b j before old now new inner o job_is register_is contents_are ended is = record {
-  register = now;
-  contents = new;
+pub bench_ended : (b : Bench) (j : Job) (old new : Told true) (inner o : Outcome) → j ≡ bench.job b.lanes
+    → old.register ≡ no_register → old.contents ≡ bench.files b.vectors b.lanes → IsEnd j old new inner → o ≡ of_bench inner → IsBenchEnd b o
+bench_ended b j old new inner o job_is register_is contents_are ended is = record {
+  told = new;
   inner = inner;
-  ended = subst (λ (c : Contents). IsEnd true (bench.job b.lanes) no_register c now new inner) contents_are
-      (subst (λ (r : Register). IsEnd true (bench.job b.lanes) r old now new inner) register_is
-      (subst (λ (k : Job). IsEnd true k before old now new inner) job_is ended));
+  ended = subst (λ (c : Contents). IsEnd (bench.job b.lanes) (record { register = no_register; contents = c }) new inner) contents_are
+      (subst (λ (r : Register). IsEnd (bench.job b.lanes) (record { register = r; contents = old.contents }) new inner) register_is
+      (subst (λ (k : Job). IsEnd k old new inner) job_is ended));
   outcome_is = is;
 }
 
@@ -63,10 +62,10 @@ bench_usage b o (inl memory) = λ h. never (sym memory ∙ h)
     never : Memory ≡ Refused (Bare Usage) → ⊥
     never h = cc
 bench_usage b o (inr e) = λ h.
-    end_usage true (bench.job b.lanes) no_register (bench.files b.vectors b.lanes) e.register e.contents e.inner e.ended (inner_usage e.inner (sym h ∙ e.outcome_is))
+    end_usage (bench.job b.lanes) _ e.told e.inner e.ended (inner_usage e.inner (sym h ∙ e.outcome_is))
 
 -- nor with a failed call
-no_fault : (old new : Register) (o : Outcome) (inner : Outcome) → o ≡ of_bench inner → IsStopped o → new.faults ≡ old.faults → ShowsCause old new o
+no_fault : {tells : Bool} (old new : Told tells) (o : Outcome) (inner : Outcome) → o ≡ of_bench inner → IsStopped o → new.register.faults ≡ old.register.faults → ShowsCause old new o
 no_fault old new o inner is stopped same = subst (ShowsCause old new) (sym is) (go inner (subst IsStopped is stopped))
   where
     go : (i : Outcome) → IsStopped (of_bench i) → ShowsCause old new (of_bench i)
@@ -76,34 +75,34 @@ no_fault old new o inner is stopped same = subst (ShowsCause old new) (sym is) (
     go (WriteFault place) h = same
     go Memory h = same
 
-pub bench_stopped_cause : {D : Type 0} (register : D → Register) (tells : Bool) (contents : D → Contents) (b : Bench) (old new : D) (o result : Outcome)
-    → IsStopped o → (o ≡ Memory) ⊎ IsBenchEnd b o → OnStopped o (result ≡ o) → OnStopped o (ReportsLine register tells contents old new (outcome_line o))
-    → ShowsCause (register old) (register new) result
-bench_stopped_cause register tells contents b old new o result stopped end is line =
-    subst (ShowsCause (register old) (register new)) (sym (on_stopped o (result ≡ o) stopped is)) (go end)
+pub bench_stopped_cause : {tells : Bool} (b : Bench) (old new : Told tells) (o result : Outcome)
+    → IsStopped o → (o ≡ Memory) ⊎ IsBenchEnd b o → OnStopped o (result ≡ o) → OnStopped o (ReportsLine old new (outcome_line o))
+    → ShowsCause old new result
+bench_stopped_cause b old new o result stopped end is line =
+    subst (ShowsCause old new) (sym (on_stopped o (result ≡ o) stopped is)) (go end)
   where
-    same : (register new).faults ≡ (register old).faults
-    same = (report_keeps register tells contents old new (outcome_line o) (on_stopped o (ReportsLine register tells contents old new (outcome_line o)) stopped line)).0
+    same : new.register.faults ≡ old.register.faults
+    same = (report_keeps old new (outcome_line o) (on_stopped o (ReportsLine old new (outcome_line o)) stopped line)).0
 
-    go : (o ≡ Memory) ⊎ IsBenchEnd b o → ShowsCause (register old) (register new) o
-    go (inl memory) = no_fault (register old) (register new) o Memory memory stopped same
-    go (inr e) = no_fault (register old) (register new) o e.inner e.outcome_is stopped same
+    go : (o ≡ Memory) ⊎ IsBenchEnd b o → ShowsCause old new o
+    go (inl memory) = no_fault old new o Memory memory stopped same
+    go (inr e) = no_fault old new o e.inner e.outcome_is stopped same
 
-pub bench_done_cause : {D : Type 0} (register : D → Register) (tells : Bool) (contents : D → Contents) (old new : D) (s : Summary) (result : Outcome)
-    → ReportsDone register tells contents old new (Done s) result → ShowsCause (register old) (register new) result
-bench_done_cause register tells contents old new s result (inl r) =
-    subst (ShowsCause (register old) (register new)) (sym r.0) (ap (λ (k : Register). k.faults) r.1.same, ap (λ (k : Register). k.losses) r.1.same)
-bench_done_cause register tells contents old new s result (inr r) =
-    subst (ShowsCause (register old) (register new)) (sym r.0) (inr (refl, record { rose = r.1.failed.loss refl; no_fault = r.1.failed.no_fault refl }))
+pub bench_done_cause : {tells : Bool} (old new : Told tells) (s : Summary) (result : Outcome)
+    → ReportsDone old new (Done s) result → ShowsCause old new result
+bench_done_cause old new s result (inl r) =
+    subst (ShowsCause old new) (sym r.0) (ap (λ (k : Register). k.faults) r.1.same, ap (λ (k : Register). k.losses) r.1.same)
+bench_done_cause old new s result (inr r) =
+    subst (ShowsCause old new) (sym r.0) (inr (refl, record { rose = r.1.failed.loss refl; no_fault = r.1.failed.no_fault refl }))
 
 -- a run that is done and reported isn't a faulty list of words
-pub done_usage : {D : Type 0} (register : D → Register) (tells : Bool) (contents : D → Contents) (old new : D) (s : Summary) (result : Outcome)
-    → ReportsDone register tells contents old new (Done s) result → result ≢ Refused (Bare Usage)
-done_usage register tells contents old new s result (inl r) = λ h. never (sym r.0 ∙ h)
+pub done_usage : {tells : Bool} (old new : Told tells) (s : Summary) (result : Outcome)
+    → ReportsDone old new (Done s) result → result ≢ Refused (Bare Usage)
+done_usage old new s result (inl r) = λ h. never (sym r.0 ∙ h)
   where
     never : Done s ≡ Refused (Bare Usage) → ⊥
     never h = cc
-done_usage register tells contents old new s result (inr r) = λ h. never (sym r.0 ∙ h)
+done_usage old new s result (inr r) = λ h. never (sym r.0 ∙ h)
   where
     never : WriteFault 0 ≡ Refused (Bare Usage) → ⊥
     never h = cc

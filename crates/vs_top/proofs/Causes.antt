@@ -1,8 +1,8 @@
 -- What the desk's counts say of each answer.
-use Rattle.std.proofs.Common.{◌≡◌, ◌≢◌, ◌⊎◌, ℕ, suc, ◌+◌, Bool, List, [], ◌∷◌, take, refl, sym, ap, ◌∙◌, subst, inl, inr, arith}
+use Rattle.std.proofs.Common.{◌≡◌, ◌≢◌, ℕ, suc, ◌+◌, Bool, List, [], ◌∷◌, take, refl, sym, ap, ◌∙◌, subst, inl, inr, arith}
 use Rattle.vs_desk.specs.declared.desk.Way.{Way}
 use Rattle.vs_desk.specs.declared.desk.Way.TheVariants.{Read, Write}
-use Rattle.vs_desk.specs.Desk.{Register, Contents, Rose, Fails, with_place}
+use Rattle.vs_desk.specs.Desk.{Told, Register, Rose, Fails, with_place}
 use Rattle.vs_desk.specs.Places.{with_places, stimulus_place, waveform_place}
 use Rattle.vs_stim.specs.declared.error.StimError.{StimError}
 use Rattle.vs_stim.specs.declared.error.StimError.TheVariants as E
@@ -119,58 +119,58 @@ stop_ends old mid new (R.Refused i e) q h = refusal_ends old new i e (line_refus
 stop_ends old mid new (R.ReadFault i) q h = read_ends old mid new (stimulus_place i) mid.asked q (λ e. omega arith) h
 stop_ends old mid new (R.WriteFault i) q h = write_ends old mid new (wave_place i) mid.asked q (λ e. omega arith) h
 
-design_ends : (tells : Bool) (job : Job) (old : Register) (before : Contents) (new : Register) (after : Contents) (place : ℕ) → IsDesignFault tells job old before new after place → Ends old new (ReadFault place)
-design_ends tells job old before new after place h = subst (λ (p : ℕ). Ends old new (ReadFault p)) (sym h.place_is) (by h.fails)
+design_ends : {tells : Bool} (job : Job) (old new : Told tells) (place : ℕ) → IsDesignFault job old new place → Ends old.register new.register (ReadFault place)
+design_ends job old new place h = subst (λ (p : ℕ). Ends old.register new.register (ReadFault p)) (sym h.place_is) (by h.fails)
   where
-    by : DesignFails tells old before new after job.head job.design → Ends old new (ReadFault 1)
-    by (inl f) = read_ends old old new 1 job.design (quiet old) (λ e. omega arith) f
-    by (inr f) = read_ends old (with_design old job.design) new 1 old.asked (placed old 1 Read (job.design ∷ [])) (λ e. omega arith) f.0
+    by : DesignFails old new job.head job.design → Ends old.register new.register (ReadFault 1)
+    by (inl f) = read_ends old.register old.register new.register 1 job.design (quiet old.register) (λ e. omega arith) f
+    by (inr f) = read_ends old.register (with_design old.register job.design) new.register 1 old.register.asked (placed old.register 1 Read (job.design ∷ [])) (λ e. omega arith) f.0
 
-stimulus_ends : (tells : Bool) (job : Job) (old : Register) (before : Contents) (new : Register) (after : Contents) (place : ℕ) → IsStimulusFault tells job old before new after place → Ends old new (ReadFault place)
-stimulus_ends tells job old before new after place h = subst (λ (p : ℕ). Ends old new (ReadFault p)) (sym h.place_is) (by h.fails)
+stimulus_ends : {tells : Bool} (job : Job) (old new : Told tells) (place : ℕ) → IsStimulusFault job old new place → Ends old.register new.register (ReadFault place)
+stimulus_ends job old new place h = subst (λ (p : ℕ). Ends old.register new.register (ReadFault p)) (sym h.place_is) (by h.fails)
   where
-    by : StimulusFails tells job.stimuli (with_design old job.design) before new after h.lane → Ends old new (ReadFault (stimulus_place h.lane))
-    by (inl f) = read_ends old (with_texts old job (take h.lane job.stimuli)) new (stimulus_place h.lane) (path_at job.stimuli h.lane) (texts old job (take h.lane job.stimuli)) (λ e. omega arith) f
-    by (inr f) = read_ends old (with_texts old job (take (h.lane + 1) job.stimuli)) new (stimulus_place h.lane) old.asked (texts old job (take (h.lane + 1) job.stimuli)) (λ e. omega arith) f.0
+    by : StimulusFails job.stimuli (with_design old.register job.design) old new h.lane → Ends old.register new.register (ReadFault (stimulus_place h.lane))
+    by (inl f) = read_ends old.register (with_texts old.register job (take h.lane job.stimuli)) new.register (stimulus_place h.lane) (path_at job.stimuli h.lane) (texts old.register job (take h.lane job.stimuli)) (λ e. omega arith) f
+    by (inr f) = read_ends old.register (with_texts old.register job (take (h.lane + 1) job.stimuli)) new.register (stimulus_place h.lane) old.register.asked (texts old.register job (take (h.lane + 1) job.stimuli)) (λ e. omega arith) f.0
 
-setup_ends : (tells : Bool) (job : Job) (old : Register) (before : Contents) (new : Register) (after : Contents) (e : SetupError) → IsUnprepared tells job old before new after e → Ends old new (setup_outcome e)
-setup_ends tells job old before new after S.TooLong h = let q = quiet_at old (with_design old job.design) new (placed old 1 Read (job.design ∷ [])) h.0 in record { fault = q.faults; losses = q.losses }
-setup_ends tells job old before new after (S.Refused r) h = let q = quiet_at old (with_design old job.design) new (placed old 1 Read (job.design ∷ [])) h.0 in record { fault = q.faults; losses = q.losses }
-setup_ends tells job old before new after (S.Stimulus i e) h =
-    refusal_ends old new i e (text_refusal e h.1) (quiet_at old (with_texts old job (take (i + 1) job.stimuli)) new (texts old job (take (i + 1) job.stimuli)) h.2)
-setup_ends tells job old before new after (S.ReadFault place) (inl h) = design_ends tells job old before new after place h
-setup_ends tells job old before new after (S.ReadFault place) (inr h) = stimulus_ends tells job old before new after place h
-setup_ends tells job old before new after S.Memory (inl h) = let q = quiet_at old old new (quiet old) h in record { fault = q.faults; losses = q.losses }
-setup_ends tells job old before new after S.Memory (inr h) =
-    let q = quiet_at old (with_texts old job (take h.0 job.stimuli)) new (texts old job (take h.0 job.stimuli)) h.2 in record { fault = q.faults; losses = q.losses }
+setup_ends : {tells : Bool} (job : Job) (old new : Told tells) (e : SetupError) → IsUnprepared job old new e → Ends old.register new.register (setup_outcome e)
+setup_ends job old new S.TooLong h = let q = quiet_at old.register (with_design old.register job.design) new.register (placed old.register 1 Read (job.design ∷ [])) h.0 in record { fault = q.faults; losses = q.losses }
+setup_ends job old new (S.Refused r) h = let q = quiet_at old.register (with_design old.register job.design) new.register (placed old.register 1 Read (job.design ∷ [])) h.0 in record { fault = q.faults; losses = q.losses }
+setup_ends job old new (S.Stimulus i e) h =
+    refusal_ends old.register new.register i e (text_refusal e h.1) (quiet_at old.register (with_texts old.register job (take (i + 1) job.stimuli)) new.register (texts old.register job (take (i + 1) job.stimuli)) h.2)
+setup_ends job old new (S.ReadFault place) (inl h) = design_ends job old new place h
+setup_ends job old new (S.ReadFault place) (inr h) = stimulus_ends job old new place h
+setup_ends job old new S.Memory (inl h) = let q = quiet_at old.register old.register new.register (quiet old.register) h in record { fault = q.faults; losses = q.losses }
+setup_ends job old new S.Memory (inr h) =
+    let q = quiet_at old.register (with_texts old.register job (take h.0 job.stimuli)) new.register (texts old.register job (take h.0 job.stimuli)) h.2 in record { fault = q.faults; losses = q.losses }
 
 -- an outcome that is this one
 of_outcome : (old new : Register) (o p : Outcome) → o ≡ p → Ends old new p → Ends old new o
 of_outcome old new o p e h = subst (Ends old new) (sym e) h
 
-ends : (tells : Bool) (job : Job) (old : Register) (before : Contents) (new : Register) (after : Contents) (o : Outcome) → IsEnd tells job old before new after o → Ends old new o
-ends tells job old before new after o (same e) =
-    let q = quiet_at old old new (quiet old) e.register_is in
-    of_outcome old new o (Refused (SamePath e.first e.second)) e.outcome_is (record { fault = q.faults; losses = q.losses })
-ends tells job old before new after o (setup d e) = of_outcome old new o (setup_outcome e.error) e.outcome_is (setup_ends tells job old before new after e.error e.cause)
-ends tells job old before new after o (first d e) = of_outcome old new o (stop_outcome e.stop) e.outcome_is (stop_ends old (with_texts old job job.stimuli) new e.stop (texts old job job.stimuli) e.cause)
-ends tells job old before new after o (attached d e) =
+ends : {tells : Bool} (job : Job) (old new : Told tells) (o : Outcome) → IsEnd job old new o → Ends old.register new.register o
+ends job old new o (same e) =
+    let q = quiet_at old.register old.register new.register (quiet old.register) e.register_is in
+    of_outcome old.register new.register o (Refused (SamePath e.first e.second)) e.outcome_is (record { fault = q.faults; losses = q.losses })
+ends job old new o (setup d e) = of_outcome old.register new.register o (setup_outcome e.error) e.outcome_is (setup_ends job old new e.error e.cause)
+ends job old new o (first d e) = of_outcome old.register new.register o (stop_outcome e.stop) e.outcome_is (stop_ends old.register (with_texts old.register job job.stimuli) new.register e.stop (texts old.register job job.stimuli) e.cause)
+ends job old new o (attached d e) =
     let paths = take e.lane (wave_paths job) in
-    of_outcome old new o (WriteFault (wave_place e.lane)) e.outcome_is
-    (write_ends old (with_waves old job paths) new (wave_place e.lane) (path_at (wave_paths job) e.lane) (waves old job paths) (λ z. omega arith) e.fails)
-ends tells job old before new after o (stopped d e) =
-    of_outcome old new o (stop_outcome e.stop) e.outcome_is (stop_ends old (with_waves old job (wave_paths job)) new e.stop (waves old job (wave_paths job)) e.cause)
-ends tells job old before new after o (whole d e) =
-    let q = quiet_at old (with_waves old job (wave_paths job)) new (waves old job (wave_paths job)) e.register_is in
-    of_outcome old new o (Done e.summary) e.outcome_is (record { fault = q.faults; losses = q.losses })
+    of_outcome old.register new.register o (WriteFault (wave_place e.lane)) e.outcome_is
+    (write_ends old.register (with_waves old.register job paths) new.register (wave_place e.lane) (path_at (wave_paths job) e.lane) (waves old.register job paths) (λ z. omega arith) e.fails)
+ends job old new o (stopped d e) =
+    of_outcome old.register new.register o (stop_outcome e.stop) e.outcome_is (stop_ends old.register (with_waves old.register job (wave_paths job)) new.register e.stop (waves old.register job (wave_paths job)) e.cause)
+ends job old new o (whole d e) =
+    let q = quiet_at old.register (with_waves old.register job (wave_paths job)) new.register (waves old.register job (wave_paths job)) e.register_is in
+    of_outcome old.register new.register o (Done e.summary) e.outcome_is (record { fault = q.faults; losses = q.losses })
 
 -- ---- the report
 
 -- no call of the report is one of another place
-pub report_keeps : {D : Type 0} (register : D → Register) (tells : Bool) (contents : D → Contents) (old new : D) (line : List ℕ) → ReportsLine register tells contents old new line
-    → ((register new).faults ≡ (register old).faults) × ((register new).failed ≡ (register old).failed)
-report_keeps register tells contents old new line (inl p) = (ap (λ (r : Register). r.faults) p.same, ap (λ (r : Register). r.failed) p.same)
-report_keeps register tells contents old new line (inr l) = (l.failed.no_fault refl, l.failed.not_noted refl)
+pub report_keeps : {tells : Bool} (old new : Told tells) (line : List ℕ) → ReportsLine old new line
+    → (new.register.faults ≡ old.register.faults) × (new.register.failed ≡ old.register.failed)
+report_keeps old new line (inl p) = (ap (λ (r : Register). r.faults) p.same, ap (λ (r : Register). r.failed) p.same)
+report_keeps old new line (inr l) = (l.failed.no_fault refl, l.failed.not_noted refl)
 
 fault_kept : (old mid new : Register) (place : ℕ) → IsFaultAt old mid place → (new.faults ≡ mid.faults) × (new.failed ≡ mid.failed) → IsFaultAt old new place
 fault_kept old mid new place h k = record {
@@ -179,11 +179,12 @@ fault_kept old mid new place h k = record {
   failed = k.1 ∙ h.failed;
 }
 
-stopped_shows : (old mid new : Register) (o : Outcome) → IsStopped o → Ends old mid o → (new.faults ≡ mid.faults) × (new.failed ≡ mid.failed) → ShowsCause old new o
+stopped_shows : {tells : Bool} (old mid new : Told tells) (o : Outcome) → IsStopped o → Ends old.register mid.register o
+    → (new.register.faults ≡ mid.register.faults) × (new.register.failed ≡ mid.register.failed) → ShowsCause old new o
 stopped_shows old mid new (Done s) h e k = absurd h
 stopped_shows old mid new (Refused r) h e k = k.0 ∙ e.fault
-stopped_shows old mid new (ReadFault place) h e k = fault_kept old mid new place e.fault k
-stopped_shows old mid new (WriteFault place) h e k = inl (fault_kept old mid new place e.fault k)
+stopped_shows old mid new (ReadFault place) h e k = fault_kept old.register mid.register new.register place e.fault k
+stopped_shows old mid new (WriteFault place) h e k = inl (fault_kept old.register mid.register new.register place e.fault k)
 stopped_shows old mid new Memory h e k = k.0 ∙ e.fault
 
 -- the fact, of what stopped
@@ -195,26 +196,26 @@ on_stopped (WriteFault place) P h p = p
 on_stopped Memory P h p = p
 
 -- a job that stopped, and its report
-pub stopped_cause : {D : Type 0} (register : D → Register) (tells : Bool) (contents : D → Contents) (job : Job) (old middle new : D) (o result : Outcome)
-    → IsStopped o → IsEnd tells job (register old) (contents old) (register middle) (contents middle) o
-    → OnStopped o (result ≡ o) → OnStopped o (ReportsLine register tells contents middle new (outcome_line o)) → ShowsCause (register old) (register new) result
-stopped_cause register tells contents job old middle new o result halted end is line =
-    subst (ShowsCause (register old) (register new)) (sym (on_stopped o (result ≡ o) halted is))
-    (stopped_shows (register old) (register middle) (register new) o halted (ends tells job (register old) (contents old) (register middle) (contents middle) o end)
-    (report_keeps register tells contents middle new (outcome_line o) (on_stopped o (ReportsLine register tells contents middle new (outcome_line o)) halted line)))
+pub stopped_cause : {tells : Bool} (job : Job) (old middle new : Told tells) (o result : Outcome)
+    → IsStopped o → IsEnd job old middle o
+    → OnStopped o (result ≡ o) → OnStopped o (ReportsLine middle new (outcome_line o)) → ShowsCause old new result
+stopped_cause job old middle new o result halted end is line =
+    subst (ShowsCause old new) (sym (on_stopped o (result ≡ o) halted is))
+    (stopped_shows old middle new o halted (ends job old middle o end)
+    (report_keeps middle new (outcome_line o) (on_stopped o (ReportsLine middle new (outcome_line o)) halted line)))
 
 -- a job that is done, and its report
-pub done_cause : {D : Type 0} (register : D → Register) (tells : Bool) (contents : D → Contents) (job : Job) (old middle new : D) (s : Summary) (result : Outcome)
-    → IsEnd tells job (register old) (contents old) (register middle) (contents middle) (Done s) → ReportsDone register tells contents middle new (Done s) result → ShowsCause (register old) (register new) result
-done_cause register tells contents job old middle new s result end (inl r) =
-    let e = ends tells job (register old) (contents old) (register middle) (contents middle) (Done s) end in
-    subst (ShowsCause (register old) (register new)) (sym r.0)
+pub done_cause : {tells : Bool} (job : Job) (old middle new : Told tells) (s : Summary) (result : Outcome)
+    → IsEnd job old middle (Done s) → ReportsDone middle new (Done s) result → ShowsCause old new result
+done_cause job old middle new s result end (inl r) =
+    let e = ends job old middle (Done s) end in
+    subst (ShowsCause old new) (sym r.0)
     (ap (λ (r : Register). r.faults) r.1.same ∙ e.fault, ap (λ (r : Register). r.losses) r.1.same ∙ e.losses)
-done_cause register tells contents job old middle new s result end (inr r) =
-    let e = ends tells job (register old) (contents old) (register middle) (contents middle) (Done s) end in
-    subst (ShowsCause (register old) (register new)) (sym r.0)
-    (inr (refl, record { rose = rose_from (register old).losses (register middle).losses (register new).losses e.losses (r.1.failed.loss refl); no_fault = r.1.failed.no_fault refl ∙ e.fault }))
+done_cause job old middle new s result end (inr r) =
+    let e = ends job old middle (Done s) end in
+    subst (ShowsCause old new) (sym r.0)
+    (inr (refl, record { rose = rose_from old.register.losses middle.register.losses new.register.losses e.losses (r.1.failed.loss refl); no_fault = r.1.failed.no_fault refl ∙ e.fault }))
 
 -- a report alone, of a refusal or of want of memory
-pub refused_cause : {D : Type 0} (register : D → Register) (tells : Bool) (contents : D → Contents) (old new : D) (line : List ℕ) → ReportsLine register tells contents old new line → (register new).faults ≡ (register old).faults
-refused_cause register tells contents old new line h = (report_keeps register tells contents old new line h).0
+pub refused_cause : {tells : Bool} (old new : Told tells) (line : List ℕ) → ReportsLine old new line → new.register.faults ≡ old.register.faults
+refused_cause old new line h = (report_keeps old new line h).0

@@ -1,7 +1,7 @@
 -- What stays of a run once its line was reported.
-use Rattle.std.proofs.Common.{◌≡◌, ◌≢◌, ℕ, List, ◌++◌, length, inl, inr, IsTrue, Bool, true, false, Option, None, Some, if◌then◌else◌, sym, ap, ◌∙◌, subst, arith}
+use Rattle.std.proofs.Common.{◌≡◌, ◌≢◌, ℕ, List, ◌++◌, length, inl, inr, IsTrue, Bool, Option, None, Some, sym, ap, ◌∙◌, subst, arith}
 use Rattle.std.proofs.lemmas.Bool.{ne_eqb, cond-false}
-use Rattle.vs_desk.specs.Desk.{Register, Contents, with_put}
+use Rattle.vs_desk.specs.Desk.{Told, Register, Contents, with_put}
 use Rattle.vs_desk.specs.Places.{stimulus_place}
 use Rattle.vs_waves.specs.Puts.{wave_place}
 use Rattle.vs_feed.specs.Opened.{path_at}
@@ -18,9 +18,9 @@ use Rattle.vs_pre.specs.declared.error.PreError.TheVariants as macro
 use Rattle.vs_design.specs.Answers.{DesignRefusal, OfWidth, OfBlock, OfDriver, OfClock, Cycle, OfZero}
 use Rattle.vs_design.specs.Refusals as rule
 use Rattle.vs_refusal.specs.declared.refusal.Refusal.{Refusal}
-use Rattle.vs_refusal.specs.declared.refusal.Refusal.TheVariants.{Bare, SamePath, At}
+use Rattle.vs_refusal.specs.declared.refusal.Refusal.TheVariants.{Bare, SamePath}
 use Rattle.vs_refusal.specs.declared.names.AtName.{AtName}
-use Rattle.vs_refusal.specs.declared.names.BareName.TheVariants.{NoTop, Usage}
+use Rattle.vs_refusal.specs.declared.names.BareName.TheVariants.{Usage}
 use Rattle.vs_accept.specs.Refused.{token_refusal, macro_refusal, TreeFault, OutOfLanguage, OutOfGrammar, OutOfDepth, tree_refusal, rule_name, told_by, design_refusal}
 use Rattle.vs_accept.specs.Accepted.{IsRefusedText, ByTokens, ByMacros, ByTree, ByElaboration, ByRule}
 use Rattle.vs_rounds.specs.declared.stop.Stop.{Stop}
@@ -59,12 +59,12 @@ same_summary : (s t : Summary) → Done s ≡ Done t → s ≡ t
 same_summary s t e = cc
 
 -- a run that is done and reported is written
-pub reported_written : {D : Type 0} (register : D → Register) (tells : Bool) (contents : D → Contents) (job : Job) (old : Contents) (middle new : D) (s t : Summary) (result : Outcome)
-    → ReportsDone register tells contents middle new (Done s) result → result ≡ Done t → IsTrue tells → IsWritten job old (contents middle) s → IsWritten job old (contents new) t
-reported_written register tells contents job old middle new s t result (inl r) e told w =
+pub reported_written : {tells : Bool} (job : Job) (old : Contents) (middle new : Told tells) (s t : Summary) (result : Outcome)
+    → ReportsDone middle new (Done s) result → result ≡ Done t → IsTrue tells → IsWritten job old middle.contents s → IsWritten job old new.contents t
+reported_written job old middle new s t result (inl r) e told w =
     let same : s ≡ t = same_summary s t (sym r.0 ∙ e) in
-    subst (IsWritten job old (contents new)) same (written_still job old (contents middle) (contents new) (register middle) (outcome_line (Done s)) s (r.1.put told) w)
-reported_written register tells contents job old middle new s t result (inr r) e told w = absurd (never (sym r.0 ∙ e))
+    subst (IsWritten job old new.contents) same (written_still job old middle.contents new.contents middle.register (outcome_line (Done s)) s (r.1.put told) w)
+reported_written job old middle new s t result (inr r) e told w = absurd (never (sym r.0 ∙ e))
   where
     never : WriteFault 0 ≡ Done t → ⊥
     never e = cc
@@ -96,6 +96,7 @@ macro_usage (macro.UnknownMacro at) h = cc
 macro_usage (macro.MacroLoop at) h = cc
 macro_usage (macro.MacroArguments at) h = cc
 macro_usage (macro.MacroLimit at) h = cc
+macro_usage (macro.BadLiteral at) h = cc
 macro_usage macro.Memory h = cc
 
 tree_usage : (byte : ℕ → ℕ) (x : TreeFault) → tree_refusal byte x ≡ Bare Usage → ⊥
@@ -111,6 +112,7 @@ design_usage : (byte : ℕ → ℕ) (x : DesignRefusal) → design_refusal byte 
 design_usage byte (OfWidth (rule.TooWide at)) h = cc
 design_usage byte (OfWidth (rule.Division at)) h = cc
 design_usage byte (OfWidth (rule.TooLarge size)) h = cc
+design_usage byte (OfBlock (rule.FunctionLatch at)) h = cc
 design_usage byte (OfBlock (rule.MixedAssign at)) h = cc
 design_usage byte (OfBlock (rule.Sensitivity p signal at)) h = cc
 design_usage byte (OfBlock (rule.Latch p bit at)) h = cc
@@ -132,42 +134,42 @@ text_usage text top clock r (ByRule tokens source d x read elaborates broken tol
 same_refusal : (r q : Refusal) → Refused r ≡ Refused q → r ≡ q
 same_refusal r q h = cc
 
-setup_usage : (tells : Bool) (job : Job) (before : Register) (old : Contents) (now : Register) (new : Contents) (e : SetupError) → IsUnprepared tells job before old now new e → setup_outcome e ≡ Refused (Bare Usage) → ⊥
-setup_usage tells job before old now new S.TooLong c h = cc
-setup_usage tells job before old now new (S.Refused r) c h =
+setup_usage : {tells : Bool} (job : Job) (old new : Told tells) (e : SetupError) → IsUnprepared job old new e → setup_outcome e ≡ Refused (Bare Usage) → ⊥
+setup_usage job old new S.TooLong c h = cc
+setup_usage job old new (S.Refused r) c h =
     let t = c.1.1 in
     text_usage (job.head ++ c.1.0) job.top job.clock t.refusal t.refused (bare_behind (length job.head) t.refusal Usage (sym t.told ∙ same_refusal r (Bare Usage) h))
-setup_usage tells job before old now new (S.Stimulus i e) c h = stimulus_usage i e h
-setup_usage tells job before old now new (S.ReadFault place) c h = cc
-setup_usage tells job before old now new S.Memory c h = cc
+setup_usage job old new (S.Stimulus i e) c h = stimulus_usage i e h
+setup_usage job old new (S.ReadFault place) c h = cc
+setup_usage job old new S.Memory c h = cc
 
 stop_usage : (s : Stop) → stop_outcome s ≡ Refused (Bare Usage) → ⊥
 stop_usage (R.Refused i e) h = stimulus_usage i e h
 stop_usage (R.ReadFault i) h = cc
 stop_usage (R.WriteFault i) h = cc
 
-pub end_usage : (tells : Bool) (job : Job) (before : Register) (old : Contents) (now : Register) (new : Contents) (o : Outcome) → IsEnd tells job before old now new o → o ≡ Refused (Bare Usage) → ⊥
-end_usage tells job before old now new o (same e) h = same_usage e.first e.second (sym e.outcome_is ∙ h)
+pub end_usage : {tells : Bool} (job : Job) (old new : Told tells) (o : Outcome) → IsEnd job old new o → o ≡ Refused (Bare Usage) → ⊥
+end_usage job old new o (same e) h = same_usage e.first e.second (sym e.outcome_is ∙ h)
   where
     same_usage : (a b : ℕ) → Refused (SamePath a b) ≡ Refused (Bare Usage) → ⊥
     same_usage a b h = cc
-end_usage tells job before old now new o (setup d e) h = setup_usage tells job before old now new e.error e.cause (sym e.outcome_is ∙ h)
-end_usage tells job before old now new o (first d e) h = stop_usage e.stop (sym e.outcome_is ∙ h)
-end_usage tells job before old now new o (attached d e) h = fault_usage (wave_place e.lane) (sym e.outcome_is ∙ h)
+end_usage job old new o (setup d e) h = setup_usage job old new e.error e.cause (sym e.outcome_is ∙ h)
+end_usage job old new o (first d e) h = stop_usage e.stop (sym e.outcome_is ∙ h)
+end_usage job old new o (attached d e) h = fault_usage (wave_place e.lane) (sym e.outcome_is ∙ h)
   where
     fault_usage : (p : ℕ) → WriteFault p ≡ Refused (Bare Usage) → ⊥
     fault_usage p h = cc
-end_usage tells job before old now new o (stopped d e) h = stop_usage e.stop (sym e.outcome_is ∙ h)
-end_usage tells job before old now new o (whole d e) h = done_usage e.summary (sym e.outcome_is ∙ h)
+end_usage job old new o (stopped d e) h = stop_usage e.stop (sym e.outcome_is ∙ h)
+end_usage job old new o (whole d e) h = done_usage e.summary (sym e.outcome_is ∙ h)
   where
     done_usage : (s : Summary) → Done s ≡ Refused (Bare Usage) → ⊥
     done_usage s h = cc
 
-pub simulated_usage : {D : Type 0} (register : D → Register) (tells : Bool) (contents : D → Contents) (job : Job) (old new : D) (result : Outcome) → IsSimulated register tells contents job old new result → result ≢ Refused (Bare Usage)
-simulated_usage register tells contents job old new result s = λ h. by_outcome s.outcome s.ended s.done s.stopped h
+pub simulated_usage : {tells : Bool} {D : Type 0} (told : D → Told tells) (job : Job) (old new : D) (result : Outcome) → IsSimulated told job old new result → result ≢ Refused (Bare Usage)
+simulated_usage told job old new result s = λ h. by_outcome s.outcome s.ended s.done s.stopped h
   where
-    by_end : (o : Outcome) → IsEnd tells job (register old) (contents old) (register s.middle) (contents s.middle) o → result ≡ o → result ≡ Refused (Bare Usage) → ⊥
-    by_end o e is h = end_usage tells job (register old) (contents old) (register s.middle) (contents s.middle) o e (sym is ∙ h)
+    by_end : (o : Outcome) → IsEnd job (told old) (told s.middle) o → result ≡ o → result ≡ Refused (Bare Usage) → ⊥
+    by_end o e is h = end_usage job (told old) (told s.middle) o e (sym is ∙ h)
 
     done_usage : (t : Summary) → Done t ≡ Refused (Bare Usage) → ⊥
     done_usage t h = cc
@@ -175,8 +177,8 @@ simulated_usage register tells contents job old new result s = λ h. by_outcome 
     fault_usage : WriteFault 0 ≡ Refused (Bare Usage) → ⊥
     fault_usage h = cc
 
-    by_outcome : (o : Outcome) → IsEnd tells job (register old) (contents old) (register s.middle) (contents s.middle) o
-        → OnDone o (ReportsDone register tells contents s.middle new o result) → OnStopped o (result ≡ o) → result ≡ Refused (Bare Usage) → ⊥
+    by_outcome : (o : Outcome) → IsEnd job (told old) (told s.middle) o
+        → OnDone o (ReportsDone (told s.middle) (told new) o result) → OnStopped o (result ≡ o) → result ≡ Refused (Bare Usage) → ⊥
     by_outcome (Done t) e (inl r) is h = done_usage t (sym r.0 ∙ h)
     by_outcome (Done t) e (inr r) is h = fault_usage (sym r.0 ∙ h)
     by_outcome (Refused r) e d is h = by_end (Refused r) e is h

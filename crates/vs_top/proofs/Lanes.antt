@@ -4,7 +4,7 @@ use Rattle.vs_net.specs.Queue.{start, ends}
 use Rattle.vs_design.specs.Designs.{Design}
 use Rattle.vs_design.specs.Networks.{network_of}
 use Rattle.vs_design.specs.Accepted.{IsAcceptedDesign}
-use Rattle.vs_desk.specs.Desk.{Register, Contents}
+use Rattle.vs_desk.specs.Desk.{Told}
 use Rattle.vs_accept.specs.Accepted.{IsAcceptedText, IsRead, most_bytes}
 use Rattle.vs_stim.specs.declared.input.Input.{Input}
 use Rattle.vs_stim.specs.Header.{IsInput}
@@ -70,11 +70,11 @@ accepted_as top clock d text other e a = record {
 }
 
 -- a prepared run is that of the job
-pub run_is : {W : Type 0} (lane : W → ℕ → Bool) (tells : Bool) (job : Job) (before : Register) (old : Contents) (now : Register) (new : Contents) (m : Simulation W) (size : ℕ) (paths : List (List ℕ))
-    (p : IsPrepared lane tells job before old now new m size paths) → IsTrue tells → IsRunOf job old (run_of job old.files p.design p.accepted.accepted.clock.first)
-run_is lane tells job before old now new m size paths p t = record {
+pub run_is : {W : Type 0} (lane : W → ℕ → Bool) {tells : Bool} (job : Job) (old new : Told tells) (m : Simulation W) (size : ℕ) (paths : List (List ℕ))
+    (p : IsPrepared lane job old new m size paths) → IsTrue tells → IsRunOf job old.contents (run_of job old.contents.files p.design p.accepted.accepted.clock.first)
+run_is lane job old new m size paths p t = record {
   design = p.design;
-  accepted = accepted_as job.top job.clock p.design (job.head ++ p.file) (design_text job old) (ap (λ (file : List ℕ). job.head ++ file) (p.file_is t)) p.accepted;
+  accepted = accepted_as job.top job.clock p.design (job.head ++ p.file) (design_text job old.contents) (ap (λ (file : List ℕ). job.head ++ file) (p.file_is t)) p.accepted;
   run_is = refl;
   headers = p.headers t;
 }

@@ -1,6 +1,6 @@
 -- On a desk without a fault a lawful job is done and a refused one is refused so, unless there was no memory.
 use Rattle.std.proofs.Common.{◌≡◌, ℕ, ◌<◌, Bool, IsTrue, List, [], ◌∷◌, length, Option, Some, None, refl, sym, ap, ◌∙◌, subst, inl, inr, arith}
-use Rattle.vs_desk.specs.Desk.{Register, Contents}
+use Rattle.vs_desk.specs.Desk.{Told, Contents}
 use Rattle.vs_stim.specs.declared.input.Input.{Input}
 use Rattle.vs_stim.specs.declared.input.Column.{Column}
 use Rattle.vs_stim.specs.declared.error.StimError.{StimError}
@@ -119,7 +119,7 @@ written_lawful one job old new s paths w = record {
 -- ---- an answer of a desk without a fault
 
 -- it is a refusal, or the run is done, or there was no memory
-on_answer : (old new : Register) (result : Outcome) (P : Outcome → Type 0) → IsFaultless old new → ShowsCause old new result
+on_answer : {tells : Bool} (old new : Told tells) (result : Outcome) (P : Outcome → Type 0) → IsFaultless old new → ShowsCause old new result
     → ((s : Summary) → result ≡ Done s → P (Done s)) → ((r : Refusal) → result ≡ Refused r → P (Refused r)) → P Memory → P result
 on_answer old new (Done s) P f cause done refused memory = done s refl
 on_answer old new (Refused r) P f cause done refused memory = refused r refl
@@ -132,29 +132,29 @@ not_stopped : (o : Outcome) (s : Summary) → IsStopped o → o ≡ Done s → �
 not_stopped o s h e = subst IsStopped e h
 
 -- a job that stopped, by its report
-pub stopped_complete : {D : Type 0} (register : D → Register) (tells : Bool) (contents : D → Contents) (job : Job) (old middle new : D) (o result : Outcome) → NotBoth
-    → IsStopped o → IsEnd tells job (register old) (contents old) (register middle) (contents middle) o → OnStopped o (result ≡ o) → ShowsCause (register old) (register new) result
-    → IsTrue tells → IsLawful job (contents old) → IsFaultless (register old) (register new) → IsDoneOrMemory result
-stopped_complete register tells contents job old middle new o result not_both halted end is cause told l f =
+pub stopped_complete : {tells : Bool} (job : Job) (old middle new : Told tells) (o result : Outcome) → NotBoth
+    → IsStopped o → IsEnd job old middle o → OnStopped o (result ≡ o) → ShowsCause old new result
+    → IsTrue tells → IsLawful job old.contents → IsFaultless old new → IsDoneOrMemory result
+stopped_complete job old middle new o result not_both halted end is cause told l f =
     let same = on_stopped o (result ≡ o) halted is in
-    on_answer (register old) (register new) result IsDoneOrMemory f cause (λ s e. tt)
-    (λ r e. no_refusal not_both job (contents old) l r (refused_job tells job (register old) (contents old) (register middle) (contents middle) told o r (sym e ∙ same) end)) tt
+    on_answer old new result IsDoneOrMemory f cause (λ s e. tt)
+    (λ r e. no_refusal not_both job old.contents l r (refused_job job old middle told o r (sym e ∙ same) end)) tt
 
-pub stopped_refused : {D : Type 0} (register : D → Register) (tells : Bool) (contents : D → Contents) (job : Job) (old middle new : D) (o result : Outcome) → OneDesign → NotBoth → OneRefusal
-    → IsStopped o → IsEnd tells job (register old) (contents old) (register middle) (contents middle) o → OnStopped o (result ≡ o) → ShowsCause (register old) (register new) result
-    → IsTrue tells → (q : Refusal) → IsRefusedJob job (contents old) q → IsFaultless (register old) (register new) → IsRefusedSo q result
-stopped_refused register tells contents job old middle new o result one not_both texts halted end is cause told q job_refused f =
+pub stopped_refused : {tells : Bool} (job : Job) (old middle new : Told tells) (o result : Outcome) → OneDesign → NotBoth → OneRefusal
+    → IsStopped o → IsEnd job old middle o → OnStopped o (result ≡ o) → ShowsCause old new result
+    → IsTrue tells → (q : Refusal) → IsRefusedJob job old.contents q → IsFaultless old new → IsRefusedSo q result
+stopped_refused job old middle new o result one not_both texts halted end is cause told q job_refused f =
     let same = on_stopped o (result ≡ o) halted is in
-    on_answer (register old) (register new) result (IsRefusedSo q) f cause (λ s e. absurd (not_stopped o s halted (sym same ∙ e)))
-    (λ r e. alike one not_both texts job (contents old) r q (refused_job tells job (register old) (contents old) (register middle) (contents middle) told o r (sym e ∙ same) end) job_refused) tt
+    on_answer old new result (IsRefusedSo q) f cause (λ s e. absurd (not_stopped o s halted (sym same ∙ e)))
+    (λ r e. alike one not_both texts job old.contents r q (refused_job job old middle told o r (sym e ∙ same) end) job_refused) tt
 
 -- a job that is done, by its report
-pub done_complete : {D : Type 0} (register : D → Register) (tells : Bool) (contents : D → Contents) (old middle new : D) (s : Summary) (result : Outcome)
-    → ReportsDone register tells contents middle new (Done s) result → ShowsCause (register old) (register new) result → IsFaultless (register old) (register new) → IsDoneOrMemory result
-done_complete register tells contents old middle new s result report cause f =
-    on_answer (register old) (register new) result IsDoneOrMemory f cause (λ t e. tt) (λ r e. not_refused report r e) tt
+pub done_complete : {tells : Bool} (old middle new : Told tells) (s : Summary) (result : Outcome)
+    → ReportsDone middle new (Done s) result → ShowsCause old new result → IsFaultless old new → IsDoneOrMemory result
+done_complete old middle new s result report cause f =
+    on_answer old new result IsDoneOrMemory f cause (λ t e. tt) (λ r e. not_refused report r e) tt
   where
-    not_refused : ReportsDone register tells contents middle new (Done s) result → (r : Refusal) → result ≡ Refused r → ⊥
+    not_refused : ReportsDone middle new (Done s) result → (r : Refusal) → result ≡ Refused r → ⊥
     not_refused (inl h) r e = clash (sym h.0 ∙ e)
       where
         clash : Done s ≡ Refused r → ⊥
@@ -165,19 +165,19 @@ done_complete register tells contents old middle new s result report cause f =
         clash e = cc
 
 -- the paths of a job that is done differ
-different : (tells : Bool) (job : Job) (before : Register) (old : Contents) (now : Register) (new : Contents) (s : Summary) → IsEnd tells job before old now new (Done s) → same_paths job ≡ None
-different tells job before old now new s (same e) = absurd (clash e.first e.second e.outcome_is)
+different : {tells : Bool} (job : Job) (old new : Told tells) (s : Summary) → IsEnd job old new (Done s) → same_paths job ≡ None
+different job old new s (same e) = absurd (clash e.first e.second e.outcome_is)
   where
     clash : (x y : ℕ) → Done s ≡ Refused (SamePath x y) → ⊥
     clash x y e = cc
-different tells job before old now new s (setup d e) = d
-different tells job before old now new s (first d e) = d
-different tells job before old now new s (attached d e) = d
-different tells job before old now new s (stopped d e) = d
-different tells job before old now new s (whole d e) = d
+different job old new s (setup d e) = d
+different job old new s (first d e) = d
+different job old new s (attached d e) = d
+different job old new s (stopped d e) = d
+different job old new s (whole d e) = d
 
 -- a job that is refused isn't done
-pub refused_undone : (tells : Bool) (job : Job) (before : Register) (old : Contents) (now : Register) (new : Contents) (s : Summary) → OneDesign → NotBoth
-    → IsEnd tells job before old now new (Done s) → IsWritten job old new s → (q : Refusal) → IsRefusedJob job old q → ⊥
-refused_undone tells job before old now new s one not_both end written q job_refused =
-    no_refusal not_both job old (written_lawful one job old new s (different tells job before old now new s end) written) q job_refused
+pub refused_undone : {tells : Bool} (job : Job) (old new : Told tells) (s : Summary) → OneDesign → NotBoth
+    → IsEnd job old new (Done s) → IsWritten job old.contents new.contents s → (q : Refusal) → IsRefusedJob job old.contents q → ⊥
+refused_undone job old new s one not_both end written q job_refused =
+    no_refusal not_both job old.contents (written_lawful one job old.contents new.contents s (different job old new s end) written) q job_refused

@@ -1,7 +1,7 @@
 -- A line that was lost, and one that was put behind it.
 use Rattle.std.proofs.Common.{◌≡◌, ℕ, inl, inr, Bool, List, length, take, IsTrue, OnOk, Result, Ok, Err, refl, sym, ap, ◌∙◌, subst, arith}
 use Rattle.std.proofs.Math.Seq.{take-length}
-use Rattle.vs_desk.specs.Desk.{Register, Contents, with_put, Rose, Fails, PutsPart}
+use Rattle.vs_desk.specs.Desk.{Told, Register, Contents, with_put, Rose, Fails, PutsPart}
 use Rattle.vs_desk.specs.Laws.{PutsInParts}
 use Rattle.vs_top.specs.declared.outcome.Outcome.{Outcome}
 use Rattle.vs_top.specs.declared.outcome.Outcome.TheVariants.{Done, Refused, ReadFault, WriteFault, Memory}
@@ -9,10 +9,10 @@ use Rattle.vs_top.specs.Outcomes.{outcome_line}
 use Rattle.vs_top.specs.Reported.{PutsLine, LosesLine, ReportsLine, PutsBoth, LosesBoth, OnDone, ReportsDone}
 
 -- what a call that puts a line ensures on Ok
-pub puts_line : {D V E : Type 0} (register : D → Register) (tells : Bool) (contents : D → Contents) (old new : D) (line : List ℕ) (result : Result V E)
-    → (IsTrue tells → OnOk result (contents new ≡ with_put (register old) (contents old) 0 line)) → OnOk result (register new ≡ register old) → OnOk result (PutsLine register tells contents old new line)
-puts_line register tells contents old new line (Ok v) put same = record { same = same; put = put }
-puts_line register tells contents old new line (Err e) put same = tt
+pub puts_line : {tells : Bool} {V E : Type 0} (old new : Told tells) (line : List ℕ) (result : Result V E)
+    → (IsTrue tells → OnOk result (new.contents ≡ with_put old.register old.contents 0 line)) → OnOk result (new.register ≡ old.register) → OnOk result (PutsLine old new line)
+puts_line old new line (Ok v) put same = record { same = same; put = put }
+puts_line old new line (Err e) put same = tt
 
 Rose-trans : (a b c : ℕ) → Rose a b → Rose b c → Rose a c
 Rose-trans a b c (inl x) (inl y) = inl (omega arith, y.1)
@@ -38,24 +38,24 @@ both : (r s : Register) (old now new : Contents) → PutsInParts → (first seco
 both r s old now new parts first second n a b =
     (a.0, n, a.1, b ∙ ap (λ (c : Contents). with_put r c 0 (take n second)) a.2 ∙ parts r old 0 (take a.0 first) (take n second))
 
-pub loses_both : {D : Type 0} (register : D → Register) (tells : Bool) (contents : D → Contents) → PutsInParts → (old now new : D) (first second : List ℕ)
-    → LosesLine register tells contents old now first → ReportsLine register tells contents now new second → LosesBoth register tells contents old new first second
-loses_both register tells contents parts old now new first second a (inl p) = record {
-  failed = subst (λ (r : Register). Fails (register old) r 0 (register old).asked) (sym p.same) a.failed;
-  put = λ t. both (register old) (register now) (contents old) (contents now) (contents new) parts first second (length second) (a.put t)
-      (p.put t ∙ ap (λ (xs : List ℕ). with_put (register now) (contents now) 0 xs) (sym (take-length second)));
+pub loses_both : {tells : Bool} → PutsInParts → (old now new : Told tells) (first second : List ℕ)
+    → LosesLine old now first → ReportsLine now new second → LosesBoth old new first second
+loses_both parts old now new first second a (inl p) = record {
+  failed = subst (λ (r : Register). Fails old.register r 0 old.register.asked) (sym p.same) a.failed;
+  put = λ t. both old.register now.register old.contents now.contents new.contents parts first second (length second) (a.put t)
+      (p.put t ∙ ap (λ (xs : List ℕ). with_put now.register now.contents 0 xs) (sym (take-length second)));
 }
-loses_both register tells contents parts old now new first second a (inr q) = record {
-  failed = Fails-trans (register old) (register now) (register new) a.failed q.failed;
-  put = λ t. let p = q.put t in both (register old) (register now) (contents old) (contents now) (contents new) parts first second p.0 (a.put t) p.2;
+loses_both parts old now new first second a (inr q) = record {
+  failed = Fails-trans old.register now.register new.register a.failed q.failed;
+  put = λ t. let p = q.put t in both old.register now.register old.contents now.contents new.contents parts first second p.0 (a.put t) p.2;
 }
 
 -- the report of a run that was done, and whose line was lost
-pub done_lost : {D : Type 0} (register : D → Register) (tells : Bool) (contents : D → Contents) → PutsInParts → (old now new : D) (outcome result : Outcome)
-    → LosesLine register tells contents old now (outcome_line outcome) → OnDone outcome (result ≡ WriteFault 0) → OnDone outcome (ReportsLine register tells contents now new (outcome_line (WriteFault 0)))
-    → OnDone outcome (ReportsDone register tells contents old new outcome result)
-done_lost register tells contents parts old now new (Done s) result a e b = inr (e, loses_both register tells contents parts old now new (outcome_line (Done s)) (outcome_line (WriteFault 0)) a b)
-done_lost register tells contents parts old now new (Refused r) result a e b = tt
-done_lost register tells contents parts old now new (ReadFault p) result a e b = tt
-done_lost register tells contents parts old now new (WriteFault p) result a e b = tt
-done_lost register tells contents parts old now new Memory result a e b = tt
+pub done_lost : {tells : Bool} → PutsInParts → (old now new : Told tells) (outcome result : Outcome)
+    → LosesLine old now (outcome_line outcome) → OnDone outcome (result ≡ WriteFault 0) → OnDone outcome (ReportsLine now new (outcome_line (WriteFault 0)))
+    → OnDone outcome (ReportsDone old new outcome result)
+done_lost parts old now new (Done s) result a e b = inr (e, loses_both parts old now new (outcome_line (Done s)) (outcome_line (WriteFault 0)) a b)
+done_lost parts old now new (Refused r) result a e b = tt
+done_lost parts old now new (ReadFault p) result a e b = tt
+done_lost parts old now new (WriteFault p) result a e b = tt
+done_lost parts old now new Memory result a e b = tt

@@ -1,7 +1,7 @@
 -- A job that ended in a refusal is refused so, and all refusals of a job are alike.
 use Rattle.std.proofs.Common.{◌≡◌, ℕ, suc, ◌<◌, ◌≤◌, Bool, IsTrue, List, length, Option, Some, None, refl, sym, ap, ◌∙◌, subst, inl, inr, arith}
 use Rattle.std.proofs.lemmas.Bool.{cases_lt, cases_order}
-use Rattle.vs_desk.specs.Desk.{Register, Contents}
+use Rattle.vs_desk.specs.Desk.{Told, Contents}
 use Rattle.vs_stim.specs.declared.input.Input.{Input}
 use Rattle.vs_stim.specs.declared.error.StimError.{StimError}
 use Rattle.vs_stim.specs.Reading.{Reading, header_refusal}
@@ -45,15 +45,15 @@ same_refusal o r q a b = cc
 
 -- ---- a job that ended in a refusal
 
-unprepared : (tells : Bool) (job : Job) (before : Register) (old : Contents) (now : Register) (new : Contents) → IsTrue tells → same_paths job ≡ None
-    → (error : SetupError) (r : Refusal) → IsUnprepared tells job before old now new error → Refused r ≡ setup_outcome error → IsRefusedJob job old r
-unprepared tells job before old now new told d S.TooLong r c e = ByLength d (c.1 told).long (same_refusal (Refused (Bare TooLong)) r (Bare TooLong) e refl)
-unprepared tells job before old now new told d (S.Refused q) r c e =
+unprepared : {tells : Bool} (job : Job) (old new : Told tells) → IsTrue tells → same_paths job ≡ None
+    → (error : SetupError) (r : Refusal) → IsUnprepared job old new error → Refused r ≡ setup_outcome error → IsRefusedJob job old.contents r
+unprepared job old new told d S.TooLong r c e = ByLength d (c.1 told).long (same_refusal (Refused (Bare TooLong)) r (Bare TooLong) e refl)
+unprepared job old new told d (S.Refused q) r c e =
     let h = c.2 told in
-    subst (IsRefusedJob job old) (same_refusal (Refused q) q r refl e) (ByDesign d h.short h.refused)
-unprepared tells job before old now new told d (S.Stimulus i error) r c e = ByHeader d i error c.0 (c.3 told) e
-unprepared tells job before old now new told d (S.ReadFault place) r c e = cc
-unprepared tells job before old now new told d S.Memory r c e = cc
+    subst (IsRefusedJob job old.contents) (same_refusal (Refused q) q r refl e) (ByDesign d h.short h.refused)
+unprepared job old new told d (S.Stimulus i error) r c e = ByHeader d i error c.0 (c.3 told) e
+unprepared job old new told d (S.ReadFault place) r c e = cc
+unprepared job old new told d S.Memory r c e = cc
 
 unread : (job : Job) (old : Contents) → same_paths job ≡ None → (run : Run) → IsRunOf job old run → (k : ℕ) (new : Contents) (stop : Stop) (r : Refusal) → IsLaneOf (length job.stimuli) stop
     → ReadStops run (length job.stimuli) k new stop → Refused r ≡ stop_outcome stop → IsRefusedJob job old r
@@ -67,23 +67,23 @@ unsettled job old d run is k new (R.Refused i error) r lane s e = ByLine d run k
 unsettled job old d run is k new (R.ReadFault i) r lane s e = cc
 unsettled job old d run is k new (R.WriteFault i) r lane s e = cc
 
-pub refused_job : (tells : Bool) (job : Job) (before : Register) (old : Contents) (now : Register) (new : Contents) → IsTrue tells
-    → (o : Outcome) (r : Refusal) → Refused r ≡ o → IsEnd tells job before old now new o → IsRefusedJob job old r
-refused_job tells job before old now new told o r is (same e) =
+pub refused_job : {tells : Bool} (job : Job) (old new : Told tells) → IsTrue tells
+    → (o : Outcome) (r : Refusal) → Refused r ≡ o → IsEnd job old new o → IsRefusedJob job old.contents r
+refused_job job old new told o r is (same e) =
     let outcome = Refused (SamePath e.first e.second) in
     ByPaths e.first e.second e.same (same_refusal outcome r (SamePath e.first e.second) (is ∙ e.outcome_is) refl)
-refused_job tells job before old now new told o r is (setup d e) = unprepared tells job before old now new told d e.error r e.cause (is ∙ e.outcome_is)
-refused_job tells job before old now new told o r is (first d e) =
+refused_job job old new told o r is (setup d e) = unprepared job old new told d e.error r e.cause (is ∙ e.outcome_is)
+refused_job job old new told o r is (first d e) =
     let s = e.stops told in
-    unread job old d s.0 s.1 0 new e.stop r e.lane s.2 (is ∙ e.outcome_is)
-refused_job tells job before old now new told o r is (attached d e) = absurd (fault (wave_place e.lane) (is ∙ e.outcome_is))
+    unread job old.contents d s.0 s.1 0 new.contents e.stop r e.lane s.2 (is ∙ e.outcome_is)
+refused_job job old new told o r is (attached d e) = absurd (fault (wave_place e.lane) (is ∙ e.outcome_is))
   where
     fault : (p : ℕ) → Refused r ≡ WriteFault p → ⊥
     fault p h = cc
-refused_job tells job before old now new told o r is (stopped d e) =
+refused_job job old new told o r is (stopped d e) =
     let s = e.stops told in
-    unsettled job old d s.0 s.1 s.2.0 new e.stop r e.lane s.2.1 (is ∙ e.outcome_is)
-refused_job tells job before old now new told o r is (whole d e) = absurd (done e.summary (is ∙ e.outcome_is))
+    unsettled job old.contents d s.0 s.1 s.2.0 new.contents e.stop r e.lane s.2.1 (is ∙ e.outcome_is)
+refused_job job old new told o r is (whole d e) = absurd (done e.summary (is ∙ e.outcome_is))
   where
     done : (s : Summary) → Refused r ≡ Done s → ⊥
     done s h = cc

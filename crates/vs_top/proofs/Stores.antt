@@ -1,5 +1,5 @@
 -- How many operations a run that is done has made.
-use Rattle.std.proofs.Common.{◌≡◌, ℕ, zero, suc, ◌+◌, ◌*◌, ◌<◌, ◌≤◌, Bool, false, None, length, sym, ap, ◌∙◌, subst, arith}
+use Rattle.std.proofs.Common.{◌≡◌, ℕ, zero, suc, ◌+◌, ◌*◌, ◌<◌, ◌≤◌, Bool, false, None, subst, arith}
 use Rattle.vs_design.specs.Designs.{Design}
 use Rattle.vs_program.specs.Program.{Program, first_stores, fall_stores, rise_stores}
 use Rattle.vs_program.specs.Compiled.{IsProgramOf}

@@ -1,6 +1,6 @@
 -- What the desk's counts say of each answer, and which jobs are done.
-use Rattle.std.specs.Prelude.{◌≡◌, ◌≢◌, ◌⊎◌, ℕ, ◌<◌, None, List, length}
-use Rattle.vs_desk.specs.Desk.{Register, Contents, Rose}
+use Rattle.std.specs.Prelude.{◌≡◌, ◌≢◌, ◌⊎◌, ℕ, ◌<◌, Bool, None, List, length}
+use Rattle.vs_desk.specs.Desk.{Register, Contents, Told, Rose}
 use Rattle.vs_design.specs.Designs.{Design}
 use Rattle.vs_stim.specs.Reading.{stimulus}
 use Rattle.vs_feed.specs.Opened.{path_at}
@@ -25,12 +25,12 @@ pub record IsLoss (old new : Register) : Type 0 where
 
 -- What the counts say: a run that is done has no failed call at all; a refusal and want of memory come with none but of the report; a fault
 -- comes only where a call failed at its place in this run.
-abbrev pub ShowsCause : Register → Register → Outcome → Type 0
-ShowsCause old new (Done s) = (new.faults ≡ old.faults) × (new.losses ≡ old.losses)
-ShowsCause old new (Refused r) = new.faults ≡ old.faults
-ShowsCause old new Memory = new.faults ≡ old.faults
-ShowsCause old new (ReadFault place) = IsFaultAt old new place
-ShowsCause old new (WriteFault place) = IsFaultAt old new place ⊎ ((place ≡ 0) × IsLoss old new)
+abbrev pub ShowsCause : {tells : Bool} → Told tells → Told tells → Outcome → Type 0
+ShowsCause old new (Done s) = (new.register.faults ≡ old.register.faults) × (new.register.losses ≡ old.register.losses)
+ShowsCause old new (Refused r) = new.register.faults ≡ old.register.faults
+ShowsCause old new Memory = new.register.faults ≡ old.register.faults
+ShowsCause old new (ReadFault place) = IsFaultAt old.register new.register place
+ShowsCause old new (WriteFault place) = IsFaultAt old.register new.register place ⊎ ((place ≡ 0) × IsLoss old.register new.register)
 
 -- The paths of the job differ, its design is accepted, and each lane's stimulus is valid for each design that it is accepted as, where the
 -- files have these bytes.
@@ -42,9 +42,9 @@ pub record IsLawful (job : Job) (c : Contents) : Type 0 where
       → (vectors : List Vector) × stimulus (c.files (path_at job.stimuli i)) (data_inputs d a.accepted.clock.first) vectors
 
 -- no call failed
-pub record IsFaultless (old new : Register) : Type 0 where
-  pub no_fault : ¬ (Rose old.faults new.faults)
-  pub no_loss : ¬ (Rose old.losses new.losses)
+pub record IsFaultless {tells : Bool} (old new : Told tells) : Type 0 where
+  pub no_fault : ¬ (Rose old.register.faults new.register.faults)
+  pub no_loss : ¬ (Rose old.register.losses new.register.losses)
 
 -- the run is done, or there was no memory
 abbrev pub IsDoneOrMemory : Outcome → Type 0

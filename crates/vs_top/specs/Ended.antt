@@ -1,7 +1,7 @@
 -- How a job ended, before its line is reported.
 use Rattle.std.specs.Prelude.{◌≡◌, ◌≢◌, ℕ, ◌<◌, Bool, IsTrue, List, [], length, map, take, Some, None}
 use Rattle.vs_desk.specs.declared.desk.Way.TheVariants.{Write}
-use Rattle.vs_desk.specs.Desk.{Register, Contents, Fails}
+use Rattle.vs_desk.specs.Desk.{Register, Contents, Told, Fails}
 use Rattle.vs_desk.specs.Places.{with_places, waveform_place}
 use Rattle.vs_design.specs.Designs.{Design}
 use Rattle.vs_feed.specs.Opened.{path_at, HaveHeaders}
@@ -48,67 +48,67 @@ pub record IsRunOf (job : Job) (old : Contents) (run : Run) : Type 0 where
   pub headers : HaveHeaders run.inputs old.files job.stimuli (length job.stimuli)
 
 -- Two places have one path. Nothing was called.
-pub record IsSameEnd (job : Job) (before : Register) (old : Contents) (now : Register) (new : Contents) (o : Outcome) : Type 0 where
+pub record IsSameEnd {tells : Bool} (job : Job) (old new : Told tells) (o : Outcome) : Type 0 where
   pub first : ℕ
   pub second : ℕ
   pub outcome_is : o ≡ Refused (SamePath first second)
   pub same : same_paths job ≡ Some (first, second)
-  pub register_is : now ≡ before
-  pub contents_are : new ≡ old
+  pub register_is : new.register ≡ old.register
+  pub contents_are : new.contents ≡ old.contents
 
 -- The run couldn't begin. No waveform's place is attached.
-pub record IsSetupEnd (tells : Bool) (job : Job) (before : Register) (old : Contents) (now : Register) (new : Contents) (o : Outcome) : Type 0 where
+pub record IsSetupEnd {tells : Bool} (job : Job) (old new : Told tells) (o : Outcome) : Type 0 where
   pub error : SetupError
   pub outcome_is : o ≡ setup_outcome error
-  pub cause : IsUnprepared tells job before old now new error
-  pub kept : IsTrue tells → AreTextsKept old new
+  pub cause : IsUnprepared job old new error
+  pub kept : IsTrue tells → AreTextsKept old.contents new.contents
 
 -- A stimulus has no first vector that is known, or it can't be read. No waveform's place is attached.
-pub record IsFirstEnd (tells : Bool) (job : Job) (before : Register) (old : Contents) (now : Register) (new : Contents) (o : Outcome) : Type 0 where
+pub record IsFirstEnd {tells : Bool} (job : Job) (old new : Told tells) (o : Outcome) : Type 0 where
   pub stop : Stop
   pub outcome_is : o ≡ stop_outcome stop
   pub lane : IsLaneOf (length job.stimuli) stop
-  pub cause : HasCause (with_texts before job job.stimuli) now stop
-  pub stops : IsTrue tells → (run : Run) × IsRunOf job old run × ReadStops run (length job.stimuli) 0 new stop
-  pub kept : IsTrue tells → AreTextsKept old new
+  pub cause : HasCause (with_texts old.register job job.stimuli) new.register stop
+  pub stops : IsTrue tells → (run : Run) × IsRunOf job old.contents run × ReadStops run (length job.stimuli) 0 new.contents stop
+  pub kept : IsTrue tells → AreTextsKept old.contents new.contents
 
 -- Each stimulus has a known first vector, and a waveform's place can't be attached, behind those of the earlier lanes, where nothing was put
 -- and whose paths have no bytes; all other paths have those that they had.
-pub record IsAttachEnd (tells : Bool) (job : Job) (before : Register) (old : Contents) (now : Register) (new : Contents) (o : Outcome) : Type 0 where
+pub record IsAttachEnd {tells : Bool} (job : Job) (old new : Told tells) (o : Outcome) : Type 0 where
   pub lane : ℕ
   pub is_lane : lane < length job.stimuli
   pub outcome_is : o ≡ WriteFault (wave_place lane)
-  pub fails : Fails (with_waves before job (take lane (wave_paths job))) now (wave_place lane) (path_at (wave_paths job) lane)
-  pub texts : IsTrue tells → (run : Run) × IsRunOf job old run × AreUnrefused run 0 (length job.stimuli) 1
-  pub empty : IsTrue tells → (i : ℕ) → i < lane → new.put (wave_place i) ≡ []
-  pub emptied : IsTrue tells → AreEmptied (take lane (wave_paths job)) old new
-  pub puts : IsTrue tells → OnlyWavesPut lane old new
+  pub fails : Fails (with_waves old.register job (take lane (wave_paths job))) new.register (wave_place lane) (path_at (wave_paths job) lane)
+  pub texts : IsTrue tells → (run : Run) × IsRunOf job old.contents run × AreUnrefused run 0 (length job.stimuli) 1
+  pub empty : IsTrue tells → (i : ℕ) → i < lane → new.contents.put (wave_place i) ≡ []
+  pub emptied : IsTrue tells → AreEmptied (take lane (wave_paths job)) old.contents new.contents
+  pub puts : IsTrue tells → OnlyWavesPut lane old.contents new.contents
 
 -- A round stopped, by a stimulus only behind the first one. What each lane has got then is what `StopsIn` says.
-pub record IsRoundEnd (tells : Bool) (job : Job) (before : Register) (old : Contents) (now : Register) (new : Contents) (o : Outcome) : Type 0 where
+pub record IsRoundEnd {tells : Bool} (job : Job) (old new : Told tells) (o : Outcome) : Type 0 where
   pub stop : Stop
   pub outcome_is : o ≡ stop_outcome stop
   pub lane : IsLaneOf (length job.stimuli) stop
-  pub cause : HasCause (with_waves before job (wave_paths job)) now stop
-  pub stops : IsTrue tells → (run : Run) × IsRunOf job old run × ((k : ℕ) × StopsIn run (length job.stimuli) k new stop)
-  pub puts : IsTrue tells → OnlyWavesPut (length job.stimuli) old new
+  pub cause : HasCause (with_waves old.register job (wave_paths job)) new.register stop
+  pub stops : IsTrue tells → (run : Run) × IsRunOf job old.contents run × ((k : ℕ) × StopsIn run (length job.stimuli) k new.contents stop)
+  pub puts : IsTrue tells → OnlyWavesPut (length job.stimuli) old.contents new.contents
 
 -- All is written.
-pub record IsWholeEnd (tells : Bool) (job : Job) (before : Register) (old : Contents) (now : Register) (new : Contents) (o : Outcome) : Type 0 where
+pub record IsWholeEnd {tells : Bool} (job : Job) (old new : Told tells) (o : Outcome) : Type 0 where
   pub summary : Summary
   pub outcome_is : o ≡ Done summary
-  pub register_is : now ≡ with_waves before job (wave_paths job)
-  pub written : IsTrue tells → IsWritten job old new summary
-  pub puts : IsTrue tells → OnlyWavesPut (length job.stimuli) old new
+  pub register_is : new.register ≡ with_waves old.register job (wave_paths job)
+  pub written : IsTrue tells → IsWritten job old.contents new.contents summary
+  pub puts : IsTrue tells → OnlyWavesPut (length job.stimuli) old.contents new.contents
 
 -- How a job ended, where the desk told this before and tells that now: two of its paths are equal, or none are and it went on.
-pub data IsEnd (tells : Bool) (job : Job) (before : Register) (old : Contents) (now : Register) (new : Contents) (o : Outcome) : Type 0 where
-  same : IsSameEnd job before old now new o → IsEnd tells job before old now new o
-  setup : same_paths job ≡ None → IsSetupEnd tells job before old now new o → IsEnd tells job before old now new o
-  first : same_paths job ≡ None → IsFirstEnd tells job before old now new o → IsEnd tells job before old now new o
-  attached : same_paths job ≡ None → IsAttachEnd tells job before old now new o → IsEnd tells job before old now new o
-  stopped : same_paths job ≡ None → IsRoundEnd tells job before old now new o → IsEnd tells job before old now new o
-  whole : same_paths job ≡ None → IsWholeEnd tells job before old now new o → IsEnd tells job before old now new o
+pub data IsEnd {tells : Bool} (job : Job) (old new : Told tells) (o : Outcome) : Type 0 where
+  same : IsSameEnd job old new o → IsEnd job old new o
+  setup : same_paths job ≡ None → IsSetupEnd job old new o → IsEnd job old new o
+  first : same_paths job ≡ None → IsFirstEnd job old new o → IsEnd job old new o
+  attached : same_paths job ≡ None → IsAttachEnd job old new o → IsEnd job old new o
+  stopped : same_paths job ≡ None → IsRoundEnd job old new o → IsEnd job old new o
+  whole : same_paths job ≡ None → IsWholeEnd job old new o → IsEnd job old new o
 
 -- the job isn't done
 abbrev pub IsStopped : Outcome → Type 0

@@ -1,6 +1,6 @@
 -- How a job ended, and what was reported of it.
 use Rattle.std.specs.Prelude.{◌≡◌, Bool}
-use Rattle.vs_desk.specs.Desk.{Register, Contents}
+use Rattle.vs_desk.specs.Desk.{Told}
 use Rattle.vs_job.specs.declared.job.Job.{Job}
 use Rattle.vs_top.specs.declared.outcome.Outcome.{Outcome}
 use Rattle.vs_top.specs.Outcomes.{outcome_line}
@@ -8,18 +8,18 @@ use Rattle.vs_top.specs.Reported.{OnDone, OnStopped, ReportsDone, ReportsLine}
 use Rattle.vs_top.specs.Ended.{IsEnd}
 
 -- the outcome's line was put at place 0, or lost with some first bytes of it put
-abbrev pub IsReported : {D : Type 0} → (D → Register) → Bool → (D → Contents) → D → D → Outcome → Type 0
-IsReported register tells contents old new o = ReportsLine register tells contents old new (outcome_line o)
+abbrev pub IsReported : {tells : Bool} → Told tells → Told tells → Outcome → Type 0
+IsReported old new o = ReportsLine old new (outcome_line o)
 
 -- The job ended so on the desk, and then its line was reported. Where the line of a run that is done was lost, and only there, the answer is
 -- a fault at place 0, and that has its line put behind.
-pub record IsSimulated {D : Type 0} (register : D → Register) (tells : Bool) (contents : D → Contents) (job : Job) (old new : D) (result : Outcome) : Type 0 where
+pub record IsSimulated {tells : Bool} {D : Type 0} (told : D → Told tells) (job : Job) (old new : D) (result : Outcome) : Type 0 where
   -- the desk when the job had ended
   pub middle : D
   pub outcome : Outcome
-  pub ended : IsEnd tells job (register old) (contents old) (register middle) (contents middle) outcome
+  pub ended : IsEnd job (told old) (told middle) outcome
   -- a run that is done stays so where its whole line was put
-  pub done : OnDone outcome (ReportsDone register tells contents middle new outcome result)
+  pub done : OnDone outcome (ReportsDone (told middle) (told new) outcome result)
   -- every other outcome stays, whether its line was put or lost
   pub stopped : OnStopped outcome (result ≡ outcome)
-  pub stopped_line : OnStopped outcome (IsReported register tells contents middle new outcome)
+  pub stopped_line : OnStopped outcome (IsReported (told middle) (told new) outcome)

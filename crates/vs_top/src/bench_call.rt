@@ -32,8 +32,8 @@ pub fn bench<D: Desk, L: Ledger>(
 ) -> Outcome
     requires { IsBench sizes }
     ensures operations { (s : Summary) → result ≡ Done s → (steps.new ≡ steps.old + s.operations) × (s.operations ≤ s.size * s.settlings) }
-    ensures ended { IsBenched D.register D.tells D.contents sizes desk.old desk.new result }
-    ensures causes { ShowsCause (D.register desk.old) (D.register desk.new) result }
+    ensures ended { IsBenched sizes (D.told desk.old) (D.told desk.new) result }
+    ensures causes { ShowsCause (D.told desk.old) (D.told desk.new) result }
     ensures not_usage { result ≢ Refused (Bare Usage) }
 {
     match run_bench(alloc, sizes, steps) {

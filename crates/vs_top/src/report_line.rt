@@ -11,8 +11,8 @@ use vs_refusal::Ending;
 
 /// Puts an outcome's line at place 0.
 fn put_line<D: Desk>(desk: &mut D, outcome: &Outcome) -> Result<(), Failed>
-    ensures ok { OnOk result (PutsLine D.register D.tells D.contents desk.old desk.new (outcome_line outcome.now)) }
-    ensures err { OnErr result (LosesLine D.register D.tells D.contents desk.old desk.new (outcome_line outcome.now)) }
+    ensures ok { OnOk result (PutsLine (D.told desk.old) (D.told desk.new) (outcome_line outcome.now)) }
+    ensures err { OnErr result (LosesLine (D.told desk.old) (D.told desk.new) (outcome_line outcome.now)) }
 {
     match outcome {
         Outcome::Done(summary) => {
@@ -35,7 +35,7 @@ fn put_line<D: Desk>(desk: &mut D, outcome: &Outcome) -> Result<(), Failed>
 /// that one's line is put too.
 fn after_loss<D: Desk>(desk: &mut D, outcome: Outcome) -> Outcome
     ensures done { OnDone outcome (result ≡ WriteFault 0) }
-    ensures done_line { OnDone outcome (ReportsLine D.register D.tells D.contents desk.old desk.new (outcome_line (WriteFault 0))) }
+    ensures done_line { OnDone outcome (ReportsLine (D.told desk.old) (D.told desk.new) (outcome_line (WriteFault 0))) }
     ensures stopped { OnStopped outcome (result ≡ outcome) }
     ensures stopped_line { OnStopped outcome (desk.new ≡ desk.old) }
 {
@@ -54,9 +54,9 @@ fn after_loss<D: Desk>(desk: &mut D, outcome: Outcome) -> Outcome
 /// Where a run that is done has its line lost, the answer is a fault at place 0, and that has its own
 /// line put behind. Every other outcome stays as it is, whether its line was lost or not.
 pub fn report<D: Desk>(desk: &mut D, outcome: Outcome) -> Outcome
-    ensures done { OnDone outcome (ReportsDone D.register D.tells D.contents desk.old desk.new outcome result) }
+    ensures done { OnDone outcome (ReportsDone (D.told desk.old) (D.told desk.new) outcome result) }
     ensures stopped { OnStopped outcome (result ≡ outcome) }
-    ensures stopped_line { OnStopped outcome (ReportsLine D.register D.tells D.contents desk.old desk.new (outcome_line outcome)) }
+    ensures stopped_line { OnStopped outcome (ReportsLine (D.told desk.old) (D.told desk.new) (outcome_line outcome)) }
 {
     put_law();
     match put_line(desk, &outcome) {

@@ -40,14 +40,14 @@ pub fn simulate<D: Desk, L: Ledger>(
     steps: &mut Steps<L>,
 ) -> Outcome
     requires job { IsJob job.now }
-    requires unused { IsUnused (D.register desk.old) (length job.now.stimuli) }
+    requires unused { IsUnused (D.told desk.old).register (length job.now.stimuli) }
     ensures operations { (s : Summary) → result ≡ Done s → (steps.new ≡ steps.old + s.operations) × (s.operations ≤ s.size * s.settlings) }
-    ensures ended { IsSimulated D.register D.tells D.contents job.now desk.old desk.new result }
-    ensures causes { ShowsCause (D.register desk.old) (D.register desk.new) result }
-    ensures complete { IsTrue D.tells → IsLawful job.now (D.contents desk.old) → IsFaultless (D.register desk.old) (D.register desk.new) → IsDoneOrMemory result }
-    ensures refused { IsTrue D.tells → (q : Refusal) → IsRefusedJob job.now (D.contents desk.old) q → IsFaultless (D.register desk.old) (D.register desk.new) → IsRefusedSo q result }
+    ensures ended { IsSimulated D.told job.now desk.old desk.new result }
+    ensures causes { ShowsCause (D.told desk.old) (D.told desk.new) result }
+    ensures complete { IsTrue D.tells → IsLawful job.now (D.told desk.old).contents → IsFaultless (D.told desk.old) (D.told desk.new) → IsDoneOrMemory result }
+    ensures refused { IsTrue D.tells → (q : Refusal) → IsRefusedJob job.now (D.told desk.old).contents q → IsFaultless (D.told desk.old) (D.told desk.new) → IsRefusedSo q result }
     ensures not_usage { result ≢ Refused (Bare Usage) }
-    ensures written { IsTrue D.tells → (s : Summary) → result ≡ Done s → IsWritten job.now (D.contents desk.old) (D.contents desk.new) s }
+    ensures written { IsTrue D.tells → (s : Summary) → result ≡ Done s → IsWritten job.now (D.told desk.old).contents (D.told desk.new).contents s }
 {
     answer_law();
     match run_job(alloc, job, desk, steps) {
@@ -69,27 +69,27 @@ pub fn run<D: Desk, L: Ledger>(
     desk: &mut D,
     steps: &mut Steps<L>,
 ) -> Outcome
-    requires unused { IsUnused (D.register desk.old) most_lanes }
+    requires unused { IsUnused (D.told desk.old).register most_lanes }
 
     // The headline.
     ensures written { IsTrue D.tells → (j : Job) → job (map string_bytes words.now) ≡ Some j → (s : Summary) → result ≡ Done s
-        → IsWritten j (D.contents desk.old) (D.contents desk.new) s }
+        → IsWritten j (D.told desk.old).contents (D.told desk.new).contents s }
     ensures operations { (s : Summary) → result ≡ Done s → (steps.new ≡ steps.old + s.operations) × (s.operations ≤ s.size * s.settlings) }
 
     // Every answer has its cause.
     ensures usage { job (map string_bytes words.now) ≡ None → bench (map string_bytes words.now) ≡ None
-        → (result ≡ Refused (Bare Usage)) × IsReported D.register D.tells D.contents desk.old desk.new result }
+        → (result ≡ Refused (Bare Usage)) × IsReported (D.told desk.old) (D.told desk.new) result }
     ensures usage_only { result ≡ Refused (Bare Usage) → (job (map string_bytes words.now) ≡ None) × (bench (map string_bytes words.now) ≡ None) }
-    ensures causes { ShowsCause (D.register desk.old) (D.register desk.new) result }
+    ensures causes { ShowsCause (D.told desk.old) (D.told desk.new) result }
     ensures ended { (j : Job) → job (map string_bytes words.now) ≡ Some j
-        → IsSimulated D.register D.tells D.contents j desk.old desk.new result ⊎ ((result ≡ Memory) × IsReported D.register D.tells D.contents desk.old desk.new result) }
-    ensures benched { (b : Bench) → bench (map string_bytes words.now) ≡ Some b → IsBenched D.register D.tells D.contents b desk.old desk.new result }
+        → IsSimulated D.told j desk.old desk.new result ⊎ ((result ≡ Memory) × IsReported (D.told desk.old) (D.told desk.new) result) }
+    ensures benched { (b : Bench) → bench (map string_bytes words.now) ≡ Some b → IsBenched b (D.told desk.old) (D.told desk.new) result }
 
     // And where no call on the desk fails, nothing but want of memory keeps a refused job from its refusal, or a lawful job from its end.
-    ensures refused { IsTrue D.tells → (j : Job) → job (map string_bytes words.now) ≡ Some j → (q : Refusal) → IsRefusedJob j (D.contents desk.old) q
-        → IsFaultless (D.register desk.old) (D.register desk.new) → IsRefusedSo q result }
-    ensures complete { IsTrue D.tells → (j : Job) → job (map string_bytes words.now) ≡ Some j → IsLawful j (D.contents desk.old)
-        → IsFaultless (D.register desk.old) (D.register desk.new) → IsDoneOrMemory result }
+    ensures refused { IsTrue D.tells → (j : Job) → job (map string_bytes words.now) ≡ Some j → (q : Refusal) → IsRefusedJob j (D.told desk.old).contents q
+        → IsFaultless (D.told desk.old) (D.told desk.new) → IsRefusedSo q result }
+    ensures complete { IsTrue D.tells → (j : Job) → job (map string_bytes words.now) ≡ Some j → IsLawful j (D.told desk.old).contents
+        → IsFaultless (D.told desk.old) (D.told desk.new) → IsDoneOrMemory result }
 {
     apart_law();
     if let Some(sizes) = read_bench(words) {

@@ -31,10 +31,10 @@ pub(crate) fn run_job<D: Desk, L: Ledger>(
     steps: &mut Steps<L>,
 ) -> Result<Summary, Outcome>
     requires job { IsJob job.now }
-    requires unused { IsUnused (D.register desk.old) (length job.now.stimuli) }
-    ensures done { IfOk result (λ s. IsEnd D.tells job.now (D.register desk.old) (D.contents desk.old) (D.register desk.new) (D.contents desk.new) (Done s)) }
-    ensures stopped { IfErr result (IsEnd D.tells job.now (D.register desk.old) (D.contents desk.old) (D.register desk.new) (D.contents desk.new)) }
-    ensures written { IsTrue D.tells → IfOk result (IsWritten job.now (D.contents desk.old) (D.contents desk.new)) }
+    requires unused { IsUnused (D.told desk.old).register (length job.now.stimuli) }
+    ensures done { IfOk result (λ s. IsEnd job.now (D.told desk.old) (D.told desk.new) (Done s)) }
+    ensures stopped { IfErr result (IsEnd job.now (D.told desk.old) (D.told desk.new)) }
+    ensures written { IsTrue D.tells → IfOk result (IsWritten job.now (D.told desk.old).contents (D.told desk.new).contents) }
     ensures not_done { IfErr result IsStopped }
     ensures counted { IfOk result (λ s. steps.new ≡ steps.old + s.operations) }
     ensures within { IfOk result (λ s. s.operations ≤ s.size * s.settlings) }
@@ -57,12 +57,12 @@ fn run_lanes<W: Lanes, D: Desk, L: Ledger>(
     steps: &mut Steps<L>,
 ) -> Result<Summary, Outcome>
     requires job { IsJob job.now }
-    requires unused { IsUnused (D.register desk.old) (length job.now.stimuli) }
+    requires unused { IsUnused (D.told desk.old).register (length job.now.stimuli) }
     requires width { W.LANES ≤ most_lanes }
     requires lanes { length job.now.stimuli ≤ W.LANES }
-    ensures done { IfOk result (λ s. IsEnd D.tells job.now (D.register desk.old) (D.contents desk.old) (D.register desk.new) (D.contents desk.new) (Done s)) }
-    ensures stopped { IfErr result (IsEnd D.tells job.now (D.register desk.old) (D.contents desk.old) (D.register desk.new) (D.contents desk.new)) }
-    ensures written { IsTrue D.tells → IfOk result (IsWritten job.now (D.contents desk.old) (D.contents desk.new)) }
+    ensures done { IfOk result (λ s. IsEnd job.now (D.told desk.old) (D.told desk.new) (Done s)) }
+    ensures stopped { IfErr result (IsEnd job.now (D.told desk.old) (D.told desk.new)) }
+    ensures written { IsTrue D.tells → IfOk result (IsWritten job.now (D.told desk.old).contents (D.told desk.new).contents) }
     ensures not_done { IfErr result IsStopped }
     ensures counted { IfOk result (λ s. steps.new ≡ steps.old + s.operations) }
     ensures within { IfOk result (λ s. s.operations ≤ s.size * s.settlings) }

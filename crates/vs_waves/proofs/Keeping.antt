@@ -1,6 +1,6 @@
 -- How the waves of all lanes are kept, and what a round makes of them.
 use Rattle.std.proofs.Common.{◌≡◌, ℕ, zero, suc, ◌+◌, ◌*◌, ◌^◌, ◌<◌, ◌==◌, ◌&&◌, Bool, true, false, List, [], ◌∷◌, ◌++◌, length, refl, sym, ap, ap₂, ◌∙◌, subst, arith}
-use Rattle.std.specs.Prelude.{slice_get, Some, All, map, if◌then◌else◌}
+use Rattle.std.specs.Prelude.{not, filter, slice_get, Some, All, map, if◌then◌else◌}
 use Rattle.std.proofs.Math.Nat.{add-mul, mul_assoc}
 use Rattle.std.proofs.lemmas.List.{length-map}
 use Rattle.std.proofs.lemmas.Option.{slice_get_within, get_or_from_slice_get}
@@ -9,11 +9,16 @@ use Rattle.std.proofs.Math.ListN.{replicate}
 use Rattle.std.proofs.lemmas.List.Elements.{All-replicate, All-from_get_or}
 use Rattle.vs_four.specs.Logic.{BitList}
 use Rattle.vs_net.specs.Network.{State}
-use Rattle.vs_design.specs.Expressions.{signal_length}
+use Rattle.vs_design.specs.Expressions.{Signal, signal_length}
 use Rattle.vs_design.specs.Values.{count_from}
 use Rattle.vs_design.specs.Designs.{Design}
-use Rattle.vs_vcd.specs.Scopes.{head_text}
-use Rattle.vs_vcd.specs.Texts.{time_line, first_text, slot_text}
+use Rattle.vs_design.specs.Footprints.{is_memory}
+use Rattle.vs_flat.specs.Arena.{Arena}
+use Rattle.vs_flat.specs.DesignOf.{design_of}
+use Rattle.vs_flat.specs.Trees.{signal_of, signals_from}
+use Rattle.vs_flat.specs.declared.processes.Signal as F
+use Rattle.vs_vcd.specs.Scopes.{shown_signals, head_text}
+use Rattle.vs_vcd.specs.Texts.{shown_numbers, time_line, first_text, slot_text}
 use Rattle.vs_program.specs.declared.compiled.Span.{Span}
 use Rattle.vs_program.specs.Compiled.{span_bits}
 use Rattle.vs_plane.specs.Lanes.{slot_lane}
@@ -166,11 +171,11 @@ put_follows lane lanes engine round w live waves none e flags test is ready =
 
 -- ---- what a round makes of a lane
 
-abbrev wave_with : List ℕ → ℕ → List BitList → List ℕ → Bool → Wave
-wave_with head half last left is_open = record { dump = record { head = head; half = half; last = last; left = left }; is_open = is_open }
+abbrev wave_with : List ℕ → ℕ → ℕ → List BitList → List ℕ → Bool → Wave
+wave_with head count half last left is_open = record { dump = record { head = head; numbers = count_from 0 count; half = half; last = last; left = left }; is_open = is_open }
 
-same_wave : (h head : List ℕ) (k half : ℕ) (v last : List BitList) (t left : List ℕ) (is_open : Bool) → h ≡ head → k ≡ half → v ≡ last → t ≡ left → wave_with h k v t is_open ≡ wave_with head half last left is_open
-same_wave h head k half v last t left is_open p q r s = cc
+same_wave : (h head : List ℕ) (m count k half : ℕ) (v last : List BitList) (t left : List ℕ) (is_open : Bool) → h ≡ head → m ≡ count → k ≡ half → v ≡ last → t ≡ left → wave_with h m k v t is_open ≡ wave_with head count half last left is_open
+same_wave h head m count k half v last t left is_open p n q r s = cc
 
 -- how a lane stands once its fall was noted, or not
 abbrev pub noted : Bool → LaneWave → LaneWave
@@ -184,6 +189,7 @@ closed live l = record { is_open = live && l.is_open; is_noted = false }
 pub record HasFallen {W : Type 0} (lane : W → ℕ → Bool) (lanes : ℕ) (engine : Running W) (round : ℕ) (w v : Inside W) : Type 0 where
   pub half : v.half ≡ w.half
   pub head : v.round.head.items ≡ w.round.head.items
+  pub spans : v.last.spans ≡ w.last.spans
   pub values : (i : ℕ) → i < lanes → last_values lane v.last i ≡ lane_values lane engine i
   pub text : (i : ℕ) (l : LaneWave) → i < lanes
       → (if v.round.fall.is_first then v.round.head.items else []) ++ slot_lines lane lanes v.round.fall i ≡ fall_text round (lane_values lane engine i) (wave_of lane lanes w i l).dump
@@ -191,35 +197,36 @@ pub record HasFallen {W : Type 0} (lane : W → ℕ → Bool) (lanes : ℕ) (eng
 pub fallen_wave : {W : Type 0} (lane : W → ℕ → Bool) (lanes : ℕ) (engine : Running W) (round : ℕ) (w v : Inside W) → HasFallen lane lanes engine round w v
     → (i : ℕ) (b : Bool) (l : LaneWave) → i < lanes → wave_of lane lanes v i (noted b l) ≡ begun round b (lane_values lane engine i) (wave_of lane lanes w i l)
 fallen_wave lane lanes engine round w v fallen i true l h =
-    same_wave v.round.head.items w.round.head.items v.half w.half (last_values lane v.last i) (lane_values lane engine i)
+    same_wave v.round.head.items w.round.head.items (length v.last.spans) (length w.last.spans) v.half w.half (last_values lane v.last i) (lane_values lane engine i)
     ((if v.round.fall.is_first then v.round.head.items else []) ++ slot_lines lane lanes v.round.fall i)
     (fall_text round (lane_values lane engine i) (wave_of lane lanes w i l).dump)
-    l.is_open fallen.head fallen.half (fallen.values i h) (fallen.text i l h)
+    l.is_open fallen.head (ap length fallen.spans) fallen.half (fallen.values i h) (fallen.text i l h)
 fallen_wave lane lanes engine round w v fallen i false l h =
-    same_wave v.round.head.items w.round.head.items v.half w.half (last_values lane v.last i) (lane_values lane engine i) [] [] l.is_open fallen.head fallen.half (fallen.values i h) refl
+    same_wave v.round.head.items w.round.head.items (length v.last.spans) (length w.last.spans) v.half w.half (last_values lane v.last i) (lane_values lane engine i) [] [] l.is_open fallen.head (ap length fallen.spans) fallen.half (fallen.values i h) refl
 
 -- the text of the fall, in round 0 and later
-pub first_fall : (round : ℕ) (is_first : Bool) (head lines : List ℕ) (now last : List BitList) (half : ℕ) → round ≡ 0 → is_first ≡ true → lines ≡ first_text now
-    → (if is_first then head else []) ++ lines ≡ (if round == 0 then head ++ first_text now else slot_text (fall_time round half) last now)
-first_fall round is_first head lines now last half zeroth first text =
+pub first_fall : (round : ℕ) (is_first : Bool) (head numbers lines : List ℕ) (now last : List BitList) (half : ℕ) → round ≡ 0 → is_first ≡ true → lines ≡ first_text numbers now
+    → (if is_first then head else []) ++ lines ≡ (if round == 0 then head ++ first_text numbers now else slot_text numbers (fall_time round half) last now)
+first_fall round is_first head numbers lines now last half zeroth first text =
     ap₂ (λ (b : Bool) (t : List ℕ). (if b then head else []) ++ t) first text
-    ∙ ap (λ (k : ℕ). if k == 0 then head ++ first_text now else slot_text (fall_time k half) last now) (sym zeroth)
+    ∙ ap (λ (k : ℕ). if k == 0 then head ++ first_text numbers now else slot_text numbers (fall_time k half) last now) (sym zeroth)
 
-pub later_fall : (round : ℕ) (is_first : Bool) (head lines : List ℕ) (now last : List BitList) (half time : ℕ) → (round ≡ 0 → ⊥) → is_first ≡ false → time ≡ fall_time round half
-    → lines ≡ slot_text time last now
-    → (if is_first then head else []) ++ lines ≡ (if round == 0 then head ++ first_text now else slot_text (fall_time round half) last now)
-later_fall round is_first head lines now last half time not_zero first time_is text =
-    let later : List ℕ = slot_text (fall_time round half) last now in
-    let of : Bool → List ℕ = λ (b : Bool). if b then head ++ first_text now else later in
-    ap₂ (λ (b : Bool) (t : List ℕ). (if b then head else []) ++ t) first text ∙ ap (λ (k : ℕ). slot_text k last now) time_is ∙ sym (ap of (ne_eqb round 0 not_zero))
+pub later_fall : (round : ℕ) (is_first : Bool) (head numbers lines : List ℕ) (now last : List BitList) (half time : ℕ) → (round ≡ 0 → ⊥) → is_first ≡ false → time ≡ fall_time round half
+    → lines ≡ slot_text numbers time last now
+    → (if is_first then head else []) ++ lines ≡ (if round == 0 then head ++ first_text numbers now else slot_text numbers (fall_time round half) last now)
+later_fall round is_first head numbers lines now last half time not_zero first time_is text =
+    let later : List ℕ = slot_text numbers (fall_time round half) last now in
+    let of : Bool → List ℕ = λ (b : Bool). if b then head ++ first_text numbers now else later in
+    ap₂ (λ (b : Bool) (t : List ℕ). (if b then head else []) ++ t) first text ∙ ap (λ (k : ℕ). slot_text numbers k last now) time_is ∙ sym (ap of (ne_eqb round 0 not_zero))
 
 -- the round's rise has the engine's values and its text, and the fall is as it was
 pub record HasRisen {W : Type 0} (lane : W → ℕ → Bool) (lanes : ℕ) (engine : Running W) (round : ℕ) (w v : Inside W) : Type 0 where
   pub half : v.half ≡ w.half
   pub head : v.round.head.items ≡ w.round.head.items
   pub fall : v.round.fall ≡ w.round.fall
+  pub spans : v.last.spans ≡ w.last.spans
   pub values : (i : ℕ) → i < lanes → last_values lane v.last i ≡ lane_values lane engine i
-  pub text : (i : ℕ) → i < lanes → slot_lines lane lanes v.round.rise i ≡ slot_text (rise_time round w.half) (last_values lane w.last i) (lane_values lane engine i)
+  pub text : (i : ℕ) → i < lanes → slot_lines lane lanes v.round.rise i ≡ slot_text (count_from 0 (length w.last.spans)) (rise_time round w.half) (last_values lane w.last i) (lane_values lane engine i)
 
 -- what is put of a lane
 pub risen_text : {W : Type 0} (lane : W → ℕ → Bool) (lanes : ℕ) (engine : Running W) (round time : ℕ) (w v : Inside W) → HasRisen lane lanes engine round w v → time ≡ fall_time round w.half
@@ -236,22 +243,23 @@ risen_text lane lanes engine round time w v risen time_is i false l h = ended l.
 pub risen_wave : {W : Type 0} (lane : W → ℕ → Bool) (lanes : ℕ) (engine : Running W) (round : ℕ) (w v : Inside W) → HasRisen lane lanes engine round w v
     → (i : ℕ) (b : Bool) (l : LaneWave) → i < lanes → wave_of lane lanes v i (closed b l) ≡ after_put b (lane_values lane engine i) (wave_of lane lanes w i l)
 risen_wave lane lanes engine round w v risen i true l h =
-    same_wave v.round.head.items w.round.head.items v.half w.half (last_values lane v.last i) (lane_values lane engine i) [] [] l.is_open risen.head risen.half (risen.values i h) refl
+    same_wave v.round.head.items w.round.head.items (length v.last.spans) (length w.last.spans) v.half w.half (last_values lane v.last i) (lane_values lane engine i) [] [] l.is_open risen.head (ap length risen.spans) risen.half (risen.values i h) refl
 risen_wave lane lanes engine round w v risen i false l h =
-    same_wave v.round.head.items w.round.head.items v.half w.half (last_values lane v.last i) (lane_values lane engine i) [] [] false risen.head risen.half (risen.values i h) refl
+    same_wave v.round.head.items w.round.head.items (length v.last.spans) (length w.last.spans) v.half w.half (last_values lane v.last i) (lane_values lane engine i) [] [] false risen.head (ap length risen.spans) risen.half (risen.values i h) refl
 
 -- A round has risen where its slot is this one, which has the text, and the planes have the engine's values.
 pub has_risen : {W : Type 0} (lane : W → ℕ → Bool) (lanes : ℕ) (engine : Running W) (round time : ℕ) (w v : Inside W) (last : LastPlanes W) (rise : Slot W)
     → v.half ≡ w.half → v.last ≡ last → v.round ≡ record w.round { rise = rise } → time ≡ rise_time round w.half
-    → ((i : ℕ) → i < lanes → last_values lane last i ≡ lane_values lane engine i)
-    → ((i : ℕ) → i < lanes → slot_lines lane lanes rise i ≡ slot_text time (last_values lane w.last i) (lane_values lane engine i))
+    → last.spans ≡ w.last.spans → ((i : ℕ) → i < lanes → last_values lane last i ≡ lane_values lane engine i)
+    → ((i : ℕ) → i < lanes → slot_lines lane lanes rise i ≡ slot_text (count_from 0 (length w.last.spans)) time (last_values lane w.last i) (lane_values lane engine i))
     → HasRisen lane lanes engine round w v
-has_risen lane lanes engine round time w v last rise half last_is round_is time_is values text = record {
+has_risen lane lanes engine round time w v last rise half last_is round_is time_is spans values text = record {
   half = half;
   head = ap (λ (r : Round _). r.head.items) round_is;
   fall = ap (λ (r : Round _). r.fall) round_is;
+  spans = ap (λ (l : LastPlanes _). l.spans) last_is ∙ spans;
   values = λ i h. ap (λ (l : LastPlanes _). last_values lane l i) last_is ∙ values i h;
-  text = λ i h. ap (λ (r : Round _). slot_lines lane lanes r.rise i) round_is ∙ text i h ∙ ap (λ (k : ℕ). slot_text k (last_values lane w.last i) (lane_values lane engine i)) time_is;
+  text = λ i h. ap (λ (r : Round _). slot_lines lane lanes r.rise i) round_is ∙ text i h ∙ ap (λ (k : ℕ). slot_text (count_from 0 (length w.last.spans)) k (last_values lane w.last i) (lane_values lane engine i)) time_is;
 }
 
 -- and is kept
@@ -266,25 +274,41 @@ kept_risen lanes w v last rise kept count last_is round_is spans slot block =
 
 -- ---- new waves
 
+-- a flat design has no memory
+pub all_shown : (a : Arena) → shown_signals (design_of a) ≡ (design_of a).signals
+all_shown a = from 0 a.signals
+  where
+    from : (k : ℕ) (signals : List F.Signal) → filter (λ s. not (is_memory s)) (signals_from k signals) ≡ signals_from k signals
+    from k [] = refl
+    from k (s ∷ signals) = ap (λ (xs : List Signal). signal_of k s ∷ xs) (from (suc k) signals)
+
+pub all_numbers : (a : Arena) (n : ℕ) → n ≡ length (design_of a).signals → count_from 0 n ≡ shown_numbers (design_of a)
+all_numbers a n e = ap (count_from 0) e ∙ from 0 a.signals ∙ ap (map (λ (s : Signal). s.number)) (sym (all_shown a))
+  where
+    from : (k : ℕ) (signals : List F.Signal) → count_from k (length (signals_from k signals)) ≡ map (λ (s : Signal). s.number) (signals_from k signals)
+    from k [] = refl
+    from k (s ∷ signals) = ap (λ (ns : List ℕ). k ∷ ns) (from (suc k) signals)
+
 -- how each lane stands at first
 abbrev pub unopened : LaneWave
 unopened = record { is_open = true; is_noted = false }
 
 pub new_waves : {W : Type 0} (lane : W → ℕ → Bool) (lanes : ℕ) (d : Design) (w : Inside W) (count : ℕ) → w.lanes.items ≡ replicate count unopened → w.round.head.items ≡ head_text d
-    → map (λ (s : Span). s.length) w.last.spans ≡ map signal_length d.signals → All (IsNewWave d w.half) (waves_of lane lanes w)
-new_waves lane lanes d w count same head lengths = All-from_get_or (IsNewWave d w.half) (waves_of lane lanes w) none (λ i h.
+    → map (λ (s : Span). s.length) w.last.spans ≡ map signal_length (shown_signals d) → count_from 0 (length w.last.spans) ≡ shown_numbers d → All (IsNewWave d w.half) (waves_of lane lanes w)
+new_waves lane lanes d w count same head lengths numbers = All-from_get_or (IsNewWave d w.half) (waves_of lane lanes w) none (λ i h.
     let found = element w.lanes.items i (omega (arith, length-waves_of lane lanes w)) in
     let stands : found.0 ≡ unopened = All-at (λ (l : LaneWave). l ≡ unopened) w.lanes.items i found.0 found.1 each in
     let here = get_or_from_slice_get (waves_of lane lanes w) i (wave_of lane lanes w i found.0) none (wave_at lane lanes w i found.0 found.1) in
     subst (IsNewWave d w.half) (sym (here ∙ ap (wave_of lane lanes w i) stands)) record {
       opened = refl;
       head_is = head;
+      numbers_are = numbers;
       half_is = refl;
       lengths = lengths-values_in (λ b. slot_lane lane w.last.planes b i) w.last.spans ∙ lengths;
       left_is = refl;
     }) where
       none : Wave
-      none = wave_with [] 0 [] [] true
+      none = wave_with [] 0 0 [] [] true
 
       each : All (λ (l : LaneWave). l ≡ unopened) w.lanes.items
       each = subst (All (λ (l : LaneWave). l ≡ unopened)) (sym same) (All-replicate (λ (l : LaneWave). l ≡ unopened) count unopened refl)

@@ -7,8 +7,8 @@ ghost use Rattle.vs_engine.specs.Lanes.{differ_below, state};
 ghost use Rattle.vs_flat.specs.DesignOf.{design_of};
 ghost use Rattle.vs_plane.specs.Lanes.{slot_lane};
 ghost use Rattle.vs_program.specs.declared.compiled.Span.{Span};
-ghost use Rattle.vs_vcd.specs.Texts.{changed_from, value_lines};
-ghost use Rattle.vs_waves.specs.Changes.{changes_text, AreOf};
+ghost use Rattle.vs_vcd.specs.Texts.{changed_from};
+ghost use Rattle.vs_waves.specs.Changes.{changes_text, place_lines, AreOf};
 ghost use Rattle.vs_waves.specs.Last.{last_values};
 ghost use Rattle.vs_waves.specs.Rounds.{lane_values};
 
@@ -63,7 +63,7 @@ impl<W: Lanes> Last<W> {
         requires room { AreOf W.LANES (length self.old.spans) changes.old }
         ensures spans { self.new.spans ≡ self.old.spans }
         ensures values { (i : ℕ) → i < W.LANES → last_values W.lane self.new i ≡ lane_values W.lane engine.now i }
-        ensures text { (i : ℕ) → i < W.LANES → changes_text W.lane W.LANES changes.new i ≡ value_lines (lane_values W.lane engine.now i)
+        ensures text { (i : ℕ) → i < W.LANES → changes_text W.lane W.LANES changes.new i ≡ place_lines (lane_values W.lane engine.now i)
             (if all then count_from 0 (length self.old.spans) else changed_from 0 (last_values W.lane self.old i) (lane_values W.lane engine.now i)) }
         ensures room { AreOf W.LANES (length self.old.spans) changes.new }
     {

@@ -2,7 +2,7 @@
 
 ghost use Rattle.std.specs.Prelude.{◌≡◌, ◌+◌, ◌<◌, ◌≤◌, ◌++◌, length, take, IsTrue, IfOk, OnOk, OnErr};
 ghost use Rattle.vs_desk.specs.Desk.{Fails, IsWritable, PutsPart};
-ghost use Rattle.vs_waves.specs.Puts.{PutsFront};
+ghost use Rattle.vs_waves.specs.Puts.{Moves, PutsFront};
 
 use vs_desk::{Desk, Failed, put_all, put_law};
 use vs_vcd::LINE_ROOM;
@@ -16,17 +16,17 @@ pub(crate) fn make_room<D: Desk>(
     desk: &mut D,
     place: u32,
 ) -> Result<usize, Failed>
-    requires writable { IsWritable (D.register desk.old) place }
+    requires writable { IsWritable (D.told desk.old).register place }
     requires block { LINE_ROOM ≤ length block.now }
     requires filled { filled ≤ length block.now }
     ensures room { IfOk result (λ n. n + LINE_ROOM ≤ length block.now) }
-    ensures same { OnOk result (D.register desk.new ≡ D.register desk.old) }
-    ensures bytes { IsTrue D.tells → IfOk result (λ n. PutsFront (D.register desk.old) (D.contents desk.old) (D.contents desk.new)
+    ensures same { OnOk result ((D.told desk.new).register ≡ (D.told desk.old).register) }
+    ensures bytes { IsTrue D.tells → IfOk result (λ n. PutsFront (D.told desk.old).register (D.told desk.old).contents (D.told desk.new).contents
         place (take filled block.now) (take n block.now)) }
     ensures failed { OnErr result
-        (Fails (D.register desk.old) (D.register desk.new) place (D.register desk.old).asked) }
-    ensures bytes_part { IsTrue D.tells → OnErr result (PutsPart (D.register desk.old)
-        (D.contents desk.old) (D.contents desk.new) place (take filled block.now)) }
+        (Fails (D.told desk.old).register (D.told desk.new).register place (D.told desk.old).register.asked) }
+    ensures bytes_part { IsTrue D.tells → OnErr result (PutsPart (D.told desk.old).register
+        (D.told desk.old).contents (D.told desk.new).contents place (take filled block.now)) }
 {
     put_law();
     if block.len() - filled < LINE_ROOM {
@@ -46,18 +46,13 @@ pub(crate) fn put_text<D: Desk>(
     desk: &mut D,
     place: u32,
 ) -> Result<usize, Failed>
-    requires writable { IsWritable (D.register desk.old) place }
+    requires writable { IsWritable (D.told desk.old).register place }
     requires block { 0 < length block.old }
     requires filled { filled ≤ length block.old }
     ensures filled { IfOk result (λ n. n ≤ length block.new) }
     ensures long { length block.new ≡ length block.old }
-    ensures same { OnOk result (D.register desk.new ≡ D.register desk.old) }
-    ensures bytes { IsTrue D.tells → IfOk result (λ n. PutsFront (D.register desk.old) (D.contents desk.old) (D.contents desk.new)
-        place (take filled block.old ++ text.now) (take n block.new)) }
-    ensures failed { OnErr result
-        (Fails (D.register desk.old) (D.register desk.new) place (D.register desk.old).asked) }
-    ensures bytes_part { IsTrue D.tells → OnErr result (PutsPart (D.register desk.old)
-        (D.contents desk.old) (D.contents desk.new) place (take filled block.old ++ text.now)) }
+    ensures moved { Moves (D.told desk.old) (D.told desk.new) place (take filled block.old ++ text.now)
+        (λ n. take n block.new) result }
 {
     put_law();
     let mut filled = filled;

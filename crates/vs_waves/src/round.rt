@@ -1,10 +1,10 @@
 //! The text that a round gives, lane by lane.
 
-ghost use Rattle.std.specs.Prelude.{◌≡◌, ◌<◌, ◌≤◌, [], if◌then◌else◌, length, take, IsTrue, IfOk, OnOk, OnErr};
-ghost use Rattle.vs_desk.specs.Desk.{Fails, IsWritable, PutsPart, with_put};
+ghost use Rattle.std.specs.Prelude.{◌≡◌, ◌<◌, ◌≤◌, [], if◌then◌else◌, length, take, IfOk};
+ghost use Rattle.vs_desk.specs.Desk.{IsWritable, PutsAll};
 ghost use Rattle.vs_flat.specs.DesignOf.{design_of};
 ghost use Rattle.vs_vcd.specs.Scopes.{head_text};
-ghost use Rattle.vs_waves.specs.Puts.{PutsFront};
+ghost use Rattle.vs_waves.specs.Puts.{Moves};
 ghost use Rattle.vs_waves.specs.Slots.{IsRound, lane_text, noted_text};
 
 use crate::putting::put_text;
@@ -65,16 +65,10 @@ impl<W: Lanes> Round<W> {
     ) -> Result<(), Failed>
         requires round { IsRound W.LANES self.now }
         requires lane { lane < W.LANES }
-        requires writable { IsWritable (D.register desk.old) place }
+        requires writable { IsWritable (D.told desk.old).register place }
         requires block { LINE_ROOM ≤ length block.old }
         ensures long { length block.new ≡ length block.old }
-        ensures same { OnOk result (D.register desk.new ≡ D.register desk.old) }
-        ensures bytes { IsTrue D.tells → OnOk result (D.contents desk.new
-            ≡ with_put (D.register desk.old) (D.contents desk.old) place (lane_text W.lane W.LANES self.now live time wave lane)) }
-        ensures failed { OnErr result
-            (Fails (D.register desk.old) (D.register desk.new) place (D.register desk.old).asked) }
-        ensures bytes_part { IsTrue D.tells → OnErr result (PutsPart (D.register desk.old)
-            (D.contents desk.old) (D.contents desk.new) place (lane_text W.lane W.LANES self.now live time wave lane)) }
+        ensures puts { PutsAll (D.told desk.old) (D.told desk.new) place (lane_text W.lane W.LANES self.now live time wave lane) result }
     {
         put_law();
         if live {
@@ -101,17 +95,12 @@ impl<W: Lanes> Round<W> {
     ) -> Result<usize, Failed>
         requires round { IsRound W.LANES self.now }
         requires lane { lane < W.LANES }
-        requires writable { IsWritable (D.register desk.old) place }
+        requires writable { IsWritable (D.told desk.old).register place }
         requires block { LINE_ROOM ≤ length block.old }
         ensures filled { IfOk result (λ n. n ≤ length block.new) }
         ensures long { length block.new ≡ length block.old }
-        ensures same { OnOk result (D.register desk.new ≡ D.register desk.old) }
-        ensures bytes { IsTrue D.tells → IfOk result (λ n. PutsFront (D.register desk.old) (D.contents desk.old) (D.contents desk.new)
-            place (noted_text W.lane W.LANES self.now wave lane) (take n block.new)) }
-        ensures failed { OnErr result
-            (Fails (D.register desk.old) (D.register desk.new) place (D.register desk.old).asked) }
-        ensures bytes_part { IsTrue D.tells → OnErr result (PutsPart (D.register desk.old)
-            (D.contents desk.old) (D.contents desk.new) place (noted_text W.lane W.LANES self.now wave lane)) }
+        ensures moved { Moves (D.told desk.old) (D.told desk.new) place (noted_text W.lane W.LANES self.now wave lane)
+            (λ n. take n block.new) result }
     {
         put_law();
         if !wave.is_noted {

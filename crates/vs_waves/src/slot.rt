@@ -2,11 +2,12 @@
 
 ghost use Rattle.std.specs.Prelude.{◌≡◌, ℕ, ◌<◌, ◌≤◌, ◌++◌, length, map, take, false, IsTrue, IfOk, OnOk, OnErr};
 ghost use Rattle.vs_desk.specs.Desk.{Fails, IsWritable, PutsPart};
+ghost use Rattle.vs_design.specs.Values.{count_from};
 ghost use Rattle.vs_program.specs.declared.compiled.Span.{Span};
 ghost use Rattle.vs_vcd.specs.Texts.{first_text, slot_text};
 ghost use Rattle.vs_waves.specs.Changes.{AreOf, changes_text, line_at};
 ghost use Rattle.vs_waves.specs.Last.{last_values};
-ghost use Rattle.vs_waves.specs.Puts.{PutsFront};
+ghost use Rattle.vs_waves.specs.Puts.{Moves, PutsFront};
 ghost use Rattle.vs_waves.specs.Rounds.{lane_values};
 ghost use Rattle.vs_waves.specs.Slots.{AreTails, IsSlot, closing, slot_lines};
 
@@ -52,7 +53,7 @@ impl<W: Lanes> Slot<W> {
     pub(crate) fn begin(&mut self, engine: &Engine<W>, last: &mut Last<W>)
         requires lengths { map (λ (s : Span). s.length) engine.now.program.signals ≡ map (λ (s : Span). s.length) last.old.spans }
         requires slot { IsSlot W.LANES (length last.old.spans) self.old }
-        ensures text { (i : ℕ) → i < W.LANES → slot_lines W.lane W.LANES self.new i ≡ first_text (lane_values W.lane engine.now i) }
+        ensures text { (i : ℕ) → i < W.LANES → slot_lines W.lane W.LANES self.new i ≡ first_text (count_from 0 (length last.old.spans)) (lane_values W.lane engine.now i) }
         ensures first { IsTrue self.new.is_first }
         ensures spans { last.new.spans ≡ last.old.spans }
         ensures values { (i : ℕ) → i < W.LANES → last_values W.lane last.new i ≡ lane_values W.lane engine.now i }
@@ -70,7 +71,7 @@ impl<W: Lanes> Slot<W> {
     pub(crate) fn go_on(&mut self, time: u64, engine: &Engine<W>, last: &mut Last<W>)
         requires lengths { map (λ (s : Span). s.length) engine.now.program.signals ≡ map (λ (s : Span). s.length) last.old.spans }
         requires slot { IsSlot W.LANES (length last.old.spans) self.old }
-        ensures text { (i : ℕ) → i < W.LANES → slot_lines W.lane W.LANES self.new i ≡ slot_text time (last_values W.lane last.old i) (lane_values W.lane engine.now i) }
+        ensures text { (i : ℕ) → i < W.LANES → slot_lines W.lane W.LANES self.new i ≡ slot_text (count_from 0 (length last.old.spans)) time (last_values W.lane last.old i) (lane_values W.lane engine.now i) }
         ensures first { self.new.is_first ≡ false }
         ensures spans { last.new.spans ≡ last.old.spans }
         ensures values { (i : ℕ) → i < W.LANES → last_values W.lane last.new i ≡ lane_values W.lane engine.now i }
@@ -95,18 +96,13 @@ impl<W: Lanes> Slot<W> {
         requires lane { lane < W.LANES }
         requires tails { AreTails tails.now }
         requires slot { IsSlot W.LANES (length tails.now) self.now }
-        requires writable { IsWritable (D.register desk.old) place }
+        requires writable { IsWritable (D.told desk.old).register place }
         requires block { LINE_ROOM ≤ length block.old }
         requires filled { filled ≤ length block.old }
         ensures filled { IfOk result (λ n. n ≤ length block.new) }
         ensures long { length block.new ≡ length block.old }
-        ensures same { OnOk result (D.register desk.new ≡ D.register desk.old) }
-        ensures bytes { IsTrue D.tells → IfOk result (λ n. PutsFront (D.register desk.old) (D.contents desk.old) (D.contents desk.new)
-            place (take filled block.old ++ slot_lines W.lane W.LANES self.now lane) (take n block.new)) }
-        ensures failed { OnErr result
-            (Fails (D.register desk.old) (D.register desk.new) place (D.register desk.old).asked) }
-        ensures bytes_part { IsTrue D.tells → OnErr result (PutsPart (D.register desk.old)
-            (D.contents desk.old) (D.contents desk.new) place (take filled block.old ++ slot_lines W.lane W.LANES self.now lane)) }
+        ensures moved { Moves (D.told desk.old) (D.told desk.new) place (take filled block.old ++ slot_lines W.lane W.LANES self.now lane)
+            (λ n. take n block.new) result }
     {
         put_law();
         let opening = &self.opening;
@@ -138,18 +134,13 @@ fn put_changes<W: Lanes, D: Desk>(
     requires lane { lane < W.LANES }
     requires tails { AreTails tails.now }
     requires changes { AreOf W.LANES (length tails.now) changes.now }
-    requires writable { IsWritable (D.register desk.old) place }
+    requires writable { IsWritable (D.told desk.old).register place }
     requires block { LINE_ROOM ≤ length block.old }
     requires filled { filled ≤ length block.old }
     ensures filled { IfOk result (λ n. n ≤ length block.new) }
     ensures long { length block.new ≡ length block.old }
-    ensures same { OnOk result (D.register desk.new ≡ D.register desk.old) }
-    ensures bytes { IsTrue D.tells → IfOk result (λ n. PutsFront (D.register desk.old) (D.contents desk.old) (D.contents desk.new)
-        place (take filled block.old ++ changes_text W.lane W.LANES changes.now lane) (take n block.new)) }
-    ensures failed { OnErr result
-        (Fails (D.register desk.old) (D.register desk.new) place (D.register desk.old).asked) }
-    ensures bytes_part { IsTrue D.tells → OnErr result (PutsPart (D.register desk.old)
-        (D.contents desk.old) (D.contents desk.new) place (take filled block.old ++ changes_text W.lane W.LANES changes.now lane)) }
+    ensures moved { Moves (D.told desk.old) (D.told desk.new) place (take filled block.old ++ changes_text W.lane W.LANES changes.now lane)
+        (λ n. take n block.new) result }
 {
     put_law();
     let mut filled = filled;
@@ -176,18 +167,18 @@ fn put_change<W: Lanes, D: Desk>(
     requires lane { lane < W.LANES }
     requires tails { AreTails tails.now }
     requires changes { AreOf W.LANES (length tails.now) changes.now }
-    requires writable { IsWritable (D.register desk.old) place }
+    requires writable { IsWritable (D.told desk.old).register place }
     requires block { LINE_ROOM ≤ length block.old }
     requires filled { filled ≤ length block.old }
     ensures filled { IfOk result (λ n. n ≤ length block.new) }
     ensures long { length block.new ≡ length block.old }
-    ensures same { OnOk result (D.register desk.new ≡ D.register desk.old) }
-    ensures bytes { IsTrue D.tells → IfOk result (λ end. PutsFront (D.register desk.old) (D.contents desk.old) (D.contents desk.new)
+    ensures same { OnOk result ((D.told desk.new).register ≡ (D.told desk.old).register) }
+    ensures bytes { IsTrue D.tells → IfOk result (λ end. PutsFront (D.told desk.old).register (D.told desk.old).contents (D.told desk.new).contents
         place (take filled block.old ++ line_at W.lane W.LANES changes.now lane n) (take end block.new)) }
     ensures failed { OnErr result
-        (Fails (D.register desk.old) (D.register desk.new) place (D.register desk.old).asked) }
-    ensures bytes_part { IsTrue D.tells → OnErr result (PutsPart (D.register desk.old)
-        (D.contents desk.old) (D.contents desk.new) place (take filled block.old)) }
+        (Fails (D.told desk.old).register (D.told desk.new).register place (D.told desk.old).register.asked) }
+    ensures bytes_part { IsTrue D.tells → OnErr result (PutsPart (D.told desk.old).register
+        (D.told desk.old).contents (D.told desk.new).contents place (take filled block.old)) }
 {
     put_law();
     let change = changes.at(n);

@@ -3,7 +3,7 @@ use Rattle.vs_desk.proofs.Putting.{PutSoFar}
 use Rattle.vs_desk.proofs.desk.put_all.Given as goal
 
 abbrev pub invariant-loop-done : goal.invariant-loop-done
-invariant-loop-done g l = PutSoFar g.D.Desk.register g.D.Desk.tells g.D.Desk.contents l.fn.desk l.desk l.place l.bytes l.done
+invariant-loop-done g l = PutSoFar g.D.Desk.told l.fn.desk l.desk l.place l.bytes l.done
 
 abbrev pub decreases-loop-done : goal.decreases-loop-done
 decreases-loop-done g l = length l.bytes - l.done

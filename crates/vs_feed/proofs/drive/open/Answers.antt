@@ -1,5 +1,6 @@
 use Rattle.std.proofs.Common.{◌≤◌, length, sym, subst, arith}
 use Rattle.std.proofs.lemmas.List.{length-map}
+use Rattle.std.proofs.lemmas.Result.{err_from_is_err_and}
 use Rattle.std.specs.Prelude.{string_bytes}
 use Rattle.vs_desk.specs.Desk.{Register}
 use Rattle.vs_desk.specs.Places.{most_lanes}
@@ -22,4 +23,9 @@ pub returns-clause-readable : goal.returns-clause-readable
 returns-clause-readable g c =
     let h = c.in_ok-stimuli.ensures in
     let ks = c.in_ok-stimuli.stimuli.items in
-    subst (λ (r : Register). AreAttached r ks) (sym h.attached) (lanes_attached c.attach_law.ensures.each (g.D.Desk.register c.args.desk.now) (texts c.args.paths.items) ks (omega (arith, h.opened.lanes)))
+    subst (λ (r : Register). AreAttached r ks) (sym h.attached) (lanes_attached c.attach_law.ensures.each (g.D.Desk.told c.args.desk.now).register (texts c.args.paths.items) ks (omega (arith, h.opened.lanes)))
+
+pub returns-in_err-stimuli-clause-stopped : goal.returns-in_err-stimuli-clause-stopped
+returns-in_err-stimuli-clause-stopped g c =
+    let p = err_from_is_err_and c.from_residual.result c.from_residual.ensures.1 in
+    rw (p.1, p.2) c.in_err-stimuli.ensures.stopped

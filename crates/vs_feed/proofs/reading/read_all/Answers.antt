@@ -17,7 +17,7 @@ returns-in-Err-clause-part g c =
     let within : lane < length ks = omega arith in
     let at : get_or ks lane c.index-stimuli-lane.result ≡ lane_at ks lane = get_or_default ks lane c.index-stimuli-lane.result ended within in
     step_rest _ lane _ _ _ _ ks c.read_lane.new.stimulus within inv.lanes inv.read (λ t.
-    subst (λ (k : Known). OnlyTaken (stimulus_place k.lane) (g.D.Desk.contents c.loop-lane.desk) (g.D.Desk.contents c.read_lane.new.desk)) at (c.in-Err.ensures.desk.others t))
+    subst (λ (k : Known). OnlyTaken (stimulus_place k.lane) (g.D.Desk.told c.loop-lane.desk).contents (g.D.Desk.told c.read_lane.new.desk).contents) at (c.in-Err.ensures.desk.others t))
 
 pub loop-lane-preserved : goal.loop-lane-preserved
 loop-lane-preserved g c =
@@ -26,13 +26,13 @@ loop-lane-preserved g c =
     let ks = c.loop-lane.stimuli in
     let lane = c.loop-lane.lane in
     let new = c.read_lane.new.stimulus in
-    let mid = g.D.Desk.contents c.loop-lane.desk in
-    let after = g.D.Desk.contents c.read_lane.new.desk in
+    let mid = (g.D.Desk.told c.loop-lane.desk).contents in
+    let after = (g.D.Desk.told c.read_lane.new.desk).contents in
     let within : lane < length ks = omega arith in
     let at : get_or ks lane c.index-stimuli-lane.result ≡ lane_at ks lane = get_or_default ks lane c.index-stimuli-lane.result ended within in
     let kept : IsTrue g.D.Desk.tells → OnlyTaken (stimulus_place (lane_at ks lane).lane) mid after =
     λ t. subst (λ (k : Known). OnlyTaken (stimulus_place k.lane) mid after) at (h.desk.others t) in
-    let rest = step_rest g.D.Desk.tells lane (g.D.Desk.contents c.args.desk.now) mid after c.args.stimuli.now ks new within inv.lanes inv.read kept in
+    let rest = step_rest g.D.Desk.tells lane (g.D.Desk.told c.args.desk.now).contents mid after c.args.stimuli.now ks new within inv.lanes inv.read kept in
     record {
       lanes = lanes_set ks lane new inv.lanes within (h.lane ∙ ap (λ (k : Known). k.lane) at) (h.sizes ∙ ap (λ (k : Known). sizes k.vector) at);
       sizes = sizes_set c.args.stimuli.now ks lane new within inv.sizes (h.sizes ∙ ap (λ (k : Known). sizes k.vector) at);
@@ -55,9 +55,9 @@ returns-in-Err-clause-needed g c =
     let inv = c.loop-lane.invariant in
     let ks = c.loop-lane.stimuli in
     let lane = c.loop-lane.lane in
-    let before = g.D.Desk.contents c.args.desk.now in
-    let mid = g.D.Desk.contents c.loop-lane.desk in
-    let after = g.D.Desk.contents c.read_lane.new.desk in
+    let before = (g.D.Desk.told c.args.desk.now).contents in
+    let mid = (g.D.Desk.told c.loop-lane.desk).contents in
+    let after = (g.D.Desk.told c.read_lane.new.desk).contents in
     let within : lane < length ks = omega arith in
     let at : get_or ks lane c.index-stimuli-lane.result ≡ lane_at ks lane = get_or_default ks lane c.index-stimuli-lane.result ended within in
     λ t e.

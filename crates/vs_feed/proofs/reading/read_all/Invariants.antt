@@ -7,7 +7,7 @@ abbrev pub invariant-loop-lane : goal.invariant-loop-lane
 invariant-loop-lane g l = record {
   lanes : AreLanes l.stimuli;
   sizes : SameSizes l.initial.stimuli l.stimuli;
-  register : g.D.Desk.register l.desk ≡ g.D.Desk.register l.initial.desk;
-  read : AreRead g.D.Desk.tells l.lane l.lane (g.D.Desk.contents l.initial.desk) (g.D.Desk.contents l.desk) l.initial.stimuli l.stimuli;
-  others : IsTrue g.D.Desk.tells → OtherPlacesKept (length l.initial.stimuli) (g.D.Desk.contents l.initial.desk) (g.D.Desk.contents l.desk);
+  register : (g.D.Desk.told l.desk).register ≡ (g.D.Desk.told l.initial.desk).register;
+  read : AreRead g.D.Desk.tells l.lane l.lane (g.D.Desk.told l.initial.desk).contents (g.D.Desk.told l.desk).contents l.initial.stimuli l.stimuli;
+  others : IsTrue g.D.Desk.tells → OtherPlacesKept (length l.initial.stimuli) (g.D.Desk.told l.initial.desk).contents (g.D.Desk.told l.desk).contents;
 }

@@ -1,12 +1,9 @@
-use Rattle.std.proofs.Common.{◌≡◌, ◌++◌, ℕ, ◌+◌, ◌-◌, ◌≤◌, ◌<◌, List, [], ◌∷◌, length, take, decimal, codes, rules, Ok, refl, sym, ap, ◌∙◌, subst, arith}
-use Rattle.std.specs.List.{flat_map}
-use Rattle.vs_refusal.specs.Refusals.{line, head_text, list_text, fields, field_text, numbers_text, more_numbers, next_number, number, name}
-use Rattle.vs_refusal.specs.Reports.{Reports}
-use Rattle.vs_refusal.proofs.Chained.{put_then, failed_before, put_nothing, next_text, split_numbers}
+use Rattle.std.proofs.Common.{◌<◌, length, rules}
+use Rattle.vs_refusal.proofs.Chained.{put_then, split_numbers}
 use Rattle.vs_refusal.proofs.report.put_numbers.Goals as goal
 
 pub returns : goal.returns
 returns g c =
     let some : 0 < length c.args.numbers.now = search (rules, c.if-is_empty.ensures, c.is_empty.ensures) in
     rw (split_numbers c.args.numbers.now some)
-    (put_then g.D.Desk.register g.D.Desk.tells g.D.Desk.contents c.put_law.ensures.parts _ _ _ _ _ _ _ c.in_ok-put_number.ensures c.put_more_numbers.ensures)
+    (put_then c.put_law.ensures.parts _ _ _ _ _ _ _ c.in_ok-put_number.ensures c.put_more_numbers.ensures)

@@ -7,11 +7,11 @@ use Rattle.vs_setup.proofs.design_text.take_text.Given as goal
 
 abbrev pub invariant-taking : goal.invariant-taking
 invariant-taking g l = record {
-  same : g.D.Desk.register l.desk ≡ g.D.Desk.register l.fn.desk;
+  same : (g.D.Desk.told l.desk).register ≡ (g.D.Desk.told l.fn.desk).register;
   short : length l.text.items ≤ most_bytes;
   block : length l.block ≡ 4096;
-  taken : IsTaken g.D.Desk.tells l.fn.head ((g.D.Desk.contents l.fn.desk).left design_place) ((g.D.Desk.contents l.desk).left design_place) l.text.items;
-  only : IsTrue g.D.Desk.tells → OnlyTaken design_place (g.D.Desk.contents l.fn.desk) (g.D.Desk.contents l.desk);
+  taken : IsTaken g.D.Desk.tells l.fn.head ((g.D.Desk.told l.fn.desk).contents.left design_place) ((g.D.Desk.told l.desk).contents.left design_place) l.text.items;
+  only : IsTrue g.D.Desk.tells → OnlyTaken design_place (g.D.Desk.told l.fn.desk).contents (g.D.Desk.told l.desk).contents;
 }
 
 abbrev pub decreases-taking : goal.decreases-taking

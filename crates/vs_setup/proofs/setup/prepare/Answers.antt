@@ -19,29 +19,24 @@ use Rattle.vs_setup.proofs.setup.prepare.Goals as goal
 pub returns-in_err-drive-clause-unprepared : goal.returns-in_err-drive-clause-unprepared
 returns-in_err-drive-clause-unprepared g c =
     let job = c.args.job.now in
-    let before = g.D.Desk.register c.args.desk.now in
-    let old = g.D.Desk.contents c.args.desk.now in
-    let middle = g.D.Desk.register c.read_and_load.new.desk in
-    let mid = g.D.Desk.contents c.read_and_load.new.desk in
-    let now = g.D.Desk.register c.open_stimuli.new.desk in
-    let new = g.D.Desk.contents c.open_stimuli.new.desk in
+    let old = g.D.Desk.told c.args.desk.now in
+    let mid = g.D.Desk.told c.read_and_load.new.desk in
+    let new = g.D.Desk.told c.open_stimuli.new.desk in
     let l = c.in_ok-loaded.loaded in
     let e = c.in_err-drive.field-0.0 in
-    let tells = g.D.Desk.tells in
-    let unopened : IsUnopened tells c.deref.result.now job.stimuli middle mid now new e = c.in_err-drive.ensures.unopened in
-    let behind : IsUnopened tells l.inputs.items job.stimuli (with_design before job.design) mid now new e =
-    subst (λ (r : Register). IsUnopened tells l.inputs.items job.stimuli r mid now new e) c.in_ok-loaded.ensures.register
-    (subst (λ (is : List Input). IsUnopened tells is job.stimuli middle mid now new e) c.deref.ensures.value unopened) in
-    err_is (IsUnprepared tells job before old now new) c.from_residual-in_err-drive.result e (search rules)
-    (unprepared g.W.Word.lane g.W.Word.LANES tells job before old mid now new l.accepted l.inputs.items l.engine c.in_ok-loaded.ensures.loaded (λ t. (c.in_ok-loaded.ensures.only t).files) e behind)
+    let unopened : IsUnopened c.deref.result.now job.stimuli mid new e = c.in_err-drive.ensures.unopened in
+    let behind : IsUnopened l.inputs.items job.stimuli (record mid { register = with_design old.register job.design }) new e =
+    subst (λ (r : Register). IsUnopened l.inputs.items job.stimuli (record mid { register = r }) new e) c.in_ok-loaded.ensures.register
+    (subst (λ (is : List Input). IsUnopened is job.stimuli mid new e) c.deref.ensures.value unopened) in
+    err_is (IsUnprepared job old new) c.from_residual-in_err-drive.result e (search rules)
+    (unprepared g.W.Word.lane g.W.Word.LANES job old mid new l.accepted l.inputs.items l.engine c.in_ok-loaded.ensures.loaded (λ t. (c.in_ok-loaded.ensures.only t).files) e behind)
 
 pub returns-clause-prepared : goal.returns-clause-prepared
 returns-clause-prepared g c =
     let job = c.args.job.now in
-    let before = g.D.Desk.register c.args.desk.now in
-    let old = g.D.Desk.contents c.args.desk.now in
-    let mid = g.D.Desk.contents c.read_and_load.new.desk in
-    let new = g.D.Desk.contents c.open_stimuli.new.desk in
+    let old = (g.D.Desk.told c.args.desk.now).contents in
+    let mid = (g.D.Desk.told c.read_and_load.new.desk).contents in
+    let new = (g.D.Desk.told c.open_stimuli.new.desk).contents in
     let l = c.in_ok-loaded.loaded in
     let m = c.in_ok-prepared.prepared.machine in
     let tells = g.D.Desk.tells in
@@ -77,7 +72,7 @@ returns-clause-prepared g c =
       opened = begins g.W.Word.lane g.W.Word.LANES tells job old mid new l.accepted l.inputs.items l.engine m parts;
       paths = c.in_ok-prepared.ensures.paths;
       register_is = c.in_ok-drive.ensures.register ∙ ap (λ (r : Register). with_lanes r job.stimuli) c.in_ok-loaded.ensures.register;
-      readable = subst (λ ks. AreAttached (g.D.Desk.register c.open_stimuli.new.desk) ks) (sym drive_is) c.in_ok-drive.ensures.readable;
+      readable = subst (λ ks. AreAttached (g.D.Desk.told c.open_stimuli.new.desk).register ks) (sym drive_is) c.in_ok-drive.ensures.readable;
       kept = λ t. record {
         files = (c.in_ok-drive.ensures.others t).files ∙ (c.in_ok-loaded.ensures.only t).files;
         put = (c.in_ok-drive.ensures.others t).put ∙ (c.in_ok-loaded.ensures.only t).put;
@@ -93,5 +88,5 @@ returns-in_err-prepared-clause-unprepared g c =
       length job.stimuli,
       all,
       c.in_ok-drive.ensures.register ∙ ap (λ (r : Register). with_lanes r job.stimuli) c.in_ok-loaded.ensures.register
-          ∙ ap (λ ss. with_texts (g.D.Desk.register c.args.desk.now) job ss) (sym (take_all (length job.stimuli) job.stimuli all)),
+          ∙ ap (λ ss. with_texts (g.D.Desk.told c.args.desk.now).register job ss) (sym (take_all (length job.stimuli) job.stimuli all)),
     ))

@@ -13,7 +13,7 @@ use Rattle.vs_setup.proofs.setup.read_and_load.Goals as goal
 
 pub returns-clause-loaded : goal.returns-clause-loaded
 returns-clause-loaded g c =
-    let old = g.D.Desk.contents c.args.desk.now in
+    let old = (g.D.Desk.told c.args.desk.now).contents in
     let tells = g.D.Desk.tells in
     let job = c.args.job.now in
     let path : string_bytes c.in_ok-path.path ≡ job.design = search rules in
@@ -25,35 +25,33 @@ returns-clause-loaded g c =
 
 pub returns-clause-unprepared : goal.returns-clause-unprepared
 returns-clause-unprepared g c =
-    let before = g.D.Desk.register c.args.desk.now in
-    let old = g.D.Desk.contents c.args.desk.now in
-    let now = g.D.Desk.register c.read_design.new.desk in
-    let new = g.D.Desk.contents c.read_design.new.desk in
+    let old = g.D.Desk.told c.args.desk.now in
+    let new = g.D.Desk.told c.read_design.new.desk in
     let tells = g.D.Desk.tells in
     let job = c.args.job.now in
-    let attached : now ≡ with_design before job.design = search rules in
+    let attached : new.register ≡ with_design old.register job.design = search rules in
     let path : string_bytes c.in_ok-path.path ≡ job.design = search rules in
     let slice = c.as_slice.result.now in
-    let behind : IsBehind tells job.head (old.files job.design) slice = rw c.as_slice.ensures.value
+    let behind : IsBehind tells job.head (old.contents.files job.design) slice = rw c.as_slice.ensures.value
     (rw (c.as_bytes.ensures, path) at c.in_ok-text.ensures.text) in
-    let whole : IsWhole tells job old new slice = record {
+    let whole : IsWhole tells job old.contents new.contents slice = record {
       behind = behind;
       short = subst (λ (xs : List ℕ). length xs ≤ most_bytes) (sym c.as_slice.ensures.value) c.in_ok-text.ensures.short;
       taken = c.in_ok-text.ensures.end;
     } in
-    on_err (IsLoadError (length job.head) slice job.top job.clock) (IsUnprepared tells job before old now new) c.load_text.result c.load_text.ensures.refused
-    (λ e load_error. unloaded tells job before old now new slice e load_error attached whole)
+    on_err (IsLoadError (length job.head) slice job.top job.clock) (IsUnprepared job old new) c.load_text.result c.load_text.ensures.refused
+    (λ e load_error. unloaded job old new slice e load_error attached whole)
 
 pub returns-in_err-text-clause-unprepared : goal.returns-in_err-text-clause-unprepared
 returns-in_err-text-clause-unprepared g c =
     let p = err_from_is_err_and c.from_residual-in_err-text.result c.from_residual-in_err-text.ensures.1 in
     let path : string_bytes c.in_ok-path.path ≡ c.args.job.now.design = search rules in
-    let old = g.D.Desk.contents c.args.desk.now in
-    let new = g.D.Desk.contents c.read_design.new.desk in
+    let old = g.D.Desk.told c.args.desk.now in
+    let new = g.D.Desk.told c.read_design.new.desk in
     let head = c.args.job.now.head in
     let h = c.in_err-text.ensures in
     let bytes = string_bytes c.in_ok-path.path in
-    rw (p.1, p.2) (undesigned g.D.Desk.tells c.args.job.now (g.D.Desk.register c.args.desk.now) old (g.D.Desk.register c.read_design.new.desk) new bytes c.in_err-text.field-0.0 path
-    (λ e t. subst (λ (xs : List ℕ). IsTooLong xs (old.files bytes) (new.left design_place)) c.as_bytes.ensures (h.long t (ap (λ (x : DesignError). Err x) e)))
+    rw (p.1, p.2) (undesigned c.args.job.now old new bytes c.in_err-text.field-0.0 path
+    (λ e t. subst (λ (xs : List ℕ). IsTooLong xs (old.contents.files bytes) (new.contents.left design_place)) c.as_bytes.ensures (h.long t (ap (λ (x : DesignError). Err x) e)))
     (λ ne. h.attached (λ e. ne (cc)))
-    (λ e. subst (λ (xs : List ℕ). DesignFails g.D.Desk.tells (g.D.Desk.register c.args.desk.now) old (g.D.Desk.register c.read_design.new.desk) new xs bytes) c.as_bytes.ensures (h.failed (ap (λ (x : DesignError). Err x) e))))
+    (λ e. subst (λ (xs : List ℕ). DesignFails old new xs bytes) c.as_bytes.ensures (h.failed (ap (λ (x : DesignError). Err x) e))))

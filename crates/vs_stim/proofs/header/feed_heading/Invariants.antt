@@ -7,16 +7,16 @@ use Rattle.vs_stim.proofs.header.feed_heading.Given as goal
 
 abbrev pub invariant-line : goal.invariant-line
 invariant-line g l =
-    let before = open_at l.initial.source (g.D.Desk.contents l.initial.desk) in
-    let now = open_at l.source (g.D.Desk.contents l.desk) in
+    let before = open_at l.initial.source (g.D.Desk.told l.initial.desk) in
+    let now = open_at l.source (g.D.Desk.told l.desk) in
     record {
       source : IsSource l.source;
       heading : IsHeading l.inputs l.heading;
       place : l.source.place ≡ l.initial.source.place;
       number : l.source.number ≡ l.initial.source.number;
       start : l.source.start ≡ l.initial.source.start;
-      register : g.D.Desk.register l.desk ≡ g.D.Desk.register l.initial.desk;
-      others : IsTrue g.D.Desk.tells → OnlyTaken l.initial.source.place (g.D.Desk.contents l.initial.desk) (g.D.Desk.contents l.desk);
+      register : (g.D.Desk.told l.desk).register ≡ (g.D.Desk.told l.initial.desk).register;
+      others : IsTrue g.D.Desk.tells → OnlyTaken l.initial.source.place (g.D.Desk.told l.initial.desk).contents (g.D.Desk.told l.desk).contents;
       line : IsTrue g.D.Desk.tells → SameLine before now;
       goes : IsTrue g.D.Desk.tells → GoesOn before now;
       says : IsTrue g.D.Desk.tells → heading_with l.inputs l.heading (says now) ≡ heading_with l.inputs l.initial.heading (says before);

@@ -22,15 +22,15 @@ lines-preserved g c =
       register = search rules;
       others = search rules;
       passed = λ t.
-          let o = open_at c.lines.source (g.D.Desk.contents c.lines.desk) in
-          let p = open_at c.read_heading.new.source (g.D.Desk.contents c.read_heading.new.desk) in
+          let o = open_at c.lines.source (g.D.Desk.told c.lines.desk) in
+          let p = open_at c.read_heading.new.source (g.D.Desk.told c.read_heading.new.desk) in
           let P : Bool → Type 0 = λ b. Passes b o p in
           passed_more _ o p (inv.passed t) inv.begins (h.ends t c.if-last.false) (subst P c.if-last.false (h.passes t))
           (skipped_is (says o) (header c.args.inputs.now (fields (says o))) (rw c.in-Skipped.is at (h.says t)));
       reading = grind (arith, common_steps);
       fault = λ t.
-          let o = open_at c.lines.source (g.D.Desk.contents c.lines.desk) in
-          let p = open_at c.read_heading.new.source (g.D.Desk.contents c.read_heading.new.desk) in
+          let o = open_at c.lines.source (g.D.Desk.told c.lines.desk) in
+          let p = open_at c.read_heading.new.source (g.D.Desk.told c.read_heading.new.desk) in
           let P : Bool → Type 0 = λ b. Passes b o p in
           inv.fault t ∙ fault_skipped c.args.inputs.now o p inv.begins (subst P c.if-last.false (h.passes t)) (sym (rw c.in-Skipped.is at (h.says t)));
     }
@@ -54,12 +54,12 @@ returns-in_err-kind-clause-needed g c = λ t e.
     let h = c.in_err-kind.ensures in
     let inv = c.lines.invariant in
     let new = c.read_heading.new.source in
-    let after = g.D.Desk.contents c.read_heading.new.desk in
-    let o = open_at c.lines.source (g.D.Desk.contents c.lines.desk) in
+    let after = g.D.Desk.told c.read_heading.new.desk in
+    let o = open_at c.lines.source (g.D.Desk.told c.lines.desk) in
     let p = open_at new after in
-    let rest : rest_of new after ≡ after.left c.args.source.now.place =
-    (λ i. h.empty (search rules) i ++ after.left ((h.place ∙ inv.place) i)) in
-    untold_here _ o p (after.left c.args.source.now.place) (inv.passed t) inv.begins (h.went t (search rules)) h.source.line h.source.bytes rest
+    let rest : rest_of new after ≡ after.contents.left c.args.source.now.place =
+    (λ i. h.empty (search rules) i ++ after.contents.left ((h.place ∙ inv.place) i)) in
+    untold_here _ o p (after.contents.left c.args.source.now.place) (inv.passed t) inv.begins (h.went t (search rules)) h.source.line h.source.bytes rest
 
 pub returns-in-Given-clause-passes : goal.returns-in-Given-clause-passes
 returns-in-Given-clause-passes g c = λ t.
@@ -67,8 +67,8 @@ returns-in-Given-clause-passes g c = λ t.
     let inv = c.lines.invariant in
     let is = c.args.inputs.now in
     let columns = c.read_heading.new.heading.columns.items in
-    let a = open_at c.args.source.now (g.D.Desk.contents c.args.desk.now) in
-    let o = open_at c.lines.source (g.D.Desk.contents c.lines.desk) in
-    let p = open_at c.read_heading.new.source (g.D.Desk.contents c.read_heading.new.desk) in
+    let a = open_at c.args.source.now (g.D.Desk.told c.args.desk.now) in
+    let o = open_at c.lines.source (g.D.Desk.told c.lines.desk) in
+    let p = open_at c.read_heading.new.source (g.D.Desk.told c.read_heading.new.desk) in
     subst (λ (cs : Vec Column Global). PassesHeader is cs.items a p) (sym c.into_columns.ensures)
     (header_passed is columns a o p c.in_ok-kind.last (inv.passed t) inv.begins (h.ends t) (h.passes t) (omega (arith, h.source.bytes)) (sym (rw c.in-Given.is at (h.says t))))

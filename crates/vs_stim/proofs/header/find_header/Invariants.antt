@@ -15,13 +15,13 @@ invariant-lines g l =
       heading : IsHeading l.inputs l.heading;
       stage : l.heading.stage ≡ Start;
       place : l.source.place ≡ l.initial.source.place;
-      register : g.D.Desk.register l.desk ≡ g.D.Desk.register l.initial.desk;
-      others : IsTrue g.D.Desk.tells → OnlyTaken l.initial.source.place (g.D.Desk.contents l.initial.desk) (g.D.Desk.contents l.desk);
-      passed : IsTrue g.D.Desk.tells → IsPassed (open_at l.initial.source (g.D.Desk.contents l.initial.desk)) (open_at l.source (g.D.Desk.contents l.desk));
+      register : (g.D.Desk.told l.desk).register ≡ (g.D.Desk.told l.initial.desk).register;
+      others : IsTrue g.D.Desk.tells → OnlyTaken l.initial.source.place (g.D.Desk.told l.initial.desk).contents (g.D.Desk.told l.desk).contents;
+      passed : IsTrue g.D.Desk.tells → IsPassed (open_at l.initial.source (g.D.Desk.told l.initial.desk)) (open_at l.source (g.D.Desk.told l.desk));
       reading : IsTrue g.D.Desk.tells →
-          header_from l.inputs (open_at l.initial.source (g.D.Desk.contents l.initial.desk)) ≡ header_from l.inputs (open_at l.source (g.D.Desk.contents l.desk));
+          header_from l.inputs (open_at l.initial.source (g.D.Desk.told l.initial.desk)) ≡ header_from l.inputs (open_at l.source (g.D.Desk.told l.desk));
       fault : IsTrue g.D.Desk.tells →
-          header_fault_from l.inputs (open_at l.initial.source (g.D.Desk.contents l.initial.desk)) ≡ header_fault_from l.inputs (open_at l.source (g.D.Desk.contents l.desk));
+          header_fault_from l.inputs (open_at l.initial.source (g.D.Desk.told l.initial.desk)) ≡ header_fault_from l.inputs (open_at l.source (g.D.Desk.told l.desk));
     }
 
 abbrev pub decreases-lines : goal.decreases-lines

@@ -8,4 +8,4 @@ returns-clause-says g c =
     let u = rw c.requires.stage at c.requires.heading.untouched in
     λ t. c.in_ok-finish.ensures.says
     ∙ c.in_ok-last.ensures.says t
-    ∙ heading_from_start c.args.inputs.now c.args.heading.now (says (open_at c.args.source.now (g.D.Desk.contents c.args.desk.now))) c.requires.stage u.0 u.1
+    ∙ heading_from_start c.args.inputs.now c.args.heading.now (says (open_at c.args.source.now (g.D.Desk.told c.args.desk.now))) c.requires.stage u.0 u.1

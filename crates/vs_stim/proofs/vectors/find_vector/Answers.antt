@@ -31,14 +31,14 @@ lines-preserved g c =
           let P : Bool → Type 0 = λ b. Passes b (in_block before) (in_block now) in
           tells_on columns.items (in_block before) (in_block now) inv.begins (subst P c.if-last.false (h.told y)) (rw c.in-Skipped.is at (h.told_says y)) (inv.told x);
       passed = λ t.
-          let o = open_at before (g.D.Desk.contents c.lines.desk) in
-          let p = open_at now (g.D.Desk.contents c.read_row.new.desk) in
+          let o = open_at before (g.D.Desk.told c.lines.desk) in
+          let p = open_at now (g.D.Desk.told c.read_row.new.desk) in
           let P : Bool → Type 0 = λ b. Passes b o p in
           passed_more _ o p (inv.passed t) inv.begins (h.ends t c.if-last.false) (subst P c.if-last.false (h.passes t))
           (skipped_is (says o) (vector columns.items (fields (says o))) (rw c.in-Skipped.is at (h.says t)));
       reading = λ t.
-          let o = open_at before (g.D.Desk.contents c.lines.desk) in
-          let p = open_at now (g.D.Desk.contents c.read_row.new.desk) in
+          let o = open_at before (g.D.Desk.told c.lines.desk) in
+          let p = open_at now (g.D.Desk.told c.read_row.new.desk) in
           let P : Bool → Type 0 = λ b. Passes b o p in
           inv.reading t
           ∙ vectors_skipped columns.items o p c.args.count inv.begins (subst P c.if-last.false (h.passes t)) (sym (rw c.in-Skipped.is at (h.says t)))
@@ -53,8 +53,8 @@ returns-in-Given-clause-found g c =
     let values = c.read_row.new.row.values.items in
     let taken = ap (λ cs. not_taken limits cs.items c.lines.source.number c.args.count values) (sym h.form.columns) ∙ c.in_ok-check_vector-in-Given.ensures.ok in
     λ t _.
-    let o = open_at c.lines.source (g.D.Desk.contents c.lines.desk) in
-    let p = open_at c.read_row.new.source (g.D.Desk.contents c.read_row.new.desk) in
+    let o = open_at c.lines.source (g.D.Desk.told c.lines.desk) in
+    let p = open_at c.read_row.new.source (g.D.Desk.told c.read_row.new.desk) in
     inv.reading t
     ∙ vectors_found columns.items o p c.args.count values c.in_ok-kind.last inv.begins (h.passes t) (omega (arith, h.source.bytes)) (sym (rw c.in-Given.is at (h.says t))) taken
     ∙ ap (λ cs. with_vector values (vectors_from cs.items (c.args.count + 1) p)) inv.form.columns
@@ -67,9 +67,9 @@ returns-in-Given-clause-passes g c =
     let values = c.read_row.new.row.values.items in
     let taken = ap (λ cs. not_taken limits cs.items c.lines.source.number c.args.count values) (sym h.form.columns) ∙ c.in_ok-check_vector-in-Given.ensures.ok in
     λ t _.
-    let o = open_at c.lines.source (g.D.Desk.contents c.lines.desk) in
-    let p = open_at c.read_row.new.source (g.D.Desk.contents c.read_row.new.desk) in
-    let a = open_at c.args.source.now (g.D.Desk.contents c.args.desk.now) in
+    let o = open_at c.lines.source (g.D.Desk.told c.lines.desk) in
+    let p = open_at c.read_row.new.source (g.D.Desk.told c.read_row.new.desk) in
+    let a = open_at c.args.source.now (g.D.Desk.told c.args.desk.now) in
     subst (λ (cs : Vec Column Global). PassesVector cs.items c.args.count values a p) inv.form.columns
     (vector_passed columns.items c.args.count values a o p c.in_ok-kind.last (inv.passed t) inv.begins (h.ends t) (h.passes t) (omega (arith, h.source.bytes)) (sym (rw c.in-Given.is at (h.says t))) taken)
 
@@ -94,9 +94,9 @@ returns-in_err-kind-clause-needed g c = λ t e.
     let h = c.in_err-kind.ensures in
     let inv = c.lines.invariant in
     let new = c.read_row.new.source in
-    let after = g.D.Desk.contents c.read_row.new.desk in
-    let o = open_at c.lines.source (g.D.Desk.contents c.lines.desk) in
+    let after = g.D.Desk.told c.read_row.new.desk in
+    let o = open_at c.lines.source (g.D.Desk.told c.lines.desk) in
     let p = open_at new after in
-    let rest : rest_of new after ≡ after.left c.args.source.now.place =
-    (λ i. h.empty (search rules) i ++ after.left ((h.place ∙ inv.place) i)) in
-    untold_here _ o p (after.left c.args.source.now.place) (inv.passed t) inv.begins (h.went t (search rules)) h.source.line h.source.bytes rest
+    let rest : rest_of new after ≡ after.contents.left c.args.source.now.place =
+    (λ i. h.empty (search rules) i ++ after.contents.left ((h.place ∙ inv.place) i)) in
+    untold_here _ o p (after.contents.left c.args.source.now.place) (inv.passed t) inv.begins (h.went t (search rules)) h.source.line h.source.bytes rest

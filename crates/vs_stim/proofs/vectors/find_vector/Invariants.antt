@@ -15,13 +15,13 @@ invariant-lines g l =
       each : IsTrue (each_input l.row);
       form : SameForm l.initial.row l.row;
       place : l.source.place ≡ l.initial.source.place;
-      register : g.D.Desk.register l.desk ≡ g.D.Desk.register l.initial.desk;
-      others : IsTrue g.D.Desk.tells → OnlyTaken l.initial.source.place (g.D.Desk.contents l.initial.desk) (g.D.Desk.contents l.desk);
+      register : (g.D.Desk.told l.desk).register ≡ (g.D.Desk.told l.initial.desk).register;
+      others : IsTrue g.D.Desk.tells → OnlyTaken l.initial.source.place (g.D.Desk.told l.initial.desk).contents (g.D.Desk.told l.desk).contents;
       frugal : IsTrue (text_tells (in_block l.initial.source)) → l.desk ≡ l.initial.desk;
       told : IsTrue (text_tells (in_block l.initial.source)) → IsTrue (text_tells (in_block l.source));
-      passed : IsTrue g.D.Desk.tells → IsPassed (open_at l.initial.source (g.D.Desk.contents l.initial.desk)) (open_at l.source (g.D.Desk.contents l.desk));
+      passed : IsTrue g.D.Desk.tells → IsPassed (open_at l.initial.source (g.D.Desk.told l.initial.desk)) (open_at l.source (g.D.Desk.told l.desk));
       reading : IsTrue g.D.Desk.tells →
-          vectors_from l.initial.row.columns.items l.count (open_at l.initial.source (g.D.Desk.contents l.initial.desk)) ≡ vectors_from l.row.columns.items l.count (open_at l.source (g.D.Desk.contents l.desk));
+          vectors_from l.initial.row.columns.items l.count (open_at l.initial.source (g.D.Desk.told l.initial.desk)) ≡ vectors_from l.row.columns.items l.count (open_at l.source (g.D.Desk.told l.desk));
     }
 
 abbrev pub decreases-lines : goal.decreases-lines

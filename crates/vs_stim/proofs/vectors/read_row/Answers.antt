@@ -7,7 +7,7 @@ use Rattle.vs_stim.proofs.vectors.read_row.Goals as goal
 
 pub returns-clause-says : goal.returns-clause-says
 returns-clause-says g c = λ t.
-    let rest = says (open_at c.args.source.now (g.D.Desk.contents c.args.desk.now)) in
+    let rest = says (open_at c.args.source.now (g.D.Desk.told c.args.desk.now)) in
     let each : IsTrue (each_input c.begin.new.self) = rw (c.begin.ensures.values, c.begin.ensures.columns) c.requires.each in
     c.finish.ensures.says
     ∙ c.in_ok-last.ensures.says t

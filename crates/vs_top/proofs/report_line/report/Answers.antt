@@ -3,4 +3,4 @@ use Rattle.vs_top.proofs.report_line.report.Goals as goal
 
 pub returns-in-Err-clause-done : goal.returns-in-Err-clause-done
 returns-in-Err-clause-done g c =
-    done_lost g.D.Desk.register g.D.Desk.tells g.D.Desk.contents c.put_law.ensures.parts _ _ _ c.args.outcome c.after_loss.result c.in-Err.ensures.err c.after_loss.ensures.done c.after_loss.ensures.done_line
+    done_lost c.put_law.ensures.parts _ _ _ c.args.outcome c.after_loss.result c.in-Err.ensures.err c.after_loss.ensures.done c.after_loss.ensures.done_line

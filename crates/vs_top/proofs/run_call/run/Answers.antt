@@ -7,4 +7,4 @@ use Rattle.vs_top.proofs.run_call.run.Goals as goal
 pub returns-in-Ok-clause-refused : goal.returns-in-Ok-clause-refused
 returns-in-Ok-clause-refused g c = λ told j called q job_refused faultless.
     let same = some_same _ j c.in-Ok.job called c.in-Ok.ensures.ok in
-    c.simulate.ensures.refused told q (subst (λ (j : Job). IsRefusedJob j (g.D.Desk.contents c.args.desk.now) q) same job_refused) faultless
+    c.simulate.ensures.refused told q (subst (λ (j : Job). IsRefusedJob j (g.D.Desk.told c.args.desk.now).contents q) same job_refused) faultless

@@ -31,13 +31,13 @@ returns-in-Err-begin-clause-stopped g c =
     let job = c.args.job.now in
     let p = c.in-Ok.ensures.prepared in
     let stop = c.in-Err-begin.stop in
-    let run = run_of job (g.D.Desk.contents c.args.desk.now).files p.design p.accepted.accepted.clock.first in
+    let run = run_of job (g.D.Desk.told c.args.desk.now).contents.files p.design p.accepted.accepted.clock.first in
     first (sym c.same_paths.ensures ∙ c.in_default.is) (record {
       stop = stop;
       outcome_is = c.stop_outcome.ensures.outcome;
       lane = subst (λ (n : ℕ). IsLaneOf n stop) p.lanes c.in-Err-begin.ensures.lane;
-      cause = subst (λ (r : Register). HasCause r (g.D.Desk.register c.begin.new.desk) stop) p.register_is c.in-Err-begin.ensures.cause;
-      stops = λ t. (run, run_is _ _ _ _ _ _ _ _ _ _ p t, subst (λ (n : ℕ). ReadStops run n 0 (g.D.Desk.contents c.begin.new.desk) stop) p.lanes (c.in-Err-begin.ensures.stops t run (p.opened t)));
+      cause = subst (λ (r : Register). HasCause r (g.D.Desk.told c.begin.new.desk).register stop) p.register_is c.in-Err-begin.ensures.cause;
+      stops = λ t. (run, run_is _ _ _ _ _ _ _ p t, subst (λ (n : ℕ). ReadStops run n 0 (g.D.Desk.told c.begin.new.desk).contents stop) p.lanes (c.in-Err-begin.ensures.stops t run (p.opened t)));
       kept = λ t. let begun = c.begin.ensures.others t in record { files = begun.files ∙ (p.kept t).files; put = begun.put ∙ (p.kept t).put };
     })
 
@@ -58,7 +58,7 @@ attach-requires-clause-free g c = λ i h.
     let lanes : length items ≡ length job.stimuli = sym (length-map items (string_bytes {Z = Global})) ∙ ap length p.paths ∙ length-map job.stimuli vcd_path in
     let held = c.in-Ok.prepared.wave_paths.ok.0 in
     let below : i < length job.stimuli = omega (arith, h, held, lanes) in
-    subst (λ (r : Register). IsNone (r.attached (wave_place i))) (sym (c.in_default-begin.ensures.same ∙ p.register_is)) (still_free c.attach_law.ensures.others (g.D.Desk.register c.args.desk.now) job i c.requires.job.few c.requires.unused.waves below)
+    subst (λ (r : Register). IsNone (r.attached (wave_place i))) (sym (c.in_default-begin.ensures.same ∙ p.register_is)) (still_free c.attach_law.ensures.others (g.D.Desk.told c.args.desk.now).register job i c.requires.job.few c.requires.unused.waves below)
 
 pub overflow_add-place : goal.overflow_add-place
 overflow_add-place g c =
@@ -78,12 +78,12 @@ pub returns-in-Err-attach-clause-stopped : goal.returns-in-Err-attach-clause-sto
 returns-in-Err-attach-clause-stopped g c =
     let job = c.args.job.now in
     let p = c.in-Ok.ensures.prepared in
-    let now = g.D.Desk.register c.attach.new.desk in
-    let before = g.D.Desk.register c.args.desk.now in
+    let now = (g.D.Desk.told c.attach.new.desk).register in
+    let before = (g.D.Desk.told c.args.desk.now).register in
     let lane = c.in-Err-attach.fault.lane in
     let items : List (String Global) = c.in-Ok.prepared.wave_paths.items in
     let lanes : length items ≡ length job.stimuli = sym (length-map items (string_bytes {Z = Global})) ∙ ap length p.paths ∙ length-map job.stimuli vcd_path in
-    let run = run_of job (g.D.Desk.contents c.args.desk.now).files p.design p.accepted.accepted.clock.first in
+    let run = run_of job (g.D.Desk.told c.args.desk.now).contents.files p.design p.accepted.accepted.clock.first in
     let P : Register → List (List ℕ) → List (List ℕ) → Type 0 = λ r taken all. Fails (with_places r (waveform_place 0) Write taken) now (wave_place lane) (path_at all lane) in
     let begun = subst (λ (r : Register). P r (map string_bytes (take lane items)) (map string_bytes items)) (c.in_default-begin.ensures.same ∙ p.register_is) c.in-Err-attach.ensures.failed in
     let mapped = subst (λ (taken : List (List ℕ)). P (with_texts before job job.stimuli) taken (map string_bytes items)) (sym (take-map string_bytes lane items)) begun in
@@ -94,19 +94,19 @@ returns-in-Err-attach-clause-stopped g c =
       is_lane = omega (arith, within, held, lanes);
       outcome_is = refl;
       fails = subst (λ (all : List (List ℕ)). P (with_texts before job job.stimuli) (take lane all) all) p.paths mapped;
-      texts = λ t. (run, run_is _ _ _ _ _ _ _ _ _ _ p t, subst (λ (n : ℕ). AreUnrefused run 0 n 1) p.lanes (c.in_default-begin.ensures.unrefused t run (p.opened t)));
+      texts = λ t. (run, run_is _ _ _ _ _ _ _ p t, subst (λ (n : ℕ). AreUnrefused run 0 n 1) p.lanes (c.in_default-begin.ensures.unrefused t run (p.opened t)));
       empty = λ t. (c.in-Err-attach.ensures.bytes_before t).lanes;
       emptied = λ t.
           let paths : map string_bytes (take lane items) ≡ take lane (wave_paths job) = sym (take-map string_bytes lane items) ∙ ap (take lane) p.paths in
-          emptied_from (g.D.Desk.contents c.begin.new.desk) (g.D.Desk.contents c.args.desk.now) (g.D.Desk.contents c.attach.new.desk) (take lane (wave_paths job)) ((c.begin.ensures.others t).files ∙ (p.kept t).files)
-          (subst (λ (ps : List (List ℕ)). AreEmptied ps (g.D.Desk.contents c.begin.new.desk) (g.D.Desk.contents c.attach.new.desk)) paths (c.in-Err-attach.ensures.emptied_before t));
+          emptied_from (g.D.Desk.told c.begin.new.desk).contents (g.D.Desk.told c.args.desk.now).contents (g.D.Desk.told c.attach.new.desk).contents (take lane (wave_paths job)) ((c.begin.ensures.others t).files ∙ (p.kept t).files)
+          (subst (λ (ps : List (List ℕ)). AreEmptied ps (g.D.Desk.told c.begin.new.desk).contents (g.D.Desk.told c.attach.new.desk).contents) paths (c.in-Err-attach.ensures.emptied_before t));
       puts = λ t place other. (c.in-Err-attach.ensures.bytes_before t).others place other ∙ ap (λ (f : ℕ → List ℕ). f place) ((c.begin.ensures.others t).put ∙ (p.kept t).put);
     })
 
 pub rounds-requires-clause-readable : goal.rounds-requires-clause-readable
 rounds-requires-clause-readable g c =
     subst (λ (r : Register). AreAttached r c.begin.new.self.stimuli) (sym c.in_default-attach.ensures.attached)
-    (still_attached c.attach_law.ensures.others (g.D.Desk.register c.begin.new.desk) (map (string_bytes {Z = Global}) c.in-Ok.prepared.wave_paths.items) c.begin.new.self.stimuli c.in_default-begin.ensures.ready.alike.lanes c.in_default-begin.ensures.readable)
+    (still_attached c.attach_law.ensures.others (g.D.Desk.told c.begin.new.desk).register (map (string_bytes {Z = Global}) c.in-Ok.prepared.wave_paths.items) c.begin.new.self.stimuli c.in_default-begin.ensures.ready.alike.lanes c.in_default-begin.ensures.readable)
 
 pub rounds-requires-clause-writable : goal.rounds-requires-clause-writable
 rounds-requires-clause-writable g c = λ i lt _.
@@ -117,15 +117,15 @@ rounds-requires-clause-writable g c = λ i lt _.
     let lanes : length c.begin.new.self.stimuli ≡ length job.stimuli = c.in_default-begin.ensures.lanes ∙ p.lanes in
     let paths : length (map (string_bytes {Z = Global}) items) ≡ length job.stimuli = ap length p.paths ∙ length-map job.stimuli vcd_path in
     let below : i < length (map (string_bytes {Z = Global}) items) = subst (λ n. i < n) (waves ∙ lanes ∙ sym paths) lt in
-    subst (λ (r : Register). IsAttached r (wave_place i) Write) (sym c.in_default-attach.ensures.attached) (with_places-at c.attach_law.ensures.each (g.D.Desk.register c.begin.new.desk) (waveform_place 0) Write (map (string_bytes {Z = Global}) items) i below)
+    subst (λ (r : Register). IsAttached r (wave_place i) Write) (sym c.in_default-attach.ensures.attached) (with_places-at c.attach_law.ensures.each (g.D.Desk.told c.begin.new.desk).register (waveform_place 0) Write (map (string_bytes {Z = Global}) items) i below)
 
-all_written : (g : Over) (c : goal.After-drop-machine-inside-in-Ok-rounds-23 g) → IsWholeEnd g.D.Desk.tells c.args.job.now (g.D.Desk.register c.args.desk.now) (g.D.Desk.contents c.args.desk.now) (g.D.Desk.register c.rounds.new.desk) (g.D.Desk.contents c.rounds.new.desk)
+all_written : (g : Over) (c : goal.After-drop-machine-inside-in-Ok-rounds-23 g) → IsWholeEnd c.args.job.now (g.D.Desk.told c.args.desk.now) (g.D.Desk.told c.rounds.new.desk)
     (Done (record { lanes = c.len.result; vectors = c.in-Ok-rounds.counts.vectors; settlings = c.in-Ok-rounds.counts.settlings; size = c.in-Ok.prepared.size; operations = c.in-Ok-rounds.counts.operations }))
 all_written g c =
     let job = c.args.job.now in
-    let before = g.D.Desk.register c.args.desk.now in
-    let old = g.D.Desk.contents c.args.desk.now in
-    let new = g.D.Desk.contents c.rounds.new.desk in
+    let before = (g.D.Desk.told c.args.desk.now).register in
+    let old = (g.D.Desk.told c.args.desk.now).contents in
+    let new = (g.D.Desk.told c.rounds.new.desk).contents in
     let p = c.in-Ok.ensures.prepared in
     let counts = c.in-Ok-rounds.counts in
     let clock = p.accepted.accepted.clock.first in
@@ -135,7 +135,7 @@ all_written g c =
     let paths : length items ≡ length job.stimuli = sym (length-map items (string_bytes {Z = Global})) ∙ ap length p.paths ∙ length-map job.stimuli vcd_path in
     let empty = λ (t : IsTrue g.D.Desk.tells). c.in_default-attach.ensures.bytes t in
     let held = c.in-Ok.prepared.wave_paths.ok.0 in
-    let in_round = λ (t : IsTrue g.D.Desk.tells). (c.in_default-begin.ensures.begun t run (p.opened t)).begun (g.D.Desk.contents c.attach.new.desk) (empty t).left (λ i h. (empty t).lanes i (omega (arith, h, held, lanes, paths))) in
+    let in_round = λ (t : IsTrue g.D.Desk.tells). (c.in_default-begin.ensures.begun t run (p.opened t)).begun (g.D.Desk.told c.attach.new.desk).contents (empty t).left (λ i h. (empty t).lanes i (omega (arith, h, held, lanes, paths))) in
     let counted : IsTrue g.D.Desk.tells → AreCounted run (length job.stimuli) counts.vectors counts.settlings =
     λ t. subst (λ (n : ℕ). AreCounted run n counts.vectors counts.settlings) lanes (c.in-Ok-rounds.ensures.counted t run (in_round t)) in
     let engine = c.begin.new.self.engine in
@@ -147,7 +147,7 @@ all_written g c =
     record {
       summary = record { lanes = c.len.result; vectors = counts.vectors; settlings = counts.settlings; size = c.in-Ok.prepared.size; operations = counts.operations };
       outcome_is = refl;
-      register_is = c.in-Ok-rounds.ensures.same ∙ c.in_default-attach.ensures.attached ∙ ap (λ (ps : List (List ℕ)). with_places (g.D.Desk.register c.begin.new.desk) (waveform_place 0) Write ps) p.paths
+      register_is = c.in-Ok-rounds.ensures.same ∙ c.in_default-attach.ensures.attached ∙ ap (λ (ps : List (List ℕ)). with_places (g.D.Desk.told c.begin.new.desk).register (waveform_place 0) Write ps) p.paths
           ∙ ap (λ (r : Register). with_places r (waveform_place 0) Write (wave_paths job)) (c.in_default-begin.ensures.same ∙ p.register_is);
       written = λ t. record {
         design = p.design;
@@ -185,9 +185,9 @@ returns-in-Ok-rounds-clause-within g c =
 pub returns-clause-stopped : goal.returns-clause-stopped
 returns-clause-stopped g c =
     let job = c.args.job.now in
-    let old = g.D.Desk.contents c.args.desk.now in
-    let new = g.D.Desk.contents c.rounds.new.desk in
-    let now = g.D.Desk.register c.rounds.new.desk in
+    let old = (g.D.Desk.told c.args.desk.now).contents in
+    let new = (g.D.Desk.told c.rounds.new.desk).contents in
+    let now = (g.D.Desk.told c.rounds.new.desk).register in
     let p = c.in-Ok.ensures.prepared in
     let stop = c.in-Err-rounds.stop in
     let run = run_of job old.files p.design p.accepted.accepted.clock.first in
@@ -196,9 +196,9 @@ returns-clause-stopped g c =
     let paths : length items ≡ length job.stimuli = sym (length-map items (string_bytes {Z = Global})) ∙ ap length p.paths ∙ length-map job.stimuli vcd_path in
     let empty = λ (t : IsTrue g.D.Desk.tells). c.in_default-attach.ensures.bytes t in
     let held = c.in-Ok.prepared.wave_paths.ok.0 in
-    let in_round = λ (t : IsTrue g.D.Desk.tells). (c.in_default-begin.ensures.begun t run (p.opened t)).begun (g.D.Desk.contents c.attach.new.desk) (empty t).left (λ i h. (empty t).lanes i (omega (arith, h, held, lanes, paths))) in
-    let register : g.D.Desk.register c.attach.new.desk ≡ with_waves (g.D.Desk.register c.args.desk.now) job (wave_paths job) = c.in_default-attach.ensures.attached
-    ∙ ap (λ (ps : List (List ℕ)). with_places (g.D.Desk.register c.begin.new.desk) (waveform_place 0) Write ps) p.paths
+    let in_round = λ (t : IsTrue g.D.Desk.tells). (c.in_default-begin.ensures.begun t run (p.opened t)).begun (g.D.Desk.told c.attach.new.desk).contents (empty t).left (λ i h. (empty t).lanes i (omega (arith, h, held, lanes, paths))) in
+    let register : (g.D.Desk.told c.attach.new.desk).register ≡ with_waves (g.D.Desk.told c.args.desk.now).register job (wave_paths job) = c.in_default-attach.ensures.attached
+    ∙ ap (λ (ps : List (List ℕ)). with_places (g.D.Desk.told c.begin.new.desk).register (waveform_place 0) Write ps) p.paths
     ∙ ap (λ (r : Register). with_places r (waveform_place 0) Write (wave_paths job)) (c.in_default-begin.ensures.same ∙ p.register_is) in
     stopped (sym c.same_paths.ensures ∙ c.in_default.is) (record {
       stop = stop;
@@ -207,7 +207,7 @@ returns-clause-stopped g c =
       cause = subst (λ (r : Register). HasCause r now stop) register c.in-Err-rounds.ensures.cause;
       stops = λ t.
           let s = c.in-Err-rounds.ensures.stops t run (in_round t) in
-          (run, run_is _ _ _ _ _ _ _ _ _ _ p t, (s.0, subst (λ (n : ℕ). StopsIn run n s.0 new stop) lanes s.1));
+          (run, run_is _ _ _ _ _ _ _ p t, (s.0, subst (λ (n : ℕ). StopsIn run n s.0 new stop) lanes s.1));
       puts = λ t place other.
           (c.rounds.ensures.others t).others place (λ i h. other i (subst (λ n. i < n) lanes h))
           ∙ (empty t).others place (λ i h. other i (omega (arith, h, held, paths)))

@@ -7,7 +7,7 @@ invariant-loop-block g l = record {
   long : length l.block ≡ length l.initial.block;
   filled : l.filled ≤ length l.block;
   from : l.from ≤ length l.text;
-  drained : Drained g.D.Desk.register g.D.Desk.tells g.D.Desk.contents l.initial.desk l.desk l.place (take l.fn.filled l.initial.block ++ l.text) (take l.filled l.block ++ drop l.from l.text);
+  drained : Drained (g.D.Desk.told l.initial.desk) (g.D.Desk.told l.desk) l.place (take l.fn.filled l.initial.block ++ l.text) (take l.filled l.block ++ drop l.from l.text);
 }
 
 abbrev pub decreases-loop-block : goal.decreases-loop-block

@@ -9,7 +9,7 @@ abbrev pub invariant-loop-n : goal.invariant-loop-n
 invariant-loop-n g l = record {
   long : length l.block ≡ length l.initial.block;
   filled : l.filled ≤ length l.block;
-  same : g.D.Desk.register l.desk ≡ g.D.Desk.register l.initial.desk;
-  front : IsTrue g.D.Desk.tells → PutsFront (g.D.Desk.register l.initial.desk) (g.D.Desk.contents l.initial.desk) (g.D.Desk.contents l.desk) l.place
+  same : (g.D.Desk.told l.desk).register ≡ (g.D.Desk.told l.initial.desk).register;
+  front : IsTrue g.D.Desk.tells → PutsFront (g.D.Desk.told l.initial.desk).register (g.D.Desk.told l.initial.desk).contents (g.D.Desk.told l.desk).contents l.place
       (take l.fn.filled l.initial.block ++ flat_map (line_at g.W.Word.lane g.W.Word.LANES l.changes l.lane) (count_from 0 l.n)) (take l.filled l.block);
 }

@@ -1,7 +1,11 @@
+use Rattle.std.proofs.Common.{refl}
 use Rattle.vs_desk.specs.Host.{register}
 use Rattle.vs_desk.proofs.Failing.{fails_in}
 use Rattle.vs_desk.proofs.host.HostDeskDesk.put.Goals as goal
 
 pub returns-in_default-clause-failed : goal.returns-in_default-clause-failed
 unfolding register
-returns-in_default-clause-failed g c = fails_in _ _ c.args.self.now.failures c.count.new.self _ _ c.write_to.ensures.attached c.count.ensures
+returns-in_default-clause-failed g c = record {
+  fails = fails_in _ _ c.args.self.now.failures c.count.new.self _ _ c.write_to.ensures.attached c.count.ensures;
+  bytes = λ t. refl;
+}

@@ -46,7 +46,7 @@ returns-then-live-eq0-clause-done g c =
     let inv = c.loop-round.invariant in
     let e = c.in_ok-live.ensures in
     λ t run h.
-    done_before g.W.Word.lane run (length c.args.self.now.stimuli) c.loop-round.round c.loop-round.self c.round.new.self (g.D.Desk.contents c.round.new.desk) inv.lanes e.stimuli
+    done_before g.W.Word.lane run (length c.args.self.now.stimuli) c.loop-round.round c.loop-round.self c.round.new.self (g.D.Desk.told c.round.new.desk).contents inv.lanes e.stimuli
     (sym c.if-live-eq0.true ∙ e.count) e.ready.alike.lanes (e.done t run (inv.in_round t run h))
 
 pub returns-then-live-eq0-clause-counted : goal.returns-then-live-eq0-clause-counted
@@ -55,7 +55,7 @@ returns-then-live-eq0-clause-counted g c =
     let e = c.in_ok-live.ensures in
     λ t run h.
     all_taken run (length c.args.self.now.stimuli) c.loop-round.round c.loop-round.vectors (inv.taken t run h)
-    (none_more run (length c.args.self.now.stimuli) c.loop-round.round c.loop-round.self.stimuli (g.D.Desk.contents c.loop-round.desk) inv.lanes (inv.in_round t run h).read (sym c.if-live-eq0.true ∙ e.count))
+    (none_more run (length c.args.self.now.stimuli) c.loop-round.round c.loop-round.self.stimuli (g.D.Desk.told c.loop-round.desk).contents inv.lanes (inv.in_round t run h).read (sym c.if-live-eq0.true ∙ e.count))
 
 pub returns-then-live-eq0-clause-within : goal.returns-then-live-eq0-clause-within
 returns-then-live-eq0-clause-within g c =
@@ -91,8 +91,8 @@ returns-in_err-read-clause-stops g c =
     λ t run h. rw (is.1, is.2)
     (let before = ran.done t run (inv.in_round t run h) in (
       suc c.loop-round.round,
-      stops_in g.W.Word.lane run (suc c.loop-round.round) (length c.args.self.now.stimuli) c.round.new.self (g.D.Desk.contents c.round.new.desk) (g.D.Desk.contents c.read.new.desk) _ (omega arith) lanes (c.in_err-read.ensures.others t).put before.waves
-          (subst (λ (n : ℕ). ReadStops run n (suc c.loop-round.round) (g.D.Desk.contents c.read.new.desk) c.in_err-read.field-0.0) lanes (c.in_err-read.ensures.stops t run (suc c.loop-round.round) before.next)),
+      stops_in g.W.Word.lane run (suc c.loop-round.round) (length c.args.self.now.stimuli) c.round.new.self (g.D.Desk.told c.round.new.desk).contents (g.D.Desk.told c.read.new.desk).contents _ (omega arith) lanes (c.in_err-read.ensures.others t).put before.waves
+          (subst (λ (n : ℕ). ReadStops run n (suc c.loop-round.round) (g.D.Desk.told c.read.new.desk).contents c.in_err-read.field-0.0) lanes (c.in_err-read.ensures.stops t run (suc c.loop-round.round) before.next)),
     ))
 
 pub loop-round-preserved : goal.loop-round-preserved
@@ -120,16 +120,16 @@ loop-round-preserved g c =
       begins = λ h. absurd (omega (arith, h));
       ticked = ticked_more c.args.self.now.engine.program c.loop-round.self.engine.program c.args.self.now.engine.begun c.loop-round.self.engine.begun k (count_by (λ s. s.live) c.loop-round.self.stimuli) c.args.steps.now c.loop-round.steps c.round.new.steps inv.program (omega (arith, some, ran.count)) inv.begins inv.begun inv.ticked ran.ticked;
       others = λ t. others_read (others_on inv.lanes (inv.others t) (ran.others t)) (read.others t);
-      in_round = λ t run h. subst (λ (n : ℕ). AreInRound g.W.Word.lane run n c.read.new.self (g.D.Desk.contents c.read.new.desk)) next
-          (in_next g.W.Word.lane run (suc k) c.round.new.self c.read.new.self (g.D.Desk.contents c.round.new.desk) (g.D.Desk.contents c.read.new.desk) read.lanes read.waves read.engine (read.others t).put (ran.done t run (inv.in_round t run h)) (read.read t run (suc k)));
+      in_round = λ t run h. subst (λ (n : ℕ). AreInRound g.W.Word.lane run n c.read.new.self (g.D.Desk.told c.read.new.desk).contents) next
+          (in_next g.W.Word.lane run (suc k) c.round.new.self c.read.new.self (g.D.Desk.told c.round.new.desk).contents (g.D.Desk.told c.read.new.desk).contents read.lanes read.waves read.engine (read.others t).put (ran.done t run (inv.in_round t run h)) (read.read t run (suc k)));
       taken = λ t run h. subst (λ (n : ℕ). AreTaken run (length c.args.self.now.stimuli) n (c.loop-round.vectors + c.in_ok-live.live)) next
-          (taken_next run (length c.args.self.now.stimuli) k c.loop-round.vectors c.in_ok-live.live c.loop-round.self.stimuli (g.D.Desk.contents c.loop-round.desk) inv.lanes (inv.in_round t run h).read ran.count some (inv.taken t run h));
+          (taken_next run (length c.args.self.now.stimuli) k c.loop-round.vectors c.in_ok-live.live c.loop-round.self.stimuli (g.D.Desk.told c.loop-round.desk).contents inv.lanes (inv.in_round t run h).read ran.count some (inv.taken t run h));
     }
 
 pub returns-clause-done : goal.returns-clause-done
 returns-clause-done g c =
     let inv = c.loop-round.invariant in
-    λ t run h. done_at_last g.W.Word.lane run (length c.args.self.now.stimuli) c.loop-round.round c.loop-round.self (g.D.Desk.contents c.loop-round.desk) inv.lanes (omega arith) inv.ready.alike.lanes (inv.in_round t run h)
+    λ t run h. done_at_last g.W.Word.lane run (length c.args.self.now.stimuli) c.loop-round.round c.loop-round.self (g.D.Desk.told c.loop-round.desk).contents inv.lanes (omega arith) inv.ready.alike.lanes (inv.in_round t run h)
 
 pub returns-clause-counted : goal.returns-clause-counted
 returns-clause-counted g c =

@@ -13,9 +13,9 @@ abbrev pub invariant-loop-round : goal.invariant-loop-round
 invariant-loop-round g l =
     record {
       ready : IsReady l.round l.self;
-      readable : AreAttached (g.D.Desk.register l.desk) l.self.stimuli;
-      writable : AreWritable (g.D.Desk.register l.desk) (length l.self.waves);
-      same : g.D.Desk.register l.desk ≡ g.D.Desk.register l.initial.desk;
+      readable : AreAttached (g.D.Desk.told l.desk).register l.self.stimuli;
+      writable : AreWritable (g.D.Desk.told l.desk).register (length l.self.waves);
+      same : (g.D.Desk.told l.desk).register ≡ (g.D.Desk.told l.initial.desk).register;
       lanes : length l.self.stimuli ≡ length l.initial.self.stimuli;
       waves : length l.self.waves ≡ length l.initial.self.waves;
       program : l.self.engine.program ≡ l.initial.self.engine.program;
@@ -23,7 +23,7 @@ invariant-loop-round g l =
       begun : 0 < l.round → l.self.engine.begun ≡ true;
       begins : l.round ≡ 0 → l.self.engine.begun ≡ l.initial.self.engine.begun;
       ticked : TicksRounds l.initial.self.engine.program l.initial.self.engine.begun l.round l.initial.steps l.steps;
-      others : IsTrue g.D.Desk.tells → OthersStay (length l.initial.self.stimuli) (g.D.Desk.contents l.initial.desk) (g.D.Desk.contents l.desk);
-      in_round : IsTrue g.D.Desk.tells → (run : Run) → AreInRound g.W.Word.lane run 0 l.initial.self (g.D.Desk.contents l.initial.desk) → AreInRound g.W.Word.lane run l.round l.self (g.D.Desk.contents l.desk);
-      taken : IsTrue g.D.Desk.tells → (run : Run) → AreInRound g.W.Word.lane run 0 l.initial.self (g.D.Desk.contents l.initial.desk) → AreTaken run (length l.initial.self.stimuli) l.round l.vectors;
+      others : IsTrue g.D.Desk.tells → OthersStay (length l.initial.self.stimuli) (g.D.Desk.told l.initial.desk).contents (g.D.Desk.told l.desk).contents;
+      in_round : IsTrue g.D.Desk.tells → (run : Run) → AreInRound g.W.Word.lane run 0 l.initial.self (g.D.Desk.told l.initial.desk).contents → AreInRound g.W.Word.lane run l.round l.self (g.D.Desk.told l.desk).contents;
+      taken : IsTrue g.D.Desk.tells → (run : Run) → AreInRound g.W.Word.lane run 0 l.initial.self (g.D.Desk.told l.initial.desk).contents → AreTaken run (length l.initial.self.stimuli) l.round l.vectors;
     }

@@ -25,17 +25,17 @@ returns-clause-read g c = λ t.
     let is = c.args.inputs.now in
     let source = c.in_ok-source.source in
     let new = c.find_header.new.source in
-    let after = g.D.Desk.contents c.find_header.new.desk in
+    let after = g.D.Desk.told c.find_header.new.desk in
     let cs = c.in_ok-columns.columns.items in
     let start = c.in_ok-source.ensures.at in
-    let o = open_at source (g.D.Desk.contents c.attach.new.self) in
+    let o = open_at source (g.D.Desk.told c.attach.new.self) in
     let p = open_at new after in
     let at : o.at ≡ first_place = λ i. record { number = start.0 i; start = start.1 i } in
-    let rest : o.rest ≡ (g.D.Desk.contents c.args.desk.now).files (string_bytes c.args.path) =
-    opened_rest source (g.D.Desk.contents c.args.desk.now) (g.D.Desk.contents c.attach.new.self) (1000 + c.args.lane) (string_bytes c.args.path) (search rules) (search rules) (c.in_ok-attach.ensures.bytes t) in
+    let rest : o.rest ≡ (g.D.Desk.told c.args.desk.now).contents.files (string_bytes c.args.path) =
+    opened_rest source (g.D.Desk.told c.args.desk.now).contents (g.D.Desk.told c.attach.new.self) (1000 + c.args.lane) (string_bytes c.args.path) (search rules) (search rules) (c.in_ok-attach.ensures.attached.bytes t) in
     let place : new.place ≡ 1000 + c.args.lane = search rules in
-    subst (λ (n : ℕ). IsReadTo is ((g.D.Desk.contents c.args.desk.now).files (string_bytes c.args.path)) 0 c.new.result.columns.items p.at (new.block ++ after.left n)) place
-    (subst (λ (ds : Vec Column Global). IsReadTo is ((g.D.Desk.contents c.args.desk.now).files (string_bytes c.args.path)) 0 ds.items p.at p.rest) (sym c.new.ensures.columns)
+    subst (λ (n : ℕ). IsReadTo is ((g.D.Desk.told c.args.desk.now).contents.files (string_bytes c.args.path)) 0 c.new.result.columns.items p.at (new.block ++ after.contents.left n)) place
+    (subst (λ (ds : Vec Column Global). IsReadTo is ((g.D.Desk.told c.args.desk.now).contents.files (string_bytes c.args.path)) 0 ds.items p.at p.rest) (sym c.new.ensures.columns)
     (subst (λ (text : List ℕ). IsReadTo is text 0 cs p.at p.rest) rest (read_first is cs o p at (c.in_ok-columns.ensures.passes t))))
 
 pub returns-clause-header : goal.returns-clause-header
@@ -43,26 +43,26 @@ returns-clause-header g c = λ t.
     let is = c.args.inputs.now in
     let source = c.in_ok-source.source in
     let new = c.find_header.new.source in
-    let after = g.D.Desk.contents c.find_header.new.desk in
+    let after = g.D.Desk.told c.find_header.new.desk in
     let start = c.in_ok-source.ensures.at in
-    let o = open_at source (g.D.Desk.contents c.attach.new.self) in
+    let o = open_at source (g.D.Desk.told c.attach.new.self) in
     let p = open_at new after in
     let at : o.at ≡ first_place = λ i. record { number = start.0 i; start = start.1 i } in
-    let rest : o.rest ≡ (g.D.Desk.contents c.args.desk.now).files (string_bytes c.args.path) =
-    opened_rest source (g.D.Desk.contents c.args.desk.now) (g.D.Desk.contents c.attach.new.self) (1000 + c.args.lane) (string_bytes c.args.path) (search rules) (search rules) (c.in_ok-attach.ensures.bytes t) in
+    let rest : o.rest ≡ (g.D.Desk.told c.args.desk.now).contents.files (string_bytes c.args.path) =
+    opened_rest source (g.D.Desk.told c.args.desk.now).contents (g.D.Desk.told c.attach.new.self) (1000 + c.args.lane) (string_bytes c.args.path) (search rules) (search rules) (c.in_ok-attach.ensures.attached.bytes t) in
     let place : new.place ≡ 1000 + c.args.lane = search rules in
     (λ i. read_header limits is (sym at i) (all_lines (lines (sym rest i))))
     ∙ c.in_ok-columns.ensures.found t
     ∙ ap (λ (ds : Vec Column Global). vectors_from ds.items 0 p) (sym c.new.ensures.columns)
-    ∙ ap (λ (n : ℕ). read_vectors limits c.new.result.columns.items p.at 0 (all_lines (lines (new.block ++ after.left n)))) place
+    ∙ ap (λ (n : ℕ). read_vectors limits c.new.result.columns.items p.at 0 (all_lines (lines (new.block ++ after.contents.left n)))) place
 
 pub returns-clause-headed : goal.returns-clause-headed
 returns-clause-headed g c = λ t.
     let is = c.args.inputs.now in
     let source = c.in_ok-source.source in
     let start = c.in_ok-source.ensures.at in
-    let o = open_at source (g.D.Desk.contents c.attach.new.self) in
+    let o = open_at source (g.D.Desk.told c.attach.new.self) in
     let at : o.at ≡ first_place = λ i. record { number = start.0 i; start = start.1 i } in
-    let rest : o.rest ≡ (g.D.Desk.contents c.args.desk.now).files (string_bytes c.args.path) =
-    opened_rest source (g.D.Desk.contents c.args.desk.now) (g.D.Desk.contents c.attach.new.self) (1000 + c.args.lane) (string_bytes c.args.path) (search rules) (search rules) (c.in_ok-attach.ensures.bytes t) in
+    let rest : o.rest ≡ (g.D.Desk.told c.args.desk.now).contents.files (string_bytes c.args.path) =
+    opened_rest source (g.D.Desk.told c.args.desk.now).contents (g.D.Desk.told c.attach.new.self) (1000 + c.args.lane) (string_bytes c.args.path) (search rules) (search rules) (c.in_ok-attach.ensures.attached.bytes t) in
     (λ i. header_fault limits is (sym at i) (all_lines (lines (sym rest i)))) ∙ c.in_ok-columns.ensures.headed t

@@ -12,10 +12,9 @@ use Rattle.vs_program.specs.declared.compiled.Span.{Span}
 use Rattle.vs_program.specs.Compiled.{span_bits}
 use Rattle.vs_engine.specs.Lanes.{differ_below, state}
 use Rattle.vs_vcd.specs.Values.{value_line}
-use Rattle.vs_vcd.specs.Texts.{value_lines}
 use Rattle.vs_waves.specs.declared.changes.Changes.{Changes}
 use Rattle.vs_waves.specs.declared.last.Last.TheInside.{Inside}
-use Rattle.vs_waves.specs.Changes.{AreOf, changes_text}
+use Rattle.vs_waves.specs.Changes.{AreOf, changes_text, place_lines}
 use Rattle.vs_waves.specs.Rounds.{lane_values, values_in}
 use Rattle.vs_waves.specs.Last.{LastPlanes}
 use Rattle.vs_waves.proofs.Lists.{read_here}
@@ -101,8 +100,8 @@ loop-n-preserved g c =
     let is_written : (i : ℕ) → i < lanes → lane c.lanes_to_write-lanes.result i ≡ (c.args.all || not (is_one (identical (get_or (was i) n []) (get_or (now i) n [])))) = λ i l.
     c.lanes_to_write-lanes.ensures t i there.is l
     ∙ ap (λ (b : Bool). c.args.all || b) (differs lane lanes holds signals spans old planes part n i s t is_s there.is there.long (λ k h. part_of k i h) c.loop-n.invariant.taken) in
-    let lines : (i : ℕ) → i < lanes → value_lines (now i) (numbers c.args.all (was i) (now i) (n + 1))
-    ≡ value_lines (now i) (numbers c.args.all (was i) (now i) n) ++ (if lane c.lanes_to_write-lanes.result i then value_line n (get_or (now i) n []) else []) = λ i l.
+    let lines : (i : ℕ) → i < lanes → place_lines (now i) (numbers c.args.all (was i) (now i) (n + 1))
+    ≡ place_lines (now i) (numbers c.args.all (was i) (now i) n) ++ (if lane c.lanes_to_write-lanes.result i then value_line n (get_or (now i) n []) else []) = λ i l.
     lines_more c.args.all (lane c.lanes_to_write-lanes.result i) n (was i) (now i)
     (omega (arith, slice_get_within spans n s is_s, length-map spans (λ (x : Span). read (λ b. slot_lane lane old b i) (span_bits x))))
     (omega (arith, slice_get_within signals n t there.is, length-map signals (λ (x : Span). read (holds i) (span_bits x))))
@@ -146,8 +145,8 @@ loop-n-preserved g c =
             text = λ i l.
                 ap (λ (x : Changes _). changes_text lane lanes x i) w.changes-is
                 ∙ c.loop-n.invariant.text i l
-                ∙ sym (append-nil (value_lines (now i) (numbers c.args.all (was i) (now i) n)))
-                ∙ sym (ap (λ (b : Bool). value_lines (now i) (numbers c.args.all (was i) (now i) n) ++ (if b then value_line n (get_or (now i) n []) else [])) (none i l))
+                ∙ sym (append-nil (place_lines (now i) (numbers c.args.all (was i) (now i) n)))
+                ∙ sym (ap (λ (b : Bool). place_lines (now i) (numbers c.args.all (was i) (now i) n) ++ (if b then value_line n (get_or (now i) n []) else [])) (none i l))
                 ∙ sym (lines i l);
             count = omega (arith, ap (λ (x : Changes _). length x.changed.items) w.changes-is, c.loop-n.invariant.count);
             room = subst (AreOf lanes (length spans)) (sym w.changes-is) c.loop-n.invariant.room;

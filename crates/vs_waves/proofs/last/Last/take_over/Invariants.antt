@@ -1,8 +1,7 @@
 use Rattle.std.proofs.Common.{◌≡◌, ℕ, ◌<◌, ◌≤◌, length}
 use Rattle.vs_engine.specs.Lanes.{state}
 use Rattle.vs_plane.specs.Lanes.{slot_lane}
-use Rattle.vs_vcd.specs.Texts.{value_lines}
-use Rattle.vs_waves.specs.Changes.{changes_text, AreOf}
+use Rattle.vs_waves.specs.Changes.{changes_text, place_lines, AreOf}
 use Rattle.vs_waves.specs.Rounds.{lane_values, values_in}
 use Rattle.vs_waves.proofs.Changing.{numbers}
 use Rattle.vs_waves.proofs.Spanning.{AreTaken}
@@ -14,7 +13,7 @@ invariant-loop-n g l = record {
   spans : l.self-inside.spans ≡ l.initial.self-inside.spans;
   taken : AreTaken g.W.Word.lane g.W.Word.LANES (state g.W.Word.lane l.engine) l.engine.program.signals l.initial.self-inside.spans.items l.initial.self-inside.planes.items l.self-inside.planes.items l.n;
   text : (i : ℕ) → i < g.W.Word.LANES → changes_text g.W.Word.lane g.W.Word.LANES l.changes i
-      ≡ value_lines (lane_values g.W.Word.lane l.engine i)
+      ≡ place_lines (lane_values g.W.Word.lane l.engine i)
       (numbers l.all (values_in (λ b. slot_lane g.W.Word.lane l.initial.self-inside.planes.items b i) l.initial.self-inside.spans.items) (lane_values g.W.Word.lane l.engine i) l.n);
   count : length l.changes.changed.items ≤ l.n;
   room : AreOf g.W.Word.LANES (length l.initial.self-inside.spans.items) l.changes;

@@ -1,76 +1,66 @@
-use Rattle.std.proofs.Common.{◌≡◌, ◌++◌, ℕ, List, take, ◌∙◌, subst, append_assoc}
-use Rattle.vs_desk.specs.Desk.{PutsPart}
+use Rattle.std.proofs.Common.{◌≡◌, ◌++◌, ℕ, List, take, ap, ◌∙◌, subst, append_assoc}
 use Rattle.vs_waves.specs.Changes.{changes_text}
-use Rattle.vs_waves.specs.Puts.{PutsFront}
+use Rattle.vs_waves.specs.Puts.{Moves}
 use Rattle.vs_waves.specs.Slots.{closing}
-use Rattle.vs_waves.proofs.Draining.{front-after, part_after, part-more, on_err}
+use Rattle.vs_waves.proofs.Moving.{moves_as, moves_failed, moves_before, moves_then}
 use Rattle.vs_waves.proofs.slot.Slot.put.Goals as goal
 
 three : (kept a b c : List ℕ) → ((kept ++ a) ++ b) ++ c ≡ kept ++ (a ++ (b ++ c))
 three kept a b c = append_assoc (kept ++ a) b c ∙ append_assoc kept a (b ++ c)
 
-pub returns-in_err-opened-clause-bytes_part : goal.returns-in_err-opened-clause-bytes_part
-returns-in_err-opened-clause-bytes_part g c = λ t.
+pub returns-in_err-opened-clause-moved : goal.returns-in_err-opened-clause-moved
+returns-in_err-opened-clause-moved g c =
     let kept = take c.args.filled c.args.block.now in
     let s = c.args.self.now in
     let a = take s.opened s.opening in
     let rest = changes_text g.W.Word.lane g.W.Word.LANES s.changes c.args.lane ++ closing s.is_first in
-    let r = g.D.Desk.register c.args.desk.now in
-    let old = g.D.Desk.contents c.args.desk.now in
-    let new = g.D.Desk.contents c.put_text.new.desk in
-    on_err c.from_residual.result (subst (λ (text : List ℕ). PutsPart r old new c.args.place text) (append_assoc kept a rest)
-    (part-more r old new c.args.place (kept ++ a) rest (c.in_err-opened.ensures.bytes_part t)))
+    subst (λ (text : List ℕ). Moves (g.D.Desk.told c.args.desk.now) (g.D.Desk.told c.put_text.new.desk) c.args.place text (λ n. take n c.put_text.new.block) c.from_residual.result) (append_assoc kept a rest)
+    (moves_before _ _ _ (kept ++ a) rest _ _ _ c.from_residual.result c.from_residual.ensures.0 c.in_err-opened.ensures.moved)
 
-pub returns-in_err-changed-clause-bytes_part : goal.returns-in_err-changed-clause-bytes_part
-returns-in_err-changed-clause-bytes_part g c = λ t.
+pub returns-in_err-changed-clause-moved : goal.returns-in_err-changed-clause-moved
+returns-in_err-changed-clause-moved g c =
     let kept = take c.args.filled c.args.block.now in
     let s = c.args.self.now in
     let a = take s.opened s.opening in
     let b = changes_text g.W.Word.lane g.W.Word.LANES s.changes c.args.lane in
     let z = closing s.is_first in
-    let r = g.D.Desk.register c.args.desk.now in
-    let old = g.D.Desk.contents c.args.desk.now in
-    let first = g.D.Desk.contents c.put_text.new.desk in
-    let new = g.D.Desk.contents c.put_changes.new.desk in
-    on_err c.from_residual-in_err-changed.result (subst (λ (text : List ℕ). PutsPart r old new c.args.place text) (three kept a b z)
-    (part-more r old new c.args.place ((kept ++ a) ++ b) z
-    (part_after r (g.D.Desk.register c.put_text.new.desk) old first new c.args.place (kept ++ a) (take c.in_ok-opened.opened c.put_text.new.block) b c.put_law.ensures.parts c.in_ok-opened.ensures.same (c.in_ok-opened.ensures.bytes t) (c.in_err-changed.ensures.bytes_part t))))
+    let old = g.D.Desk.told c.args.desk.now in
+    let new = g.D.Desk.told c.put_changes.new.desk in
+    subst (λ (text : List ℕ). Moves old new c.args.place text (λ n. take n c.put_changes.new.block) c.from_residual-in_err-changed.result) (three kept a b z)
+    (moves_before old new c.args.place ((kept ++ a) ++ b) z _ _ _ c.from_residual-in_err-changed.result c.from_residual-in_err-changed.ensures.0
+    (moves_then c.put_law.ensures.parts old (g.D.Desk.told c.put_text.new.desk) new c.args.place (kept ++ a) b (λ n. take n c.put_text.new.block) _ c.in_ok-opened.opened _ c.in_ok-opened.ensures.moved c.in_err-changed.ensures.moved))
 
-pub returns-in_err-closed-clause-bytes_part : goal.returns-in_err-closed-clause-bytes_part
-returns-in_err-closed-clause-bytes_part g c = λ t.
+pub returns-in_err-closed-clause-moved : goal.returns-in_err-closed-clause-moved
+returns-in_err-closed-clause-moved g c =
     let kept = take c.args.filled c.args.block.now in
     let s = c.args.self.now in
     let a = take s.opened s.opening in
     let b = changes_text g.W.Word.lane g.W.Word.LANES s.changes c.args.lane in
     let z = closing s.is_first in
-    let r = g.D.Desk.register c.args.desk.now in
-    let old = g.D.Desk.contents c.args.desk.now in
-    let first = g.D.Desk.contents c.put_text.new.desk in
-    let second = g.D.Desk.contents c.put_changes.new.desk in
-    let new = g.D.Desk.contents c.put_text-2.new.desk in
+    let old = g.D.Desk.told c.args.desk.now in
+    let second = g.D.Desk.told c.put_changes.new.desk in
+    let new = g.D.Desk.told c.put_text-2.new.desk in
     let ended = take c.in_ok-changed.changed c.put_changes.new.block in
-    let two = front-after r (g.D.Desk.register c.put_text.new.desk) old first second c.args.place (kept ++ a) (take c.in_ok-opened.opened c.put_text.new.block) b ended
-    c.put_law.ensures.parts c.in_ok-opened.ensures.same (c.in_ok-opened.ensures.bytes t) (c.in_ok-changed.ensures.bytes t) in
-    let part = subst (λ (text : List ℕ). PutsPart (g.D.Desk.register c.put_changes.new.desk) second new c.args.place (ended ++ text)) c.closing.ensures (c.in_err-closed.ensures.bytes_part t) in
-    on_err c.from_residual-in_err-closed.result (subst (λ (text : List ℕ). PutsPart r old new c.args.place text) (three kept a b z)
-    (part_after r (g.D.Desk.register c.put_changes.new.desk) old second new c.args.place ((kept ++ a) ++ b) ended z c.put_law.ensures.parts (c.in_ok-changed.ensures.same ∙ c.in_ok-opened.ensures.same) two part))
+    let two = moves_then c.put_law.ensures.parts old (g.D.Desk.told c.put_text.new.desk) second c.args.place (kept ++ a) b (λ n. take n c.put_text.new.block) (λ n. take n c.put_changes.new.block) c.in_ok-opened.opened _
+    c.in_ok-opened.ensures.moved c.in_ok-changed.ensures.moved in
+    let last = moves_as second new c.args.place _ _ _ _ (ap (λ (text : List ℕ). ended ++ text) c.closing.ensures) c.in_err-closed.ensures.moved in
+    subst (λ (text : List ℕ). Moves old new c.args.place text (λ n. take n c.put_text-2.new.block) c.from_residual-in_err-closed.result) (three kept a b z)
+    (moves_failed old new c.args.place (((kept ++ a) ++ b) ++ z) _ _ _ c.from_residual-in_err-closed.result c.from_residual-in_err-closed.ensures.0
+    (moves_then c.put_law.ensures.parts old second new c.args.place ((kept ++ a) ++ b) z (λ n. take n c.put_changes.new.block) (λ n. take n c.put_text-2.new.block) c.in_ok-changed.changed _ two last))
 
-pub returns-clause-bytes : goal.returns-clause-bytes
-returns-clause-bytes g c = λ t.
+pub returns-clause-moved : goal.returns-clause-moved
+returns-clause-moved g c =
     let kept = take c.args.filled c.args.block.now in
     let s = c.args.self.now in
     let a = take s.opened s.opening in
     let b = changes_text g.W.Word.lane g.W.Word.LANES s.changes c.args.lane in
     let z = closing s.is_first in
-    let r = g.D.Desk.register c.args.desk.now in
-    let old = g.D.Desk.contents c.args.desk.now in
-    let first = g.D.Desk.contents c.put_text.new.desk in
-    let second = g.D.Desk.contents c.put_changes.new.desk in
-    let new = g.D.Desk.contents c.put_text-2.new.desk in
+    let old = g.D.Desk.told c.args.desk.now in
+    let second = g.D.Desk.told c.put_changes.new.desk in
+    let new = g.D.Desk.told c.put_text-2.new.desk in
     let ended = take c.in_ok-changed.changed c.put_changes.new.block in
-    let last = take c.in_ok-closed.closed c.put_text-2.new.block in
-    let two = front-after r (g.D.Desk.register c.put_text.new.desk) old first second c.args.place (kept ++ a) (take c.in_ok-opened.opened c.put_text.new.block) b ended
-    c.put_law.ensures.parts c.in_ok-opened.ensures.same (c.in_ok-opened.ensures.bytes t) (c.in_ok-changed.ensures.bytes t) in
-    let next = subst (λ (text : List ℕ). PutsFront (g.D.Desk.register c.put_changes.new.desk) second new c.args.place (ended ++ text) last) c.closing.ensures (c.in_ok-closed.ensures.bytes t) in
-    subst (λ (text : List ℕ). PutsFront r old new c.args.place text last) (three kept a b z)
-    (front-after r (g.D.Desk.register c.put_changes.new.desk) old second new c.args.place ((kept ++ a) ++ b) ended z last c.put_law.ensures.parts (c.in_ok-changed.ensures.same ∙ c.in_ok-opened.ensures.same) two next)
+    let two = moves_then c.put_law.ensures.parts old (g.D.Desk.told c.put_text.new.desk) second c.args.place (kept ++ a) b (λ n. take n c.put_text.new.block) (λ n. take n c.put_changes.new.block) c.in_ok-opened.opened _
+    c.in_ok-opened.ensures.moved c.in_ok-changed.ensures.moved in
+    let last = moves_as second new c.args.place _ _ _ _ (ap (λ (text : List ℕ). ended ++ text) c.closing.ensures) c.in_ok-closed.ensures.moved in
+    moves_as old new c.args.place _ _ _ _ (three kept a b z)
+    (moves_then c.put_law.ensures.parts old second new c.args.place ((kept ++ a) ++ b) z (λ n. take n c.put_changes.new.block) (λ n. take n c.put_text-2.new.block) c.in_ok-changed.changed _ two last)
