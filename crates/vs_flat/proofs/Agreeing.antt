@@ -9,7 +9,7 @@ use Rattle.vs_design.specs.Expressions as E
 use Rattle.vs_design.specs.Statements as T
 use Rattle.vs_design.specs.Designs as D
 use Rattle.vs_flat.specs.declared.expressions.Node.{Node}
-use Rattle.vs_flat.specs.declared.expressions.Node.TheVariants.{Literal, Name, Bit, Part as PartSelect, Unary, Binary, Choice, Join}
+use Rattle.vs_flat.specs.declared.expressions.Node.TheVariants.{Literal, Name, Bit, Part as PartSelect, Word, Unary, Binary, Choice, Join}
 use Rattle.vs_flat.specs.declared.processes.Event.{Event}
 use Rattle.vs_flat.specs.declared.processes.Kind.{Kind}
 use Rattle.vs_flat.specs.declared.processes.Kind.TheVariants as K
@@ -91,6 +91,11 @@ node_agrees signals nodes s t f g (PartSelect of range base up width) ss ff h =
     let e = ff of (first_below nodes of (base ∷ []) b) in
     let i = ff base (first_below nodes base [] (rest_below nodes of (base ∷ []) b)) in
     ap (λ x. E.Select (source_of x) part (f base)) e ∙ ap (λ x. E.Select (source_of (g of)) part x) i
+node_agrees signals nodes s t f g (Word m index) ss ff h =
+    let b = node_parts signals nodes (Word m index) h in
+    let e = ss m (first_below signals m [] b.0) in
+    let i = ff index (first_below nodes index [] b.1) in
+    ap (λ x. E.Word x (f index)) e ∙ ap (λ x. E.Word (t m) x) i
 node_agrees signals nodes s t f g (Unary op a) ss ff h = ap (E.Unary op) (ff a (first_below nodes a [] h))
 node_agrees signals nodes s t f g (Binary op a b) ss ff h =
     let left : f a ≡ g a = ff a (first_below nodes a (b ∷ []) h) in

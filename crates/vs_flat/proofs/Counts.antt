@@ -6,7 +6,7 @@ use Rattle.std.proofs.lemmas.List.Sums.{sum_by-cons}
 use Rattle.vs_design.specs.Expressions as E
 use Rattle.vs_design.specs.Designs as D
 use Rattle.vs_flat.specs.declared.processes.Signal.{Signal}
-use Rattle.vs_flat.specs.Arena.{Arena, bit_count, inputs_from, top_inputs}
+use Rattle.vs_flat.specs.Arena.{Arena, signal_length, bit_count, inputs_from, top_inputs}
 use Rattle.vs_flat.specs.Trees.{signal_of, signals_from, signal_at, tree_at, statement_at}
 use Rattle.vs_flat.specs.DesignOf.{scope_of, process_of, arena_signals, arena_trees, arena_statements, design_of}
 use Rattle.vs_flat.specs.Laws.{HasCounts}
@@ -16,8 +16,8 @@ pub signal_bits : (n : ℕ) (ss : List Signal) → sum_by E.signal_length (signa
 signal_bits n [] = refl
 signal_bits n (s ∷ ss) =
     sum_by-cons E.signal_length (signal_of n s) (signals_from (suc n) ss)
-    ∙ ap (λ k. E.range_or_one s.range + k) (signal_bits (suc n) ss)
-    ∙ sym (sum_by-cons (λ (t : Signal). E.range_or_one t.range) s ss)
+    ∙ ap (λ k. signal_length s + k) (signal_bits (suc n) ss)
+    ∙ sym (sum_by-cons signal_length s ss)
 
 pub counts : (a : Arena) → HasCounts a
 counts a = record {

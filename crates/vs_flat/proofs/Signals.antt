@@ -1,28 +1,46 @@
 -- Signals added one after the other.
-use Rattle.std.proofs.Common.{◌≡◌, ℕ, suc, ◌+◌, ◌-◌, ◌≤◌, ◌^◌, Bool, true, false, if◌then◌else◌, List, [], ◌∷◌, ◌++◌, length, ap, ◌∙◌, sym, arith, append-nil}
+use Rattle.std.proofs.Common.{◌≡◌, ℕ, suc, ◌+◌, ◌-◌, ◌*◌, ◌≤◌, ◌^◌, Bool, true, false, if◌then◌else◌, List, [], ◌∷◌, ◌++◌, length, ap, ◌∙◌, sym, arith, append-nil}
 use Rattle.std.proofs.lemmas.List.Sums.{sum_by-append}
 use Rattle.std.proofs.lemmas.Bool.{cond_both}
-use Rattle.vs_four.specs.Selects.{is_descending}
+use Rattle.vs_four.specs.Selects.{is_descending, range_length}
 use Rattle.vs_four.specs.declared.Range.{Range}
 use Rattle.std.specs.Prelude.{Option, None, Some}
-use Rattle.vs_design.specs.Expressions.{range_or_one}
+use Rattle.std.proofs.Math.Nat.{one-le-mul, mul-le-mul_right}
+use Rattle.vs_design.specs.Expressions.{range_or_one, words_length}
 use Rattle.vs_flat.specs.declared.processes.Signal.{Signal}
-use Rattle.vs_flat.specs.Arena.{Arena, bit_count, inputs_from, IsWithinLimits}
+use Rattle.vs_flat.specs.Arena.{Arena, signal_length, bit_count, inputs_from, IsWithinLimits}
 
 -- a signal has a bit
 pub one≤range_or_one : (r : Option Range) → 1 ≤ range_or_one r
 one≤range_or_one None = omega arith
 one≤range_or_one (Some r) = cond_both (is_descending r) (suc (r.left - r.right)) (suc (r.right - r.left)) (λ n. 1 ≤ n) (λ _. omega arith) (λ _. omega arith)
 
+pub one≤signal_length : (s : Signal) → 1 ≤ signal_length s
+one≤signal_length s = go s.words (range_or_one s.range) (one≤range_or_one s.range)
+  where
+    go : (o : Option Range) (k : ℕ) → 1 ≤ k → 1 ≤ words_length o k
+    go None k h = h
+    go (Some r) k h = one-le-mul (one≤range_or_one (Some r)) h
+
+-- and no more bits in a word than in all words
+pub word≤signal_length : (s : Signal) → range_or_one s.range ≤ signal_length s
+word≤signal_length s = go s.words (range_or_one s.range)
+  where
+    go : (o : Option Range) (k : ℕ) → k ≤ words_length o k
+    go None k = omega arith
+    go (Some r) k =
+        let m : 1 * k ≤ range_length r * k = mul-le-mul_right k (one≤range_or_one (Some r)) in
+        omega (arith, m)
+
 -- so there are no more signals than bits
 pub length≤bit_count : (ss : List Signal) → length ss ≤ bit_count ss
 length≤bit_count [] = omega arith
 length≤bit_count (s ∷ ss) =
-    let more : bit_count (s ∷ ss) ≡ (0 + range_or_one s.range) + bit_count ss = sum_by-append (λ (t : Signal). range_or_one t.range) (s ∷ []) ss in
-    omega (arith, more, one≤range_or_one s.range, length≤bit_count ss)
+    let more : bit_count (s ∷ ss) ≡ (0 + signal_length s) + bit_count ss = sum_by-append signal_length (s ∷ []) ss in
+    omega (arith, more, one≤signal_length s, length≤bit_count ss)
 
-pub bit_count-append : (ss : List Signal) (s : Signal) → bit_count (ss ++ s ∷ []) ≡ bit_count ss + range_or_one s.range
-bit_count-append ss s = sum_by-append (λ (t : Signal). range_or_one t.range) ss (s ∷ []) ∙ ap (λ n. bit_count ss + n) (omega arith)
+pub bit_count-append : (ss : List Signal) (s : Signal) → bit_count (ss ++ s ∷ []) ≡ bit_count ss + signal_length s
+bit_count-append ss s = sum_by-append signal_length ss (s ∷ []) ∙ ap (λ n. bit_count ss + n) (omega arith)
 
 -- this number, or none
 abbrev pub one_if : Bool → ℕ → List ℕ
@@ -39,7 +57,7 @@ inputs_from-append n (t ∷ ss) s =
     step t.input n (inputs_from (suc n) (ss ++ s ∷ [])) (inputs_from (suc n) ss) (one_if s.input (n + length (t ∷ ss)))
     (inputs_from-append (suc n) ss s ∙ ap (λ m. inputs_from (suc n) ss ++ one_if s.input m) (omega arith))
 
-pub within_with_signal : (a : Arena) (s : Signal) (signals : List Signal) → IsWithinLimits a → bit_count a.signals + range_or_one s.range ≤ 2 ^ 20 → signals ≡ a.signals ++ s ∷ [] → IsWithinLimits (record a { signals = signals })
+pub within_with_signal : (a : Arena) (s : Signal) (signals : List Signal) → IsWithinLimits a → bit_count a.signals + signal_length s ≤ 2 ^ 20 → signals ≡ a.signals ++ s ∷ [] → IsWithinLimits (record a { signals = signals })
 within_with_signal a s signals w room e = record {
   scopes = w.scopes;
   nodes = w.nodes;

@@ -1,6 +1,6 @@
 -- What contracts see of a flat design: the lists of what was added, each kind numbered from 0.
 use Rattle.std.specs.Prelude.{ℕ, suc, ◌<◌, ◌≤◌, ◌^◌, List, [], ◌∷◌, ◌++◌, length, if◌then◌else◌, sum_by, Option, option_map, slice_get}
-use Rattle.vs_design.specs.Expressions.{range_or_one}
+use Rattle.vs_design.specs.Expressions.{range_or_one, words_length}
 use Rattle.vs_flat.specs.declared.placed.Placed.{Placed}
 use Rattle.vs_flat.specs.declared.expressions.Node.{Node}
 use Rattle.vs_flat.specs.declared.processes.Scope.{Scope}
@@ -50,9 +50,13 @@ statement_at a s = option_map (λ (t : Placed Statement). t.item) (slice_get a.s
 abbrev pub statement_place : Arena → ℕ → Option ℕ
 statement_place a s = option_map (λ (t : Placed Statement). t.at) (slice_get a.statements s)
 
--- how many bits the signals have (3.3)
+-- how many bits a signal has (3.3), in each word of a memory (4.9)
+abbrev pub signal_length : Signal → ℕ
+signal_length s = words_length s.words (range_or_one s.range)
+
+-- and how many all signals have
 abbrev pub bit_count : List Signal → ℕ
-bit_count signals = sum_by (λ (s : Signal). range_or_one s.range) signals
+bit_count signals = sum_by signal_length signals
 
 -- the numbers of the inputs among these signals, the first of which has this number
 abbrev pub inputs_from : ℕ → List Signal → List ℕ

@@ -26,9 +26,9 @@ abbrev pub block_arena : Arena
 block_arena = record empty_arena {
   scopes = record { name = 116 ∷ 111 ∷ 112 ∷ []; parent = None; instance = true } ∷ [];
   signals =
-      record { name = 99 ∷ 108 ∷ 107 ∷ []; scope = 0; net = true; input = true; range = None; signed = false; first_bit = 0 }
-      ∷ record { name = 97 ∷ []; scope = 0; net = true; input = true; range = Some four_bits; signed = false; first_bit = 1 }
-      ∷ record { name = 113 ∷ []; scope = 0; net = false; input = false; range = Some four_bits; signed = false; first_bit = 5 }
+      record { name = 99 ∷ 108 ∷ 107 ∷ []; scope = 0; net = true; input = true; range = None; signed = false; first_bit = 0; words = None }
+      ∷ record { name = 97 ∷ []; scope = 0; net = true; input = true; range = Some four_bits; signed = false; first_bit = 1; words = None }
+      ∷ record { name = 113 ∷ []; scope = 0; net = false; input = false; range = Some four_bits; signed = false; first_bit = 5; words = None }
       ∷ [];
   processes = record { at = 58; kind = K.Block false (record { signal = 0; edge = G.Posedge } ∷ []) 5 } ∷ [];
   nodes =

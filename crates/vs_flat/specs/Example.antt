@@ -12,7 +12,7 @@ use Rattle.vs_flat.specs.Arena.{Arena, placed, empty_arena}
 
 -- a scalar net of the top
 abbrev pub net : List ℕ → Bool → ℕ → Signal
-net name input first = record { name = name; scope = 0; net = true; input = input; range = None; signed = false; first_bit = first }
+net name input first = record { name = name; scope = 0; net = true; input = input; range = None; signed = false; first_bit = first; words = None }
 
 -- the top and its ports
 abbrev pub example_ports : Arena

@@ -19,6 +19,7 @@ use Rattle.vs_flat.specs.DesignOf.{scope_of, process_of, arena_signals, arena_tr
 use Rattle.vs_flat.specs.Lawful.{NamesEarlier, are_different, IsLawful}
 use Rattle.vs_flat.specs.Example.{example_arena, example_design}
 use Rattle.vs_flat.specs.BlockExample.{block_arena, block_design}
+use Rattle.vs_flat.specs.WordExample.{word_arena, word_design}
 
 -- each signal of the plain design, with its number
 abbrev pub EachSignal : Type 0
@@ -128,8 +129,8 @@ DifferentIsOnce = (ns : List ℕ) → (are_different ns ≡ true) ↔ ((n : ℕ)
 
 -- the plain designs of the examples
 abbrev pub ExamplesAreDesigns : Type 0
-ExamplesAreDesigns = (design_of example_arena ≡ example_design) × (design_of block_arena ≡ block_design)
+ExamplesAreDesigns = (design_of example_arena ≡ example_design) × (design_of block_arena ≡ block_design) × (design_of word_arena ≡ word_design)
 
 -- and they are lawful
 abbrev pub ExamplesAreLawful : Type 0
-ExamplesAreLawful = IsLawful example_arena × IsLawful block_arena
+ExamplesAreLawful = IsLawful example_arena × IsLawful block_arena × IsLawful word_arena

@@ -9,5 +9,6 @@ pub mod DesignOf
 pub mod Lawful
 pub mod Example
 pub mod BlockExample
+pub mod WordExample
 pub mod Rows
 pub mod Laws

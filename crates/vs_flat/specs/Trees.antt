@@ -5,7 +5,7 @@ use Rattle.vs_design.specs.Expressions as E
 use Rattle.vs_design.specs.Statements as T
 use Rattle.vs_flat.specs.declared.placed.Placed.{Placed}
 use Rattle.vs_flat.specs.declared.expressions.Node.{Node}
-use Rattle.vs_flat.specs.declared.expressions.Node.TheVariants.{Literal, Name, Bit, Part, Unary, Binary, Choice, Join}
+use Rattle.vs_flat.specs.declared.expressions.Node.TheVariants.{Literal, Name, Bit, Part, Word, Unary, Binary, Choice, Join}
 use Rattle.vs_flat.specs.declared.processes.Signal.{Signal}
 use Rattle.vs_flat.specs.declared.statements.Arm.{Arm}
 use Rattle.vs_flat.specs.declared.statements.Statement.{Statement}
@@ -20,7 +20,7 @@ abbrev pub no_expression : E.Expression
 no_expression = E.Literal [] false true
 
 abbrev pub signal_of : ℕ → Signal → E.Signal
-signal_of number s = record { name = s.name; scope = s.scope; number = number; net = s.net; input = s.input; range = s.range; signed = s.signed; first = s.first_bit; words = None }
+signal_of number s = record { name = s.name; scope = s.scope; number = number; net = s.net; input = s.input; range = s.range; signed = s.signed; first = s.first_bit; words = s.words }
 
 -- the signals, of which the first has this number
 abbrev pub signals_from : ℕ → List Signal → List E.Signal
@@ -48,6 +48,7 @@ node_tree signal tree (Literal bits signed sized) = E.Literal bits signed sized
 node_tree signal tree (Name n) = E.Name (signal n)
 node_tree signal tree (Bit of range index) = E.Select (source_of (tree of)) (one_bit range) (tree index)
 node_tree signal tree (Part of range base up width) = E.Select (source_of (tree of)) (record { range = range; up = up; width = width }) (tree base)
+node_tree signal tree (Word n index) = E.Word (signal n) (tree index)
 node_tree signal tree (Unary op a) = E.Unary op (tree a)
 node_tree signal tree (Binary op a b) = E.Binary op (tree a) (tree b)
 node_tree signal tree (Choice c p q) = E.Choice (tree c) (tree p) (tree q)

@@ -30,6 +30,11 @@ pub enum Node {
         up: bool,
         width: u32,
     },
+    /// A word of a memory, a signal by its number, at the address that is the value of `index` (IEEE 1364-2005, 4.9.3).
+    Word {
+        signal: u32,
+        index: u32,
+    },
     /// An operator of one operand.
     Unary {
         op: UnaryOp,

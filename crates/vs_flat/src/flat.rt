@@ -30,8 +30,7 @@ impl Model for Flat {
 }
 
 impl Flat {
-    ghost use Rattle.vs_design.specs.Expressions.{range_or_one};
-    ghost use Rattle.vs_flat.specs.Arena.{empty_arena, with_scope, with_signal, with_process, with_node, with_statement, bit_count, top_inputs, node_at, statement_at, node_place, statement_place};
+    ghost use Rattle.vs_flat.specs.Arena.{empty_arena, with_scope, with_signal, with_process, with_node, with_statement, signal_length, bit_count, top_inputs, node_at, statement_at, node_place, statement_place};
     ghost use Rattle.vs_flat.specs.Named.{covers_scope, covers_signal, covers_process, covers_node, covers_statement};
 
     /// A design with nothing in it. It takes no memory.
@@ -79,7 +78,7 @@ impl Flat {
     /// Adds a signal and answers its number. The bits of all signals are at most 2^20.
     pub fn add_signal(&mut self, signal: Signal) -> Result<u32, AllocError>
         requires names { IsTrue (covers_signal self.old signal) }
-        requires bits { bit_count self.old.signals + range_or_one signal.range ≤ 2 ^ 20 }
+        requires bits { bit_count self.old.signals + signal_length signal ≤ 2 ^ 20 }
         ensures number { IfOk result (λ n. n ≡ length self.old.signals) }
         ensures ok { OnOk result (self.new ≡ with_signal self.old signal) }
         ensures err { OnErr result (self.new ≡ self.old) }

@@ -46,7 +46,7 @@ pub fn different_law()
     ensures { DifferentIsOnce }
 {}
 
-/// The flat designs of two small texts stand for their plain designs, and are lawful.
+/// The flat designs of three small texts stand for their plain designs, and are lawful.
 pub fn example_law()
     ensures designs { ExamplesAreDesigns }
     ensures lawful { ExamplesAreLawful }

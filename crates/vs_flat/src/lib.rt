@@ -9,7 +9,7 @@ mod placed;
 mod processes;
 mod statements;
 
-pub use bits::{count_bits, length_of, signal_length};
+pub use bits::{bits_of, count_bits, length_of, range_bits};
 pub use expressions::Node;
 pub use flat::Flat;
 pub use laws::{

@@ -30,8 +30,10 @@ pub struct Signal {
     /// The declared bounds of a vector; a scalar has none.
     pub range: Option<Range>,
     pub signed: bool,
-    /// The number of its least significant bit. The others follow.
+    /// The number of its least significant bit. The others follow; of a memory, word by word in order of address.
     pub first_bit: u32,
+    /// Of a memory (IEEE 1364-2005, 4.9) its addresses, from `right`, the least, to `left`; `range` is then that of each word.
+    pub words: Option<Range>,
 }
 
 /// An assign or a block.

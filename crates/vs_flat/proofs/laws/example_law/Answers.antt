@@ -2,6 +2,7 @@ use Rattle.std.proofs.Common.{refl, arith}
 use Rattle.vs_flat.specs.Lawful.{IsLawful}
 use Rattle.vs_flat.specs.Example.{example_arena}
 use Rattle.vs_flat.specs.BlockExample.{block_arena}
+use Rattle.vs_flat.specs.WordExample.{word_arena}
 use Rattle.vs_flat.proofs.laws.example_law.Goals as goal
 
 example_lawful : IsLawful example_arena
@@ -40,5 +41,23 @@ block_lawful = record {
   statement_chains = refl;
 }
 
+word_lawful : IsLawful word_arena
+word_lawful = record {
+  design = record { scopes = refl; numbered = refl; bits_numbered = refl; declared = refl; memories = refl; formed = refl; functions = refl; clocked_words = refl; few_bits = omega arith; few_processes = omega arith };
+  few_scopes = omega arith;
+  few_nodes = omega arith;
+  few_statements = omega arith;
+  names = record { nodes = refl; statements = refl; processes = refl };
+  expressions = refl;
+  statements = refl;
+  copies = refl;
+  assign_targets = refl;
+  statement_targets = refl;
+  expressions_once = refl;
+  statements_once = refl;
+  node_chains = refl;
+  statement_chains = refl;
+}
+
 pub returns : goal.returns
-returns c = record { designs = (refl, refl); lawful = (example_lawful, block_lawful) }
+returns c = record { designs = (refl, refl, refl); lawful = (example_lawful, block_lawful, word_lawful) }
