@@ -1,8 +1,9 @@
 -- Scopes and signals of a flat design as those of the plain one.
-use Rattle.std.proofs.Common.{◌≡◌, ℕ, zero, suc, ◌+◌, List, [], ◌∷◌, length, refl, ap, ◌∙◌, arith}
-use Rattle.std.specs.Prelude.{not, filter, slice_get, Some, option_map}
+use Rattle.std.proofs.Common.{◌≡◌, false, ℕ, zero, suc, ◌+◌, List, [], ◌∷◌, length, refl, ap, ◌∙◌, arith}
+use Rattle.std.specs.Prelude.{slice_get, Option, None, Some, is_some, option_map}
 use Rattle.std.proofs.lemmas.List.{length-map}
 use Rattle.std.proofs.lemmas.Option.{slice_get-map}
+use Rattle.vs_four.specs.declared.Range.{Range}
 use Rattle.vs_design.specs.Expressions as E
 use Rattle.vs_design.specs.Footprints.{is_memory}
 use Rattle.vs_flat.specs.Arena.{Arena}
@@ -10,7 +11,6 @@ use Rattle.vs_flat.specs.DesignOf.{design_of, scope_of}
 use Rattle.vs_flat.specs.Trees.{signal_of, signals_from}
 use Rattle.vs_flat.specs.declared.processes.Scope.{Scope}
 use Rattle.vs_flat.specs.declared.processes.Signal.{Signal}
-use Rattle.vs_vcd.specs.Scopes.{shown_signals}
 
 pub scope-at : (a : Arena) (n : ℕ) (s : Scope) → slice_get a.scopes n ≡ Some s → slice_get (design_of a).scopes n ≡ Some (scope_of s)
 scope-at a n s h = slice_get-map scope_of a.scopes n ∙ ap (option_map scope_of) h
@@ -33,10 +33,10 @@ length-from k (s ∷ signals) = ap suc (length-from (suc k) signals)
 pub length-signals : (a : Arena) → length (design_of a).signals ≡ length a.signals
 length-signals a = length-from 0 a.signals
 
--- a flat design has no memory
-pub all_shown : (a : Arena) → shown_signals (design_of a) ≡ (design_of a).signals
-all_shown a = from 0 a.signals
+-- what is no memory has the length of its range
+pub plain_length : (s : E.Signal) → is_memory s ≡ false → E.signal_length s ≡ E.range_or_one s.range
+plain_length s plain = of s.words plain
   where
-    from : (k : ℕ) (signals : List Signal) → filter (λ s. not (is_memory s)) (signals_from k signals) ≡ signals_from k signals
-    from k [] = refl
-    from k (s ∷ signals) = ap (λ (xs : List E.Signal). signal_of k s ∷ xs) (from (suc k) signals)
+    of : (words : Option Range) → is_some words ≡ false → E.words_length words (E.range_or_one s.range) ≡ E.range_or_one s.range
+    of None e = refl
+    of (Some r) e = cc

@@ -1,16 +1,17 @@
 -- The scopes and variables of a design, by their links.
 use Rattle.std.proofs.Common.{◌≡◌, ℕ, zero, suc, ◌+◌, ◌-◌, ◌<◌, ◌≤◌, true, false, List, [], ◌∷◌, ◌++◌, length, get_or, drop, refl, sym, ap, ◌∙◌, subst, append_assoc, append-nil, arith}
-use Rattle.std.specs.Prelude.{slice_get, Option, None, Some, nat_lt, ◌==◌}
+use Rattle.std.specs.Prelude.{not, filter, slice_get, Option, None, Some, nat_lt, ◌==◌}
 use Rattle.std.proofs.Math.Seq.{drop-length}
 use Rattle.std.proofs.lemmas.Bool.{ltb-true, lt-ltb, eq-eqb, ne_eqb}
 use Rattle.std.proofs.lemmas.Option.{slice_get_within}
 use Rattle.vs_design.specs.Expressions.{Signal}
 use Rattle.vs_design.specs.Designs.{Scope, Design}
+use Rattle.vs_design.specs.Footprints.{is_memory}
 use Rattle.vs_vcd.specs.declared.declarations.Step.{Step}
 use Rattle.vs_vcd.specs.declared.declarations.Step.TheVariants.{Scopes, Close}
 use Rattle.vs_vcd.specs.Groups.{is_in, first_in, AreLinkedFrom}
-use Rattle.vs_vcd.specs.Scopes.{variable_line, variables, scope_line, upscope_line, stands_in, scopes_in}
-use Rattle.vs_vcd.specs.Steps.{scope_key, scope_keys, signal_keys, scopes_from, step_text, steps_text, link_steps, IsStep, AreSteps}
+use Rattle.vs_vcd.specs.Scopes.{variable_line, variables, scope_line, upscope_line, stands_in, scopes_in, shown_signals}
+use Rattle.vs_vcd.specs.Steps.{scope_key, scope_keys, signal_key, signal_keys, scopes_from, step_text, steps_text, link_steps, IsStep, AreSteps}
 use Rattle.vs_vcd.proofs.Grouping.{by_bool, drop-at, at_number, numbers_left, first_in-found, first_in-text, first_in-skip, key_of_group, IsLink}
 
 -- ---- keys
@@ -24,9 +25,9 @@ pub scope_keys-end : (scopes : List Scope) (n : ℕ) → n ≡ length scopes →
 unfolding scope_keys
 scope_keys-end scopes n e = ap (scope_keys n) (ap (λ (k : ℕ). drop k scopes) e ∙ drop-length scopes)
 
-pub signal_keys-more : (signals : List Signal) (n m : ℕ) (s : Signal) → m ≡ suc n → slice_get signals n ≡ Some s → signal_keys (drop n signals) ≡ Some s.scope ∷ signal_keys (drop m signals)
+pub signal_keys-more : (signals : List Signal) (n m : ℕ) (s : Signal) → m ≡ suc n → slice_get signals n ≡ Some s → signal_keys (drop n signals) ≡ signal_key s ∷ signal_keys (drop m signals)
 unfolding signal_keys
-signal_keys-more signals n m s e h = ap signal_keys (drop-at signals n s h) ∙ ap (λ (k : ℕ). Some s.scope ∷ signal_keys (drop k signals)) (sym e)
+signal_keys-more signals n m s e h = ap signal_keys (drop-at signals n s h) ∙ ap (λ (k : ℕ). signal_key s ∷ signal_keys (drop k signals)) (sym e)
 
 pub signal_keys-end : (signals : List Signal) (n : ℕ) → n ≡ length signals → signal_keys (drop n signals) ≡ []
 unfolding signal_keys
@@ -51,42 +52,69 @@ listed_more keys more rest after all key e r m = ap (λ (ks : List (Option ℕ))
 
 -- ---- variables
 
+-- those of these signals that have lines
+abbrev pub shown : List Signal → List Signal
+shown signals = filter (λ s. not (is_memory s)) signals
+
 -- a key is that of a signal
-key-signal : (signals : List Signal) (n : ℕ) (key : Option ℕ) → slice_get (signal_keys signals) n ≡ Some key → (s : Signal) × (slice_get signals n ≡ Some s) × (key ≡ Some s.scope)
+pub key-signal : (signals : List Signal) (n : ℕ) (key : Option ℕ) → slice_get (signal_keys signals) n ≡ Some key → (s : Signal) × (slice_get signals n ≡ Some s) × (key ≡ signal_key s)
 unfolding signal_keys
 key-signal [] n key e = cc
-key-signal (s ∷ signals) zero key e = let same : key ≡ Some s.scope = cc in (s, refl, same)
+key-signal (s ∷ signals) zero key e = let same : key ≡ signal_key s = cc in (s, refl, same)
 key-signal (s ∷ signals) (suc n) key e = key-signal signals n key e
 
-variables-step : (signals : List Signal) (g n : ℕ) (key : Option ℕ) → slice_get (signal_keys signals) n ≡ Some key → is_in g key ≡ false → variables (drop n signals) g ≡ variables (drop (suc n) signals) g
-unfolding variables
-variables-step signals g n key e out =
-    let found = key-signal signals n key e in
-    let other : (found.0.scope == g) ≡ false = ap (is_in g) (sym found.2) ∙ out in
-    ap (λ ss. variables ss g) (drop-at signals n found.0 found.1) ∙ rw other refl
+-- a signal in a group is no memory, and is in that of its scope
+pub record IsShownIn (s : Signal) (g : ℕ) : Type 0 where
+  pub shown : is_memory s ≡ false
+  pub scope : s.scope ≡ g
 
--- the variable that is found is the next one
-pub variables-first : (signals : List Signal) (g n : ℕ) (s : Signal) → slice_get (signal_keys signals) n ≡ Some (Some g) → slice_get signals n ≡ Some s → variables (drop n signals) g ≡ variable_line s ++ variables (drop (suc n) signals) g
-unfolding variables
-variables-first signals g n s e h =
+shown_in : (s : Signal) (g : ℕ) → signal_key s ≡ Some g → IsShownIn s g
+shown_in s g e =
+    by_bool (IsShownIn s g) (is_memory s)
+    (λ p. let none : signal_key s ≡ None = rw (p, signal_key) refl in let clash : None ≡ Some g = sym none ∙ e in cc)
+    (λ p. let some : signal_key s ≡ Some s.scope = rw (p, signal_key) refl in let same : Some s.scope ≡ Some g = sym some ∙ e in record { shown = p; scope = cc })
+
+pub found_shown : (signals : List Signal) (n g : ℕ) (s : Signal) → slice_get (signal_keys signals) n ≡ Some (Some g) → slice_get signals n ≡ Some s → IsShownIn s g
+found_shown signals n g s e h =
     let found = key-signal signals n (Some g) e in
     let same : found.0 ≡ s = cc in
-    let scope : s.scope ≡ g = cc in
-    let here : (s.scope == g) ≡ true = eq-eqb s.scope g scope in
-    ap (λ ss. variables ss g) (drop-at signals n s h) ∙ rw here refl
+    shown_in s g (ap signal_key (sym same) ∙ sym found.2)
 
-variables-end : (signals : List Signal) (g : ℕ) → variables (drop (length (signal_keys signals)) signals) g ≡ []
+variables-out : (s : Signal) (rest : List Signal) (g : ℕ) → is_in g (signal_key s) ≡ false → variables (shown (s ∷ rest)) g ≡ variables (shown rest) g
 unfolding variables
-variables-end signals g = ap (λ (n : ℕ). variables (drop n signals) g) (length-signal_keys signals) ∙ ap (λ ss. variables ss g) (drop-length signals)
+variables-out s rest g out =
+    by_bool (variables (shown (s ∷ rest)) g ≡ variables (shown rest) g) (is_memory s)
+    (λ p. rw p refl)
+    (λ p. let key : signal_key s ≡ Some s.scope = rw (p, signal_key) refl in
+    let other : (s.scope == g) ≡ false = ap (is_in g) (sym key) ∙ out in
+    rw (p, other) refl)
 
-pub variables-linked : (signals : List Signal) (g n : ℕ) → n ≤ length signals → variables (drop n signals) g ≡ at_number (λ (m : ℕ). variables (drop m signals) g) (first_in g n (drop n (signal_keys signals)))
+variables-step : (signals : List Signal) (g n : ℕ) (key : Option ℕ) → slice_get (signal_keys signals) n ≡ Some key → is_in g key ≡ false → variables (shown (drop n signals)) g ≡ variables (shown (drop (suc n) signals)) g
+variables-step signals g n key e out =
+    let found = key-signal signals n key e in
+    ap (λ ss. variables (shown ss) g) (drop-at signals n found.0 found.1) ∙ variables-out found.0 (drop (suc n) signals) g (ap (is_in g) (sym found.2) ∙ out)
+
+-- the variable that is found is the next one
+pub variables-first : (signals : List Signal) (g n : ℕ) (s : Signal) → slice_get (signal_keys signals) n ≡ Some (Some g) → slice_get signals n ≡ Some s → variables (shown (drop n signals)) g ≡ variable_line s ++ variables (shown (drop (suc n) signals)) g
+unfolding variables
+variables-first signals g n s e h =
+    let is = found_shown signals n g s e h in
+    let plain : is_memory s ≡ false = is.shown in
+    let here : (s.scope == g) ≡ true = eq-eqb s.scope g is.scope in
+    ap (λ ss. variables (shown ss) g) (drop-at signals n s h) ∙ rw (plain, here) refl
+
+variables-end : (signals : List Signal) (g : ℕ) → variables (shown (drop (length (signal_keys signals)) signals)) g ≡ []
+unfolding variables
+variables-end signals g = ap (λ (n : ℕ). variables (shown (drop n signals)) g) (length-signal_keys signals) ∙ ap (λ ss. variables (shown ss) g) (drop-length signals)
+
+pub variables-linked : (signals : List Signal) (g n : ℕ) → n ≤ length signals → variables (shown (drop n signals)) g ≡ at_number (λ (m : ℕ). variables (shown (drop m signals)) g) (first_in g n (drop n (signal_keys signals)))
 variables-linked signals g n h =
     let all : n + (length (signal_keys signals) - n) ≡ length (signal_keys signals) = omega (arith, length-signal_keys signals) in
-    first_in-text (λ (m : ℕ). variables (drop m signals) g) g 0 (signal_keys signals) (variables-end signals g) (λ m key low e out. variables-step signals g m key e out) (length (signal_keys signals) - n) n all (omega arith)
+    first_in-text (λ (m : ℕ). variables (shown (drop m signals)) g) g 0 (signal_keys signals) (variables-end signals g) (λ m key low e out. variables-step signals g m key e out) (length (signal_keys signals) - n) n all (omega arith)
 
 -- the variables of a scope from this one on
 unfoldable pub variables_at : List Signal → ℕ → Option ℕ → List ℕ
-variables_at signals g link = at_number (λ (m : ℕ). variables (drop m signals) g) link
+variables_at signals g link = at_number (λ (m : ℕ). variables (shown (drop m signals)) g) link
 
 pub variables_at-none : (signals : List Signal) (g : ℕ) (link : Option ℕ) → link ≡ None → variables_at signals g link ≡ []
 unfolding variables_at at_number
@@ -94,7 +122,7 @@ variables_at-none signals g link e = ap (variables_at signals g) e
 
 -- the first variable of a scope
 pub record IsFirst (signals : List Signal) (g : ℕ) (link : Option ℕ) : Type 0 where
-  pub text : variables_at signals g link ≡ variables signals g
+  pub text : variables_at signals g link ≡ variables (shown signals) g
   pub linked : IsLink (signal_keys signals) g link
 
 pub first_variable : (signals : List Signal) (g groups : ℕ) (first next : List (Option ℕ)) (link : Option ℕ) → AreLinkedFrom 0 groups (signal_keys signals) first next → g < groups → link ≡ get_or first g None → IsFirst signals g link
@@ -208,25 +236,25 @@ scopes-linked signals scopes outer n low h =
 
 -- steps for the scopes in one from a number on
 pub record AreIn (d : Design) (outer : Option ℕ) (n : ℕ) (link : Option ℕ) : Type 0 where
-  pub text : steps_text d (link_steps link) ≡ scopes_in d.signals outer n (drop n d.scopes)
+  pub text : steps_text d (link_steps link) ≡ scopes_in (shown_signals d) outer n (drop n d.scopes)
   pub steps : AreSteps d (link_steps link)
 
 -- the step of a scope that is found
-step-found : (d : Design) (outer : Option ℕ) (n : ℕ) → slice_get (scope_keys 0 d.scopes) n ≡ Some (Some (group_key outer)) → step_text d (Scopes n) ≡ scopes_in d.signals outer n (drop n d.scopes)
+step-found : (d : Design) (outer : Option ℕ) (n : ℕ) → slice_get (scope_keys 0 d.scopes) n ≡ Some (Some (group_key outer)) → step_text d (Scopes n) ≡ scopes_in (shown_signals d) outer n (drop n d.scopes)
 unfolding step_text scopes_from
 step-found d outer n e =
     let found = key-scope 0 d.scopes n (Some (group_key outer)) e in
     let key = parent-of_key (0 + n) found.0.parent (group_key outer) (sym found.2) in
-    ap (scopes_from d n) found.1 ∙ ap (λ (o : Option ℕ). scopes_in d.signals o n (drop n d.scopes)) (same_parent found.0.parent outer key.0)
+    ap (scopes_from d n) found.1 ∙ ap (λ (o : Option ℕ). scopes_in (shown_signals d) o n (drop n d.scopes)) (same_parent found.0.parent outer key.0)
 
 link-in : (d : Design) (outer : Option ℕ) (n : ℕ) (link : Option ℕ) → group_key outer ≤ n → n ≤ length d.scopes → link ≡ first_in (group_key outer) n (drop n (scope_keys 0 d.scopes)) → AreIn d outer n link
 unfolding steps_text AreSteps IsStep at_number
-link-in d outer n link low h e = of link (λ m q. (first_in-found (group_key outer) n m keys (sym e ∙ q)).key) (ap (at_number text) e ∙ sym (scopes-linked d.signals d.scopes outer n low h)) where
+link-in d outer n link low h e = of link (λ m q. (first_in-found (group_key outer) n m keys (sym e ∙ q)).key) (ap (at_number text) e ∙ sym (scopes-linked (shown_signals d) d.scopes outer n low h)) where
   keys : List (Option ℕ)
   keys = scope_keys 0 d.scopes
 
   text : ℕ → List ℕ
-  text m = scopes_in d.signals outer m (drop m d.scopes)
+  text m = scopes_in (shown_signals d) outer m (drop m d.scopes)
 
   of : (o : Option ℕ) → ((m : ℕ) → o ≡ Some m → slice_get keys m ≡ Some (Some (group_key outer))) → at_number text o ≡ text n → AreIn d outer n o
   of None f q = record { text = q; steps = tt }
@@ -307,26 +335,26 @@ step-within d n step = subst (λ (k : ℕ). n < k) (length-scope_keys 0 d.scopes
 
 -- a scope is its beginning, its variables, the scopes in it and its end, and then come those after it
 opened : (d : Design) (n : ℕ) (s : Scope) → slice_get d.scopes n ≡ Some s
-    → step_text d (Scopes n) ≡ scope_line s ++ variables d.signals n ++ scopes_in d.signals (Some n) (suc n) (drop (suc n) d.scopes) ++ upscope_line ++ scopes_in d.signals s.parent (suc n) (drop (suc n) d.scopes)
+    → step_text d (Scopes n) ≡ scope_line s ++ variables (shown_signals d) n ++ scopes_in (shown_signals d) (Some n) (suc n) (drop (suc n) d.scopes) ++ upscope_line ++ scopes_in (shown_signals d) s.parent (suc n) (drop (suc n) d.scopes)
 unfolding step_text scopes_from
 opened d n s e =
-    ap (scopes_from d n) e ∙ ap (scopes_in d.signals s.parent n) (drop-at d.scopes n s e) ∙ scopes_in-here d.signals s.parent n s (drop (suc n) d.scopes) (stands_in-self s.parent)
+    ap (scopes_from d n) e ∙ ap (scopes_in (shown_signals d) s.parent n) (drop-at d.scopes n s e) ∙ scopes_in-here (shown_signals d) s.parent n s (drop (suc n) d.scopes) (stands_in-self s.parent)
 
 regroup : (t a v i u r z : List ℕ) → ((t ++ a) ++ v) ++ (i ++ (u ++ (r ++ z))) ≡ t ++ ((a ++ v ++ i ++ u ++ r) ++ z)
 regroup t a v i u r z = simp append_assoc
 
 pub opened_step : (d : Design) (n : ℕ) (s : Scope) (inner later : Option ℕ) (t u v : List ℕ) (before with_later with_close after : List Step) → slice_get d.scopes n ≡ Some s → AreIn d (Some n) (suc n) inner → AreIn d s.parent (suc n) later
-    → u ≡ t ++ scope_line s → v ≡ u ++ variables d.signals n → with_later ≡ before ++ link_steps later → with_close ≡ with_later ++ Close ∷ [] → after ≡ with_close ++ link_steps inner
+    → u ≡ t ++ scope_line s → v ≡ u ++ variables (shown_signals d) n → with_later ≡ before ++ link_steps later → with_close ≡ with_later ++ Close ∷ [] → after ≡ with_close ++ link_steps inner
     → v ++ steps_text d after ≡ t ++ (step_text d (Scopes n) ++ steps_text d before)
 opened_step d n s inner later t u v before with_later with_close after here in_it behind p q x y z =
-    let inside = scopes_in d.signals (Some n) (suc n) (drop (suc n) d.scopes) in
-    let rest = scopes_in d.signals s.parent (suc n) (drop (suc n) d.scopes) in
-    let text : v ≡ (t ++ scope_line s) ++ variables d.signals n = q ∙ ap (λ (w : List ℕ). w ++ variables d.signals n) p in
+    let inside = scopes_in (shown_signals d) (Some n) (suc n) (drop (suc n) d.scopes) in
+    let rest = scopes_in (shown_signals d) s.parent (suc n) (drop (suc n) d.scopes) in
+    let text : v ≡ (t ++ scope_line s) ++ variables (shown_signals d) n = q ∙ ap (λ (w : List ℕ). w ++ variables (shown_signals d) n) p in
     let first : steps_text d with_later ≡ rest ++ steps_text d before = ap (steps_text d) x ∙ steps_text-append d before (link_steps later) ∙ ap (λ (w : List ℕ). w ++ steps_text d before) behind.text in
     let second : steps_text d with_close ≡ upscope_line ++ (rest ++ steps_text d before) = ap (steps_text d) y ∙ steps_text-more d with_later Close ∙ ap (λ (w : List ℕ). w ++ steps_text d with_later) (close_text d) ∙ ap (λ (w : List ℕ). upscope_line ++ w) first in
     let third : steps_text d after ≡ inside ++ (upscope_line ++ (rest ++ steps_text d before)) = ap (steps_text d) z ∙ steps_text-append d with_close (link_steps inner) ∙ ap (λ (w : List ℕ). w ++ steps_text d with_close) in_it.text ∙ ap (λ (w : List ℕ). inside ++ w) second in
-    ap (λ (w : List ℕ). w ++ steps_text d after) text ∙ ap (λ (w : List ℕ). ((t ++ scope_line s) ++ variables d.signals n) ++ w) third
-    ∙ regroup t (scope_line s) (variables d.signals n) inside upscope_line rest (steps_text d before)
+    ap (λ (w : List ℕ). w ++ steps_text d after) text ∙ ap (λ (w : List ℕ). ((t ++ scope_line s) ++ variables (shown_signals d) n) ++ w) third
+    ∙ regroup t (scope_line s) (variables (shown_signals d) n) inside upscope_line rest (steps_text d before)
     ∙ ap (λ (w : List ℕ). t ++ (w ++ steps_text d before)) (sym (opened d n s here))
 
 pub opened_steps : (d : Design) (inner later : Option ℕ) (outer : Option ℕ) (n m : ℕ) (other : Option ℕ) (before with_later with_close after : List Step) → AreIn d outer n inner → AreIn d other m later → AreSteps d before

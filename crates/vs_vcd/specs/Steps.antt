@@ -2,9 +2,10 @@
 use Rattle.std.specs.Prelude.{◌≡◌, ℕ, suc, true, false, List, [], ◌∷◌, ◌++◌, drop, map, nat_lt, slice_get, Option, None, Some}
 use Rattle.vs_design.specs.Expressions.{Signal}
 use Rattle.vs_design.specs.Designs.{Scope, Design}
+use Rattle.vs_design.specs.Footprints.{is_memory}
 use Rattle.vs_vcd.specs.declared.declarations.Step.{Step}
 use Rattle.vs_vcd.specs.declared.declarations.Step.TheVariants.{Scopes, Close}
-use Rattle.vs_vcd.specs.Scopes.{upscope_line, scopes_in}
+use Rattle.vs_vcd.specs.Scopes.{upscope_line, scopes_in, shown_signals}
 
 -- group 0 is the top's, and group n + 1 that of the scopes in scope n; a scope stands in an earlier one
 abbrev pub scope_key : ℕ → Option ℕ → Option ℕ
@@ -15,14 +16,17 @@ unfoldable pub scope_keys : ℕ → List Scope → List (Option ℕ)
 scope_keys n [] = []
 scope_keys n (s ∷ ss) = scope_key n s.parent ∷ scope_keys (suc n) ss
 
--- a variable is in the group of its scope
+-- a signal is in the group of its scope; a memory has no line, and is in none
+abbrev pub signal_key : Signal → Option ℕ
+signal_key s = elim (is_memory s) [ true ↦ None | false ↦ Some s.scope ]
+
 unfoldable pub signal_keys : List Signal → List (Option ℕ)
-signal_keys signals = map (λ (s : Signal). Some s.scope) signals
+signal_keys signals = map signal_key signals
 
 -- a scope and those after it that stand in the same one, each with what is in it
 unfoldable pub scopes_from : Design → ℕ → Option Scope → List ℕ
 scopes_from d n None = []
-scopes_from d n (Some s) = scopes_in d.signals s.parent n (drop n d.scopes)
+scopes_from d n (Some s) = scopes_in (shown_signals d) s.parent n (drop n d.scopes)
 
 unfoldable pub step_text : Design → Step → List ℕ
 step_text d (Scopes n) = scopes_from d n (slice_get d.scopes n)

@@ -1,16 +1,17 @@
 //! The head of the text: its declarations (IEEE 1364-2005, 18.2.3).
 
-ghost use Rattle.std.specs.Prelude.{◌≡◌, ◌<◌, ◌≤◌, ◌+◌, ◌++◌, length, IfOk, OnOk, None, vec_len};
+ghost use Rattle.std.specs.Prelude.{◌≡◌, ℕ, ◌<◌, ◌≤◌, ◌+◌, ◌++◌, false, length, IfOk, OnOk, None, vec_len};
+ghost use Rattle.vs_design.specs.Footprints.{is_memory};
 ghost use Rattle.vs_flat.specs.DesignOf.{design_of, scope_of};
 ghost use Rattle.vs_flat.specs.Trees.{signal_of};
 ghost use Rattle.vs_vcd.specs.Groups.{AreLinked};
 ghost use Rattle.vs_vcd.specs.Scopes.{variable_kind, range_text, variable_start, variable_line, variables, scope_kind, scope_line, scopes_in, shown_signals, head_text};
-ghost use Rattle.vs_vcd.specs.Steps.{scope_key, scope_keys, signal_keys, step_text, steps_text, link_steps, IsStep, AreSteps};
+ghost use Rattle.vs_vcd.specs.Steps.{scope_key, scope_keys, signal_key, signal_keys, step_text, steps_text, link_steps, IsStep, AreSteps};
 
 use crate::groups::Groups;
 use crate::line::Line;
 use std::alloc::{AllocError, Global};
-use vs_flat::{Flat, Scope, Signal, signal_length};
+use vs_flat::{Flat, Scope, Signal, range_bits};
 use vs_four::Range;
 
 /// What is still to be written of the scopes.
@@ -32,7 +33,7 @@ pub fn head(alloc: Global, flat: &Flat) -> Result<Vec<u8>, AllocError>
     Ok(text)
 }
 
-/// Adds all scopes, each with its variables and the scopes in it.
+/// Adds all scopes, each with its variables and the scopes in it. A memory has no line.
 fn push_scopes(alloc: Global, text: &mut Vec<u8>, flat: &Flat) -> Result<(), AllocError>
     ensures { OnOk result (text.new.items ≡ text.old.items ++ scopes_in (shown_signals (design_of flat.now)) None 0 (design_of flat.now).scopes) }
 {
@@ -68,15 +69,25 @@ fn scope_key(number: u32, parent: Option<u32>) -> Option<u32>
     }
 }
 
-/// The variables in groups, those of each scope.
+/// The variables in groups, those of each scope. A memory (IEEE 1364-2005, 4.9) is in none.
 fn variable_groups(alloc: Global, flat: &Flat) -> Result<Groups, AllocError>
     ensures { IfOk result (λ g. AreLinked (length flat.now.scopes) (signal_keys (design_of flat.now).signals) g.first.items g.next.items) }
 {
     let mut keys = Vec::new(alloc);
     for number in 0..flat.signal_count() {
-        keys.push(Some(flat.signal(number).scope))?;
+        keys.push(signal_key(flat.signal(number)))?;
     }
     Groups::of(alloc, flat.scope_count() as usize, &keys)
+}
+
+/// The group of a signal by the scope that declares it.
+fn signal_key(signal: &Signal) -> Option<u32>
+    ensures { (number : ℕ) → result ≡ signal_key (signal_of number signal.now) }
+{
+    match signal.words {
+        None => Some(signal.scope),
+        Some(_) => None,
+    }
 }
 
 /// Adds a step for a scope, if there is one.
@@ -141,7 +152,7 @@ fn scope_kind(instance: bool) -> &'static [u8]
     b"begin "
 }
 
-/// Adds the variables of a scope, by number.
+/// Adds the variables of a scope, by number, without its memories.
 fn push_variables(
     text: &mut Vec<u8>,
     flat: &Flat,
@@ -150,7 +161,7 @@ fn push_variables(
 ) -> Result<(), AllocError>
     requires scope { scope < length flat.now.scopes }
     requires linked { AreLinked (length flat.now.scopes) (signal_keys (design_of flat.now).signals) groups.now.first.items groups.now.next.items }
-    ensures { OnOk result (text.new.items ≡ text.old.items ++ variables (design_of flat.now).signals scope) }
+    ensures { OnOk result (text.new.items ≡ text.old.items ++ variables (shown_signals (design_of flat.now)) scope) }
 {
     let mut link = groups.first(scope as usize);
     while let Some(number) = link {
@@ -160,8 +171,9 @@ fn push_variables(
     Ok(())
 }
 
-/// Adds `$var`.
+/// Adds `$var`, of a signal that is no memory.
 fn push_variable(text: &mut Vec<u8>, number: u32, signal: &Signal) -> Result<(), AllocError>
+    requires { is_memory (signal_of number signal.now) ≡ false }
     ensures { OnOk result (text.new.items ≡ text.old.items ++ variable_line (signal_of number signal.now)) }
 {
     text.extend_from_slice(variable_start(number, signal).as_slice())?;
@@ -173,13 +185,14 @@ fn push_variable(text: &mut Vec<u8>, number: u32, signal: &Signal) -> Result<(),
 
 /// What comes before the name of a variable: its kind, its length and its identifier code.
 fn variable_start(number: u32, signal: &Signal) -> Line
+    requires { is_memory (signal_of number signal.now) ≡ false }
     ensures { result ≡ variable_start (signal_of number signal.now) }
 {
     let mut line = Line::new();
     line.push_text(b"$var ");
     line.push_text(variable_kind(signal.net));
     line.push(b' ');
-    line.push_decimal(signal_length(signal.range));
+    line.push_decimal(range_bits(signal.range));
     line.push(b' ');
     line.push_identifier(number);
     line.push(b' ');

@@ -1,12 +1,8 @@
 use Rattle.std.proofs.Common.{◌≡◌, ℕ, ◌+◌, List, [], ◌∷◌, ◌++◌, length, sym, ap, ◌∙◌, subst, append-nil, length-append, arith}
-use Rattle.std.specs.Prelude.{None}
 use Rattle.std.proofs.lemmas.Grind.{common_steps}
-use Rattle.vs_design.specs.Expressions.{Signal}
 use Rattle.vs_flat.specs.DesignOf.{design_of}
 use Rattle.vs_vcd.specs.declared.declarations.Step.{Step}
-use Rattle.vs_vcd.specs.Scopes.{scopes_in}
 use Rattle.vs_vcd.specs.Steps.{step_text, steps_text, link_steps, AreSteps}
-use Rattle.vs_vcd.proofs.Arenas.{all_shown}
 use Rattle.vs_vcd.proofs.Outline.{top_scopes, steps_text-more, AreSteps-front, AreSteps-last, no_steps}
 use Rattle.vs_vcd.proofs.declarations.push_scopes.Goals as goal
 
@@ -57,4 +53,3 @@ returns c =
     let d = design_of c.args.flat.now in
     let none : c.loop-step.steps.items ≡ [] = grind (arith, common_steps) in
     sym (append-nil c.loop-step.text.items) ∙ ap (λ (t : List ℕ). c.loop-step.text.items ++ t) (sym (ap (steps_text d) none ∙ (no_steps d).0)) ∙ c.loop-step.invariant.text
-    ∙ ap (λ (ss : List Signal). c.args.text.now.items ++ scopes_in ss None 0 d.scopes) (sym (all_shown c.args.flat.now))

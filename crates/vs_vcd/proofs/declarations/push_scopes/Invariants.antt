@@ -1,13 +1,13 @@
 use Rattle.std.proofs.Common.{◌≡◌, ◌++◌, length}
 use Rattle.std.specs.Prelude.{None}
 use Rattle.vs_flat.specs.DesignOf.{design_of}
-use Rattle.vs_vcd.specs.Scopes.{scopes_in}
+use Rattle.vs_vcd.specs.Scopes.{scopes_in, shown_signals}
 use Rattle.vs_vcd.specs.Steps.{steps_text, AreSteps}
 use Rattle.vs_vcd.proofs.declarations.push_scopes.Given as goal
 
 abbrev pub invariant-loop-step : goal.invariant-loop-step
 invariant-loop-step l = record {
-  text : l.text.items ++ steps_text (design_of l.flat) l.steps.items ≡ l.initial.text.items ++ scopes_in (design_of l.flat).signals None 0 (design_of l.flat).scopes;
+  text : l.text.items ++ steps_text (design_of l.flat) l.steps.items ≡ l.initial.text.items ++ scopes_in (shown_signals (design_of l.flat)) None 0 (design_of l.flat).scopes;
   steps : AreSteps (design_of l.flat) l.steps.items;
 }
 

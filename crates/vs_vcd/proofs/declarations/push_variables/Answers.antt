@@ -6,7 +6,7 @@ use Rattle.vs_flat.specs.Trees.{signal_of}
 use Rattle.vs_vcd.specs.Steps.{signal_keys}
 use Rattle.vs_vcd.proofs.Arenas.{signal-at, length-signals}
 use Rattle.vs_vcd.proofs.Grouping.{numbers_left}
-use Rattle.vs_vcd.proofs.Outline.{variables_at, variables_at-none, first_variable, next_variable, length-signal_keys}
+use Rattle.vs_vcd.proofs.Outline.{variables_at, variables_at-none, first_variable, next_variable, length-signal_keys, found_shown}
 use Rattle.vs_vcd.proofs.declarations.push_variables.Goals as goal
 
 pub loop-link-init : goal.loop-link-init
@@ -20,6 +20,13 @@ signal-requires c =
     let signals = (design_of c.args.flat.now).signals in
     let within = slice_get_within (signal_keys signals) c.in-Some.number _ (c.loop-link.invariant.linked.found c.in-Some.number c.in-Some.is) in
     omega (arith, within, length-signal_keys signals, length-signals c.args.flat.now)
+
+pub push_variable-requires : goal.push_variable-requires
+push_variable-requires c =
+    let signals = (design_of c.args.flat.now).signals in
+    let number = c.in-Some.number in
+    let here = signal-at c.args.flat.now number c.signal.result.now c.signal.ensures in
+    (found_shown signals number c.args.scope (signal_of number c.signal.result.now) (c.loop-link.invariant.linked.found number c.in-Some.is) here).shown
 
 pub next-link-requires : goal.next-link-requires
 next-link-requires c =

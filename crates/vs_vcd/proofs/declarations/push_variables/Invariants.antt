@@ -1,6 +1,6 @@
 use Rattle.std.proofs.Common.{◌≡◌, ◌++◌, length}
 use Rattle.vs_flat.specs.DesignOf.{design_of}
-use Rattle.vs_vcd.specs.Scopes.{variables}
+use Rattle.vs_vcd.specs.Scopes.{variables, shown_signals}
 use Rattle.vs_vcd.specs.Steps.{signal_keys}
 use Rattle.vs_vcd.proofs.Grouping.{numbers_left, IsLink}
 use Rattle.vs_vcd.proofs.Outline.{variables_at}
@@ -8,7 +8,7 @@ use Rattle.vs_vcd.proofs.declarations.push_variables.Given as goal
 
 abbrev pub invariant-loop-link : goal.invariant-loop-link
 invariant-loop-link l = record {
-  text : l.text.items ++ variables_at (design_of l.flat).signals l.scope l.link ≡ l.initial.text.items ++ variables (design_of l.flat).signals l.scope;
+  text : l.text.items ++ variables_at (design_of l.flat).signals l.scope l.link ≡ l.initial.text.items ++ variables (shown_signals (design_of l.flat)) l.scope;
   linked : IsLink (signal_keys (design_of l.flat).signals) l.scope l.link;
 }
 

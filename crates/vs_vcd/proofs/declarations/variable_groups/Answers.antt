@@ -1,4 +1,4 @@
-use Rattle.std.proofs.Common.{◌+◌, ℕ, List, length, ap, ◌∙◌, subst, arith}
+use Rattle.std.proofs.Common.{◌+◌, ℕ, List, [], ◌∷◌, ◌++◌, length, ap, ◌∙◌, subst, arith}
 use Rattle.std.specs.Prelude.{Option, IfOk}
 use Rattle.vs_flat.specs.DesignOf.{design_of}
 use Rattle.vs_flat.specs.Trees.{signal_of}
@@ -14,7 +14,7 @@ loop-number-preserved c =
     let signals = (design_of c.args.flat.now).signals in
     let number = c.loop-number.number in
     let next = signal_keys-more signals number (number + 1) (signal_of number c.signal.result.now) (omega arith) (signal-at c.args.flat.now number c.signal.result.now c.signal.ensures) in
-    listed_more c.loop-number.keys.items c.push.new.self.items _ _ _ _ c.loop-number.invariant next c.in_ok-push.ensures.items
+    listed_more c.loop-number.keys.items c.push.new.self.items _ _ _ _ c.loop-number.invariant next (c.in_ok-push.ensures.items ∙ ap (λ k. c.loop-number.keys.items ++ k ∷ []) (c.signal_key.ensures number))
 
 pub of-requires : goal.of-requires
 of-requires c =
