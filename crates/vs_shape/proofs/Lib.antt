@@ -3,6 +3,7 @@ pub mod Joined
 pub mod ValueLengths
 pub mod PartValues
 pub mod Widths
+pub mod Addressed
 pub mod Selected
 pub mod Runs
 pub mod BodyNames

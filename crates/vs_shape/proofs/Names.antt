@@ -4,7 +4,7 @@ use Rattle.std.specs.Prelude.{option_map, slice_get}
 use Rattle.std.proofs.lemmas.Bool.{ltb-true}
 use Rattle.vs_flat.specs.declared.placed.Placed.{Placed}
 use Rattle.vs_flat.specs.declared.expressions.Node.{Node}
-use Rattle.vs_flat.specs.declared.expressions.Node.TheVariants.{Literal, Name, Bit, Part, Unary, Binary, Choice, Join}
+use Rattle.vs_flat.specs.declared.expressions.Node.TheVariants.{Literal, Name, Bit, Part, Word, Unary, Binary, Choice, Join}
 use Rattle.vs_flat.specs.Arena.{Arena, node_at}
 use Rattle.vs_flat.specs.Lawful.{IsLawful}
 use Rattle.vs_flat.specs.Laws.{NodeNames}
@@ -31,6 +31,9 @@ has_names signals e (Literal bits signed sized) h = tt
 has_names signals e (Name signal) h = first_below signals signal [] (and_both (all_below signals (signal ∷ [])) true h).0
 has_names signals e (Bit of range index) h = (first_below e of (index ∷ []) h, first_below e index [] (rest_below e of (index ∷ []) h))
 has_names signals e (Part of range base up width) h = (first_below e of (base ∷ []) h, first_below e base [] (rest_below e of (base ∷ []) h))
+has_names signals e (Word signal index) h =
+    let p = and_both (all_below signals (signal ∷ [])) (all_below e (index ∷ [])) h in
+    (first_below signals signal [] p.0, first_below e index [] p.1)
 has_names signals e (Unary op a) h = first_below e a [] h
 has_names signals e (Binary op a b) h = (first_below e a (b ∷ []) h, first_below e b [] (rest_below e a (b ∷ []) h))
 has_names signals e (Choice c p q) h =

@@ -6,9 +6,8 @@ use Rattle.std.proofs.lemmas.List.Sums.{sum_by-cons}
 use Rattle.vs_design.specs.Expressions.{Signal, signal_length}
 use Rattle.vs_design.specs.Elaborated.{have_bits_from}
 use Rattle.std.proofs.lemmas.Option.{slice_get-get_or}
-use Rattle.vs_design.specs.Expressions.{range_or_one}
 use Rattle.vs_flat.specs.declared.processes.Signal.{Signal as FlatSignal}
-use Rattle.vs_flat.specs.Arena.{Arena}
+use Rattle.vs_flat.specs.Arena.{Arena, signal_length as flat_length}
 use Rattle.vs_flat.specs.Lawful.{IsLawful}
 use Rattle.vs_flat.specs.Laws.{EachSignal, HasCounts}
 use Rattle.vs_flat.specs.Trees.{no_signal, signal_of, signal_at}
@@ -30,7 +29,7 @@ signal_within first (t ∷ ts) (suc k) s h at =
     omega (arith, signal_within (first + signal_length t) ts k s p.1 at, sum_by-cons signal_length t ts)
 
 -- a signal of a lawful design
-pub signal_room : EachSignal → ((a : Arena) → HasCounts a) → (a : Arena) → IsLawful a → (k : ℕ) (s : FlatSignal) → slice_get a.signals k ≡ Some s → k < length a.signals → s.first_bit + range_or_one s.range ≤ 1048576
+pub signal_room : EachSignal → ((a : Arena) → HasCounts a) → (a : Arena) → IsLawful a → (k : ℕ) (s : FlatSignal) → slice_get a.signals k ≡ Some s → k < length a.signals → s.first_bit + flat_length s ≤ 1048576
 signal_room each counts a lawful k s at h =
     let is : signal_at (arena_signals a) k ≡ signal_of k s = each a k s at in
     let found : slice_get (arena_signals a) k ≡ Some (signal_at (arena_signals a) k) = slice_get-get_or (arena_signals a) k no_signal (omega (arith, (counts a).signals)) in

@@ -9,7 +9,7 @@ use Rattle.vs_design.specs.Fits.{source_length}
 use Rattle.vs_flat.specs.declared.processes.Signal.{Signal}
 use Rattle.vs_flat.specs.declared.expressions.Node.{Node}
 use Rattle.vs_flat.specs.declared.expressions.Node.TheVariants as N
-use Rattle.vs_flat.specs.Arena.{Arena}
+use Rattle.vs_flat.specs.Arena.{Arena, signal_length}
 use Rattle.vs_flat.specs.Lawful.{IsLawful}
 use Rattle.vs_flat.specs.Laws.{EachSignal, HasCounts}
 use Rattle.vs_flat.specs.Targets.{source_of}
@@ -35,6 +35,6 @@ module _ (each : EachSignal) (counts : (a : Arena) → HasCounts a) (a kept : Ar
 
   pub select_room : (range : Range) → (range_length range == source_length (source_of (tree_of a of))) ≡ true → s.first_bit + range_length range ≤ 1048576
   select_room range h =
-      let length_is : range_length range ≡ E.range_or_one s.range = eqb-true (range_length range) (source_length (source_of (tree_of a of))) h ∙ ap source_length source_is ∙ ap E.signal_length signal_is in
-      let room : s.first_bit + E.range_or_one s.range ≤ 1048576 = signal_room each counts kept lawful n s at named in
+      let length_is : range_length range ≡ signal_length s = eqb-true (range_length range) (source_length (source_of (tree_of a of))) h ∙ ap source_length source_is ∙ ap E.signal_length signal_is in
+      let room : s.first_bit + signal_length s ≤ 1048576 = signal_room each counts kept lawful n s at named in
       omega (arith, length_is, room)

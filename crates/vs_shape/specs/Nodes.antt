@@ -2,7 +2,7 @@
 use Rattle.std.specs.Prelude.{◌<◌, ℕ, List, length, slice_index, unwrap_or}
 use Rattle.vs_design.specs.Expressions as E
 use Rattle.vs_flat.specs.declared.expressions.Node.{Node}
-use Rattle.vs_flat.specs.declared.expressions.Node.TheVariants.{Literal, Name, Bit, Part, Unary, Binary, Choice, Join}
+use Rattle.vs_flat.specs.declared.expressions.Node.TheVariants.{Literal, Name, Bit, Part, Word, Unary, Binary, Choice, Join}
 use Rattle.vs_flat.specs.Arena.{Arena, node_place}
 use Rattle.vs_flat.specs.Trees.{signal_at, tree_at, node_tree}
 use Rattle.vs_flat.specs.DesignOf.{arena_signals, arena_trees}
@@ -16,6 +16,7 @@ HasNames signals e (Literal bits signed sized) = Unit {0}
 HasNames signals e (Name signal) = signal < signals
 HasNames signals e (Bit of range index) = (of < e) × (index < e)
 HasNames signals e (Part of range base up width) = (of < e) × (base < e)
+HasNames signals e (Word signal index) = (signal < signals) × (index < e)
 HasNames signals e (Unary op a) = a < e
 HasNames signals e (Binary op a b) = (a < e) × (b < e)
 HasNames signals e (Choice c p q) = (c < e) × (p < e) × (q < e)

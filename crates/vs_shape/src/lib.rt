@@ -10,6 +10,7 @@ mod shape;
 mod shapes;
 mod values;
 mod walks;
+mod words;
 
 pub use ascending::{ascend, is_among};
 pub use bodies::Walk;
@@ -17,3 +18,4 @@ pub use nodes::{copy_count, first_copy, node_of, statement_of};
 pub use places::{Part, Places, places_of};
 pub use shape::Shape;
 pub use shapes::Shapes;
+pub use words::{addresses_of, word_place};

@@ -5,7 +5,7 @@ ghost use Rattle.vs_design.specs.Expressions as E;
 ghost use Rattle.vs_shape.specs.Shapes.{shape_of};
 
 use vs_base::{BinaryOp, Context, UnaryOp};
-use vs_flat::signal_length;
+use vs_flat::range_bits;
 use vs_four::Range;
 
 /// What is known of an expression: its length by itself, 65 standing for every length over 64, whether it is signed, and whether it names no signal.
@@ -29,11 +29,18 @@ impl Shape {
     }
 }
 
-/// How many bits a signal has, as far as 65.
-pub(crate) fn signal_width(range: Option<Range>) -> u8
+/// How many bits a word of a memory has, or a signal that isn't one, as far as 65.
+pub(crate) fn word_width(range: Option<Range>) -> u8
     ensures { result ≡ min (E.range_or_one range) 65 }
 {
-    signal_length(range).min(65) as u8
+    range_bits(range).min(65) as u8
+}
+
+/// How many bits a signal has, of which each word has this range, as far as 65 (IEEE 1364-2005, 3.3 and 4.9).
+pub(crate) fn signal_width(words: Option<Range>, range: Option<Range>) -> u8
+    ensures { result ≡ min (E.words_length words (E.range_or_one range)) 65 }
+{
+    range_bits(words).saturating_mul(range_bits(range)).min(65) as u8
 }
 
 /// The shape of an operator's result, by that of its operand.

@@ -2,7 +2,7 @@
 
 ghost use Rattle.std.specs.Prelude.{◌≡◌, ◌<◌, ◌≤◌, ◌&&◌, not, min, length};
 ghost use Rattle.vs_four.specs.Selects.{Part};
-ghost use Rattle.vs_design.specs.Expressions.{Expression, Name, Select, is_constant};
+ghost use Rattle.vs_design.specs.Expressions.{Expression, Name, Select, Word, is_constant};
 ghost use Rattle.vs_flat.specs.Lawful.{IsLawful};
 ghost use Rattle.vs_flat.specs.Targets.{source_of};
 ghost use Rattle.vs_flat.specs.Trees.{signal_at};
@@ -13,6 +13,7 @@ ghost use Rattle.vs_shape.specs.Shapes.{shape_of};
 use crate::nodes::{copy_count, first_copy, node_of};
 use crate::shape::{
     Shape, binary_shape, choice_shape, join_shape, repeat_shape, signal_width, unary_shape,
+    word_width,
 };
 use std::alloc::{AllocError, Global};
 use std::marker::Model;
@@ -112,6 +113,7 @@ impl Shapes {
                 up: _,
                 width,
             } => select_shape(&self.flat, *of, (*width).min(65) as u8, self.shape(*base)),
+            Node::Word { signal, .. } => word_shape(&self.flat, *signal),
             Node::Unary { op, a } => unary_shape(*op, self.shape(*a)),
             Node::Binary { op, a, b } => binary_shape(*op, self.shape(*a), self.shape(*b)),
             Node::Choice { c, p, q } => {
@@ -140,7 +142,21 @@ fn signal_shape(flat: &Flat, signal: u32) -> Shape
     trees_law();
     let s = flat.signal(signal);
     Shape {
-        width: signal_width(s.range),
+        width: signal_width(s.words, s.range),
+        signed: s.signed,
+        constant: false,
+    }
+}
+
+/// The shape of a word of a memory.
+fn word_shape(flat: &Flat, signal: u32) -> Shape
+    requires { signal < length flat.now.signals }
+    ensures { (index : Expression) → result ≡ shape_of (Word (signal_at (arena_signals flat.now) signal) index) }
+{
+    trees_law();
+    let s = flat.signal(signal);
+    Shape {
+        width: word_width(s.range),
         signed: s.signed,
         constant: false,
     }

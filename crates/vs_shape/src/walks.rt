@@ -2,7 +2,6 @@
 
 ghost use Rattle.std.specs.Prelude.{◌≡◌, ◌<◌, ◌≤◌, ◌++◌, ◌+◌, ◌^◌, true, length, map, is_some, OnOk};
 ghost use Rattle.vs_four.specs.Selects.{range_length};
-ghost use Rattle.vs_design.specs.Expressions.{range_or_one};
 ghost use Rattle.vs_design.specs.Fits.{fits, fits_64};
 ghost use Rattle.vs_design.specs.Values.{bits_of_signal};
 ghost use Rattle.vs_design.specs.Footprints.{target_bits};
@@ -12,14 +11,15 @@ ghost use Rattle.vs_flat.specs.Trees.{signal_at, target_tree};
 ghost use Rattle.vs_flat.specs.DesignOf.{arena_signals};
 ghost use Rattle.vs_shape.specs.Nodes.{EachBelow, tree_of};
 ghost use Rattle.vs_shape.specs.Walked.{IsSourceFit, IsTarget};
-ghost use Rattle.vs_shape.specs.Gathered.{gathered, gathered_source, gathered_target};
+ghost use Rattle.vs_shape.specs.Gathered.{gathered, gathered_source, gathered_word, gathered_target};
 
 use crate::bits::{push_places, push_run};
 use crate::nodes::{first_copy, node_of};
 use crate::places::{Part, places_of};
 use crate::shapes::Shapes;
+use crate::words::{addresses_of, push_word, word_place};
 use std::alloc::AllocError;
-use vs_flat::{Flat, Node, length_of, trees_law};
+use vs_flat::{Flat, Node, bits_of, length_of, trees_law};
 use vs_four::Range;
 
 /// Adds the bits of a signal, the least significant one first.
@@ -30,7 +30,7 @@ fn push_signal(flat: &Flat, signal: u32, out: &mut Vec<u32>) -> Result<(), Alloc
 {
     trees_law();
     let s = flat.signal(signal);
-    push_run(out, s.first_bit, length_of(s.range))
+    push_run(out, s.first_bit, bits_of(s))
 }
 
 impl Shapes {
@@ -73,6 +73,30 @@ impl Shapes {
         push_places(out, first, &places)
     }
 
+    /// Adds the bits of a word that its memory has; `whole` adds all bits of the memory whatever the address.
+    fn push_addressed(
+        &self,
+        signal: u32,
+        index: u32,
+        whole: bool,
+        out: &mut Vec<u32>,
+    ) -> Result<(), AllocError>
+        requires memory { signal < length self.now.signals }
+        requires there { index < length self.now.nodes }
+        requires fit { fits (tree_of self.now index) ≡ true }
+        ensures { OnOk result (out.new.items ≡ out.old.items ++ gathered_word whole (signal_at (arena_signals self.now) signal) (tree_of self.now index)) }
+    {
+        let flat = self.flat();
+        let shape = self.shape(index);
+        if whole || !shape.constant {
+            return push_signal(flat, signal, out);
+        }
+        trees_law();
+        let s = flat.signal(signal);
+        let place = word_place(addresses_of(s), shape.signed, self.constant_value(index));
+        push_word(out, s.first_bit, length_of(s.range), place)
+    }
+
     /// Adds the bits that expression e reads; `whole` adds all bits of each signal that it names.
     pub fn push_reads(&self, e: u32, whole: bool, out: &mut Vec<u32>) -> Result<(), AllocError>
         requires there { e < length self.now.nodes }
@@ -96,6 +120,10 @@ impl Shapes {
             } => {
                 self.push_source(*of, *base, *range, *up, *width, whole, out)?;
                 self.push_reads(*base, whole, out)
+            }
+            Node::Word { signal, index } => {
+                self.push_addressed(*signal, *index, whole, out)?;
+                self.push_reads(*index, whole, out)
             }
             Node::Unary { op: _, a } => self.push_reads(*a, whole, out),
             Node::Binary { op: _, a, b } => {
@@ -135,6 +163,7 @@ impl Shapes {
                 up,
                 width,
             } => self.push_source(*of, *base, *range, *up, *width, false, out),
+            Node::Word { signal, index } => self.push_addressed(*signal, *index, false, out),
             Node::Join { parts } => {
                 for part in first_copy(parts.as_slice()) {
                     self.push_target(*part, out)?;
@@ -160,6 +189,7 @@ impl Shapes {
         match node_of(flat, e) {
             Node::Bit { index, .. } => self.push_reads(*index, whole, out),
             Node::Part { base, .. } => self.push_reads(*base, whole, out),
+            Node::Word { index, .. } => self.push_reads(*index, whole, out),
             Node::Join { parts } => {
                 for part in first_copy(parts.as_slice()) {
                     self.push_target_reads(*part, whole, out)?;

@@ -5,6 +5,9 @@ use Rattle.vs_flat.specs.Targets.{source_of}
 use Rattle.vs_flat.specs.declared.expressions.Node.TheVariants as N
 use Rattle.vs_shape.specs.Nodes.{tree_of}
 use Rattle.vs_shape.specs.Gathered.{gathered}
+use Rattle.vs_flat.specs.Trees.{signal_at}
+use Rattle.vs_flat.specs.DesignOf.{arena_signals}
+use Rattle.vs_shape.proofs.Addressed.{word_gathered}
 use Rattle.vs_shape.proofs.Gathering.{with_part, two_added, gathered_node, gathered_select, binary_gathered, choice_gathered, part_fits}
 use Rattle.vs_shape.proofs.shapes.Shapes.+push_reads.Goals as goal
 
@@ -38,6 +41,14 @@ returns-in_ok-push_source-in-Part t c =
     two_added c.push_reads-in-Part.result c.args.out.now.items c.push_source-in-Part.new.out.items c.push_reads-in-Part.new.out.items _ _ (gathered w (tree_of a c.args.e)) c.in_ok-push_source-in-Part.ensures c.push_reads-in-Part.ensures
     (gathered_node a c.flat-flat.result.now c.args.e c.node_of.result.now w c.flat-flat.ensures.same c.node_of.ensures.tree (N.Part c.in-Part.of c.in-Part.range c.in-Part.base c.in-Part.up c.in-Part.width) c.in-Part.is
     ∙ gathered_select w (source_of (tree_of a c.in-Part.of)) (record { range = c.in-Part.range; up = c.in-Part.up; width = c.in-Part.width }) (tree_of a c.in-Part.base))
+
+pub returns-in_ok-push_addressed-in-Word : goal.returns-in_ok-push_addressed-in-Word
+returns-in_ok-push_addressed-in-Word t c =
+    let a = c.args.self.now in
+    let w = c.args.whole in
+    two_added c.push_reads-in-Word.result c.args.out.now.items c.push_addressed.new.out.items c.push_reads-in-Word.new.out.items _ _ (gathered w (tree_of a c.args.e)) c.in_ok-push_addressed-in-Word.ensures c.push_reads-in-Word.ensures
+    (gathered_node a c.flat-flat.result.now c.args.e c.node_of.result.now w c.flat-flat.ensures.same c.node_of.ensures.tree (N.Word c.in-Word.signal c.in-Word.index) c.in-Word.is
+    ∙ word_gathered w (signal_at (arena_signals a) c.in-Word.signal) (tree_of a c.in-Word.index))
 
 pub returns-in_ok-push_reads-in-Binary : goal.returns-in_ok-push_reads-in-Binary
 returns-in_ok-push_reads-in-Binary t c =
