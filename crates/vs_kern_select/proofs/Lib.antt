@@ -6,3 +6,4 @@ pub mod ShiftDigits
 pub mod ShiftMoves
 pub mod ShiftLaws
 pub mod ShiftTurns
+pub mod WordLaws

@@ -1,4 +1,4 @@
--- What each kernel computes (IEEE 1364-2005, 5.1.12, 5.1.13, 5.2.1 and 9.4).
+-- What each kernel computes (IEEE 1364-2005, 4.9.3, 5.1.12, 5.1.13, 5.2.1 and 9.4).
 use Rattle.std.specs.Prelude.{ℕ, List, length, if◌then◌else◌}
 use Rattle.vs_four.specs.Tables.{is_one}
 use Rattle.vs_four.specs.Logic.{BitList, truth, choose as choose_by}
@@ -6,8 +6,9 @@ use Rattle.vs_four.specs.Shifts.{shift_left, shift_right, shift_arith}
 use Rattle.vs_four.specs.Selects.{Part, select, write_select}
 use Rattle.vs_plane.specs.Kernels.{binary, ternary}
 use Rattle.vs_kern_select.specs.declared.costs.Kernel.{Kernel}
-use Rattle.vs_kern_select.specs.declared.costs.Kernel.TheVariants.{ShiftLeft, ShiftRight, ShiftArith, Select, Write, Choose, Branch}
+use Rattle.vs_kern_select.specs.declared.costs.Kernel.TheVariants.{ShiftLeft, ShiftRight, ShiftArith, Select, Write, ReadWord, WriteWord, Choose, Branch}
 use Rattle.vs_kern_select.specs.declared.costs.Selection.{Selection}
+use Rattle.vs_kern_select.specs.Words.{select_word, write_word}
 
 -- `c ? p : q`, by the truth of c (5.1.13)
 abbrev pub choose : BitList → BitList → BitList → BitList
@@ -35,5 +36,7 @@ operator_of ShiftRight width = binary shift_right
 operator_of ShiftArith width = binary shift_arith
 operator_of (Select s) width = binary (select_of s width)
 operator_of (Write s) width = ternary (write_of s)
+operator_of (ReadWord m) width = binary (select_word m.range width m.signed)
+operator_of (WriteWord m) width = ternary (write_word m.range m.signed)
 operator_of Choose width = ternary choose
 operator_of Branch width = ternary branch

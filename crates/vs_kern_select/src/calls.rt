@@ -8,6 +8,7 @@ use crate::choices::{branch, choose};
 use crate::costs::Kernel;
 use crate::selects::{select, write};
 use crate::shifts::{shift_arith, shift_left, shift_right};
+use crate::words::{read_word, write_word};
 use std::sync::ledger::Ledger;
 use vs_plane::{PlaneFile, Steps, Word};
 
@@ -33,7 +34,8 @@ pub fn run_two<W: Word, L: Ledger>(
         Kernel::ShiftRight => shift_right(file, a, b, to, scratch, steps),
         Kernel::ShiftArith => shift_arith(file, a, b, to, scratch, steps),
         Kernel::Select(s) => select(file, a, b, s.range, s.signed, s.up, to, scratch, steps),
-        Kernel::Write(_) | Kernel::Choose | Kernel::Branch => unreachable!(),
+        Kernel::ReadWord(m) => read_word(file, a, b, m.range, m.signed, to, scratch, steps),
+        Kernel::Write(_) | Kernel::WriteWord(_) | Kernel::Choose | Kernel::Branch => unreachable!(),
     }
 }
 
@@ -58,10 +60,13 @@ pub fn run_three<W: Word, L: Ledger>(
 {
     match kernel {
         Kernel::Write(s) => write(file, a, b, c, s.range, s.signed, s.up, to, scratch, steps),
+        Kernel::WriteWord(m) => { write_word(file, a, b, c, m.range, m.signed, to, scratch, steps) }
         Kernel::Choose => choose(file, a, b, c, to, scratch, steps),
         Kernel::Branch => branch(file, a, b, c, to, scratch, steps),
-        Kernel::ShiftLeft | Kernel::ShiftRight | Kernel::ShiftArith | Kernel::Select(_) => {
-            unreachable!()
-        }
+        Kernel::ShiftLeft
+        | Kernel::ShiftRight
+        | Kernel::ShiftArith
+        | Kernel::Select(_)
+        | Kernel::ReadWord(_) => unreachable!(),
     }
 }

@@ -17,6 +17,15 @@ pub struct Selection {
     pub up: bool,
 }
 
+/// How a memory's words are addressed.
+#[derive(Clone, Copy, PartialEq, Eq, Debug)]
+pub struct Addresses {
+    /// The memory's addresses. The words stand by ascending address where they are from `right` up to `left`.
+    pub range: Range,
+    /// Whether an address is signed.
+    pub signed: bool,
+}
+
 /// A kernel of this crate.
 #[derive(Clone, Copy, PartialEq, Eq, Debug)]
 pub enum Kernel {
@@ -30,6 +39,10 @@ pub enum Kernel {
     Select(Selection),
     /// A write to a select by a variable base
     Write(Selection),
+    /// A word of a memory, read by a variable address
+    ReadWord(Addresses),
+    /// A word of a memory, written by a variable address
+    WriteWord(Addresses),
     /// `?:`
     Choose,
     /// The join of `if`
@@ -37,7 +50,8 @@ pub enum Kernel {
 }
 
 /// How many stores a call makes, by the lengths of its arguments in their order and then that of its value: one a bit of the value, and
-/// for a shift one more for each bit of the amount that stands for less than the vector's length.
+/// for a shift one more for each bit of the amount that stands for less than the vector's length, and for a word that is read one more for each
+/// bit of its memory.
 pub fn cost(kernel: Kernel, lengths: &[u32]) -> u64
     requires { takes (shape_of kernel) lengths.now ≡ true }
     ensures exact { result ≡ cost_of kernel lengths.now }
@@ -48,7 +62,10 @@ pub fn cost(kernel: Kernel, lengths: &[u32]) -> u64
             shift_cost(lengths[2], lengths[1])
         }
         Kernel::Select(_) => u64::from(lengths[2]),
-        Kernel::Write(_) | Kernel::Choose | Kernel::Branch => u64::from(lengths[3]),
+        Kernel::ReadWord(_) => u64::from(lengths[2]) + u64::from(lengths[0]),
+        Kernel::Write(_) | Kernel::WriteWord(_) | Kernel::Choose | Kernel::Branch => u64::from(
+            lengths[3],
+        ),
     }
 }
 

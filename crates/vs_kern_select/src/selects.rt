@@ -124,7 +124,7 @@ fn written_bit<W: Word>(
 }
 
 /// The lanes by whose base the place of bit `bit`, of `width` bits, is `place`.
-fn lanes_of_place<W: Word>(
+pub(crate) fn lanes_of_place<W: Word>(
     selection: Selection,
     file: &PlaneFile<W>,
     base: &[u32],
