@@ -16,7 +16,7 @@ use Rattle.vs_kern_arith.specs.declared.costs.Kernel.{Kernel as ArithKernel}
 use Rattle.vs_kern_arith.specs.declared.costs.Kernel.TheVariants.{Mul}
 use Rattle.vs_kern_select.specs.Costs as S
 use Rattle.vs_kern_select.specs.declared.costs.Kernel.{Kernel as SelectKernel}
-use Rattle.vs_kern_select.specs.declared.costs.Kernel.TheVariants.{ShiftLeft, ShiftRight, ShiftArith, Select as SelectBits, Write, Choose, Branch}
+use Rattle.vs_kern_select.specs.declared.costs.Kernel.TheVariants.{ShiftLeft, ShiftRight, ShiftArith, Select as SelectBits, Write, ReadWord, WriteWord, Choose, Branch}
 use Rattle.vs_code.specs.declared.kernels.AnyKernel.{AnyKernel}
 use Rattle.vs_code.specs.declared.kernels.AnyKernel.TheVariants.{Logic, Arith, Select}
 use Rattle.vs_code.specs.Kernels.{takes, cost_of, weight_of}
@@ -42,6 +42,8 @@ select_count : (s : S.Shape) (ls : List ℕ) → S.takes s ls ≡ true → (2 �
 select_count S.Shift (a ∷ amount ∷ to ∷ []) h = (omega arith, omega arith)
 select_count (S.Selected n) (a ∷ base ∷ to ∷ []) h = (omega arith, omega arith)
 select_count (S.Written n) (a ∷ base ∷ value ∷ to ∷ []) h = (omega arith, omega arith)
+select_count (S.WordRead n) (a ∷ address ∷ to ∷ []) h = (omega arith, omega arith)
+select_count (S.WordWritten n) (a ∷ address ∷ value ∷ to ∷ []) h = (omega arith, omega arith)
 select_count S.Choice (c ∷ p ∷ q ∷ to ∷ []) h = (omega arith, omega arith)
 select_count _ _ h = cc
 
@@ -109,6 +111,12 @@ selected_weighs to n base h k = grind arith
 written_weighs : (to value base : ℕ) → 1 ≤ value → to ≤ value * to * (base + 1)
 written_weighs to value base h = grind arith
 
+word_read_weighs : (n address to : ℕ) → 1 ≤ n → to + n * to ≤ 2 * (n * (address + to))
+word_read_weighs n address to h = grind arith
+
+word_written_weighs : (n address value to : ℕ) → to ≡ n * value → to ≤ 2 * (n * (address + value))
+word_written_weighs n address value to h = grind arith
+
 range_is_some : (r : Range) → 1 ≤ range_length r
 range_is_some r = elim (is_descending r) as (λ b. 1 ≤ (if b then suc (r.left - r.right) else suc (r.right - r.left))) [ true ↦ omega arith | false ↦ omega arith ]
 
@@ -117,6 +125,9 @@ selected_takes n a base to h = grind (arith, common_steps)
 
 written_takes : (n a base value to : ℕ) → S.takes (S.Written n) (a ∷ base ∷ value ∷ to ∷ []) ≡ true → (n ≡ to) × (1 ≤ value)
 written_takes n a base value to h = (grind (arith, common_steps), grind (arith, common_steps))
+
+word_written_takes : (n a address value to : ℕ) → S.takes (S.WordWritten n) (a ∷ address ∷ value ∷ to ∷ []) ≡ true → to ≡ n * value
+word_written_takes n a address value to h = grind (arith, common_steps)
 
 select_weighs : (k : SelectKernel) (ls : List ℕ) → S.takes (S.shape_of k) ls ≡ true → S.cost_of k ls ≤ S.weight_of k ls
 select_weighs ShiftLeft (a ∷ amount ∷ to ∷ []) h = shift_weighs to amount (S.moving_bits to amount) (omega arith)
@@ -127,6 +138,9 @@ select_weighs (SelectBits s) (a ∷ base ∷ to ∷ []) h =
 select_weighs (Write s) (a ∷ base ∷ value ∷ to ∷ []) h =
     let t = written_takes (range_length s.range) a base value to h in
     subst (λ n. to ≤ value * n * (base + 1)) (sym t.0) (written_weighs to value base t.1)
+select_weighs (ReadWord m) (a ∷ address ∷ to ∷ []) h = word_read_weighs (range_length m.range) address to (range_is_some m.range)
+select_weighs (WriteWord m) (a ∷ address ∷ value ∷ to ∷ []) h =
+    word_written_weighs (range_length m.range) address value to (word_written_takes (range_length m.range) a address value to h)
 select_weighs Choose (c ∷ p ∷ q ∷ to ∷ []) h = omega arith
 select_weighs Branch (c ∷ p ∷ q ∷ to ∷ []) h = omega arith
 select_weighs _ _ h = cc

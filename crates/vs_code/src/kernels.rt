@@ -13,7 +13,7 @@ pub enum AnyKernel {
     Logic(vs_kern_logic::Kernel),
     /// Addition, subtraction, multiplication, negation or an order.
     Arith(vs_kern_arith::Kernel),
-    /// A shift, a select or a write by a variable index, or a choice.
+    /// A shift, a select or a write by a variable index, a word of a memory, or a choice.
     Select(vs_kern_select::Kernel),
 }
 
