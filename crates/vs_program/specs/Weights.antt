@@ -7,9 +7,10 @@ use Rattle.vs_kern_arith.specs.declared.costs.Kernel.TheVariants as arith
 use Rattle.vs_kern_arith.specs.Costs as A
 use Rattle.vs_kern_select.specs.declared.costs.Kernel.TheVariants as select
 use Rattle.vs_kern_select.specs.declared.costs.Selection.{Selection}
+use Rattle.vs_kern_select.specs.declared.costs.Addresses.{Addresses}
 use Rattle.vs_kern_select.specs.Costs as S
-use Rattle.vs_design.specs.Expressions.{Minus, BitNot, LogicalNot, ReduceAnd, ReduceNand, ReduceOr, ReduceNor, ReduceXor, ReduceXnor, Add, Subtract, Multiply, BitAnd, BitOr, BitXor, BitXnor, Less, LessEqual, Greater, GreaterEqual, Equal, NotEqual, CaseEqual, CaseNotEqual, LogicalAnd, LogicalOr, ShiftLeft, ShiftRight, ShiftLeftArith, ShiftRightArith}
-use Rattle.vs_design.specs.Sizes.{unary_weight, binary_weight}
+use Rattle.vs_design.specs.Expressions.{Signal, signal_length, word_length, addresses, Minus, BitNot, LogicalNot, ReduceAnd, ReduceNand, ReduceOr, ReduceNor, ReduceXor, ReduceXnor, Add, Subtract, Multiply, BitAnd, BitOr, BitXor, BitXnor, Less, LessEqual, Greater, GreaterEqual, Equal, NotEqual, CaseEqual, CaseNotEqual, LogicalAnd, LogicalOr, ShiftLeft, ShiftRight, ShiftLeftArith, ShiftRightArith}
+use Rattle.vs_design.specs.Sizes.{unary_weight, binary_weight, address_weight}
 
 -- the kernels of `~ & | ^ ~^`, reductions, `! && ||` and the equalities, on operands of lengths m and n in a context of length w
 pub record LogicWeights (w m n : ℕ) : Type 0 where
@@ -60,8 +61,18 @@ pub record SelectWeights (w m n k : ℕ) (s : Selection) : Type 0 where
   -- an `if` of w written bits
   pub branch : S.weight_of select.Branch (n ∷ w ∷ w ∷ w ∷ []) ≡ w + n
 
+-- how the words of this signal are addressed, by a signed index or not
+abbrev pub addresses_of : Signal → Bool → Addresses
+addresses_of signal signed = record { range = addresses signal; signed = signed }
+
+-- those of reads and writes of a signal's words by an address of n bits
+pub record WordWeights (signal : Signal) (n : ℕ) (signed : Bool) : Type 0 where
+  pub read : S.weight_of (select.ReadWord (addresses_of signal signed)) (signal_length signal ∷ n ∷ word_length signal ∷ []) ≡ address_weight signal n
+  pub written : S.weight_of (select.WriteWord (addresses_of signal signed)) (signal_length signal ∷ n ∷ word_length signal ∷ signal_length signal ∷ []) ≡ address_weight signal n
+
 -- each kernel weighs what its operator weighs in the size of a design
 pub record KernelsWeighAsOperators : Type 0 where
   pub logic : (w m n : ℕ) → LogicWeights w m n
   pub arithmetic : (w m n : ℕ) (signed : Bool) → ArithmeticWeights w m n signed
   pub selects : (w m n k : ℕ) (s : Selection) → SelectWeights w m n k s
+  pub words : (signal : Signal) (n : ℕ) (signed : Bool) → WordWeights signal n signed

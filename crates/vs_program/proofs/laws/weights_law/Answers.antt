@@ -1,7 +1,8 @@
 use Rattle.std.proofs.Common.{ℕ, ◌+◌, Bool, refl, arith, mul_assoc}
 use Rattle.vs_four.specs.Selects.{range_length}
 use Rattle.vs_kern_select.specs.declared.costs.Selection.{Selection}
-use Rattle.vs_program.specs.Weights.{LogicWeights, ArithmeticWeights, SelectWeights}
+use Rattle.vs_design.specs.Expressions.{Signal}
+use Rattle.vs_program.specs.Weights.{LogicWeights, ArithmeticWeights, SelectWeights, WordWeights}
 use Rattle.vs_program.proofs.laws.weights_law.Goals as goal
 
 logic_weights : (w m n : ℕ) → LogicWeights w m n
@@ -54,5 +55,8 @@ select_weights w m n k s = record {
   branch = refl;
 }
 
+word_weights : (signal : Signal) (n : ℕ) (signed : Bool) → WordWeights signal n signed
+word_weights signal n signed = record { read = refl; written = refl }
+
 pub returns : goal.returns
-returns c = record { logic = logic_weights; arithmetic = arithmetic_weights; selects = select_weights }
+returns c = record { logic = logic_weights; arithmetic = arithmetic_weights; selects = select_weights; words = word_weights }
