@@ -46,7 +46,7 @@ run_step t first k sets x h inside is =
 
 -- ---- places
 
-pub any_default : (xs : List Set4) (k : ℕ) (d e : Set4) → k < length xs → get_or xs k d ≡ get_or xs k e
+pub any_default : {A : Type 0} (xs : List A) (k : ℕ) (d e : A) → k < length xs → get_or xs k d ≡ get_or xs k e
 any_default [] k d e h = absurd (omega arith)
 any_default (y ∷ ys) zero d e h = refl
 any_default (y ∷ ys) (suc k) d e h = any_default ys k d e (omega arith)

@@ -1,6 +1,7 @@
 pub mod Steps
 pub mod Fit
 pub mod Widths
+pub mod WordSteps
 pub mod ExtremeSteps
 pub mod Names
 pub mod Joins

@@ -11,7 +11,7 @@ use Rattle.std.proofs.lemmas.Bool.{cond-true, cond-false}
 use Rattle.vs_design.specs.Footprints.{contains, statement_bits, arms_bits}
 use Rattle.vs_design.specs.Expressions.{Expression}
 use Rattle.vs_design.specs.Statements.{Statement, Empty, If}
-use Rattle.vs_design.specs.Fits.{is_fit, fits_statement, fits_arms}
+use Rattle.vs_design.specs.Fits.{fits_statement, fits_arms}
 use Rattle.vs_four.specs.declared.Bit4.TheVariants.{X}
 use Rattle.vs_design.specs.Sets.{union, only, is_only_x}
 use Rattle.vs_design.specs.Lifted.{Family}

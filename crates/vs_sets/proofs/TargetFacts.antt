@@ -1,11 +1,7 @@
 -- Targets of which nothing is over 64 bits.
-use Rattle.std.proofs.Common.{◌≡◌, ℕ, zero, suc, ◌+◌, ◌<◌, ◌≤◌, Bool, true, false, ℤ, pos, negsuc, Option, Some, None, List, [], ◌∷◌, length, map, get_or, refl, sym, ap, ◌∙◌, subst, arith}
-use Rattle.std.specs.Prelude.{◌&&◌, ◌==◌, nat_lt, replicate, if◌then◌else◌}
-use Rattle.std.proofs.lemmas.Bool.Decides.{nat_tests}
-use Rattle.vs_four.specs.declared.Range.{Range}
-use Rattle.vs_four.specs.Logic.{BitList, all_known}
-use Rattle.vs_four.specs.Numbers.{integer}
-use Rattle.vs_four.specs.Selects.{Part, range_length, place_of, below, indices, places}
+use Rattle.std.proofs.Common.{◌≡◌, ℕ, suc, ◌+◌, ◌<◌, ◌≤◌, Bool, true, false, Option, Some, None, List, [], ◌∷◌, length, map, refl, sym, ap, ◌∙◌, subst, arith}
+use Rattle.std.specs.Prelude.{◌&&◌, ◌==◌, if◌then◌else◌}
+use Rattle.vs_four.specs.Selects.{Part, range_length}
 use Rattle.std.proofs.Common.{◌*◌, ◌-◌, ap₂, take, drop}
 use Rattle.std.specs.Prelude.{min}
 use Rattle.std.proofs.lemmas.List.{length-take, length-drop}

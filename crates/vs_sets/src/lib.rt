@@ -22,6 +22,7 @@ mod table;
 mod targets;
 mod twice;
 mod values;
+mod words;
 
 pub use bodies::{run, statement_node};
 pub use branches::{put_back, sets_of};
@@ -34,3 +35,4 @@ pub use set4::Set4;
 pub use sleepers::sleeping;
 pub use table::{are_only_x, fill};
 pub use targets::{assign, named_signal};
+pub use words::{Memory, memory_of};

@@ -7,11 +7,11 @@ ghost use Rattle.vs_design.specs.Expressions as E;
 ghost use Rattle.vs_design.specs.Fits.{is_fit, is_division, source_length};
 ghost use Rattle.vs_design.specs.Lifted as L;
 ghost use Rattle.vs_design.specs.Sets as S;
-ghost use Rattle.vs_design.specs.Values.{left_sign, left_width};
+ghost use Rattle.vs_design.specs.Values.{bits_of_signal, left_sign, left_width};
 ghost use Rattle.vs_flat.specs.Targets.{source_of};
 ghost use Rattle.vs_flat.specs.Trees.{joined, first_copy, copy_count};
 ghost use Rattle.vs_sets.specs.FitParts.{FitParts, Is64};
-ghost use Rattle.vs_sets.specs.Nodes.{EachBelow, tree_of};
+ghost use Rattle.vs_sets.specs.Nodes.{EachBelow, signal_of, tree_of};
 ghost use Rattle.vs_sets.specs.Operands.{AreLeftSets, AreRightSets};
 ghost use Rattle.vs_sets.specs.PartSets.{part_sets};
 ghost use Rattle.vs_sets.specs.Tables.{family_of};
@@ -24,10 +24,11 @@ use crate::lifter::Lifter;
 use crate::lifts::{Lift, set_lift};
 use crate::operators::{extend_sets, lift_binary, lift_unary};
 use crate::values::{at_places, shift, shift_by, shift_fill, surely_inside};
+use crate::words::{all_words, memory_of, variable_each, word_at};
 use vs_base::{BinaryOp, Context, UnaryOp};
 use vs_design::value_law;
 use vs_flat::Node;
-use vs_shape::{Part, copy_count, first_copy, places_of};
+use vs_shape::{Part, copy_count, first_copy, places_of, word_place};
 
 /// The sets in the length of a context, extended by its sign.
 fn extended(list: SetList, context: Context) -> SetList
@@ -97,6 +98,7 @@ impl Lifter<'_> {
                 };
                 extended(self.select(e, *of, part, *base), context)
             }
+            Node::Word { signal, index } => extended(self.word(e, *signal, *index), context),
             Node::Unary { op, a } => extended(self.unary(e, *op, *a, context), context),
             Node::Binary { op, a, b } => match set_lift(*op) {
                 Lift::Divided => self.constant(e, context),
@@ -128,6 +130,35 @@ impl Lifter<'_> {
         let sure = surely_inside(part, shape.signed, index_sets.as_slice());
         let set = variable(index_sets.as_slice(), sure, all_of(vector.as_slice()));
         SetList::replicated(part.width as usize, set)
+    }
+
+    /// The sets of a word of a memory (IEEE 1364-2005, 4.9.3) in expression e.
+    #[cycle(lifting)]
+    fn word(&self, e: u32, signal: u32, index: u32) -> SetList
+        requires there { e < length self.now.shapes.now.nodes }
+        requires memory { signal < length self.now.shapes.now.signals }
+        requires index_before { index < e }
+        requires fit { is_fit (tree_of self.now.shapes.now index) ≡ true }
+        ensures { result ≡ L.set_word (signal_of self.now.shapes.now signal) (tree_of self.now.shapes.now index) (L.own_sets (tree_of self.now.shapes.now index) (family_of self.now.table.now)) (map (family_of self.now.table.now) (bits_of_signal (signal_of self.now.shapes.now signal))) }
+    {
+        let memory = memory_of(self.shapes, signal);
+        let count = memory.addresses.length() as usize;
+        let sets = self.memory_sets(signal);
+        let shape = self.shapes.shape(index);
+        if shape.constant {
+            let address = self.shapes.constant_value(index);
+            let place = word_place(memory.addresses, shape.signed, address);
+            return word_at(sets, count, memory.len, place);
+        }
+        let part = Part {
+            range: memory.addresses,
+            up: true,
+            width: 1,
+        };
+        let index_sets = self.own(index);
+        let sure = surely_inside(part, shape.signed, index_sets.as_slice());
+        let words = all_words(sets, count, memory.len);
+        variable_each(index_sets.as_slice(), sure, words.as_slice())
     }
 
     /// The sets of an operator's one operand, before they are extended.

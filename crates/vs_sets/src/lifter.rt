@@ -1,11 +1,12 @@
 //! The sets of an expression's bits (IEEE 1364-2005, clause 5).
 
-ghost use Rattle.std.specs.Prelude.{◌≡◌, ◌≤◌, ◌<◌, ◌+◌, length, map, true};
+ghost use Rattle.std.specs.Prelude.{◌≡◌, ◌≤◌, ◌<◌, ◌+◌, ◌*◌, length, map, true, false};
 ghost use Rattle.vs_four.specs.declared.Bit4.TheVariants.{X};
 ghost use Rattle.vs_four.specs.Selects.{range_length};
 ghost use Rattle.vs_four.specs.Lengths.{repeat};
 ghost use Rattle.vs_design.specs.Designs.{bit_count};
 ghost use Rattle.vs_design.specs.Expressions as E;
+ghost use Rattle.vs_design.specs.Footprints.{is_memory};
 ghost use Rattle.vs_design.specs.Fits.{is_fit, source_length};
 ghost use Rattle.vs_design.specs.Lifted as L;
 ghost use Rattle.vs_design.specs.Sets.{only};
@@ -21,8 +22,8 @@ use crate::operators::list_of;
 use crate::values::only_each;
 use crate::{Set4, SetList};
 use vs_base::Context;
-use vs_flat::{Node, signal_length, trees_law};
-use vs_shape::Shapes;
+use vs_flat::{Node, bits_of, lawful_law, trees_law};
+use vs_shape::{Shapes, node_of};
 
 /// A signal's bits: the number of the least significant one, and how many there are.
 #[derive(Clone, Copy, Debug)]
@@ -45,13 +46,13 @@ pub fn span_of(shapes: &Shapes, n: u32) -> Span
     ensures first { result.first ≡ (signal_of shapes.now n).first }
     ensures len { result.len ≡ E.signal_length (signal_of shapes.now n) }
     ensures within { result.first + result.len ≤ bit_count (design_of shapes.now) }
-    ensures few { Is64 result.len }
+    ensures few { is_memory (signal_of shapes.now n) ≡ false → Is64 result.len }
 {
     trees_law();
     let signal = shapes.flat().signal(n);
     Span {
         first: signal.first_bit as usize,
-        len: signal_length(signal.range) as usize,
+        len: bits_of(signal) as usize,
     }
 }
 
@@ -67,13 +68,24 @@ impl Lifter<'_> {
         self.shapes.node(e)
     }
 
-    /// The sets of a signal's bits.
+    /// The sets of a signal's bits, of which there are at most 64.
     pub(crate) fn signal_sets(&self, n: u32) -> SetList
-        requires { n < length self.now.shapes.now.signals }
+        requires there { n < length self.now.shapes.now.signals }
+        requires few { E.signal_length (signal_of self.now.shapes.now n) ≤ 64 }
         ensures { result ≡ map (family_of self.now.table.now) (bits_of_signal (signal_of self.now.shapes.now n)) }
     {
         let span = span_of(self.shapes, n);
         list_of(&self.table[span.first..span.first + span.len])
+    }
+
+    /// The sets of all bits of a memory.
+    pub(crate) fn memory_sets(&self, n: u32) -> &[Set4]
+        requires { n < length self.now.shapes.now.signals }
+        ensures is { result.now ≡ map (family_of self.now.table.now) (bits_of_signal (signal_of self.now.shapes.now n)) }
+        ensures long { length result.now ≡ range_length (E.addresses (signal_of self.now.shapes.now n)) * E.word_length (signal_of self.now.shapes.now n) }
+    {
+        let span = span_of(self.shapes, n);
+        &self.table[span.first..span.first + span.len]
     }
 
     /// The sets of the bits that a select is taken of: a signal's, or the values of a parameter's.
@@ -81,7 +93,9 @@ impl Lifter<'_> {
         requires { of < length self.now.shapes.now.nodes }
         ensures { result ≡ L.source_sets (family_of self.now.table.now) (source_of (tree_of self.now.shapes.now of)) }
     {
-        match self.shapes.node(of) {
+        lawful_law();
+        trees_law();
+        match node_of(self.shapes.flat(), of) {
             Node::Name { signal } => self.signal_sets(*signal),
             Node::Literal { bits, .. } => only_each(*bits),
             _ => SetList::new(),

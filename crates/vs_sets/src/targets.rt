@@ -18,10 +18,11 @@ use crate::contexts::own_context;
 use crate::folds::all_of;
 use crate::lifter::{Lifter, span_of};
 use crate::table::{put_places, put_run, widen_run};
+use crate::words::{memory_of, put_word};
 use crate::{Set4, SetList};
 use vs_base::Context;
 use vs_flat::Node;
-use vs_shape::{Part, Shapes, first_copy, places_of};
+use vs_shape::{Part, Shapes, first_copy, places_of, word_place};
 
 /// The number of the signal that expression e is the name of.
 pub fn named_signal(shapes: &Shapes, name: u32) -> u32
@@ -69,6 +70,7 @@ fn write(shapes: &Shapes, e: u32, sets: &[Set4], table: &mut [Set4])
             };
             write_part(shapes, *of, part, *base, sets, table);
         }
+        Node::Word { signal, index } => write_word(shapes, *signal, *index, sets, table),
         Node::Join { parts } => write_parts(shapes, e, first_copy(parts.as_slice()), sets, table),
         _ => unreachable!(),
     }
@@ -89,6 +91,27 @@ fn write_part(shapes: &Shapes, of: u32, part: Part, index: u32, sets: &[Set4], t
         let places = places_of(part, shape.signed, shapes.constant_value(index));
         put_places(table, span.first, &places, sets);
     } else {
+        widen_run(table, span.first, span.len, all_of(sets));
+    }
+}
+
+/// Writes sets to a word of a memory (IEEE 1364-2005, 4.9.3): by a constant address to its bits, by any other each bit of the memory may have any of them.
+fn write_word(shapes: &Shapes, signal: u32, index: u32, sets: &[Set4], table: &mut [Set4])
+    requires covers { length table.old ≡ bit_count (design_of shapes.now) }
+    requires memory { signal < length shapes.now.signals }
+    requires index_there { index < length shapes.now.nodes }
+    requires target { IsTarget (E.Word (signal_of shapes.now signal) (tree_of shapes.now index)) }
+    requires many { length sets.now ≡ E.word_length (signal_of shapes.now signal) }
+    ensures { family_of table.new ≡ write_sets (target_tree (E.Word (signal_of shapes.now signal) (tree_of shapes.now index))) sets.now (family_of table.old) }
+{
+    let shape = shapes.shape(index);
+    if shape.constant {
+        let memory = memory_of(shapes, signal);
+        let address = shapes.constant_value(index);
+        let place = word_place(memory.addresses, shape.signed, address);
+        put_word(table, memory.first, place, sets);
+    } else {
+        let span = span_of(shapes, signal);
         widen_run(table, span.first, span.len, all_of(sets));
     }
 }

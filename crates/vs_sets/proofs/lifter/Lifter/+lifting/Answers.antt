@@ -22,6 +22,11 @@ select-surely_inside-sure-requires-clause-some t c =
     let some = fit_width (tree_of c.args.self.now.shapes.now c.args.index) c.requires.fit in
     omega (arith, some.0, c.own-index_sets.ensures.length, ap length c.as_slice-2.ensures.value)
 
+pub word-surely_inside-sure-requires-clause-some : goal.word-surely_inside-sure-requires-clause-some
+word-surely_inside-sure-requires-clause-some t c =
+    let some = fit_width (tree_of c.args.self.now.shapes.now c.args.index) c.requires.fit in
+    omega (arith, some.0, c.own-index_sets.ensures.length, ap length c.as_slice.ensures.value)
+
 pub join-repeated-requires : goal.join-repeated-requires
 join-repeated-requires t c =
     let width = E.width (joined (map (tree_of c.args.self.now.shapes.now) (first_copy c.args.parts.now))) in

@@ -32,6 +32,9 @@ decreases-shift l = 5 * l.e + 1
 abbrev pub decreases-unary : goal.decreases-unary
 decreases-unary l = 5 * l.e + 1
 
+abbrev pub decreases-word : goal.decreases-word
+decreases-word l = 5 * l.e + 1
+
 abbrev pub decreases-operands : goal.decreases-operands
 decreases-operands l = 5 * l.e + 0
 
