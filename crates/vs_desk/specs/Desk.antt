@@ -107,6 +107,11 @@ pub record FailsAlone {tells : Bool} (old new : Told tells) (place : ℕ) (asked
   pub fails : Fails old.register new.register place asked
   pub bytes : IsTrue tells → new.contents ≡ old.contents
 
+-- Nothing that is told has changed.
+pub record Stays {tells : Bool} (old new : Told tells) : Type 0 where
+  pub same : new.register ≡ old.register
+  pub bytes : IsTrue tells → new.contents ≡ old.contents
+
 -- The place was attached in this way to the path, and nothing else has changed.
 pub record Attaches {tells : Bool} (old new : Told tells) (place : ℕ) (way : Way) (path : List ℕ) : Type 0 where
   pub register : new.register ≡ with_place old.register place way path

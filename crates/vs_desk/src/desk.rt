@@ -1,7 +1,7 @@
 // What every desk offers and tells.
 ghost use Rattle.std.specs.Prelude.{◌≡◌, ◌≢◌, ◌<◌, ◌≤◌, ◌++◌, ℕ, Bool, [], length, take, drop, IsTrue, IsNone, IsOk, IfOk, OnOk, OnErr, string_bytes};
 ghost use Rattle.vs_desk.specs.declared.desk.Way.TheVariants.{Read};
-ghost use Rattle.vs_desk.specs.Desk.{Told, IsAttached, IsWritable, FailsAlone, Attaches, Takes, Puts, PutsAll};
+ghost use Rattle.vs_desk.specs.Desk.{Told, IsAttached, IsWritable, FailsAlone, Stays, Attaches, Takes, Puts, PutsAll};
 
 use thiserror::Error;
 
@@ -63,7 +63,8 @@ pub trait Desk {
         ensures failed { OnErr result
             (FailsAlone (told self.old) (told self.new) place (told self.old).register.asked) };
 
-    /// Puts some first bytes of the piece at a place, at least one, and answers how many.
+    /// Puts some first bytes of the piece at a place, at least one, and answers how many. A desk may
+    /// keep them back, with those put before, until `flush`.
     ///
     /// It fails only where it raised the count of its place; no byte was put then.
     fn put(&mut self, place: u32, bytes: &[u8]) -> Result<usize, Failed>
@@ -75,6 +76,16 @@ pub trait Desk {
         ensures put { IfOk result (λ n. Puts (told self.old) (told self.new) place (take n bytes.now)) }
 
         ensures places { (told self.new).register.attached ≡ (told self.old).register.attached }
+        ensures failed { OnErr result
+            (FailsAlone (told self.old) (told self.new) place (told self.old).register.asked) };
+
+    /// Writes out what was put at a place and was kept back.
+    ///
+    /// It fails only where it raised the count of its place; some last bytes of what was put there may
+    /// not have come to the path's file then. Nothing else that is told changes.
+    fn flush(&mut self, place: u32) -> Result<(), Failed>
+        requires writable { IsWritable (told self.old).register place }
+        ensures flushed { OnOk result (Stays (told self.old) (told self.new)) }
         ensures failed { OnErr result
             (FailsAlone (told self.old) (told self.new) place (told self.old).register.asked) };
 }

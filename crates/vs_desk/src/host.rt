@@ -12,17 +12,19 @@ use std::collections::BTreeMap;
 use std::collections::btree_map::Entry;
 use std::fs::File;
 use std::io;
-use std::io::{Read, Write};
+use std::io::{BufWriter, Read, Write};
 use std::rt::Files;
 
 /// The system's files as places. Place 0 is standard output; nothing goes to standard error.
 ///
-/// Each call makes one call of std's open, read or write, and fails where that failed or wrote
-/// nothing. It tells no bytes. What the system does is not proved.
+/// What is put at a place other than 0 is gathered in a block of 64 KiB, which is written when it is
+/// full, and at `flush`; what is put at place 0 is written at once. A call fails where std's open, read
+/// or write failed or wrote nothing. It tells no bytes. What the system does is not proved.
 #[derive(Drop)]
 pub struct HostDesk<R: Files + Print> {
     rt: R,
-    places: BTreeMap<u32, Place<R::File>>,
+    alloc: Global,
+    places: BTreeMap<u32, Place<BufWriter<R::File>>>,
     failures: Failures,
 }
 
@@ -38,6 +40,7 @@ impl<R: Files + Print> HostDesk<R> {
     {
         Ok(HostDesk {
             rt,
+            alloc,
             places: BTreeMap::new(alloc),
             failures: Failures::new(alloc),
         })
@@ -58,18 +61,27 @@ impl<R: Files + Print> HostDesk<R> {
     }
 }
 
-/// Opens the file at a path, to read it, or to write it from its start after it was made or emptied.
-fn open<R: Files>(rt: &R, path: &str, way: Way) -> io::Result<R::File> {
+/// The bytes of a block that is gathered before it is written.
+const BLOCK: usize = 65536;
+
+/// Opens the file at a path, to read it, or to write it from its start after it was made or emptied. A file that is read has no block.
+fn open<R: Files>(
+    rt: &R,
+    alloc: Global,
+    path: &str,
+    way: Way,
+) -> io::Result<BufWriter<R::File>> {
     match way {
-        Way::Read => File::open(rt, path),
-        Way::Write => File::create(rt, path),
+        Way::Read => BufWriter::with_capacity(alloc, 0, File::open(rt, path)?),
+        Way::Write => BufWriter::with_capacity(alloc, BLOCK, File::create(rt, path)?),
     }
 }
 
 /// Attaches a place to the file at a path, or gives the path back.
 fn attach_file<R: Files>(
     rt: &R,
-    places: &mut BTreeMap<u32, Place<R::File>>,
+    alloc: Global,
+    places: &mut BTreeMap<u32, Place<BufWriter<R::File>>>,
     place: u32,
     path: String,
     way: Way,
@@ -83,7 +95,7 @@ fn attach_file<R: Files>(
     ensures path { IfErr result (λ p. string_bytes p ≡ string_bytes path) }
 {
     match places.entry(place) {
-        Ok(Entry::Vacant(vacant)) => match open(rt, path.as_str(), way) {
+        Ok(Entry::Vacant(vacant)) => match open(rt, alloc, path.as_str(), way) {
             Ok(stream) => {
                 vacant.insert(Place { way, path, stream });
                 Ok(())
@@ -96,8 +108,8 @@ fn attach_file<R: Files>(
 }
 
 /// Reads from the file at a place once.
-fn read_from<F: Read>(
-    places: &mut BTreeMap<u32, Place<F>>,
+fn read_from<F: Read + Write + Drop>(
+    places: &mut BTreeMap<u32, Place<BufWriter<F>>>,
     place: u32,
     buf: &mut [u8],
 ) -> io::Result<usize>
@@ -105,13 +117,13 @@ fn read_from<F: Read>(
     ensures within { IfOk result (λ n. n ≤ length buf.old) }
     ensures attached { (p : ℕ) → attached_in places.new p ≡ attached_in places.old p }
 {
-    places.get_mut(&place).unwrap().stream.read(buf)
+    places.get_mut(&place).unwrap().stream.get_mut().read(buf)
 }
 
-/// Writes once: at place 0 to standard output, else to the file at the place.
+/// Writes once: at place 0 to standard output, else to the block of the place.
 fn write_to<R: Files + Print>(
     rt: &R,
-    places: &mut BTreeMap<u32, Place<R::File>>,
+    places: &mut BTreeMap<u32, Place<BufWriter<R::File>>>,
     place: u32,
     bytes: &[u8],
 ) -> io::Result<usize>
@@ -125,6 +137,20 @@ fn write_to<R: Files + Print>(
     places.get_mut(&place).unwrap().stream.write(bytes)
 }
 
+/// Writes the block of a place out. At place 0 nothing is kept back.
+fn write_out<F: Write + Drop>(
+    places: &mut BTreeMap<u32, Place<BufWriter<F>>>,
+    place: u32,
+) -> io::Result<()>
+    requires { place ≢ 0 → IsSome (get nat_cmp places.old place) }
+    ensures attached { (p : ℕ) → attached_in places.new p ≡ attached_in places.old p }
+{
+    if place == 0 {
+        return Ok(());
+    }
+    places.get_mut(&place).unwrap().stream.flush()
+}
+
 #[tactic(auto, unfolding(crate::specs::Host::register))]
 impl<R: Files + Print> Desk for HostDesk<R> {
     ghost use Rattle.std.specs.Prelude.{false};
@@ -135,7 +161,7 @@ impl<R: Files + Print> Desk for HostDesk<R> {
     ghost told = { told };
 
     fn attach(&mut self, place: u32, path: String, way: Way) -> Result<(), Failed> {
-        match attach_file(&self.rt, &mut self.places, place, path, way) {
+        match attach_file(&self.rt, self.alloc, &mut self.places, place, path, way) {
             Ok(()) => Ok(()),
             Err(path) => {
                 self.failures.count_attach(place, path);
@@ -158,6 +184,16 @@ impl<R: Files + Print> Desk for HostDesk<R> {
         match write_to(&self.rt, &mut self.places, place, bytes) {
             Ok(n) if n > 0 => Ok(n),
             _ => {
+                self.failures.count(place);
+                Err(Failed)
+            }
+        }
+    }
+
+    fn flush(&mut self, place: u32) -> Result<(), Failed> {
+        match write_out(&mut self.places, place) {
+            Ok(()) => Ok(()),
+            Err(_) => {
                 self.failures.count(place);
                 Err(Failed)
             }

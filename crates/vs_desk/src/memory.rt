@@ -14,9 +14,9 @@ use std::collections::BTreeMap;
 
 /// A desk in memory, which holds files by path and tells all its bytes.
 ///
-/// Its calls of `attach`, `take` and `put` are numbered from 0. A call whose number was listed fails.
-/// So does an attach with `Read` to a path without a file, and an `attach` or a `put` for which memory
-/// runs out. A `take` moves at most a piece.
+/// Its calls of `attach`, `take`, `put` and `flush` are numbered from 0. A call whose number was listed
+/// fails. So does an attach with `Read` to a path without a file, and an `attach` or a `put` for which
+/// memory runs out. A `take` moves at most a piece. It keeps nothing back.
 #[derive(Drop)]
 pub struct MemoryDesk {
     alloc: Global,
@@ -84,7 +84,7 @@ impl MemoryDesk {
         self.calls.fail_at(numbers)
     }
 
-    /// How many calls of `attach`, `take` and `put` were made. At 2^64 - 1 the number stays.
+    /// How many calls of `attach`, `take`, `put` and `flush` were made. At 2^64 - 1 the number stays.
     pub fn calls(&self) -> u64
         ensures { result ≡ (memory.plan self.now).calls }
     {
@@ -134,7 +134,7 @@ impl MemoryDesk {
 impl Desk for MemoryDesk {
     ghost use Rattle.std.specs.Prelude.{◌≡◌, ◌≢◌, ◌<◌, ◌≤◌, ◌++◌, ℕ, List, [], Bool, true, false, min, length, take, drop, IsTrue, IsNone, IsErr, IfOk, OnOk, OnErr, ◌||◌, ◌↔◌, string_bytes};
     ghost use Rattle.vs_desk.specs.declared.desk.Way.TheVariants.{Read};
-    ghost use Rattle.vs_desk.specs.Desk.{IsAttached, IsWritable, FailsAlone, Attaches, Takes, Puts};
+    ghost use Rattle.vs_desk.specs.Desk.{IsAttached, IsWritable, FailsAlone, Stays, Attaches, Takes, Puts};
     ghost use Rattle.vs_desk.specs.Tape.{is_emptied};
     ghost use Rattle.vs_desk.specs.MemoryDesk as memory;
 
@@ -243,5 +243,23 @@ impl Desk for MemoryDesk {
                 Err(Failed)
             }
         }
+    }
+
+    fn flush(&mut self, place: u32) -> Result<(), Failed>
+        requires writable { IsWritable (memory.register self.old) place }
+        ensures flushed { OnOk result (Stays (memory.told self.old) (memory.told self.new)) }
+        ensures failed { OnErr result (FailsAlone (memory.told self.old) (memory.told self.new)
+            place (memory.register self.old).asked) }
+
+        // It fails exactly where its number was listed.
+        ensures planned { IsErr result ↔ memory.NextFails (memory.plan self.old) }
+        ensures counted { memory.plan self.new ≡ memory.counted (memory.plan self.old) }
+        ensures holds { (q : List ℕ) → memory.holds self.new q ≡ memory.holds self.old q }
+    {
+        if self.calls.next_fails() {
+            self.failures.count(place);
+            return Err(Failed);
+        }
+        Ok(())
     }
 }
