@@ -69,6 +69,20 @@ fn memory_keeps_what_was_put(rt: HostRuntime) -> Result<(), Fail> {
     Ok(())
 }
 
+#[test]
+fn memory_fails_at_a_flush(rt: HostRuntime) -> Result<(), Fail> {
+    let alloc = rt.alloc();
+    let mut desk = MemoryDesk::new(alloc, 1);
+    desk.fail_at(&[3])?;
+    desk.attach(1, text(alloc, "out")?, Way::Write)?;
+    put_all(&mut desk, 1, b"xyz")?;
+    desk.flush(1)?;
+    assert_eq!(rt; desk.flush(1), Err(Failed));
+    expect_counts(&rt, &desk, [4, 1, 0]);
+    expect_bytes(&rt, desk.written(1), b"xyz");
+    Ok(())
+}
+
 /// A desk whose puts take one byte of the piece.
 #[derive(Drop)]
 struct ByteByByte {
@@ -90,6 +104,10 @@ impl Desk for ByteByByte {
 
     fn put(&mut self, place: u32, bytes: &[u8]) -> Result<usize, Failed> {
         self.desk.put(place, &bytes[..1])
+    }
+
+    fn flush(&mut self, place: u32) -> Result<(), Failed> {
+        self.desk.flush(place)
     }
 }
 
@@ -123,6 +141,7 @@ fn host_reads_what_it_wrote(rt: HostRuntime) -> Result<(), Fail> {
 
     desk.attach(2, text(alloc, path)?, Way::Write)?;
     put_all(&mut desk, 2, b"some text")?;
+    desk.flush(2)?;
     desk.attach(3, text(alloc, path)?, Way::Read)?;
     let mut buf = [0u8; 16];
     expect_moved(&rt, desk.take(3, &mut buf), Ok(9));

@@ -4,3 +4,4 @@ pub mod Failing
 pub mod Held
 pub mod Tells
 pub mod Attaching
+mod FailingAgain

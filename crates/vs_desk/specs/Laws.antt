@@ -1,7 +1,7 @@
 -- Bytes put or taken in parts are put or taken as one, and places attached one behind the other are attached each by itself.
-use Rattle.std.specs.Prelude.{◌≡◌, ◌⊎◌, ℕ, ◌+◌, ◌<◌, ◌≤◌, List, [], ◌∷◌, ◌++◌, length, slice_index_or, Some}
+use Rattle.std.specs.Prelude.{◌≡◌, ◌≢◌, ◌⊎◌, ℕ, ◌+◌, ◌<◌, ◌≤◌, Bool, List, [], ◌∷◌, ◌++◌, length, slice_index_or, Some}
 use Rattle.vs_desk.specs.declared.desk.Way.{Way}
-use Rattle.vs_desk.specs.Desk.{Register, Contents, with_place, with_put, with_taken}
+use Rattle.vs_desk.specs.Desk.{Register, Contents, Told, Stays, FailsAlone, with_place, with_put, with_taken}
 use Rattle.vs_desk.specs.Places.{with_places}
 
 abbrev pub PutsNothing : Type 0
@@ -42,3 +42,15 @@ pub record IsQuiet (old new : Register) : Type 0 where
 -- attaching places tells of no failed call
 abbrev pub NoCallFailed : Type 0
 NoCallFailed = (r : Register) (first : ℕ) (way : Way) (paths : List (List ℕ)) → IsQuiet r (with_places r first way paths)
+
+-- a call that failed alone, behind calls that changed nothing, or before them
+abbrev pub StaysThenFails : Type 0
+StaysThenFails = (tells : Bool) (old now new : Told tells) (place : ℕ) → Stays old now → FailsAlone now new place now.register.asked → FailsAlone old new place old.register.asked
+
+abbrev pub FailsThenStays : Type 0
+FailsThenStays = (tells : Bool) (old now new : Told tells) (place : ℕ) (asked : List ℕ) → FailsAlone old now place asked → Stays now new → FailsAlone old new place asked
+
+-- of two calls that failed alone the later one is told
+abbrev pub FailsAgain : Type 0
+FailsAgain = (tells : Bool) (old now new : Told tells) (first second : ℕ) (asked : List ℕ) → first ≢ 0 → second ≢ 0
+    → FailsAlone old now first asked → FailsAlone now new second now.register.asked → FailsAlone old new second asked

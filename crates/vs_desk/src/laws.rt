@@ -1,5 +1,5 @@
 // Laws of what is put and taken, and of places that are attached.
-ghost use Rattle.vs_desk.specs.Laws.{PutsNothing, PutsInParts, TakesNothing, TakesInParts, OtherPlacesStay, EachPlaceIsAttached, NextPlaceIsAttached, NoCallFailed};
+ghost use Rattle.vs_desk.specs.Laws.{PutsNothing, PutsInParts, TakesNothing, TakesInParts, OtherPlacesStay, EachPlaceIsAttached, NextPlaceIsAttached, NoCallFailed, StaysThenFails, FailsThenStays, FailsAgain};
 
 /// Putting no bytes changes nothing, and bytes put at a place in two parts are put as one.
 pub fn put_law()
@@ -20,4 +20,11 @@ pub fn attach_law()
     ensures each { EachPlaceIsAttached }
     ensures next { NextPlaceIsAttached }
     ensures quiet { NoCallFailed }
+{}
+
+/// Of calls one behind the other that fail alone, at places other than 0, the last one is told, and all of them are counted.
+pub fn fail_law()
+    ensures first { StaysThenFails }
+    ensures last { FailsThenStays }
+    ensures again { FailsAgain }
 {}

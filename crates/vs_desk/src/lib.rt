@@ -15,6 +15,6 @@ mod tapes;
 
 pub use desk::{Desk, Failed, Way, put_all};
 pub use host::HostDesk;
-pub use laws::{attach_law, put_law, take_law};
+pub use laws::{attach_law, fail_law, put_law, take_law};
 pub use memory::MemoryDesk;
 pub use places::{DESIGN_PLACE, FIRST_STIMULUS, FIRST_WAVEFORM, MOST_LANES};
