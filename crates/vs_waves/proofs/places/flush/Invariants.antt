@@ -1,0 +1,8 @@
+use Rattle.std.proofs.Common.{◌×◌, ◌<◌, OnOk, IfErr}
+use Rattle.vs_desk.specs.Desk.{FailsAlone, Stays}
+use Rattle.vs_waves.specs.Puts.{wave_place}
+use Rattle.vs_waves.proofs.places.flush.Given as goal
+
+abbrev pub invariant-loop-lane : goal.invariant-loop-lane
+invariant-loop-lane g l = OnOk l.result (Stays (g.D.Desk.told l.fn.desk) (g.D.Desk.told l.desk))
+    × IfErr l.result (λ e. (e.lane < l.lanes) × FailsAlone (g.D.Desk.told l.fn.desk) (g.D.Desk.told l.desk) (wave_place e.lane) (g.D.Desk.told l.fn.desk).register.asked)
