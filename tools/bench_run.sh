@@ -2,7 +2,8 @@
 # Prints how long runs take, with N vectors (1000, or the first argument) in each lane, the waveforms written to files:
 #   bench   the design and the stimuli of `cyclesim bench` (crates/vs_bench), in 64 and in 256 lanes;
 #   gates   300 gates of one bit that all change in every clock period, in 64 lanes;
-#   still   3,000 signals of one bit of which 1 in 100 changes, in 64 lanes.
+#   still   3,000 signals of one bit of which 1 in 100 changes, in 64 lanes;
+#   gate    one gate of one bit that changes in every clock period, with 100 times as many vectors, in 64 lanes.
 # Of the processor time it shows what goes to accept and to compile the design, to settle it, to find what changed in each slot (scan), to read
 # the stimuli (those of a run whose design has the inputs alone) and to put the text into files (the time of the system); the rest is to write the
 # text. Where Icarus Verilog or Verilator is installed (Debian's packages iverilog and verilator), it runs the first design on the same stimuli by
@@ -21,6 +22,7 @@ ghost use Rattle.std.specs.Prelude.{◌≡◌, ◌+◌, ◌*◌, ◌<◌, ◌≤
 ghost use Rattle.vs_desk.specs.Desk.{no_register};
 ghost use Rattle.vs_desk.specs.MemoryDesk as memory;
 ghost use Rattle.vs_design.specs.Expressions.{signal_length};
+ghost use Rattle.vs_design.specs.Footprints.{shown_signals};
 ghost use Rattle.vs_flat.specs.DesignOf.{design_of};
 ghost use Rattle.vs_program.specs.declared.compiled.Span.{Span};
 ghost use Rattle.vs_waves.specs.Laws.{AreBefore};
@@ -122,7 +124,7 @@ fn stir(pairs: &mut [Pair<Words<1>>], seed: u64, from: usize, to: usize) -> u64
 /// The design of a text, and an engine of it.
 fn loaded(alloc: Global, text: &[u8]) -> Result<Loaded<Words<1>>, AcceptError>
     requires { length text.now ≤ 4194304 }
-    ensures { IfOk result (λ l. map (λ (s : Span). s.length) l.engine.program.signals ≡ map signal_length (design_of l.accepted.flat).signals) }
+    ensures { IfOk result (λ l. map (λ (s : Span). s.length) l.engine.program.signals ≡ map signal_length (shown_signals (design_of l.accepted.flat))) }
 {
     load(alloc, text, b"top", b"clk")
 }
@@ -232,7 +234,7 @@ fn time_waves<L: Ledger>(
     requires name { blank.name ≡ L.name }
     requires parts { blank.parts ≡ L.parts }
     requires some { 0 < blank.parts }
-    requires lengths { map (λ (s : Span). s.length) loaded.old.engine.program.signals ≡ map signal_length (design_of loaded.old.accepted.flat).signals }
+    requires lengths { map (λ (s : Span). s.length) loaded.old.engine.program.signals ≡ map signal_length (shown_signals (design_of loaded.old.accepted.flat)) }
 {
     rounds_law();
     let mut desk = MemoryDesk::new(rt.alloc(), 65_536);
@@ -418,7 +420,7 @@ All-at P xs i x e all = subst P (get_or_from_slice_get xs i x x e) (All-get_or P
 
 pub measure-requires-clause-waves : goal.measure-requires-clause-waves
 measure-requires-clause-waves g c =
-    let signals = c.requires.lengths ∙ ap (λ (f : Arena). map signal_length (design_of f).signals) (sym (c.flat.ensures.same ∙ c.typed.ensures)) in
+    let signals = c.requires.lengths ∙ ap (λ (f : Arena). map signal_length (shown_signals (design_of f))) (sym (c.flat.ensures.same ∙ c.typed.ensures)) in
     record {
       each = λ i w q. c.rounds_law.ensures.first (design_of c.flat.result.now) 5 c.args.loaded.now.engine.program.signals w signals
           (All-at (IsNewWave (design_of c.flat.result.now) 5) c.in_ok-waves.waves i w q c.in_ok-waves.ensures.new);
@@ -462,7 +464,9 @@ for lane in range(256):
     write("bench%d.bits" % lane, "\n".join(line.replace(" ", "_") for line in lines) + "\n")
     flips = [str((k + lane) % 2) for k in range(vectors)]
     write("gates%d" % lane, "\n".join(["inputs a"] + flips) + "\n")
+    write("gate%d" % lane, "\n".join(["inputs a"] + flips * 100) + "\n")
     write("still%d" % lane, "\n".join(["inputs a b"] + [flip + " 0" for flip in flips]) + "\n")
+write("gate.v", "module top(input clk, input a, output y);\nassign y = ~a;\nendmodule\n")
 write("gates.v", "module top(input clk, input a);\n" + "".join("wire g%d = ~a;\n" % n for n in range(300)) + "endmodule\n")
 write("still.v", "module top(input clk, input a, input b);\n" + "".join("wire s%d = ~%s;\n" % (n, "a" if n % 100 == 0 else "b") for n in range(3000)) + "endmodule\n")
 write("bench_tb.v", """module bench_tb;
@@ -507,13 +511,13 @@ def written():
     return count
 
 # The inputs of each design, and which of their bits change.
-inputs = {"bench": ("input rst, input [31:0] a", 1, 33), "gates": ("input a", 0, 1), "still": ("input a, input b", 0, 1)}
+inputs = {"bench": ("input rst, input [31:0] a", 1, 33), "gates": ("input a", 0, 1), "gate": ("input a", 0, 1), "still": ("input a, input b", 0, 1)}
 
 def simulated(design, name, lanes):
     words = [crates + "/cyclesim/out/cyclesim", "run", "--top", "top", "--clock", "clk", design]
     return spent(words + ["%s%d" % (name, lane) for lane in range(lanes)])
 
-def run(name, lanes):
+def run(name, lanes, vectors=vectors):
     """Runs the design in so many lanes, and shows what it took."""
     report, own, system, memory = simulated(name + ".v", name, lanes)
     size = written() / 1e6
@@ -536,6 +540,7 @@ def run(name, lanes):
 bench, _, _ = run("bench", 64)
 run("bench", 256)
 run("gates", 64)
+run("gate", 64, 100 * vectors)
 _, less, scan = run("still", 64)
 _, more, _ = run("still", 256)
 print("an unchanged signal: %.3f ns a lane and slot; %.0f bytes of memory a signal and lane" % (scan * 1e9 / (2 * vectors * 64 * 3000), (more - less) / (192 * 3003)))
