@@ -1,4 +1,4 @@
-use Rattle.std.proofs.Common.{◌×◌, ◌<◌, OnOk, IfErr}
+use Rattle.std.proofs.Common.{◌<◌, OnOk, IfErr}
 use Rattle.vs_desk.specs.Desk.{FailsAlone, Stays}
 use Rattle.vs_waves.specs.Puts.{wave_place}
 use Rattle.vs_waves.proofs.places.flush.Given as goal
