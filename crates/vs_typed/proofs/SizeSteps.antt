@@ -9,7 +9,8 @@ use Rattle.std.specs.List.{list_any}
 use Rattle.vs_design.specs.Statements.{Statement}
 use Rattle.vs_design.specs.Designs.{Event, Process, Always, Design, has_edge, is_clocked, bit_count}
 use Rattle.vs_design.specs.Elaborated.{IsLawfulDesign}
-use Rattle.vs_design.specs.Footprints.{is_memory, memory_bits, signals_bits, statement_bits, writes_of, waits_of, ascending}
+use Rattle.vs_design.specs.Values.{bits_of_signal}
+use Rattle.vs_design.specs.Footprints.{is_memory, signals_bits, statement_bits, writes_of, waits_of, ascending}
 use Rattle.vs_design.specs.Races.{doubled, doubled_bits}
 use Rattle.vs_design.specs.Sizes.{distinct, statement_weight, process_weight, sleeper_weight, register_bits}
 use Rattle.vs_design.specs.Sleepers.{is_sleeping}
@@ -17,13 +18,10 @@ use Rattle.vs_reads.specs.Footprint.{footprints_of, waits_at, writes_at}
 use Rattle.vs_reads.specs.Laws.{HasBitsOf, EachIsOfItsProcess, EachHasItsBits}
 use Rattle.vs_typed.proofs.Distinct.{ascending_count}
 use Rattle.vs_design.specs.Refusals.{WidthRefusal, first_found, otherwise}
-use Rattle.vs_flat.specs.Trees.{signals_from, signal_at, no_signal}
-use Rattle.vs_flat.specs.declared.processes.Signal as F
-use Rattle.vs_flat.specs.Arena.{Arena}
-use Rattle.vs_flat.specs.DesignOf.{design_of}
+use Rattle.vs_flat.specs.Trees.{signal_at, no_signal}
 
-next_process : (ps : List Process) (p : ℕ) (x : Process) → slice_get ps p ≡ Some x → take (p + 1) ps ≡ take p ps ++ x ∷ []
-next_process ps p x h = take_more ps p x (slice_get_within ps p x h) ∙ ap (λ y. take p ps ++ y ∷ []) (get_or_from_slice_get ps p x x h)
+next_item : {A : Type 0} (xs : List A) (n : ℕ) (x : A) → slice_get xs n ≡ Some x → take (n + 1) xs ≡ take n xs ++ x ∷ []
+next_item xs n x h = take_more xs n x (slice_get_within xs n x h) ∙ ap (λ y. take n xs ++ y ∷ []) (get_or_from_slice_get xs n x x h)
 
 sum_more : {A : Type 0} (f : A → ℕ) (xs : List A) (x : A) → sum_by f (xs ++ x ∷ []) ≡ sum_by f xs + f x
 sum_more f [] x = sum_by-cons f x [] ∙ omega arith
@@ -40,27 +38,40 @@ sum_step f (y ∷ ys) p start sum after inside e h =
     let ps = y ∷ ys in
     let x = get_or ps p y in
     let at : slice_get ps p ≡ Some x = slice_get-get_or ps p y inside in
-    let whole : sum_by f (take (p + 1) ps) ≡ sum_by f (take p ps) + f x = ap (sum_by f) (next_process ps p x at) ∙ sum_more f (take p ps) x in
+    let whole : sum_by f (take (p + 1) ps) ≡ sum_by f (take p ps) + f x = ap (sum_by f) (next_item ps p x at) ∙ sum_more f (take p ps) x in
     omega (arith, e, h x at, whole)
 
 pub sum_all : (f : Process → ℕ) (ps : List Process) (p start sum : ℕ) → length ps ≤ p → sum ≡ start + sum_by f (take p ps) → sum ≡ start + sum_by f ps
 sum_all f ps p start sum h e = e ∙ ap (λ qs. start + sum_by f qs) (take_all p ps h)
 
--- ---- bits of processes, one process more
+-- ---- bits of processes and of signals, one more
 
-module _ (of : Process → List ℕ) (all : List Process → List ℕ) (none : all [] ≡ []) (one : (p : Process) (ps : List Process) → all (p ∷ ps) ≡ of p ++ all ps) where
-  more : (ps : List Process) (x : Process) → all (ps ++ x ∷ []) ≡ all ps ++ of x
+module _ {A : Type 0} (of : A → List ℕ) (all : List A → List ℕ) (none : all [] ≡ []) (one : (x : A) (xs : List A) → all (x ∷ xs) ≡ of x ++ all xs) where
+  more : (xs : List A) (x : A) → all (xs ++ x ∷ []) ≡ all xs ++ of x
   more [] x = one x [] ∙ ap (λ bs. of x ++ bs) none ∙ append-nil (of x) ∙ ap (λ bs. bs ++ of x) (sym none)
-  more (p ∷ ps) x = one p (ps ++ x ∷ []) ∙ ap (λ bs. of p ++ bs) (more ps x) ∙ sym (append_assoc (of p) (all ps) (of x)) ∙ ap (λ bs. bs ++ of x) (sym (one p ps))
+  more (y ∷ xs) x = one y (xs ++ x ∷ []) ∙ ap (λ bs. of y ++ bs) (more xs x) ∙ sym (append_assoc (of y) (all xs) (of x)) ∙ ap (λ bs. bs ++ of x) (sym (one y xs))
 
-  noted : (ps : List Process) (p : ℕ) (x : Process) (old new : List ℕ) → slice_get ps p ≡ Some x → old ≡ all (take p ps) → new ≡ old ++ of x → new ≡ all (take (p + 1) ps)
-  noted ps p x old new at e h = h ∙ ap (λ bs. bs ++ of x) e ∙ sym (more (take p ps) x) ∙ ap all (sym (next_process ps p x at))
+  noted : (start : List ℕ) (xs : List A) (n : ℕ) (x : A) (old new : List ℕ) → slice_get xs n ≡ Some x → old ≡ start ++ all (take n xs) → new ≡ old ++ of x → new ≡ start ++ all (take (n + 1) xs)
+  noted start xs n x old new at e h =
+      h ∙ ap (λ bs. bs ++ of x) e ∙ append_assoc start (all (take n xs)) (of x) ∙ ap (λ bs. start ++ bs) (sym (more (take n xs) x) ∙ ap all (sym (next_item xs n x at)))
 
 pub registers_noted : (ps : List Process) (p : ℕ) (x : Process) (old new : List ℕ) → slice_get ps p ≡ Some x → old ≡ register_bits (take p ps) → new ≡ old ++ (if is_clocked x then writes_of x else []) → new ≡ register_bits (take (p + 1) ps)
-registers_noted = noted (λ x. if is_clocked x then writes_of x else []) register_bits refl (λ p ps. refl)
+registers_noted = noted (λ x. if is_clocked x then writes_of x else []) register_bits refl (λ p ps. refl) []
 
 pub doubled_noted : (ps : List Process) (p : ℕ) (x : Process) (old new : List ℕ) → slice_get ps p ≡ Some x → old ≡ doubled_bits (take p ps) → new ≡ old ++ doubled x → new ≡ doubled_bits (take (p + 1) ps)
-doubled_noted = noted doubled doubled_bits refl (λ p ps. refl)
+doubled_noted = noted doubled doubled_bits refl (λ p ps. refl) []
+
+-- of memories
+pub memories_noted : (start : List ℕ) (ss : List Signal) (n : ℕ) (s : Signal) (old new : List ℕ) → slice_get ss n ≡ Some s → old ≡ start ++ signals_bits (filter is_memory (take n ss)) → new ≡ old ++ (if is_memory s then bits_of_signal s else [])
+    → new ≡ start ++ signals_bits (filter is_memory (take (n + 1) ss))
+memories_noted = noted (λ s. if is_memory s then bits_of_signal s else []) (λ ss. signals_bits (filter is_memory ss)) refl one
+  where
+    one : (s : Signal) (ss : List Signal) → signals_bits (filter is_memory (s ∷ ss)) ≡ (if is_memory s then bits_of_signal s else []) ++ signals_bits (filter is_memory ss)
+    one s ss = go (is_memory s)
+      where
+        go : (k : Bool) → signals_bits (if k then s ∷ filter is_memory ss else filter is_memory ss) ≡ (if k then bits_of_signal s else []) ++ signals_bits (filter is_memory ss)
+        go true = refl
+        go false = refl
 
 -- ---- inputs
 
@@ -115,13 +126,3 @@ sleeper_is lists bits d lawful p x at asleep e =
     let h = bits d lawful p x at in
     ap (λ k. if k then (length (waits_at (footprints_of d) p) + 1 + length (writes_at (footprints_of d) p)) else 0) e
     ∙ ap₂ (λ m n. if is_sleeping d x then (m + 1 + n) else 0) (has_count (bit_count d) (waits_at (footprints_of d) p) (waits_of x) h.waits f.waits) (has_count (bit_count d) (writes_at (footprints_of d) p) (writes_of x) h.writes f.writes)
-
--- ---- memories
-
--- an arena has none
-none_of : (ss : List F.Signal) (first : ℕ) → signals_bits (filter is_memory (signals_from first ss)) ≡ []
-none_of [] first = refl
-none_of (s ∷ ss) first = none_of ss (suc first)
-
-pub no_memories : (a : Arena) (bits : List ℕ) → bits ++ memory_bits (design_of a) ≡ bits
-no_memories a bits = ap (λ more. bits ++ more) (none_of a.signals 0) ∙ append-nil bits

@@ -2,9 +2,9 @@
 use Rattle.std.specs.Prelude.{◌≡◌, ◌<◌, ◌+◌, ◌*◌, ◌&&◌, ℕ, Bool, true, List, [], ◌∷◌, length, if◌then◌else◌, Option, Some, slice_get, slice_index}
 use Rattle.vs_four.specs.Selects.{range_length}
 use Rattle.vs_four.specs.declared.Range.{Range}
-use Rattle.vs_design.specs.Expressions.{Expression, BinaryOp, way, width, is_constant}
+use Rattle.vs_design.specs.Expressions.{Signal, Expression, BinaryOp, way, width, is_constant}
 use Rattle.vs_design.specs.Fits.{is_fit}
-use Rattle.vs_design.specs.Sizes.{weight, binary_weight, is_shift}
+use Rattle.vs_design.specs.Sizes.{address_weight, weight, binary_weight, is_shift}
 use Rattle.vs_design.specs.Fits.{fits_statement}
 use Rattle.vs_design.specs.Statements.{Arms}
 use Rattle.vs_flat.specs.declared.statements.Arm.{Arm}
@@ -24,6 +24,10 @@ own_weights (e ∷ es) = own_weight e + own_weights es
 -- of a select of so many bits
 abbrev pub select_weight : ℕ → Range → Expression → ℕ
 select_weight n range index = if is_constant index then 0 else (n * (range_length range * width index) + weight index (width index))
+
+-- of a read of a word by this address, and what a write to one adds
+abbrev pub word_weight : Signal → Expression → ℕ
+word_weight signal index = if is_constant index then 0 else (address_weight signal (width index) + weight index (width index))
 
 -- what an operator itself costs, by the lengths of its operands and whether they are constant
 abbrev pub binary_own : BinaryOp → ℕ → ℕ → Bool → ℕ → Bool → ℕ

@@ -22,18 +22,9 @@ fn least_target(shapes: &Shapes, rule: Rule, e: u32, best: Option<u32>) -> Optio
 {
     let mut least = best;
     match shapes.node(e) {
-        Node::Bit {
-            of: _,
-            range: _,
-            index,
-        } => least_in(shapes, rule, *index, best),
-        Node::Part {
-            of: _,
-            range: _,
-            base,
-            up: _,
-            width: _,
-        } => least_in(shapes, rule, *base, best),
+        Node::Bit { index, .. } | Node::Part { base: index, .. } | Node::Word { index, .. } => {
+            least_in(shapes, rule, *index, best)
+        }
         Node::Join { parts } => {
             for part in first_copy(parts.as_slice()) {
                 least = least_target(shapes, rule, *part, least);

@@ -15,6 +15,7 @@ mod sums;
 mod targets;
 mod typed;
 mod weights;
+mod words;
 mod written;
 
 pub use design::type_design;

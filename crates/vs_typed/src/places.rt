@@ -101,6 +101,7 @@ pub(crate) fn least_in(shapes: &Shapes, rule: Rule, e: u32, best: Option<u32>) -
             up: _,
             width: _,
         } => least_in(shapes, rule, *base, least),
+        Node::Word { signal: _, index } => least_in(shapes, rule, *index, least),
         Node::Unary { op: _, a } => least_in(shapes, rule, *a, least),
         Node::Binary { op: _, a, b } => {
             least = least_in(shapes, rule, *a, least);

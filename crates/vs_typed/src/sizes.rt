@@ -1,6 +1,6 @@
 //! The size of a design.
 
-ghost use Rattle.std.specs.Prelude.{◌≡◌, ◌<◌, ◌+◌, ◌*◌, ◌++◌, Bool, length, map, false, slice_index_or, sum_by, take, true, slice_get, Some, IfOk, if◌then◌else◌, OnOk};
+ghost use Rattle.std.specs.Prelude.{◌≡◌, ◌<◌, ◌+◌, ◌*◌, ◌^◌, ◌++◌, Bool, length, map, false, slice_index_or, sum_by, take, true, slice_get, Some, IfOk, if◌then◌else◌, OnOk};
 ghost use Rattle.std.specs.List.{list_all};
 ghost use Rattle.vs_design.specs.Designs as D;
 ghost use Rattle.vs_design.specs.Expressions as E;
@@ -9,17 +9,17 @@ ghost use Rattle.vs_design.specs.Footprints.{memory_bits};
 ghost use Rattle.vs_design.specs.Races.{doubled_bits};
 ghost use Rattle.vs_design.specs.Sizes as S;
 ghost use Rattle.vs_design.specs.Sleepers.{is_sleeping};
+ghost use Rattle.vs_flat.specs.Arena.{signal_length};
 ghost use Rattle.vs_flat.specs.DesignOf.{design_of};
-ghost use Rattle.vs_flat.specs.DesignOf.{arena_signals};
-ghost use Rattle.vs_flat.specs.Trees.{signal_at};
 ghost use Rattle.vs_reads.specs.Footprint.{footprints_of, waits_at, writes_at};
 
 use crate::statements::add_statement;
 use crate::sums::{plus, times};
 use crate::targets::add_assignment;
+use crate::words::push_memories;
 use crate::written::{distinct, push_both_ways, written_count};
 use std::alloc::{AllocError, Global};
-use vs_flat::{Kind, has_edge, signal_length, trees_law};
+use vs_flat::{Kind, Signal, bits_of, has_edge, trees_law};
 use vs_reads::{Footprints, fit_process, footprint_law};
 use vs_shape::{Shapes, Walk};
 
@@ -87,7 +87,7 @@ fn push_registers(shapes: &Shapes, p: u32, bits: &mut Vec<u32>) -> Result<(), Al
     }
 }
 
-/// How many register bits there are: bits that clocked blocks write, and those of memories, of which a flat design has none.
+/// How many bits there are that clocked blocks write or that memories have.
 fn register_count(alloc: Global, shapes: &Shapes) -> Result<u64, AllocError>
     requires fits { list_all fits_process (design_of shapes.now).processes ≡ true }
     ensures { IfOk result (λ n. n ≡ S.distinct (S.register_bits (design_of shapes.now).processes ++ memory_bits (design_of shapes.now))) }
@@ -97,6 +97,7 @@ fn register_count(alloc: Global, shapes: &Shapes) -> Result<u64, AllocError>
     for p in 0..shapes.flat().process_count() {
         push_registers(shapes, p, &mut bits)?;
     }
+    push_memories(shapes, &mut bits)?;
     Ok(distinct(bits))
 }
 
@@ -142,15 +143,13 @@ fn doubled_count(alloc: Global, shapes: &Shapes) -> Result<u64, AllocError>
     Ok(distinct(bits))
 }
 
-/// How many bits signal n has if it is an input of the top.
-fn input_bits(shapes: &Shapes, n: u32) -> u64
-    requires { n < length shapes.now.signals }
-    ensures { result ≡ (if (signal_at (arena_signals shapes.now) n).input then E.signal_length (signal_at (arena_signals shapes.now) n) else 0) }
+/// How many bits a signal has if it is an input of the top.
+fn input_bits(signal: &Signal) -> u64
+    requires { signal_length signal.now < 2 ^ 32 }
+    ensures { result ≡ (if signal.now.input then signal_length signal.now else 0) }
 {
-    trees_law();
-    let signal = shapes.flat().signal(n);
     if signal.input {
-        signal_length(signal.range)
+        u64::from(bits_of(signal))
     } else {
         0
     }
@@ -161,9 +160,10 @@ fn add_inputs(shapes: &Shapes, total: u64) -> Result<u64, AllocError>
     ensures { IfOk result (λ t. t ≡ total + sum_by E.signal_length (D.top_inputs (design_of shapes.now))) }
 {
     trees_law();
+    let flat = shapes.flat();
     let mut sum = total;
-    for n in 0..shapes.flat().signal_count() {
-        sum = plus(sum, input_bits(shapes, n))?;
+    for n in 0..flat.signal_count() {
+        sum = plus(sum, input_bits(flat.signal(n)))?;
     }
     Ok(sum)
 }

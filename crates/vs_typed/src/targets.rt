@@ -9,7 +9,7 @@ ghost use Rattle.vs_sets.specs.TargetsOf.{IsTarget};
 ghost use Rattle.vs_typed.specs.Weights.{index_weight};
 
 use crate::sums::{plus, times};
-use crate::weights::{add_weight, as_operand};
+use crate::weights::{add_weight, add_word, as_operand};
 use std::alloc::AllocError;
 use vs_flat::Node;
 use vs_four::Range;
@@ -55,6 +55,7 @@ pub(crate) fn add_target(shapes: &Shapes, e: u32, total: u64) -> Result<u64, All
             up: _,
             width,
         } => add_index(shapes, *range, u64::from(*width), *base, total),
+        Node::Word { signal, index } => add_word(shapes, e, *signal, *index, total),
         Node::Join { parts } => {
             for part in first_copy(parts.as_slice()) {
                 sum = add_target(shapes, *part, sum)?;

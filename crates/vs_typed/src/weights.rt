@@ -4,12 +4,15 @@ ghost use Rattle.std.specs.Prelude.{◌≡◌, ◌≤◌, ◌<◌, ◌+◌, ◌*
 ghost use Rattle.vs_design.specs.Expressions as E;
 ghost use Rattle.vs_design.specs.Fits.{is_fit};
 ghost use Rattle.vs_design.specs.Sizes as S;
+ghost use Rattle.vs_flat.specs.DesignOf.{arena_signals};
+ghost use Rattle.vs_flat.specs.Trees.{signal_at};
 ghost use Rattle.vs_shape.specs.Nodes.{HasNames, tree_of, place_of, tree_of_node};
 ghost use Rattle.vs_sets.specs.FitParts.{FitParts};
-ghost use Rattle.vs_typed.specs.Weights.{EachFits, binary_own, own_weight, own_weights, select_weight};
+ghost use Rattle.vs_typed.specs.Weights.{EachFits, binary_own, own_weight, own_weights, select_weight, word_weight};
 
 use crate::operators::{binary_weight, is_shift, operand_width, operand_widths, unary_weight};
 use crate::sums::{plus, times};
+use crate::words::address_weight;
 use std::alloc::AllocError;
 use vs_base::BinaryOp;
 use vs_flat::Node;
@@ -90,6 +93,7 @@ pub(crate) fn add_weight(shapes: &Shapes, e: u32, w: u64, total: u64) -> Result<
             up: _,
             width,
         } => add_select(shapes, e, *range, u64::from(*width), *base, total),
+        Node::Word { signal, index } => add_word(shapes, e, *signal, *index, total),
         Node::Unary { op, a } => {
             let x = as_operand(shapes, *a);
             if x.constant {
@@ -137,6 +141,29 @@ fn add_select(
         return Ok(total);
     }
     let own = times(width, times(range.length(), x.width)?)?;
+    add_weight(shapes, index, x.width, plus(total, own)?)
+}
+
+/// The total with what a read of a word by this address costs (IEEE 1364-2005, 4.9.3), which a write of one adds too. By a constant address it costs nothing.
+#[cycle(weighing)]
+pub(crate) fn add_word(
+    shapes: &Shapes,
+    e: u32,
+    signal: u32,
+    index: u32,
+    total: u64,
+) -> Result<u64, AllocError>
+    requires there { e ≤ length shapes.now.nodes }
+    requires memory { signal < length shapes.now.signals }
+    requires before { index < e }
+    requires fit { is_fit (tree_of shapes.now index) ≡ true }
+    ensures { IfOk result (λ t. t ≡ total + word_weight (signal_at (arena_signals shapes.now) signal) (tree_of shapes.now index)) }
+{
+    let x = as_operand(shapes, index);
+    if x.constant {
+        return Ok(total);
+    }
+    let own = address_weight(shapes, signal, x.width)?;
     add_weight(shapes, index, x.width, plus(total, own)?)
 }
 

@@ -51,6 +51,16 @@ returns-in-Part t c at =
     let tree : tree_of a c.args.e ≡ E.At place x = c.node.ensures.tree ∙ ap (λ n. E.At place (tree_of_node a n)) c.in-Part.is in
     node_done rule at place c.args.best head _ (tree_of a c.args.e) x tree tt (c.least_head-least.ensures x tree) (c.least_in-in-Part.ensures place)
 
+pub returns-in-Word : goal.returns-in-Word
+returns-in-Word t c at =
+    let a = c.args.shapes.now in
+    let rule = c.args.rule in
+    let place = place_of a c.args.e in
+    let head = c.least_head-least.result in
+    let x = tree_of_node a (N.Word c.in-Word.signal c.in-Word.index) in
+    let tree : tree_of a c.args.e ≡ E.At place x = c.node.ensures.tree ∙ ap (λ n. E.At place (tree_of_node a n)) c.in-Word.is in
+    node_done rule at place c.args.best head _ (tree_of a c.args.e) x tree tt (c.least_head-least.ensures x tree) (c.least_in-in-Word.ensures place)
+
 pub returns-in-Unary : goal.returns-in-Unary
 returns-in-Unary t c at =
     let a = c.args.shapes.now in

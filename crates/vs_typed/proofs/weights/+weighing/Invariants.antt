@@ -10,6 +10,9 @@ decreases-add_weight l = 3 * l.e + 1
 abbrev pub decreases-add_select : goal.decreases-add_select
 decreases-add_select l = 3 * l.e
 
+abbrev pub decreases-add_word : goal.decreases-add_word
+decreases-add_word l = 3 * l.e
+
 abbrev pub decreases-add_own : goal.decreases-add_own
 decreases-add_own l = 3 * l.e + 2
 
