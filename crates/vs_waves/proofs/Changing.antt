@@ -1,6 +1,5 @@
 -- The signals that change, one after the other.
 use Rattle.std.proofs.Common.{◌≡◌, ℕ, zero, suc, ◌+◌, ◌<◌, Bool, true, false, not, ◌||◌, if◌then◌else◌, List, [], ◌∷◌, ◌++◌, append-nil, length, map, take, get_or, refl, sym, ap, ap₂, ◌∙◌, arith}
-use Rattle.std.specs.List.{flat_map}
 use Rattle.std.proofs.lemmas.Grind.{flat_map-append}
 use Rattle.vs_four.specs.declared.Bit4.{Bit4}
 use Rattle.vs_four.specs.declared.Bit4.TheVariants.{One}
@@ -12,7 +11,6 @@ use Rattle.vs_engine.specs.Lanes.{differ_below}
 use Rattle.vs_engine.proofs.Spans.{count_from-more, length-read}
 use Rattle.vs_vcd.specs.Values.{value_line}
 use Rattle.vs_vcd.specs.Texts.{changed_from, value_lines}
-use Rattle.vs_waves.specs.Changes.{place_lines}
 
 -- ---- whether two values are one
 
@@ -79,58 +77,28 @@ changed_more m (suc n) (b ∷ before) (v ∷ now) h k =
     behind false xs ys zs e = ap (λ ns. m ∷ ns) e
 
 -- of the first n signals all, if so told, or those that changed
-abbrev pub numbers : Bool → List BitList → List BitList → ℕ → List ℕ
-numbers all before now n = if all then count_from 0 n else changed_from 0 (take n before) (take n now)
+abbrev pub places : Bool → List BitList → List BitList → ℕ → List ℕ
+places all before now n = if all then count_from 0 n else changed_from 0 (take n before) (take n now)
 
-numbers_more : (all t : Bool) (n : ℕ) (before now : List BitList) → n < length before → n < length now
+places_more : (all t : Bool) (n : ℕ) (before now : List BitList) → n < length before → n < length now
     → t ≡ (all || not (is_one (identical (get_or before n []) (get_or now n []))))
-    → numbers all before now (n + 1) ≡ numbers all before now n ++ only t n
-numbers_more true t n before now h k e = count_from-more 0 n ∙ ap₂ (λ (j : ℕ) (u : Bool). count_from 0 n ++ only u j) (omega arith) (sym e)
-numbers_more false t n before now h k e =
+    → places all before now (n + 1) ≡ places all before now n ++ only t n
+places_more true t n before now h k e = count_from-more 0 n ∙ ap₂ (λ (j : ℕ) (u : Bool). count_from 0 n ++ only u j) (omega arith) (sym e)
+places_more false t n before now h k e =
     let next : n + 1 ≡ suc n = omega arith in
     ap (λ (j : ℕ). changed_from 0 (take j before) (take j now)) next
     ∙ changed_more 0 n before now h k
     ∙ ap₂ (λ (j : ℕ) (u : Bool). changed_from 0 (take n before) (take n now) ++ only u j) (omega arith) (sym e)
 
-line_only : (values : List BitList) (t : Bool) (n : ℕ) → place_lines values (only t n) ≡ (if t then value_line n (get_or values n []) else [])
-line_only values true n = append-nil (value_line n (get_or values n []))
-line_only values false n = refl
+line_only : (numbers : List ℕ) (values : List BitList) (t : Bool) (n : ℕ) → value_lines numbers values (only t n) ≡ (if t then value_line (get_or numbers n 0) (get_or values n []) else [])
+line_only numbers values true n = append-nil (value_line (get_or numbers n 0) (get_or values n []))
+line_only numbers values false n = refl
 
 -- and their lines
-pub lines_more : (all t : Bool) (n : ℕ) (before now : List BitList) → n < length before → n < length now
+pub lines_more : (numbers : List ℕ) (all t : Bool) (n : ℕ) (before now : List BitList) → n < length before → n < length now
     → t ≡ (all || not (is_one (identical (get_or before n []) (get_or now n []))))
-    → place_lines now (numbers all before now (n + 1)) ≡ place_lines now (numbers all before now n) ++ (if t then value_line n (get_or now n []) else [])
-lines_more all t n before now h k e =
-    ap (place_lines now) (numbers_more all t n before now h k e)
-    ∙ flat_map-append (λ (j : ℕ). value_line j (get_or now j [])) (numbers all before now n) (only t n)
-    ∙ ap (λ ls. place_lines now (numbers all before now n) ++ ls) (line_only now t n)
-
--- ---- where the first n signals have the numbers 0, 1, ..
-
-at_count : (first n k : ℕ) → k < n → get_or (count_from first n) k 0 ≡ first + k
-at_count first zero k h = absurd (omega arith)
-at_count first (suc n) zero h = omega arith
-at_count first (suc n) (suc k) h = at_count (suc first) n k (omega arith) ∙ omega arith
-
-same_line : (n : ℕ) (values : List BitList) (k : ℕ) → k < n → value_line k (get_or values k []) ≡ value_line (get_or (count_from 0 n) k 0) (get_or values k [])
-same_line n values k h = ap (λ (m : ℕ). value_line m (get_or values k [])) (let at = at_count 0 n k h in omega (arith, at))
-
-same_counted : (f g : ℕ → List ℕ) (first n : ℕ) → ((k : ℕ) → k < first + n → f k ≡ g k) → flat_map f (count_from first n) ≡ flat_map g (count_from first n)
-same_counted f g first zero same = refl
-same_counted f g first (suc n) same = ap₂ (λ (xs ys : List ℕ). xs ++ ys) (same first (omega arith)) (same_counted f g (suc first) n (λ k h. same k (omega (arith, h))))
-
-same_changed : (f g : ℕ → List ℕ) (m : ℕ) (before now : List BitList) → ((k : ℕ) → k < m + length before → f k ≡ g k) → flat_map f (changed_from m before now) ≡ flat_map g (changed_from m before now)
-same_changed f g m [] now same = refl
-same_changed f g m (b ∷ before) [] same = refl
-same_changed f g m (b ∷ before) (v ∷ now) same = by (is_one (identical b v)) (same_changed f g (suc m) before now (λ k h. same k (omega (arith, h)))) (same m (omega arith))
-  where
-    by : (t : Bool) → flat_map f (changed_from (suc m) before now) ≡ flat_map g (changed_from (suc m) before now) → f m ≡ g m
-        → flat_map f (elim t [ true ↦ changed_from (suc m) before now | false ↦ m ∷ changed_from (suc m) before now ]) ≡ flat_map g (elim t [ true ↦ changed_from (suc m) before now | false ↦ m ∷ changed_from (suc m) before now ])
-    by true rest here = rest
-    by false rest here = ap₂ (λ (xs ys : List ℕ). xs ++ ys) here rest
-
-pub first_lines : (n : ℕ) (values : List BitList) → place_lines values (count_from 0 n) ≡ value_lines (count_from 0 n) values (count_from 0 n)
-first_lines n values = same_counted (λ k. value_line k (get_or values k [])) (λ k. value_line (get_or (count_from 0 n) k 0) (get_or values k [])) 0 n (λ k h. same_line n values k (omega (arith, h)))
-
-pub later_lines : (n : ℕ) (before now : List BitList) → length before ≡ n → place_lines now (changed_from 0 before now) ≡ value_lines (count_from 0 n) now (changed_from 0 before now)
-later_lines n before now e = same_changed (λ k. value_line k (get_or now k [])) (λ k. value_line (get_or (count_from 0 n) k 0) (get_or now k [])) 0 before now (λ k h. same_line n now k (omega (arith, h, e)))
+    → value_lines numbers now (places all before now (n + 1)) ≡ value_lines numbers now (places all before now n) ++ (if t then value_line (get_or numbers n 0) (get_or now n []) else [])
+lines_more numbers all t n before now h k e =
+    ap (value_lines numbers now) (places_more all t n before now h k e)
+    ∙ flat_map-append (λ (j : ℕ). value_line (get_or numbers j 0) (get_or now j [])) (places all before now n) (only t n)
+    ∙ ap (λ ls. value_lines numbers now (places all before now n) ++ ls) (line_only numbers now t n)

@@ -1,6 +1,6 @@
 -- How the waves of all lanes are kept, and what a round makes of them.
 use Rattle.std.proofs.Common.{◌≡◌, ℕ, zero, suc, ◌+◌, ◌*◌, ◌^◌, ◌<◌, ◌==◌, ◌&&◌, Bool, true, false, List, [], ◌∷◌, ◌++◌, length, refl, sym, ap, ap₂, ◌∙◌, subst, arith}
-use Rattle.std.specs.Prelude.{not, filter, slice_get, Some, All, map, if◌then◌else◌}
+use Rattle.std.specs.Prelude.{slice_get, Some, All, map, if◌then◌else◌}
 use Rattle.std.proofs.Math.Nat.{add-mul, mul_assoc}
 use Rattle.std.proofs.lemmas.List.{length-map}
 use Rattle.std.proofs.lemmas.Option.{slice_get_within, get_or_from_slice_get}
@@ -9,14 +9,9 @@ use Rattle.std.proofs.Math.ListN.{replicate}
 use Rattle.std.proofs.lemmas.List.Elements.{All-replicate, All-from_get_or}
 use Rattle.vs_four.specs.Logic.{BitList}
 use Rattle.vs_net.specs.Network.{State}
-use Rattle.vs_design.specs.Expressions.{Signal, signal_length}
+use Rattle.vs_design.specs.Expressions.{signal_length}
 use Rattle.vs_design.specs.Values.{count_from}
 use Rattle.vs_design.specs.Designs.{Design}
-use Rattle.vs_design.specs.Footprints.{is_memory}
-use Rattle.vs_flat.specs.Arena.{Arena}
-use Rattle.vs_flat.specs.DesignOf.{design_of}
-use Rattle.vs_flat.specs.Trees.{signal_of, signals_from}
-use Rattle.vs_flat.specs.declared.processes.Signal as F
 use Rattle.vs_vcd.specs.Scopes.{shown_signals, head_text}
 use Rattle.vs_vcd.specs.Texts.{shown_numbers, time_line, first_text, slot_text}
 use Rattle.vs_program.specs.declared.compiled.Span.{Span}
@@ -76,8 +71,8 @@ slot_of lanes n m s e is = subst (λ (k : ℕ). IsSlot lanes k s) e is
 
 -- The waves are kept still where as many lanes, the ends of lines and the signals stay, and each slot is one of theirs.
 pub still_kept : {W : Type 0} (lanes : ℕ) (w v : Inside W) → IsKept lanes w → length v.lanes.items ≡ length w.lanes.items → v.round.tails ≡ w.round.tails
-    → IsSlot lanes (length w.round.tails.items) v.round.fall → IsSlot lanes (length w.round.tails.items) v.round.rise → v.last.spans ≡ w.last.spans → length v.block.items ≡ length w.block.items → IsKept lanes v
-still_kept lanes w v kept count tails fall rise spans block =
+    → IsSlot lanes (length w.round.tails.items) v.round.fall → IsSlot lanes (length w.round.tails.items) v.round.rise → v.last.signals ≡ w.last.signals → length v.block.items ≡ length w.block.items → IsKept lanes v
+still_kept lanes w v kept count tails fall rise signals block =
     let tails_are : v.round.tails.items ≡ w.round.tails.items = ap (λ ts. ts.items) tails in
     let long : length w.round.tails.items ≡ length v.round.tails.items = ap length (sym tails_are) in
     record {
@@ -87,7 +82,7 @@ still_kept lanes w v kept count tails fall rise spans block =
         fall = slot_of lanes (length w.round.tails.items) (length v.round.tails.items) v.round.fall long fall;
         rise = slot_of lanes (length w.round.tails.items) (length v.round.tails.items) v.round.rise long rise;
       };
-      signals = ap length spans ∙ kept.signals ∙ long;
+      signals = signals ∙ kept.signals ∙ long;
       block = omega (arith, kept.block);
     }
 
@@ -171,11 +166,11 @@ put_follows lane lanes engine round w live waves none e flags test is ready =
 
 -- ---- what a round makes of a lane
 
-abbrev wave_with : List ℕ → ℕ → ℕ → List BitList → List ℕ → Bool → Wave
-wave_with head count half last left is_open = record { dump = record { head = head; numbers = count_from 0 count; half = half; last = last; left = left }; is_open = is_open }
+abbrev wave_with : List ℕ → List ℕ → ℕ → List BitList → List ℕ → Bool → Wave
+wave_with head numbers half last left is_open = record { dump = record { head = head; numbers = numbers; half = half; last = last; left = left }; is_open = is_open }
 
-same_wave : (h head : List ℕ) (m count k half : ℕ) (v last : List BitList) (t left : List ℕ) (is_open : Bool) → h ≡ head → m ≡ count → k ≡ half → v ≡ last → t ≡ left → wave_with h m k v t is_open ≡ wave_with head count half last left is_open
-same_wave h head m count k half v last t left is_open p n q r s = cc
+same_wave : (h head m numbers : List ℕ) (k half : ℕ) (v last : List BitList) (t left : List ℕ) (is_open : Bool) → h ≡ head → m ≡ numbers → k ≡ half → v ≡ last → t ≡ left → wave_with h m k v t is_open ≡ wave_with head numbers half last left is_open
+same_wave h head m numbers k half v last t left is_open p n q r s = cc
 
 -- how a lane stands once its fall was noted, or not
 abbrev pub noted : Bool → LaneWave → LaneWave
@@ -189,7 +184,7 @@ closed live l = record { is_open = live && l.is_open; is_noted = false }
 pub record HasFallen {W : Type 0} (lane : W → ℕ → Bool) (lanes : ℕ) (engine : Running W) (round : ℕ) (w v : Inside W) : Type 0 where
   pub half : v.half ≡ w.half
   pub head : v.round.head.items ≡ w.round.head.items
-  pub spans : v.last.spans ≡ w.last.spans
+  pub numbers : v.last.numbers ≡ w.last.numbers
   pub values : (i : ℕ) → i < lanes → last_values lane v.last i ≡ lane_values lane engine i
   pub text : (i : ℕ) (l : LaneWave) → i < lanes
       → (if v.round.fall.is_first then v.round.head.items else []) ++ slot_lines lane lanes v.round.fall i ≡ fall_text round (lane_values lane engine i) (wave_of lane lanes w i l).dump
@@ -197,12 +192,12 @@ pub record HasFallen {W : Type 0} (lane : W → ℕ → Bool) (lanes : ℕ) (eng
 pub fallen_wave : {W : Type 0} (lane : W → ℕ → Bool) (lanes : ℕ) (engine : Running W) (round : ℕ) (w v : Inside W) → HasFallen lane lanes engine round w v
     → (i : ℕ) (b : Bool) (l : LaneWave) → i < lanes → wave_of lane lanes v i (noted b l) ≡ begun round b (lane_values lane engine i) (wave_of lane lanes w i l)
 fallen_wave lane lanes engine round w v fallen i true l h =
-    same_wave v.round.head.items w.round.head.items (length v.last.spans) (length w.last.spans) v.half w.half (last_values lane v.last i) (lane_values lane engine i)
+    same_wave v.round.head.items w.round.head.items v.last.numbers w.last.numbers v.half w.half (last_values lane v.last i) (lane_values lane engine i)
     ((if v.round.fall.is_first then v.round.head.items else []) ++ slot_lines lane lanes v.round.fall i)
     (fall_text round (lane_values lane engine i) (wave_of lane lanes w i l).dump)
-    l.is_open fallen.head (ap length fallen.spans) fallen.half (fallen.values i h) (fallen.text i l h)
+    l.is_open fallen.head fallen.numbers fallen.half (fallen.values i h) (fallen.text i l h)
 fallen_wave lane lanes engine round w v fallen i false l h =
-    same_wave v.round.head.items w.round.head.items (length v.last.spans) (length w.last.spans) v.half w.half (last_values lane v.last i) (lane_values lane engine i) [] [] l.is_open fallen.head (ap length fallen.spans) fallen.half (fallen.values i h) refl
+    same_wave v.round.head.items w.round.head.items v.last.numbers w.last.numbers v.half w.half (last_values lane v.last i) (lane_values lane engine i) [] [] l.is_open fallen.head fallen.numbers fallen.half (fallen.values i h) refl
 
 -- the text of the fall, in round 0 and later
 pub first_fall : (round : ℕ) (is_first : Bool) (head numbers lines : List ℕ) (now last : List BitList) (half : ℕ) → round ≡ 0 → is_first ≡ true → lines ≡ first_text numbers now
@@ -224,9 +219,9 @@ pub record HasRisen {W : Type 0} (lane : W → ℕ → Bool) (lanes : ℕ) (engi
   pub half : v.half ≡ w.half
   pub head : v.round.head.items ≡ w.round.head.items
   pub fall : v.round.fall ≡ w.round.fall
-  pub spans : v.last.spans ≡ w.last.spans
+  pub numbers : v.last.numbers ≡ w.last.numbers
   pub values : (i : ℕ) → i < lanes → last_values lane v.last i ≡ lane_values lane engine i
-  pub text : (i : ℕ) → i < lanes → slot_lines lane lanes v.round.rise i ≡ slot_text (count_from 0 (length w.last.spans)) (rise_time round w.half) (last_values lane w.last i) (lane_values lane engine i)
+  pub text : (i : ℕ) → i < lanes → slot_lines lane lanes v.round.rise i ≡ slot_text w.last.numbers (rise_time round w.half) (last_values lane w.last i) (lane_values lane engine i)
 
 -- what is put of a lane
 pub risen_text : {W : Type 0} (lane : W → ℕ → Bool) (lanes : ℕ) (engine : Running W) (round time : ℕ) (w v : Inside W) → HasRisen lane lanes engine round w v → time ≡ fall_time round w.half
@@ -243,58 +238,43 @@ risen_text lane lanes engine round time w v risen time_is i false l h = ended l.
 pub risen_wave : {W : Type 0} (lane : W → ℕ → Bool) (lanes : ℕ) (engine : Running W) (round : ℕ) (w v : Inside W) → HasRisen lane lanes engine round w v
     → (i : ℕ) (b : Bool) (l : LaneWave) → i < lanes → wave_of lane lanes v i (closed b l) ≡ after_put b (lane_values lane engine i) (wave_of lane lanes w i l)
 risen_wave lane lanes engine round w v risen i true l h =
-    same_wave v.round.head.items w.round.head.items (length v.last.spans) (length w.last.spans) v.half w.half (last_values lane v.last i) (lane_values lane engine i) [] [] l.is_open risen.head (ap length risen.spans) risen.half (risen.values i h) refl
+    same_wave v.round.head.items w.round.head.items v.last.numbers w.last.numbers v.half w.half (last_values lane v.last i) (lane_values lane engine i) [] [] l.is_open risen.head risen.numbers risen.half (risen.values i h) refl
 risen_wave lane lanes engine round w v risen i false l h =
-    same_wave v.round.head.items w.round.head.items (length v.last.spans) (length w.last.spans) v.half w.half (last_values lane v.last i) (lane_values lane engine i) [] [] false risen.head (ap length risen.spans) risen.half (risen.values i h) refl
+    same_wave v.round.head.items w.round.head.items v.last.numbers w.last.numbers v.half w.half (last_values lane v.last i) (lane_values lane engine i) [] [] false risen.head risen.numbers risen.half (risen.values i h) refl
 
 -- A round has risen where its slot is this one, which has the text, and the planes have the engine's values.
 pub has_risen : {W : Type 0} (lane : W → ℕ → Bool) (lanes : ℕ) (engine : Running W) (round time : ℕ) (w v : Inside W) (last : LastPlanes W) (rise : Slot W)
     → v.half ≡ w.half → v.last ≡ last → v.round ≡ record w.round { rise = rise } → time ≡ rise_time round w.half
-    → last.spans ≡ w.last.spans → ((i : ℕ) → i < lanes → last_values lane last i ≡ lane_values lane engine i)
-    → ((i : ℕ) → i < lanes → slot_lines lane lanes rise i ≡ slot_text (count_from 0 (length w.last.spans)) time (last_values lane w.last i) (lane_values lane engine i))
+    → last.numbers ≡ w.last.numbers → ((i : ℕ) → i < lanes → last_values lane last i ≡ lane_values lane engine i)
+    → ((i : ℕ) → i < lanes → slot_lines lane lanes rise i ≡ slot_text w.last.numbers time (last_values lane w.last i) (lane_values lane engine i))
     → HasRisen lane lanes engine round w v
-has_risen lane lanes engine round time w v last rise half last_is round_is time_is spans values text = record {
+has_risen lane lanes engine round time w v last rise half last_is round_is time_is numbers values text = record {
   half = half;
   head = ap (λ (r : Round _). r.head.items) round_is;
   fall = ap (λ (r : Round _). r.fall) round_is;
-  spans = ap (λ (l : LastPlanes _). l.spans) last_is ∙ spans;
+  numbers = ap (λ (l : LastPlanes _). l.numbers) last_is ∙ numbers;
   values = λ i h. ap (λ (l : LastPlanes _). last_values lane l i) last_is ∙ values i h;
-  text = λ i h. ap (λ (r : Round _). slot_lines lane lanes r.rise i) round_is ∙ text i h ∙ ap (λ (k : ℕ). slot_text (count_from 0 (length w.last.spans)) k (last_values lane w.last i) (lane_values lane engine i)) time_is;
+  text = λ i h. ap (λ (r : Round _). slot_lines lane lanes r.rise i) round_is ∙ text i h ∙ ap (λ (k : ℕ). slot_text w.last.numbers k (last_values lane w.last i) (lane_values lane engine i)) time_is;
 }
 
 -- and is kept
 pub kept_risen : {W : Type 0} (lanes : ℕ) (w v : Inside W) (last : LastPlanes W) (rise : Slot W) → IsKept lanes w → length v.lanes.items ≡ length w.lanes.items
-    → v.last ≡ last → v.round ≡ record w.round { rise = rise } → last.spans ≡ w.last.spans → IsSlot lanes (length w.last.spans) rise → length v.block.items ≡ length w.block.items → IsKept lanes v
-kept_risen lanes w v last rise kept count last_is round_is spans slot block =
+    → v.last ≡ last → v.round ≡ record w.round { rise = rise } → last.signals ≡ w.last.signals → IsSlot lanes w.last.signals rise → length v.block.items ≡ length w.block.items → IsKept lanes v
+kept_risen lanes w v last rise kept count last_is round_is signals slot block =
     let IsOne : Slot _ → Type 0 = λ s. IsSlot lanes (length w.round.tails.items) s in
     still_kept lanes w v kept count (ap (λ (r : Round _). r.tails) round_is)
     (subst IsOne (sym (ap (λ (r : Round _). r.fall) round_is)) kept.round.fall)
-    (subst IsOne (sym (ap (λ (r : Round _). r.rise) round_is)) (slot_of lanes (length w.last.spans) (length w.round.tails.items) rise kept.signals slot))
-    (ap (λ (l : LastPlanes _). l.spans) last_is ∙ spans) block
+    (subst IsOne (sym (ap (λ (r : Round _). r.rise) round_is)) (slot_of lanes w.last.signals (length w.round.tails.items) rise kept.signals slot))
+    (ap (λ (l : LastPlanes _). l.signals) last_is ∙ signals) block
 
 -- ---- new waves
-
--- a flat design has no memory
-pub all_shown : (a : Arena) → shown_signals (design_of a) ≡ (design_of a).signals
-all_shown a = from 0 a.signals
-  where
-    from : (k : ℕ) (signals : List F.Signal) → filter (λ s. not (is_memory s)) (signals_from k signals) ≡ signals_from k signals
-    from k [] = refl
-    from k (s ∷ signals) = ap (λ (xs : List Signal). signal_of k s ∷ xs) (from (suc k) signals)
-
-pub all_numbers : (a : Arena) (n : ℕ) → n ≡ length (design_of a).signals → count_from 0 n ≡ shown_numbers (design_of a)
-all_numbers a n e = ap (count_from 0) e ∙ from 0 a.signals ∙ ap (map (λ (s : Signal). s.number)) (sym (all_shown a))
-  where
-    from : (k : ℕ) (signals : List F.Signal) → count_from k (length (signals_from k signals)) ≡ map (λ (s : Signal). s.number) (signals_from k signals)
-    from k [] = refl
-    from k (s ∷ signals) = ap (λ (ns : List ℕ). k ∷ ns) (from (suc k) signals)
 
 -- how each lane stands at first
 abbrev pub unopened : LaneWave
 unopened = record { is_open = true; is_noted = false }
 
 pub new_waves : {W : Type 0} (lane : W → ℕ → Bool) (lanes : ℕ) (d : Design) (w : Inside W) (count : ℕ) → w.lanes.items ≡ replicate count unopened → w.round.head.items ≡ head_text d
-    → map (λ (s : Span). s.length) w.last.spans ≡ map signal_length (shown_signals d) → count_from 0 (length w.last.spans) ≡ shown_numbers d → All (IsNewWave d w.half) (waves_of lane lanes w)
+    → map (λ (s : Span). s.length) w.last.spans ≡ map signal_length (shown_signals d) → w.last.numbers ≡ shown_numbers d → All (IsNewWave d w.half) (waves_of lane lanes w)
 new_waves lane lanes d w count same head lengths numbers = All-from_get_or (IsNewWave d w.half) (waves_of lane lanes w) none (λ i h.
     let found = element w.lanes.items i (omega (arith, length-waves_of lane lanes w)) in
     let stands : found.0 ≡ unopened = All-at (λ (l : LaneWave). l ≡ unopened) w.lanes.items i found.0 found.1 each in
@@ -308,7 +288,7 @@ new_waves lane lanes d w count same head lengths numbers = All-from_get_or (IsNe
       left_is = refl;
     }) where
       none : Wave
-      none = wave_with [] 0 0 [] [] true
+      none = wave_with [] [] 0 [] [] true
 
       each : All (λ (l : LaneWave). l ≡ unopened) w.lanes.items
       each = subst (All (λ (l : LaneWave). l ≡ unopened)) (sym same) (All-replicate (λ (l : LaneWave). l ≡ unopened) count unopened refl)

@@ -1,11 +1,13 @@
 -- Signals' bits laid one signal behind the other.
-use Rattle.std.proofs.Common.{◌≡◌, ℕ, suc, ◌+◌, ◌<◌, ◌≤◌, ◌^◌, List, [], ◌∷◌, ◌++◌, length, map, take, slice_get, Some, refl, sym, ap, ◌∙◌, subst, arith, inl, inr, length-append}
+use Rattle.std.proofs.Common.{◌≡◌, Bool, true, false, ℕ, ◌+◌, ◌<◌, ◌≤◌, ◌^◌, List, [], ◌∷◌, ◌++◌, length, map, take, slice_get, Some, refl, sym, ap, ap₂, ◌∙◌, subst, arith, inl, inr, append-nil, length-append}
 use Rattle.std.proofs.lemmas.Bool.{cases_lt}
 use Rattle.std.proofs.lemmas.Option.{slice_get_within, get_or_from_slice_get}
 use Rattle.std.proofs.lemmas.List.{map-append, take_more}
-use Rattle.vs_design.specs.Expressions.{range_or_one, signal_length}
-use Rattle.vs_flat.specs.declared.processes.Signal.{Signal}
-use Rattle.vs_flat.specs.Trees.{signals_from}
+use Rattle.std.proofs.lemmas.List.Elements.{filter-append}
+use Rattle.std.specs.Prelude.{not, cond, filter, Option, None, is_some}
+use Rattle.vs_four.specs.declared.Range.{Range}
+use Rattle.vs_design.specs.Expressions.{Signal, range_or_one, words_length, signal_length}
+use Rattle.vs_design.specs.Footprints.{is_memory}
 use Rattle.vs_program.specs.declared.compiled.Span.{Span}
 use Rattle.vs_waves.specs.Last.{AreApart}
 use Rattle.vs_waves.proofs.Listing.{slice_get-before, slice_get-last}
@@ -41,17 +43,35 @@ apart_more spans bits size so_far few =
     ends : (last s : Span) (size : ℕ) → last.length ≡ size → last ≡ s → s.first + s.length ≤ last.first + size
     ends last s size long same = subst (λ (u : Span). u.first + u.length ≤ last.first + size) same (omega arith)
 
-pub lengths_more : (spans : List Span) (signals : List Signal) (n first size : ℕ) (s : Signal) → slice_get signals n ≡ Some s → size ≡ range_or_one s.range
-    → map (λ (t : Span). t.length) spans ≡ map (λ (t : Signal). range_or_one t.range) (take n signals)
-    → map (λ (t : Span). t.length) (spans ++ record { first = first; length = size } ∷ []) ≡ map (λ (t : Signal). range_or_one t.range) (take (n + 1) signals)
-lengths_more spans signals n first size s e is so_far =
-    map-append (λ (t : Span). t.length) spans (record { first = first; length = size } ∷ [])
-    ∙ ap (λ (ns : List ℕ). ns ++ size ∷ []) so_far
-    ∙ ap (λ (k : ℕ). map (λ (t : Signal). range_or_one t.range) (take n signals) ++ k ∷ []) is
-    ∙ sym (map-append (λ (t : Signal). range_or_one t.range) (take n signals) (s ∷ []))
-    ∙ ap (λ (t : Signal). map (λ (t : Signal). range_or_one t.range) (take n signals ++ t ∷ [])) (sym (get_or_from_slice_get signals n s s e))
-    ∙ ap (map (λ (t : Signal). range_or_one t.range)) (sym (take_more signals n s (slice_get_within signals n s e)))
+-- those of these signals that have lines
+abbrev pub shown : List Signal → List Signal
+shown signals = filter (λ s. not (is_memory s)) signals
 
-pub signal_lengths : (n : ℕ) (signals : List Signal) → map (λ (t : Signal). range_or_one t.range) signals ≡ map signal_length (signals_from n signals)
-signal_lengths n [] = refl
-signal_lengths n (s ∷ signals) = ap (λ (ks : List ℕ). range_or_one s.range ∷ ks) (signal_lengths (suc n) signals)
+-- what is no memory has the length of its range
+pub plain_length : (s : Signal) → is_memory s ≡ false → signal_length s ≡ range_or_one s.range
+plain_length s plain = of s.words plain
+  where
+    of : (words : Option Range) → is_some words ≡ false → words_length words (range_or_one s.range) ≡ range_or_one s.range
+    of None e = refl
+    of (Some r) e = cc
+
+shown_append : (signals : List Signal) (n : ℕ) (s : Signal) → slice_get signals n ≡ Some s → shown (take (n + 1) signals) ≡ shown (take n signals) ++ shown (s ∷ [])
+shown_append signals n s e =
+    ap shown (take_more signals n s (slice_get_within signals n s e) ∙ ap (λ (x : Signal). take n signals ++ x ∷ []) (get_or_from_slice_get signals n s s e))
+    ∙ filter-append (λ (x : Signal). not (is_memory x)) (take n signals) (s ∷ [])
+
+-- one signal more, which has a line or is a memory
+pub shown_more : (signals : List Signal) (n : ℕ) (s : Signal) → slice_get signals n ≡ Some s → is_memory s ≡ false → shown (take (n + 1) signals) ≡ shown (take n signals) ++ s ∷ []
+shown_more signals n s e plain =
+    let one : shown (s ∷ []) ≡ s ∷ [] = ap (λ (b : Bool). cond (not b) (s ∷ []) []) plain in
+    shown_append signals n s e ∙ ap (λ (xs : List Signal). shown (take n signals) ++ xs) one
+
+pub shown_still : (signals : List Signal) (n : ℕ) (s : Signal) → slice_get signals n ≡ Some s → is_memory s ≡ true → shown (take (n + 1) signals) ≡ shown (take n signals)
+shown_still signals n s e memory =
+    let none : shown (s ∷ []) ≡ [] = ap (λ (b : Bool). cond (not b) (s ∷ []) []) memory in
+    shown_append signals n s e ∙ ap (λ (xs : List Signal). shown (take n signals) ++ xs) none ∙ append-nil (shown (take n signals))
+
+-- with one more
+pub more_of : {A : Type 0} (f : Signal → A) (xs more : List A) (old new : List Signal) (s : Signal) (y : A) → more ≡ xs ++ y ∷ [] → y ≡ f s → new ≡ old ++ s ∷ [] → xs ≡ map f old → more ≡ map f new
+more_of f xs more old new s y m is n so_far =
+    m ∙ ap₂ (λ ys z. ys ++ z ∷ []) so_far is ∙ sym (map-append f old (s ∷ [])) ∙ ap (map f) (sym n)

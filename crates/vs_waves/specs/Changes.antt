@@ -26,11 +26,7 @@ line_at lane lanes c i n = elim (slice_get c.changed.items n) [ None ↦ [] | So
 unfoldable pub changes_text : {W : Type 0} → (W → ℕ → Bool) → ℕ → Changes W → ℕ → List ℕ
 changes_text lane lanes c i = flat_map (line_at lane lanes c i) (count_from 0 (length c.changed.items))
 
--- the lines of the values that stand at these places, where the signal at a place has its number
-abbrev pub place_lines : List BitList → List ℕ → List ℕ
-place_lines values places = flat_map (λ n. value_line n (slice_index_or values n [])) places
-
--- The changes are of the first signals, so many, and there is room for a change and a row of each.
+-- The changes are of signals whose numbers are below this one, and there is room for a change and a row of each.
 pub record AreOf {W : Type 0} (lanes signals : ℕ) (c : Changes W) : Type 0 where
   pub capacity : signals ≤ vec_capacity c.changed
   pub values : signals * lanes ≤ length c.values.items

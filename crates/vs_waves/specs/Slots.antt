@@ -29,7 +29,7 @@ lane_text lane lanes r false time l i = if l.is_open then time_line time else []
 pub record AreTails (tails : List (List ℕ)) : Type 0 where
   pub each : (n : ℕ) (t : List ℕ) → slice_get tails n ≡ Some t → t ≡ tail_text n
 
--- the slot's changes are of the first signals, so many
+-- the slot's changes are of signals whose numbers are below this one
 pub record IsSlot {W : Type 0} (lanes signals : ℕ) (s : Slot W) : Type 0 where
   pub opened : s.opened ≤ 32
   pub changes : AreOf lanes signals s.changes

@@ -14,7 +14,7 @@ use vs_engine::Engine;
 use vs_four::{Bit4, Bits};
 use vs_plane::{Lanes, Pair, Word};
 
-/// A signal that changed, the lanes in which it did, and its planes where it has one bit.
+/// A signal that changed, by its number in the design, the lanes in which it did, and its planes where it has one bit.
 #[derive(Clone, Copy)]
 pub(crate) struct Change<W: Word> {
     pub(crate) signal: u32,
@@ -22,7 +22,7 @@ pub(crate) struct Change<W: Word> {
     pub(crate) bit: Option<Pair<W>>,
 }
 
-/// The signals that changed in some lane in a slot, by number, and the values that each of more bits than one has in all lanes. Those of
+/// The signals that changed in some lane in a slot, in the order of their numbers, and the values that each of more bits than one has in all lanes. Those of
 /// the signal that changed n-th stand in row n, where a row has a value for each lane.
 #[derive(Drop)]
 pub(crate) struct Changes<W: Word> {
@@ -52,8 +52,16 @@ impl<W: Lanes> Changes<W> {
         self.changed.clear();
     }
 
-    /// Adds a signal, the lanes in which it changed, and the values that it has. These are its planes.
-    pub(crate) fn add(&mut self, engine: &Engine<W>, signal: u32, lanes: W, planes: &[Pair<W>])
+    /// Adds one of the engine's signals, by its number in the design, the lanes in which it changed, and the values that it has. These
+    /// are its planes.
+    pub(crate) fn add(
+        &mut self,
+        engine: &Engine<W>,
+        signal: u32,
+        number: u32,
+        lanes: W,
+        planes: &[Pair<W>],
+    )
         requires signal { signal < length engine.now.program.signals }
         requires capacity { length self.old.changed.items < vec_capacity self.old.changed }
         requires values { (length self.old.changed.items + 1) * W.LANES ≤ length self.old.values.items }
@@ -63,12 +71,16 @@ impl<W: Lanes> Changes<W> {
         ensures count { length self.new.changed.items ≡ length self.old.changed.items + 1 }
         ensures text { (s : Span) (i : ℕ) → slice_get engine.now.program.signals signal ≡ Some s → i < W.LANES
             → changes_text W.lane W.LANES self.new i ≡ changes_text W.lane W.LANES self.old i
-            ++ (if W.lane lanes i then value_line signal (read (state W.lane engine.now i) (span_bits s)) else []) }
-        ensures room { (signals : ℕ) → AreOf W.LANES signals self.old → length self.old.changed.items < signals → signal < signals
+            ++ (if W.lane lanes i then value_line number (read (state W.lane engine.now i) (span_bits s)) else []) }
+        ensures room { (signals : ℕ) → AreOf W.LANES signals self.old → length self.old.changed.items < signals → number < signals
             → AreOf W.LANES signals self.new }
     {
         let bit = self.keep_values(engine, signal, planes);
-        self.changed.push_reserved(Change { signal, lanes, bit });
+        self.changed.push_reserved(Change {
+            signal: number,
+            lanes,
+            bit,
+        });
     }
 
     /// Keeps the values of a signal, whose planes these are, for the next change: answers the planes of its only bit, or reads those of

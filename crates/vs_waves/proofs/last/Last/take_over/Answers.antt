@@ -1,6 +1,6 @@
 use Rattle.std.proofs.Common.{◌≡◌, ℕ, ◌+◌, ◌-◌, ◌*◌, ◌<◌, ◌≤◌, ◌^◌, ◌∙◌, Bool, false, not, ◌||◌, List, [], ◌++◌, append-nil, if◌then◌else◌, List, map, length, slice_get, Some, get_or, sym, ap, ap₂, subst, arith, Fits, w64, Vec, take, drop, length-drop, length-take-le}
 use Rattle.std.proofs.lemmas.List.{length-map}
-use Rattle.std.proofs.lemmas.Option.{slice_get_within}
+use Rattle.std.proofs.lemmas.Option.{slice_get_within, get_or_from_slice_get}
 use Rattle.std.proofs.Math.Nat.{mul-le-mul_right}
 use Rattle.vs_four.specs.Tables.{is_one}
 use Rattle.vs_four.specs.Logic.{BitList, identical}
@@ -12,14 +12,15 @@ use Rattle.vs_program.specs.declared.compiled.Span.{Span}
 use Rattle.vs_program.specs.Compiled.{span_bits}
 use Rattle.vs_engine.specs.Lanes.{differ_below, state}
 use Rattle.vs_vcd.specs.Values.{value_line}
+use Rattle.vs_vcd.specs.Texts.{value_lines}
 use Rattle.vs_waves.specs.declared.changes.Changes.{Changes}
 use Rattle.vs_waves.specs.declared.last.Last.TheInside.{Inside}
-use Rattle.vs_waves.specs.Changes.{AreOf, changes_text, place_lines}
+use Rattle.vs_waves.specs.Changes.{AreOf, changes_text}
 use Rattle.vs_waves.specs.Rounds.{lane_values, values_in}
-use Rattle.vs_waves.specs.Last.{LastPlanes}
-use Rattle.vs_waves.proofs.Lists.{read_here}
+use Rattle.vs_waves.specs.Last.{LastPlanes, AreNumbered}
+use Rattle.vs_waves.proofs.Lists.{All-at, read_here}
 use Rattle.vs_waves.proofs.Spanning.{AreTaken, HasSpan, has_span, span_long, value_at, values_are, part_is, differs, same_below, neither, written}
-use Rattle.vs_waves.proofs.Changing.{lines_more, numbers}
+use Rattle.vs_waves.proofs.Changing.{lines_more, places}
 use Rattle.vs_waves.proofs.Placing.{placed_in}
 use Rattle.vs_waves.proofs.last.Last.take_over.Goals as goal
 use Rattle.vs_waves.proofs.last.Last.take_over.Goals.{After-deref_mut, then-any, else-any}
@@ -35,7 +36,7 @@ span_is g c = read_here c.loop-n.self-inside.spans.items c.self.inside.spans.ite
     c.index-span.ensures
 
 lies_within : (g : _) (c : After-deref_mut g) → c.index-span.result.now.first + c.index-span.result.now.length ≤ length c.deref_mut.result.now
-lies_within g c = omega (arith, c.self.invariant.within c.loop-n.n c.index-span.result.now (span_is g c), c.loop-n.invariant.taken.long, ap length c.deref_mut.ensures.value)
+lies_within g c = omega (arith, c.self.invariant.apart.within c.loop-n.n c.index-span.result.now (span_is g c), c.loop-n.invariant.taken.long, ap length c.deref_mut.ensures.value)
 
 pub offset_bounds-deref_mut-from : goal.offset_bounds-deref_mut-from
 offset_bounds-deref_mut-from g c =
@@ -83,6 +84,8 @@ loop-n-preserved g c =
     let holds : ℕ → State = state lane c.args.engine.now in
     let signals : List Span = c.args.engine.now.program.signals in
     let spans : List Span = c.self.inside.spans.items in
+    let numbers : List ℕ = c.self.inside.numbers.items in
+    let signal_count : ℕ = c.self.inside.signals in
     let old : List (Pair _) = c.self.inside.planes.items in
     let planes : List (Pair _) = c.loop-n.self-inside.planes.items in
     let n : ℕ = c.loop-n.n in
@@ -93,6 +96,14 @@ loop-n-preserved g c =
     let is_s : slice_get spans n ≡ Some s = span_is g d in
     let there : HasSpan signals n s.length = has_span spans signals n s (lengths_are g d) is_s in
     let t : Span = there.span in
+    let numbered : AreNumbered (length spans) signal_count numbers = c.self.invariant.numbered in
+    let number : ℕ = c.index-number.result.now in
+    let number_here : slice_get numbers n ≡ Some number = read_here c.loop-n.self-inside.numbers.items numbers n number
+    (ap (λ v. v.items) c.loop-n.invariant.numbers)
+    (omega (arith, numbered.long, slice_get_within spans n s is_s))
+    c.index-number.ensures in
+    let number_is : get_or numbers n 0 ≡ number = get_or_from_slice_get numbers n number 0 number_here in
+    let below : number < signal_count = All-at (λ (m : ℕ). m < signal_count) numbers n number number_here numbered.below in
     let was : ℕ → List BitList = λ i. values_in (λ b. slot_lane lane old b i) spans in
     let now : ℕ → List BitList = lane_values lane c.args.engine.now in
     let part_of : (k i : ℕ) → k < s.length → slot_lane lane part k i ≡ slot_lane lane planes (s.first + k) i = λ k i h.
@@ -100,9 +111,9 @@ loop-n-preserved g c =
     let is_written : (i : ℕ) → i < lanes → lane c.lanes_to_write-lanes.result i ≡ (c.args.all || not (is_one (identical (get_or (was i) n []) (get_or (now i) n [])))) = λ i l.
     c.lanes_to_write-lanes.ensures t i there.is l
     ∙ ap (λ (b : Bool). c.args.all || b) (differs lane lanes holds signals spans old planes part n i s t is_s there.is there.long (λ k h. part_of k i h) c.loop-n.invariant.taken) in
-    let lines : (i : ℕ) → i < lanes → place_lines (now i) (numbers c.args.all (was i) (now i) (n + 1))
-    ≡ place_lines (now i) (numbers c.args.all (was i) (now i) n) ++ (if lane c.lanes_to_write-lanes.result i then value_line n (get_or (now i) n []) else []) = λ i l.
-    lines_more c.args.all (lane c.lanes_to_write-lanes.result i) n (was i) (now i)
+    let lines : (i : ℕ) → i < lanes → value_lines numbers (now i) (places c.args.all (was i) (now i) (n + 1))
+    ≡ value_lines numbers (now i) (places c.args.all (was i) (now i) n) ++ (if lane c.lanes_to_write-lanes.result i then value_line (get_or numbers n 0) (get_or (now i) n []) else []) = λ i l.
+    lines_more numbers c.args.all (lane c.lanes_to_write-lanes.result i) n (was i) (now i)
     (omega (arith, slice_get_within spans n s is_s, length-map spans (λ (x : Span). read (λ b. slot_lane lane old b i) (span_bits x))))
     (omega (arith, slice_get_within signals n t there.is, length-map signals (λ (x : Span). read (holds i) (span_bits x))))
     (is_written i l) in
@@ -112,8 +123,10 @@ loop-n-preserved g c =
           let count : length c.if-any.changes.changed.items ≡ length c.loop-n.changes.changed.items + 1 = ap (λ (x : Changes _). length x.changed.items) w.changes-is ∙ w.add.ensures.count in
           record {
             spans = ap (λ (x : Inside _). x.spans) w.self-inside-is ∙ c.loop-n.invariant.spans;
+            numbers = ap (λ (x : Inside _). x.numbers) w.self-inside-is ∙ c.loop-n.invariant.numbers;
+            signals = ap (λ (x : Inside _). x.signals) w.self-inside-is ∙ c.loop-n.invariant.signals;
             taken = subst (λ (x : Inside _). AreTaken lane lanes holds signals spans old x.planes.items (n + 1)) (sym w.self-inside-is)
-                (written lane lanes holds signals spans old planes w.copy.new.out _ (length old) n s t c.self.invariant is_s there.is there.long
+                (written lane lanes holds signals spans old planes w.copy.new.out _ (length old) n s t c.self.invariant.apart is_s there.is there.long
                 (placed_in c.loop-n.self-inside.planes s.first size c.deref_mut.result.now w.copy.new.out c.deref_mut.ensures.value
                 (omega (arith, lies_within g d, ap length c.deref_mut.ensures.value)) (long ∙ sym size_is))
                 long
@@ -122,19 +135,22 @@ loop-n-preserved g c =
             text = λ i l.
                 ap (λ (x : Changes _). changes_text lane lanes x i) w.changes-is
                 ∙ w.add.ensures.text t i there.is l
-                ∙ ap₂ (λ (xs : List ℕ) (v : BitList). xs ++ (if lane c.lanes_to_write-lanes.result i then value_line n v else [])) (c.loop-n.invariant.text i l) (sym (value_at (holds i) signals n t there.is))
+                ∙ ap₂ (λ (xs : List ℕ) (v : BitList). xs ++ (if lane c.lanes_to_write-lanes.result i then value_line number v else [])) (c.loop-n.invariant.text i l) (sym (value_at (holds i) signals n t there.is))
+                ∙ ap (λ (k : ℕ). value_lines numbers (now i) (places c.args.all (was i) (now i) n) ++ (if lane c.lanes_to_write-lanes.result i then value_line k (get_or (now i) n []) else [])) (sym number_is)
                 ∙ sym (lines i l);
             count = omega (arith, count, c.loop-n.invariant.count);
-            room = subst (AreOf lanes (length spans)) (sym w.changes-is)
-                (w.add.ensures.room (length spans) c.loop-n.invariant.room (omega (arith, c.loop-n.invariant.count, slice_get_within spans n s is_s)) (slice_get_within spans n s is_s));
+            room = subst (AreOf lanes signal_count) (sym w.changes-is)
+                (w.add.ensures.room signal_count c.loop-n.invariant.room (omega (arith, c.loop-n.invariant.count, slice_get_within spans n s is_s, numbered.few)) below);
           }
       | else-any w ↦
           let long : length part ≡ s.length = part_long g d t there.is ∙ there.long in
           let none : (i : ℕ) → i < lanes → lane c.lanes_to_write-lanes.result i ≡ false = c.any.ensures.none w.if-any.false in
           record {
             spans = ap (λ (x : Inside _). x.spans) w.self-inside-is ∙ c.loop-n.invariant.spans;
+            numbers = ap (λ (x : Inside _). x.numbers) w.self-inside-is ∙ c.loop-n.invariant.numbers;
+            signals = ap (λ (x : Inside _). x.signals) w.self-inside-is ∙ c.loop-n.invariant.signals;
             taken = subst (λ (x : Inside _). AreTaken lane lanes holds signals spans old x.planes.items (n + 1)) (sym w.self-inside-is)
-                (written lane lanes holds signals spans old planes part _ (length old) n s t c.self.invariant is_s there.is there.long
+                (written lane lanes holds signals spans old planes part _ (length old) n s t c.self.invariant.apart is_s there.is there.long
                 (placed_in c.loop-n.self-inside.planes s.first size c.deref_mut.result.now part c.deref_mut.ensures.value
                 (omega (arith, lies_within g d, ap length c.deref_mut.ensures.value)) (long ∙ sym size_is))
                 long
@@ -145,11 +161,11 @@ loop-n-preserved g c =
             text = λ i l.
                 ap (λ (x : Changes _). changes_text lane lanes x i) w.changes-is
                 ∙ c.loop-n.invariant.text i l
-                ∙ sym (append-nil (place_lines (now i) (numbers c.args.all (was i) (now i) n)))
-                ∙ sym (ap (λ (b : Bool). place_lines (now i) (numbers c.args.all (was i) (now i) n) ++ (if b then value_line n (get_or (now i) n []) else [])) (none i l))
+                ∙ sym (append-nil (value_lines numbers (now i) (places c.args.all (was i) (now i) n)))
+                ∙ sym (ap (λ (b : Bool). value_lines numbers (now i) (places c.args.all (was i) (now i) n) ++ (if b then value_line (get_or numbers n 0) (get_or (now i) n []) else [])) (none i l))
                 ∙ sym (lines i l);
             count = omega (arith, ap (λ (x : Changes _). length x.changed.items) w.changes-is, c.loop-n.invariant.count);
-            room = subst (AreOf lanes (length spans)) (sym w.changes-is) c.loop-n.invariant.room;
+            room = subst (AreOf lanes signal_count) (sym w.changes-is) c.loop-n.invariant.room;
           }
     ]
 

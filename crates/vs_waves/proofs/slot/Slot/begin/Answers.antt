@@ -9,7 +9,6 @@ use Rattle.vs_vcd.specs.Values.{line}
 use Rattle.vs_vcd.specs.Texts.{time_line, value_lines}
 use Rattle.vs_waves.specs.Changes.{changes_text}
 use Rattle.vs_waves.specs.Rounds.{lane_values}
-use Rattle.vs_waves.proofs.Changing.{first_lines}
 use Rattle.vs_waves.proofs.Draining.{ended_front}
 use Rattle.vs_waves.proofs.slot.Slot.begin.Goals as goal
 
@@ -28,8 +27,8 @@ returns-clause-text g c = λ i h.
     let size : length c.dump_line-dump.result.now ≡ 10 = ap length c.dump_line-dump.ensures in
     let front = ended_front t (length c.dump_line-dump.result.now) (t + length c.dump_line-dump.result.now - t) 0 block dump c.copy_from_slice.new.self inside size (c.copy_from_slice.ensures.after ∙ c.dump_line-dump.ensures ∙ ap (λ (m : ℕ). take m dump) (sym size)) in
     let count : length spans ≡ length now = sym (length-map spans (λ (s : Span). s.length)) ∙ sym (ap length c.requires.lengths) ∙ length-map signals (λ (s : Span). s.length) ∙ sym (length-map signals (λ (s : Span). read (state g.W.Word.lane c.args.engine.now i) (span_bits s))) in
-    let numbers : List ℕ = count_from 0 (length spans) in
-    let text : lines ≡ value_lines numbers now (count_from 0 (length now)) = c.take_over.ensures.text i h ∙ first_lines (length spans) now ∙ ap (λ (n : ℕ). value_lines numbers now (count_from 0 n)) count in
+    let numbers : List ℕ = c.args.last.now.numbers in
+    let text : lines ≡ value_lines numbers now (count_from 0 (length now)) = c.take_over.ensures.text i h ∙ ap (λ (n : ℕ). value_lines numbers now (count_from 0 n)) count in
     ap (λ (xs : List ℕ). xs ++ (lines ++ end)) (front ∙ ap (λ (xs : List ℕ). xs ++ dump) time)
     ∙ ap (λ (xs : List ℕ). (time_line 0 ++ dump) ++ (xs ++ end)) text
     ∙ sym (append_assoc (time_line 0 ++ dump) (value_lines numbers now (count_from 0 (length now))) end)
