@@ -1,4 +1,3 @@
-pub mod Counted
 pub mod Writing
 pub mod TargetFacts
 pub mod CaseSteps

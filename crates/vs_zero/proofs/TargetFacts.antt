@@ -1,10 +1,6 @@
 -- Targets of which nothing is over 64 bits.
-use Rattle.std.proofs.Common.{◌≡◌, ℕ, zero, suc, ◌+◌, ◌<◌, Bool, true, false, ℤ, Some, None, List, [], ◌∷◌, length, map, get_or, sym, ap, ◌∙◌, subst, arith}
-use Rattle.std.specs.Prelude.{replicate, if◌then◌else◌}
-use Rattle.vs_four.specs.declared.Range.{Range}
-use Rattle.vs_four.specs.Logic.{BitList, all_known}
-use Rattle.vs_four.specs.Numbers.{integer}
-use Rattle.vs_four.specs.Selects.{Part, range_length, place_of, indices, places}
+use Rattle.std.proofs.Common.{◌≡◌, ℕ, ◌+◌, ◌<◌, true, List, ◌∷◌, length, map, sym, ap, ◌∙◌, subst, arith}
+use Rattle.vs_four.specs.Logic.{BitList}
 use Rattle.std.proofs.Common.{◌-◌, take, drop}
 use Rattle.std.specs.Prelude.{min}
 use Rattle.std.proofs.lemmas.List.{length-take, length-drop}
@@ -20,24 +16,6 @@ use Rattle.vs_zero.specs.States.{unknown}
 use Rattle.vs_sets.proofs.Fit.{and_left, and_right}
 use Rattle.vs_zero.proofs.Writing.{write_all-append}
 use Rattle.vs_sets.proofs.TargetFacts.{joined_more, both_facts, target_length}
-use Rattle.vs_shape.proofs.PlaceSteps.{below_is}
-
-mapped_below : (r : Range) (is : List ℤ) (k n : ℕ) → get_or (map (place_of r) is) k None ≡ Some n → n < range_length r
-mapped_below r [] k n h = absurd (let z : ⊥ = cc in z)
-mapped_below r (i ∷ is) zero n h = below_is (range_length r) _ n h
-mapped_below r (i ∷ is) (suc k) n h = mapped_below r is k n h
-
-none_at : (w k n : ℕ) → get_or (replicate w None) k None ≡ Some n → ⊥
-none_at zero k n h = cc
-none_at (suc w) zero n h = cc
-none_at (suc w) (suc k) n h = none_at w k n h
-
--- a place is below the length of the range
-pub place_below : (p : Part) (s : Bool) (index : BitList) (k n : ℕ) → get_or (places p s index) k None ≡ Some n → n < range_length p.range
-place_below p s index k n h = at (all_known index) h where
-  at : (u : Bool) → get_or (if u then map (place_of p.range) (indices p (integer s index)) else replicate p.width None) k None ≡ Some n → n < range_length p.range
-  at true h = mapped_below p.range (indices p (integer s index)) k n h
-  at false h = absurd (none_at p.width k n h)
 
 -- ---- the first part, and the rest
 

@@ -1,18 +1,23 @@
 -- Tables of values, and what is written to them.
-use Rattle.std.proofs.Common.{◌≡◌, ℕ, zero, suc, ◌+◌, ◌-◌, ◌<◌, ◌≤◌, ◌≢◌, Bool, true, false, List, [], ◌∷◌, ◌++◌, length, map, drop, get_or, set, Option, Some, None, refl, sym, ap, ap₂, ◌∙◌, subst, arith, get_or-set_other, get_or-set_same, ◌⊎◌, inl, inr}
-use Rattle.std.specs.Prelude.{◌==◌, slice_get, if◌then◌else◌}
+use Rattle.std.proofs.Common.{◌≡◌, ℕ, zero, suc, ◌+◌, ◌-◌, ◌*◌, ◌<◌, ◌≤◌, ◌≢◌, Bool, true, false, List, [], ◌∷◌, ◌++◌, length, map, drop, get_or, set, Option, Some, None, refl, sym, ap, ◌∙◌, arith, get_or-set_other, get_or-set_same, ◌⊎◌, inl, inr}
+use Rattle.std.specs.Prelude.{◌==◌, if◌then◌else◌, option_map, replicate}
 use mathlib.Core.Path.{fun_ext}
-use Rattle.std.proofs.lemmas.List.{drop_more}
-use Rattle.std.proofs.Math.ListN.{length-set}
+use Rattle.std.proofs.lemmas.List.{drop_all, drop_more}
 use Rattle.vs_four.specs.declared.Bit4.{Bit4}
 use Rattle.vs_four.specs.declared.Bit4.TheVariants.{X}
-use Rattle.vs_four.specs.Logic.{BitList}
-use Rattle.vs_four.specs.Selects.{write_places}
+use Rattle.vs_four.specs.declared.Range.{Range}
+use Rattle.vs_four.specs.Logic.{BitList, all_known}
+use Rattle.vs_four.specs.Numbers.{integer}
+use Rattle.vs_four.specs.Selects.{place_of}
 use Rattle.vs_net.specs.Network.{State, Write, put, write_all}
-use Rattle.vs_design.specs.Values.{count_from}
+use Rattle.vs_design.specs.Bodies.{target_writes}
+use Rattle.vs_design.specs.Expressions as E
+use Rattle.vs_design.specs.Statements.{WordOf}
+use Rattle.vs_design.specs.Values.{count_from, spread, address_place, constant_value}
 use Rattle.vs_sets.specs.Tables.{bits_from}
-use Rattle.vs_zero.specs.States.{state_of, written}
+use Rattle.vs_zero.specs.States.{state_of, unknown, written}
 use Rattle.vs_sets.proofs.Families.{same_or_other}
+use Rattle.vs_sets.proofs.WordSteps.{run_places}
 
 -- ---- writes
 
@@ -43,7 +48,7 @@ put_state t b v h = fun_ext (λ c. at c (same_or_other c b)) where
   at c (inr e) = rw e.0 (get_or-set_other t b c v X e.1)
 
 -- one bit more of a run
-pub run_step : (t : List Bit4) (first k : ℕ) (value : BitList) (x : Bit4) → k < length value → first + k < length t → slice_get value k ≡ Some x
+pub run_step : (t : List Bit4) (first k : ℕ) (value : BitList) (x : Bit4) → k < length value → first + k < length t → x ≡ get_or value k X
     → written (map Some (count_from (first + (k + 1)) (length value - (k + 1)))) (drop (k + 1) value) (state_of (set t (first + k) x))
     ≡ written (map Some (count_from (first + k) (length value - k))) (drop k value) (state_of t)
 run_step t first k value x h inside is =
@@ -53,92 +58,69 @@ run_step t first k value x h inside is =
     let f = put_state t (first + k) x inside in
     let goal_side : written (map Some (count_from (first + k) (length value - k))) (drop k value) (state_of t) ≡ written (map Some (count_from (suc (first + k)) left)) (drop (k + 1) value) (put (state_of t) (first + k) x) =
     ap (λ n. written (map Some (count_from (first + k) n)) (drop k value) (state_of t)) count
-    ∙ ap (λ ss. written (map Some (count_from (first + k) (suc left))) ss (state_of t)) (drop_more value k x h)
-    ∙ ap (λ v. written (map Some (count_from (first + k) (suc left))) (v ∷ drop (k + 1) value) (state_of t)) (read_is value k x is)
+    ∙ ap (λ ss. written (map Some (count_from (first + k) (suc left))) ss (state_of t)) (drop_more value k X h)
+    ∙ ap (λ v. written (map Some (count_from (first + k) (suc left))) (v ∷ drop (k + 1) value) (state_of t)) (sym is)
     ∙ written_some (first + k) (map Some (count_from (suc (first + k)) left)) x (drop (k + 1) value) (state_of t)
     in
     ap (λ n. written (map Some (count_from n left)) (drop (k + 1) value) (state_of (set t (first + k) x))) on
     ∙ ap (λ g. written (map Some (count_from (suc (first + k)) left)) (drop (k + 1) value) g) f ∙ sym goal_side
-  where
-    read_is : (xs : BitList) (k : ℕ) (x : Bit4) → slice_get xs k ≡ Some x → get_or xs k x ≡ x
-    read_is [] k x e = refl
-    read_is (y ∷ ys) zero x e = cc
-    read_is (y ∷ ys) (suc k) x e = read_is ys k x e
 
 -- no bit is left
 pub run_done : (first k : ℕ) (value : BitList) (s : State) → length value ≤ k → written (map Some (count_from (first + k) (length value - k))) (drop k value) s ≡ s
 run_done first k value s h = let none : length value - k ≡ 0 = omega arith in ap (λ n. written (map Some (count_from (first + k) n)) (drop k value) s) none ∙ nowhere (drop k value) s
 
--- ---- a run over a state
-
--- these values stand from this bit on
-abbrev over : ℕ → BitList → State → State
-over first value s = written (map Some (count_from first (length value))) value s
-
-over_more : (first : ℕ) (v : Bit4) (vs : BitList) (s : State) → over first (v ∷ vs) s ≡ over (suc first) vs (put s first v)
-over_more first v vs s = written_some first (map Some (count_from (suc first) (length vs))) v vs s
-
--- an earlier bit may be put before or after
-over_put : (first b : ℕ) (vs : BitList) (v : Bit4) (s : State) → b < first → over first vs (put s b v) ≡ put (over first vs s) b v
-over_put first b [] v s h = nowhere [] (put s b v) ∙ ap (λ t. put t b v) (sym (nowhere [] s))
-over_put first b (w ∷ vs) v s h =
-    over_more first w vs (put s b v) ∙ ap (over (suc first) vs) (turned (λ e. absurd (omega (arith, h, e)))) ∙ over_put (suc first) b vs v (put s first w) (omega (arith, h)) ∙ ap (λ t. put t b v) (sym (over_more first w vs s))
-  where
-    turned : b ≢ first → put (put s b v) first w ≡ put (put s first w) b v
-    turned ne = fun_ext (λ c. at c (same_or_other c first) (same_or_other c b)) where
-      at : (c : ℕ) → (((c == first) ≡ true) × (c ≡ first)) ⊎ (((c == first) ≡ false) × (c ≢ first)) → (((c == b) ≡ true) × (c ≡ b)) ⊎ (((c == b) ≡ false) × (c ≢ b))
-          → (if c == first then w else (if c == b then v else s c)) ≡ (if c == b then v else (if c == first then w else s c))
-      at c (inl e) (inl g) = absurd (ne (sym g.1 ∙ e.1))
-      at c (inl e) (inr g) = rw (e.0, g.0) refl
-      at c (inr e) (inl g) = rw (e.0, g.0) refl
-      at c (inr e) (inr g) = rw (e.0, g.0) refl
-
-put_twice : (s : State) (b : ℕ) (v w : Bit4) → put (put s b v) b w ≡ put s b w
-put_twice s b v w = fun_ext (λ c. at (c == b) c) where
-  at : (k : Bool) (c : ℕ) → (if k then w else (if k then v else s c)) ≡ (if k then w else s c)
-  at true c = refl
-  at false c = refl
-
-over_set : (first n : ℕ) (value : BitList) (v : Bit4) (s : State) → n < length value → over first (set value n v) s ≡ put (over first value s) (first + n) v
-over_set first n [] v s h = absurd (omega (arith, h))
-over_set first zero (w ∷ vs) v s h =
-    over_more first v vs s ∙ ap (over (suc first) vs) (sym (put_twice s first w v)) ∙ over_put (suc first) first vs v (put s first w) (omega arith)
-    ∙ ap₂ (λ t b. put t b v) (sym (over_more first w vs s)) (omega arith)
-over_set first (suc n) (w ∷ vs) v s h =
-    over_more first w (set vs n v) s ∙ over_set (suc first) n vs v (put s first w) (omega (arith, h)) ∙ ap₂ (λ t b. put t b v) (sym (over_more first w vs s)) (omega arith)
-
--- what a state has already
-over_same : (first k : ℕ) (s : State) → over first (map s (count_from first k)) s ≡ s
-over_same first zero s = nowhere [] s
-over_same first (suc k) s = over_more first (s first) (map s (count_from (suc first) k)) s ∙ ap (over (suc first) (map s (count_from (suc first) k))) (kept s first) ∙ over_same (suc first) k s
-  where
-    kept : (s : State) (b : ℕ) → put s b (s b) ≡ s
-    kept s b = fun_ext (λ c. at c (same_or_other c b)) where
-      at : (c : ℕ) → (((c == b) ≡ true) × (c ≡ b)) ⊎ (((c == b) ≡ false) × (c ≢ b)) → (if c == b then s b else s c) ≡ s c
-      at c (inl e) = rw e.0 (ap s (sym e.1))
-      at c (inr e) = rw e.0 refl
-
 -- ---- places
 
--- values that are written to places of a run
-pub places_over : (first : ℕ) (value : BitList) (ps : List (Option ℕ)) (vs : BitList) (s : State) → ((k n : ℕ) → get_or ps k None ≡ Some n → n < length value)
-    → over first (write_places value ps vs) s ≡ written (bits_from first ps) vs (over first value s)
-places_over first value [] vs s h = sym (nowhere vs (over first value s))
-places_over first value (p ∷ ps) [] s h = sym (written_nothing (bits_from first (p ∷ ps)) (over first value s))
-places_over first value (None ∷ ps) (v ∷ vs) s h = places_over first value ps vs s (λ k n e. h (suc k) n e)
-places_over first value (Some n ∷ ps) (v ∷ vs) s h =
-    places_over first (set value n v) ps vs s (λ k m e. subst (λ l. m < l) (sym (length-set value n v)) (h (suc k) m e))
-    ∙ ap (written (bits_from first ps) vs) (over_set first n value v s (h zero n refl))
-    ∙ sym (written_some (first + n) (bits_from first ps) v vs (over first value s))
+-- one place more: where there is one its bit is written
+place_step : (first : ℕ) (ps : List (Option ℕ)) (value : BitList) (k : ℕ) (s : State) → k < length ps → k < length value → (p : Option ℕ) → p ≡ get_or ps k None
+    → written (bits_from first (drop k ps)) (drop k value) s ≡ written (option_map (λ n. first + n) p ∷ bits_from first (drop (k + 1) ps)) (get_or value k X ∷ drop (k + 1) value) s
+place_step first ps value k s h i p e =
+    ap (λ qs. written (bits_from first qs) (drop k value) s) (drop_more ps k None h)
+    ∙ ap (λ vs. written (bits_from first (get_or ps k None ∷ drop (k + 1) ps)) vs s) (drop_more value k X i)
+    ∙ ap (λ q. written (option_map (λ n. first + n) q ∷ bits_from first (drop (k + 1) ps)) (get_or value k X ∷ drop (k + 1) value) s) (sym e)
 
--- of a table, whose run of so many bits was read
-pub select_written : (t : List Bit4) (first n : ℕ) (value : BitList) (ps : List (Option ℕ)) (vs : BitList) → value ≡ map (state_of t) (count_from first n) → ((k m : ℕ) → get_or ps k None ≡ Some m → m < length value)
-    → written (map Some (count_from first (length (write_places value ps vs)))) (write_places value ps vs) (state_of t) ≡ written (bits_from first ps) vs (state_of t)
-select_written t first n value ps vs e h =
-    places_over first value ps vs (state_of t) h ∙ ap (written (bits_from first ps) vs) (ap (λ xs. over first xs (state_of t)) e ∙ over_same first n (state_of t))
+pub place_none : (first : ℕ) (ps : List (Option ℕ)) (value : BitList) (k : ℕ) (t : List Bit4) → k < length ps → k < length value → get_or ps k None ≡ None
+    → written (bits_from first (drop (k + 1) ps)) (drop (k + 1) value) (state_of t) ≡ written (bits_from first (drop k ps)) (drop k value) (state_of t)
+place_none first ps value k t h i e = sym (place_step first ps value k (state_of t) h i None (sym e))
 
-pub length-written : (value : BitList) (ps : List (Option ℕ)) (vs : BitList) → length (write_places value ps vs) ≡ length value
-length-written value [] vs = refl
-length-written value (p ∷ ps) [] = refl
-length-written value (None ∷ ps) (v ∷ vs) = length-written value ps vs
-length-written value (Some n ∷ ps) (v ∷ vs) = length-written (set value n v) ps vs ∙ length-set value n v
+pub place_some : (first : ℕ) (ps : List (Option ℕ)) (value : BitList) (k n : ℕ) (t : List Bit4) (x : Bit4) → k < length ps → k < length value → get_or ps k None ≡ Some n → first + n < length t → x ≡ get_or value k X
+    → written (bits_from first (drop (k + 1) ps)) (drop (k + 1) value) (state_of (set t (first + n) x)) ≡ written (bits_from first (drop k ps)) (drop k value) (state_of t)
+place_some first ps value k n t x h i e inside is =
+    ap (λ g. written (bits_from first (drop (k + 1) ps)) (drop (k + 1) value) g) (put_state t (first + n) x inside)
+    ∙ ap (λ v. written (bits_from first (drop (k + 1) ps)) (drop (k + 1) value) (put (state_of t) (first + n) v)) is
+    ∙ sym (written_some (first + n) (bits_from first (drop (k + 1) ps)) (get_or value k X) (drop (k + 1) value) (state_of t))
+    ∙ sym (place_step first ps value k (state_of t) h i (Some n) (sym e))
+
+-- no place is left
+pub places_done : (first : ℕ) (ps : List (Option ℕ)) (value : BitList) (k : ℕ) (s : State) → length ps ≤ k → written (bits_from first (drop k ps)) (drop k value) s ≡ s
+places_done first ps value k s h = ap (λ qs. written (bits_from first qs) (drop k value) s) (drop_all k ps h) ∙ nowhere (drop k value) s
+
+-- ---- words of memories
+
+no_writes : (first n : ℕ) (value : BitList) (s : State) → written (bits_from first (replicate n None)) value s ≡ s
+no_writes first zero value s = nowhere value s
+no_writes first (suc n) [] s = written_nothing (bits_from first (replicate (suc n) None)) s
+no_writes first (suc n) (v ∷ vs) s = no_writes first n vs s
+
+pub word_unput : (first k : ℕ) (place : Option ℕ) (value : BitList) (s : State) → place ≡ None → s ≡ written (bits_from first (spread k place)) value s
+word_unput first k place value s e = sym (ap (λ p. written (bits_from first (spread k p)) value s) e ∙ no_writes first k value s)
+
+pub word_put : (first k n : ℕ) (place : Option ℕ) (value : BitList) (s : State) → place ≡ Some n → written (map Some (count_from (first + n * k) k)) value s ≡ written (bits_from first (spread k place)) value s
+word_put first k n place value s e = ap (λ ps. written ps value s) (sym (run_places first (n * k) k)) ∙ sym (ap (λ p. written (bits_from first (spread k p)) value s) e)
+
+-- a word by a constant address
+pub word_written : (signal : E.Signal) (index : E.Expression) (first : ℕ) (addresses : Range) (signed : Bool) (address value : BitList) (place : Option ℕ) (s : State)
+    → first ≡ signal.first → addresses ≡ E.addresses signal → signed ≡ E.sign index → address ≡ constant_value index → length value ≡ E.word_length signal
+    → place ≡ (if all_known address then place_of addresses (integer signed address) else None)
+    → written (bits_from first (spread (length value) place)) value s ≡ write_all s (target_writes (WordOf signal index) value unknown)
+word_written signal index first addresses signed address value place s begins from sign_is address_is many place_is =
+    ap (λ f. written (bits_from f (spread (length value) place)) value s) begins
+    ∙ ap (λ k. written (bits_from signal.first (spread k place)) value s) many
+    ∙ ap (λ p. written (bits_from signal.first (spread (E.word_length signal) p)) value s) found
+  where
+    found : place ≡ address_place signal (E.sign index) (constant_value index)
+    found =
+        place_is
+        ∙ ap (λ v. if all_known v then place_of addresses (integer signed v) else None) address_is
+        ∙ ap (λ g. if all_known (constant_value index) then place_of addresses (integer g (constant_value index)) else None) sign_is
+        ∙ ap (λ r. if all_known (constant_value index) then place_of r (integer (E.sign index) (constant_value index)) else None) from

@@ -1,15 +1,14 @@
-use Rattle.std.proofs.Common.{◌+◌, ◌≤◌, ◌<◌, length, sym, ◌∙◌, arith}
+use Rattle.std.proofs.Common.{◌+◌, ◌<◌, length, sym, ◌∙◌, arith}
+use Rattle.vs_four.specs.declared.Bit4.TheVariants.{X, Zero}
+use Rattle.vs_sets.proofs.Families.{any_default}
 use Rattle.vs_zero.specs.States.{state_of}
 use Rattle.vs_zero.proofs.Writing.{run_step, run_done}
-use Rattle.vs_zero.proofs.targets.put_bits.Goals as goal
+use Rattle.vs_zero.proofs.targets.put_run.Goals as goal
 
 pub loop-k-preserved : goal.loop-k-preserved
 loop-k-preserved c =
-    let few : c.loop-k.k < length c.args.value = omega (arith, c.len-k-end.ensures.length) in
-    let inside : c.args.first + c.loop-k.k < length c.loop-k.state = omega (arith, c.loop-k.auto.state, c.requires, few) in
-    run_step c.loop-k.state c.args.first c.loop-k.k c.args.value c.get.result few inside c.get.ensures ∙ c.loop-k.invariant
+    let inside : c.args.first + c.loop-k.k < length c.loop-k.state = omega (arith, c.loop-k.auto.state) in
+    run_step c.loop-k.state c.args.first c.loop-k.k c.args.value.now _ c.loop-k-test.true inside (any_default c.args.value.now c.loop-k.k Zero X c.loop-k-test.true) ∙ c.loop-k.invariant
 
 pub returns : goal.returns
-returns c =
-    let all : length c.args.value ≤ c.loop-k.k = omega (arith, c.len-k-end.ensures.length, c.loop-k-test.false) in
-    sym (run_done c.args.first c.loop-k.k c.args.value (state_of c.loop-k.state) all) ∙ c.loop-k.invariant
+returns c = sym (run_done c.args.first c.loop-k.k c.args.value.now (state_of c.loop-k.state) c.loop-k-test.false) ∙ c.loop-k.invariant

@@ -1,7 +1,7 @@
 use Rattle.std.proofs.Common.{◌≡◌, ◌+◌, ◌-◌, length, drop, map, Some}
 use Rattle.vs_design.specs.Values.{count_from}
 use Rattle.vs_zero.specs.States.{state_of, written}
-use Rattle.vs_zero.proofs.targets.put_bits.Given as goal
+use Rattle.vs_zero.proofs.targets.put_run.Given as goal
 
 abbrev pub invariant-loop-k : goal.invariant-loop-k
 invariant-loop-k l =
