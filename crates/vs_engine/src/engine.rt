@@ -6,6 +6,8 @@ ghost use Rattle.vs_net.specs.Network.{write_all};
 ghost use Rattle.vs_net.specs.Queue.{Fall, Rise};
 ghost use Rattle.vs_net.specs.Solution.{IsSlotEnd};
 ghost use Rattle.vs_design.specs.Designs.{Design};
+ghost use Rattle.vs_design.specs.Expressions.{Signal, word_length};
+ghost use Rattle.vs_design.specs.Memories.{word_bits};
 ghost use Rattle.vs_design.specs.Networks.{network_of};
 ghost use Rattle.vs_design.specs.Values.{read};
 ghost use Rattle.vs_design.specs.Footprints.{contains};
@@ -176,6 +178,20 @@ impl<W: Lanes> Engine<W> {
         read(&self.file, lane, span)
     }
 
+    /// The value of some of the design's bits in a lane, as they are at the end of the last slot: of at most 64 that follow one another.
+    /// So a word of a memory is read (IEEE 1364-2005, 4.9), of which `memory_law` of `vs_design` says what it holds.
+    pub fn word(&self, lane: u32, bits: Span) -> Bits
+        requires lane { lane < W.LANES }
+        requires some { 1 ≤ bits.length }
+        requires short { bits.length ≤ 64 }
+        requires inside { bits.first + bits.length ≤ self.now.program.bits }
+        ensures bits { result ≡ read (state W.lane self.now lane) (span_bits bits) }
+        ensures word { (memory : Signal) (n : ℕ) → bits.first ≡ memory.first + n * word_length memory → bits.length ≡ word_length memory
+            → result ≡ read (state W.lane self.now lane) (word_bits memory n) }
+    {
+        read(&self.file, lane, bits)
+    }
+
     /// The values of a signal in all lanes, by lane, as they are at the end of the last slot.
     pub fn values(&self, signal: u32, out: &mut [Bits])
         requires signal { signal < length self.now.program.signals }
@@ -232,7 +248,7 @@ fn settling(begun: bool) -> Phase
     if begun { Phase::Fall } else { Phase::First }
 }
 
-/// The bits of a signal in a lane.
+/// The bits of a span in a lane.
 fn read<W: Lanes>(file: &PlaneFile<W>, lane: u32, span: Span) -> Bits
     requires lane { lane < W.LANES }
     requires some { 1 ≤ span.length }
