@@ -155,7 +155,7 @@ place_is slots from (Some n) h = at slots from n h
     at slots (s ∷ from) zero h = refl
     at slots (s ∷ from) (suc n) h = at slots from n h
 
-places_are : (slots : State) (from : List ℕ) (ps : List (Option ℕ)) → HasConstants slots → map slots (map (at_place 2 from) ps) ≡ map (at_place X (map slots from)) ps
+pub places_are : (slots : State) (from : List ℕ) (ps : List (Option ℕ)) → HasConstants slots → map slots (map (at_place 2 from) ps) ≡ map (at_place X (map slots from)) ps
 places_are slots from [] h = refl
 places_are slots from (p ∷ ps) h =
     ap (λ b. b ∷ map slots (map (at_place 2 from) ps)) (place_is slots from p h) ∙ ap (λ bs. at_place X (map slots from) p ∷ bs) (places_are slots from ps h)

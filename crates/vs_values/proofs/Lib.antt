@@ -20,6 +20,7 @@ mod Concatenating
 mod Places
 mod Paying
 pub mod Taking
+pub mod Wording
 mod Multiplying
 mod Summed
 mod Summing

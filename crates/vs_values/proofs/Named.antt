@@ -11,10 +11,11 @@ use Rattle.vs_four.specs.Logic.{BitList}
 use Rattle.vs_four.specs.Lengths.{last_or, extend_with, extend_literal}
 use Rattle.vs_four.specs.Tables.{is_known}
 use Rattle.vs_design.specs.Expressions as E
-use Rattle.vs_design.specs.Expressions.{range_or_one, signal_length}
+use Rattle.vs_design.specs.Expressions.{signal_length}
 use Rattle.vs_design.specs.Elaborated.{have_bits_from}
 use Rattle.vs_design.specs.Values.{count_from, bits_of_signal}
 use Rattle.vs_flat.specs.declared.processes.Signal.{Signal}
+use Rattle.vs_flat.specs.Arena as A
 use Rattle.vs_flat.specs.Arena.{Arena, bit_count}
 use Rattle.vs_flat.specs.DesignOf.{arena_signals}
 use Rattle.vs_flat.specs.Trees.{signal_of, signal_at, signals_from}
@@ -36,16 +37,16 @@ some_is : (x y : Signal) → Some x ≡ Some y → x ≡ y
 some_is x y h = cc
 
 -- the bits of a signal are among those of all
-pub signal_fits : (first k : ℕ) (ss : List Signal) (n : ℕ) (s : Signal) → have_bits_from first (signals_from k ss) ≡ true → slice_get ss n ≡ Some s → s.first_bit + range_or_one s.range ≤ first + bit_count ss
+pub signal_fits : (first k : ℕ) (ss : List Signal) (n : ℕ) (s : Signal) → have_bits_from first (signals_from k ss) ≡ true → slice_get ss n ≡ Some s → s.first_bit + A.signal_length s ≤ first + bit_count ss
 signal_fits first k [] n s h e = cc
 signal_fits first k (t ∷ ss) zero s h e =
-    let p = and_parts (t.first_bit == first) (have_bits_from (first + range_or_one t.range) (signals_from (suc k) ss)) h in
-    let total = sum_by-cons (λ (x : Signal). range_or_one x.range) t ss in
-    subst (λ (x : Signal). x.first_bit + range_or_one x.range ≤ first + bit_count (t ∷ ss)) (some_is t s e) (omega (arith, eqb-true t.first_bit first p.0, total))
+    let p = and_parts (t.first_bit == first) (have_bits_from (first + A.signal_length t) (signals_from (suc k) ss)) h in
+    let total = sum_by-cons A.signal_length t ss in
+    subst (λ (x : Signal). x.first_bit + A.signal_length x ≤ first + bit_count (t ∷ ss)) (some_is t s e) (omega (arith, eqb-true t.first_bit first p.0, total))
 signal_fits first k (t ∷ ss) (suc n) s h e =
-    let p = and_parts (t.first_bit == first) (have_bits_from (first + range_or_one t.range) (signals_from (suc k) ss)) h in
-    let total = sum_by-cons (λ (x : Signal). range_or_one x.range) t ss in
-    omega (arith, total, signal_fits (first + range_or_one t.range) (suc k) ss n s p.1 e)
+    let p = and_parts (t.first_bit == first) (have_bits_from (first + A.signal_length t) (signals_from (suc k) ss)) h in
+    let total = sum_by-cons A.signal_length t ss in
+    omega (arith, total, signal_fits (first + A.signal_length t) (suc k) ss n s p.1 e)
 
 pub all_run : (first n count : ℕ) → first + n ≤ count → All (λ b. b < count) (count_from first n)
 all_run first zero count h = All-nil (λ b. b < count)

@@ -1,6 +1,7 @@
 -- Calls make stores: where there are no stores, there are no calls.
-use Rattle.std.proofs.Common.{◌≡◌, ℕ, ◌≤◌, Bool, true, ◌&&◌, ◌==◌, nat_le, List, [], ◌∷◌, sym, refl, arith, true≢false, eqb-true}
+use Rattle.std.proofs.Common.{◌≡◌, ℕ, ◌*◌, ◌≤◌, Bool, true, ◌&&◌, ◌==◌, nat_le, List, [], ◌∷◌, sym, refl, arith, true≢false, eqb-true}
 use Rattle.std.specs.List.{All}
+use Rattle.std.proofs.Math.Nat.{one-le-mul}
 use Rattle.std.proofs.lemmas.List.Sums.{sum_by-cons}
 use Rattle.std.proofs.lemmas.List.Elements.{All-head}
 use Rattle.vs_four.specs.Lengths.{last_or}
@@ -49,14 +50,25 @@ arith_cost : (k : Kernel) (ls : List ℕ) → last_or 0 ls ≤ AC.cost_of k ls
 arith_cost Mul (a ∷ b ∷ to ∷ []) = omega arith
 arith_cost _ _ = omega arith
 
-select_some : (s : SC.Shape) (ls : List ℕ) → ((n : ℕ) → s ≡ SC.Written n → 1 ≤ n) → SC.takes s ls ≡ true → 1 ≤ SC.cost_of_shape s ls
+-- what stands for the length of a vector that is written, or the number of words of a memory, is some
+record IsSome (s : SC.Shape) : Type 0 where
+  written : (n : ℕ) → s ≡ SC.Written n → 1 ≤ n
+  words : (n : ℕ) → s ≡ SC.WordWritten n → 1 ≤ n
+
+select_some : (s : SC.Shape) (ls : List ℕ) → IsSome s → SC.takes s ls ≡ true → 1 ≤ SC.cost_of_shape s ls
 select_some SC.Shift (a ∷ amount ∷ to ∷ []) f h = let p = both_true (nat_le 1 a && nat_le 1 amount) (a == to) h in omega (arith, le_is 1 a (both_true (nat_le 1 a) (nat_le 1 amount) p.0).0, eqb-true a to p.1)
 select_some (SC.Selected n) (a ∷ base ∷ to ∷ []) f h = le_is 1 to (both_true (a == n && nat_le 1 base) (nat_le 1 to) h).1
 select_some (SC.Written n) (a ∷ base ∷ value ∷ to ∷ []) f h =
     let p = both_true (a == n && nat_le 1 base && nat_le 1 value) (a == to) h in
     let q = both_true (a == n && nat_le 1 base) (nat_le 1 value) p.0 in
     let r = both_true (a == n) (nat_le 1 base) q.0 in
-    omega (arith, f n refl, eqb-true a n r.0, eqb-true a to p.1)
+    omega (arith, f.written n refl, eqb-true a n r.0, eqb-true a to p.1)
+select_some (SC.WordRead n) (a ∷ address ∷ to ∷ []) f h = omega (arith, le_is 1 to (both_true (a == n * to && nat_le 1 address) (nat_le 1 to) h).1)
+select_some (SC.WordWritten n) (a ∷ address ∷ value ∷ to ∷ []) f h =
+    let p = both_true (a == n * value && nat_le 1 address && nat_le 1 value) (a == to) h in
+    let q = both_true (a == n * value && nat_le 1 address) (nat_le 1 value) p.0 in
+    let r = both_true (a == n * value) (nat_le 1 address) q.0 in
+    omega (arith, one-le-mul (f.words n refl) (le_is 1 value q.1), eqb-true a (n * value) r.0, eqb-true a to p.1)
 select_some SC.Choice (c ∷ p ∷ q ∷ to ∷ []) f h =
     let x = both_true (nat_le 1 c && nat_le 1 p && p == q) (q == to) h in
     let y = both_true (nat_le 1 c && nat_le 1 p) (p == q) x.0 in
@@ -66,14 +78,19 @@ select_some _ _ f h = absurd (true≢false (sym h))
 written_is : (n m : ℕ) → SC.Written n ≡ SC.Written m → n ≡ m
 written_is n m h = cc
 
-select_long : (k : SelectKernel) (n : ℕ) → SC.shape_of k ≡ SC.Written n → 1 ≤ n
-select_long (S.Write s) n h = omega (arith, range_is_some s.range, written_is (range_length s.range) n h)
-select_long S.ShiftLeft n h = cc
-select_long S.ShiftRight n h = cc
-select_long S.ShiftArith n h = cc
-select_long (S.Select s) n h = cc
-select_long S.Choose n h = cc
-select_long S.Branch n h = cc
+words_are : (n m : ℕ) → SC.WordWritten n ≡ SC.WordWritten m → n ≡ m
+words_are n m h = cc
+
+select_long : (k : SelectKernel) → IsSome (SC.shape_of k)
+select_long (S.Write s) = record { written = λ n h. omega (arith, range_is_some s.range, written_is (range_length s.range) n h); words = λ n h. cc }
+select_long (S.WriteWord m) = record { written = λ n h. cc; words = λ n h. omega (arith, range_is_some m.range, words_are (range_length m.range) n h) }
+select_long S.ShiftLeft = record { written = λ n h. cc; words = λ n h. cc }
+select_long S.ShiftRight = record { written = λ n h. cc; words = λ n h. cc }
+select_long S.ShiftArith = record { written = λ n h. cc; words = λ n h. cc }
+select_long (S.Select s) = record { written = λ n h. cc; words = λ n h. cc }
+select_long (S.ReadWord m) = record { written = λ n h. cc; words = λ n h. cc }
+select_long S.Choose = record { written = λ n h. cc; words = λ n h. cc }
+select_long S.Branch = record { written = λ n h. cc; words = λ n h. cc }
 
 -- a kernel makes a store at least
 pub some_cost : (k : AnyKernel) (ls : List ℕ) → takes k ls ≡ true → 1 ≤ cost_of k ls

@@ -80,14 +80,14 @@ ready_index bits env code source part index w k h r =
 
 -- ---- what the bits are taken of
 
-source_long : (env : List ℕ) (source : Source) → length (source_slots env source) ≡ source_length source
+pub source_long : (env : List ℕ) (source : Source) → length (source_slots env source) ≡ source_length source
 source_long env (OfSignal signal) = length-map (bits_of_signal signal) (slice_index env) ∙ length_count signal.first (signal_length signal)
 source_long env (OfConstant v) = length-map v constant_slot
 
 one_list : (x y : BitList) → (x ∷ []) ≡ (y ∷ []) → x ≡ y
 one_list x y h = cc
 
-source_is : (env : List ℕ) (m : ℕ) (source : Source) → IsEnv env m → SourceInside (length env) source → AreValues env m [] (source_slots env source ∷ []) m 0 (λ state. source_value state source ∷ [])
+pub source_is : (env : List ℕ) (m : ℕ) (source : Source) → IsEnv env m → SourceInside (length env) source → AreValues env m [] (source_slots env source ∷ []) m 0 (λ state. source_value state source ∷ [])
 source_is env m (OfSignal signal) e h =
     let bits = bits_of_signal signal in
     let to = map (slice_index env) bits in
@@ -167,7 +167,7 @@ get_all P d [] n p h = p
 get_all P d (x ∷ xs) zero p h = All-head P x xs h
 get_all P d (x ∷ xs) (suc n) p h = get_all P d xs n p (All-tail P x xs h)
 
-places_all : (P : ℕ → Type 0) (from : List ℕ) (ps : List (Option ℕ)) → P 2 → All P from → All P (map (at_place 2 from) ps)
+pub places_all : (P : ℕ → Type 0) (from : List ℕ) (ps : List (Option ℕ)) → P 2 → All P from → All P (map (at_place 2 from) ps)
 places_all P from [] p h = All-nil P
 places_all P from (None ∷ ps) p h = All-cons P 2 (map (at_place 2 from) ps) p (places_all P from ps p h)
 places_all P from (Some n ∷ ps) p h = All-cons P (get_or from n 2) (map (at_place 2 from) ps) (get_all P 2 from n p h) (places_all P from ps p h)
@@ -190,7 +190,7 @@ places_length p s index = elim (all_known index) as (λ k. length (if k then map
 selected_length : (p : Part) (s : Bool) (from : List ℕ) (index : BitList) → length (selected_slots p s from index) ≡ p.width
 selected_length p s from index = length-map (places p s index) (at_place 2 from) ∙ places_length p s index
 
-below_signal : (env : List ℕ) (m : ℕ) (source : Source) → IsEnv env m → SourceInside (length env) source → All (λ slot. slot < m) (source_slots env source)
+pub below_signal : (env : List ℕ) (m : ℕ) (source : Source) → IsEnv env m → SourceInside (length env) source → All (λ slot. slot < m) (source_slots env source)
 below_signal env m source e h = All-head (λ to. All (λ slot. slot < m) to) (source_slots env source) [] (source_is env m source e h).below
 
 -- the constant in the slots of a constant index
@@ -223,7 +223,7 @@ picked_source : (env : List ℕ) (m : ℕ) (all : List ℕ) (b x : ℕ) → cont
 picked_source env m all b x h (inl e) = inl (omega (arith, e))
 picked_source env m all b x h (inr e) = inr (inr (b, h, e))
 
-picks : (env : List ℕ) (m : ℕ) (signal : Signal) (ps : List (Option ℕ)) (all : List ℕ) → ((b : ℕ) → contains (somes (bits_at signal ps)) b ≡ true → contains all b ≡ true)
+pub picks : (env : List ℕ) (m : ℕ) (signal : Signal) (ps : List (Option ℕ)) (all : List ℕ) → ((b : ℕ) → contains (somes (bits_at signal ps)) b ≡ true → contains all b ≡ true)
     → All (IsSource env m all) (map (at_place 2 (map (slice_index env) (bits_of_signal signal))) ps)
 picks env m signal [] all f = All-nil (IsSource env m all)
 picks env m signal (None ∷ ps) all f = All-cons (IsSource env m all) 2 (map (at_place 2 (map (slice_index env) (bits_of_signal signal))) ps) (inl (omega arith)) (picks env m signal ps all f)

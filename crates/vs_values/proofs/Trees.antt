@@ -98,6 +98,12 @@ select_below signals e of index h =
     let q = and_parts (nat_lt index e) true p.1 in
     (lt_is of e p.0, lt_is index e q.0)
 
+-- a memory that is named is there, and its address is an earlier expression
+pub word_below : (signals e n index : ℕ) → node_names_below signals e (N.Word n index) ≡ true → (n < signals) × (index < e)
+word_below signals e n index h =
+    let p = and_parts (nat_lt n signals && true) (nat_lt index e && true) h in
+    (lt_is n signals (and_parts (nat_lt n signals) true p.0).0, lt_is index e (and_parts (nat_lt index e) true p.1).0)
+
 nth_some : (ns : List (Placed Node)) (k : ℕ) → k < length ns → (n : Placed Node) × (slice_get ns k ≡ Some n)
 nth_some [] k h = absurd (omega arith)
 nth_some (n ∷ ns) zero h = (n, refl)
@@ -115,6 +121,7 @@ source_inside each a names numbered of h =
     by_node (N.Literal bits signed sized) g = omega arith
     by_node (N.Bit x range index) g = omega arith
     by_node (N.Part x range base up width) g = omega arith
+    by_node (N.Word k index) g = omega arith
     by_node (N.Unary op x) g = omega arith
     by_node (N.Binary op x y) g = omega arith
     by_node (N.Choice x y z) g = omega arith

@@ -3,7 +3,7 @@ use Rattle.std.specs.Prelude.{◌≡◌, ◌⊎◌, ℕ, ◌+◌, ◌<◌, ◌�
 use Rattle.std.specs.List.{range_with_len}
 use Rattle.vs_four.specs.Logic.{truth, choose}
 use Rattle.vs_four.specs.Selects.{Part}
-use Rattle.vs_design.specs.Expressions.{signal_length, UnaryOp, Source, OfSignal, OfConstant}
+use Rattle.vs_design.specs.Expressions.{Signal, signal_length, word_length, addresses, UnaryOp, Source, OfSignal, OfConstant}
 use Rattle.vs_design.specs.Values.{apply_unary, bits_of_signal}
 use Rattle.vs_kern_select.specs.declared.costs.Kernel.TheVariants as S
 use Rattle.vs_code.specs.declared.kernels.AnyKernel.{AnyKernel}
@@ -11,7 +11,7 @@ use Rattle.vs_code.specs.declared.kernels.AnyKernel.TheVariants.{Select}
 use Rattle.vs_code.specs.Calls.{IsCall, call_cost, length_of}
 use Rattle.vs_values.specs.Added.{fresh_call}
 use Rattle.vs_values.specs.Coded.{Coding, with_call}
-use Rattle.vs_values.specs.Constants.{AreConstant, constant_slots, constant_bits, extended_slots, selected_slots}
+use Rattle.vs_values.specs.Constants.{AreConstant, constant_slots, constant_bits, extended_slots, selected_slots, word_slots}
 use Rattle.vs_values.specs.Choices.{unary_kernel, unary_result, is_kept}
 
 -- such a call may be added
@@ -72,3 +72,16 @@ pub record IsCalledSelect (part : Part) (of_index : Bool) (w : ℕ) (signed : Bo
 abbrev pub IsSelect : Part → Bool → ℕ → Bool → List ℕ → List ℕ → Coding → Coding → List ℕ → Type 0
 IsSelect part of_index w signed from index old new to =
     (AreConstant index × IsWithout old new to (extended_slots w signed (selected_slots part of_index from (constant_bits index)))) ⊎ IsCalledSelect part of_index w signed from index old new to
+
+-- a word by an address in constants' slots, or a call
+abbrev pub word_kernel : Signal → Bool → AnyKernel
+word_kernel signal signed = Select (S.ReadWord (record { range = addresses signal; signed = signed }))
+
+pub record IsCalledWord (signal : Signal) (of_index : Bool) (w : ℕ) (signed : Bool) (from index : List ℕ) (old new : Coding) (to : List ℕ) : Type 0 where
+  pub variable : AreConstant index → ⊥
+  pub call : new ≡ with_call old (word_kernel signal of_index) (from ∷ index ∷ []) (word_length signal)
+  pub are : to ≡ extended_slots w signed (range_with_len old.next (word_length signal))
+
+abbrev pub IsWord : Signal → Bool → ℕ → Bool → List ℕ → List ℕ → Coding → Coding → List ℕ → Type 0
+IsWord signal of_index w signed from index old new to =
+    (AreConstant index × IsWithout old new to (extended_slots w signed (word_slots signal of_index from (constant_bits index)))) ⊎ IsCalledWord signal of_index w signed from index old new to

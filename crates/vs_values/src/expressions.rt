@@ -7,9 +7,9 @@ ghost use Rattle.vs_design.specs.Sizes.{is_shift};
 ghost use Rattle.vs_design.specs.Values.{apply_binary, left_sign, left_width, right_sign, right_width};
 ghost use Rattle.vs_code.specs.Calls.{IsCall, call_cost, length_of};
 ghost use Rattle.vs_flat.specs.Arena.{bit_count};
-ghost use Rattle.vs_flat.specs.DesignOf.{arena_trees};
+ghost use Rattle.vs_flat.specs.DesignOf.{arena_signals, arena_trees};
 ghost use Rattle.vs_flat.specs.Targets.{source_of};
-ghost use Rattle.vs_flat.specs.Trees.{copy_count, first_copy, joined, tree_at};
+ghost use Rattle.vs_flat.specs.Trees.{copy_count, first_copy, joined, signal_at, tree_at};
 ghost use Rattle.vs_values.specs.Added.{fresh_call};
 ghost use Rattle.vs_values.specs.Coded.{with_call};
 ghost use Rattle.vs_values.specs.Constants.{AreConstant, constant_bits, constant_slots, extended_slots, shifted_slots};
@@ -30,6 +30,7 @@ use crate::shifts::moved;
 use crate::slots::{are_constant, constant_bits, constant_slots, extended};
 use crate::sources::{chosen_bits, source, source_fits};
 use crate::typed::own;
+use crate::words::chosen_word;
 use std::alloc::{AllocError, Global};
 use vs_base::{BinaryOp, Context, UnaryOp, Way};
 use vs_code::AnyKernel;
@@ -326,6 +327,29 @@ fn select(
     chosen_bits(alloc, from, i, own.signed, range, up, width, context, code)
 }
 
+/// Adds the calls of a word of a memory, and answers the slots of its value.
+#[cycle(expressions)]
+fn word(
+    alloc: Global,
+    typed: &Typed,
+    env: &Environment,
+    signal: u32,
+    index: u32,
+    context: Context,
+    code: &mut Code,
+) -> Result<Vec<u32>, AllocError>
+    requires signal { signal < length typed.now.signals }
+    requires index { index < length typed.now.nodes }
+    requires ready { IsReady (bit_count typed.now.signals) env.now code.old (E.Word (signal_at (arena_signals typed.now) signal) (tree_at (arena_trees typed.now) index)) context.width }
+    ensures { IfOk result (λ to. AddsValue env.now code.old.calls code.old.next code.new.calls code.new.next (E.Word (signal_at (arena_signals typed.now) signal) (tree_at (arena_trees typed.now) index)) context.width context.signed to.items) }
+{
+    typed.flat();
+    let own = own(typed, index);
+    let i = lower(alloc, typed, env, index, own, code)?;
+    value_law();
+    chosen_word(alloc, typed, env, signal, i, own.signed, context, code)
+}
+
 /// Adds the calls of a concatenation of one copy, and answers the slots of its value. Its parts come before node e.
 #[cycle(expressions)]
 fn concatenated(
@@ -394,6 +418,7 @@ pub fn lower(
     match typed.flat().expr(e) {
         Node::Literal { bits, sized, .. } => literal(alloc, *bits, *sized, context),
         Node::Name { signal } => name(alloc, typed, env, *signal, context),
+        Node::Word { signal, index } => word(alloc, typed, env, *signal, *index, context, code),
         Node::Binary { op, a, b } => binary(alloc, typed, env, *op, *a, *b, context, code),
         Node::Unary { op, a } => unary(alloc, typed, env, *op, *a, context, code),
         Node::Choice { c, p, q } => choice(alloc, typed, env, *c, *p, *q, context, code),

@@ -14,6 +14,7 @@ mod shifts;
 mod slots;
 mod sources;
 mod typed;
+mod words;
 
 pub use applying::applied;
 pub use arguments::{pair, single, triple};
@@ -21,6 +22,7 @@ pub use code::Code;
 pub use environment::{Environment, picked, place};
 pub use expressions::lower;
 pub use joins::appended;
-pub use names::{signal_bits, signal_slots};
+pub use names::{numbers, signal_bits, signal_slots};
 pub use slots::{are_constant, constant_bits};
 pub use typed::own;
+pub use words::{first_of_word, memory_addresses, word_width};

@@ -14,12 +14,17 @@ use crate::environment::Environment;
 use crate::slots::{constant_slots, extended};
 use std::alloc::{AllocError, Global};
 use vs_base::Context;
-use vs_flat::{lawful_law, length_of, trees_law};
+use vs_flat::{bits_of, lawful_law, trees_law};
 use vs_four::{Bit4, Bits, top};
 use vs_typed::Typed;
 
 /// The slots of bits one after the other.
-fn run(alloc: Global, env: &Environment, first: u32, count: u32) -> Result<Vec<u32>, AllocError>
+pub(crate) fn run(
+    alloc: Global,
+    env: &Environment,
+    first: u32,
+    count: u32,
+) -> Result<Vec<u32>, AllocError>
     requires inside { first + count ≤ length env.now }
     requires few { first + count < 2 ^ 32 }
     ensures { IfOk result (λ to. to.items ≡ map (slice_index env.now) (count_from first count)) }
@@ -46,7 +51,7 @@ pub fn signal_slots(
     lawful_law();
     let flat = typed.flat();
     let signal = flat.signal(signal);
-    run(alloc, env, signal.first_bit, length_of(signal.range))
+    run(alloc, env, signal.first_bit, bits_of(signal))
 }
 
 /// A signal's bits, by their numbers, the least significant one first.
@@ -58,11 +63,11 @@ pub fn signal_bits(alloc: Global, typed: &Typed, signal: u32) -> Result<Vec<u32>
     lawful_law();
     let flat = typed.flat();
     let signal = flat.signal(signal);
-    numbers(alloc, signal.first_bit, length_of(signal.range))
+    numbers(alloc, signal.first_bit, bits_of(signal))
 }
 
 /// Numbers one after the other.
-fn numbers(alloc: Global, first: u32, count: u32) -> Result<Vec<u32>, AllocError>
+pub fn numbers(alloc: Global, first: u32, count: u32) -> Result<Vec<u32>, AllocError>
     requires { first + count < 2 ^ 32 }
     ensures { IfOk result (λ to. to.items ≡ count_from first count) }
 {

@@ -1,4 +1,4 @@
-use Rattle.std.proofs.Common.{◌||◌, ◌&&◌, not, map, slice_index, Vec, Global, Some, true, ◌≡◌, ◌∙◌, ◌<◌, ℕ, List, [], ◌∷◌, length, sym, ap, subst, subst₂, refl, arith, ◌⊎◌}
+use Rattle.std.proofs.Common.{Bool, ◌||◌, ◌&&◌, not, map, slice_index, Vec, Global, Some, true, ◌≡◌, ◌∙◌, ◌<◌, ℕ, List, [], ◌∷◌, length, sym, ap, subst, subst₂, refl, arith, ◌⊎◌}
 use Rattle.std.proofs.lemmas.Result.{IfOk-weaker}
 use Rattle.vs_design.specs.Expressions as E
 use Rattle.vs_design.specs.Values.{left_width, right_width}
@@ -11,7 +11,7 @@ use Rattle.std.specs.List.{range_with_len}
 use Rattle.vs_values.specs.Choices.{binary_kernel, result_of_way}
 use Rattle.vs_values.specs.Coded.{with_call}
 use Rattle.vs_values.specs.Ready.{IsReady}
-use Rattle.vs_values.proofs.Trees.{tree, binary_below, unary_below, choice_below, select_below, ready_strip, adds_placed, name_below}
+use Rattle.vs_values.proofs.Trees.{tree, binary_below, unary_below, choice_below, select_below, word_below, ready_strip, adds_placed, name_below}
 use Rattle.vs_values.proofs.Named.{adds_literal, adds_name, signal_within}
 use Rattle.vs_four.specs.declared.Bit4.TheVariants.{Zero, X}
 use Rattle.vs_four.specs.Lengths.{last_or}
@@ -24,7 +24,7 @@ use Rattle.vs_flat.specs.Trees.{tree_at}
 use Rattle.vs_values.specs.Valued.{AddsValue}
 use Rattle.vs_values.proofs.Readying.{ready_left, ready_right}
 use Rattle.vs_values.proofs.Binary.{context_is, adds_at, ready_at, operands_of, short_is, returns_folded, returns_moved, call_is, returns_called, both_ok}
-use Rattle.vs_values.specs.Made.{IsUnary, IsChoice, IsSelect}
+use Rattle.vs_values.specs.Made.{IsCallable, IsUnary, IsChoice, IsSelect, IsWord, source_slots, word_kernel}
 use Rattle.vs_values.specs.Products.{IsCheap, HasRoom, AddsProduct, product_cost}
 use Rattle.vs_values.proofs.Summing.{summable, returns_summed}
 use Rattle.vs_values.proofs.Unary.{ready_operand, operand_of, operand_long, callable_unary, returns_unary}
@@ -38,6 +38,7 @@ use Rattle.vs_values.proofs.Concatenating.{rest, split_rest, one_part, rest_shor
 use Rattle.vs_four.specs.Selects.{Part, one_bit}
 use Rattle.vs_flat.specs.Targets.{source_of}
 use Rattle.vs_values.proofs.Taking.{ready_index, selectable, callable_select, returns_select, index_of, selectable_from, callable_from, select_from}
+use Rattle.vs_values.proofs.Wording.{ready_address, address_of, address_long, callable_word, returns_word}
 use Rattle.vs_values.proofs.expressions.+expressions.Goals as goal
 
 pub binary-lower-requires : goal.binary-lower-requires
@@ -1214,3 +1215,125 @@ lower-returns-in-Part t c =
     (λ to v. subst (λ (x : E.Expression). AddsValue env code.calls code.next c.select-in-Part.new.code.calls c.select-in-Part.new.code.next x w s to.items) (sym tr.is)
     (adds_placed env code.calls code.next c.select-in-Part.new.code.calls c.select-in-Part.new.code.next tr.place plain w s to.items v))
     c.select-in-Part.ensures
+
+pub word-lower-requires : goal.word-lower-requires
+word-lower-requires t c =
+    let a = c.args.typed.now in
+    let bits = bit_count a.signals in
+    let env = c.args.env.now in
+    let code = c.args.code.now in
+    let signal = signal_at (arena_signals a) c.args.signal in
+    let index = tree_at (arena_trees a) c.args.index in
+    let w = c.args.context.width in
+    (omega (arith, c.decreases), (c.requires.index, ready_address bits env code signal index w c.own-own.result.width c.own-own.ensures.width c.requires.ready))
+
+pub word-chosen_word-requires-clause-bits : goal.word-chosen_word-requires-clause-bits
+word-chosen_word-requires-clause-bits t c = c.requires.ready.has_bits
+
+pub word-chosen_word-requires-clause-some : goal.word-chosen_word-requires-clause-some
+word-chosen_word-requires-clause-some t c =
+    let a = c.args.typed.now in
+    let bits = bit_count a.signals in
+    let env = c.args.env.now in
+    let code = c.args.code.now in
+    let signal = signal_at (arena_signals a) c.args.signal in
+    let index = tree_at (arena_trees a) c.args.index in
+    let w = c.args.context.width in
+    let code1 = c.lower.new.code in
+    let ti = c.in_ok-i.i.items in
+    let vi = own_value_of env code code1 index c.own-own.result.width c.own-own.result.signed ti c.own-own.ensures.width c.own-own.ensures.signed c.in_ok-i.ensures in
+    let o = address_of bits env code code1 signal index w ti c.requires.ready (signal_within a c.args.signal c.flat.ensures.lawful.design.bits_numbered c.requires.signal) vi in
+    (address_long bits env code code1 signal index w ti o).0
+
+pub word-chosen_word-requires-clause-most : goal.word-chosen_word-requires-clause-most
+word-chosen_word-requires-clause-most t c =
+    let a = c.args.typed.now in
+    let bits = bit_count a.signals in
+    let env = c.args.env.now in
+    let code = c.args.code.now in
+    let signal = signal_at (arena_signals a) c.args.signal in
+    let index = tree_at (arena_trees a) c.args.index in
+    let w = c.args.context.width in
+    let code1 = c.lower.new.code in
+    let ti = c.in_ok-i.i.items in
+    let vi = own_value_of env code code1 index c.own-own.result.width c.own-own.result.signed ti c.own-own.ensures.width c.own-own.ensures.signed c.in_ok-i.ensures in
+    let o = address_of bits env code code1 signal index w ti c.requires.ready (signal_within a c.args.signal c.flat.ensures.lawful.design.bits_numbered c.requires.signal) vi in
+    (address_long bits env code code1 signal index w ti o).1
+
+pub word-chosen_word-requires-clause-call : goal.word-chosen_word-requires-clause-call
+word-chosen_word-requires-clause-call t c =
+    let a = c.args.typed.now in
+    let bits = bit_count a.signals in
+    let env = c.args.env.now in
+    let code = c.args.code.now in
+    let signal = signal_at (arena_signals a) c.args.signal in
+    let index = tree_at (arena_trees a) c.args.index in
+    let w = c.args.context.width in
+    let code1 = c.lower.new.code in
+    let ti = c.in_ok-i.i.items in
+    let vi = own_value_of env code code1 index c.own-own.result.width c.own-own.result.signed ti c.own-own.ensures.width c.own-own.ensures.signed c.in_ok-i.ensures in
+    let o = address_of bits env code code1 signal index w ti c.requires.ready (signal_within a c.args.signal c.flat.ensures.lawful.design.bits_numbered c.requires.signal) vi in
+    (λ variable.
+    subst (λ (b : Bool). IsCallable code1 (word_kernel signal b) (source_slots env (E.OfSignal signal) ∷ ti ∷ []) (E.word_length signal)) (sym c.own-own.ensures.signed)
+    (callable_word bits env code code1 signal index w ti o variable))
+
+pub word-returns : goal.word-returns
+word-returns t c =
+    let a = c.args.typed.now in
+    let bits = bit_count a.signals in
+    let env = c.args.env.now in
+    let code = c.args.code.now in
+    let signal = signal_at (arena_signals a) c.args.signal in
+    let index = tree_at (arena_trees a) c.args.index in
+    let w = c.args.context.width in
+    let code1 = c.lower.new.code in
+    let ti = c.in_ok-i.i.items in
+    let vi = own_value_of env code code1 index c.own-own.result.width c.own-own.result.signed ti c.own-own.ensures.width c.own-own.ensures.signed c.in_ok-i.ensures in
+    let o = address_of bits env code code1 signal index w ti c.requires.ready (signal_within a c.args.signal c.flat.ensures.lawful.design.bits_numbered c.requires.signal) vi in
+    let s = c.args.context.signed in
+    let code2 = c.chosen_word.new.code in
+    let from = source_slots env (E.OfSignal signal) in
+    IfOk-weaker c.chosen_word.result
+    (λ (to : Vec ℕ Global). IsWord signal c.own-own.result.signed w s from ti code1 code2 to.items)
+    (λ (to : Vec ℕ Global). AddsValue env code.calls code.next code2.calls code2.next (E.Word signal index) w s to.items)
+    (λ to h. returns_word c.value_law.ensures.constant bits env code code1 code2 signal index w s ti to.items o (subst (λ (b : Bool). IsWord signal b w s from ti code1 code2 to.items) c.own-own.ensures.signed h))
+    c.chosen_word.ensures
+
+pub lower-word-requires : goal.lower-word-requires
+lower-word-requires t c =
+    let a = c.args.typed.now in
+    let e = c.args.e in
+    let node = N.Word c.in-Word.signal c.in-Word.index in
+    let at : node_at a e ≡ Some node = ap (λ (x : Arena). node_at x e) (sym c.flat.ensures.same) ∙ c.expr.ensures ∙ ap Some c.in-Word.is in
+    let tr = tree c.trees_law.ensures.expressions a c.flat.ensures.lawful.names e node at in
+    let plain = E.Word (signal_at (arena_signals a) c.in-Word.signal) (tree_at (arena_trees a) c.in-Word.index) in
+    let below = word_below (length a.signals) e c.in-Word.signal c.in-Word.index tr.earlier in (
+      omega (arith, c.decreases, below.1),
+      (
+        below.0,
+        (
+          omega (arith, below.1, c.requires.node),
+          ready_strip (bit_count a.signals) c.args.env.now c.args.code.now tr.place plain c.args.context.width
+              (subst (λ (x : E.Expression). IsReady (bit_count a.signals) c.args.env.now c.args.code.now x c.args.context.width) tr.is c.requires.ready),
+        ),
+      ),
+    )
+
+pub lower-returns-in-Word : goal.lower-returns-in-Word
+lower-returns-in-Word t c =
+    let a = c.args.typed.now in
+    let e = c.args.e in
+    let node = N.Word c.in-Word.signal c.in-Word.index in
+    let at : node_at a e ≡ Some node = ap (λ (x : Arena). node_at x e) (sym c.flat.ensures.same) ∙ c.expr.ensures ∙ ap Some c.in-Word.is in
+    let tr = tree c.trees_law.ensures.expressions a c.flat.ensures.lawful.names e node at in
+    let plain = E.Word (signal_at (arena_signals a) c.in-Word.signal) (tree_at (arena_trees a) c.in-Word.index) in
+    let w = c.args.context.width in
+    let s = c.args.context.signed in
+    let env = c.args.env.now in
+    let code = c.args.code.now in
+    IfOk-weaker c.word.result
+    (λ (to : Vec ℕ Global). AddsValue env code.calls code.next c.word.new.code.calls c.word.new.code.next plain w s to.items)
+    (λ (to : Vec ℕ Global). AddsValue env code.calls code.next c.word.new.code.calls c.word.new.code.next (tree_at (arena_trees a) e) w s to.items)
+    (λ to v. subst (λ (x : E.Expression). AddsValue env code.calls code.next c.word.new.code.calls c.word.new.code.next x w s to.items) (sym tr.is)
+    (adds_placed env code.calls code.next c.word.new.code.calls c.word.new.code.next tr.place plain w s to.items v))
+    c.word.ensures

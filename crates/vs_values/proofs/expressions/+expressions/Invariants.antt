@@ -21,3 +21,6 @@ decreases-replication l = 128 * l.e + 126
 
 abbrev pub decreases-select : goal.decreases-select
 decreases-select l = 128 * l.index + 128
+
+abbrev pub decreases-word : goal.decreases-word
+decreases-word l = 128 * l.index + 128

@@ -15,7 +15,7 @@ numbers-requires c =
     let at : slice_get a.signals c.args.signal ≡ Some s = ap (λ (x : Arena). slice_get x.signals c.args.signal) (sym c.flat-flat.ensures.same) ∙ c.signal-signal.ensures in
     let few = c.flat-flat.ensures.lawful.design.few_bits in
     let count = (c.trees_law.ensures.counts a).bits in
-    omega (arith, few, count, c.length_of.ensures, signal_fits 0 0 a.signals c.args.signal s c.flat-flat.ensures.lawful.design.bits_numbered at)
+    omega (arith, few, count, c.bits_of.ensures, signal_fits 0 0 a.signals c.args.signal s c.flat-flat.ensures.lawful.design.bits_numbered at)
 
 pub returns : goal.returns
 returns c =
@@ -23,7 +23,7 @@ returns c =
     let at : slice_get c.args.typed.now.signals c.args.signal ≡ Some s = ap (λ (x : Arena). slice_get x.signals c.args.signal) (sym c.flat-flat.ensures.same) ∙ c.signal-signal.ensures in
     let is : signal_at (arena_signals c.args.typed.now) c.args.signal ≡ signal_of c.args.signal s = c.trees_law.ensures.signals c.args.typed.now c.args.signal s at in
     IfOk-weaker c.numbers.result
-    (λ (to : Vec ℕ Global). to.items ≡ count_from s.first_bit c.length_of.result)
+    (λ (to : Vec ℕ Global). to.items ≡ count_from s.first_bit c.bits_of.result)
     (λ (to : Vec ℕ Global). to.items ≡ bits_of_signal (signal_at (arena_signals c.args.typed.now) c.args.signal))
-    (λ to e. e ∙ ap (λ (k : ℕ). count_from s.first_bit k) c.length_of.ensures ∙ ap (λ (x : E.Signal). bits_of_signal x) (sym is))
+    (λ to e. e ∙ ap (λ (k : ℕ). count_from s.first_bit k) c.bits_of.ensures ∙ ap (λ (x : E.Signal). bits_of_signal x) (sym is))
     c.numbers.ensures
