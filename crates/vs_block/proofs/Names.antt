@@ -1,13 +1,13 @@
 -- What an expression and a statement of a lawful flat design name, and what a statement that fits consists of.
 use Rattle.std.proofs.Common.{◌≡◌, ℕ, zero, suc, ◌<◌, true, ◌&&◌, nat_lt, List, [], ◌∷◌, ◌++◌, length, map, refl, sym, ap, ◌∙◌, subst, Option, Some, None, arith}
 use Rattle.std.specs.Prelude.{option_map, slice_get, option_to_list, is_some}
-use Rattle.std.specs.List.{list_all, flat_map}
+use Rattle.std.specs.List.{flat_map}
 use Rattle.std.proofs.lemmas.List.Folds.{list_all-append}
 use Rattle.vs_design.specs.Expressions.{items_of}
 use Rattle.vs_design.specs.Fits.{fits, divides_constants, is_fit, fit_items, fits_target, fits_statement, fits_arms}
 use Rattle.vs_flat.specs.declared.placed.Placed.{Placed}
 use Rattle.vs_flat.specs.declared.expressions.Node.{Node}
-use Rattle.vs_flat.specs.declared.expressions.Node.TheVariants.{Literal, Name, Bit, Part, Unary, Binary, Choice, Join}
+use Rattle.vs_flat.specs.declared.expressions.Node.TheVariants.{Literal, Name, Bit, Part, Word, Unary, Binary, Choice, Join}
 use Rattle.vs_flat.specs.declared.statements.Arm.{Arm}
 use Rattle.vs_flat.specs.declared.statements.Statement.{Statement}
 use Rattle.vs_flat.specs.declared.statements.Statement.TheVariants as S
@@ -31,6 +31,9 @@ has_names signals e (Literal bits signed sized) h = tt
 has_names signals e (Name signal) h = first_below signals signal [] (and_both (all_below signals (signal ∷ [])) true h).0
 has_names signals e (Bit of range index) h = (first_below e of (index ∷ []) h, first_below e index [] (rest_below e of (index ∷ []) h))
 has_names signals e (Part of range base up width) h = (first_below e of (base ∷ []) h, first_below e base [] (rest_below e of (base ∷ []) h))
+has_names signals e (Word signal index) h =
+    let p = and_both (all_below signals (signal ∷ [])) (all_below e (index ∷ [])) h in
+    (first_below signals signal [] p.0, first_below e index [] p.1)
 has_names signals e (Unary op a) h = first_below e a [] h
 has_names signals e (Binary op a b) h = (first_below e a (b ∷ []) h, first_below e b [] (rest_below e a (b ∷ []) h))
 has_names signals e (Choice c p q) h =

@@ -2,13 +2,13 @@
 
 ghost use Rattle.std.specs.Prelude.{◌≡◌, ◌≤◌, ◌^◌};
 ghost use Rattle.std.specs.List.Sorted.{IsStrictlyIncreasing};
-ghost use Rattle.vs_design.specs.Expressions.{range_or_one};
 ghost use Rattle.vs_design.specs.Footprints.{contains, without};
 ghost use Rattle.vs_design.specs.Refusals.{least, signal_of};
 ghost use Rattle.vs_design.specs.Values.{count_from};
+ghost use Rattle.vs_flat.specs.Arena.{signal_length};
 ghost use Rattle.vs_flat.specs.DesignOf.{arena_signals};
 
-use vs_flat::{Flat, Signal, length_of, trees_law};
+use vs_flat::{Flat, Signal, bits_of, trees_law};
 use vs_shape::is_among;
 
 /// The least of the bits that isn't among the others. Both rise.
@@ -27,10 +27,10 @@ pub(crate) fn first_missing(reads: &[u32], waits: &[u32]) -> Option<u32>
 
 /// Whether a bit is one of the signal's.
 fn has_bit(signal: &Signal, bit: u32) -> bool
-    requires { range_or_one signal.now.range ≤ 2 ^ 20 }
-    ensures { result ≡ contains (count_from signal.now.first_bit (range_or_one signal.now.range)) bit }
+    requires { signal_length signal.now ≤ 2 ^ 20 }
+    ensures { result ≡ contains (count_from signal.now.first_bit (signal_length signal.now)) bit }
 {
-    signal.first_bit <= bit && bit - signal.first_bit < length_of(signal.range)
+    signal.first_bit <= bit && bit - signal.first_bit < bits_of(signal)
 }
 
 /// The number of the signal that has the bit.

@@ -10,22 +10,15 @@ use std::alloc::AllocError;
 use vs_flat::Node;
 use vs_shape::Shapes;
 
-/// Adds the bits of target e that are surely assigned: those of a name or of a select by a constant index. A select by any other index assigns none for sure.
+/// Adds the bits of target e that are surely assigned: those of a name, or of a select or a word by a constant index. A select or a word by any other index assigns none for sure.
 pub(crate) fn push_assigned(shapes: &Shapes, e: u32, out: &mut Vec<u32>) -> Result<(), AllocError>
     requires there { e < length shapes.now.nodes }
     requires target { IsTarget (tree_of shapes.now e) }
     ensures { OnOk result (out.new.items ≡ out.old.items ++ assigns (target_tree (tree_of shapes.now e))) }
 {
     match shapes.node(e) {
-        Node::Bit { index, .. } => {
+        Node::Bit { index, .. } | Node::Part { base: index, .. } | Node::Word { index, .. } => {
             if shapes.shape(*index).constant {
-                shapes.push_target(e, out)
-            } else {
-                Ok(())
-            }
-        }
-        Node::Part { base, .. } => {
-            if shapes.shape(*base).constant {
                 shapes.push_target(e, out)
             } else {
                 Ok(())
