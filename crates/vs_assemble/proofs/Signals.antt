@@ -8,16 +8,16 @@ use Rattle.std.proofs.lemmas.List.Elements.{filter-append}
 use Rattle.std.proofs.lemmas.List.Sums.{sum_by-cons}
 use Rattle.vs_four.specs.declared.Bit4.{Bit4}
 use Rattle.vs_four.specs.declared.Bit4.TheVariants.{X, Z}
-use Rattle.vs_design.specs.Expressions.{Signal, range_or_one, signal_length}
+use Rattle.vs_design.specs.Expressions.{Signal, signal_length}
 use Rattle.vs_design.specs.Values.{count_from, bits_of_signal}
 use Rattle.vs_design.specs.Elaborated.{have_bits_from}
 use Rattle.vs_design.specs.Footprints.{contains, without, signals_bits, is_input, is_net, is_memory}
 use Rattle.vs_flat.specs.declared.processes.Signal as F
-use Rattle.vs_flat.specs.Arena.{Arena, bit_count}
+use Rattle.vs_flat.specs.Arena.{Arena, bit_count, signal_length as bits_in}
 use Rattle.vs_flat.specs.Trees.{signal_of, signals_from}
-use Rattle.vs_flat.specs.DesignOf.{arena_signals, design_of}
+use Rattle.vs_flat.specs.DesignOf.{arena_signals}
 use Rattle.vs_program.specs.declared.compiled.Span.{Span}
-use Rattle.vs_program.specs.Compiled.{span_of, shown_signals}
+use Rattle.vs_program.specs.Compiled.{span_of}
 use Rattle.vs_assemble.specs.Plans.{idle_bits}
 use Rattle.vs_assemble.proofs.Lists.{by_test}
 use Rattle.vs_assemble.proofs.Planned.{count_next}
@@ -65,12 +65,12 @@ past_all : (a : Arena) (n count : ℕ) → count ≡ length a.signals → count 
 past_all a n count is past = omega (arith, is, past, length-signals_from 0 a.signals)
 
 -- a signal has no more bits than all
-pub few_bits : (ss : List F.Signal) (n : ℕ) (s : F.Signal) → slice_get ss n ≡ Some s → range_or_one s.range ≤ bit_count ss
+pub few_bits : (ss : List F.Signal) (n : ℕ) (s : F.Signal) → slice_get ss n ≡ Some s → bits_in s ≤ bit_count ss
 few_bits [] n s e = cc
 few_bits (t ∷ ss) zero s e =
-    let same : range_or_one t.range ≡ range_or_one s.range = ap (λ (x : F.Signal). range_or_one x.range) (some_is t s e) in
-    omega (arith, same, sum_by-cons (λ (x : F.Signal). range_or_one x.range) t ss)
-few_bits (t ∷ ss) (suc n) s e = omega (arith, few_bits ss n s e, sum_by-cons (λ (x : F.Signal). range_or_one x.range) t ss)
+    let same : bits_in t ≡ bits_in s = ap bits_in (some_is t s e) in
+    omega (arith, same, sum_by-cons bits_in t ss)
+few_bits (t ∷ ss) (suc n) s e = omega (arith, few_bits ss n s e, sum_by-cons bits_in t ss)
 
 -- its bits lie among all
 low_bits : (k : ℕ) (ss : List Signal) (n : ℕ) (s : Signal) → have_bits_from k ss ≡ true → slice_get ss n ≡ Some s → s.first + signal_length s ≤ k + sum_by signal_length ss
@@ -96,7 +96,7 @@ span_at a spans n s d is e = ap (λ (xs : List Span). get_or xs n d) is ∙ at_m
 pub span_low : (a : Arena) (n : ℕ) (s : F.Signal) (span : Span) → have_bits_from 0 (arena_signals a) ≡ true → sum_by signal_length (arena_signals a) ≤ 1048576 → slice_get a.signals n ≡ Some s → span ≡ span_of (signal_of n s) → span.first + span.length < 4294967296
 span_low a n s span numbered few e is =
     let low = low_bits 0 (arena_signals a) n (signal_of n s) numbered (signal_there a n s e) in
-    let same : span.first + span.length ≡ s.first_bit + range_or_one s.range = ap (λ (x : Span). x.first + x.length) is in
+    let same : span.first + span.length ≡ s.first_bit + bits_in s = ap (λ (x : Span). x.first + x.length) is in
     omega (arith, low, same, few)
 
 -- one more span
@@ -109,13 +109,35 @@ spans_more a n s so_far span at is h =
 pub spans_all : (a : Arena) (n count : ℕ) (so_far : List Span) → count ≡ length a.signals → count ≤ n → so_far ++ map span_of (drop n (arena_signals a)) ≡ map span_of (arena_signals a) → so_far ≡ map span_of (arena_signals a)
 spans_all a n count so_far is past h = made_all (map span_of) refl (arena_signals a) n so_far (map span_of (arena_signals a)) (past_all a n count is past) h
 
--- a flat design has no memory
-pub all_shown : (a : Arena) → shown_signals (design_of a) ≡ (design_of a).signals
-all_shown a = from 0 a.signals
+-- ---- the spans of those that have lines
+
+abbrev pub shown_spans : List Signal → List Span
+shown_spans ss = map span_of (filter (λ s. not (is_memory s)) ss)
+
+-- what a signal adds
+abbrev pub added_span : Signal → List Span
+added_span s = if not (is_memory s) then (span_of s ∷ []) else []
+
+pub shown_more : (a : Arena) (n : ℕ) (s : F.Signal) (so_far new : List Span) → slice_get a.signals n ≡ Some s → new ≡ so_far ++ added_span (signal_of n s)
+    → so_far ++ shown_spans (drop n (arena_signals a)) ≡ shown_spans (arena_signals a) → new ++ shown_spans (drop (n + 1) (arena_signals a)) ≡ shown_spans (arena_signals a)
+shown_more a n s so_far new at is h =
+    ap (λ (xs : List Span). xs ++ shown_spans (drop (n + 1) (arena_signals a))) is
+    ∙ made_more shown_spans (arena_signals a) n (signal_of n s) (added_span (signal_of n s)) so_far (shown_spans (arena_signals a)) (signal_there a n s at) (one (signal_of n s)) h
   where
-    from : (k : ℕ) (ss : List F.Signal) → filter (λ s. not (is_memory s)) (signals_from k ss) ≡ signals_from k ss
-    from k [] = refl
-    from k (s ∷ ss) = ap (λ (xs : List Signal). signal_of k s ∷ xs) (from (suc k) ss)
+    one : (t : Signal) (ys : List Signal) → shown_spans (t ∷ ys) ≡ added_span t ++ shown_spans ys
+    one t ys = by_test (is_memory t)
+        (λ e. ap (λ (c : Bool). map span_of (if not c then (t ∷ filter (λ s. not (is_memory s)) ys) else filter (λ s. not (is_memory s)) ys)) e ∙ sym (ap (λ (c : Bool). (if not c then (span_of t ∷ []) else []) ++ shown_spans ys) e))
+        (λ e. ap (λ (c : Bool). map span_of (if not c then (t ∷ filter (λ s. not (is_memory s)) ys) else filter (λ s. not (is_memory s)) ys)) e ∙ sym (ap (λ (c : Bool). (if not c then (span_of t ∷ []) else []) ++ shown_spans ys) e))
+
+pub shown_all : (a : Arena) (n count : ℕ) (so_far : List Span) → count ≡ length a.signals → count ≤ n → so_far ++ shown_spans (drop n (arena_signals a)) ≡ shown_spans (arena_signals a) → so_far ≡ shown_spans (arena_signals a)
+shown_all a n count so_far is past h = made_all shown_spans refl (arena_signals a) n so_far (shown_spans (arena_signals a)) (past_all a n count is past) h
+
+pub span_shown : (n : ℕ) (s : F.Signal) (so_far new : List Span) (span : Span) → is_memory (signal_of n s) ≡ false → span ≡ span_of (signal_of n s) → new ≡ so_far ++ span ∷ [] → new ≡ so_far ++ added_span (signal_of n s)
+span_shown n s so_far new span e is h =
+    h ∙ ap (λ (x : Span). so_far ++ x ∷ []) is ∙ sym (ap (λ (c : Bool). so_far ++ (if not c then (span_of (signal_of n s) ∷ []) else [])) e)
+
+pub span_left : (n : ℕ) (s : F.Signal) (so_far : List Span) → is_memory (signal_of n s) ≡ true → so_far ≡ so_far ++ added_span (signal_of n s)
+span_left n s so_far e = sym (append-nil so_far) ∙ sym (ap (λ (c : Bool). so_far ++ (if not c then (span_of (signal_of n s) ∷ []) else [])) e)
 
 -- ---- the data inputs
 

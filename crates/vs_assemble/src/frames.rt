@@ -6,13 +6,13 @@ ghost use Rattle.vs_design.specs.Values.{count_from};
 ghost use Rattle.vs_cone.specs.Given.{data_bits};
 ghost use Rattle.vs_flat.specs.DesignOf.{arena_signals, design_of};
 ghost use Rattle.vs_flat.specs.Lawful.{IsLawful};
-ghost use Rattle.vs_program.specs.Compiled.{span_of};
+ghost use Rattle.vs_program.specs.Compiled.{shown_signals, span_of};
 ghost use Rattle.vs_program.specs.Made.{AreClockNets};
 ghost use Rattle.vs_assemble.specs.Plans.{IsFrameOf, begin_bits};
 
 use crate::Frame;
 use std::alloc::{AllocError, Global};
-use vs_flat::{Flat, Signal, lawful_law, length_of};
+use vs_flat::{Flat, Signal, bits_of, lawful_law};
 use vs_four::Bit4;
 use vs_program::Span;
 
@@ -23,9 +23,10 @@ pub fn frame(alloc: Global, flat: &Flat, clock: u32, clocks: Vec<u32>) -> Result
     ensures { IfOk result (λ f. IsFrameOf (design_of flat.now) clock f.bits f.inputs.items f.clocks.items f.initial.items f.signals.items) }
 {
     lawful_law();
-    let signals = spans(alloc, flat)?;
-    let inputs = data_inputs(alloc, flat, clock, signals.as_slice())?;
-    let initial = initial(alloc, flat, signals.as_slice())?;
+    let spans = spans(alloc, flat)?;
+    let signals = shown(alloc, flat, spans.as_slice())?;
+    let inputs = data_inputs(alloc, flat, clock, spans.as_slice())?;
+    let initial = initial(alloc, flat, spans.as_slice())?;
     let bits = (initial.len() - 4) as u32;
     Ok(Frame {
         bits,
@@ -43,13 +44,27 @@ fn spans(alloc: Global, flat: &Flat) -> Result<Vec<Span>, AllocError>
     let mut spans = Vec::new(alloc);
     for n in 0..flat.signal_count() {
         let signal = flat.signal(n);
-        let length = length_of(signal.range);
+        let length = bits_of(signal);
         spans.push(Span {
             first: signal.first_bit,
             length,
         })?;
     }
     Ok(spans)
+}
+
+/// The bits of each signal but the memories (IEEE 1364-2005, 4.9), where these are the bits of all signals.
+fn shown(alloc: Global, flat: &Flat, spans: &[Span]) -> Result<Vec<Span>, AllocError>
+    requires { spans.now ≡ map span_of (design_of flat.now).signals }
+    ensures { IfOk result (λ v. v.items ≡ map span_of (shown_signals (design_of flat.now))) }
+{
+    let mut shown = Vec::new(alloc);
+    for n in 0..flat.signal_count() {
+        if flat.signal(n).words.is_none() {
+            shown.push(spans[n as usize])?;
+        }
+    }
+    Ok(shown)
 }
 
 /// The bits of the inputs of the top but the clock's, where these are the bits of all signals.
