@@ -45,6 +45,7 @@ name_is signal tree n = go n.item
     go (N.Name signal) = refl
     go (N.Bit of range index) = refl
     go (N.Part of range base up width) = refl
+    go (N.Word signal index) = refl
     go (N.Unary op a) = refl
     go (N.Binary op a b) = refl
     go (N.Choice c p q) = refl

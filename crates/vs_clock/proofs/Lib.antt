@@ -1,3 +1,4 @@
+pub mod Single
 pub mod Copies
 pub mod Spreading
 pub mod ByKind

@@ -45,6 +45,7 @@ node_clear signal tree h (N.Literal bits signed sized) = refl
 node_clear signal tree h (N.Name n) = refl
 node_clear signal tree h (N.Bit of range index) = h index
 node_clear signal tree h (N.Part of range base up width) = h base
+node_clear signal tree h (N.Word memory index) = h index
 node_clear signal tree h (N.Unary op a) = h a
 node_clear signal tree h (N.Binary op a b) = neither (calls (tree a)) (calls (tree b)) (h a) (h b)
 node_clear signal tree h (N.Choice c p q) = neither (calls (tree c) || calls (tree p)) (calls (tree q)) (neither (calls (tree c)) (calls (tree p)) (h c) (h p)) (h q)

@@ -12,7 +12,7 @@ ghost use Rattle.vs_clock.specs.Ports.{assign_bits, bit_of, one_bit, port_bits};
 use crate::targets::Targets;
 use std::alloc::{AllocError, Global};
 use vs_design::footprint_law;
-use vs_flat::{Flat, Kind, Node, Port, count_bits, names_law, trees_law};
+use vs_flat::{Flat, Kind, Node, Port, count_bits, names_law, range_bits, trees_law};
 
 /// The signal that an expression is the name of.
 pub(crate) fn named_signal(flat: &Flat, e: u32) -> Option<u32>
@@ -36,15 +36,10 @@ pub(crate) fn only_bit(flat: &Flat, signal: u32) -> Option<u32>
 {
     trees_law();
     let signal = flat.signal(signal);
-    match signal.range {
-        None => Some(signal.first_bit),
-        Some(range) => {
-            if range.left == range.right {
-                Some(signal.first_bit)
-            } else {
-                None
-            }
-        }
+    if range_bits(signal.words) == 1 && range_bits(signal.range) == 1 {
+        Some(signal.first_bit)
+    } else {
+        None
     }
 }
 
