@@ -1,12 +1,9 @@
 -- The laws of scopes without a fault.
-use Rattle.std.proofs.Common.{◌≡◌, ◌+◌, ◌≤◌, ℕ, true, false, not, List, [], ◌∷◌, Option, Some, None, is_none, refl, arith}
+use Rattle.std.proofs.Common.{◌≡◌, ◌+◌, ◌≤◌, ℕ, true, false, List, [], ◌∷◌, Option, Some, None, is_none, refl, arith}
 use Rattle.vs_design.specs.Designs.{Design}
-use Rattle.vs_design.specs.Footprints.{is_memory}
-use Rattle.vs_design.specs.Elaborated.{is_signal}
 use Rattle.vs_grammar.specs.Trees.{Name, Source}
 use Rattle.vs_grammar.specs.Shapes.{Each}
 use Rattle.vs_grammar.specs.Depths.{deepest, item_depth}
-use Rattle.vs_const.proofs.Formed.{split}
 use Rattle.vs_elaborated.specs.Limits.{Limits}
 use Rattle.vs_elaborated.specs.Environments.{Declared, Later, OfSignal, OfParameter, OfGenvar, OfScope, Entry, Env, within, find_entry}
 use Rattle.vs_elaborated.specs.Declarations.{Declaration, Named, Sort, SignalOf, ParameterOf, GenvarSort, InstanceSort, names_of}
@@ -62,7 +59,7 @@ means d es name (Some x) e h = of x.name x.place x.declared e h
   where
     of : (n : List ℕ) (p : ℕ) (y : Declared) → find_entry es name ≡ Some (record { name = n; place = p; declared = y }) → IsDeclaredWith (WithIn d AnyMeaning) y → MeansSignal d es name
     of n p Later e k = absurd k
-    of n p (OfSignal m) e k = record { entry = record { name = n; place = p; declared = OfSignal m }; meaning = m; found = e; declared = refl; there = (split (is_signal d m.signal) (not (is_memory m.signal)) k.0).0 }
+    of n p (OfSignal m) e k = record { entry = record { name = n; place = p; declared = OfSignal m }; meaning = m; found = e; declared = refl; there = k.0 }
     of n p (OfParameter v r) e k = absurd k
     of n p OfGenvar e k = absurd k
     of n p OfScope e k = absurd k

@@ -3,7 +3,7 @@ use Rattle.std.specs.Prelude.{◌≡◌, ◌≤◌, ◌+◌, ℕ, Bool, true, fa
 use Rattle.vs_design.specs.Expressions.{Signal, signal_length, width}
 use Rattle.vs_design.specs.Designs.{Design}
 use Rattle.vs_design.specs.Footprints.{is_net}
-use Rattle.vs_design.specs.Elaborated.{is_signal, is_lawful_range, is_formed, is_formed_target, has_constant_selects, is_formed_process}
+use Rattle.vs_design.specs.Elaborated.{is_signal, is_plain, is_lawful_range, is_formed, is_formed_target, has_constant_selects, is_formed_process}
 use Rattle.vs_grammar.specs.Trees.{Name, Connections, Item, Module, Source}
 use Rattle.vs_grammar.specs.Trees as tree
 use Rattle.vs_grammar.specs.Shapes.{Each, AreConnections, IsGenerateItem, IsModule}
@@ -87,13 +87,13 @@ abbrev pub AreCounted : (scope n b : ℕ) → List Signal → Type 0
 AreCounted scope n b [] = Unit {0}
 AreCounted scope n b (s ∷ ss) = (s.number ≡ n) × (s.first ≡ b) × (s.scope ≡ scope) × AreCounted scope (n + 1) (b + signal_length s) ss
 
--- a name means a signal of the design
+-- a name means a signal of the design, and no memory
 pub record MeansSignal (d : Design) (es : List Entry) (name : List ℕ) : Type 0 where
   pub entry : Entry
   pub meaning : SignalMeaning
   pub found : find_entry es name ≡ Some entry
   pub declared : entry.declared ≡ OfSignal meaning
-  pub there : is_signal d meaning.signal ≡ true
+  pub there : is_plain d meaning.signal ≡ true
 
 -- each port that an instance connects is a signal in it, if there is no fault in it (12.3.3)
 abbrev pub HasPorts : Design → Limits → Source → Piece → Type 0
