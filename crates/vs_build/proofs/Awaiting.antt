@@ -1,12 +1,11 @@
 -- Always blocks without a fault, and the events that they wait for.
-use Rattle.std.proofs.Common.{◌≡◌, ℕ, zero, suc, ◌+◌, ◌<◌, ◌≤◌, Bool, true, false, not, ◌&&◌, nat_lt, List, [], ◌∷◌, ◌++◌, length, get_or, map, take, refl, sym, ap, ◌∙◌, subst, arith}
+use Rattle.std.proofs.Common.{◌≡◌, ℕ, zero, suc, ◌+◌, ◌<◌, ◌≤◌, Bool, true, false, ◌&&◌, nat_lt, List, [], ◌∷◌, ◌++◌, length, get_or, map, take, refl, sym, ap, ◌∙◌, subst, arith}
 use Rattle.std.proofs.Math.Seq.{take-suc, take-length}
 use Rattle.std.proofs.lemmas.Bool.{lt-ltb}
 use Rattle.std.proofs.lemmas.List.{map-append}
 use Rattle.vs_design.specs.Designs as D
 use Rattle.vs_design.specs.Designs.{Design}
 use Rattle.vs_design.specs.Statements as T
-use Rattle.vs_design.specs.Footprints.{is_memory}
 use Rattle.vs_design.specs.Elaborated.{is_signal}
 use Rattle.vs_grammar.specs.Trees as tree
 use Rattle.vs_ast.specs.declared.items.Event.{Event as TextEvent}
@@ -19,12 +18,11 @@ use Rattle.vs_flat.specs.declared.processes.Event.{Event}
 use Rattle.vs_flat.specs.Named.{all_below}
 use Rattle.vs_flat.specs.Trees.{signal_at}
 use Rattle.vs_flat.specs.DesignOf.{event_of}
-use Rattle.vs_flat.proofs.Agreeing.{and_both}
 use Rattle.vs_elaborated.specs.Targets.{meant_signal}
 use Rattle.vs_elaborated.specs.Statements.{event_faults, typed_events, typed_control, typed_statement}
 use Rattle.vs_build.specs.Drafts.{Draft, and_process, AddsStatement, EndsInParts}
 use Rattle.vs_build.specs.Executable.{IsExecutable, IsRunnable, Awaited, awaited_of, awaited, block_process}
-use Rattle.vs_build.proofs.SignalNames.{signal_is, signal_within}
+use Rattle.vs_build.proofs.SignalNames.{signal_is, signal_within, plain_signal}
 use Rattle.vs_build.proofs.Executed.{one_statement, ends_in_parts}
 
 -- ---- one event
@@ -70,7 +68,7 @@ events_all find es i made e h = h ∙ ap (λ n. map (awaited find) (map view.eve
 sound_signal : (d : Design) (place : ℕ) (edge : D.Edge) (m : Meaning) → IsSound d false m → event_faults place edge m ≡ [] → is_signal d (meant_signal m) ≡ true
 sound_signal d place edge (AValue v r) s h = cc
 sound_signal d place edge (Undefined r) s h = cc
-sound_signal d place edge (ASignal t) s h = (and_both (is_signal d t.signal) (not (is_memory t.signal)) s.0).0
+sound_signal d place edge (ASignal t) s h = plain_signal d t.signal s.0
 sound_signal d place edge Another s h = cc
 sound_signal d place edge Unknown s h = cc
 

@@ -1,5 +1,5 @@
 -- A name that means a signal of the design.
-use Rattle.std.proofs.Common.{◌≡◌, ℕ, zero, suc, ◌<◌, Bool, true, false, not, ◌&&◌, ◌==◌, List, [], ◌∷◌, Option, Some, None, is_some, length, get_or, slice_get, refl, sym, ap, ◌∙◌, subst, arith, eqb-true}
+use Rattle.std.proofs.Common.{◌≡◌, ℕ, zero, suc, ◌<◌, Bool, true, false, not, ◌&&◌, ◌==◌, List, [], ◌∷◌, Option, Some, None, length, get_or, slice_get, refl, sym, ap, ◌∙◌, subst, arith, eqb-true}
 use Rattle.vs_four.specs.declared.Range.{Range}
 use Rattle.vs_design.specs.Expressions as E
 use Rattle.vs_design.specs.Expressions.{Signal, Expression}
@@ -13,11 +13,8 @@ use Rattle.vs_const.specs.Meanings.{SignalMeaning, Meaning, ASignal, Means}
 use Rattle.vs_const.specs.Sound.{IsSound}
 use Rattle.vs_const.specs.Typed.{begins_at}
 use Rattle.vs_const.specs.Selects.{name_typed, base_of, signal_base_of, signal_typed, known_signal}
-use Rattle.vs_flat.specs.declared.processes.Signal.{Signal as FlatSignal}
-use Rattle.vs_flat.specs.Arena.{Arena}
-use Rattle.vs_flat.specs.Trees.{signal_at, signals_from}
-use Rattle.vs_flat.specs.DesignOf.{arena_signals, design_of}
-use Rattle.vs_flat.proofs.Agreeing.{and_both, and_true}
+use Rattle.vs_flat.specs.Trees.{signal_at}
+use Rattle.vs_flat.proofs.Agreeing.{and_both}
 use Rattle.vs_build.specs.Drafts.{Draft, AddsExpression}
 use Rattle.vs_build.specs.Buildable.{IsNameable, HasBits, AddsSource}
 
@@ -87,15 +84,9 @@ signal_is d s h = found_is s _ d.signals s.number h
 pub signal_within : (d : Design) (s : Signal) → is_signal d s ≡ true → s.number < length d.signals
 signal_within d s h = within s d.signals s.number h
 
--- and is no memory where it is one of a flat design
-pub signal_plain : (a : Arena) (n : ℕ) → is_signal (design_of a) (signal_at (arena_signals a) n) ≡ true → is_plain (design_of a) (signal_at (arena_signals a) n) ≡ true
-signal_plain a n h = and_true (is_signal (design_of a) (signal_at (arena_signals a) n)) (not (is_memory (signal_at (arena_signals a) n))) h (ap (λ w. not (is_some w)) (wordless 0 a.signals n))
-  where
-    wordless : (first : ℕ) (ss : List FlatSignal) (i : ℕ) → (signal_at (signals_from first ss) i).words ≡ None
-    wordless first [] zero = refl
-    wordless first [] (suc i) = refl
-    wordless first (s ∷ ss) zero = refl
-    wordless first (s ∷ ss) (suc i) = wordless (suc first) ss i
+-- one that is no memory is a signal of the design
+pub plain_signal : (d : Design) (s : Signal) → is_plain d s ≡ true → is_signal d s ≡ true
+plain_signal d s h = (and_both (is_signal d s) (not (is_memory s)) h).0
 
 -- what a name that means a signal says
 pub record MeansThere (d : Design) (needed : Bool) (m : Meaning) (number : ℕ) (range : Option Range) : Type 0 where
@@ -110,7 +101,7 @@ pub record MeansThere (d : Design) (needed : Bool) (m : Meaning) (number : ℕ) 
 
 there : (d : Design) (needed : Bool) (m : Meaning) (s : SignalShape) (t : SignalMeaning) → m ≡ ASignal t → s.number ≡ t.signal.number → s.range ≡ t.signal.range → needed ≡ false → IsSound d false (ASignal t) → MeansThere d needed m s.number s.range
 there d needed m s t e n r f sound =
-    let of_design = (and_both (is_signal d t.signal) (not (is_memory t.signal)) sound.0).0 in
+    let of_design = plain_signal d t.signal sound.0 in
     let at : signal_at d.signals s.number ≡ t.signal = ap (signal_at d.signals) n ∙ signal_is d t.signal of_design in
     record {
       signal = t;

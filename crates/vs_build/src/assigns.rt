@@ -1,7 +1,7 @@
 //! Assigns, written and of input ports (IEEE 1364-2005, 6.1 and 12.3.9.2).
 
 ghost use Rattle.std.specs.Prelude.{◌≡◌, ◌<◌, ◌^◌, true, false, length, OnOk};
-ghost use Rattle.vs_design.specs.Elaborated.{is_signal};
+ghost use Rattle.vs_design.specs.Elaborated.{is_plain};
 ghost use Rattle.vs_ast.specs.Views as view;
 ghost use Rattle.vs_flat.specs.Trees.{signal_at};
 ghost use Rattle.vs_build.specs.Drafts.{and_process};
@@ -65,7 +65,7 @@ pub fn input_port<E: Env>(
 ) -> Result<(), AllocError>
     requires room { length (draft builder.old).design.processes < 2 ^ 16 }
     requires there { inner < length (draft builder.old).design.signals }
-    requires signal { is_signal (draft builder.old).design (signal_at (draft builder.old).design.signals inner) ≡ true }
+    requires signal { is_plain (draft builder.old).design (signal_at (draft builder.old).design.signals inner) ≡ true }
     requires fine { IsBuildable (draft builder.old).design (E.names env.now) false (view.expr e.now) }
     ensures { OnOk result (draft builder.new ≡ and_process (draft builder.old) (input_process place (signal_at (draft builder.old).design.signals inner) (view.expr e.now) (E.names env.now))) }
 {

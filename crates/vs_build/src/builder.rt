@@ -44,6 +44,7 @@ impl Builder {
     ghost use Rattle.vs_flat.specs.Lawful.{IsLawful};
     ghost use Rattle.vs_flat.specs.Targets.{source_of, place_of};
     ghost use Rattle.vs_four.specs.Selects.{one_bit};
+    ghost use Rattle.vs_flat.specs.Arena.{signal_length};
     ghost use Rattle.vs_flat.specs.Trees.{signal_at, signal_of, joined, target_tree, sequence};
 
     /// Nothing. It takes no memory.
@@ -365,7 +366,7 @@ impl Builder {
     /// Adds a signal and answers its number.
     pub fn add_signal(&mut self, signal: Signal) -> Result<u32, AllocError>
         requires scope { IsTrue (nat_lt signal.scope (length (draft self.old).design.scopes)) }
-        requires bits { design_bits (draft self.old).design + E.range_or_one signal.range ≤ 2 ^ 20 }
+        requires bits { design_bits (draft self.old).design + signal_length signal ≤ 2 ^ 20 }
         ensures number { IfOk result (λ n. n ≡ length (draft self.old).design.signals) }
         ensures ok { OnOk result (draft self.new ≡ and_signal (draft self.old) (signal_of (length (draft self.old).design.signals) signal)) }
     {

@@ -1,7 +1,7 @@
 //! Assigns of output ports (IEEE 1364-2005, 12.3.9.2).
 
 ghost use Rattle.std.specs.Prelude.{◌≡◌, ◌<◌, ◌^◌, ◌+◌, true, length, OnOk};
-ghost use Rattle.vs_design.specs.Elaborated.{is_signal};
+ghost use Rattle.vs_design.specs.Elaborated.{is_plain};
 ghost use Rattle.vs_grammar.specs.Depths.{target_depth, targets_depth};
 ghost use Rattle.vs_ast.specs.Views as view;
 ghost use Rattle.vs_flat.specs.Trees.{signal_at};
@@ -52,8 +52,8 @@ fn outputs<E: Env>(
     Ok(())
 }
 
-/// Builds the assign of an output port of an instance whose item begins at `place`: from the inner signal, which is given by its number, to an
-/// expression of the scope around it, which is a target and breaks no rule. An error is want of memory.
+/// Builds the assign of an output port of an instance whose item begins at `place`: from the inner signal, which is given by its number and is no
+/// memory, to an expression of the scope around it, which is a target and breaks no rule. An error is want of memory.
 pub fn output_port<E: Env>(
     builder: &mut Builder,
     alloc: Global,
@@ -64,7 +64,7 @@ pub fn output_port<E: Env>(
 ) -> Result<(), AllocError>
     requires room { length (draft builder.old).design.processes < 2 ^ 16 }
     requires there { inner < length (draft builder.old).design.signals }
-    requires signal { is_signal (draft builder.old).design (signal_at (draft builder.old).design.signals inner) ≡ true }
+    requires signal { is_plain (draft builder.old).design (signal_at (draft builder.old).design.signals inner) ≡ true }
     requires fine { IsOutput (draft builder.old).design (E.names env.now) (view.expr e.now) }
     ensures { OnOk result (draft builder.new ≡ and_process (draft builder.old) (output_process place (signal_at (draft builder.old).design.signals inner) (output_of (view.expr e.now)) (E.names env.now))) }
 {

@@ -5,12 +5,11 @@ use Rattle.vs_ast.specs.Views as view
 use Rattle.vs_const.specs.Expressions.{typed}
 use Rattle.vs_flat.specs.Trees.{signal_at}
 use Rattle.vs_build.specs.Growth.{draft}
-use Rattle.vs_build.proofs.SignalNames.{signal_plain}
 use Rattle.vs_build.proofs.AssignFacts.{value_after, room_after, input_ends}
 use Rattle.vs_build.proofs.assigns.input_port.Goals as goal
 
 pub name-requires-clause-formed : goal.name-requires-clause-formed
-name-requires-clause-formed g c = signal_plain c.args.builder.now.arena c.args.inner c.requires.signal
+name-requires-clause-formed g c = c.requires.signal
 
 pub operand-requires : goal.operand-requires
 operand-requires g c = value_after (draft c.args.builder.now) (draft c.name.new.self) (E.At c.args.place (E.Name (signal_at (draft c.args.builder.now).design.signals c.args.inner))) 1 (g.E.Env.names c.args.env.now) (view.expr c.args.e.now) c.in_ok-name.ensures c.requires.fine

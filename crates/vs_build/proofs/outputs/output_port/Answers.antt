@@ -10,7 +10,6 @@ use Rattle.vs_build.specs.Growth.{draft}
 use Rattle.vs_build.specs.Outputs.{output_of, output_expression}
 use Rattle.vs_build.proofs.Arms.{same_design}
 use Rattle.vs_build.proofs.AssignFacts.{room_after, ok_is}
-use Rattle.vs_build.proofs.SignalNames.{signal_plain}
 use Rattle.vs_build.proofs.OutputFacts.{output_ends, output_is}
 use Rattle.vs_build.proofs.outputs.output_port.Goals as goal
 
@@ -18,7 +17,7 @@ pub name-requires-clause-there : goal.name-requires-clause-there
 name-requires-clause-there g c = subst (λ (d : Design). c.args.inner < length d.signals) (same_design (draft c.args.builder.now) (draft c.output.new.builder) (output_expression (view.expr c.args.e.now) (g.E.Env.names c.args.env.now)) (1 + target_depth (output_of (view.expr c.args.e.now))) c.in_ok-output.ensures) c.requires.there
 
 pub name-requires-clause-formed : goal.name-requires-clause-formed
-name-requires-clause-formed g c = subst (λ (d : Design). is_plain d (signal_at d.signals c.args.inner) ≡ true) (same_design (draft c.args.builder.now) (draft c.output.new.builder) (output_expression (view.expr c.args.e.now) (g.E.Env.names c.args.env.now)) (1 + target_depth (output_of (view.expr c.args.e.now))) c.in_ok-output.ensures) (signal_plain c.args.builder.now.arena c.args.inner c.requires.signal)
+name-requires-clause-formed g c = subst (λ (d : Design). is_plain d (signal_at d.signals c.args.inner) ≡ true) (same_design (draft c.args.builder.now) (draft c.output.new.builder) (output_expression (view.expr c.args.e.now) (g.E.Env.names c.args.env.now)) (1 + target_depth (output_of (view.expr c.args.e.now))) c.in_ok-output.ensures) c.requires.signal
 
 pub assign-requires-clause-room : goal.assign-requires-clause-room
 assign-requires-clause-room g c = room_after (draft c.args.builder.now) (draft c.output.new.builder) (draft c.name.new.self) (output_expression (view.expr c.args.e.now) (g.E.Env.names c.args.env.now)) (E.At c.args.place (E.Name (signal_at (draft c.args.builder.now).design.signals c.args.inner))) (1 + target_depth (output_of (view.expr c.args.e.now))) 1 c.in_ok-output.ensures (subst (λ x. AddsExpression (draft c.output.new.builder) (draft c.name.new.self) (E.At c.args.place (E.Name x)) 1) (ap (λ (d : Design). signal_at d.signals c.args.inner) (sym (same_design (draft c.args.builder.now) (draft c.output.new.builder) (output_expression (view.expr c.args.e.now) (g.E.Env.names c.args.env.now)) (1 + target_depth (output_of (view.expr c.args.e.now))) c.in_ok-output.ensures))) c.in_ok-name.ensures) c.requires.room

@@ -1,9 +1,9 @@
-use Rattle.vs_design.specs.Expressions as E
+use Rattle.vs_flat.specs.Arena.{signal_length}
 use Rattle.vs_build.proofs.Whole.{signal_either, signal_adds, signal_number, signal_room}
 use Rattle.vs_build.proofs.builder.Builder.add_signal.Goals as goal
 
 pub add_signal-requires-clause-bits : goal.add_signal-requires-clause-bits
-add_signal-requires-clause-bits c = signal_room c.self.inside.flat c.self.inside.roots.items c.self.inside.bodies.items c.args.self.now (E.range_or_one c.args.signal.range) c.self.view_is c.requires.bits
+add_signal-requires-clause-bits c = signal_room c.self.inside.flat c.self.inside.roots.items c.self.inside.bodies.items c.args.self.now (signal_length c.args.signal) c.self.view_is c.requires.bits
 
 pub invariant_of-self : goal.invariant_of-self
 invariant_of-self c = signal_either c.add_signal.result c.self.inside.flat c.add_signal.new.self c.self.inside.roots.items c.self.inside.bodies.items c.args.signal c.self.invariant c.add_signal.ensures.ok c.add_signal.ensures.err
