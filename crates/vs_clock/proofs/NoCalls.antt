@@ -1,5 +1,5 @@
 -- An arena's expressions and statements call no function.
-use Rattle.std.proofs.Common.{◌≡◌, ℕ, zero, suc, Bool, true, false, not, ◌||◌, List, [], ◌∷◌, ◌++◌, map, Option, Some, None, refl, ap, ap₂, ◌∙◌, if◌then◌else◌}
+use Rattle.std.proofs.Common.{◌≡◌, ℕ, zero, suc, Bool, true, false, ◌||◌, List, [], ◌∷◌, ◌++◌, map, Option, Some, None, refl, ap, ap₂, ◌∙◌, if◌then◌else◌}
 use Rattle.std.specs.Prelude.{fold, unwrap_or, slice_index_or, ◌==◌}
 use Rattle.vs_design.specs.Expressions as E
 use Rattle.vs_design.specs.Statements as T
@@ -12,7 +12,7 @@ use Rattle.vs_flat.specs.declared.statements.Statement.{Statement}
 use Rattle.vs_flat.specs.declared.statements.Statement.TheVariants as S
 use Rattle.vs_flat.specs.Arena.{Arena}
 use Rattle.vs_flat.specs.Targets.{target_of, both_of}
-use Rattle.vs_flat.specs.Trees.{no_expression, no_signal, first_copy, joined, node_tree, placed_tree, tree_at, with_tree, node_trees, target_tree, branch, sequence, arms_tree, statement_tree, statement_at, with_statement_tree, statement_trees, signal_at}
+use Rattle.vs_flat.specs.Trees.{no_expression, no_signal, first_copy, joined, node_tree, placed_tree, tree_at, with_tree, target_tree, branch, sequence, arms_tree, statement_tree, statement_at, with_statement_tree, signal_at}
 use Rattle.vs_flat.specs.DesignOf.{arena_signals, arena_trees, arena_statements}
 
 neither : (a b : Bool) → a ≡ false → b ≡ false → (a || b) ≡ false

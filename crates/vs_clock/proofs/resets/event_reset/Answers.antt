@@ -1,6 +1,5 @@
-use Rattle.std.proofs.Common.{◌≡◌, rules, sym, ap, ◌∙◌}
+use Rattle.std.proofs.Common.{rules, ap}
 use Rattle.vs_design.specs.Expressions.{Signal}
-use Rattle.vs_flat.specs.Trees.{signal_of}
 use Rattle.vs_clock.proofs.resets.event_reset.Goals as goal
 
 pub returns-in-Some-root : goal.returns-in-Some-root
