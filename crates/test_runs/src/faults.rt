@@ -148,3 +148,22 @@ fn a_put_for_each_round(rt: HostRuntime) -> Result<(), Fail> {
     assert_eq!(rt; (first, second), (4, 6));
     Ok(())
 }
+
+/// Where what was put can't be written out at the places of two waveforms, the first lane is told.
+#[test]
+fn the_first_lane_that_is_not_written_out(rt: HostRuntime) -> Result<(), Fail> {
+    let (_, whole) = run_failing(rt.alloc(), 4096, TWO_LANES, &[])?;
+    let mut both = false;
+    for n in 0..whole.calls() {
+        let (code, desk) = run_failing(rt.alloc(), 4096, TWO_LANES, &[n, n.saturating_add(1)])?;
+        let all_put = [2000, 2001]
+            .iter()
+            .all(|place| desk.written(*place) == whole.written(*place));
+        if desk.faults() == 2 && all_put {
+            both = true;
+            assert_eq!(rt; (code, desk.written(0)), (6, b"refused 5 WriteFault place=2000\n".as_slice()));
+        }
+    }
+    assert!(rt; both);
+    Ok(())
+}
