@@ -161,7 +161,10 @@ fn the_first_lane_that_is_not_written_out(rt: HostRuntime) -> Result<(), Fail> {
             .all(|place| desk.written(*place) == whole.written(*place));
         if desk.faults() == 2 && all_put {
             both = true;
-            assert_eq!(rt; (code, desk.written(0)), (6, b"refused 5 WriteFault place=2000\n".as_slice()));
+            assert_eq!(rt;
+                (code, desk.written(0)),
+                (6, b"refused 5 WriteFault place=2000\n".as_slice())
+            );
         }
     }
     assert!(rt; both);

@@ -65,12 +65,7 @@ impl<R: Files + Print> HostDesk<R> {
 const BLOCK: usize = 65536;
 
 /// Opens the file at a path, to read it, or to write it from its start after it was made or emptied. A file that is read has no block.
-fn open<R: Files>(
-    rt: &R,
-    alloc: Global,
-    path: &str,
-    way: Way,
-) -> io::Result<BufWriter<R::File>> {
+fn open<R: Files>(rt: &R, alloc: Global, path: &str, way: Way) -> io::Result<BufWriter<R::File>> {
     match way {
         Way::Read => BufWriter::with_capacity(alloc, 0, File::open(rt, path)?),
         Way::Write => BufWriter::with_capacity(alloc, BLOCK, File::create(rt, path)?),

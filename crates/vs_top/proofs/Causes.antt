@@ -151,6 +151,7 @@ more_fault old mid new o place other h f = record { other = other; rose = rose o
   where
     later : Rose mid.faults new.faults
     later = f.fault other
+
     rose : (o : Outcome) → ShowsFault old mid o → Rose old.faults new.faults
     rose (Done s) e = rose_from old.faults mid.faults new.faults e later
     rose (Refused r) e = rose_from old.faults mid.faults new.faults e later
