@@ -17,7 +17,7 @@ use Rattle.vs_design.specs.Expressions.{Expression, Signal, sign, signal_length,
 use Rattle.vs_design.specs.Footprints.{contains, read_bits, target_bits, somes}
 use Rattle.vs_design.specs.Sizes.{distinct}
 use Rattle.vs_design.specs.Statements.{Target, Whole, PartOf, WordOf, Both, target_width}
-use Rattle.vs_design.specs.Values.{constant_value, count_from, bits_of_signal, address_place, spread, word_places}
+use Rattle.vs_design.specs.Values.{constant_value, count_from, address_place, spread, word_places}
 use Rattle.vs_program.specs.Lowered.{Layout, home}
 use Rattle.vs_code.specs.Calls.{Call, IsCall, call_cost, length_of}
 use Rattle.vs_lower.specs.Assigned.{AddsRun, IsAssignReady, assign_most}
@@ -32,7 +32,7 @@ use Rattle.vs_lower.proofs.Differing.{bits_within, bits_alike}
 use Rattle.vs_lower.proofs.Distinct.{Once, distinct_most}
 use Rattle.vs_lower.proofs.Homing.{home_at, picked_homes, home_calls}
 use Rattle.vs_lower.proofs.Joining.{picked}
-use Rattle.vs_lower.proofs.Partwise.{constant_part_bits}
+use Rattle.vs_lower.proofs.Partwise.{chosen_bits}
 use Rattle.vs_lower.proofs.Placing.{by_test}
 use Rattle.vs_lower.proofs.Processes.{assign_lowered, copies_cost, homes_env}
 use Rattle.vs_values.proofs.Unary.{not_true}
@@ -91,14 +91,14 @@ fixed_length : (t : Target) → has_constant_selects t ≡ true → length (targ
 fixed_length (Whole signal) h = omega (arith, signal_bits_length (signal_length signal) signal.first)
 fixed_length (PartOf signal part index) h =
     let ps = places part (sign index) (constant_value index) in
-    omega (arith, ap (λ (bs : List ℕ). length bs) (constant_part_bits signal part index h), somes_length (bits_at signal ps), bits_at_length signal ps, places_length part (sign index) (constant_value index))
+    omega (arith, ap (λ (bs : List ℕ). length bs) (chosen_bits signal index ps true h), somes_length (bits_at signal ps), bits_at_length signal ps, places_length part (sign index) (constant_value index))
   where
     bits_at_length : (signal : Signal) (ps : List (Option ℕ)) → length (bits_at signal ps) ≡ length ps
     bits_at_length signal ps = length-map ps _
 fixed_length (WordOf signal index) h =
     let v = constant_value index in
     let ps = word_places signal (sign index) v in
-    let is : target_bits (WordOf signal index) ≡ somes (bits_at signal ps) = ap (λ (b : Bool). if b then somes (bits_at signal ps) else bits_of_signal signal) h in
+    let is : target_bits (WordOf signal index) ≡ somes (bits_at signal ps) = chosen_bits signal index ps true h in
     omega (arith, ap (λ (bs : List ℕ). length bs) is, somes_length (bits_at signal ps), length-map ps (λ p. option_map (λ n. signal.first + n) p), spread_length (word_length signal) (address_place signal (sign index) v))
 fixed_length (Both high low) h =
     let p = both_true (has_constant_selects high) (has_constant_selects low) h in

@@ -8,8 +8,9 @@ use Rattle.std.proofs.lemmas.List.Elements.{All-nil, All-cons}
 use Rattle.vs_four.specs.Logic.{BitList}
 use Rattle.vs_net.specs.Network as N
 use Rattle.vs_design.specs.Expressions.{Expression, Signal, width, sign}
-use Rattle.vs_design.specs.Fits.{fits_target}
-use Rattle.vs_design.specs.Statements.{Target, Whole, PartOf}
+use Rattle.vs_design.specs.Fits.{is_fit}
+use Rattle.vs_design.specs.Sizes.{weight}
+use Rattle.vs_design.specs.Statements.{Target, Whole, PartOf, WordOf}
 use Rattle.vs_design.specs.TreeLaws.{ConstantValue}
 use Rattle.vs_four.specs.Selects.{Part}
 use Rattle.vs_lower.specs.declared.leaves.Leaf.{Leaf}
@@ -18,19 +19,17 @@ use Rattle.vs_values.specs.Coded.{Coding}
 use Rattle.vs_lower.specs.Done.{index_values}
 use Rattle.vs_values.specs.Ready.{IsReady}
 use Rattle.vs_values.specs.Valued.{AddsValue}
-use Rattle.vs_lower.specs.Written.{HasRoom, IsIndexed, AreIndexed, index_weight, AddsIndex, AddsIndices}
+use Rattle.vs_lower.specs.Written.{HasRoom, IsIndex, IsIndexed, AreIndexed, index_weight, AddsIndex, AddsIndices}
 use Rattle.vs_values.proofs.Adding.{values_none, values_more, values_as, env_more}
-use Rattle.vs_lower.proofs.Partwise.{fit_part}
 use Rattle.vs_values.proofs.Readying.{stores_of, two_added}
 use Rattle.vs_values.proofs.Taking.{index_is}
 
 -- ---- of one part
 
-pub ready_index_of : (bits : ℕ) (env : List ℕ) (code : Coding) (signal : Signal) (part : Part) (index : Expression) (w : ℕ) → w ≡ width index → fits_target (PartOf signal part index) ≡ true
-    → HasRoom bits env code (index_weight (PartOf signal part index)) → IsReady bits env code index w
-ready_index_of bits env code signal part index w e f r =
-    let p = fit_part signal part index f in
-    subst (IsReady bits env code index) (sym e) (record { is_env = r.is_env; has_bits = r.has_bits; fit = p.index_fit; wide = omega arith; at_most_64 = p.index_most; slots = r.slots; few = r.few })
+pub ready_index_of : (bits : ℕ) (env : List ℕ) (code : Coding) (target : Target) (index : Expression) (w : ℕ) → w ≡ width index → is_fit index ≡ true → width index ≤ 64 → index_weight target ≡ weight index (width index)
+    → HasRoom bits env code (index_weight target) → IsReady bits env code index w
+ready_index_of bits env code target index w e f most weighs r =
+    subst (IsReady bits env code index) (sym e) (record { is_env = r.is_env; has_bits = r.has_bits; fit = f; wide = omega arith; at_most_64 = most; slots = omega (arith, r.slots, weighs); few = omega (arith, r.few, weighs) })
 
 pub adds_whole_index : (bits : ℕ) (env : List ℕ) (code : Coding) (signal : Signal) (ti : List ℕ) (w : ℕ) → HasRoom bits env code w → ti ≡ [] → AddsIndex env code code (Whole signal) ti
 adds_whole_index bits env code signal ti w r e =
@@ -42,14 +41,16 @@ adds_whole_index bits env code signal ti w r e =
       indexed = tt;
     })
 
+index_known : ConstantValue → (env : List ℕ) (code after : Coding) (index : Expression) (ti : List ℕ) (v : AddsValue env code.calls code.next after.calls after.next index (width index) (sign index) ti) → IsIndex index ti
+index_known law env code after index ti v = record { long = v.value.length; constant = v.value.constant; fixed = λ h. index_is law env code.next index v.calls ti after.next v.value h }
+
 pub adds_part_index : ConstantValue → (env : List ℕ) (code after : Coding) (signal : Signal) (part : Part) (index : Expression) (ti : List ℕ)
     → AddsValue env code.calls code.next after.calls after.next index (width index) (sign index) ti → AddsIndex env code after (PartOf signal part index) ti
-adds_part_index law env code after signal part index ti v = record {
-  calls = v.calls;
-  is = v.is;
-  values = v.value.values;
-  indexed = record { long = v.value.length; constant = v.value.constant; fixed = λ h. index_is law env code.next index v.calls ti after.next v.value h };
-}
+adds_part_index law env code after signal part index ti v = record { calls = v.calls; is = v.is; values = v.value.values; indexed = index_known law env code after index ti v }
+
+pub adds_word_index : ConstantValue → (env : List ℕ) (code after : Coding) (signal : Signal) (index : Expression) (ti : List ℕ)
+    → AddsValue env code.calls code.next after.calls after.next index (width index) (sign index) ti → AddsIndex env code after (WordOf signal index) ti
+adds_word_index law env code after signal index ti v = record { calls = v.calls; is = v.is; values = v.value.values; indexed = index_known law env code after index ti v }
 
 -- ---- of several
 

@@ -14,6 +14,7 @@ mod Parted
 mod Scattered
 mod Fallible
 mod Partwise
+mod Wordwise
 mod Indexing
 mod Rejoined
 mod Settling

@@ -1,22 +1,23 @@
 -- The write to one part of a target.
-use Rattle.std.proofs.Common.{◌≡◌, ℕ, ◌+◌, ◌*◌, ◌<◌, ◌≤◌, ◌^◌, Bool, true, false, ◌&&◌, ◌||◌, ◌==◌, nat_le, if◌then◌else◌, List, [], ◌∷◌, map, length, slice_index, Option, Some, None, sym, ap, ◌∙◌, subst, refl, arith, append-nil, eqb-true, true≢false}
+use Rattle.std.proofs.Common.{◌≡◌, ℕ, zero, suc, ◌+◌, ◌*◌, ◌<◌, ◌≤◌, ◌^◌, Bool, true, false, ◌&&◌, ◌||◌, ◌==◌, nat_le, if◌then◌else◌, List, [], ◌∷◌, map, length, slice_index, Option, Some, None, sym, ap, ◌∙◌, subst, refl, arith, append-nil, eqb-true, true≢false}
 use Rattle.std.specs.List.{All, range_with_len}
 use Rattle.std.proofs.lemmas.List.{length-map}
-use Rattle.std.proofs.lemmas.List.Elements.{All-nil, All-cons, All-head, All-tail, All-weaker, All-map}
+use Rattle.std.proofs.lemmas.List.Elements.{All-nil, All-cons, All-head, All-tail, All-weaker, All-map, All-replicate}
 use Rattle.std.proofs.lemmas.List.FromFn.{length-range_with_len}
 use Rattle.vs_four.specs.Logic.{BitList}
-use Rattle.vs_four.specs.Selects.{Part, range_length, places}
-use Rattle.vs_design.specs.Expressions.{Signal, signal_length, Expression, width, sign, is_constant}
-use Rattle.vs_design.specs.Values.{bits_of_signal, constant_value}
-use Rattle.vs_design.specs.Statements.{Target, Whole, PartOf}
+use Rattle.vs_four.specs.Selects.{Part, range_length, places, write_places}
+use Rattle.vs_design.specs.Expressions.{Signal, signal_length, word_length, addresses, Expression, width, sign, is_constant}
+use Rattle.vs_design.specs.Values.{bits_of_signal, count_from, constant_value, address_place, spread, word_places}
+use Rattle.vs_design.specs.Statements.{Target, Whole, PartOf, WordOf}
 use Rattle.vs_design.specs.Bodies.{bits_at}
 use Rattle.vs_design.specs.Fits.{fits_64, fits_target, is_fit, fits, divides_constants}
 use Rattle.vs_design.specs.Footprints.{contains, somes, target_bits}
+use Rattle.vs_design.specs.Sizes.{address_weight}
+use Rattle.vs_kern_select.specs.declared.costs.Kernel.{Kernel}
 use Rattle.vs_kern_select.specs.declared.costs.Kernel.TheVariants as S
 use Rattle.vs_code.specs.declared.kernels.AnyKernel.TheVariants as K
 use Rattle.vs_code.specs.Kernels.{takes}
 use Rattle.vs_code.specs.Calls.{Call, call_cost}
-use Rattle.vs_values.specs.Added.{fresh_call}
 use Rattle.vs_values.specs.Coded.{Coding, with_call}
 use Rattle.vs_values.specs.Constants.{constant_bits, AreConstant}
 use Rattle.vs_values.specs.Environments.{placed}
@@ -30,7 +31,8 @@ use Rattle.vs_values.proofs.Named.{all_run, length_count}
 use Rattle.vs_lower.proofs.Placing.{by_test}
 use Rattle.vs_values.proofs.Readying.{fits_64_is, fits_length}
 use Rattle.vs_values.proofs.Selecting.{selection}
-use Rattle.vs_lower.proofs.Targets.{IsWithin, places_within, in_run, part_written, part_call_written, write_call}
+use Rattle.vs_values.proofs.Wording.{memory_long, word_ends, place_less, word_pays}
+use Rattle.vs_lower.proofs.Targets.{IsWithin, IsSelecting, WritesPlaces, places_within, in_run, fixed_written, called_written, write_call}
 use Rattle.vs_values.proofs.Unary.{not_true}
 use Rattle.vs_values.proofs.Values.{both_true}
 
@@ -50,13 +52,21 @@ fit_part signal part index h =
     let l = fits_length index (both_true (fits index) (divides_constants index) x.1).0 in
     record { some = w.0; most = w.1; range = eqb-true (range_length part.range) (signal_length signal) y.1; index_fit = x.1; index_some = l.0; index_most = l.1 }
 
+pub record IsFitWord (signal : Signal) (index : Expression) : Type 0 where
+  pub some : 1 ≤ word_length signal
+  pub most : word_length signal ≤ 64
+  pub index_fit : is_fit index ≡ true
+  pub index_some : 1 ≤ width index
+  pub index_most : width index ≤ 64
+
+pub fit_word : (signal : Signal) (index : Expression) → fits_target (WordOf signal index) ≡ true → IsFitWord signal index
+fit_word signal index h =
+    let x = both_true (fits_64 (word_length signal)) (is_fit index) h in
+    let w = fits_64_is (word_length signal) x.0 in
+    let l = fits_length index (both_true (fits index) (divides_constants index) x.1).0 in
+    record { some = w.0; most = w.1; index_fit = x.1; index_some = l.0; index_most = l.1 }
+
 -- ---- which bits a part has
-
-variable_bits : (signal : Signal) (part : Part) (index : Expression) → is_constant index ≡ false → target_bits (PartOf signal part index) ≡ bits_of_signal signal
-variable_bits signal part index h = ap (λ (b : Bool). if b then somes (bits_at signal (places part (sign index) (constant_value index))) else bits_of_signal signal) h
-
-pub constant_part_bits : (signal : Signal) (part : Part) (index : Expression) → is_constant index ≡ true → target_bits (PartOf signal part index) ≡ somes (bits_at signal (places part (sign index) (constant_value index)))
-constant_part_bits signal part index h = ap (λ (b : Bool). if b then somes (bits_at signal (places part (sign index) (constant_value index))) else bits_of_signal signal) h
 
 not_or : (a b : Bool) → (a || b) ≡ true → a ≡ false → b ≡ true
 not_or true b h e = cc
@@ -71,15 +81,51 @@ somes_within signal (Some q ∷ ps) b h c =
     (λ e. ap (contains (bits_of_signal signal)) (eqb-true b (signal.first + q) e) ∙ in_run (signal_length signal) q signal.first (All-head (IsWithin (signal_length signal)) (Some q) ps h))
     (λ e. somes_within signal ps b (All-tail (IsWithin (signal_length signal)) (Some q) ps h) (not_or (b == signal.first + q) (contains (somes (bits_at signal ps)) b) c e))
 
-fixed_within : (signal : Signal) (part : Part) (index : Expression) (ti : List ℕ) → range_length part.range ≡ signal_length signal → IsIndex index ti → (q : Bool) → is_constant index ≡ q
-    → (b : ℕ) → contains (target_bits (PartOf signal part index)) b ≡ false → contains (somes (bits_at signal (places part (sign index) (constant_bits ti)))) b ≡ false
-fixed_within signal part index ti r i true e b h =
-    ap (λ (v : BitList). contains (somes (bits_at signal (places part (sign index) v))) b) (i.fixed e) ∙ ap (λ (bs : List ℕ). contains bs b) (sym (constant_part_bits signal part index e)) ∙ h
-fixed_within signal part index ti r i false e b h =
-    let ps = places part (sign index) (constant_bits ti) in
-    let within : All (IsWithin (signal_length signal)) ps = subst (λ (k : ℕ). All (IsWithin k) ps) r (places_within part (sign index) (constant_bits ti)) in
-    let out : contains (bits_of_signal signal) b ≡ false = ap (λ (bs : List ℕ). contains bs b) (sym (variable_bits signal part index e)) ∙ h in
-    not_true (contains (somes (bits_at signal ps)) b) (λ c. true≢false (sym (somes_within signal ps b within c) ∙ out))
+-- by an index in constants' slots no other bits are written
+fixed_within : (target : Target) (signal : Signal) (index : Expression) (at : BitList → List (Option ℕ)) (ti : List ℕ) → IsSelecting target signal index at → IsIndex index ti → (q : Bool) → is_constant index ≡ q
+    → (b : ℕ) → contains (target_bits target) b ≡ false → contains (somes (bits_at signal (at (constant_bits ti)))) b ≡ false
+fixed_within target signal index at ti s i true e b h =
+    ap (λ (v : BitList). contains (somes (bits_at signal (at v))) b) (i.fixed e) ∙ ap (λ (bs : List ℕ). contains bs b) (sym (s.fixed e)) ∙ h
+fixed_within target signal index at ti s i false e b h =
+    let ps = at (constant_bits ti) in
+    let out : contains (bits_of_signal signal) b ≡ false = ap (λ (bs : List ℕ). contains bs b) (sym (s.varied e)) ∙ h in
+    not_true (contains (somes (bits_at signal ps)) b) (λ c. true≢false (sym (somes_within signal ps b (s.within (constant_bits ti)) c) ∙ out))
+
+pub chosen_bits : (signal : Signal) (index : Expression) (ps : List (Option ℕ)) (b : Bool) → is_constant index ≡ b → (if is_constant index then somes (bits_at signal ps) else bits_of_signal signal) ≡ (if b then somes (bits_at signal ps) else bits_of_signal signal)
+chosen_bits signal index ps b h = ap (λ (k : Bool). if k then somes (bits_at signal ps) else bits_of_signal signal) h
+
+pub part_selecting : (signal : Signal) (part : Part) (index : Expression) → range_length part.range ≡ signal_length signal → IsSelecting (PartOf signal part index) signal index (places part (sign index))
+part_selecting signal part index r = record {
+  writes = λ v state. refl;
+  values = λ state. refl;
+  fixed = λ h. chosen_bits signal index (places part (sign index) (constant_value index)) true h;
+  varied = λ h. chosen_bits signal index (places part (sign index) (constant_value index)) false h;
+  within = λ x. subst (λ (k : ℕ). All (IsWithin k) (places part (sign index) x)) r (places_within part (sign index) x);
+}
+
+run_within : (n first k : ℕ) → first + k ≤ n → All (IsWithin n) (map Some (count_from first k))
+run_within n first zero h = All-nil (IsWithin n)
+run_within n first (suc k) h = All-cons (IsWithin n) (Some first) (map Some (count_from (suc first) k)) (omega arith) (run_within n (suc first) k (omega arith))
+
+place_within : (signal : Signal) (s : Bool) (address : BitList) → IsWithin (range_length (addresses signal)) (address_place signal s address)
+place_within signal s address = at (address_place signal s address) refl
+  where
+    at : (o : Option ℕ) → address_place signal s address ≡ o → IsWithin (range_length (addresses signal)) o
+    at None e = tt
+    at (Some n) e = place_less signal s address n e
+
+word_within : (signal : Signal) (place : Option ℕ) → IsWithin (range_length (addresses signal)) place → All (IsWithin (signal_length signal)) (spread (word_length signal) place)
+word_within signal None h = All-replicate (IsWithin (signal_length signal)) (word_length signal) None tt
+word_within signal (Some n) h = run_within (signal_length signal) (n * word_length signal) (word_length signal) (word_ends signal n h)
+
+pub word_selecting : (signal : Signal) (index : Expression) → IsSelecting (WordOf signal index) signal index (word_places signal (sign index))
+word_selecting signal index = record {
+  writes = λ v state. refl;
+  values = λ state. refl;
+  fixed = λ h. chosen_bits signal index (word_places signal (sign index) (constant_value index)) true h;
+  varied = λ h. chosen_bits signal index (word_places signal (sign index) (constant_value index)) false h;
+  within = λ x. word_within signal (address_place signal (sign index) x) (place_within signal (sign index) x);
+}
 
 -- ---- what is added
 
@@ -102,88 +148,119 @@ whole_adds bits env env_after code signal ti tv w r below is = record {
   written = subst (λ (x : List ℕ). IsWritten env code.next (Whole signal) (ti ∷ []) tv 0 [] x code.next) (sym is) (whole_written env code.next signal ti tv r.is_env below);
 }
 
-pub fixed_adds : (bits : ℕ) (env env_after : List ℕ) (code : Coding) (signal : Signal) (part : Part) (index : Expression) (s : Bool) (k : ℕ) (ti tv : List ℕ) (w : ℕ) → HasRoom bits env code w → All (λ slot. slot < code.next) tv
-    → fits_target (PartOf signal part index) ≡ true → AreConstant ti → IsIndex index ti → s ≡ sign index → k ≡ part.width
-    → env_after ≡ placed env (bits_at signal (places (record { range = part.range; up = part.up; width = k }) s (constant_bits ti))) tv → AddsWrites env env_after code code (PartOf signal part index) (ti ∷ []) tv (write_weight (PartOf signal part index))
-fixed_adds bits env env_after code signal part index s k ti tv w r below f c i same long is =
-    let p = fit_part signal part index f in
-    let at : env_after ≡ placed env (bits_at signal (places part (sign index) (constant_bits ti))) tv =
-    is ∙ ap (λ (n : ℕ). placed env (bits_at signal (places (record { range = part.range; up = part.up; width = n }) s (constant_bits ti))) tv) long
-    ∙ ap (λ (b : Bool). placed env (bits_at signal (places part b (constant_bits ti))) tv) same in
+pub fixed_adds : (bits : ℕ) (env env_after : List ℕ) (code : Coding) (target : Target) (signal : Signal) (index : Expression) (at : BitList → List (Option ℕ)) (ti tv : List ℕ) → IsSelecting target signal index at
+    → HasRoom bits env code (write_weight target) → All (λ slot. slot < code.next) tv → AreConstant ti → IsIndex index ti
+    → env_after ≡ placed env (bits_at signal (at (constant_bits ti))) tv → AddsWrites env env_after code code target (ti ∷ []) tv (write_weight target)
+fixed_adds bits env env_after code target signal index at ti tv s r below c i is = record {
+  calls = [];
+  is = sym (append-nil code.calls);
+  written = subst (λ (x : List ℕ). IsWritten env code.next target (ti ∷ []) tv (write_weight target) [] x code.next) (sym is)
+      (written_more env code.next target (ti ∷ []) tv 0 (write_weight target) [] _ code.next (omega arith)
+      (fixed_written env code.next target signal index at ti tv s r.is_env below c (fixed_within target signal index at ti s i (is_constant index) refl)));
+}
+
+-- ---- the kernel of a write
+
+-- it writes values of this length to a target by a variable index
+pub record IsWriter (kernel : Kernel) (target : Target) (signal : Signal) (index : Expression) (at : BitList → List (Option ℕ)) (long : ℕ) : Type 0 where
+  pub selecting : IsSelecting target signal index at
+  pub operator : WritesPlaces (K.Select kernel) long at
+  pub takes : takes (K.Select kernel) (signal_length signal ∷ width index ∷ long ∷ signal_length signal ∷ []) ≡ true
+  pub cost : (env ti tv : List ℕ) (mark : ℕ) → call_cost (write_call (K.Select kernel) signal env ti tv mark) ≡ signal_length signal
+  pub weighs : is_constant index ≡ false → signal_length signal ≤ write_weight target
+  pub index_most : width index ≤ 64
+  pub most : long ≤ 64
+
+part_takes : (n m i k : ℕ) → n ≡ m → 1 ≤ i → 1 ≤ k → (n == m && nat_le 1 i && nat_le 1 k && n == n) ≡ true
+part_takes n m i k e h l = grind arith
+
+part_pays : (n k i : ℕ) → 1 ≤ k → n ≤ k * (n * (i + 1))
+part_pays n k i h = grind arith
+
+pub part_writer : (signal : Signal) (part : Part) (index : Expression) → fits_target (PartOf signal part index) ≡ true → IsWriter (S.Write (selection part (sign index))) (PartOf signal part index) signal index (places part (sign index)) part.width
+part_writer signal part index h =
+    let p = fit_part signal part index h in
+    let n = signal_length signal in
     record {
-      calls = [];
-      is = sym (append-nil code.calls);
-      written = subst (λ (x : List ℕ). IsWritten env code.next (PartOf signal part index) (ti ∷ []) tv (write_weight (PartOf signal part index)) [] x code.next) (sym at)
-          (written_more env code.next (PartOf signal part index) (ti ∷ []) tv 0 (write_weight (PartOf signal part index)) [] _ code.next (omega arith)
-          (part_written env code.next signal part index ti tv r.is_env below c (fixed_within signal part index ti p.range i (is_constant index) refl)));
+      selecting = part_selecting signal part index p.range;
+      operator = λ n a x v l. ap (λ (k : ℕ). write_places a (places (record { range = part.range; up = part.up; width = k }) (sign index) x) v) l;
+      takes = part_takes n (range_length part.range) (width index) part.width (sym p.range) p.index_some p.some;
+      cost = λ env ti tv mark. length-range_with_len mark n;
+      weighs = λ e.
+          let weight : write_weight (PartOf signal part index) ≡ part.width * (range_length part.range * (width index + 1)) = ap (λ (b : Bool). if b then 0 else part.width * (range_length part.range * (width index + 1))) e in
+          omega (arith, weight, part_pays (range_length part.range) part.width (width index) p.some, p.range);
+      index_most = p.index_most;
+      most = p.most;
     }
 
-write_takes : (n i k : ℕ) → 1 ≤ i → 1 ≤ k → (n == n && nat_le 1 i && nat_le 1 k && n == n) ≡ true
-write_takes n i k h l = grind arith
-
-pays : (n k i : ℕ) → 1 ≤ k → n ≤ k * (n * (i + 1))
-pays n k i h = grind arith
-
-variable_weight : (signal : Signal) (part : Part) (index : Expression) → is_constant index ≡ false → write_weight (PartOf signal part index) ≡ part.width * (range_length part.range * (width index + 1))
-variable_weight signal part index h = ap (λ (b : Bool). if b then 0 else part.width * (range_length part.range * (width index + 1))) h
+pub word_writer : (signal : Signal) (index : Expression) → fits_target (WordOf signal index) ≡ true → IsWriter (S.WriteWord (record { range = addresses signal; signed = sign index })) (WordOf signal index) signal index (word_places signal (sign index)) (word_length signal)
+word_writer signal index h =
+    let p = fit_word signal index h in
+    let n = signal_length signal in
+    record {
+      selecting = word_selecting signal index;
+      operator = λ n a x v l. ap (λ (k : ℕ). write_places a (spread k (address_place signal (sign index) x)) v) l;
+      takes = part_takes n (range_length (addresses signal) * word_length signal) (width index) (word_length signal) (memory_long signal) p.index_some p.some;
+      cost = λ env ti tv mark. length-range_with_len mark n;
+      weighs = λ e.
+          let weight : write_weight (WordOf signal index) ≡ address_weight signal (width index) = ap (λ (b : Bool). if b then 0 else address_weight signal (width index)) e in
+          omega (arith, weight, word_pays signal (width index) p.index_some);
+      index_most = p.index_most;
+      most = p.most;
+    }
 
 -- what the call of a write needs
-pub record CanWrite (env : List ℕ) (code : Coding) (signal : Signal) (part : Part) (index : Expression) (ti tv : List ℕ) : Type 0 where
-  pub call : IsCallable code (K.Select (S.Write (selection part (sign index)))) (picked env (bits_of_signal signal) ∷ ti ∷ tv ∷ []) (signal_length signal)
+pub record CanWrite (env : List ℕ) (code : Coding) (kernel : Kernel) (target : Target) (signal : Signal) (index : Expression) (ti tv : List ℕ) : Type 0 where
+  pub call : IsCallable code (K.Select kernel) (picked env (bits_of_signal signal) ∷ ti ∷ tv ∷ []) (signal_length signal)
   pub short : signal_length signal < 2 ^ 32
-  pub cost : call_cost (write_call signal part (sign index) env ti tv code.next) ≡ signal_length signal
-  pub weighs : signal_length signal ≤ write_weight (PartOf signal part index)
+  pub weighs : signal_length signal ≤ write_weight target
   pub inside : All (λ b. b < length env) (bits_of_signal signal)
   pub varies : is_constant index ≡ false
 
-pub can_write : (bits : ℕ) (env : List ℕ) (code : Coding) (signal : Signal) (part : Part) (index : Expression) (ti tv : List ℕ) → HasRoom bits env code (write_weight (PartOf signal part index))
-    → signal.first + signal_length signal ≤ bits → All (λ slot. slot < code.next) ti → All (λ slot. slot < code.next) tv → length tv ≡ part.width
-    → fits_target (PartOf signal part index) ≡ true → (AreConstant ti → ⊥) → IsIndex index ti → CanWrite env code signal part index ti tv
-can_write bits env code signal part index ti tv r in_bits below_i below_v long f variable i =
-    let p = fit_part signal part index f in
+pub can_write : (bits : ℕ) (env : List ℕ) (code : Coding) (kernel : Kernel) (target : Target) (signal : Signal) (index : Expression) (at : BitList → List (Option ℕ)) (long : ℕ) (ti tv : List ℕ)
+    → IsWriter kernel target signal index at long → HasRoom bits env code (write_weight target)
+    → signal.first + signal_length signal ≤ bits → All (λ slot. slot < code.next) ti → All (λ slot. slot < code.next) tv → length tv ≡ long
+    → (AreConstant ti → ⊥) → IsIndex index ti → CanWrite env code kernel target signal index ti tv
+can_write bits env code kernel target signal index at long ti tv p r in_bits below_i below_v e variable i =
     let n = signal_length signal in
-    let kernel = K.Select (S.Write (selection part (sign index))) in
     let args = picked env (bits_of_signal signal) ∷ ti ∷ tv ∷ [] in
     let varies = not_true (is_constant index) (λ h. variable (i.constant h)) in
-    let weighs : n ≤ write_weight (PartOf signal part index) = omega (arith, variable_weight signal part index varies, pays (range_length part.range) part.width (width index) p.some, p.range) in
+    let weighs = p.weighs varies in
     let wide : length (picked env (bits_of_signal signal)) ≡ n = length-map (bits_of_signal signal) (slice_index env) ∙ length_count signal.first n in
     let inside : All (λ b. b < length env) (bits_of_signal signal) = all_run signal.first n (length env) (omega (arith, r.has_bits)) in
     let below : List ℕ → Type 0 = λ to. All (λ slot. slot < code.next) to in
     let under : below (picked env (bits_of_signal signal)) = All-map (λ slot. slot < code.next) (slice_index env) (bits_of_signal signal) (All-weaker (λ b. b < length env) (λ b. slice_index env b < code.next) (λ b l. r.is_env.below b 0 l) (bits_of_signal signal) inside) in
-    let same : (n ∷ width index ∷ part.width ∷ n ∷ []) ≡ (length (picked env (bits_of_signal signal)) ∷ length ti ∷ length tv ∷ n ∷ []) =
-    ap (λ (k : ℕ). k ∷ width index ∷ part.width ∷ n ∷ []) (sym wide) ∙ ap (λ (k : ℕ). length (picked env (bits_of_signal signal)) ∷ k ∷ part.width ∷ n ∷ []) (sym i.long) ∙ ap (λ (k : ℕ). length (picked env (bits_of_signal signal)) ∷ length ti ∷ k ∷ n ∷ []) (sym long) in
+    let same : (n ∷ width index ∷ long ∷ n ∷ []) ≡ (length (picked env (bits_of_signal signal)) ∷ length ti ∷ length tv ∷ n ∷ []) =
+    ap (λ (k : ℕ). k ∷ width index ∷ long ∷ n ∷ []) (sym wide) ∙ ap (λ (k : ℕ). length (picked env (bits_of_signal signal)) ∷ k ∷ long ∷ n ∷ []) (sym i.long) ∙ ap (λ (k : ℕ). length (picked env (bits_of_signal signal)) ∷ length ti ∷ k ∷ n ∷ []) (sym e) in
     let Q : ℕ → Type 0 = λ k. k < 2 ^ 32 in
     let short : n < 2 ^ 32 = omega (arith, r.slots, weighs) in
-    let shorts : All Q (n ∷ width index ∷ part.width ∷ n ∷ []) = All-cons Q n (width index ∷ part.width ∷ n ∷ []) short (All-cons Q (width index) (part.width ∷ n ∷ []) (omega (arith, p.index_most)) (All-cons Q part.width (n ∷ []) (omega (arith, p.most)) (All-cons Q n [] short (All-nil Q)))) in
-    let ok : takes kernel (n ∷ width index ∷ part.width ∷ n ∷ []) ≡ true =
-    ap (λ (m : ℕ). n == m && nat_le 1 (width index) && nat_le 1 part.width && n == n) p.range ∙ write_takes n (width index) part.width p.index_some p.some in
-    let cost : call_cost (fresh_call kernel args code.next n) ≡ n = length-range_with_len code.next n in
+    let shorts : All Q (n ∷ width index ∷ long ∷ n ∷ []) = All-cons Q n (width index ∷ long ∷ n ∷ []) short (All-cons Q (width index) (long ∷ n ∷ []) (omega (arith, p.index_most)) (All-cons Q long (n ∷ []) (omega (arith, p.most)) (All-cons Q n [] short (All-nil Q)))) in
+    let cost = p.cost env ti tv code.next in
     record {
       call = record {
-        is = is_fresh_call kernel args code.next n (subst (λ ls. takes kernel ls ≡ true) same ok) (subst (All Q) same shorts) (omega arith) (omega (arith, r.slots, weighs))
+        is = is_fresh_call (K.Select kernel) args code.next n (subst (λ ls. takes (K.Select kernel) ls ≡ true) same p.takes) (subst (All Q) same shorts) (omega arith) (omega (arith, r.slots, weighs))
             (All-cons below (picked env (bits_of_signal signal)) (ti ∷ tv ∷ []) under (All-cons below ti (tv ∷ []) below_i (All-cons below tv [] below_v (All-nil below))));
         slots = omega (arith, r.slots, weighs);
         few = omega (arith, r.few, weighs, cost);
       };
       short = short;
-      cost = cost;
       weighs = weighs;
       inside = inside;
       varies = varies;
     }
 
-pub called_adds : (bits : ℕ) (env env_after : List ℕ) (code after : Coding) (signal : Signal) (part : Part) (index : Expression) (ti tv : List ℕ) → HasRoom bits env code (write_weight (PartOf signal part index))
-    → All (λ slot. slot < code.next) ti → All (λ slot. slot < code.next) tv → length tv ≡ part.width → fits_target (PartOf signal part index) ≡ true
-    → CanWrite env code signal part index ti tv
-    → after ≡ with_call code (K.Select (S.Write (selection part (sign index)))) (picked env (bits_of_signal signal) ∷ ti ∷ tv ∷ []) (signal_length signal)
+pub called_adds : (bits : ℕ) (env env_after : List ℕ) (code after : Coding) (kernel : Kernel) (target : Target) (signal : Signal) (index : Expression) (at : BitList → List (Option ℕ)) (long : ℕ) (ti tv : List ℕ)
+    → IsWriter kernel target signal index at long → HasRoom bits env code (write_weight target)
+    → All (λ slot. slot < code.next) ti → All (λ slot. slot < code.next) tv → length tv ≡ long
+    → CanWrite env code kernel target signal index ti tv
+    → after ≡ with_call code (K.Select kernel) (picked env (bits_of_signal signal) ∷ ti ∷ tv ∷ []) (signal_length signal)
     → env_after ≡ placed env (map Some (bits_of_signal signal)) (range_with_len code.next (signal_length signal))
-    → AddsWrites env env_after code after (PartOf signal part index) (ti ∷ []) tv (write_weight (PartOf signal part index))
-called_adds bits env env_after code after signal part index ti tv r below_i below_v long f can call is =
-    let p = fit_part signal part index f in
-    let target = PartOf signal part index in
-    let one = write_call signal part (sign index) env ti tv code.next in
-    let out = λ (b : ℕ) (h : contains (target_bits target) b ≡ false). ap (λ (bs : List ℕ). contains bs b) (sym (variable_bits signal part index can.varies)) ∙ h in
-    let written = part_call_written env code.next signal part index ti tv (write_weight target) r.is_env below_i below_v long p.range can.inside out can.call.is (omega (arith, can.cost)) (omega (arith, can.cost, can.weighs)) in
+    → AddsWrites env env_after code after target (ti ∷ []) tv (write_weight target)
+called_adds bits env env_after code after kernel target signal index at long ti tv p r below_i below_v e can call is =
+    let one = write_call (K.Select kernel) signal env ti tv code.next in
+    let cost = p.cost env ti tv code.next in
+    let out = λ (b : ℕ) (h : contains (target_bits target) b ≡ false). ap (λ (bs : List ℕ). contains bs b) (sym (p.selecting.varied can.varies)) ∙ h in
+    let written = called_written env code.next target signal index at (K.Select kernel) long ti tv (write_weight target) p.selecting p.operator r.is_env below_i below_v e can.inside out can.call.is (omega (arith, cost)) (omega (arith, cost, can.weighs)) in
     record {
       calls = one ∷ [];
       is = ap (λ (x : Coding). x.calls) call;

@@ -8,16 +8,16 @@ use Rattle.vs_four.specs.declared.Bit4.{Bit4}
 use Rattle.vs_four.specs.Logic.{BitList, all_known}
 use Rattle.vs_four.specs.Numbers.{integer}
 use Rattle.vs_four.specs.Selects.{Part, range_length, below, place_of, indices, places, write_places}
-use Rattle.vs_net.specs.Network.{State, put, write_all, is_written}
-use Rattle.vs_design.specs.Expressions.{Signal, signal_length, Expression, sign}
-use Rattle.vs_design.specs.Values.{bits_of_signal, count_from, own_value}
-use Rattle.vs_design.specs.Statements.{Target, PartOf, Both, target_width}
+use Rattle.vs_net.specs.Network.{State, Write, put, write_all, is_written}
+use Rattle.vs_design.specs.Expressions.{Signal, signal_length, Expression, is_constant}
+use Rattle.vs_design.specs.Values.{bits_of_signal, count_from, own_value, constant_value}
+use Rattle.vs_design.specs.Statements.{Target, Both, target_width}
 use Rattle.vs_design.specs.Bodies.{bits_at, pair_up, target_writes}
 use Rattle.vs_design.specs.Footprints.{contains, somes, target_bits}
 use Rattle.vs_code.specs.Calls as C
 use Rattle.vs_code.specs.Calls.{IsCall, call_cost}
-use Rattle.vs_code.specs.declared.kernels.AnyKernel.TheVariants as K
-use Rattle.vs_kern_select.specs.declared.costs.Kernel.TheVariants as S
+use Rattle.vs_code.specs.declared.kernels.AnyKernel.{AnyKernel}
+use Rattle.vs_code.specs.Kernels.{operator_of}
 use Rattle.vs_values.specs.Added.{IsEnv, Holds, vectors, fresh_call}
 use Rattle.vs_values.specs.Constants.{constant_bits, AreConstant}
 use Rattle.vs_values.specs.Environments.{placed}
@@ -25,7 +25,6 @@ use Rattle.vs_lower.specs.Done.{index_values, IsWritten}
 use Rattle.vs_values.proofs.Adding.{called_parts, one_called, added_call, added_none, added_more, holds_after, vectors_stay, vector_stays}
 use Rattle.vs_values.proofs.Folding.{bits_are}
 use Rattle.vs_values.proofs.Lists.{range_below, range_from}
-use Rattle.vs_values.proofs.Selecting.{selection}
 use Rattle.vs_lower.proofs.Joining.{picked, picked_are}
 use Rattle.vs_lower.proofs.Placing.{by_test, placed_all, placed_holds, placed_other, placed_from, put-same, put-other, write_all_at, write_all_covered, write_all-append, written_as}
 use Rattle.vs_values.proofs.Environments.{placed_length}
@@ -47,11 +46,25 @@ placed_none env (Some c ∷ ps) (t ∷ ts) b h =
 one_list : (x y : BitList) → (x ∷ []) ≡ (y ∷ []) → x ≡ y
 one_list x y h = cc
 
-pub part_written : (env : List ℕ) (mark : ℕ) (signal : Signal) (part : Part) (index : Expression) (ti tv : List ℕ) → IsEnv env mark → All (λ slot. slot < mark) tv → AreConstant ti
-    → ((b : ℕ) → contains (target_bits (PartOf signal part index)) b ≡ false → contains (somes (bits_at signal (places part (sign index) (constant_bits ti)))) b ≡ false)
-    → IsWritten env mark (PartOf signal part index) (ti ∷ []) tv 0 [] (placed env (bits_at signal (places part (sign index) (constant_bits ti))) tv) mark
-part_written env mark signal part index ti tv e below fixed within =
-    let ps = bits_at signal (places part (sign index) (constant_bits ti)) in
+-- a place that is there is below this length
+abbrev pub IsWithin : ℕ → Option ℕ → Type 0
+IsWithin n None = Unit {0}
+IsWithin n (Some q) = q < n
+
+-- a target by an index: by the index's value it has bits of its signal at these places
+pub record IsSelecting (target : Target) (signal : Signal) (index : Expression) (at : BitList → List (Option ℕ)) : Type 0 where
+  pub writes : (v : BitList) (state : State) → target_writes target v state ≡ pair_up (bits_at signal (at (own_value index state))) v
+  pub values : (state : State) → index_values target state ≡ own_value index state ∷ []
+  pub fixed : is_constant index ≡ true → target_bits target ≡ somes (bits_at signal (at (constant_value index)))
+  pub varied : is_constant index ≡ false → target_bits target ≡ bits_of_signal signal
+  pub within : (x : BitList) → All (IsWithin (signal_length signal)) (at x)
+
+pub fixed_written : (env : List ℕ) (mark : ℕ) (target : Target) (signal : Signal) (index : Expression) (at : BitList → List (Option ℕ)) (ti tv : List ℕ) → IsSelecting target signal index at
+    → IsEnv env mark → All (λ slot. slot < mark) tv → AreConstant ti
+    → ((b : ℕ) → contains (target_bits target) b ≡ false → contains (somes (bits_at signal (at (constant_bits ti)))) b ≡ false)
+    → IsWritten env mark target (ti ∷ []) tv 0 [] (placed env (bits_at signal (at (constant_bits ti))) tv) mark
+fixed_written env mark target signal index at ti tv q e below fixed within =
+    let ps = bits_at signal (at (constant_bits ti)) in
     record {
       added = added_none mark;
       is_env = record { constants = e.constants; below = placed_all (λ slot. slot < mark) env ps tv below e.below };
@@ -59,10 +72,11 @@ part_written env mark signal part index ti tv e below fixed within =
       kept = λ b h. placed_none env ps tv b (within b h);
       from = λ b l. from_placed (placed_from env ps tv b l);
       values = λ before after state base h is called.
-          let index_is : constant_bits ti ≡ own_value index state = sym (bits_are before ti h.constants fixed) ∙ one_list (map before ti) (own_value index state) is in
-          subst (λ (s : C.State). Holds (placed env ps tv) s (write_all base (target_writes (PartOf signal part index) (map before tv) state))) (sym (fun_ext called))
-          (subst (λ (x : BitList). Holds (placed env ps tv) before (write_all base (pair_up (bits_at signal (places part (sign index) x)) (map before tv)))) index_is
-          (placed_holds env before base ps tv h));
+          let index_is : constant_bits ti ≡ own_value index state = sym (bits_are before ti h.constants fixed) ∙ one_list (map before ti) (own_value index state) (is ∙ q.values state) in
+          let writes : pair_up ps (map before tv) ≡ target_writes target (map before tv) state =
+          ap (λ (x : BitList). pair_up (bits_at signal (at x)) (map before tv)) index_is ∙ sym (q.writes (map before tv) state) in
+          subst (λ (s : C.State). Holds (placed env ps tv) s (write_all base (target_writes target (map before tv) state))) (sym (fun_ext called))
+          (subst (λ (ws : List Write). Holds (placed env ps tv) before (write_all base ws)) writes (placed_holds env before base ps tv h));
     }
   where
     from_placed : {A B D : Type 0} → A ⊎ B → A ⊎ (B ⊎ D)
@@ -158,11 +172,6 @@ both_written env mark high low th tl tv c env1 n most d env2 p more below_v belo
 
 -- ---- by a variable index: the whole signal is written again
 
--- a place that is there is below this length
-abbrev pub IsWithin : ℕ → Option ℕ → Type 0
-IsWithin n None = Unit {0}
-IsWithin n (Some q) = q < n
-
 below_within : (n : ℕ) (z : ℤ) → IsWithin n (below n z)
 below_within n (pos k) = by_test (nat_lt k n) (λ e. subst (λ (b : Bool). IsWithin n (if b then Some k else None)) (sym e) (lt_is k n e)) (λ e. subst (λ (b : Bool). IsWithin n (if b then Some k else None)) (sym e) tt)
   where
@@ -249,27 +258,31 @@ select_writes first n (Some q ∷ ps) (v ∷ vs) s b h =
     not_here false e h2 = e
     not_here true e h2 = absurd (true≢false (sym (ap (contains (count_from first n)) (eqb-true b (first + q) e) ∙ in_run n q first (All-head (IsWithin n) (Some q) ps h)) ∙ h2))
 
--- the write of a select by its kernel
-abbrev pub write_call : Signal → Part → Bool → List ℕ → List ℕ → List ℕ → ℕ → C.Call
-write_call signal part s env ti tv mark = fresh_call (K.Select (S.Write (selection part s))) (picked env (bits_of_signal signal) ∷ ti ∷ tv ∷ []) mark (signal_length signal)
+-- the write of a value to bits of a signal by a kernel
+abbrev pub write_call : AnyKernel → Signal → List ℕ → List ℕ → List ℕ → ℕ → C.Call
+write_call kernel signal env ti tv mark = fresh_call kernel (picked env (bits_of_signal signal) ∷ ti ∷ tv ∷ []) mark (signal_length signal)
 
-pub part_call_written : (env : List ℕ) (mark : ℕ) (signal : Signal) (part : Part) (index : Expression) (ti tv : List ℕ) (more : ℕ)
-    → IsEnv env mark → All (λ slot. slot < mark) ti → All (λ slot. slot < mark) tv → length tv ≡ part.width → range_length part.range ≡ signal_length signal
+-- it gives the vector with a value of this length at these places
+abbrev pub WritesPlaces : AnyKernel → ℕ → (BitList → List (Option ℕ)) → Type 0
+WritesPlaces kernel width at = (n : ℕ) (a x v : BitList) → length v ≡ width → operator_of kernel n (a ∷ x ∷ v ∷ []) ≡ write_places a (at x) v
+
+pub called_written : (env : List ℕ) (mark : ℕ) (target : Target) (signal : Signal) (index : Expression) (at : BitList → List (Option ℕ)) (kernel : AnyKernel) (width : ℕ) (ti tv : List ℕ) (more : ℕ)
+    → IsSelecting target signal index at → WritesPlaces kernel width at
+    → IsEnv env mark → All (λ slot. slot < mark) ti → All (λ slot. slot < mark) tv → length tv ≡ width
     → All (λ b. b < length env) (bits_of_signal signal)
-    → ((b : ℕ) → contains (target_bits (PartOf signal part index)) b ≡ false → contains (bits_of_signal signal) b ≡ false)
-    → IsCall (write_call signal part (sign index) env ti tv mark) → signal_length signal ≤ call_cost (write_call signal part (sign index) env ti tv mark) → call_cost (write_call signal part (sign index) env ti tv mark) ≤ more
-    → IsWritten env mark (PartOf signal part index) (ti ∷ []) tv more (write_call signal part (sign index) env ti tv mark ∷ []) (placed env (map Some (bits_of_signal signal)) (range_with_len mark (signal_length signal))) (mark + signal_length signal)
-part_call_written env mark signal part index ti tv more e below_i below_v long same_range inside within is paid stores =
+    → ((b : ℕ) → contains (target_bits target) b ≡ false → contains (bits_of_signal signal) b ≡ false)
+    → IsCall (write_call kernel signal env ti tv mark) → signal_length signal ≤ call_cost (write_call kernel signal env ti tv mark) → call_cost (write_call kernel signal env ti tv mark) ≤ more
+    → IsWritten env mark target (ti ∷ []) tv more (write_call kernel signal env ti tv mark ∷ []) (placed env (map Some (bits_of_signal signal)) (range_with_len mark (signal_length signal))) (mark + signal_length signal)
+called_written env mark target signal index at kernel width ti tv more q operator e below_i below_v long inside within is paid stores =
     let bits = bits_of_signal signal in
     let n = signal_length signal in
     let to = range_with_len mark n in
     let top = mark + n in
-    let s = sign index in
-    let call = write_call signal part s env ti tv mark in
+    let call = write_call kernel signal env ti tv mark in
     let P : List ℕ → Type 0 = λ xs. All (λ slot. slot < mark) xs in
     let picked_below : P (picked env bits) = All-map (λ slot. slot < mark) (slice_index env) bits (All-weaker (λ b. b < length env) (λ b. slice_index env b < mark) (λ b l. e.below b 0 l) bits inside) in
     let args_below : All P (picked env bits ∷ ti ∷ tv ∷ []) = All-cons P (picked env bits) (ti ∷ tv ∷ []) picked_below (All-cons P ti (tv ∷ []) below_i (All-cons P tv [] below_v (All-nil P))) in
-    let one = added_call (K.Select (S.Write (selection part s))) (picked env bits ∷ ti ∷ tv ∷ []) mark n more is args_below (omega (arith, paid)) stores in
+    let one = added_call kernel (picked env bits ∷ ti ∷ tv ∷ []) mark n more is args_below (omega (arith, paid)) stores in
     record {
       added = one;
       is_env = record {
@@ -281,20 +294,18 @@ part_call_written env mark signal part index ti tv more e below_i below_v long s
       from = λ b l. new_from (placed_from env (map Some bits) to b l);
       values = λ before after state base h index_is called.
           let done = one_called call before after called in
-          let iv : map before ti ≡ own_value index state = one_list (map before ti) (own_value index state) index_is in
+          let iv : map before ti ≡ own_value index state = one_list (map before ti) (own_value index state) (index_is ∙ q.values state) in
           let v = map before tv in
-          let width_is : length v ≡ part.width = length-map tv before ∙ long in
-          let ps = places part s (own_value index state) in
+          let ps = at (own_value index state) in
           let value_is : map after to ≡ write_places (map base bits) ps v =
           done.value
-          ∙ ap (λ (k : ℕ). write_places (map before (picked env bits)) (places (record { range = part.range; up = part.up; width = k }) s (map before ti)) v) width_is
-          ∙ ap (λ (x : BitList). write_places x (places part s (map before ti)) v) (picked_are env before base bits inside h)
-          ∙ ap (λ (x : BitList). write_places (map base bits) (places part s x) v) iv in
+          ∙ operator (length to) (map before (picked env bits)) (map before ti) v (length-map tv before ∙ long)
+          ∙ ap (λ (x : BitList). write_places x (at (map before ti)) v) (picked_are env before base bits inside h)
+          ∙ ap (λ (x : BitList). write_places (map base bits) (at x) v) iv in
           let held = placed_holds env after base (map Some bits) to (holds_after env (call ∷ []) mark before after base e one.fresh called h) in
-          let within_n : All (IsWithin n) ps = subst (λ (k : ℕ). All (IsWithin k) ps) same_range (places_within part s (own_value index state)) in
           record {
             constants = held.constants;
-            bits = λ b l. held.bits b l ∙ ap (λ (x : BitList). write_all base (pair_up (map Some bits) x) b) value_is ∙ sym (select_writes signal.first n ps v base b within_n);
+            bits = λ b l. held.bits b l ∙ ap (λ (x : BitList). write_all base (pair_up (map Some bits) x) b) value_is ∙ sym (select_writes signal.first n ps v base b (q.within (own_value index state))) ∙ ap (λ (ws : List Write). write_all base ws b) (sym (q.writes v state));
           };
     }
   where

@@ -23,11 +23,13 @@ joined_target (t ∷ next ∷ ts) = Both t (joined_target (next ∷ ts))
 abbrev pub leaf_target : Arena → Leaf → Target
 leaf_target a (L.Whole signal) = Whole (signal_at (arena_signals a) signal)
 leaf_target a (L.Select signal range up width index) = PartOf (signal_at (arena_signals a) signal) (record { range = range; up = up; width = width }) (tree_at (arena_trees a) index)
+leaf_target a (L.Word signal index) = WordOf (signal_at (arena_signals a) signal) (tree_at (arena_trees a) index)
 
 -- what it names is there
 abbrev pub IsInside : Arena → Leaf → Type 0
 IsInside a (L.Whole signal) = signal < length a.signals
 IsInside a (L.Select signal range up width index) = (signal < length a.signals) × (index < length a.nodes)
+IsInside a (L.Word signal index) = (signal < length a.signals) × (index < length a.nodes)
 
 -- parts of these targets stand behind those before
 pub record AddsLeaves (a : Arena) (old new : List Leaf) (targets : List Target) : Type 0 where

@@ -34,6 +34,11 @@ fn index(
             let to = lower(alloc, typed, env, index, own, code)?;
             Ok(to)
         }
+        Leaf::Word { index, .. } => {
+            let own = own(typed, index);
+            let to = lower(alloc, typed, env, index, own, code)?;
+            Ok(to)
+        }
     }
 }
 

@@ -13,7 +13,7 @@ use vs_four::Range;
 use vs_shape::first_copy;
 use vs_typed::Typed;
 
-/// A part of a target that is no concatenation (IEEE 1364-2005, table 6-1): a whole signal, or a bit or part select of one. Signals and indices are named by their numbers.
+/// A part of a target that is no concatenation (IEEE 1364-2005, table 6-1): a whole signal, a bit or part select of one, or a word of a memory. Signals and indices are named by their numbers.
 #[derive(Clone, Copy)]
 pub(crate) enum Leaf {
     Whole {
@@ -24,6 +24,10 @@ pub(crate) enum Leaf {
         range: Range,
         up: bool,
         width: u32,
+        index: u32,
+    },
+    Word {
+        signal: u32,
         index: u32,
     },
 }
@@ -66,6 +70,13 @@ fn add_leaves(typed: &Typed, target: u32, leaves: &mut Vec<Leaf>) -> Result<(), 
             up,
             width,
         } => add_select(typed, *of, *range, *up, *width, *base, leaves),
+        Node::Word { signal, index } => {
+            leaves.push(Leaf::Word {
+                signal: *signal,
+                index: *index,
+            })?;
+            Ok(())
+        }
         Node::Join { parts } => {
             let parts = first_copy(parts.as_slice());
             for part in parts {

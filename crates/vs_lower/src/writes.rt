@@ -3,33 +3,32 @@
 ghost use Rattle.std.specs.Prelude.{◌≡◌, ℕ, ◌+◌, ◌<◌, ◌≤◌, ◌^◌, [], ◌∷◌, map, length, slice_index, slice_index_or, sum_by, All, IfOk, OnOk, Some, None, true, option_map};
 ghost use Rattle.std.specs.List.{range_with_len};
 ghost use Rattle.vs_four.specs.Selects as selects;
-ghost use Rattle.vs_design.specs.Expressions.{signal_length};
+ghost use Rattle.vs_design.specs.Expressions.{signal_length, word_length};
 ghost use Rattle.vs_design.specs.Bodies.{bits_at};
 ghost use Rattle.vs_design.specs.Fits.{fits_target};
-ghost use Rattle.vs_design.specs.Statements.{target_width};
-ghost use Rattle.vs_design.specs.Values.{bits_of_signal};
+ghost use Rattle.vs_design.specs.Statements.{WordOf, target_width};
+ghost use Rattle.vs_design.specs.Values.{bits_of_signal, word_places};
 ghost use Rattle.vs_flat.specs.Arena.{bit_count};
-ghost use Rattle.vs_flat.specs.DesignOf.{arena_signals};
-ghost use Rattle.vs_flat.specs.Trees.{signal_at};
-ghost use Rattle.vs_kern_select.specs.declared.costs.Kernel.TheVariants as S;
-ghost use Rattle.vs_code.specs.declared.kernels.AnyKernel.TheVariants as K;
+ghost use Rattle.vs_flat.specs.DesignOf.{arena_signals, arena_trees};
+ghost use Rattle.vs_flat.specs.Trees.{signal_at, tree_at};
 ghost use Rattle.vs_values.specs.Coded.{with_call};
 ghost use Rattle.vs_values.specs.Constants.{constant_bits};
 ghost use Rattle.vs_values.specs.Environments.{placed, put_at};
 ghost use Rattle.vs_lower.specs.Leaves.{IsInside, joined_target, leaf_target};
 ghost use Rattle.vs_values.specs.Made.{IsCallable};
-ghost use Rattle.vs_lower.specs.Written.{AddsWrites, AreIndexed, HasRoom, IsIndexed, write_weight};
+ghost use Rattle.vs_lower.specs.Written.{AddsWrites, AreIndexed, HasRoom, IsIndex, IsIndexed, write_weight};
 
 use crate::leaves::Leaf;
 use std::alloc::{AllocError, Global};
 use vs_base::List;
 use vs_code::AnyKernel;
-use vs_flat::{lawful_law, length_of, trees_law};
-use vs_kern_select::Selection;
+use vs_flat::{bits_of, lawful_law, trees_law};
+use vs_kern_select::{Addresses, Selection};
 use vs_shape::{Part, Places, places_of};
 use vs_typed::Typed;
 use vs_values::{
-    Code, Environment, are_constant, constant_bits, place, signal_bits, signal_slots, triple,
+    Code, Environment, are_constant, constant_bits, first_of_word, memory_addresses, numbers,
+    place, signal_bits, signal_slots, triple, word_width,
 };
 
 /// Gives the bit at a place of the signal that begins with bit `first` another slot, where there is that place.
@@ -117,27 +116,52 @@ fn place_signal(
     place(env, bits.as_slice(), value)
 }
 
+/// Gives the bits of a word by a constant address these slots; none where no word has it.
+fn place_word(
+    alloc: Global,
+    typed: &Typed,
+    env: &mut Environment,
+    signal: u32,
+    signed: bool,
+    address: &[u32],
+    value: &[u32],
+) -> Result<(), AllocError>
+    requires signal { signal < length typed.now.signals }
+    requires bits { length env.old ≡ bit_count typed.now.signals }
+    requires alike { length value.now ≡ word_length (signal_at (arena_signals typed.now) signal) }
+    requires some_address { 1 ≤ length address.now }
+    requires address { length address.now ≤ 64 }
+    ensures { OnOk result (env.new ≡ placed env.old (bits_at (signal_at (arena_signals typed.now) signal) (word_places (signal_at (arena_signals typed.now) signal) signed (constant_bits address.now))) value.now) }
+{
+    trees_law();
+    lawful_law();
+    typed.flat();
+    let first = first_of_word(alloc, typed, signal, signed, address)?;
+    match first {
+        Some(bit) => {
+            let bits = numbers(alloc, bit, value.len() as u32)?;
+            place(env, bits.as_slice(), value)
+        }
+        None => Ok(()),
+    }
+}
+
 /// Calls the kernel of a write by a variable index, and answers the new slots of the signal.
 fn written_slots(
     alloc: Global,
-    selection: Selection,
+    kernel: AnyKernel,
     under: Vec<u32>,
     index: Vec<u32>,
     value: Vec<u32>,
     width: u32,
     code: &mut Code,
 ) -> Result<Vec<u32>, AllocError>
-    requires call { IsCallable code.old (K.Select (S.Write selection)) (under.items ∷ index.items ∷ value.items ∷ []) width }
+    requires call { IsCallable code.old kernel (under.items ∷ index.items ∷ value.items ∷ []) width }
     ensures to { IfOk result (λ to. to.items ≡ range_with_len code.old.next width) }
-    ensures ok { OnOk result (code.new ≡ with_call code.old (K.Select (S.Write selection)) (under.items ∷ index.items ∷ value.items ∷ []) width) }
+    ensures ok { OnOk result (code.new ≡ with_call code.old kernel (under.items ∷ index.items ∷ value.items ∷ []) width) }
 {
     let args = triple(alloc, under, index, value)?;
-    code.call(
-        alloc,
-        AnyKernel::Select(vs_kern_select::Kernel::Write(selection)),
-        args,
-        width,
-    )
+    code.call(alloc, kernel, args, width)
 }
 
 /// Writes by a variable index: each bit of the signal gets a new slot.
@@ -146,7 +170,7 @@ fn call_write(
     typed: &Typed,
     env: &mut Environment,
     signal: u32,
-    selection: Selection,
+    kernel: AnyKernel,
     index: &[u32],
     value: &[u32],
     code: &mut Code,
@@ -154,16 +178,49 @@ fn call_write(
     requires signal { signal < length typed.now.signals }
     requires bits { length env.old ≡ bit_count typed.now.signals }
     requires few { signal_length (signal_at (arena_signals typed.now) signal) < 2 ^ 32 }
-    requires call { IsCallable code.old (K.Select (S.Write selection)) (map (slice_index env.old) (bits_of_signal (signal_at (arena_signals typed.now) signal)) ∷ index.now ∷ value.now ∷ []) (signal_length (signal_at (arena_signals typed.now) signal)) }
-    ensures code { OnOk result (code.new ≡ with_call code.old (K.Select (S.Write selection)) (map (slice_index env.old) (bits_of_signal (signal_at (arena_signals typed.now) signal)) ∷ index.now ∷ value.now ∷ []) (signal_length (signal_at (arena_signals typed.now) signal))) }
+    requires call { IsCallable code.old kernel (map (slice_index env.old) (bits_of_signal (signal_at (arena_signals typed.now) signal)) ∷ index.now ∷ value.now ∷ []) (signal_length (signal_at (arena_signals typed.now) signal)) }
+    ensures code { OnOk result (code.new ≡ with_call code.old kernel (map (slice_index env.old) (bits_of_signal (signal_at (arena_signals typed.now) signal)) ∷ index.now ∷ value.now ∷ []) (signal_length (signal_at (arena_signals typed.now) signal))) }
     ensures env { OnOk result (env.new ≡ placed env.old (map Some (bits_of_signal (signal_at (arena_signals typed.now) signal))) (range_with_len code.old.next (signal_length (signal_at (arena_signals typed.now) signal)))) }
 {
     let under = signal_slots(alloc, typed, env, signal)?;
     let width = under.as_slice().len() as u32;
     let at = Vec::from_slice(alloc, index)?;
     let with = Vec::from_slice(alloc, value)?;
-    let to = written_slots(alloc, selection, under, at, with, width, code)?;
+    let to = written_slots(alloc, kernel, under, at, with, width, code)?;
     place_signal(alloc, typed, env, signal, to.as_slice())?;
+    Ok(())
+}
+
+/// Adds the calls of a write to a word of a memory, whose address is in these slots.
+fn write_word(
+    alloc: Global,
+    typed: &Typed,
+    env: &mut Environment,
+    signal: u32,
+    at: u32,
+    address: &[u32],
+    value: &[u32],
+    code: &mut Code,
+) -> Result<(), AllocError>
+    requires signal { signal < length typed.now.signals }
+    requires at { at < length typed.now.nodes }
+    requires room { HasRoom (bit_count typed.now.signals) env.old code.old (write_weight (WordOf (signal_at (arena_signals typed.now) signal) (tree_at (arena_trees typed.now) at))) }
+    requires fit { fits_target (WordOf (signal_at (arena_signals typed.now) signal) (tree_at (arena_trees typed.now) at)) ≡ true }
+    requires long { length value.now ≡ word_length (signal_at (arena_signals typed.now) signal) }
+    requires value { All (λ slot. slot < code.old.next) value.now }
+    requires address { All (λ slot. slot < code.old.next) address.now }
+    requires indexed { IsIndex (tree_at (arena_trees typed.now) at) address.now }
+    ensures { OnOk result (AddsWrites env.old env.new code.old code.new (WordOf (signal_at (arena_signals typed.now) signal) (tree_at (arena_trees typed.now) at)) (address.now ∷ []) value.now (write_weight (WordOf (signal_at (arena_signals typed.now) signal) (tree_at (arena_trees typed.now) at)))) }
+{
+    typed.flat();
+    let signed = typed.signed(at);
+    if are_constant(address) {
+        place_word(alloc, typed, env, signal, signed, address, value)?;
+        return Ok(());
+    }
+    let range = memory_addresses(typed, signal);
+    let kernel = AnyKernel::Select(vs_kern_select::Kernel::WriteWord(Addresses { range, signed }));
+    call_write(alloc, typed, env, signal, kernel, address, value, code)?;
     Ok(())
 }
 
@@ -175,8 +232,9 @@ fn leaf_width(typed: &Typed, leaf: Leaf) -> u32
     trees_law();
     lawful_law();
     match leaf {
-        Leaf::Whole { signal } => length_of(typed.flat().signal(signal).range),
+        Leaf::Whole { signal } => bits_of(typed.flat().signal(signal)),
         Leaf::Select { width, .. } => width,
+        Leaf::Word { signal, .. } => word_width(typed, signal),
     }
 }
 
@@ -221,8 +279,12 @@ fn write_leaf(
                 place_select(alloc, typed, env, signal, selection, index, value)?;
                 return Ok(());
             }
-            call_write(alloc, typed, env, signal, selection, index, value, code)?;
+            let kernel = AnyKernel::Select(vs_kern_select::Kernel::Write(selection));
+            call_write(alloc, typed, env, signal, kernel, index, value, code)?;
             Ok(())
+        }
+        Leaf::Word { signal, index: at } => {
+            write_word(alloc, typed, env, signal, at, index, value, code)
         }
     }
 }

@@ -8,7 +8,7 @@ use Rattle.vs_flat.specs.DesignOf.{arena_trees}
 use Rattle.vs_flat.specs.Trees.{target_tree, tree_at}
 use Rattle.vs_flat.specs.declared.expressions.Node.TheVariants as N
 use Rattle.vs_lower.specs.Leaves.{AddsLeaves, leaves_of}
-use Rattle.vs_values.proofs.Trees.{tree, name_below, select_below}
+use Rattle.vs_values.proofs.Trees.{tree, name_below, select_below, word_below}
 use Rattle.vs_lower.proofs.Parted.{parted, parts_more, adds_leaf, adds_leaves}
 use Rattle.vs_lower.proofs.leaves.+add_leaves.Goals as goal
 
@@ -86,3 +86,14 @@ returns-in_ok-push-in-Name t c =
     let tr = tree c.trees_law.ensures.expressions a c.flat.ensures.lawful.names e (N.Name c.in-Name.signal) at in
     subst (λ (x : E.Expression). AddsLeaves a c.args.leaves.now.items c.push.new.self.items (leaves_of (target_tree x))) (sym tr.is)
     (adds_leaf a c.args.leaves.now.items c.push.new.self.items (L.Whole c.in-Name.signal) _ c.in_ok-push-in-Name.ensures.items refl (name_below (length a.signals) e c.in-Name.signal tr.earlier))
+
+pub returns-in_ok-push-in-Word : goal.returns-in_ok-push-in-Word
+returns-in_ok-push-in-Word t c =
+    let a = c.args.typed.now in
+    let e = c.args.target in
+    let node = N.Word c.in-Word.signal c.in-Word.index in
+    let at : node_at a e ≡ Some node = ap (λ (x : Arena). node_at x e) (sym c.flat.ensures.same) ∙ c.expr.ensures ∙ ap Some c.in-Word.is in
+    let tr = tree c.trees_law.ensures.expressions a c.flat.ensures.lawful.names e node at in
+    let below = word_below (length a.signals) e c.in-Word.signal c.in-Word.index tr.earlier in
+    subst (λ (x : E.Expression). AddsLeaves a c.args.leaves.now.items c.push-in-Word.new.self.items (leaves_of (target_tree x))) (sym tr.is)
+    (adds_leaf a c.args.leaves.now.items c.push-in-Word.new.self.items (L.Word c.in-Word.signal c.in-Word.index) _ c.in_ok-push-in-Word.ensures.items refl (below.0, omega (arith, below.1, c.requires.node)))

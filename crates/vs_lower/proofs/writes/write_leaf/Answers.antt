@@ -1,6 +1,8 @@
 use Rattle.std.proofs.Common.{◌≡◌, ◌∙◌, ◌+◌, ◌≤◌, ◌<◌, ℕ, List, [], ◌∷◌, Bool, true, map, length, slice_index, sym, ap, subst, arith, true≢false}
+use Rattle.std.specs.Prelude.{OnOk}
 use Rattle.std.specs.List.{All}
-use Rattle.vs_four.specs.Selects.{Part}
+use Rattle.vs_four.specs.Selects.{Part, places}
+use Rattle.vs_design.specs.Bodies.{bits_at}
 use Rattle.vs_design.specs.Expressions as E
 use Rattle.vs_design.specs.Expressions.{sign, width, signal_length}
 use Rattle.vs_design.specs.Fits.{fits_target}
@@ -14,12 +16,14 @@ use Rattle.vs_code.specs.declared.kernels.AnyKernel.TheVariants as K
 use Rattle.vs_lower.specs.declared.leaves.Leaf.{Leaf}
 use Rattle.vs_lower.specs.declared.leaves.Leaf.TheVariants as L
 use Rattle.vs_values.specs.Coded.{Coding, with_call}
-use Rattle.vs_values.specs.Constants.{AreConstant}
+use Rattle.vs_values.specs.Constants.{AreConstant, constant_bits}
+use Rattle.vs_values.specs.Environments.{placed}
 use Rattle.vs_lower.specs.Leaves.{leaf_target, IsInside}
 use Rattle.vs_values.specs.Made.{IsCallable}
 use Rattle.vs_lower.specs.Written.{AddsWrites, HasRoom, IsIndexed, IsIndex, write_weight}
 use Rattle.vs_values.proofs.Named.{signal_within}
-use Rattle.vs_lower.proofs.Partwise.{fit_part, whole_adds, fixed_adds, CanWrite, can_write, called_adds}
+use Rattle.vs_values.proofs.Selecting.{selection}
+use Rattle.vs_lower.proofs.Partwise.{fit_part, whole_adds, fixed_adds, part_selecting, part_writer, CanWrite, can_write, called_adds}
 use Rattle.vs_lower.proofs.writes.write_leaf.Goals as goal
 
 -- what is known of a select
@@ -63,12 +67,16 @@ returns-then-are_constant c =
     let tv = c.args.value.now in
     let q = of_leaf a c.args.env.now c.args.code.now c.args.leaf c.in-Select.signal part c.in-Select.at ti tv c.in-Select.is c.requires.fit c.requires.room c.requires.long c.requires.indexed in
     subst (λ (x : Leaf). AddsWrites c.args.env.now c.place_select.new.env c.args.code.now c.args.code.now (leaf_target a x) (ti ∷ []) tv (write_weight (leaf_target a x))) (sym c.in-Select.is)
-    (fixed_adds (bit_count a.signals) c.args.env.now c.place_select.new.env c.args.code.now signal part index c.signed.result (length tv) ti tv _ q.room c.requires.value q.fit
-    (c.are_constant.ensures.0 c.if-are_constant.true) q.indexed c.signed.ensures q.long c.in_ok-place_select-in-Select.ensures)
+    (fixed_adds (bit_count a.signals) c.args.env.now c.place_select.new.env c.args.code.now (PartOf signal part index) signal index (places part (sign index)) ti tv
+    (part_selecting signal part index (fit_part signal part index q.fit).range) q.room c.requires.value (c.are_constant.ensures.0 c.if-are_constant.true) q.indexed
+    (c.in_ok-place_select-in-Select.ensures
+    ∙ ap (λ (n : ℕ). placed c.args.env.now (bits_at signal (places (record { range = part.range; up = part.up; width = n }) c.signed.result (constant_bits ti))) tv) q.long
+    ∙ ap (λ (b : Bool). placed c.args.env.now (bits_at signal (places part b (constant_bits ti))) tv) c.signed.ensures))
 
 can : (a : Arena) (env : List ℕ) (code : Coding) (signal : E.Signal) (part : Part) (index : E.Expression) (ti tv : List ℕ) → IsSelect a env code signal part index ti tv
-    → signal.first + signal_length signal ≤ bit_count a.signals → All (λ slot. slot < code.next) ti → All (λ slot. slot < code.next) tv → (AreConstant ti → ⊥) → CanWrite env code signal part index ti tv
-can a env code signal part index ti tv q l bi bv v = can_write (bit_count a.signals) env code signal part index ti tv q.room l bi bv q.long q.fit v q.indexed
+    → signal.first + signal_length signal ≤ bit_count a.signals → All (λ slot. slot < code.next) ti → All (λ slot. slot < code.next) tv → (AreConstant ti → ⊥) → CanWrite env code (S.Write (selection part (sign index))) (PartOf signal part index) signal index ti tv
+can a env code signal part index ti tv q l bi bv v =
+    can_write (bit_count a.signals) env code (S.Write (selection part (sign index))) (PartOf signal part index) signal index (places part (sign index)) part.width ti tv (part_writer signal part index q.fit) q.room l bi bv q.long v q.indexed
 
 pub call_write-requires-clause-few : goal.call_write-requires-clause-few
 call_write-requires-clause-few c =
@@ -108,7 +116,7 @@ returns-in_ok-call_write-in-Select c =
     let inside = subst (λ (x : Leaf). IsInside a x) c.in-Select.is c.requires.inside in
     let w = can a env code signal part index ti tv q (signal_within a c.in-Select.signal c.flat.ensures.lawful.design.bits_numbered inside.0) c.requires.index c.requires.value (λ h. true≢false (sym (c.are_constant.ensures.1 h) ∙ c.if-are_constant.false)) in
     subst (λ (x : Leaf). AddsWrites env c.call_write.new.env code c.call_write.new.code (leaf_target a x) (ti ∷ []) tv (write_weight (leaf_target a x))) (sym c.in-Select.is)
-    (called_adds (bit_count a.signals) env c.call_write.new.env code c.call_write.new.code signal part index ti tv q.room c.requires.index c.requires.value q.long q.fit w
+    (called_adds (bit_count a.signals) env c.call_write.new.env code c.call_write.new.code (S.Write (selection part (sign index))) (PartOf signal part index) signal index (places part (sign index)) part.width ti tv (part_writer signal part index q.fit) q.room c.requires.index c.requires.value q.long w
     (c.in_ok-call_write-in-Select.ensures.code ∙ ap (λ (b : Bool). with_call code (K.Select (S.Write (record { range = c.in-Select.range; signed = b; up = c.in-Select.up }))) (map (slice_index env) (bits_of_signal signal) ∷ ti ∷ tv ∷ []) (signal_length signal)) c.signed.ensures)
     c.in_ok-call_write-in-Select.ensures.env)
 
@@ -117,3 +125,23 @@ returns-in_ok-place_signal-in-Whole c =
     let a = c.args.typed.now in
     subst (λ (x : Leaf). AddsWrites c.args.env.now c.place_signal.new.env c.args.code.now c.args.code.now (leaf_target a x) (c.args.index.now ∷ []) c.args.value.now (write_weight (leaf_target a x))) (sym c.in-Whole.is)
     (whole_adds (bit_count a.signals) c.args.env.now c.place_signal.new.env c.args.code.now (signal_at (arena_signals a) c.in-Whole.signal) c.args.index.now c.args.value.now _ c.requires.room c.requires.value c.in_ok-place_signal-in-Whole.ensures)
+
+pub write_word-requires : goal.write_word-requires
+write_word-requires c =
+    let a = c.args.typed.now in
+    let inside = subst (λ (x : Leaf). IsInside a x) c.in-Word.is c.requires.inside in
+    record {
+      signal = inside.0;
+      at = inside.1;
+      room = subst (λ (x : Leaf). HasRoom (bit_count a.signals) c.args.env.now c.args.code.now (write_weight (leaf_target a x))) c.in-Word.is c.requires.room;
+      fit = subst (λ (x : Leaf). fits_target (leaf_target a x) ≡ true) c.in-Word.is c.requires.fit;
+      long = subst (λ (x : Leaf). length c.args.value.now ≡ target_width (leaf_target a x)) c.in-Word.is c.requires.long;
+      value = c.requires.value;
+      address = c.requires.index;
+      indexed = subst (λ (x : Leaf). IsIndexed (leaf_target a x) c.args.index.now) c.in-Word.is c.requires.indexed;
+    }
+
+pub returns-in-Word : goal.returns-in-Word
+returns-in-Word c =
+    let a = c.args.typed.now in
+    subst (λ (x : Leaf). OnOk c.write_word.result (AddsWrites c.args.env.now c.write_word.new.env c.args.code.now c.write_word.new.code (leaf_target a x) (c.args.index.now ∷ []) c.args.value.now (write_weight (leaf_target a x)))) (sym c.in-Word.is) c.write_word.ensures
