@@ -14,3 +14,4 @@ pub mod Sized
 pub mod Turns
 pub mod Untold
 pub mod Passed
+pub mod Ahead

@@ -36,6 +36,11 @@ without_cr (b ∷ c ∷ bs) = b ∷ without_cr (c ∷ bs)
 abbrev pub content : Line → List ℕ
 content line = elim line.ended [ true ↦ without_cr line.bytes | false ↦ line.bytes ]
 
+-- no byte of a text is an LF or a CR
+abbrev pub is_inner : List ℕ → Bool
+is_inner [] = true
+is_inner (b ∷ bs) = not (nat_eq b 10) && not (nat_eq b 13) && is_inner bs
+
 -- no byte of a text is an LF
 abbrev pub no_lf : List ℕ → Bool
 no_lf [] = true

@@ -1,5 +1,5 @@
 -- What a line behind the header says, where some of it was read already.
-use Rattle.std.specs.Prelude.{◌≡◌, ℕ, ◌+◌, ◌<◌, ◌≤◌, Bool, true, false, ◌&&◌, List, [], ◌∷◌, ◌++◌, length, drop, nat_eq, Some, None, slice_set, slice_index, map, All}
+use Rattle.std.specs.Prelude.{◌≡◌, ℕ, ◌+◌, ◌<◌, ◌≤◌, Bool, true, false, ◌&&◌, List, [], ◌∷◌, ◌++◌, length, take, drop, nat_eq, Some, None, slice_set, slice_index, map, All}
 use Rattle.vs_four.specs.declared.Bit4.{Bit4}
 use Rattle.vs_stim.specs.declared.input.Column.{Column}
 use Rattle.vs_stim.specs.declared.row.Spot.{Spot}
@@ -89,6 +89,12 @@ pub record IsRow (row : Row) : Type 0 where
   pub each : All (IsColumn (sizes row.values.items)) row.columns.items
   pub within : row.column ≤ length row.columns.items
   pub at : IsSpot row.spot (sizes row.values.items) row.digits row.column
+
+-- So many of these bytes are digits, and their bits stand below those before them.
+pub record ReadsOn (bytes : List ℕ) (count : ℕ) (high all : List Bit4) : Type 0 where
+  pub bits : List Bit4
+  pub are : bits_of (take count bytes) ≡ Some bits
+  pub below : all ≡ bits ++ high
 
 -- the columns stay, and the lengths of the values
 pub record SameForm (old new : Row) : Type 0 where

@@ -1,6 +1,7 @@
 -- A text of which a part was read, in the middle of a line.
 use Rattle.std.specs.Prelude.{◌≡◌, ℕ, ◌+◌, ◌<◌, ◌≤◌, List, [], ◌∷◌, ◌++◌, length, Option, Some, None, Bool, true, false}
 use Rattle.vs_desk.specs.Desk.{Told}
+use Rattle.vs_four.specs.declared.Bit4.{Bit4}
 use Rattle.vs_stim.specs.declared.error.StimError.{StimError}
 use Rattle.vs_stim.specs.declared.input.Input.{Input}
 use Rattle.vs_stim.specs.declared.input.Column.{Column}
@@ -9,9 +10,11 @@ use Rattle.vs_stim.specs.declared.source.Source.{Source}
 use Rattle.vs_stim.specs.declared.source.Piece.{Piece}
 use Rattle.vs_stim.specs.declared.source.Piece.TheVariants.{Byte, LineEnd, TextEnd}
 use Rattle.vs_stim.specs.Known.{lines_tell}
-use Rattle.vs_stim.specs.Lines.{lines, all_lines, content, no_lf}
+use Rattle.vs_stim.specs.Lines.{lines, all_lines, content, no_lf, is_inner}
 use Rattle.vs_stim.specs.Reading.{limits, Place, behind, too_long, Reading, with_vector, read_vectors, read_header, header_fault}
-use Rattle.vs_stim.specs.Row.{Values}
+use Rattle.vs_stim.specs.declared.row.Row.{Row}
+use Rattle.vs_stim.specs.Vectors.{bits_of}
+use Rattle.vs_stim.specs.Row.{Values, row_with}
 
 -- where the line stands, how many of its bytes were read, and the text that is left
 pub record Open : Type 0 where
@@ -121,6 +124,26 @@ pub record IsSource (s : Source) : Type 0 where
   pub number : s.number ≤ s.start + 1
   pub line : s.length ≤ limits.line
   pub bytes : s.start + s.length ≤ limits.bytes
+
+-- A reader went on in its line by this text, which stood first in its block.
+pub record WentOn (text : List ℕ) (old new : Source) : Type 0 where
+  pub block : old.block ≡ text ++ new.block
+  pub moved : new ≡ record old { block = new.block; length = old.length + length text }
+
+-- The text is digits, and their bits stand below those before them.
+pub record ReadsDigits (old new : Source) (high all : List Bit4) : Type 0 where
+  pub text : List ℕ
+  pub went : WentOn text old new
+  pub bits : List Bit4
+  pub are : bits_of text ≡ Some bits
+  pub below : all ≡ bits ++ high
+
+-- The row read the text, in which no line ends.
+pub record ReadsAhead (before after : Row) (old new : Source) : Type 0 where
+  pub text : List ℕ
+  pub went : WentOn text old new
+  pub inner : is_inner text ≡ true
+  pub says : (rest : List ℕ) → row_with after rest ≡ row_with before (text ++ rest)
 
 -- what lines behind the header give from here on, where this many vectors stand before them
 abbrev pub vectors_from : List Column → ℕ → Open → Reading

@@ -1,6 +1,6 @@
 //! A block of a text's bytes, filled from a desk.
 
-ghost use Rattle.std.specs.Prelude.{◌≡◌, ◌≢◌, ◌+◌, ◌<◌, [], ◌∷◌, ◌++◌, drop, length, IsTrue, IfOk, OnOk, OnErr, IfNone, IfSome};
+ghost use Rattle.std.specs.Prelude.{◌≡◌, ◌≢◌, ◌+◌, ◌<◌, ◌≤◌, [], ◌∷◌, ◌++◌, drop, length, IsTrue, IfOk, OnOk, OnErr, IfNone, IfSome};
 ghost use Rattle.vs_desk.specs.Desk.{IsAttached, Fails};
 ghost use Rattle.vs_desk.specs.declared.desk.Way.TheVariants.{Read};
 ghost use Rattle.vs_desk.specs.Taking.{OnlyTaken};
@@ -54,12 +54,19 @@ impl Block {
         }
     }
 
-    /// Drops the first byte.
-    pub(crate) fn skip(&mut self)
-        requires { 0 < length self.old }
-        ensures { self.new ≡ drop 1 self.old }
+    /// The bytes, in order.
+    pub(crate) fn as_slice(&self) -> &[u8]
+        ensures { result.now ≡ self.now }
     {
-        self.next += 1;
+        &self.bytes[self.next..self.end]
+    }
+
+    /// Drops so many bytes.
+    pub(crate) fn skip(&mut self, count: usize)
+        requires { count ≤ length self.old }
+        ensures { self.new ≡ drop count self.old }
+    {
+        self.next += count;
     }
 
     /// Takes bytes from the place.

@@ -1,39 +1,45 @@
 //! The digits of one field.
 
-ghost use Rattle.std.specs.Prelude.{◌≡◌, ◌<◌, ◌≤◌, [], ◌∷◌, length};
+ghost use Rattle.std.specs.Prelude.{◌≡◌, ◌+◌, ◌<◌, ◌≤◌, [], ◌∷◌, length};
 ghost use Rattle.vs_stim.specs.Fields.{is_blank};
+ghost use Rattle.vs_four.specs.Planes.{value_digit, unknown_digit};
 ghost use Rattle.vs_stim.specs.Vectors.{digit};
 
 use std::marker::Model;
 use vs_four::{Bit4, Bits};
 
-/// Up to 64 digits of a field, read most significant first. Contracts see the bits, least
-/// significant first.
+/// Up to 64 digits of a field, read most significant first, as the planes of `Bits`. Contracts see
+/// the bits, least significant first.
 #[derive(Drop)]
 pub(crate) struct Digits {
-    bits: [Bit4; 64],
-    low: usize,
+    value: u64,
+    unknown: u64,
+    len: u32,
 }
 
 impl Model for Digits {
-    ghost use Rattle.std.specs.Prelude.{List, ◌≡◌, ◌≤◌, drop, length};
+    ghost use Rattle.std.specs.Prelude.{List, ◌≤◌, ◌<◌, ◌^◌};
     ghost use Rattle.vs_four.specs.declared.Bit4.{Bit4};
+    ghost use Rattle.vs_four.specs.Planes.{bits_of_planes};
 
     ghost Value = { List Bit4 };
 
-    ghost view = { λ d. drop d.low d.bits };
+    ghost view = { λ d. bits_of_planes d.len d.value d.unknown };
 
-    ghost invariant = { λ d. (length d.bits ≡ 64) × (d.low ≤ 64) };
+    ghost invariant = { λ d. (d.len ≤ 64) × (d.value < 2 ^ d.len) × (d.unknown < 2 ^ d.len) };
 }
 
 impl Digits {
+    ghost use Rattle.vs_stim.specs.Row.{ReadsOn};
+
     /// No digits.
     pub(crate) fn new() -> Digits
         ensures { result ≡ [] }
     {
         Digits {
-            bits: [Bit4::Zero; 64],
-            low: 64,
+            value: 0,
+            unknown: 0,
+            len: 0,
         }
     }
 
@@ -49,7 +55,7 @@ impl Digits {
         ensures count { result ≡ length self.now }
         ensures at_most_64 { result ≤ 64 }
     {
-        64 - self.low
+        self.len as usize
     }
 
     /// Reads one digit more, below those before it.
@@ -57,8 +63,37 @@ impl Digits {
         requires { length self.old < 64 }
         ensures { self.new ≡ bit ∷ self.old }
     {
-        self.low -= 1;
-        self.bits[self.low] = bit;
+        let (value, unknown) = planes_of(bit);
+        self.value = 2 * self.value + value;
+        self.unknown = 2 * self.unknown + unknown;
+        self.len += 1;
+    }
+
+    /// Reads the digits `0` and `1` that these bytes begin with, below those before them, at most so
+    /// many, and answers how many. No branch depends on which of the two a digit is.
+    pub(crate) fn read(&mut self, bytes: &[u8], most: usize) -> usize
+        requires { length self.old + most ≤ 64 }
+        ensures few { result ≤ most }
+        ensures within { result ≤ length bytes.now }
+        ensures count { length self.new ≡ length self.old + result }
+        ensures reads { ReadsOn bytes.now result self.old self.new }
+    {
+        let mut value = self.value;
+        let mut unknown = self.unknown;
+        let mut count = 0;
+        while count < most && count < bytes.len() {
+            let digit = plain_digit(bytes[count]);
+            if digit > 1 {
+                break;
+            }
+            value = 2 * value + digit;
+            unknown *= 2;
+            count += 1;
+        }
+        self.value = value;
+        self.unknown = unknown;
+        self.len += count as u32;
+        count
     }
 
     /// The value of the digits.
@@ -66,7 +101,20 @@ impl Digits {
         requires { 1 ≤ length self.now }
         ensures { result ≡ self.now }
     {
-        Bits::of(&self.bits[self.low..])
+        Bits::of_planes(self.len, self.value, self.unknown)
+    }
+}
+
+/// A bit's digit in each plane of `Bits`.
+fn planes_of(bit: Bit4) -> (u64, u64)
+    ensures value { result.0 ≡ value_digit bit }
+    ensures unknown { result.1 ≡ unknown_digit bit }
+{
+    match bit {
+        Bit4::Zero => (0, 0),
+        Bit4::One => (1, 0),
+        Bit4::X => (1, 1),
+        Bit4::Z => (0, 1),
     }
 }
 
@@ -75,12 +123,20 @@ pub(crate) fn bit_of(byte: u8) -> Option<Bit4>
     ensures { result ≡ digit byte }
 {
     match byte {
-        b'0' => Some(Bit4::Zero),
-        b'1' => Some(Bit4::One),
+        b'0' | b'1' => Some(if byte == b'1' { Bit4::One } else { Bit4::Zero }),
         b'x' | b'X' => Some(Bit4::X),
         b'z' | b'Z' => Some(Bit4::Z),
         _ => None,
     }
+}
+
+/// The value of a digit `0` or `1`, and more than 1 for every other byte.
+#[inline]
+fn plain_digit(byte: u8) -> u64
+    ensures zero { result ≡ 0 → byte ≡ 48 }
+    ensures one { result ≡ 1 → byte ≡ 49 }
+{
+    byte.wrapping_sub(b'0') as u64
 }
 
 /// Whether the byte is a space or a tab.

@@ -1,7 +1,8 @@
-//! A line behind the header, read byte by byte.
+//! A line behind the header, read byte by byte, but for the digits `0` and `1` of a field, which are read in one go.
 
 use crate::Column;
 use crate::digits::{Digits, bit_of, is_blank};
+use crate::source::Source;
 use vs_four::Bits;
 
 /// Where in a line the next byte stands.
@@ -49,6 +50,7 @@ impl Row {
     ghost use Rattle.std.specs.Prelude.{All, ◌≡◌, ◌<◌, ◌≤◌, ℕ, List, [], ◌∷◌, length, drop, true, false};
     ghost use Rattle.vs_stim.specs.Fields.{is_blank, words, fields};
     ghost use Rattle.vs_stim.specs.Row.{row_with, in_field, to_come, as_said, sizes, IsRow, IsOutside, IsColumn, SameForm};
+    ghost use Rattle.vs_stim.specs.Source.{IsSource, ReadsAhead};
     ghost use Rattle.vs_stim.specs.declared.row.Spot.TheVariants.{Start};
 
     /// Before the first line. The values are written over.
@@ -114,6 +116,41 @@ impl Row {
                 }
             }
             Spot::Comment | Spot::Bad => {}
+        }
+    }
+
+    /// Reads on in the line: the bytes in the source's block before an LF or a CR, and before one past
+    /// a limit.
+    pub(crate) fn feed_ahead(&mut self, source: &mut Source)
+        requires row { IsRow self.old }
+        requires source { IsSource source.old }
+        ensures row { IsRow self.new }
+        ensures form { SameForm self.old self.new }
+        ensures source { IsSource source.new }
+        ensures reads { ReadsAhead self.old self.new source.old source.new }
+    {
+        'bytes: loop {
+            self.feed_digits(source);
+            match source.next_inner() {
+                Some(byte) => self.feed(byte),
+                None => return,
+            }
+        }
+    }
+
+    /// Reads on in a field: the digits `0` and `1` that stand first in the source's block, up to the
+    /// field's length.
+    fn feed_digits(&mut self, source: &mut Source)
+        requires row { IsRow self.old }
+        requires source { IsSource source.old }
+        ensures row { IsRow self.new }
+        ensures form { SameForm self.old self.new }
+        ensures source { IsSource source.new }
+        ensures reads { ReadsAhead self.old self.new source.old source.new }
+    {
+        if let Spot::Field(column) = self.spot {
+            let room = column.length as usize - self.digits.len();
+            source.read_digits(&mut self.digits, room);
         }
     }
 

@@ -2,6 +2,7 @@
 
 use crate::StimError;
 use crate::block::Block;
+use crate::digits::Digits;
 use std::alloc::{AllocError, Global};
 use vs_desk::Desk;
 
@@ -38,13 +39,13 @@ pub(crate) struct Source {
 }
 
 impl Source {
-    ghost use Rattle.std.specs.Prelude.{◌≡◌, ◌≢◌, ◌≤◌, ◌<◌, ◌+◌, ◌-◌, ◌∷◌, [], drop, ℕ, List, length, Some, None, IsTrue, IfOk, OnOk, IfErr, OnErr, IfSome, IfNone, IsErrOf};
+    ghost use Rattle.std.specs.Prelude.{◌≡◌, ◌≢◌, ◌≤◌, ◌<◌, ◌+◌, ◌-◌, ◌∷◌, [], drop, ℕ, List, length, true, Some, None, IsTrue, IfOk, OnOk, IfErr, OnErr, IfSome, IfNone, IsErrOf};
     ghost use Rattle.vs_desk.specs.Desk.{IsAttached, Fails};
     ghost use Rattle.vs_desk.specs.declared.desk.Way.TheVariants.{Read};
     ghost use Rattle.vs_desk.specs.Taking.{OnlyTaken, TakesAt};
     ghost use Rattle.vs_stim.specs.Reading.{limits};
-    ghost use Rattle.vs_stim.specs.Lines.{lines};
-    ghost use Rattle.vs_stim.specs.Source.{open_at, open_before, in_block, is_told, rest_of, line_refusal, Gives, GoesOn, ComesBy, Moves, IsReadError, IsSource};
+    ghost use Rattle.vs_stim.specs.Lines.{lines, is_inner};
+    ghost use Rattle.vs_stim.specs.Source.{open_at, open_before, in_block, is_told, rest_of, line_refusal, Gives, GoesOn, ComesBy, Moves, IsReadError, IsSource, WentOn, ReadsDigits};
 
     /// The start of the text at this place.
     pub(crate) fn new(alloc: Global, place: u32) -> Result<Source, AllocError>
@@ -82,9 +83,43 @@ impl Source {
         if self.start + self.length == TEXT_BYTES {
             return Err(StimError::StimulusTooLong);
         }
-        self.block.skip();
+        self.block.skip(1);
         self.length += 1;
         Ok(())
+    }
+
+    /// Reads the digits `0` and `1` that stand first in the block, below those before them: at most so
+    /// many, and no byte past a limit.
+    pub(crate) fn read_digits(&mut self, digits: &mut Digits, most: usize)
+        requires source { IsSource self.old }
+        requires room { length digits.old + most ≤ 64 }
+        ensures source { IsSource self.new }
+        ensures most { length digits.new ≤ length digits.old + most }
+        ensures reads { ReadsDigits self.old self.new digits.old digits.new }
+    {
+        let line = (LINE_BYTES - self.length) as usize;
+        let text = (TEXT_BYTES - self.start - self.length) as usize;
+        let count = digits.read(self.block.as_slice(), most.min(line).min(text));
+        self.block.skip(count);
+        self.length += count as u64;
+    }
+
+    /// Reads the byte that stands first in the block, if it is no LF and no CR and past no limit.
+    pub(crate) fn next_inner(&mut self) -> Option<u8>
+        requires { IsSource self.old }
+        ensures source { IsSource self.new }
+        ensures some { IfSome result (λ byte. WentOn (byte ∷ []) self.old self.new) }
+        ensures inner { IfSome result (λ byte. is_inner (byte ∷ []) ≡ true) }
+        ensures none { IfNone result (self.new ≡ self.old) }
+    {
+        let byte = self.block.first()?;
+        if byte == b'\n' || byte == b'\r' {
+            return None;
+        }
+        match self.read_byte() {
+            Ok(()) => Some(byte),
+            Err(_) => None,
+        }
     }
 
     /// Reads the LF of the line, which stands first in the block.
@@ -106,7 +141,7 @@ impl Source {
         if self.start + self.length == TEXT_BYTES {
             return Err(StimError::StimulusTooLong);
         }
-        self.block.skip();
+        self.block.skip(1);
         self.number += 1;
         self.start += self.length + 1;
         self.length = 0;

@@ -48,7 +48,10 @@ fn feed_row<D: Desk>(source: &mut Source, row: &mut Row, desk: &mut D) -> Result
 {
     'line: loop {
         match source.next_piece(desk)? {
-            Piece::Byte(byte) => row.feed(byte),
+            Piece::Byte(byte) => {
+                row.feed(byte);
+                row.feed_ahead(source);
+            }
             Piece::LineEnd => return Ok(false),
             Piece::TextEnd => return Ok(true),
         }
