@@ -1,13 +1,15 @@
 -- The data inputs, signal by signal.
 use Rattle.std.proofs.Common.{◌≡◌, ℕ, zero, suc, Bool, true, false, List, [], ◌∷◌, ◌++◌, ◌&&◌, ◌||◌, not, ◌==◌, if◌then◌else◌, ◌+◌, ◌-◌, ◌≤◌, nat_lt, nat_le, length, map, drop, slice_get, Option, Some, None, arith, append-nil, append_assoc, drop_of_length-le, sym, ap, ◌∙◌, refl, subst, All}
+use Rattle.std.specs.Prelude.{is_some}
 use Rattle.std.specs.List.{filter, list_all}
 use Rattle.std.proofs.lemmas.Bool.{and_parts}
 use Rattle.std.proofs.lemmas.List.Elements.{All-cons, All-nil}
 use Rattle.vs_four.specs.declared.Range.{Range}
 use Rattle.vs_four.specs.Selects.{range_length, is_descending}
-use Rattle.vs_design.specs.Expressions.{Signal, range_or_one}
+use Rattle.vs_design.specs.Expressions.{Signal, range_or_one, words_length, signal_length}
 use Rattle.vs_design.specs.Designs.{Design}
-use Rattle.vs_design.specs.Elaborated.{is_lawful_range, is_declared}
+use Rattle.vs_design.specs.Elaborated.{is_lawful_range, is_declared, are_lawful_words, is_lawful_memory}
+use Rattle.vs_design.specs.Footprints.{is_memory, is_variable}
 use Rattle.vs_flat.specs.declared.processes.Signal as F
 use Rattle.vs_flat.specs.Arena.{Arena}
 use Rattle.vs_flat.specs.Trees.{signal_of, signals_from}
@@ -53,7 +55,7 @@ length-signals_from : (k : ℕ) (ss : List F.Signal) → length (signals_from k 
 length-signals_from k [] = refl
 length-signals_from k (s ∷ ss) = ap suc (length-signals_from (suc k) ss)
 
--- ---- each signal has 1 to 64 bits
+-- ---- each data input has 1 to 64 bits
 
 le_of : (m n : ℕ) → nat_le m n ≡ true → m ≤ n
 le_of m n h = grind arith
@@ -75,26 +77,49 @@ few_bits d s h =
     let first = (and_parts (nat_lt s.scope (length d.scopes) && is_lawful_range s.range) (not s.input || (s.net && (s.scope == 0))) h).0 in
     at_most_64 s.range (and_parts (nat_lt s.scope (length d.scopes)) (is_lawful_range s.range) first).1
 
-pub few_bits_at : (a : Arena) → IsLawful a → (n : ℕ) (s : F.Signal) → slice_get a.signals n ≡ Some s → range_or_one s.range ≤ 64
-few_bits_at a lawful n s e = few_bits (design_of a) (signal_of n s) (all_at (is_declared (design_of a)) (arena_signals a) n (signal_of n s) lawful.design.declared (signal_there a n s e))
-
--- a signal of an arena is no memory, so its bits are those of its range
-inputs_of : (d : Design) (resets : List ℕ) (clock k : ℕ) (ss : List F.Signal) → list_all (is_declared d) (signals_from k ss) ≡ true → All IsInput (inputs_among resets clock (signals_from k ss))
-inputs_of d resets clock k [] h = All-nil IsInput
-inputs_of d resets clock k (s ∷ ss) h =
-    let parts = and_parts (is_declared d (signal_of k s)) (list_all (is_declared d) (signals_from (suc k) ss)) h in
-    here (is_data_input clock (signal_of k s)) (few_bits d (signal_of k s) parts.0) (inputs_of d resets clock (suc k) ss parts.1)
+-- a memory is a variable, so an input is none, and its bits are those of its range
+plain_input : (s : Signal) → is_lawful_memory s ≡ true → s.input ≡ true → signal_length s ≡ range_or_one s.range
+plain_input s h e = long s.words (none (is_some s.words) s.net s.input (and_parts (are_lawful_words s.words) (not (is_memory s) || is_variable s) h).1 e)
   where
-    rest : List Signal
-    rest = signals_from (suc k) ss
+    none : (memory net input : Bool) → (not memory || (not net && not input)) ≡ true → input ≡ true → memory ≡ false
+    none false net input h e = refl
+    none true net false h e = cc
+    none true true true h e = cc
+    none true false true h e = cc
 
-    here : (c : Bool) → range_or_one s.range ≤ 64 → All IsInput (inputs_among resets clock rest)
-        → All IsInput (map (input_of resets) (if c then (signal_of k s ∷ filter (is_data_input clock) rest) else filter (is_data_input clock) rest))
-    here true few others = All-cons IsInput (input_of resets (signal_of k s)) (inputs_among resets clock rest) (record { some = one_or_more s.range; at_most_64 = few }) others
+    long : (words : Option Range) → is_some words ≡ false → words_length words (range_or_one s.range) ≡ range_or_one s.range
+    long None e = refl
+    long (Some r) e = cc
+
+-- an input has 1 to 64 bits
+pub record HasFew (s : Signal) : Type 0 where
+  pub some : 1 ≤ signal_length s
+  pub at_most_64 : signal_length s ≤ 64
+
+has_few : (d : Design) (clock : ℕ) (s : Signal) → is_declared d s ≡ true → is_lawful_memory s ≡ true → is_data_input clock s ≡ true → HasFew s
+has_few d clock s declared memory input =
+    let long = plain_input s memory (and_parts s.input (not (s.first == clock)) input).0 in
+    record { some = omega (arith, long, one_or_more s.range); at_most_64 = omega (arith, long, few_bits d s declared) }
+
+pub few_bits_at : (a : Arena) (clock : ℕ) → IsLawful a → (n : ℕ) (s : F.Signal) → slice_get a.signals n ≡ Some s → is_data_input clock (signal_of n s) ≡ true → HasFew (signal_of n s)
+few_bits_at a clock lawful n s e input =
+    let here = signal_there a n s e in
+    has_few (design_of a) clock (signal_of n s) (all_at (is_declared (design_of a)) (arena_signals a) n (signal_of n s) lawful.design.declared here) (all_at is_lawful_memory (arena_signals a) n (signal_of n s) lawful.design.memories here) input
+
+inputs_of : (d : Design) (resets : List ℕ) (clock : ℕ) (ss : List Signal) → list_all (is_declared d) ss ≡ true → list_all is_lawful_memory ss ≡ true → All IsInput (inputs_among resets clock ss)
+inputs_of d resets clock [] h m = All-nil IsInput
+inputs_of d resets clock (s ∷ ss) h m =
+    let declared = and_parts (is_declared d s) (list_all (is_declared d) ss) h in
+    let memories = and_parts (is_lawful_memory s) (list_all is_lawful_memory ss) m in
+    here (is_data_input clock s) (λ input. has_few d clock s declared.0 memories.0 input) (inputs_of d resets clock ss declared.1 memories.1)
+  where
+    here : (c : Bool) → (c ≡ true → HasFew s) → All IsInput (inputs_among resets clock ss)
+        → All IsInput (map (input_of resets) (if c then (s ∷ filter (is_data_input clock) ss) else filter (is_data_input clock) ss))
+    here true few others = All-cons IsInput (input_of resets s) (inputs_among resets clock ss) (record { some = (few refl).some; at_most_64 = (few refl).at_most_64 }) others
     here false few others = others
 
 pub are_inputs : (resets : List ℕ) (a : Arena) (clock : ℕ) → IsLawful a → All IsInput (inputs_among resets clock (design_of a).signals)
-are_inputs resets a clock lawful = inputs_of (design_of a) resets clock 0 a.signals lawful.design.declared
+are_inputs resets a clock lawful = inputs_of (design_of a) resets clock (design_of a).signals lawful.design.declared lawful.design.memories
 
 -- ---- the signals in order
 

@@ -1,16 +1,15 @@
 //! The data inputs of a design.
 
 ghost use Rattle.std.specs.Prelude.{◌≡◌, ◌≤◌, ℕ, IfOk};
-ghost use Rattle.vs_design.specs.Expressions.{range_or_one};
 ghost use Rattle.vs_design.specs.Footprints.{contains};
+ghost use Rattle.vs_flat.specs.Arena.{signal_length};
 ghost use Rattle.vs_flat.specs.DesignOf.{design_of};
 ghost use Rattle.vs_flat.specs.Lawful.{IsLawful};
 ghost use Rattle.vs_flat.specs.Trees.{signal_of};
 ghost use Rattle.vs_rounds.specs.Inputs.{input_of, inputs_among, is_data_input};
 
 use std::alloc::{AllocError, Global};
-use vs_flat::{Flat, Signal};
-use vs_four::Range;
+use vs_flat::{Flat, Signal, bits_of};
 use vs_stim::{Input, Name};
 
 /// The data inputs of a design whose clock and whose reset inputs are these bits, in order of declaration.
@@ -42,13 +41,13 @@ fn is_data_input(signal: &Signal, clock: u32) -> bool
 
 /// A signal's name and length, and whether it is a reset input.
 fn input_of(alloc: Global, signal: &Signal, resets: &[u32]) -> Result<Input, AllocError>
-    requires { range_or_one signal.now.range ≤ 64 }
+    requires { signal_length signal.now ≤ 64 }
     ensures { IfOk result (λ input. (n : ℕ) → input ≡ input_of resets.now (signal_of n signal.now)) }
 {
     let name = signal.name.as_slice().to_vec(alloc)?;
     Ok(Input {
         name: Name::of(name),
-        length: length_of(signal.range),
+        length: bits_of(signal),
         reset: contains(resets, signal.first_bit),
     })
 }
@@ -58,16 +57,4 @@ fn contains(bits: &[u32], bit: u32) -> bool
     ensures { result ≡ contains bits.now bit }
 {
     bits.iter().any(|b| bit == *b)
-}
-
-/// How many bits a signal has.
-fn length_of(range: Option<Range>) -> u32
-    requires { range_or_one range ≤ 64 }
-    ensures { result ≡ range_or_one range }
-{
-    match range {
-        None => 1,
-        Some(r) if r.right <= r.left => r.left - r.right + 1,
-        Some(r) => r.right - r.left + 1,
-    }
 }

@@ -7,7 +7,8 @@ use Rattle.vs_setup.proofs.inputs.data_inputs.Goals as goal
 use Rattle.vs_setup.proofs.inputs.data_inputs.Goals.{then-is_data_input+in_ok-input_of+in_ok-push, else-is_data_input}
 
 pub input_of-requires : goal.input_of-requires
-input_of-requires c = few_bits_at c.args.flat.now c.requires c.loop-n.n c.signal-signal.result.now c.signal-signal.ensures
+input_of-requires c =
+    (few_bits_at c.args.flat.now c.args.clock c.requires c.loop-n.n c.signal-signal.result.now c.signal-signal.ensures (sym (c.is_data_input.ensures c.loop-n.n) ∙ c.if-is_data_input.true)).at_most_64
 
 pub loop-n-preserved : goal.loop-n-preserved
 loop-n-preserved c =
