@@ -5,7 +5,7 @@ use Rattle.std.proofs.lemmas.Grind.{flat_map-append}
 use Rattle.vs_design.specs.Expressions.{At, Name}
 use Rattle.vs_design.specs.Statements.{Whole}
 use Rattle.vs_design.specs.Designs.{InputPort, OutputPort, Process, Continuous, Design}
-use Rattle.vs_design.specs.Elaborated.{is_signal}
+use Rattle.vs_design.specs.Elaborated.{is_signal, is_plain}
 use Rattle.vs_grammar.specs.Trees as tree
 use Rattle.vs_grammar.specs.Trees.{target_place}
 use Rattle.vs_grammar.specs.Shapes.{Each}
@@ -21,7 +21,7 @@ use Rattle.vs_elaborated.specs.Elaborated.{entry_signal, port_assign}
 use Rattle.vs_build.specs.Drafts.{Draft, and_process}
 use Rattle.vs_build.specs.Writable.{input_process}
 use Rattle.vs_build.specs.Outputs.{IsOutput, output_of, output_process}
-use Rattle.vs_build.proofs.SignalNames.{signal_is, signal_within}
+use Rattle.vs_build.proofs.SignalNames.{signal_is, signal_within, plain_signal}
 use Rattle.vs_build.proofs.Wider.{same_signals}
 use Rattle.vs_items.specs.declared.connections.Connection.{Connection}
 use Rattle.vs_items.specs.Connections.{said, said_one}
@@ -38,14 +38,17 @@ inner_is : (es : List Entry) (name : List ℕ) (m : SignalMeaning) → IsSignalO
 inner_is es name m h = ap entry_signal h.found ∙ entry_is h.entry m h.declared
 
 module _ (d : Design) (find : Find) (es : List Entry) (c : Connection) (inner : ℕ) (h : IsWirable d find es c) (is : inner ≡ h.meaning.signal.number) where
+  of_design : is_signal d h.meaning.signal ≡ true
+  of_design = plain_signal d h.meaning.signal h.there
+
   signal_there : signal_at d.signals inner ≡ h.meaning.signal
-  signal_there = ap (signal_at d.signals) is ∙ signal_is d h.meaning.signal h.there
+  signal_there = ap (signal_at d.signals) is ∙ signal_is d h.meaning.signal of_design
 
   pub inner_within : inner < length d.signals
-  inner_within = subst (λ n. n < length d.signals) (sym is) (signal_within d h.meaning.signal h.there)
+  inner_within = subst (λ n. n < length d.signals) (sym is) (signal_within d h.meaning.signal of_design)
 
-  pub inner_signal : is_signal d (signal_at d.signals inner) ≡ true
-  inner_signal = ap (is_signal d) signal_there ∙ h.there
+  pub inner_plain : is_plain d (signal_at d.signals inner) ≡ true
+  inner_plain = ap (is_plain d) signal_there ∙ h.there
 
   pub inner_entry : signal_at d.signals inner ≡ entry_signal (find_entry es c.name.now)
   inner_entry = signal_there ∙ sym (inner_is es c.name.now h.meaning h.is)

@@ -35,7 +35,7 @@ pub wirable_wider : (c d : Design) → IsWider c d → (find : Find) (es : List 
 wirable_wider c d w find es x h = record {
   meaning = h.meaning;
   is = h.is;
-  there = w.signals h.meaning.signal h.there;
+  there = plain_wider c d w h.meaning.signal h.there;
   input = λ e. buildable_wider c d w find false _ (h.input e);
   output = λ e. output_wider c d w find _ (h.output e);
 }

@@ -1,7 +1,7 @@
--- Ports that can be built: what they are connected to is without a fault, and inside there is a signal of their name.
+-- Ports that can be built: what they are connected to is without a fault, and inside there is a signal of their name that is no memory.
 use Rattle.std.specs.Prelude.{◌≡◌, ℕ, true, false, List, ◌++◌, Some}
 use Rattle.vs_design.specs.Designs.{Process, Design}
-use Rattle.vs_design.specs.Elaborated.{is_signal}
+use Rattle.vs_design.specs.Elaborated.{is_plain}
 use Rattle.vs_grammar.specs.Shapes.{Each}
 use Rattle.vs_ast.specs.Views.{expr}
 use Rattle.vs_const.specs.Meanings.{SignalMeaning, Find}
@@ -21,7 +21,7 @@ pub record IsSignalOf (es : List Entry) (name : List ℕ) (m : SignalMeaning) : 
 pub record IsWirable (d : Design) (find : Find) (es : List Entry) (c : Connection) : Type 0 where
   pub meaning : SignalMeaning
   pub is : IsSignalOf es c.name.now meaning
-  pub there : is_signal d meaning.signal ≡ true
+  pub there : is_plain d meaning.signal ≡ true
   pub input : c.input ≡ true → IsBuildable d find false (expr c.e.now)
   pub output : c.input ≡ false → IsOutput d find (expr c.e.now)
 

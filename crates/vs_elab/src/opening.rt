@@ -50,6 +50,7 @@ fn add_signal(builder: &mut Builder, alloc: Global, s: &Signal<'_>) -> Result<()
         range: s.range,
         signed: s.signed,
         first_bit: s.first,
+        words: None,
     })?;
     Ok(())
 }

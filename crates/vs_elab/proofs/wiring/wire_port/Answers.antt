@@ -4,7 +4,7 @@ use Rattle.vs_build.specs.Drafts.{Draft}
 use Rattle.vs_build.specs.Growth.{draft}
 use Rattle.vs_scope.specs.Frames.{view_env}
 use Rattle.vs_scope.specs.Views.{entries}
-use Rattle.vs_elab.proofs.PortWiring.{inner_within, inner_signal, inner_entry, input_wired, output_wired}
+use Rattle.vs_elab.proofs.PortWiring.{inner_within, inner_plain, inner_entry, input_wired, output_wired}
 use Rattle.vs_elab.proofs.wiring.wire_port.Goals as goal
 
 pub input_port-requires-clause-there : goal.input_port-requires-clause-there
@@ -13,7 +13,7 @@ input_port-requires-clause-there c =
 
 pub input_port-requires-clause-signal : goal.input_port-requires-clause-signal
 input_port-requires-clause-signal c =
-    inner_signal (draft c.args.builder.now).design (named (view_env c.args.here.now)) (entries c.args.names.now) c.args.c.now c.signal_number-inner.result c.requires.fine (c.signal_number-inner.ensures c.requires.fine.meaning c.requires.fine.is)
+    inner_plain (draft c.args.builder.now).design (named (view_env c.args.here.now)) (entries c.args.names.now) c.args.c.now c.signal_number-inner.result c.requires.fine (c.signal_number-inner.ensures c.requires.fine.meaning c.requires.fine.is)
 
 pub output_port-requires-clause-there : goal.output_port-requires-clause-there
 output_port-requires-clause-there c =
@@ -21,7 +21,7 @@ output_port-requires-clause-there c =
 
 pub output_port-requires-clause-signal : goal.output_port-requires-clause-signal
 output_port-requires-clause-signal c =
-    inner_signal (draft c.args.builder.now).design (named (view_env c.args.here.now)) (entries c.args.names.now) c.args.c.now c.signal_number-inner.result c.requires.fine (c.signal_number-inner.ensures c.requires.fine.meaning c.requires.fine.is)
+    inner_plain (draft c.args.builder.now).design (named (view_env c.args.here.now)) (entries c.args.names.now) c.args.c.now c.signal_number-inner.result c.requires.fine (c.signal_number-inner.ensures c.requires.fine.meaning c.requires.fine.is)
 
 pub returns-then-c : goal.returns-then-c
 returns-then-c c =
