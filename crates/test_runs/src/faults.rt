@@ -42,8 +42,8 @@ fn run_failing(
 }
 
 /// Where call n fails, one count has risen, each waveform is some first part of the whole one, and the
-/// report is the fault's line, behind some first part of the line that was lost. Where the last put of
-/// that line fails too, all is the same but that the line is cut. A read that fails before the first
+/// report is the fault's line, behind some first part of the line that was lost. Where a put of the
+/// fault's line fails too, all is the same but that this line is cut. A read that fails before the first
 /// round has touched no waveform.
 fn expect_fault(
     rt: &impl Abort,
@@ -55,8 +55,12 @@ fn expect_fault(
     requires { 0 < piece }
 {
     let (code, desk) = run_failing(alloc, piece, TWO_LANES, &[n])?;
-    let last = desk.calls().saturating_sub(1);
-    let (again, lost) = run_failing(alloc, piece, TWO_LANES, &[n, last])?;
+    let put = if desk.losses() == 1 {
+        n.saturating_add(1)
+    } else {
+        desk.calls().saturating_sub(1)
+    };
+    let (again, lost) = run_failing(alloc, piece, TWO_LANES, &[n, put])?;
     assert_eq!(rt; code, again, "call {n}");
     for place in [2000, 2001] {
         assert!(rt;
