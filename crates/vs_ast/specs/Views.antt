@@ -155,7 +155,7 @@ signal_kind signal.Reg = tree.Reg
 signal_kind signal.Wire = tree.Wire
 
 abbrev pub declarator : Declarator → tree.Declarator
-declarator d = record { name = name d.name; value = option expr d.value }
+declarator d = record { name = name d.name; addresses = option range d.addresses; value = option expr d.value }
 
 abbrev pub signals : Signals → tree.Signals
 signals s = record { place = s.place; kind = signal_kind s.kind; signed = s.signed; range = option range s.range; names = map declarator s.names.items }

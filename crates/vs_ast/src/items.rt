@@ -30,10 +30,11 @@ pub enum SignalKind {
     Wire,
 }
 
-/// A declared name, and what a `wire` is assigned where it is declared (6.1.1).
+/// A declared name, the addresses of a memory (4.9), and what a `wire` is assigned where it is declared (6.1.1).
 #[derive(Drop)]
 pub struct Declarator {
     pub name: Name,
+    pub addresses: Option<Range>,
     pub value: Option<Expr>,
 }
 

@@ -6,7 +6,7 @@ use Rattle.vs_grammar.specs.Kinds.{number_of}
 use Rattle.vs_grammar.specs.Grammars.{Phrase, opt, star, depth}
 use Rattle.vs_grammar.specs.Grammars.Phrase.{last}
 use Rattle.vs_grammar.specs.Grammars.Tree.{leaf, both, former, latter, without, within, start, grown, nested, named}
-use Rattle.vs_grammar.specs.Verilog.{◌⨾◌, ◌∣◌, t, r, separated, signed_range, wire_name, assignment, named_connection, overrides, reg_item, wire_item, local_item, assign_item, always_item, genvar_item, instance_item, for_item, if_item, generate_case, Rule as rule}
+use Rattle.vs_grammar.specs.Verilog.{◌⨾◌, ◌∣◌, t, r, separated, signed_range, variable_name, wire_name, assignment, named_connection, overrides, reg_item, wire_item, local_item, assign_item, always_item, genvar_item, instance_item, for_item, if_item, generate_case, Rule as rule}
 use Rattle.vs_grammar.specs.Trees.{Declarator, Signals, Setting, Parameters, AndItem}
 use Rattle.vs_grammar.specs.Trees as tree
 use Rattle.vs_grammar.specs.Meaning.{D, each_onto, behind_sign, list_of, option_of}
@@ -81,6 +81,12 @@ module _ (bytes : ℕ → List ℕ) where
   wire_is : (d : D wire_name) → declarator_depth (meaning.wire_of bytes d) ≡ depth d
   wire_is (both n v) = let h = option_is (behind_sign (meaning.expr_of bytes)) expr_depth value_is v in let f = flat n refl in omega arith
 
+  variable_is : (d : D variable_name) → declarator_depth (meaning.variable_of bytes d) ≡ depth d
+  variable_is (both n g) = let h = option_is (meaning.range_of bytes) range_depth range_is g in let f = flat n refl in omega arith
+
+  variables_is : (d : D (separated variable_name)) → deepest declarator_depth (list_of (meaning.variable_of bytes) d) ≡ depth d
+  variables_is d = list_is (meaning.variable_of bytes) declarator_depth variable_is d
+
   names_is : (d : D (r rule.Names)) → deepest declarator_depth (meaning.names_of bytes d) ≡ depth d
   names_is (named l) = list_is (meaning.plain_name bytes) declarator_depth name_is l
 
@@ -131,7 +137,7 @@ module _ (bytes : ℕ → List ℕ) where
   -- ---- items without blocks
 
   reg_is : (d : D reg_item) → item_depth (meaning.reg_item_of bytes d) ≡ depth d
-  reg_is (both (leaf a) d) = let h = signals_is a.place tree.Reg (meaning.ended bytes (meaning.names_of bytes)) (ended_is (meaning.names_of bytes) names_is) d in omega arith
+  reg_is (both (leaf a) d) = let h = signals_is a.place tree.Reg (meaning.ended bytes (list_of (meaning.variable_of bytes))) (ended_is (list_of (meaning.variable_of bytes)) variables_is) d in omega arith
 
   wire_item_is : (d : D wire_item) → item_depth (meaning.wire_item_of bytes d) ≡ depth d
   wire_item_is (both (leaf a) d) = let h = signals_is a.place tree.Wire (meaning.ended bytes (list_of (meaning.wire_of bytes))) (ended_is (list_of (meaning.wire_of bytes)) wires_is) d in omega arith

@@ -6,12 +6,12 @@ use Rattle.vs_grammar.specs.Kinds.{number_of}
 use Rattle.vs_grammar.specs.Grammars.{Phrase, Terminal, opt, star}
 use Rattle.vs_grammar.specs.Grammars.Phrase.{last}
 use Rattle.vs_grammar.specs.Grammars.Tree.{leaf, both, former, latter, without, within, start, grown, nested, named}
-use Rattle.vs_grammar.specs.Verilog.{◌⨾◌, ◌∣◌, t, r, phrase_of, separated, signed_range, wire_name, assignment, named_connection, overrides, reg_item, wire_item, local_item, assign_item, always_item, genvar_item, instance_item, for_item, if_item, generate_case, Rule as rule}
+use Rattle.vs_grammar.specs.Verilog.{◌⨾◌, ◌∣◌, t, r, phrase_of, separated, signed_range, variable_name, wire_name, assignment, named_connection, overrides, reg_item, wire_item, local_item, assign_item, always_item, genvar_item, instance_item, for_item, if_item, generate_case, Rule as rule}
 use Rattle.vs_grammar.specs.Trees.{Declarator, Signals, Setting, Parameters, AndItem}
 use Rattle.vs_grammar.specs.Trees as tree
 use Rattle.vs_grammar.specs.Meaning.{D, each_onto, behind_sign, list_of, option_of}
 use Rattle.vs_grammar.specs.Meaning as meaning
-use Rattle.vs_grammar.specs.Shapes.{IsName, IsLiteral, Each, OneOrMore, Given, IsExpr, IsRange, IsPlain, IsDeclarator, is_port_kind, AreNames, AreSignals, IsSetting, AreParameters, IsAssign, IsEvent, IsControl, IsConnection, AreConnections, IsInstance, IsGenerateItem, IsBlock, IsBlockFallback, AreGenerateArms, HasGenerateArm, AreGenerateItems, IsItem, AreItems, ArePorts, AreHeaderParameters, IsHeader, IsModule}
+use Rattle.vs_grammar.specs.Shapes.{IsName, IsLiteral, Each, OneOrMore, Given, IsExpr, IsRange, IsVariable, IsNet, IsPort, is_port_kind, AreNames, AreSignals, IsSetting, AreParameters, IsAssign, IsEvent, IsControl, IsConnection, AreConnections, IsInstance, IsGenerateItem, IsBlock, IsBlockFallback, AreGenerateArms, HasGenerateArm, AreGenerateItems, IsItem, AreItems, ArePorts, AreHeaderParameters, IsHeader, IsModule}
 use Rattle.vs_grammar.proofs.DepthFacts.{size}
 use Rattle.vs_grammar.proofs.ShapeFacts.{Sound, name_ok, each_ok, behind_ok, list_ok, option_ok, expr_ok, labels_ok, target_ok, statement_ok}
 
@@ -21,20 +21,26 @@ module _ (bytes : ℕ → List ℕ) (numbers : (a : Terminal) → IsLiteral (mea
   range_ok : (d : D (r rule.Range)) → Sound bytes d → IsRange (meaning.range_of bytes d)
   range_ok (named (both (leaf a) (both e (both c (both u z))))) p = (expr_ok bytes numbers e p.1.0, expr_ok bytes numbers u p.1.1.1.0)
 
-  plain_ok : (d : D (t kind.Identifier)) → Sound bytes d → IsPlain (meaning.plain_name bytes d)
-  plain_ok n p = (name_ok bytes n p, refl)
+  plain_ok : (d : D (t kind.Identifier)) → Sound bytes d → IsPort (meaning.plain_name bytes d)
+  plain_ok n p = ((name_ok bytes n p, refl), refl)
 
   value_ok : (d : D (t kind.Assign ⨾ r rule.Expression)) → Sound bytes d → IsExpr (behind_sign (meaning.expr_of bytes) d)
   value_ok d p = behind_ok bytes (meaning.expr_of bytes) IsExpr (expr_ok bytes numbers) d p
 
-  wire_ok : (d : D wire_name) → Sound bytes d → IsDeclarator (meaning.wire_of bytes d)
-  wire_ok (both n v) p = (name_ok bytes n p.0, option_ok bytes (behind_sign (meaning.expr_of bytes)) IsExpr value_ok v p.1)
+  wire_ok : (d : D wire_name) → Sound bytes d → IsNet (meaning.wire_of bytes d)
+  wire_ok (both n v) p = ((name_ok bytes n p.0, option_ok bytes (behind_sign (meaning.expr_of bytes)) IsExpr value_ok v p.1), refl)
 
-  names_ok : (d : D (r rule.Names)) → Sound bytes d → OneOrMore IsPlain (meaning.names_of bytes d)
-  names_ok (named l) p = list_ok bytes (meaning.plain_name bytes) IsPlain plain_ok l p
+  variable_ok : (d : D variable_name) → Sound bytes d → IsVariable (meaning.variable_of bytes d)
+  variable_ok (both n g) p = ((name_ok bytes n p.0, refl), option_ok bytes (meaning.range_of bytes) IsRange range_ok g p.1)
 
-  wires_ok : (d : D (separated wire_name)) → Sound bytes d → OneOrMore IsDeclarator (list_of (meaning.wire_of bytes) d)
-  wires_ok d p = list_ok bytes (meaning.wire_of bytes) IsDeclarator wire_ok d p
+  variables_ok : (d : D (separated variable_name)) → Sound bytes d → OneOrMore IsVariable (list_of (meaning.variable_of bytes) d)
+  variables_ok d p = list_ok bytes (meaning.variable_of bytes) IsVariable variable_ok d p
+
+  names_ok : (d : D (r rule.Names)) → Sound bytes d → OneOrMore IsPort (meaning.names_of bytes d)
+  names_ok (named l) p = list_ok bytes (meaning.plain_name bytes) IsPort plain_ok l p
+
+  wires_ok : (d : D (separated wire_name)) → Sound bytes d → OneOrMore IsNet (list_of (meaning.wire_of bytes) d)
+  wires_ok d p = list_ok bytes (meaning.wire_of bytes) IsNet wire_ok d p
 
   setting_ok : (d : D (r rule.ParameterSetting)) → Sound bytes d → IsSetting (meaning.setting_of bytes d)
   setting_ok (named (both n (both o e))) p = (name_ok bytes n p.0, expr_ok bytes numbers e p.1.1)
@@ -54,10 +60,13 @@ module _ (bytes : ℕ → List ℕ) (numbers : (a : Terminal) → IsLiteral (mea
   kind_is : {x : Phrase} (place : ℕ) (k : tree.SignalKind) (f : D x → List Declarator) (d : D (signed_range x)) → (meaning.signals_of bytes place k f d).kind ≡ k
   kind_is place k f (both s (both g l)) = refl
 
-  ended_names : (d : D (r rule.Names ⨾ t kind.Semicolon)) → Sound bytes d → OneOrMore IsPlain (meaning.ended bytes (meaning.names_of bytes) d)
+  ended_names : (d : D (r rule.Names ⨾ t kind.Semicolon)) → Sound bytes d → OneOrMore IsPort (meaning.ended bytes (meaning.names_of bytes) d)
   ended_names (both l z) p = names_ok l p.0
 
-  ended_wires : (d : D (separated wire_name ⨾ t kind.Semicolon)) → Sound bytes d → OneOrMore IsDeclarator (meaning.ended bytes (list_of (meaning.wire_of bytes)) d)
+  ended_variables : (d : D (separated variable_name ⨾ t kind.Semicolon)) → Sound bytes d → OneOrMore IsVariable (meaning.ended bytes (list_of (meaning.variable_of bytes)) d)
+  ended_variables (both l z) p = variables_ok l p.0
+
+  ended_wires : (d : D (separated wire_name ⨾ t kind.Semicolon)) → Sound bytes d → OneOrMore IsNet (meaning.ended bytes (list_of (meaning.wire_of bytes)) d)
   ended_wires (both l z) p = wires_ok l p.0
 
   -- ---- items without blocks
@@ -99,7 +108,7 @@ module _ (bytes : ℕ → List ℕ) (numbers : (a : Terminal) → IsLiteral (mea
 
   reg_ok : (d : D reg_item) → Sound bytes d → IsGenerateItem (meaning.reg_item_of bytes d)
   reg_ok (both (leaf a) (both s (both g l))) p =
-      (signals_ok a.place tree.Reg (meaning.ended bytes (meaning.names_of bytes)) ended_names (both s (both g l)) p.1, refl)
+      (signals_ok a.place tree.Reg (meaning.ended bytes (list_of (meaning.variable_of bytes))) ended_variables (both s (both g l)) p.1, refl)
 
   wire_item_ok : (d : D wire_item) → Sound bytes d → IsGenerateItem (meaning.wire_item_of bytes d)
   wire_item_ok (both (leaf a) (both s (both g l))) p =
@@ -228,7 +237,7 @@ module _ (bytes : ℕ → List ℕ) (numbers : (a : Terminal) → IsLiteral (mea
 
   -- ---- modules
 
-  port_names : (k : D (r rule.Direction)) (names : List Declarator) → OneOrMore IsPlain names → AreNames (meaning.port_kind k) names
+  port_names : (k : D (r rule.Direction)) (names : List Declarator) → OneOrMore IsPort names → AreNames (meaning.port_kind k) names
   port_names (named (former (both d (latter w)))) names p = p
   port_names (named (former (both d (former w)))) names p = p
   port_names (named (latter (both d (latter w)))) names p = p
@@ -254,7 +263,7 @@ module _ (bytes : ℕ → List ℕ) (numbers : (a : Terminal) → IsLiteral (mea
   items_ok (start z) rest p q = q
   items_ok (grown l d) rest p q = items_ok l (meaning.item_onto bytes d rest) p.0 (item_onto_ok d rest p.1 q)
 
-  port_ok : (p : D (r rule.Port)) (others : List Declarator) → Sound bytes p → Each IsPlain others → ArePorts (meaning.port_of bytes p others)
+  port_ok : (p : D (r rule.Port)) (others : List Declarator) → Sound bytes p → Each IsPort others → ArePorts (meaning.port_of bytes p others)
   port_ok (named (both d (both s (both g n)))) others p q = (
     record {
       range = option_ok bytes (meaning.range_of bytes) IsRange (range_ok bytes numbers) g p.1.1.0;
@@ -263,7 +272,7 @@ module _ (bytes : ℕ → List ℕ) (numbers : (a : Terminal) → IsLiteral (mea
     port_kind_ok d,
   )
 
-  ports_ok : (p : D (r rule.Port)) (l : D (star (t kind.Comma ⨾ (r rule.Port ∣ t kind.Identifier)))) (names : List Declarator) (ports : List Signals) → Sound bytes p → Sound bytes l → Each IsPlain names → Each ArePorts ports → OneOrMore ArePorts (meaning.ports_onto bytes p l names ports)
+  ports_ok : (p : D (r rule.Port)) (l : D (star (t kind.Comma ⨾ (r rule.Port ∣ t kind.Identifier)))) (names : List Declarator) (ports : List Signals) → Sound bytes p → Sound bytes l → Each IsPort names → Each ArePorts ports → OneOrMore ArePorts (meaning.ports_onto bytes p l names ports)
   ports_ok p (start z) names ports u v w x = (port_ok p names u w, x)
   ports_ok p (grown l (both c (former q))) names ports u v w x = ports_ok p l [] (meaning.port_of bytes q names ∷ ports) u v.0 tt (port_ok q names v.1.1 w, x)
   ports_ok p (grown l (both c (latter n))) names ports u v w x = ports_ok p l (meaning.plain_name bytes n ∷ names) ports u v.0 (plain_ok bytes numbers n v.1.1, w) x

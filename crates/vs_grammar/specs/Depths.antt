@@ -76,7 +76,7 @@ abbrev pub range_depth : RangeTree → ℕ
 range_depth r = max (expr_depth r.left) (expr_depth r.right)
 
 abbrev pub declarator_depth : Declarator → ℕ
-declarator_depth d = option_depth expr_depth d.value
+declarator_depth d = max (option_depth range_depth d.addresses) (option_depth expr_depth d.value)
 
 abbrev pub signals_depth : Signals → ℕ
 signals_depth s = max (option_depth range_depth s.range) (deepest declarator_depth s.names)

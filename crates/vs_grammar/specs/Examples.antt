@@ -31,10 +31,10 @@ thin_source = record {
         name = name (codes "top") 1;
         parameters = [];
         header = DeclaredPorts (
-            record { place = 3; kind = Input; signed = false; range = None; names = record { name = name (codes "clk") 4; value = None } ∷ [] }
-            ∷ record { place = 6; kind = Input; signed = false; range = None; names = record { name = name (codes "a") 7; value = None } ∷ [] }
-            ∷ record { place = 9; kind = Input; signed = false; range = None; names = record { name = name (codes "b") 10; value = None } ∷ [] }
-            ∷ record { place = 12; kind = Output; signed = false; range = None; names = record { name = name (codes "y") 13; value = None } ∷ [] }
+            record { place = 3; kind = Input; signed = false; range = None; names = record { name = name (codes "clk") 4; addresses = None; value = None } ∷ [] }
+            ∷ record { place = 6; kind = Input; signed = false; range = None; names = record { name = name (codes "a") 7; addresses = None; value = None } ∷ [] }
+            ∷ record { place = 9; kind = Input; signed = false; range = None; names = record { name = name (codes "b") 10; addresses = None; value = None } ∷ [] }
+            ∷ record { place = 12; kind = Output; signed = false; range = None; names = record { name = name (codes "y") 13; addresses = None; value = None } ∷ [] }
             ∷ []);
         items = AndItem (AssignsItem 16 (record { target = NamedTarget (name (codes "y") 17) Whole; e = Binary binary.BitAnd (read (codes "a") 19) (read (codes "b") 21) } ∷ [])) NoItem;
       }
@@ -67,7 +67,7 @@ abbrev pub dangling_generate_text : List ℕ
 dangling_generate_text = codes "module m; if (a) if (b) wire c; else wire d; endmodule"
 
 abbrev pub wire_block : List ℕ → ℕ → Item
-wire_block bytes place = SignalsItem (record { place = place; kind = Wire; signed = false; range = None; names = record { name = name bytes (1 + place); value = None } ∷ [] })
+wire_block bytes place = SignalsItem (record { place = place; kind = Wire; signed = false; range = None; names = record { name = name bytes (1 + place); addresses = None; value = None } ∷ [] })
 
 abbrev pub dangling_generate_source : Source
 dangling_generate_source =
@@ -126,7 +126,7 @@ abbrev count : ℕ → ℕ → Expr
 count n place = Number (record { place = place; bits = number_bits 32 n; signed = true; sized = false })
 
 abbrev declared : List ℕ → ℕ → Declarator
-declared bytes place = record { name = name bytes place; value = None }
+declared bytes place = record { name = name bytes place; addresses = None; value = None }
 
 abbrev modules_of : List Module → Source
 modules_of modules = record { modules = modules }
@@ -176,7 +176,7 @@ header_source =
 abbrev pub declarations_text : List ℕ
 declarations_text =
     codes "module m(a, y); input [1:0] a; output y; parameter S = 4'sb1x0; localparam T = S; "
-    ++ codes "wire w = a, v; reg signed r; genvar i; endmodule"
+    ++ codes "wire w = a, v; reg signed r, m[1:0]; genvar i; endmodule"
 
 abbrev pub declarations_source : Source
 declarations_source =
@@ -196,9 +196,9 @@ declarations_source =
             settings = record { name = name (codes "S") 20; value = Number (record { place = 22; bits = Zero ∷ X ∷ One ∷ Zero ∷ []; signed = true; sized = true }) } ∷ [];
           }))
           (AndItem (ParametersItem (record { place = 24; is_local = true; signed = false; range = None; settings = record { name = name (codes "T") 25; value = read (codes "S") 27 } ∷ [] }))
-          (AndItem (SignalsItem (record { place = 29; kind = Wire; signed = false; range = None; names = record { name = name (codes "w") 30; value = Some (read (codes "a") 32) } ∷ declared (codes "v") 34 ∷ [] }))
-          (AndItem (SignalsItem (record { place = 36; kind = Reg; signed = true; range = None; names = declared (codes "r") 38 ∷ [] }))
-          (AndItem (GenvarsItem 40 (name (codes "i") 41 ∷ [])) NoItem))))));
+          (AndItem (SignalsItem (record { place = 29; kind = Wire; signed = false; range = None; names = record { name = name (codes "w") 30; addresses = None; value = Some (read (codes "a") 32) } ∷ declared (codes "v") 34 ∷ [] }))
+          (AndItem (SignalsItem (record { place = 36; kind = Reg; signed = true; range = None; names = declared (codes "r") 38 ∷ record { name = name (codes "m") 40; addresses = Some (record { bracket = 41; left = count 1 42; right = count 0 44 }); value = None } ∷ [] }))
+          (AndItem (GenvarsItem 47 (name (codes "i") 48 ∷ [])) NoItem))))));
     } ∷ [])
 
 -- generate constructs, an instance with names, and lists of events (12.4, 12.2.2.2, 12.3.6, 9.7.4)

@@ -6,7 +6,7 @@ use Rattle.vs_grammar.specs.Kinds.{number_of}
 use Rattle.vs_grammar.specs.Grammars.{Phrase, Tree, Terminal, onto, opt, star}
 use Rattle.vs_grammar.specs.Grammars.Phrase.{seq, last}
 use Rattle.vs_grammar.specs.Grammars.Tree.{leaf, both, former, latter, without, within, start, grown, alone, behind, nested, named}
-use Rattle.vs_grammar.specs.Verilog.{◌⨾◌, ◌∣◌, verilog, t, r, phrase_of, separated, signed_range, wire_name, assignment, named_connection, number, unary_operator, product_operator, sum_operator, shift_operator, relation_operator, equality_operator, xor_operator, reg_item, wire_item, local_item, assign_item, always_item, genvar_item, overrides, instance_item, for_item, if_item, generate_case}
+use Rattle.vs_grammar.specs.Verilog.{◌⨾◌, ◌∣◌, verilog, t, r, phrase_of, separated, signed_range, variable_name, wire_name, assignment, named_connection, number, unary_operator, product_operator, sum_operator, shift_operator, relation_operator, equality_operator, xor_operator, reg_item, wire_item, local_item, assign_item, always_item, genvar_item, overrides, instance_item, for_item, if_item, generate_case}
 use Rattle.vs_grammar.specs.Verilog.{Rule as rule}
 use Rattle.vs_grammar.specs.Trees.{Name, Literal, Expr, Exprs, Select, SliceKind, SystemFunction, UnaryOp, BinaryOp, Target, Targets, CaseKind, Statement, Fallback, Statements, CaseArms, RangeTree, SignalKind, Declarator, Signals, Setting, Parameters, Assign, Edge, Event, EventControl, NamedConnection, Connections, Instance, Item, GenerateBlock, BlockFallback, GenerateArms, Items, Header, Module, Source}
 use Rattle.vs_base.specs.declared.operators.UnaryOp.TheVariants as unary
@@ -296,10 +296,13 @@ module _ (bytes : ℕ → List ℕ) where
   range_of (named (both (leaf a) (both e (both c (both f z))))) = record { bracket = a.place; left = expr_of e; right = expr_of f }
 
   abbrev pub plain_name : D (t kind.Identifier) → Declarator
-  plain_name n = record { name = name_of n; value = None }
+  plain_name n = record { name = name_of n; addresses = None; value = None }
+
+  abbrev pub variable_of : D variable_name → Declarator
+  variable_of (both n g) = record { name = name_of n; addresses = option_of range_of g; value = None }
 
   abbrev pub wire_of : D wire_name → Declarator
-  wire_of (both n v) = record { name = name_of n; value = option_of (behind_sign expr_of) v }
+  wire_of (both n v) = record { name = name_of n; addresses = None; value = option_of (behind_sign expr_of) v }
 
   abbrev pub names_of : D (r rule.Names) → List Declarator
   names_of (named l) = list_of plain_name l
@@ -355,7 +358,7 @@ module _ (bytes : ℕ → List ℕ) where
   block_name_of n = option_of (behind_sign name_of) n
 
   abbrev pub reg_item_of : D reg_item → Item
-  reg_item_of (both (leaf a) d) = SignalsItem (signals_of a.place Reg (ended names_of) d)
+  reg_item_of (both (leaf a) d) = SignalsItem (signals_of a.place Reg (ended (list_of variable_of)) d)
 
   abbrev pub wire_item_of : D wire_item → Item
   wire_item_of (both (leaf a) d) = SignalsItem (signals_of a.place Wire (ended (list_of wire_of)) d)

@@ -121,10 +121,23 @@ is_port_kind Reg = false
 is_port_kind Wire = false
 is_port_kind _ = true
 
--- only a wire is given a value where it is declared
+-- a variable may be a memory
+abbrev pub IsVariable : Declarator → Type 0
+IsVariable d = IsPlain d × Given IsRange d.addresses
+
+-- a net is none
+abbrev pub IsNet : Declarator → Type 0
+IsNet d = IsDeclarator d × (d.addresses ≡ None)
+
+-- nor is a port
+abbrev pub IsPort : Declarator → Type 0
+IsPort d = IsPlain d × (d.addresses ≡ None)
+
+-- only a `reg` has addresses, and only a `wire` is given a value where it is declared
 abbrev pub AreNames : SignalKind → List Declarator → Type 0
-AreNames Wire names = OneOrMore IsDeclarator names
-AreNames k names = OneOrMore IsPlain names
+AreNames Reg names = OneOrMore IsVariable names
+AreNames Wire names = OneOrMore IsNet names
+AreNames k names = OneOrMore IsPort names
 
 pub record AreSignals (s : Signals) : Type 0 where
   pub range : Given IsRange s.range

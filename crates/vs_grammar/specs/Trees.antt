@@ -115,9 +115,10 @@ pub record RangeTree : Type 0 where
 pub data SignalKind : Type 0 where
   Input InputWire Output OutputWire OutputReg Reg Wire : SignalKind
 
--- a declared name, and what a `wire` is assigned where it is declared (6.1.1)
+-- a declared name, the addresses of a memory (4.9), and what a `wire` is assigned where it is declared (6.1.1)
 pub record Declarator : Type 0 where
   pub name : Name
+  pub addresses : Option RangeTree
   pub value : Option Expr
 
 -- a declaration of signals, and also one of a header's ports

@@ -117,6 +117,10 @@ case_default x = t kind.KeywordDefault ⨾ opt (t kind.Colon) ⨾ x
 abbrev pub case_items : Phrase → Phrase → Phrase
 case_items item default = (default ⨾ star item) ∣ (item ⨾ star item ⨾ opt (default ⨾ star item))
 
+-- ID [range]
+abbrev pub variable_name : Phrase
+variable_name = t kind.Identifier ⨾ opt (r Range)
+
 -- ID ['=' expr]
 abbrev pub wire_name : Phrase
 wire_name = t kind.Identifier ⨾ opt (t kind.Assign ⨾ r Expression)
@@ -209,9 +213,9 @@ event_list = t kind.OpenParen ⨾ (t kind.Star ∣ (r Event ⨾ star ((t kind.Ke
 
 -- ---- the items that may stand in a generate block
 
--- 'reg' ['signed'] [range] names ';'
+-- 'reg' ['signed'] [range] ID [range] {',' ID [range]} ';'
 abbrev pub reg_item : Phrase
-reg_item = t kind.KeywordReg ⨾ signed_range (r Names ⨾ t kind.Semicolon)
+reg_item = t kind.KeywordReg ⨾ signed_range (separated variable_name ⨾ t kind.Semicolon)
 
 -- 'wire' ['signed'] [range] ID ['=' expr] {',' ID ['=' expr]} ';'
 abbrev pub wire_item : Phrase
@@ -459,7 +463,7 @@ follows_of_rule Module = kind.KeywordModule ∷ []
 follows_of_rule HeaderParameters = kind.CloseParen ∷ []
 follows_of_rule ParameterType = kind.Identifier ∷ []
 follows_of_rule ParameterSetting = kind.CloseParen ∷ kind.Semicolon ∷ kind.Comma ∷ []
-follows_of_rule Range = kind.Identifier ∷ []
+follows_of_rule Range = kind.Identifier ∷ kind.Semicolon ∷ kind.Comma ∷ []
 follows_of_rule Ports = kind.CloseParen ∷ []
 follows_of_rule Port = kind.CloseParen ∷ kind.Comma ∷ []
 follows_of_rule Direction = kind.Identifier ∷ kind.KeywordSigned ∷ kind.OpenBracket ∷ []
