@@ -9,7 +9,7 @@ use Rattle.vs_const.specs.declared.faults.Fault.{Fault}
 use Rattle.vs_const.specs.Faults.{fault, fault_if, UnknownConstant, WrongKind}
 use Rattle.vs_const.specs.Meanings.{Find}
 use Rattle.vs_const.specs.Typed.{Typed, broken, fine, noted, Numbered, number_of, natural, unary_typed, binary_typed, choice_typed, join_typed, copies_typed}
-use Rattle.vs_const.specs.Selects.{base_of, name_typed, taken, slice_taken, first_needed, select_typed}
+use Rattle.vs_const.specs.Selects.{base_of, name_typed, slice_taken, first_needed, select_typed, bit_typed}
 
 -- a literal without a size has no place in a concatenation (5.1.14); brackets round it are no matter
 abbrev pub unsized_faults : tree.Expr → List Fault
@@ -78,10 +78,7 @@ abbrev mutual
   -- a name, with what is selected of it
   pub selected : tree.Select → tree.Name → Find → Bool → Typed
   selected tree.Whole name find needed = name_typed needed name.place (find name.bytes)
-  selected (tree.BitAt bracket index) name find needed =
-      let b = base_of needed name.place (find name.bytes) in
-      let i = typed index find needed in
-      select_typed b (taken b.range true 1 i i.faults)
+  selected (tree.BitAt bracket index) name find needed = bit_typed needed name.place (find name.bytes) (typed index find needed)
   selected (tree.Slice bracket kind e f) name find needed =
       let b = base_of needed name.place (find name.bytes) in
       select_typed b (slice_taken b.range bracket kind (expr_place e) (typed e find (first_needed kind needed)) (expr_place f) (typed f find true))

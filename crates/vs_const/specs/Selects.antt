@@ -3,11 +3,11 @@ use Rattle.std.specs.Prelude.{ℕ, Bool, true, false, not, ◌&&◌, ◌||◌, L
 use Rattle.vs_four.specs.declared.Range.{Range}
 use Rattle.vs_four.specs.Numbers.{bits_of}
 use Rattle.vs_four.specs.Selects.{Part, range_length, is_descending}
-use Rattle.vs_design.specs.Expressions.{Signal, Source, OfSignal, OfConstant, Expression, Literal, Name, Select, At}
+use Rattle.vs_design.specs.Expressions.{Signal, word_length, Source, OfSignal, OfConstant, Expression, Literal, Name, Select, Word, At}
 use Rattle.vs_grammar.specs.Trees.{SliceKind, Between, Upward, Downward}
 use Rattle.vs_const.specs.declared.faults.Fault.{Fault}
-use Rattle.vs_const.specs.Faults.{fault, fault_if, BadRange, NotConstant, UnknownName, WrongKind}
-use Rattle.vs_const.specs.Meanings.{SignalMeaning, Meaning, AValue, Undefined, ASignal, Another, Unknown}
+use Rattle.vs_const.specs.Faults.{Rule, fault, fault_if, BadRange, NotConstant, UnknownName, WrongKind}
+use Rattle.vs_const.specs.Meanings.{SignalMeaning, Meaning, AValue, Undefined, ASignal, AMemory, Another, Unknown}
 use Rattle.vs_const.specs.Typed.{Typed, nothing, broken, fine, natural}
 
 -- ---- ranges
@@ -22,22 +22,30 @@ abbrev pub range_if : (short : Bool) → ℕ → Range → Bounds
 range_if true bracket r = record { range = Some r; faults = [] }
 range_if false bracket r = record { range = None; faults = fault BadRange bracket }
 
--- at most 64 bits
-abbrev pub up_to_64 : ℕ → Range → Bounds
-up_to_64 bracket r = range_if (nat_le (range_length r) 64) bracket r
+-- a range of at most so many numbers
+abbrev pub up_to : (most : ℕ) → ℕ → Range → Bounds
+up_to most bracket r = range_if (nat_le (range_length r) most) bracket r
 
 -- of two numbers, where a fault leaves neither undefined
-abbrev pub range_of : ℕ → Option ℕ → Option ℕ → Bounds
-range_of bracket (Some left) (Some right) = up_to_64 bracket (record { left = left; right = right })
-range_of bracket _ _ = record { range = None; faults = [] }
+abbrev pub range_of : (most : ℕ) → ℕ → Option ℕ → Option ℕ → Bounds
+range_of most bracket (Some left) (Some right) = up_to most bracket (record { left = left; right = right })
+range_of most bracket _ _ = record { range = None; faults = [] }
 
--- two numbers up to 65,535, at most 64 bits apart; each bound with its place
-abbrev pub bounds : (bracket : ℕ) → (left_place : ℕ) → Typed → (right_place : ℕ) → Typed → Bounds
-bounds bracket left_place left right_place right =
+-- two numbers up to 65,535, and no more than so many from one to the other; each bound with its place
+abbrev pub bounds_of : (most : ℕ) → (bracket : ℕ) → (left_place : ℕ) → Typed → (right_place : ℕ) → Typed → Bounds
+bounds_of most bracket left_place left right_place right =
     let m = natural 0 65535 left_place left in
     let n = natural 0 65535 right_place right in
-    let r = range_of bracket m.number n.number in
+    let r = range_of most bracket m.number n.number in
     record { range = r.range; faults = m.faults ++ (n.faults ++ r.faults) }
+
+-- of a vector or a select: at most 64 bits
+abbrev pub bounds : (bracket : ℕ) → (left_place : ℕ) → Typed → (right_place : ℕ) → Typed → Bounds
+bounds bracket left_place left right_place right = bounds_of 64 bracket left_place left right_place right
+
+-- of a memory: at most 1,024 words
+abbrev pub address_bounds : (bracket : ℕ) → (left_place : ℕ) → Typed → (right_place : ℕ) → Typed → Bounds
+address_bounds bracket left_place left right_place right = bounds_of 1024 bracket left_place left right_place right
 
 -- ---- names
 
@@ -51,11 +59,17 @@ abbrev pub signal_typed : Bool → ℕ → SignalMeaning → Typed
 signal_typed true place s = broken None (fault NotConstant place)
 signal_typed false place s = known_signal s.known s.signal
 
+-- a memory is no constant, and its name alone has no value (4.9.3)
+abbrev pub memory_rule : (needed : Bool) → Rule
+memory_rule true = NotConstant
+memory_rule false = WrongKind
+
 -- a name alone
 abbrev pub name_typed : Bool → ℕ → Meaning → Typed
 name_typed needed place (AValue v range) = fine (Literal v.bits v.signed true) []
 name_typed needed place (Undefined range) = broken None []
 name_typed needed place (ASignal s) = signal_typed needed place s
+name_typed needed place (AMemory m) = broken None (fault (memory_rule needed) place)
 name_typed needed place Another = broken None (fault WrongKind place)
 name_typed needed place Unknown = broken None (fault UnknownName place)
 
@@ -88,6 +102,7 @@ abbrev pub base_of : Bool → ℕ → Meaning → Base
 base_of needed place (AValue v range) = record { source = OfConstant v.bits; range = Some range; good = true; faults = [] }
 base_of needed place (Undefined range) = no_base range []
 base_of needed place (ASignal s) = signal_base_of needed place s
+base_of needed place (AMemory m) = no_base None (fault (memory_rule needed) place)
 base_of needed place Another = no_base None (fault WrongKind place)
 base_of needed place Unknown = no_base None (fault UnknownName place)
 
@@ -165,3 +180,25 @@ select_if false b t = broken t.length (b.faults ++ t.faults)
 -- bits of a name
 abbrev pub select_typed : Base → Taken → Typed
 select_typed b t = select_if (b.good && t.good) b t
+
+-- ---- words (4.9.3)
+
+-- the length of a memory's words, unless a fault leaves it undefined
+abbrev pub length_if : (known : Bool) → Signal → Option ℕ
+length_if true memory = Some (word_length memory)
+length_if false memory = None
+
+-- the word at an address, unless a fault leaves it undefined
+abbrev pub word_if : (good : Bool) → SignalMeaning → Typed → Typed
+word_if true m i = fine (Word m.signal i.expression) i.faults
+word_if false m i = broken (length_if m.known m.signal) i.faults
+
+-- a word is no constant
+abbrev pub word_typed : (needed : Bool) → (place : ℕ) → SignalMeaning → Typed → Typed
+word_typed true place m i = broken None (fault NotConstant place ++ i.faults)
+word_typed false place m i = word_if (m.known && i.good) m i
+
+-- `name[i]`: a word of a memory, a bit of anything else
+abbrev pub bit_typed : (needed : Bool) → (place : ℕ) → Meaning → Typed → Typed
+bit_typed needed place (AMemory m) i = word_typed needed place m i
+bit_typed needed place m i = let b = base_of needed place m in select_typed b (taken b.range true 1 i i.faults)
