@@ -2,10 +2,10 @@
 use Rattle.std.specs.Prelude.{◌≡◌, ℕ, Bool, true, false, List, [], Some}
 use Rattle.vs_design.specs.Expressions.{width, is_constant}
 use Rattle.vs_design.specs.Designs.{Design}
-use Rattle.vs_design.specs.Elaborated.{is_plain, is_lawful_range, is_formed}
+use Rattle.vs_design.specs.Elaborated.{is_plain, has_words, is_lawful_range, is_formed}
 use Rattle.vs_grammar.specs.Trees.{Expr}
 use Rattle.vs_grammar.specs.Shapes.{IsExpr}
-use Rattle.vs_const.specs.Meanings.{SignalMeaning, Meaning, AValue, Undefined, ASignal, Another, Unknown, Find, IsFairValue}
+use Rattle.vs_const.specs.Meanings.{SignalMeaning, Meaning, AValue, Undefined, ASignal, AMemory, Another, Unknown, Find, IsFairValue}
 use Rattle.vs_const.specs.Typed.{Typed}
 use Rattle.vs_const.specs.Expressions.{typed}
 
@@ -14,11 +14,17 @@ abbrev pub IsSoundSignal : Design → Bool → SignalMeaning → Type 0
 IsSoundSignal d true s = Unit {0}
 IsSoundSignal d false s = (is_plain d s.signal ≡ true) × (s.known ≡ true) × (s.signal.input ≡ true → s.input ≡ true)
 
+-- a memory likewise
+abbrev pub IsSoundMemory : Design → Bool → SignalMeaning → Type 0
+IsSoundMemory d true m = Unit {0}
+IsSoundMemory d false m = (has_words d m.signal ≡ true) × (m.known ≡ true) × (m.signal.input ≡ true → m.input ≡ true)
+
 -- of a name
 abbrev pub IsSound : Design → Bool → Meaning → Type 0
 IsSound d needed (AValue v r) = IsFairValue v r × (is_lawful_range (Some r) ≡ true)
 IsSound d needed (Undefined r) = ⊥
 IsSound d needed (ASignal s) = IsSoundSignal d needed s
+IsSound d needed (AMemory m) = IsSoundMemory d needed m
 IsSound d needed Another = Unit {0}
 IsSound d needed Unknown = Unit {0}
 

@@ -8,11 +8,12 @@ use Rattle.vs_const.specs.declared.faults.Fault.{Fault}
 use Rattle.vs_const.specs.Faults.{fault_if}
 use Rattle.vs_const.specs.declared.rules.Rule.TheVariants.{DuplicateName}
 
--- a declaration of a signal; `header` says whether it is one of a header's ports
+-- a declaration of a signal, with the addresses of a memory (4.9); `header` says whether it is one of a header's ports
 pub record SignalSort : Type 0 where
   pub kind : tree.SignalKind
   pub signed : Bool
   pub range : Option tree.RangeTree
+  pub addresses : Option tree.RangeTree
   pub header : Bool
 
 -- a declaration of a parameter, with its default; a local one isn't overridden (4.10.2)
@@ -35,7 +36,7 @@ pub record Declaration : Type 0 where
 
 -- all names of one declaration
 abbrev pub signals_declared : Bool → tree.Signals → List Declaration
-signals_declared header t = map (λ (d : tree.Declarator). record { name = d.name; sort = SignalOf (record { kind = t.kind; signed = t.signed; range = t.range; header = header }) }) t.names
+signals_declared header t = map (λ (d : tree.Declarator). record { name = d.name; sort = SignalOf (record { kind = t.kind; signed = t.signed; range = t.range; addresses = d.addresses; header = header }) }) t.names
 
 -- all names of one declaration
 abbrev pub parameters_declared : tree.Parameters → List Declaration
@@ -68,9 +69,13 @@ are_kinds_of_one Wire Output = true
 are_kinds_of_one Wire Input = true
 are_kinds_of_one _ _ = false
 
--- two declarations of one signal; what a header declares with its direction is complete
+-- whether it declares a memory
+abbrev pub has_addresses : SignalSort → Bool
+has_addresses s = is_some s.addresses
+
+-- two declarations of one signal; what a header declares with its direction is complete, and a port is no memory
 abbrev pub are_sorts_of_one : Sort → Sort → Bool
-are_sorts_of_one (SignalOf a) (SignalOf b) = not a.header && (not b.header && are_kinds_of_one a.kind b.kind)
+are_sorts_of_one (SignalOf a) (SignalOf b) = not a.header && (not b.header && (not (has_addresses a) && (not (has_addresses b) && are_kinds_of_one a.kind b.kind)))
 are_sorts_of_one _ _ = false
 
 -- a name of the scope: its first declaration, and for a signal perhaps its second

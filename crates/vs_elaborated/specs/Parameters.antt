@@ -1,5 +1,5 @@
 -- The values of a scope's parameters (IEEE 1364-2005, 4.10 and 12.2).
-use Rattle.std.specs.Prelude.{ℕ, ◌-◌, Bool, true, false, ◌||◌, List, [], ◌∷◌, ◌++◌, map, if◌then◌else◌, Option, Some, None}
+use Rattle.std.specs.Prelude.{ℕ, ◌-◌, Bool, true, false, ◌||◌, List, [], ◌∷◌, ◌++◌, map, max, min, if◌then◌else◌, Option, Some, None}
 use Rattle.vs_four.specs.declared.Bit4.TheVariants.{X}
 use Rattle.vs_four.specs.declared.Range.{Range}
 use Rattle.vs_four.specs.Selects.{range_length}
@@ -9,7 +9,7 @@ use Rattle.vs_design.specs.Clocks.{same_name}
 use Rattle.vs_grammar.specs.Trees.{Name, RangeTree, expr_place}
 use Rattle.vs_const.specs.declared.faults.Fault.{Fault}
 use Rattle.vs_const.specs.Typed.{Typed}
-use Rattle.vs_const.specs.Selects.{bounds}
+use Rattle.vs_const.specs.Selects.{bounds, address_bounds}
 use Rattle.vs_const.specs.Expressions.{constant}
 use Rattle.vs_elaborated.specs.Environments.{Declared, Later, OfSignal, OfParameter, OfGenvar, OfScope, Entry, Env, within, up_to, named}
 use Rattle.vs_elaborated.specs.Declarations.{ParameterSort, Sort, SignalOf, ParameterOf, GenvarSort, InstanceSort, Declaration, Named}
@@ -34,6 +34,22 @@ said_range None env = record { range = None; known = true; faults = [] }
 said_range (Some t) env =
     let b = bounds t.bracket (expr_place t.left) (constant t.left (named env)) (expr_place t.right) (constant t.right (named env)) in
     of_bounds b.range b.faults
+
+-- addresses in descending order: nothing tells `[0:3]` from `[3:0]`
+abbrev pub descending : Range → Range
+descending r = record { left = max r.left r.right; right = min r.left r.right }
+
+-- known where both bounds are; those that a fault leaves undefined are taken as 0 alone
+abbrev pub of_addresses : Option Range → List Fault → SaidRange
+of_addresses None faults = record { range = Some (record { left = 0; right = 0 }); known = false; faults = faults }
+of_addresses (Some r) faults = record { range = Some (descending r); known = true; faults = faults }
+
+-- the addresses of a memory (4.9); each bound is a constant
+abbrev pub said_addresses : Option RangeTree → Env → SaidRange
+said_addresses None env = record { range = None; known = true; faults = [] }
+said_addresses (Some t) env =
+    let b = address_bounds t.bracket (expr_place t.left) (constant t.left (named env)) (expr_place t.right) (constant t.right (named env)) in
+    of_addresses b.range b.faults
 
 -- ---- one parameter
 

@@ -1,5 +1,5 @@
 -- The signals of a scope, with their ranges and numbers (IEEE 1364-2005, 3.2, 3.3 and 12.3.3).
-use Rattle.std.specs.Prelude.{ℕ, ◌+◌, Bool, true, false, not, ◌&&◌, ◌||◌, List, [], ◌∷◌, map, flat_map, if◌then◌else◌, Option, Some, None}
+use Rattle.std.specs.Prelude.{ℕ, ◌+◌, Bool, true, false, not, ◌&&◌, ◌||◌, List, [], ◌∷◌, ◌++◌, map, flat_map, if◌then◌else◌, Option, Some, None}
 use Rattle.vs_design.specs.Expressions.{signal_length}
 use Rattle.vs_design.specs.Clocks.{same_name}
 use Rattle.vs_design.specs.Elaborated.{same_range}
@@ -10,7 +10,7 @@ use Rattle.vs_const.specs.declared.rules.Rule.TheVariants.{BadRange}
 use Rattle.vs_const.specs.Meanings.{SignalMeaning}
 use Rattle.vs_elaborated.specs.Environments.{OfSignal, Entry, Env}
 use Rattle.vs_elaborated.specs.Declarations.{SignalSort, Sort, SignalOf, Declaration, Named}
-use Rattle.vs_elaborated.specs.Parameters.{SaidRange, said_range}
+use Rattle.vs_elaborated.specs.Parameters.{SaidRange, said_range, said_addresses}
 
 -- whether it declares a variable
 abbrev pub is_reg : SignalKind → Bool
@@ -36,15 +36,16 @@ pub record Start : Type 0 where
   pub signal : ℕ
   pub bit : ℕ
 
--- a signal of its first declaration, and perhaps of a second one: a variable, an input, signed where one of them says so
+-- a signal of its first declaration, and perhaps of a second one: a variable, an input, signed where one of them says so; a memory has one alone
 abbrev pub signal_meaning : Env → Start → Name → SignalSort → SignalSort → SignalMeaning
 signal_meaning env start name s t =
     let r = said_range s.range env in
+    let w = said_addresses s.addresses env in
     let input = is_input s.kind || is_input t.kind in
     record {
-      signal = record { name = name.bytes; scope = start.scope; number = start.signal; net = not (is_reg s.kind || is_reg t.kind); input = input && start.top; range = r.range; signed = s.signed || t.signed; first = start.bit; words = None };
+      signal = record { name = name.bytes; scope = start.scope; number = start.signal; net = not (is_reg s.kind || is_reg t.kind); input = input && start.top; range = r.range; signed = s.signed || t.signed; first = start.bit; words = w.range };
       input = input;
-      known = r.known;
+      known = r.known && w.known;
     }
 
 -- the ranges of both declarations are equal
@@ -80,7 +81,7 @@ abbrev pub range_faults : Env → List Declaration → List Fault
 range_faults env ds = flat_map (λ (d : Declaration). of_sort d.sort) ds
   where
     of_sort : Sort → List Fault
-    of_sort (SignalOf s) = (said_range s.range env).faults
+    of_sort (SignalOf s) = (said_range s.range env).faults ++ (said_addresses s.addresses env).faults
     of_sort _ = []
 
 -- this signal is known now

@@ -10,9 +10,9 @@ use Rattle.vs_grammar.specs.Shapes.{Each, AreConnections, IsGenerateItem, IsModu
 use Rattle.vs_grammar.specs.Depths.{deepest, item_depth}
 use Rattle.vs_const.specs.Meanings.{SignalMeaning, IsFairValue}
 use Rattle.vs_const.specs.Typed.{Typed}
-use Rattle.vs_const.specs.Sound.{IsSoundSignal, AreSound, IsFine}
+use Rattle.vs_const.specs.Sound.{IsSound, AreSound, IsFine}
 use Rattle.vs_elaborated.specs.Limits.{Limits}
-use Rattle.vs_elaborated.specs.Environments.{Declared, Later, OfSignal, OfParameter, OfGenvar, OfScope, Entry, Env, find_entry, named}
+use Rattle.vs_elaborated.specs.Environments.{Declared, Later, OfSignal, OfParameter, OfGenvar, OfScope, Entry, Env, find_entry, signal_means, named}
 use Rattle.vs_elaborated.specs.Parameters.{Override}
 use Rattle.vs_elaborated.specs.Instances.{Around, connection_name, said_overrides, instance_said}
 use Rattle.vs_elaborated.specs.Generate.{Nested, Made}
@@ -22,10 +22,10 @@ use Rattle.vs_elaborated.specs.Surveys.{Totals, overrides_of, survey}
 
 -- ---- names
 
--- a known signal of the design, a value, or nothing that an expression can name
+-- a known signal or memory of the design, a value, or nothing that an expression can name
 abbrev pub IsSoundDeclared : Design → Bool → Declared → Type 0
 IsSoundDeclared d needed Later = Unit {0}
-IsSoundDeclared d needed (OfSignal s) = IsSoundSignal d needed s
+IsSoundDeclared d needed (OfSignal s) = IsSound d needed (signal_means s)
 IsSoundDeclared d needed (OfParameter (Some v) (Some r)) = IsFairValue v r × (is_lawful_range (Some r) ≡ true)
 IsSoundDeclared d needed (OfParameter (Some v) None) = ⊥
 IsSoundDeclared d needed (OfParameter None r) = ⊥

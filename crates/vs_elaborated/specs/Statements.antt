@@ -1,5 +1,6 @@
 -- Statements and events over signals, with their faults (IEEE 1364-2005, clause 9).
 use Rattle.std.specs.Prelude.{ℕ, Bool, true, false, ◌&&◌, List, [], ◌∷◌, ◌++◌, is_some}
+use Rattle.std.specs.List.{list_any}
 use Rattle.vs_design.specs.Expressions.{Expression, items_of}
 use Rattle.vs_design.specs.Statements.{Statement, Empty, Assignment, Then, If, Case, Arms, Arm, Default}
 use Rattle.vs_design.specs.Designs.{Event, Edge, is_edge}
@@ -8,7 +9,7 @@ use Rattle.vs_grammar.specs.Trees.{target_place}
 use Rattle.vs_const.specs.declared.faults.Fault.{Fault}
 use Rattle.vs_const.specs.Faults.{fault, fault_if}
 use Rattle.vs_const.specs.declared.rules.Rule.TheVariants.{UnknownName, WrongKind}
-use Rattle.vs_const.specs.Meanings.{Meaning, ASignal, Unknown, Find}
+use Rattle.vs_const.specs.Meanings.{Meaning, ASignal, AMemory, Unknown, Find}
 use Rattle.vs_const.specs.Typed.{Typed}
 use Rattle.vs_const.specs.Expressions.{typed}
 use Rattle.vs_elaborated.specs.Targets.{meant_signal, TypedTarget, typed_target}
@@ -102,3 +103,51 @@ typed_events (e ∷ es) find =
 abbrev pub typed_control : tree.EventControl → Find → TypedControl
 typed_control tree.Star find = record { star = true; events = []; faults = [] }
 typed_control (tree.Listed events) find = typed_events events find
+
+-- ---- words of memories (4.9): a clocked block alone writes them
+
+-- a block with an edge among its events is clocked
+abbrev pub is_clocked_by : tree.EventControl → Bool
+is_clocked_by tree.Star = false
+is_clocked_by (tree.Listed events) = list_any (λ (e : tree.Event). is_edge e.edge) events
+
+-- the name of a memory
+abbrev pub memory_faults : ℕ → Meaning → List Fault
+memory_faults place (AMemory m) = fault WrongKind place
+memory_faults place _ = []
+
+-- each memory of which a target is a word
+abbrev mutual
+  pub target_memories : tree.Target → Find → List Fault
+  target_memories (tree.NamedTarget name select) find = memory_faults name.place (find name.bytes)
+  target_memories (tree.Targeted place parts) find = targets_memories parts find
+
+  pub targets_memories : tree.Targets → Find → List Fault
+  targets_memories tree.NoTarget find = []
+  targets_memories (tree.AndTarget target rest) find = target_memories target find ++ targets_memories rest find
+
+-- each memory of which a statement writes a word
+abbrev mutual
+  pub written_memories : tree.Statement → Find → List Fault
+  written_memories (tree.Empty place) find = []
+  written_memories (tree.Assignment target e blocking) find = target_memories target find
+  written_memories (tree.If place c taken other) find = written_memories taken find ++ fallback_memories other find
+  written_memories (tree.Case place kind subject arms other) find = arms_memories arms find ++ fallback_memories other find
+  written_memories (tree.Sequence place parts) find = sequence_memories parts find
+
+  pub fallback_memories : tree.Fallback → Find → List Fault
+  fallback_memories tree.NoFallback find = []
+  fallback_memories (tree.Otherwise statement) find = written_memories statement find
+
+  pub sequence_memories : tree.Statements → Find → List Fault
+  sequence_memories tree.NoStatement find = []
+  sequence_memories (tree.AndStatement s rest) find = written_memories s find ++ sequence_memories rest find
+
+  pub arms_memories : tree.CaseArms → Find → List Fault
+  arms_memories tree.NoArm find = []
+  arms_memories (tree.AndArm labels statement rest) find = written_memories statement find ++ arms_memories rest find
+
+-- those of a block that isn't clocked are at fault
+abbrev pub unclocked_faults : (clocked : Bool) → tree.Statement → Find → List Fault
+unclocked_faults true s find = []
+unclocked_faults false s find = written_memories s find

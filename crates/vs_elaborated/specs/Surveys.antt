@@ -13,7 +13,7 @@ use Rattle.vs_const.specs.Expressions.{typed}
 use Rattle.vs_elaborated.specs.Limits.{Limits}
 use Rattle.vs_elaborated.specs.Environments.{OfScope, Entry, Env, within, with_turn, find_entry, named, Turn}
 use Rattle.vs_elaborated.specs.Targets.{typed_target}
-use Rattle.vs_elaborated.specs.Statements.{typed_statement, typed_control}
+use Rattle.vs_elaborated.specs.Statements.{typed_statement, typed_control, is_clocked_by, unclocked_faults}
 use Rattle.vs_elaborated.specs.Declarations.{Declaration, item_declared, module_declared, names_of, repeated_names}
 use Rattle.vs_elaborated.specs.Parameters.{Override, first_entries, said_parameters}
 use Rattle.vs_elaborated.specs.Signals.{SaidSignal, said_signals, range_faults, put_signals}
@@ -45,7 +45,7 @@ abbrev pub block_said : Env → tree.AlwaysBlock → Said
 block_said env b =
     let c = typed_control b.control (named env) in
     let s = typed_statement b.statement (named env) in
-    one_said (Own (Always b.place c.star c.events s.statement)) (c.faults ++ s.faults)
+    one_said (Own (Always b.place c.star c.events s.statement)) (c.faults ++ (s.faults ++ unclocked_faults (is_clocked_by b.control) b.statement (named env)))
 
 -- a block's loop value is known within it
 abbrev pub turned : Env → Option Turn → Env

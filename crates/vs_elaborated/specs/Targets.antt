@@ -1,14 +1,15 @@
 -- What an assign or an assignment writes (IEEE 1364-2005, table 6-1).
 use Rattle.std.specs.Prelude.{ℕ, Bool, true, false, not, ◌&&◌, ◌||◌, List, [], ◌++◌, Option, Some, None}
 use Rattle.vs_design.specs.Expressions.{Signal}
-use Rattle.vs_design.specs.Statements.{Target, Whole, PartOf, Both}
+use Rattle.vs_design.specs.Statements.{Target, Whole, PartOf, WordOf, Both}
 use Rattle.vs_grammar.specs.Trees as tree
 use Rattle.vs_grammar.specs.Trees.{expr_place}
 use Rattle.vs_const.specs.declared.faults.Fault.{Fault}
 use Rattle.vs_const.specs.Faults.{fault, fault_if}
 use Rattle.vs_const.specs.declared.rules.Rule.TheVariants.{UnknownName, WrongKind}
-use Rattle.vs_const.specs.Meanings.{SignalMeaning, Meaning, ASignal, Unknown, Find}
+use Rattle.vs_const.specs.Meanings.{SignalMeaning, Meaning, ASignal, AMemory, Unknown, Find}
 use Rattle.vs_const.specs.Selects.{Base, no_base, signal_base, is_scalar, Taken, taken, slice_taken, first_needed}
+use Rattle.vs_const.specs.Typed.{Typed}
 use Rattle.vs_const.specs.Expressions.{typed}
 
 -- what stands where no signal is named
@@ -39,14 +40,20 @@ target_base procedural place is_selected _ = no_base None (fault WrongKind place
 abbrev pub part_target : Signal → Base → Taken → TypedTarget
 part_target s b t = record { target = PartOf s t.part t.index; faults = b.faults ++ t.faults }
 
+-- a word of a memory (4.9.3)
+abbrev pub word_target : (procedural : Bool) → (place : ℕ) → SignalMeaning → Typed → TypedTarget
+word_target procedural place m i = record { target = WordOf m.signal i.expression; faults = fault_if (is_wrong_target procedural m) WrongKind place ++ i.faults }
+
+-- `name[i]`: a word of a memory, a bit of anything else
+abbrev pub bit_target : (procedural : Bool) → (place : ℕ) → Meaning → Typed → TypedTarget
+bit_target procedural place (AMemory m) i = word_target procedural place m i
+bit_target procedural place m i = let b = target_base procedural place true m in part_target (meant_signal m) b (taken b.range true 1 i i.faults)
+
 -- the index of an assign's target is a constant
 abbrev pub selected_target : tree.Select → tree.Name → Find → Bool → TypedTarget
 selected_target tree.Whole name find procedural =
     record { target = Whole (meant_signal (find name.bytes)); faults = (target_base procedural name.place false (find name.bytes)).faults }
-selected_target (tree.BitAt bracket index) name find procedural =
-    let b = target_base procedural name.place true (find name.bytes) in
-    let i = typed index find (not procedural) in
-    part_target (meant_signal (find name.bytes)) b (taken b.range true 1 i i.faults)
+selected_target (tree.BitAt bracket index) name find procedural = bit_target procedural name.place (find name.bytes) (typed index find (not procedural))
 selected_target (tree.Slice bracket kind e f) name find procedural =
     let b = target_base procedural name.place true (find name.bytes) in
     part_target (meant_signal (find name.bytes)) b (slice_taken b.range bracket kind (expr_place e) (typed e find (first_needed kind (not procedural))) (expr_place f) (typed f find true))
