@@ -9,7 +9,7 @@ use Rattle.vs_const.specs.Meanings.{SignalMeaning, Meaning, AValue, Undefined, A
 use Rattle.vs_const.specs.Typed.{Typed}
 use Rattle.vs_const.specs.Expressions.{typed}
 
--- what a name means where no fault was met: a value with its range, a known signal of the design (in a constant any signal is a fault), or nothing that an expression can name
+-- what a name means where no fault was met: a value with its range, a known signal or memory of the design (in a constant any of them is a fault), or nothing that an expression can name
 abbrev pub IsSoundSignal : Design → Bool → SignalMeaning → Type 0
 IsSoundSignal d true s = Unit {0}
 IsSoundSignal d false s = (is_plain d s.signal ≡ true) × (s.known ≡ true) × (s.signal.input ≡ true → s.input ≡ true)
