@@ -8,7 +8,7 @@ use Rattle.vs_design.specs.Expressions.{Signal}
 use Rattle.vs_grammar.specs.Trees as tree
 use Rattle.vs_grammar.specs.Trees.{Expr, NoExpr, AndExpr, Whole, BitAt, Slice, Between, Upward, Clog2}
 use Rattle.vs_const.specs.declared.faults.Fault.{Fault}
-use Rattle.vs_const.specs.Meanings.{ConstantValue, Meaning, AValue, Undefined, ASignal, Another, Unknown, Find}
+use Rattle.vs_const.specs.Meanings.{ConstantValue, Meaning, AValue, Undefined, ASignal, AMemory, Another, Unknown, Find}
 use Rattle.vs_const.specs.Constants.{constant_answer, number_answer}
 use Rattle.vs_const.specs.Faults.{Rule, BadRange, NotConstant, UnknownConstant, UnknownName, WrongKind}
 
@@ -20,10 +20,15 @@ to_zero left = record { left = left; right = 0 }
 abbrev pub vector : Signal
 vector = record { name = 118 ∷ []; scope = 0; number = 0; net = true; input = false; range = Some (to_zero 3); signed = false; first = 0; words = None }
 
--- `v` is a signal of four bits, `p` a parameter of value `4'd9`, `d` one whose value another fault leaves undefined, `g` a generate block
+-- four words of eight bits
+abbrev pub memory : Signal
+memory = record { name = 109 ∷ []; scope = 0; number = 1; net = false; input = false; range = Some (to_zero 7); signed = false; first = 4; words = Some (to_zero 3) }
+
+-- `v` is a signal of four bits, `m` a memory, `p` a parameter of value `4'd9`, `d` one whose value another fault leaves undefined, `g` a generate block
 abbrev pub letter : ℕ → Meaning
 letter c =
     if c == 118 then ASignal (record { signal = vector; input = false; known = true })
+    else if c == 109 then AMemory (record { signal = memory; input = false; known = true })
     else if c == 112 then AValue (record { bits = bits_of 4 9; signed = false }) (to_zero 3)
     else if c == 100 then Undefined (Some (to_zero 3))
     else if c == 103 then Another
@@ -52,6 +57,9 @@ a_name place c = record { bytes = c ∷ []; place = place }
 
 abbrev pub v : ℕ → Expr
 v place = tree.Named (a_name place 118) Whole
+
+abbrev pub m : ℕ → Expr
+m place = tree.Named (a_name place 109) Whole
 
 abbrev pub p : ℕ → Expr
 p place = tree.Named (a_name place 112) Whole
@@ -111,6 +119,9 @@ pub record ConstantsComputed : Type 0 where
   pub signal_of_long : constant_answer (two 0 (dec 1 64 0) (tree.Named (a_name 3 118) (BitAt 4 (plain 5 1)))) names None ≡ breaks NotConstant 3
   pub signal_in_logarithm : constant_answer (two 0 (dec 1 64 0) (tree.Call 3 Clog2 (v 5))) names None ≡ breaks NotConstant 5
   pub signal_compared : constant_answer (two 0 (dec 1 64 0) (tree.Binary tree.Equal (v 3) (p 5))) names None ≡ breaks NotConstant 3
+  -- `m`, and `p + m[0]` at the memory
+  pub memory_alone : constant_answer (m 0) names None ≡ breaks NotConstant 0
+  pub word : constant_answer (tree.Binary tree.Add (p 0) (tree.Named (a_name 2 109) (BitAt 3 (plain 4 0)))) names None ≡ breaks NotConstant 2
   -- ---- bits of a number are unknown
 
   -- `$clog2(1'bx)` and `$clog2((1'bx))`
