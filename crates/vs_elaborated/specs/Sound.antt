@@ -3,7 +3,7 @@ use Rattle.std.specs.Prelude.{◌≡◌, ◌≤◌, ◌+◌, ℕ, Bool, true, fa
 use Rattle.vs_design.specs.Expressions.{Signal, signal_length, width}
 use Rattle.vs_design.specs.Designs.{Design}
 use Rattle.vs_design.specs.Footprints.{is_net}
-use Rattle.vs_design.specs.Elaborated.{is_signal, is_plain, is_lawful_range, is_formed, is_formed_target, has_constant_selects, is_formed_process}
+use Rattle.vs_design.specs.Elaborated.{is_signal, is_plain, is_lawful_range, is_formed, is_formed_target, has_constant_selects, is_formed_process, has_clocked_words}
 use Rattle.vs_grammar.specs.Trees.{Name, Connections, Item, Module, Source}
 use Rattle.vs_grammar.specs.Trees as tree
 use Rattle.vs_grammar.specs.Shapes.{Each, AreConnections, IsGenerateItem, IsModule}
@@ -69,7 +69,7 @@ pub record IsSoundTask (d : Design) (k : Task) : Type 0 where
 
 -- a piece without a fault
 abbrev pub IsFinePiece : Design → Piece → Type 0
-IsFinePiece d (Own p) = is_formed_process d p ≡ true
+IsFinePiece d (Own p) = (is_formed_process d p ≡ true) × (has_clocked_words p ≡ true)
 IsFinePiece d (Instance connections task) = Each (IsFineConnection d) connections × IsSoundTask d task
 IsFinePiece d (Within task) = IsSoundTask d task
 
@@ -95,11 +95,11 @@ pub record MeansSignal (d : Design) (es : List Entry) (name : List ℕ) : Type 0
   pub declared : entry.declared ≡ OfSignal meaning
   pub there : is_plain d meaning.signal ≡ true
 
--- each port that an instance connects is a signal in it, if there is no fault in it (12.3.3)
+-- each port that an instance connects is a signal in it, if it is as the grammar has it and there is no fault in it (12.3.3)
 abbrev pub HasPorts : Design → Limits → Source → Piece → Type 0
 HasPorts d limits source (Own p) = Unit {0}
 HasPorts d limits source (Instance connections task) =
-    (totals : Totals) → (survey limits source task totals).faults ≡ [] → AreSoundEntries d false (survey limits source task totals).entries
+    (totals : Totals) → IsShapedContents task.contents → (survey limits source task totals).faults ≡ [] → AreSoundEntries d false (survey limits source task totals).entries
     → Each (λ (c : Connection). MeansSignal d (survey limits source task totals).entries (connection_name c)) connections
 HasPorts d limits source (Within task) = Unit {0}
 
