@@ -1,5 +1,5 @@
 -- The arms of the recursion over an expression.
-use Rattle.std.proofs.Common.{◌≡◌, ℕ, Bool, true, Result, IfOk, subst}
+use Rattle.std.proofs.Common.{◌≡◌, ℕ, Bool, true, Result, IfOk, refl, subst}
 use Rattle.std.specs.declared.alloc.AllocError.{AllocError}
 use Rattle.vs_grammar.specs.Trees as tree
 use Rattle.vs_grammar.specs.Trees.{expr_place}
@@ -8,10 +8,12 @@ use Rattle.vs_ast.specs.declared.expressions.Expr.{Expr}
 use Rattle.vs_base.specs.declared.operators.BinaryOp.{BinaryOp}
 use Rattle.vs_const.specs.declared.found.Found.{Found}
 use Rattle.vs_const.specs.declared.names.Named.{Named}
+use Rattle.vs_const.specs.declared.names.Named.TheVariants.{Value, Undefined as UndefinedValue, Signal as SignalNamed, Memory as MemoryNamed, Other, Unknown as UnknownName}
+use Rattle.vs_const.specs.declared.names.SignalShape.{SignalShape}
 use Rattle.vs_const.specs.declared.ranges.Numbered.{Numbered as NumberedOf}
-use Rattle.vs_const.specs.Meanings.{Meaning, Means, Find, IsFair, IsFairMeaning}
+use Rattle.vs_const.specs.Meanings.{SignalMeaning, Meaning, AValue, Undefined, ASignal, AMemory, Another, Unknown, Means, Find, IsFair, IsFairMeaning}
 use Rattle.vs_const.specs.Typed.{Typed, noted, binary_typed, number_of}
-use Rattle.vs_const.specs.Selects.{base_of, select_typed, slice_taken, moving}
+use Rattle.vs_const.specs.Selects.{base_of, taken, select_typed, slice_taken, moving, bit_typed}
 use Rattle.vs_const.specs.Expressions.{typed, selected, number, clog2_typed}
 use Rattle.vs_const.specs.Checks.{ChecksNumber}
 use Rattle.vs_const.specs.Found.{Finds, Says}
@@ -68,3 +70,22 @@ moving_arm needed up find name a b x y w rp named c n r fair e i j l q u v f =
     let P : ℕ → Type 0 = λ d. ChecksNumber n (number_of d s) → IfOk r (λ k. Finds needed k (select_typed (base_of needed name.place o) (moving (base_of needed name.place o).range up t d s))) in
     let here : P (expr_place (view.expr b)) = subst P (placed b w rp l q) (f o t s (fair name.bytes) e (subst (λ d. Says needed c (typed (view.expr d) find needed)) i u)) in
     here (subst (λ d. ChecksNumber n (number (view.expr d) find)) j v)
+
+-- what is no memory has bits
+pub bit_arm : (needed : Bool) (place : ℕ) (named : Named) (m : Meaning) (t : Typed) (r : Result Found AllocError) → ((s : SignalShape) → named ≡ MemoryNamed s → ⊥) → Means named m
+    → IfOk r (λ s. Finds needed s (select_typed (base_of needed place m) (taken (base_of needed place m).range true 1 t t.faults)))
+    → IfOk r (λ s. Finds needed s (bit_typed needed place m t))
+bit_arm needed place named (AValue v q) t r other h f = f
+bit_arm needed place named (Undefined q) t r other h f = f
+bit_arm needed place named (ASignal s) t r other h f = f
+bit_arm needed place named Another t r other h f = f
+bit_arm needed place named Unknown t r other h f = f
+bit_arm needed place (Value v q) (AMemory m) t r other h f = cc
+bit_arm needed place (UndefinedValue q) (AMemory m) t r other h f = cc
+bit_arm needed place (SignalNamed s) (AMemory m) t r other h f = absurd (differ h.1)
+  where
+    differ : {k : SignalMeaning} → AMemory m ≡ ASignal k → ⊥
+    differ e = cc
+bit_arm needed place (MemoryNamed s) (AMemory m) t r other h f = absurd (other s refl)
+bit_arm needed place Other (AMemory m) t r other h f = cc
+bit_arm needed place UnknownName (AMemory m) t r other h f = cc

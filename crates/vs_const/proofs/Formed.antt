@@ -9,22 +9,23 @@ use Rattle.vs_design.specs.Expressions.{OfSignal, OfConstant, Expression, Litera
 use Rattle.vs_design.specs.Values.{constant_value}
 use Rattle.vs_design.specs.Designs.{Design}
 use Rattle.vs_design.specs.Fits.{fits_64}
-use Rattle.vs_design.specs.Elaborated.{is_plain, is_lawful_range, same_range, is_formed, is_formed_select}
+use Rattle.vs_design.specs.Elaborated.{is_plain, has_words, is_lawful_range, same_range, is_formed, is_formed_select}
 use Rattle.vs_grammar.specs.Trees as tree
 use Rattle.vs_grammar.specs.Trees.{expr_place}
 use Rattle.vs_grammar.specs.Shapes.{IsExpr, AreParts, IsSelect, IsLiteral}
 use Rattle.vs_const.specs.declared.faults.Fault.{Fault}
 use Rattle.vs_const.specs.Faults.{Rule, fault, fault_if, names_signal, BadRange, UnknownConstant, WrongKind}
-use Rattle.vs_const.specs.Meanings.{SignalMeaning, Meaning, AValue, Undefined, ASignal, Another, Unknown, Find, ConstantValue, IsFairValue}
-use Rattle.vs_const.specs.Sound.{IsSound, AreSound, IsFine}
+use Rattle.vs_const.specs.Meanings.{SignalMeaning, Meaning, AValue, Undefined, ASignal, AMemory, Another, Unknown, Find, ConstantValue, IsFairValue}
+use Rattle.vs_const.specs.Sound.{IsSoundMemory, IsSound, AreSound, IsFine}
 use Rattle.vs_const.specs.Typed.{Typed, begins_at, is_over, noted, known_number, number_known, number_if, number_of, natural_if, natural_within, natural, both_lengths, length_map, unary_op_length, unary_typed, binary_way_length, binary_typed, choice_typed, join_typed, copies_typed, fine}
-use Rattle.vs_const.specs.Selects.{range_if, range_of, bounds, known_signal, name_typed, Base, is_scalar, signal_base, base_of, Taken, taken, if_width, moving, is_against, lesser_bound, along, between, slice_taken, first_needed, select_if, select_typed}
+use Rattle.vs_const.specs.Selects.{range_if, range_of, bounds, known_signal, name_typed, Base, is_scalar, signal_base, base_of, Taken, taken, if_width, moving, is_against, lesser_bound, along, between, slice_taken, first_needed, select_if, select_typed, word_if, word_typed, bit_typed}
 use Rattle.vs_const.specs.Expressions.{unsized_faults, is_clean, part_typed, replicated, replication_typed, clog2_of, clog2_typed, call_typed, argument_needed, typed, selected, typed_parts}
 
 pub sound_needed : (d : Design) (needed : Bool) (m : Meaning) → IsSound d needed m → IsSound d true m
 sound_needed d needed (AValue v r) s = s
 sound_needed d needed (Undefined r) s = s
 sound_needed d needed (ASignal m) s = tt
+sound_needed d needed (AMemory m) s = tt
 sound_needed d needed Another s = tt
 sound_needed d needed Unknown s = tt
 
@@ -259,7 +260,7 @@ range_is bracket left right true e h k f =
     all_three false b c h k l = cc
 range_is bracket left right false e h k f = cc
 
-range_of_is : (bracket : ℕ) (m n : Option ℕ) → IsNumber 0 65535 m → IsNumber 0 65535 n → (range_of bracket m n).faults ≡ [] → IsRange (range_of bracket m n).range
+range_of_is : (bracket : ℕ) (m n : Option ℕ) → IsNumber 0 65535 m → IsNumber 0 65535 n → (range_of 64 bracket m n).faults ≡ [] → IsRange (range_of 64 bracket m n).range
 range_of_is bracket None n g h k = absurd (no g.is)
   where
     no : {m : ℕ} → None ≡ Some m → ⊥
@@ -281,8 +282,8 @@ pub bounds_fine : (d : Design) (bracket p q : ℕ) (t u : Typed) → (t.faults �
 bounds_fine d bracket p q t u t_if u_if h =
     let m = natural 0 65535 p t in
     let n = natural 0 65535 q u in
-    let a = both_nil m.faults (n.faults ++ (range_of bracket m.number n.number).faults) h in
-    let b = both_nil n.faults (range_of bracket m.number n.number).faults a.1 in
+    let a = both_nil m.faults (n.faults ++ (range_of 64 bracket m.number n.number).faults) h in
+    let b = both_nil n.faults (range_of 64 bracket m.number n.number).faults a.1 in
     range_of_is bracket m.number n.number (natural_fine d true 0 65535 p t t_if a.0) (natural_fine d true 0 65535 q u u_if b.0) b.1
 
 -- ---- names
@@ -302,6 +303,8 @@ name_fine d false place (ASignal m) s h = known m.known s.1
         no : false ≡ true → is_constant (Name m.signal) ≡ true
         no k = cc
     known false e = cc
+name_fine d true place (AMemory m) s h = cc
+name_fine d false place (AMemory m) s h = cc
 name_fine d needed place Another s h = cc
 name_fine d needed place Unknown s h = cc
 
@@ -368,6 +371,8 @@ base_fine d true place (Undefined r) s h = absurd s
 base_fine d false place (Undefined r) s h = absurd s
 base_fine d true place (ASignal m) s h = cc
 base_fine d false place (ASignal m) s h = signal_base_fine d place m m.signal.range refl s.0 s.1 h
+base_fine d true place (AMemory m) s h = cc
+base_fine d false place (AMemory m) s h = cc
 base_fine d true place Another s h = cc
 base_fine d false place Another s h = cc
 base_fine d true place Unknown s h = cc
@@ -475,6 +480,43 @@ pub taken_faults : (declared : Option Range) (up : Bool) (n : ℕ) (t : Typed) (
 taken_faults None up n t fs = refl
 taken_faults (Some r) up n t fs = refl
 
+-- ---- words
+
+-- a word is named where no constant is needed
+word_fine : (d : Design) (needed : Bool) (place : ℕ) (m : SignalMeaning) (i : Typed) → IsSoundMemory d needed m → (i.faults ≡ [] → IsFine d needed i) → (word_typed needed place m i).faults ≡ [] → IsFine d needed (word_typed needed place m i)
+word_fine d true place m i s fine_if h = cc
+word_fine d false place m i s fine_if h = of (m.known && i.good) refl h
+  where
+    no : false ≡ true → is_constant (Word m.signal i.expression) ≡ true
+    no c = cc
+
+    found : IsFine d false i → IsFine d false (word_if true m i)
+    found f = record { good = refl; formed = both (has_words d m.signal) (is_formed d i.expression) s.0 f.formed; length = refl; constant = λ k. no k }
+
+    of : (b : Bool) → (m.known && i.good) ≡ b → (word_if b m i).faults ≡ [] → IsFine d false (word_if b m i)
+    of true e k = found (fine_if k)
+    of false e k = absurd (wrong (both m.known i.good s.1 (fine_if k).good) e)
+      where
+        wrong : (m.known && i.good) ≡ true → (m.known && i.good) ≡ false → ⊥
+        wrong g f = cc
+
+-- one bit of a name that is no memory's
+one_bit_fine : (d : Design) (needed : Bool) (place : ℕ) (m : Meaning) (i : Typed) → IsSound d needed m → (i.faults ≡ [] → IsFine d needed i)
+    → (select_typed (base_of needed place m) (taken (base_of needed place m).range true 1 i i.faults)).faults ≡ [] → IsFine d needed (select_typed (base_of needed place m) (taken (base_of needed place m).range true 1 i i.faults))
+one_bit_fine d needed place m i s fine_if h =
+    let b = base_of needed place m in
+    let k = select_faults b (taken b.range true 1 i i.faults) h in
+    let f = base_fine d needed place m s k.0 in
+    select_fine d needed b (taken b.range true 1 i i.faults) f (bit_fine d needed b.range f.r i f.range (fine_if (sym (taken_faults b.range true 1 i i.faults) ∙ k.1)))
+
+bit_typed_fine : (d : Design) (needed : Bool) (place : ℕ) (m : Meaning) (i : Typed) → IsSound d needed m → (i.faults ≡ [] → IsFine d needed i) → (bit_typed needed place m i).faults ≡ [] → IsFine d needed (bit_typed needed place m i)
+bit_typed_fine d needed place (AMemory m) i s fine_if h = word_fine d needed place m i s fine_if h
+bit_typed_fine d needed place (AValue v r) i s fine_if h = one_bit_fine d needed place (AValue v r) i s fine_if h
+bit_typed_fine d needed place (Undefined r) i s fine_if h = one_bit_fine d needed place (Undefined r) i s fine_if h
+bit_typed_fine d needed place (ASignal m) i s fine_if h = one_bit_fine d needed place (ASignal m) i s fine_if h
+bit_typed_fine d needed place Another i s fine_if h = one_bit_fine d needed place Another i s fine_if h
+bit_typed_fine d needed place Unknown i s fine_if h = one_bit_fine d needed place Unknown i s fine_if h
+
 -- a literal of the text has 1 to 64 bits, and 32 without a size
 literal_formed : (d : Design) (n : tree.Literal) → IsLiteral n → is_formed d (Literal n.bits n.signed n.sized) ≡ true
 literal_formed d n x = both (fits_64 (length n.bits)) (n.sized || (length n.bits == 32)) (both (nat_le 1 (length n.bits)) (nat_le (length n.bits) 64) (le-leb 1 (length n.bits) x.some) (le-leb (length n.bits) 64 x.most)) (sized n.sized x.unsized)
@@ -511,12 +553,7 @@ module _ (d : Design) (find : Find) where
 
     selected_fine : (select : tree.Select) (name : tree.Name) (needed : Bool) → AreSound d needed find → IsSelect select → (selected select name find needed).faults ≡ [] → IsFine d needed (selected select name find needed)
     selected_fine tree.Whole name needed s x h = name_fine d needed name.place (find name.bytes) (s name.bytes) h
-    selected_fine (tree.BitAt bracket index) name needed s x h =
-        let b = base_of needed name.place (find name.bytes) in
-        let i = typed index find needed in
-        let k = select_faults b (taken b.range true 1 i i.faults) h in
-        let f = base_fine d needed name.place (find name.bytes) (s name.bytes) k.0 in
-        select_fine d needed b (taken b.range true 1 i i.faults) f (bit_fine d needed b.range f.r i f.range (typed_fine index needed s x (sym (taken_faults b.range true 1 i i.faults) ∙ k.1)))
+    selected_fine (tree.BitAt bracket index) name needed s x h = bit_typed_fine d needed name.place (find name.bytes) (typed index find needed) (s name.bytes) (λ k. typed_fine index needed s x k) h
     selected_fine (tree.Slice bracket kind e g) name needed s x h =
         let b = base_of needed name.place (find name.bytes) in
         let t = slice_taken b.range bracket kind (expr_place e) (typed e find (first_needed kind needed)) (expr_place g) (typed g find true) in

@@ -11,9 +11,9 @@ use Rattle.vs_grammar.specs.Trees as tree
 use Rattle.vs_grammar.specs.Trees.{expr_place}
 use Rattle.vs_grammar.specs.Shapes.{IsExpr, AreParts, IsSelect}
 use Rattle.vs_const.specs.declared.faults.Fault.{Fault}
-use Rattle.vs_const.specs.Meanings.{Meaning, AValue, Undefined, ASignal, Another, Unknown, Find, IsFairMeaning, IsFair}
+use Rattle.vs_const.specs.Meanings.{Meaning, AValue, Undefined, ASignal, AMemory, Another, Unknown, Find, IsFairMeaning, IsFair}
 use Rattle.vs_const.specs.Typed.{Typed, is_over, noted, number_of, natural_if, natural_within, natural, both_lengths, length_map, unary_op_length, unary_typed, binary_way_length, binary_typed, choice_typed, join_typed, copies_typed, fine}
-use Rattle.vs_const.specs.Selects.{bounds, name_typed, Base, base_of, Taken, taken, if_width, is_against, along, between, slice_taken, first_needed, select_if, select_typed}
+use Rattle.vs_const.specs.Selects.{bounds, name_typed, Base, base_of, Taken, taken, if_width, is_against, along, between, slice_taken, first_needed, select_if, select_typed, bit_typed}
 use Rattle.vs_const.specs.Expressions.{unsized_faults, is_clean, part_typed, replicated, replication_typed, clog2_of, clog2_typed, typed, selected, typed_parts}
 use Rattle.vs_const.proofs.Formed.{begins_same, split, way_length, length_some}
 
@@ -138,8 +138,21 @@ name_long : (place : ℕ) (m : Meaning) → IsFairMeaning m → (name_typed true
 name_long place (AValue v r) f h = record { length = refl; some = f.some }
 name_long place (Undefined r) f h = cc
 name_long place (ASignal s) f h = cc
+name_long place (AMemory m) f h = cc
 name_long place Another f h = cc
 name_long place Unknown f h = cc
+
+one_bit_long : (place : ℕ) (m : Meaning) (i : Typed) → (select_typed (base_of true place m) (taken (base_of true place m).range true 1 i i.faults)).good ≡ true → IsLong (select_typed (base_of true place m) (taken (base_of true place m).range true 1 i i.faults))
+one_bit_long place m i h = let b = base_of true place m in select_long b (taken b.range true 1 i i.faults) (λ k. taken_long b.range true 1 i i.faults k (omega arith)) h
+
+-- a word is no constant
+bit_long : (place : ℕ) (m : Meaning) (i : Typed) → (bit_typed true place m i).good ≡ true → IsLong (bit_typed true place m i)
+bit_long place (AMemory m) i h = cc
+bit_long place (AValue v r) i h = one_bit_long place (AValue v r) i h
+bit_long place (Undefined r) i h = one_bit_long place (Undefined r) i h
+bit_long place (ASignal s) i h = one_bit_long place (ASignal s) i h
+bit_long place Another i h = one_bit_long place Another i h
+bit_long place Unknown i h = one_bit_long place Unknown i h
 
 part_long : (e : tree.Expr) (t : Typed) → (t.good ≡ true → IsLong t) → (part_typed e t).good ≡ true → IsLong (part_typed e t)
 part_long e t k h = let g = k (split t.good (is_clean (unsized_faults e)) h).0 in record { length = g.length; some = g.some }
@@ -169,10 +182,7 @@ module _ (find : Find) (fair : IsFair find) where
 
     selected_long : (select : tree.Select) (name : tree.Name) → IsSelect select → (selected select name find true).good ≡ true → IsLong (selected select name find true)
     selected_long tree.Whole name x h = name_long name.place (find name.bytes) (fair name.bytes) h
-    selected_long (tree.BitAt bracket index) name x h =
-        let b = base_of true name.place (find name.bytes) in
-        let i = typed index find true in
-        select_long b (taken b.range true 1 i i.faults) (λ k. taken_long b.range true 1 i i.faults k (omega arith)) h
+    selected_long (tree.BitAt bracket index) name x h = bit_long name.place (find name.bytes) (typed index find true) h
     selected_long (tree.Slice bracket kind e f) name x h =
         let b = base_of true name.place (find name.bytes) in
         select_long b (slice_taken b.range bracket kind (expr_place e) (typed e find (first_needed kind true)) (expr_place f) (typed f find true)) (λ k. slice_long b.range bracket kind (expr_place e) (typed e find (first_needed kind true)) (expr_place f) (typed f find true) k) h

@@ -7,7 +7,7 @@ ghost use Rattle.vs_grammar.specs.Shapes.{IsExpr, IsSelect, AreParts};
 ghost use Rattle.vs_ast.specs.Views as view;
 ghost use Rattle.vs_const.specs.Meanings.{IsFair};
 ghost use Rattle.vs_const.specs.Expressions as expr;
-ghost use Rattle.vs_const.specs.Selects.{bounds};
+ghost use Rattle.vs_const.specs.Selects.{bounds_of, bounds, address_bounds};
 ghost use Rattle.vs_const.specs.Typed.{natural};
 ghost use Rattle.vs_const.specs.Checks.{ChecksBounds, ChecksNatural, ChecksNumber, IsUnsizedAt};
 ghost use Rattle.vs_const.specs.Found.{Finds, Says};
@@ -281,7 +281,28 @@ pub fn natural<E: Env>(
     Ok(natural_of(low, high, place_of(e), n))
 }
 
-/// The range with these bounds, which are needed constants.
+/// The range of so many numbers at most with these bounds, which are needed constants.
+fn range_up_to<E: Env>(
+    alloc: Global,
+    most: u64,
+    bracket: u32,
+    left: &Expr,
+    right: &Expr,
+    env: &E,
+) -> Result<Bounds, AllocError>
+    requires left { IsExpr (view.expr left.now) }
+    requires right { IsExpr (view.expr right.now) }
+    requires fair { IsFair (E.names env.now) }
+    ensures is { IfOk result (λ b. ChecksBounds b (bounds_of most bracket (expr_place (view.expr left.now)) (expr.constant (view.expr left.now) (E.names env.now))
+        (expr_place (view.expr right.now)) (expr.constant (view.expr right.now) (E.names env.now)))) }
+    ensures short { IfOk result (λ b. IfSome b.range (λ r. range_length r ≤ most)) }
+{
+    let m = numbered(alloc, left, env)?;
+    let n = numbered(alloc, right, env)?;
+    Ok(range_of_bounds(most, bracket, place_of(left), m, place_of(right), n))
+}
+
+/// The range of a vector with these bounds, which are needed constants.
 pub fn bounds<E: Env>(
     alloc: Global,
     bracket: u32,
@@ -296,7 +317,23 @@ pub fn bounds<E: Env>(
         (expr_place (view.expr right.now)) (expr.constant (view.expr right.now) (E.names env.now)))) }
     ensures short { IfOk result (λ b. IfSome b.range (λ r. range_length r ≤ 64)) }
 {
-    let m = numbered(alloc, left, env)?;
-    let n = numbered(alloc, right, env)?;
-    Ok(range_of_bounds(bracket, place_of(left), m, place_of(right), n))
+    range_up_to(alloc, 64, bracket, left, right, env)
+}
+
+/// The addresses of a memory with these bounds, which are needed constants (IEEE 1364-2005, 4.9).
+pub fn address_bounds<E: Env>(
+    alloc: Global,
+    bracket: u32,
+    left: &Expr,
+    right: &Expr,
+    env: &E,
+) -> Result<Bounds, AllocError>
+    requires left { IsExpr (view.expr left.now) }
+    requires right { IsExpr (view.expr right.now) }
+    requires fair { IsFair (E.names env.now) }
+    ensures is { IfOk result (λ b. ChecksBounds b (address_bounds bracket (expr_place (view.expr left.now)) (expr.constant (view.expr left.now) (E.names env.now))
+        (expr_place (view.expr right.now)) (expr.constant (view.expr right.now) (E.names env.now)))) }
+    ensures short { IfOk result (λ b. IfSome b.range (λ r. range_length r ≤ 1024)) }
+{
+    range_up_to(alloc, 1024, bracket, left, right, env)
 }

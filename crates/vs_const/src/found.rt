@@ -24,7 +24,7 @@ use crate::operators::{
 };
 use crate::ranges::{Numbered, natural_of, range_of_bounds};
 use crate::rules::Rule;
-use crate::selects::{base_of, between, bits_from, moving, name_alone, taken_of};
+use crate::selects::{base_of, between, bits_from, moving, name_alone, taken_of, word};
 use std::alloc::{AllocError, Global};
 use vs_ast::Literal;
 use vs_base::{BinaryOp, Context, UnaryOp};
@@ -458,7 +458,7 @@ pub(crate) fn find_name(needed: bool, place: u32, named: &Named) -> Found
 }
 
 /// One bit of a name.
-pub(crate) fn find_bit(
+fn find_one_bit(
     alloc: Global,
     needed: bool,
     place: u32,
@@ -472,6 +472,27 @@ pub(crate) fn find_bit(
     let said = taken_of(base, bits_from(base.range, 1, i.said.good, i.said.flaws));
     let form = select_form(alloc, said.good, named, true, 1, i.form)?;
     Ok(Found { said, form })
+}
+
+/// `name[i]`: a word of a memory, which is no constant and so is never kept, or one bit of any other
+/// name.
+pub(crate) fn find_bit(
+    alloc: Global,
+    needed: bool,
+    place: u32,
+    named: &Named,
+    i: Found,
+) -> Result<Found, AllocError>
+    ensures { (m : Meaning) (t : typed.Typed) → IsFairMeaning m → Means named.now m → Says needed i t
+        → IfOk result (λ r. Finds needed r (spec.bit_typed needed place m t)) }
+{
+    match named {
+        Named::Memory(s) => Ok(Found {
+            said: word(needed, place, *s, i.said),
+            form: None,
+        }),
+        _ => find_one_bit(alloc, needed, place, named, i),
+    }
 }
 
 /// `[a:b]` of a name.
@@ -491,7 +512,7 @@ pub(crate) fn find_between(
         → IfOk result (λ r. Finds needed r (spec.select_typed (spec.base_of needed place m) (spec.slice_taken (spec.base_of needed place m).range bracket tree.Between left_place t right_place u))) }
 {
     let base = base_of(needed, place, named);
-    let bounds = range_of_bounds(bracket, left_place, left, right_place, right);
+    let bounds = range_of_bounds(64, bracket, left_place, left, right_place, right);
     let said = taken_of(base, between(base.range, bracket, bounds));
     let form = between_form(alloc, said.good, named, left_place, bounds.range)?;
     Ok(Found { said, form })

@@ -15,7 +15,7 @@ mod ranges;
 mod rules;
 mod selects;
 
-pub use checks::{bounds, check, natural, numbered, place_of};
+pub use checks::{address_bounds, bounds, check, natural, numbered, place_of};
 pub use constants::{constant, number};
 pub use error::ConstError;
 pub use faults::{

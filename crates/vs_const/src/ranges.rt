@@ -25,7 +25,7 @@ pub struct Natural {
     pub flaws: Flaws,
 }
 
-/// A range of at most 64 bits.
+/// A range, of a vector, of a select or of a memory.
 #[derive(Clone, Copy, Debug)]
 pub struct Bounds {
     pub range: Option<Range>,
@@ -66,12 +66,12 @@ pub(crate) fn natural_of(low: u32, high: u32, place: u32, n: Numbered) -> Natura
     }
 }
 
-/// The range, if it has at most 64 bits.
-fn up_to_64(bracket: u32, range: Range) -> Bounds
-    ensures short { IfSome result.range (λ r. four.range_length r ≤ 64) }
-    ensures is { ChecksBounds result (spec.up_to_64 bracket range) }
+/// The range, if it has at most so many numbers.
+fn up_to(most: u64, bracket: u32, range: Range) -> Bounds
+    ensures short { IfSome result.range (λ r. four.range_length r ≤ most) }
+    ensures is { ChecksBounds result (spec.up_to most bracket range) }
 {
-    if range.length() > 64 {
+    if range.length() > most {
         Bounds {
             range: None,
             flaws: flaw(Rule::BadRange, bracket),
@@ -85,12 +85,12 @@ fn up_to_64(bracket: u32, range: Range) -> Bounds
 }
 
 /// The range of two numbers.
-fn range_of(bracket: u32, left: Option<u32>, right: Option<u32>) -> Bounds
-    ensures short { IfSome result.range (λ r. four.range_length r ≤ 64) }
-    ensures is { ChecksBounds result (spec.range_of bracket left right) }
+fn range_of(most: u64, bracket: u32, left: Option<u32>, right: Option<u32>) -> Bounds
+    ensures short { IfSome result.range (λ r. four.range_length r ≤ most) }
+    ensures is { ChecksBounds result (spec.range_of most bracket left right) }
 {
     match (left, right) {
-        (Some(left), Some(right)) => up_to_64(bracket, Range { left, right }),
+        (Some(left), Some(right)) => up_to(most, bracket, Range { left, right }),
         _ => Bounds {
             range: None,
             flaws: flawless(),
@@ -98,22 +98,23 @@ fn range_of(bracket: u32, left: Option<u32>, right: Option<u32>) -> Bounds
     }
 }
 
-/// The range with these bounds.
+/// The range with these bounds, if it has at most so many numbers.
 #[tactic(auto, using(crate::proofs::Least::flaws_append))]
 pub(crate) fn range_of_bounds(
+    most: u64,
     bracket: u32,
     left_place: u32,
     left: Numbered,
     right_place: u32,
     right: Numbered,
 ) -> Bounds
-    ensures short { IfSome result.range (λ r. four.range_length r ≤ 64) }
+    ensures short { IfSome result.range (λ r. four.range_length r ≤ most) }
     ensures is { (t u : typed.Typed) → ChecksNumber left (typed.number_of left_place t) → ChecksNumber right (typed.number_of right_place u)
-        → ChecksBounds result (spec.bounds bracket left_place t right_place u) }
+        → ChecksBounds result (spec.bounds_of most bracket left_place t right_place u) }
 {
     let m = natural_of(0, 65535, left_place, left);
     let n = natural_of(0, 65535, right_place, right);
-    let r = range_of(bracket, m.number, n.number);
+    let r = range_of(most, bracket, m.number, n.number);
     Bounds {
         range: r.range,
         flaws: both(m.flaws, both(n.flaws, r.flaws)),

@@ -1,4 +1,4 @@
-//! Names, and selects of them (IEEE 1364-2005, 5.2.1).
+//! Names, selects of them (IEEE 1364-2005, 5.2.1) and words of memories (4.9.3).
 
 ghost use Rattle.std.specs.Prelude.{◌≡◌, ◌≤◌, ℕ, Bool, List, Option, None, [], min};
 ghost use Rattle.vs_four.specs.Selects as four;
@@ -43,7 +43,7 @@ fn short_length(range: Range) -> u32
     if length < 65 { length as u32 } else { 65 }
 }
 
-/// How many bits a signal has, as far as 65.
+/// How many bits a signal has, or each word of a memory, as far as 65.
 fn signal_length(range: Option<Range>) -> u32
     ensures { result ≡ min 65 (E.range_or_one range) }
 {
@@ -72,6 +72,17 @@ fn signal_name(needed: bool, place: u32, s: SignalShape) -> Checked
     }
 }
 
+/// The rule that the name of a memory breaks where no word of it is named: it is no constant, and has no value (4.9.3).
+fn memory_rule(needed: bool) -> Rule
+    ensures { result ≡ spec.memory_rule needed }
+{
+    if needed {
+        Rule::NotConstant
+    } else {
+        Rule::WrongKind
+    }
+}
+
 /// A name alone.
 pub(crate) fn name_alone(needed: bool, place: u32, named: &Named) -> Checked
     ensures { (m : Meaning) → IsFairMeaning m → Means named.now m → Checks result (spec.name_typed needed place m) }
@@ -85,6 +96,7 @@ pub(crate) fn name_alone(needed: bool, place: u32, named: &Named) -> Checked
         },
         Named::Undefined { range: _ } => undefined(),
         Named::Signal(s) => signal_name(needed, place, *s),
+        Named::Memory(_) => faulty(memory_rule(needed), place),
         Named::Other => faulty(Rule::WrongKind, place),
         Named::Unknown => faulty(Rule::UnknownName, place),
     }
@@ -138,6 +150,7 @@ pub(crate) fn base_of(needed: bool, place: u32, named: &Named) -> Base
         },
         Named::Undefined { range } => undefined_base(*range),
         Named::Signal(s) => signal_base(needed, place, *s),
+        Named::Memory(_) => faulty_base(memory_rule(needed), place),
         Named::Other => faulty_base(Rule::WrongKind, place),
         Named::Unknown => faulty_base(Rule::UnknownName, place),
     }
@@ -221,5 +234,32 @@ pub(crate) fn taken_of(b: Base, t: Taken) -> Checked
         length: t.length,
         good: b.good && t.good,
         signed: false,
+    }
+}
+
+/// The word of a memory at this address, which is no constant (4.9.3).
+#[tactic(auto, using(crate::proofs::Least::flaws_append))]
+pub(crate) fn word(needed: bool, place: u32, shape: SignalShape, index: Checked) -> Checked
+    ensures { (m : SignalMeaning) (i : typed.Typed) → shape.range ≡ m.signal.range → shape.signed ≡ m.signal.signed → shape.known ≡ m.known → Checks index i
+        → Checks result (spec.word_typed needed place m i) }
+{
+    if needed {
+        return Checked {
+            flaws: both(flaw(Rule::NotConstant, place), index.flaws),
+            length: None,
+            good: false,
+            signed: false,
+        };
+    }
+    let good = shape.known && index.good;
+    Checked {
+        flaws: index.flaws,
+        length: if shape.known {
+            Some(signal_length(shape.range))
+        } else {
+            None
+        },
+        good,
+        signed: good && shape.signed,
     }
 }
