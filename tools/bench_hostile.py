@@ -183,6 +183,16 @@ FAMILIES = {
     "products": ((250, 500, 1016), lambda n: "module top(input clk, input [63:0] a); wire [63:0] " + many(n, "w@ = a * ~a", ",") + "; endmodule\n"),
     "variable selects": ((1000, 2000, 4000), lambda n: "module top(input clk, input [63:0] a); wire " + many(n, "w@ = a[a[5:0]]", ",") + "; endmodule\n"),
     "sums": ((16000, 32000, 64000), lambda n: "module top(input clk, input [63:0] a); wire [15:0] " + many(n, "w@ = a + 1", ",") + "; endmodule\n"),
+    # memories
+    "memories of one bit": ((60000, 120000, 240000), lambda n: HEAD + "assign y = a; reg " + many(n, "m@[0:0]", ",") + "; endmodule\n"),
+    "memories of 65,536 bits": ((4, 8, 15), lambda n: HEAD + "assign y = a; reg [63:0] " + many(n, "m@ [0:1023]", ", ") + "; endmodule\n"),
+    "memories of more bits than a design has": ((16000, 32000, 64000), lambda n: HEAD + "assign y = a; reg [63:0] " + many(n, "m@ [0:1023]", ", ") + "; endmodule\n"),
+    "reads of a memory of 65,536 bits": ((30, 60, 120), lambda n: HEAD + "assign y = a; reg [63:0] m [0:1023]; wire " + many(n, "w@ = m[a]", ", ") + "; endmodule\n"),
+    "reads of one word of a memory of 65,536 bits": ((1000, 2000, 4000), lambda n: HEAD + "assign y = a; reg [63:0] m [0:1023]; wire " + many(n, "w@ = m[7]", ", ") + "; endmodule\n"),
+    "blocks that read one word of a memory of 65,536 bits": ((500, 1000, 2000), lambda n: HEAD + "assign y = a; reg [63:0] m [0:1023]; reg " + many(n, "s@", ", ") + "; " + blocks(n, "always @* s$ = m[7]; ") + "endmodule\n"),
+    "writes of each word of a memory": ((250, 500, 1000), lambda n: HEAD + "assign y = a; reg [63:0] m [0:1023]; always @(posedge clk) begin " + many(n, "m[@] <= a; ") + "end endmodule\n"),
+    "writes by a variable address": ((30, 60, 120), lambda n: HEAD + "assign y = a; reg [63:0] m [0:1023]; always @(posedge clk) begin " + "m[a] <= a; " * n + "end endmodule\n"),
+    "ifs that write a memory": ((250, 500, 1000), lambda n: HEAD + "assign y = a; reg [63:0] m [0:1023]; always @(posedge clk) begin " + many(n, "if (a) m[@] <= a; ") + "end endmodule\n"),
     # stimuli
     "inputs, with their header": ((2500, 5000, 10000), lambda n: (inputs(n), header(n))),
     "256 lanes of a design of many inputs": ((1250, 2500, 5000), lambda n: (inputs(n), [header(n)] * 256)),
