@@ -3,11 +3,12 @@
 #   bench   the design and the stimuli of `cyclesim bench` (crates/vs_bench), in 64 and in 256 lanes;
 #   gates   300 gates of one bit that all change in every clock period, in 64 lanes;
 #   still   3,000 signals of one bit of which 1 in 100 changes, in 64 lanes;
-#   gate    one gate of one bit that changes in every clock period, with 100 times as many vectors, in 64 lanes.
+#   gate    one gate of one bit that changes in every clock period, with 100 times as many vectors, in 64 lanes;
+#   memory  a memory of 1,024 words of 64 bits with one port to write and four to read, in 64 lanes.
 # Of the processor time it shows what goes to accept and to compile the design, to settle it, to find what changed in each slot (scan), to read
 # the stimuli (those of a run whose design has the inputs alone) and to put the text into files (the time of the system); the rest is to write the
-# text. Where Icarus Verilog or Verilator is installed (Debian's packages iverilog and verilator), it runs the first design on the same stimuli by
-# them, one lane after the other. It is no part of the gate. It proves and builds what it runs first, from what `rt check` kept here.
+# text. Where Icarus Verilog or Verilator is installed (Debian's packages iverilog and verilator), it runs the first design and the last on the same
+# stimuli by them, one lane after the other. It is no part of the gate. It proves and builds what it runs first, from what `rt check` kept here.
 set -eu
 vectors=${1:-1000}
 . "$(dirname "$0")/scratch.sh"
@@ -466,31 +467,54 @@ for lane in range(256):
     write("gates%d" % lane, "\n".join(["inputs a"] + flips) + "\n")
     write("gate%d" % lane, "\n".join(["inputs a"] + flips * 100) + "\n")
     write("still%d" % lane, "\n".join(["inputs a b"] + [flip + " 0" for flip in flips]) + "\n")
+    lines = []
+    for k in range(vectors):
+        state = (state * 6364136223846793005 + 1442695040888963407) % 2**64
+        lines.append(" ".join([str(k % 2), format(state >> 54, "010b"), format(state, "064b")] + [format((state >> shift) % 1024, "010b") for shift in (14, 24, 34, 44)]))
+    write("memory%d" % lane, "\n".join(["inputs w to d a b c e"] + lines) + "\n")
+    write("memory%d.bits" % lane, "\n".join(line.replace(" ", "_") for line in lines) + "\n")
 write("gate.v", "module top(input clk, input a, output y);\nassign y = ~a;\nendmodule\n")
 write("gates.v", "module top(input clk, input a);\n" + "".join("wire g%d = ~a;\n" % n for n in range(300)) + "endmodule\n")
 write("still.v", "module top(input clk, input a, input b);\n" + "".join("wire s%d = ~%s;\n" % (n, "a" if n % 100 == 0 else "b") for n in range(3000)) + "endmodule\n")
-write("bench_tb.v", """module bench_tb;
-reg clk; reg rst; reg [31:0] a; wire [31:0] y;
-top top(clk, rst, a, y);
-reg [32:0] lines [0:%d];
+write("memory.v", """module top(input clk, input w, input [9:0] to, input [63:0] d, input [9:0] a, b, c, e, output [63:0] p, q, r, s);
+reg [63:0] m [0:1023];
+always @(posedge clk) if (w) m[to] <= d;
+assign p = m[a], q = m[b], r = m[c], s = m[e];
+endmodule
+""")
+
+def testbench(name, inputs, outputs):
+    """A testbench that drives the inputs, each a name and a length, by the lines of a file."""
+    names = [port for port, _ in inputs]
+    write(name + "_tb.v", """module %s_tb;
+reg clk; %s
+%s
+top top(clk, %s);
+reg [%d:0] lines [0:%d];
 reg [1023:0] file; integer k;
 initial begin
   k = $value$plusargs("in=%%s", file); $readmemb(file, lines);
   k = $value$plusargs("out=%%s", file); $dumpfile(file); $dumpvars(0, top);
-  for (k = 0; k <= %d; k = k + 1) begin clk = 0; {rst, a} = lines[k]; #5; clk = 1; #5; end
+  for (k = 0; k <= %d; k = k + 1) begin clk = 0; {%s} = lines[k]; #5; clk = 1; #5; end
   $finish;
 end
 endmodule
-""" % (vectors - 1, vectors - 1))
+""" % (name, " ".join("reg [%d:0] %s;" % (n - 1, port) for port, n in inputs), " ".join("wire [%d:0] %s;" % (n - 1, port) for port, n in outputs),
+       ", ".join(names + [port for port, _ in outputs]), sum(n for _, n in inputs) - 1, vectors - 1, vectors - 1, ", ".join(names)))
+
+testbench("bench", [("rst", 1), ("a", 32)], [("y", 32)])
+testbench("memory", [("w", 1), ("to", 10), ("d", 64), ("a", 10), ("b", 10), ("c", 10), ("e", 10)], [("p", 64), ("q", 64), ("r", 64), ("s", 64)])
 FILES
 echo 'proving and building ..' >&2
 (cd crates/bench_phases && rt run -- 1 0 1 < ../../files/bench.v) > log 2>&1 || { tail -20 log >&2; exit 1; }
 (cd crates/cyclesim && cp data/* . && rt run -- run --top top --clock clk and.v s1) > log 2>&1 || { tail -20 log >&2; exit 1; }
 cd files
-if command -v iverilog > log; then iverilog -pRECURSIVE_MOD_LIMIT=20 -o icarus bench_tb.v bench.v; fi
-if command -v verilator > log; then
-    verilator --binary --timing --trace -O3 --x-assign fast -Wno-fatal --top-module bench_tb --Mdir verilated -o verilator bench_tb.v bench.v > log 2>&1 || tail -5 log >&2
-fi
+for design in bench memory; do
+    if command -v iverilog > log; then iverilog -pRECURSIVE_MOD_LIMIT=20 -o $design.icarus ${design}_tb.v $design.v; fi
+    if command -v verilator > log; then
+        verilator --binary --timing --trace -O3 --x-assign fast -Wno-fatal --top-module ${design}_tb --Mdir $design.verilated -o verilator ${design}_tb.v $design.v > log 2>&1 || tail -5 log >&2
+    fi
+done
 python3 - "$work/crates" "$vectors" <<'SHOW'
 import glob, os, re, subprocess, sys
 crates, vectors = sys.argv[1], int(sys.argv[2])
@@ -511,7 +535,7 @@ def written():
     return count
 
 # The inputs of each design, and which of their bits change.
-inputs = {"bench": ("input rst, input [31:0] a", 1, 33), "gates": ("input a", 0, 1), "gate": ("input a", 0, 1), "still": ("input a, input b", 0, 1)}
+inputs = {"memory": ("input w, input [9:0] to, input [63:0] d, input [9:0] a, b, c, e", 0, 115), "bench": ("input rst, input [31:0] a", 1, 33), "gates": ("input a", 0, 1), "gate": ("input a", 0, 1), "still": ("input a, input b", 0, 1)}
 
 def simulated(design, name, lanes):
     words = [crates + "/cyclesim/out/cyclesim", "run", "--top", "top", "--clock", "clk", design]
@@ -537,19 +561,21 @@ def run(name, lanes, vectors=vectors):
     print("  accept %.3f, compile %.3f, settle %.3f, scan %.3f, stimuli %.3f, text %.3f, files %.3f" % parts)
     return own + system, memory, scan
 
-bench, _, _ = run("bench", 64)
+times = {"bench": run("bench", 64)[0]}
 run("bench", 256)
 run("gates", 64)
 run("gate", 64, 100 * vectors)
 _, less, scan = run("still", 64)
 _, more, _ = run("still", 256)
 print("an unchanged signal: %.3f ns a lane and slot; %.0f bytes of memory a signal and lane" % (scan * 1e9 / (2 * vectors * 64 * 3000), (more - less) / (192 * 3003)))
-for name, command in (("Icarus Verilog", ["vvp", "icarus"]), ("Verilator", ["verilated/verilator"])):
-    if not os.path.exists(command[-1]):
-        continue
-    seconds = 0
-    for lane in range(64):
-        _, own, system, _ = spent(command + ["+in=bench%d.bits" % lane, "+out=bench%d.vcd" % lane])
-        seconds += own + system
-    print("%s, bench in 64 runs one after the other: %.3f s, %.1f MB of VCD: %.2f times the time of 64 lanes" % (name, seconds, written() / 1e6, seconds / bench))
+times["memory"] = run("memory", 64)[0]
+for design, own_time in times.items():
+    for name, command in (("Icarus Verilog", ["vvp", design + ".icarus"]), ("Verilator", [design + ".verilated/verilator"])):
+        if not os.path.exists(command[-1]):
+            continue
+        seconds = 0
+        for lane in range(64):
+            _, own, system, _ = spent(command + ["+in=%s%d.bits" % (design, lane), "+out=%s%d.vcd" % (design, lane)])
+            seconds += own + system
+        print("%s, %s in 64 runs one after the other: %.3f s, %.1f MB of VCD: %.2f times the time of 64 lanes" % (name, design, seconds, written() / 1e6, seconds / own_time))
 SHOW
