@@ -9,7 +9,7 @@ use Rattle.vs_design.specs.Clocks.{same_name}
 use Rattle.vs_design.specs.Elaborated.{is_signal, is_formed, is_formed_target, has_constant_selects, is_formed_statement, are_formed_events}
 use Rattle.vs_grammar.specs.Trees as tree
 use Rattle.vs_grammar.specs.Trees.{Module, Source, items_list, expr_place, target_place}
-use Rattle.vs_grammar.specs.Shapes.{Each, OneOrMore, Given, IsExpr, IsDeclarator, IsPlain, AreNames, IsAssign, IsControl, IsStatement, IsConnection, AreOrdered, AreConnections, IsInstance, AreInstances, IsItem, AreItems, IsGenerateItem, AreSignals, IsModule}
+use Rattle.vs_grammar.specs.Shapes.{Each, OneOrMore, Given, IsExpr, IsDeclarator, IsPlain, IsVariable, IsNet, IsPort, AreNames, IsAssign, IsControl, IsStatement, IsConnection, AreOrdered, AreConnections, IsInstance, AreInstances, IsItem, AreItems, IsGenerateItem, AreSignals, IsModule}
 use Rattle.vs_const.specs.Expressions.{typed, constant}
 use Rattle.vs_const.proofs.Formed.{both_nil, both, typed_fine}
 use Rattle.vs_elaborated.specs.Environments.{Env, Turn, named, within}
@@ -18,7 +18,7 @@ use Rattle.vs_elaborated.specs.Declarations.{names_of, repeated_names}
 use Rattle.vs_elaborated.specs.Signals.{Start, SaidSignal, said_signals, put_signals, range_faults}
 use Rattle.vs_elaborated.specs.Constructs.{construct, constructs, is_construct}
 use Rattle.vs_elaborated.specs.Targets.{typed_target, as_target}
-use Rattle.vs_elaborated.specs.Statements.{typed_statement, typed_control}
+use Rattle.vs_elaborated.specs.Statements.{typed_statement, typed_control, is_clocked_by, unclocked_faults}
 use Rattle.vs_elaborated.specs.Parameters.{Override, said_parameters, first_entries}
 use Rattle.vs_elaborated.specs.Generate.{Nested, Made}
 use Rattle.vs_elaborated.specs.Ports.{Port, find_port, find_in, find_module}
@@ -28,6 +28,7 @@ use Rattle.vs_elaborated.specs.Surveys.{items_of, declarations_of, header_of, bl
 use Rattle.vs_elaborated.specs.Sound.{AreSoundFrames, AreFineOverrides, IsShapedContents, IsFineConnection, IsSoundTask, IsFinePiece, AreFinePieces, AreModules}
 use Rattle.vs_elaborated.proofs.FormedBodies.{target_fine, statement_fine, control_fine, as_target_shaped}
 use Rattle.vs_elaborated.proofs.SoundNames.{frames_needed, named_sound, constant_fine}
+use Rattle.vs_elaborated.proofs.ClockedWords.{block_clocked}
 use Rattle.vs_elaborated.proofs.SurveyNames.{each_append, survey_names}
 use Rattle.vs_elaborated.proofs.ShapedBlocks.{AreShapedBlocks, construct_shaped}
 
@@ -71,7 +72,7 @@ module _ (d : Design) (env : Env) (s : AreSoundFrames d false env.frames) where
       let n = both_nil t.faults e.faults h in
       let f = target_fine d (named env) (named_sound d false env s) a.target false x.0 n.0 in
       let g = typed_fine d (named env) a.e false (named_sound d false env s) x.1 n.1 in
-      (four (is_formed_target d is_net t.target) (has_constant_selects t.target) (is_formed d e.expression) true f.formed (f.constant refl) g.formed refl, tt)
+      ((four (is_formed_target d is_net t.target) (has_constant_selects t.target) (is_formed d e.expression) true f.formed (f.constant refl) g.formed refl, refl), tt)
     where
       four : (a b c e : Bool) → a ≡ true → b ≡ true → c ≡ true → e ≡ true → (a && b && c && e) ≡ true
       four true true true true h k l m = refl
@@ -83,14 +84,15 @@ module _ (d : Design) (env : Env) (s : AreSoundFrames d false env.frames) where
   wire_fine : (place : ℕ) (w : tree.Declarator) → IsDeclarator w → (wire_said env place w).faults ≡ [] → AreFinePieces d (wire_said env place w).pieces
   wire_fine place w x h = of w.name w.value x h
     where
-      of : (n : tree.Name) (v : Option tree.Expr) → IsDeclarator (record { name = n; value = v }) → (wire_said env place (record { name = n; value = v })).faults ≡ [] → AreFinePieces d (wire_said env place (record { name = n; value = v })).pieces
+      of : (n : tree.Name) (v : Option tree.Expr) → IsDeclarator (record { name = n; addresses = w.addresses; value = v }) → (wire_said env place (record { name = n; addresses = w.addresses; value = v })).faults ≡ []
+          → AreFinePieces d (wire_said env place (record { name = n; addresses = w.addresses; value = v })).pieces
       of n None x h = tt
       of n (Some e) x h = assign_fine place (record { target = tree.NamedTarget n tree.Whole; e = e }) ((x.0, tt), x.1) h
 
   plain_fine : (place : ℕ) (w : tree.Declarator) → IsPlain w → (wire_said env place w).faults ≡ [] → AreFinePieces d (wire_said env place w).pieces
   plain_fine place w x h = of w.name w.value x.1
     where
-      of : (n : tree.Name) (v : Option tree.Expr) → v ≡ None → AreFinePieces d (wire_said env place (record { name = n; value = v })).pieces
+      of : (n : tree.Name) (v : Option tree.Expr) → v ≡ None → AreFinePieces d (wire_said env place (record { name = n; addresses = w.addresses; value = v })).pieces
       of n None e = tt
       of n (Some v) e = cc
 
@@ -98,8 +100,11 @@ module _ (d : Design) (env : Env) (s : AreSoundFrames d false env.frames) where
   block_fine b x y h =
       let c = typed_control b.control (named env) in
       let t = typed_statement b.statement (named env) in
-      let n = both_nil c.faults t.faults h in
-      (both (are_formed_events d c.star c.events) (is_formed_statement d t.statement) (control_fine d (named env) (named_sound d false env s) b.control x n.0) (statement_fine d (named env) (named_sound d false env s) b.statement y n.1), tt)
+      let unclocked = unclocked_faults (is_clocked_by b.control) b.statement (named env) in
+      let n = both_nil c.faults (t.faults ++ unclocked) h in
+      let m = both_nil t.faults unclocked n.1 in
+      let formed = both (are_formed_events d c.star c.events) (is_formed_statement d t.statement) (control_fine d (named env) (named_sound d false env s) b.control x n.0) (statement_fine d (named env) (named_sound d false env s) b.statement y m.0) in
+      ((formed, block_clocked (named env) b m.1), tt)
 
   -- ---- connections
 
@@ -203,22 +208,22 @@ blocks_fine d around s (b ∷ bs) x = (record { frames = turned_sound b.turn; ov
 wires_fine : (d : Design) (around : Around) → AreSoundFrames d false around.env.frames → (t : tree.Signals) → AreSignals t → (all_said (wire_said around.env t.place) t.names).faults ≡ [] → AreFinePieces d (all_said (wire_said around.env t.place) t.names).pieces
 wires_fine d around s t x h = of t.kind t.names x.names h
   where
-    plain : (ds : List tree.Declarator) → OneOrMore IsPlain ds → (all_said (wire_said around.env t.place) ds).faults ≡ [] → AreFinePieces d (all_said (wire_said around.env t.place) ds).pieces
-    plain [] k e = absurd k
-    plain (w ∷ ws) k e = all_fine d (wire_said around.env t.place) IsPlain (plain_fine d around.env s t.place) (w ∷ ws) k e
+    some : (P : tree.Declarator → Type 0) → ((w : tree.Declarator) → P w → (wire_said around.env t.place w).faults ≡ [] → AreFinePieces d (wire_said around.env t.place w).pieces)
+        → (ds : List tree.Declarator) → OneOrMore P ds → (all_said (wire_said around.env t.place) ds).faults ≡ [] → AreFinePieces d (all_said (wire_said around.env t.place) ds).pieces
+    some P f [] k e = absurd k
+    some P f (w ∷ ws) k e = all_fine d (wire_said around.env t.place) P f (w ∷ ws) k e
 
-    wires : (ds : List tree.Declarator) → OneOrMore IsDeclarator ds → (all_said (wire_said around.env t.place) ds).faults ≡ [] → AreFinePieces d (all_said (wire_said around.env t.place) ds).pieces
-    wires [] k e = absurd k
-    wires (w ∷ ws) k e = all_fine d (wire_said around.env t.place) IsDeclarator (wire_fine d around.env s t.place) (w ∷ ws) k e
+    ports : (ds : List tree.Declarator) → OneOrMore IsPort ds → (all_said (wire_said around.env t.place) ds).faults ≡ [] → AreFinePieces d (all_said (wire_said around.env t.place) ds).pieces
+    ports ds k e = some IsPort (λ w x. plain_fine d around.env s t.place w x.0) ds k e
 
     of : (kind : tree.SignalKind) (ds : List tree.Declarator) → AreNames kind ds → (all_said (wire_said around.env t.place) ds).faults ≡ [] → AreFinePieces d (all_said (wire_said around.env t.place) ds).pieces
-    of tree.Input ds k e = plain ds k e
-    of tree.InputWire ds k e = plain ds k e
-    of tree.Output ds k e = plain ds k e
-    of tree.OutputWire ds k e = plain ds k e
-    of tree.OutputReg ds k e = plain ds k e
-    of tree.Reg ds k e = plain ds k e
-    of tree.Wire ds k e = wires ds k e
+    of tree.Input ds k e = ports ds k e
+    of tree.InputWire ds k e = ports ds k e
+    of tree.Output ds k e = ports ds k e
+    of tree.OutputWire ds k e = ports ds k e
+    of tree.OutputReg ds k e = ports ds k e
+    of tree.Reg ds k e = some IsVariable (λ w x. plain_fine d around.env s t.place w x.0) ds k e
+    of tree.Wire ds k e = some IsNet (λ w x. wire_fine d around.env s t.place w x.0) ds k e
 
 assigns_fine : (d : Design) (around : Around) → AreSoundFrames d false around.env.frames → (place : ℕ) (xs : List tree.Assign) → OneOrMore IsAssign xs → (all_said (assign_said around.env place) xs).faults ≡ [] → AreFinePieces d (all_said (assign_said around.env place) xs).pieces
 assigns_fine d around s place [] x h = absurd x

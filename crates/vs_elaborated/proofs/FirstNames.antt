@@ -4,17 +4,17 @@ use Rattle.std.specs.List.{list_any}
 use Rattle.vs_design.specs.Clocks.{same_name}
 use Rattle.vs_grammar.specs.Trees as tree
 use Rattle.vs_grammar.specs.Trees.{SignalKind, Input, InputWire, Output, OutputWire, OutputReg, Reg, Wire}
-use Rattle.vs_grammar.specs.Shapes.{Each}
+use Rattle.vs_grammar.specs.Shapes.{Each, is_port_kind}
 use Rattle.vs_const.specs.Faults.{fault_if}
 use Rattle.vs_const.specs.declared.rules.Rule.TheVariants.{DuplicateName}
 use Rattle.vs_const.specs.Meanings.{SignalMeaning}
 use Rattle.vs_const.proofs.Formed.{both_nil, no_fault, split}
 use Rattle.vs_elaborated.specs.Environments.{Declared, Later, OfSignal, OfParameter, OfGenvar, OfScope, Entry, Env, within, up_to, find_entry}
 use Rattle.vs_elaborated.specs.Targets.{no_signal}
-use Rattle.vs_elaborated.specs.Declarations.{SignalSort, Sort, SignalOf, ParameterOf, GenvarSort, InstanceSort, Declaration, Named, are_kinds_of_one, are_sorts_of_one, second_of, names_after, first_named, is_repeated, repeated_names}
-use Rattle.vs_elaborated.specs.Parameters.{Override, valued, put_value, first_declared, first_entries, said_parameter, said_parameters}
+use Rattle.vs_elaborated.specs.Declarations.{SignalSort, has_addresses, Sort, SignalOf, ParameterOf, GenvarSort, InstanceSort, Declaration, Named, are_kinds_of_one, are_sorts_of_one, second_of, names_after, first_named, is_repeated, repeated_names}
+use Rattle.vs_elaborated.specs.Parameters.{said_addresses, Override, valued, put_value, first_declared, first_entries, said_parameter, said_parameters}
 use Rattle.vs_elaborated.specs.Signals.{is_reg, is_input, second_sort, Start, SaidSignal, said_signal, said_signals, after, put_signal, put_signals}
-use Rattle.vs_elaborated.proofs.SoundNames.{same_itself}
+use Rattle.vs_elaborated.proofs.SoundNames.{same_itself, IsShapedSignal, IsShapedSort}
 
 -- ---- names
 
@@ -320,25 +320,44 @@ second_net OutputReg OutputReg h k = cc
 second_net Reg OutputReg h k = cc
 second_net Wire OutputReg h k = cc
 
+-- whether it declares a port
+abbrev pub is_port_sort : SignalSort → Bool
+is_port_sort s = s.header || is_port_kind s.kind
+
 abbrev pub IsSignalOf : Bool → Sort → Type 0
-IsSignalOf input (SignalOf s) = is_input s.kind ≡ input
+IsSignalOf input (SignalOf s) = (is_input s.kind ≡ input) × (is_port_sort s ≡ true)
 IsSignalOf input (ParameterOf p) = ⊥
 IsSignalOf input GenvarSort = ⊥
 IsSignalOf input InstanceSort = ⊥
 
+-- whether neither is a memory
+abbrev are_plain : SignalSort → SignalSort → Bool
+are_plain a b = not (has_addresses a) && (not (has_addresses b) && are_kinds_of_one a.kind b.kind)
+
+sorts_plain : (a b : SignalSort) → are_sorts_of_one (SignalOf a) (SignalOf b) ≡ true → are_plain a b ≡ true
+sorts_plain a b h = (split (not b.header) (are_plain a b) (split (not a.header) (not b.header && are_plain a b) h).1).1
+
 sorts_kinds : (a b : SignalSort) → are_sorts_of_one (SignalOf a) (SignalOf b) ≡ true → are_kinds_of_one a.kind b.kind ≡ true
-sorts_kinds a b h = (split (not b.header) (are_kinds_of_one a.kind b.kind) (split (not a.header) (not b.header && are_kinds_of_one a.kind b.kind) h).1).1
+sorts_kinds a b h = (split (not (has_addresses b)) (are_kinds_of_one a.kind b.kind) (split (not (has_addresses a)) (not (has_addresses b) && are_kinds_of_one a.kind b.kind) (sorts_plain a b h)).1).1
+
+-- a signal with a second declaration is no memory
+sorts_first : (a b : SignalSort) → are_sorts_of_one (SignalOf a) (SignalOf b) ≡ true → has_addresses a ≡ false
+sorts_first a b h = of (has_addresses a) (split (not (has_addresses a)) (not (has_addresses b) && are_kinds_of_one a.kind b.kind) (sorts_plain a b h)).0
+  where
+    of : (c : Bool) → not c ≡ true → c ≡ false
+    of true k = cc
+    of false k = refl
 
 abbrev pub MayBeInput : Sort → Type 0
 MayBeInput (SignalOf s) = may_be_input s.kind ≡ true
 MayBeInput _ = Unit {0}
 
 pub sort_may : (k l : Sort) → IsSignalOf true l → (k ≡ l) ⊎ (are_sorts_of_one k l ≡ true) → MayBeInput k
-sort_may (SignalOf a) (SignalOf b) h (inl e) = input_may a.kind (ap (λ (s : SignalSort). is_input s.kind) (same e) ∙ h)
+sort_may (SignalOf a) (SignalOf b) h (inl e) = input_may a.kind (ap (λ (s : SignalSort). is_input s.kind) (same e) ∙ h.0)
   where
     same : SignalOf a ≡ SignalOf b → a ≡ b
     same i = cc
-sort_may (SignalOf a) (SignalOf b) h (inr e) = first_may a.kind b.kind h (sorts_kinds a b e)
+sort_may (SignalOf a) (SignalOf b) h (inr e) = first_may a.kind b.kind h.0 (sorts_kinds a b e)
 sort_may (SignalOf a) (ParameterOf p) h e = absurd h
 sort_may (SignalOf a) GenvarSort h e = absurd h
 sort_may (SignalOf a) InstanceSort h e = absurd h
@@ -437,3 +456,73 @@ said_nets w env (n ∷ ns) start t h = of n.first.name n.first.sort n.second h.0
     of v (ParameterOf p) second g rest = rest start t
     of v GenvarSort second g rest = rest start t
     of v InstanceSort second g rest = rest start t
+
+-- ---- the signal of a port is no memory
+
+port_plain : (s : SignalSort) → is_port_sort s ≡ true → IsShapedSignal s → has_addresses s ≡ false
+port_plain s h x = of (has_addresses s) refl
+  where
+    of : (b : Bool) → has_addresses s ≡ b → b ≡ false
+    of false e = refl
+    of true e = absurd (no (sym h ∙ ap (λ c. c || is_port_kind s.kind) (x.body e) ∙ ap is_port_kind (x.variable e)))
+
+abbrev pub IsPlainSort : Sort → Type 0
+IsPlainSort (SignalOf s) = has_addresses s ≡ false
+IsPlainSort (ParameterOf p) = Unit {0}
+IsPlainSort GenvarSort = Unit {0}
+IsPlainSort InstanceSort = Unit {0}
+
+pub plain_of : (b : Bool) (k l : Sort) → IsSignalOf b l → IsShapedSort l → (k ≡ l) ⊎ (are_sorts_of_one k l ≡ true) → IsPlainSort k
+plain_of b (SignalOf a) (SignalOf t) h x (inl e) = ap has_addresses (same e) ∙ port_plain t h.1 x
+  where
+    same : SignalOf a ≡ SignalOf t → a ≡ t
+    same i = cc
+plain_of b (SignalOf a) (SignalOf t) h x (inr e) = sorts_first a t e
+plain_of b (SignalOf a) (ParameterOf p) h x e = absurd h
+plain_of b (SignalOf a) GenvarSort h x e = absurd h
+plain_of b (SignalOf a) InstanceSort h x e = absurd h
+plain_of b (ParameterOf p) l h x e = tt
+plain_of b GenvarSort l h x e = tt
+plain_of b InstanceSort l h x e = tt
+
+abbrev pub IsPlainNamed : List ℕ → Named → Type 0
+IsPlainNamed w n = same_name w n.first.name.bytes ≡ true → IsPlainSort n.first.sort
+
+no_words : (o : Option tree.RangeTree) (env : Env) → is_some o ≡ false → (said_addresses o env).range ≡ None
+no_words None env h = refl
+no_words (Some t) env h = cc
+
+pub said_plain : (w : List ℕ) (env : Env) (names : List Named) (start : Start) → Each (IsPlainNamed w) names → Each (λ (s : SaidSignal). same_name w s.meaning.signal.name ≡ true → s.meaning.signal.words ≡ None) (said_signals env start names)
+said_plain w env [] start h = tt
+said_plain w env (n ∷ ns) start h = of n.first.name n.first.sort n.second h.0 (λ next. said_plain w env ns next h.1)
+  where
+    P : SaidSignal → Type 0
+    P s = same_name w s.meaning.signal.name ≡ true → s.meaning.signal.words ≡ None
+
+    of : (v : tree.Name) (k : Sort) (second : Option Declaration) → IsPlainNamed w (record { first = record { name = v; sort = k }; second = second }) → ((next : Start) → Each P (said_signals env next ns))
+        → Each P (said_signals env start (record { first = record { name = v; sort = k }; second = second } ∷ ns))
+    of v (SignalOf s) second g rest =
+        let m : Named = record { first = record { name = v; sort = SignalOf s }; second = second } in
+        (λ e. no_words s.addresses env (g e), rest (after start (said_signal env start m s).meaning))
+    of v (ParameterOf p) second g rest = rest start
+    of v GenvarSort second g rest = rest start
+    of v InstanceSort second g rest = rest start
+
+-- a memory is a variable, with one declaration
+pub memory_variable : (s : SignalSort) (second : Option Declaration) → IsShapedSignal s → ((b : Declaration) → second ≡ Some b → are_sorts_of_one (SignalOf s) b.sort ≡ true) → has_addresses s ≡ true
+    → (not (is_reg s.kind || is_reg (second_sort s second).kind) ≡ false) × ((is_input s.kind || is_input (second_sort s second).kind) ≡ false)
+memory_variable s second x k h = alone second k (x.variable h)
+  where
+    one : (kind : SignalKind) → kind ≡ Reg → (not (is_reg kind || is_reg kind) ≡ false) × ((is_input kind || is_input kind) ≡ false)
+    one kind e = (ap (λ c. not (is_reg c || is_reg c)) e, ap (λ c. is_input c || is_input c) e)
+
+    two : (b : Declaration) (l : Sort) → are_sorts_of_one (SignalOf s) l ≡ true → ⊥
+    two b (SignalOf t) e = no (sym h ∙ sorts_first s t e)
+    two b (ParameterOf p) e = cc
+    two b GenvarSort e = cc
+    two b InstanceSort e = cc
+
+    alone : (o : Option Declaration) → ((b : Declaration) → o ≡ Some b → are_sorts_of_one (SignalOf s) b.sort ≡ true) → s.kind ≡ Reg
+        → (not (is_reg s.kind || is_reg (second_sort s o).kind) ≡ false) × ((is_input s.kind || is_input (second_sort s o).kind) ≡ false)
+    alone None k e = one s.kind e
+    alone (Some b) k e = absurd (two b b.sort (k b refl))

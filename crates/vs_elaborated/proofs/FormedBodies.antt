@@ -6,16 +6,18 @@ use Rattle.vs_design.specs.Expressions.{Signal, OfSignal, items_of}
 use Rattle.vs_design.specs.Designs.{Design, Edge, is_edge}
 use Rattle.vs_design.specs.Footprints.{is_net, is_variable}
 use Rattle.vs_design.specs.Fits.{fits_64}
-use Rattle.vs_design.specs.Elaborated.{is_plain, has_items, are_formed, same_range, is_formed, is_formed_select, is_formed_target, has_constant_selects, is_formed_statement, are_formed_arms, is_formed_event, are_formed_events}
+use Rattle.vs_design.specs.Elaborated.{is_plain, has_words, has_items, are_formed, same_range, is_formed, is_formed_select, is_formed_target, has_constant_selects, is_formed_statement, are_formed_arms, is_formed_event, are_formed_events}
 use Rattle.vs_grammar.specs.Trees as tree
 use Rattle.vs_grammar.specs.Trees.{expr_place, target_place}
 use Rattle.vs_grammar.specs.Shapes.{IsExpr, IsSelect, IsTarget, ArePartsOfTarget, AreTargets, IsStatement, IsFallback, AreStatements, AreArms, OneOrMore, Each, IsControl, AreParts, AreExprs}
-use Rattle.vs_const.specs.Meanings.{SignalMeaning, Meaning, AValue, Undefined, ASignal, Another, Unknown, Find}
+use Rattle.vs_const.specs.Meanings.{SignalMeaning, Meaning, AValue, Undefined, ASignal, AMemory, Another, Unknown, Find}
 use Rattle.vs_const.specs.Selects.{Base, is_scalar, Taken, taken, slice_taken, first_needed}
+use Rattle.vs_const.specs.Faults.{fault_if}
 use Rattle.vs_const.specs.Expressions.{typed}
-use Rattle.vs_const.specs.Sound.{IsSound, AreSound}
+use Rattle.vs_const.specs.Typed.{Typed}
+use Rattle.vs_const.specs.Sound.{IsSound, AreSound, IsFine}
 use Rattle.vs_const.proofs.Formed.{sound_needed, first_sound, both_nil, no_fault, both, IsFineTaken, taken_faults, bit_fine, slice_fine, typed_fine, same_itself}
-use Rattle.vs_elaborated.specs.Targets.{meant_signal, TypedTarget, is_wrong_target, target_base, part_target, selected_target, typed_target, typed_targets, targeted, and_target, as_target, as_targets}
+use Rattle.vs_elaborated.specs.Targets.{meant_signal, TypedTarget, is_wrong_target, target_base, part_target, bit_target, selected_target, typed_target, typed_targets, targeted, and_target, as_target, as_targets}
 use Rattle.vs_elaborated.specs.Statements.{TypedStatement, typed_list, typed_statement, typed_fallback, typed_sequence, typed_arms, event_faults, typed_events, typed_control}
 use Rattle.vs_const.specs.declared.rules.Rule.TheVariants.{WrongKind}
 
@@ -81,6 +83,7 @@ name_of_target d procedural selected place (ASignal m) s h =
     unselected : (a b : Bool) → a ≡ true → (a && b) ≡ false → b ≡ false
     unselected true b k h = h
     unselected false b k h = cc
+name_of_target d procedural selected place (AMemory m) s h = cc
 name_of_target d procedural selected place Another s h = cc
 name_of_target d procedural selected place Unknown s h = cc
 
@@ -88,6 +91,7 @@ base_range : (procedural selected : Bool) (place : ℕ) (m : Meaning) (r : Range
 base_range procedural selected place (AValue v q) r h e = cc
 base_range procedural selected place (Undefined q) r h e = cc
 base_range procedural selected place (ASignal m) r h e = e
+base_range procedural selected place (AMemory m) r h e = cc
 base_range procedural selected place Another r h e = cc
 base_range procedural selected place Unknown r h e = cc
 
@@ -106,20 +110,45 @@ part_target_fine d procedural m b t r n e f = record {
     select : is_formed_select d (OfSignal (meant_signal m)) t.part ≡ true
     select = three (is_plain d (meant_signal m)) (same_range (meant_signal m).range (Some t.part.range)) (fits_64 t.part.width) n.signal (subst (λ q. same_range q (Some t.part.range) ≡ true) (sym e) (subst (λ q. same_range (Some r) (Some q) ≡ true) (sym f.range) (same_itself r))) f.fits
 
+-- a bit of a signal
+selected_bit_fine : (d : Design) (procedural : Bool) (place : ℕ) (m : Meaning) (i : Typed) → IsSound d false m → (i.faults ≡ [] → IsFine d (not procedural) i)
+    → (part_target (meant_signal m) (target_base procedural place true m) (taken (target_base procedural place true m).range true 1 i i.faults)).faults ≡ []
+    → IsFineTarget d procedural (part_target (meant_signal m) (target_base procedural place true m) (taken (target_base procedural place true m).range true 1 i i.faults))
+selected_bit_fine d procedural place m i s i_if h =
+    let b = target_base procedural place true m in
+    let k = both_nil b.faults (taken b.range true 1 i i.faults).faults h in
+    let n = name_of_target d procedural true place m s k.0 in
+    let r = n.range refl in
+    part_target_fine d procedural m b (taken b.range true 1 i i.faults) r.0 n r.1 (bit_fine d (not procedural) b.range r.0 i (base_range procedural true place m r.0 k.0 r.1) (i_if (sym (taken_faults b.range true 1 i i.faults) ∙ k.1)))
+
+-- `name[i]`
+bit_target_fine : (d : Design) (procedural : Bool) (place : ℕ) (m : Meaning) (i : Typed) → IsSound d false m → (i.faults ≡ [] → IsFine d (not procedural) i) → (bit_target procedural place m i).faults ≡ [] → IsFineTarget d procedural (bit_target procedural place m i)
+bit_target_fine d procedural place (AMemory m) i s i_if h =
+    let n = both_nil (fault_if (is_wrong_target procedural m) WrongKind place) i.faults h in
+    let f = i_if n.1 in
+    record {
+      formed = three (has_words d m.signal) (allowed procedural m.signal) (is_formed d i.expression) s.0 (may_write procedural m (no_fault (is_wrong_target procedural m) WrongKind place n.0) s.2) f.formed;
+      constant = λ k. f.constant (ap not k);
+    }
+  where
+    three : (a b c : Bool) → a ≡ true → b ≡ true → c ≡ true → (a && b && c) ≡ true
+    three true true true h k l = refl
+    three true true false h k l = cc
+    three true false c h k l = cc
+    three false b c h k l = cc
+bit_target_fine d procedural place (AValue v r) i s i_if h = selected_bit_fine d procedural place (AValue v r) i s i_if h
+bit_target_fine d procedural place (Undefined r) i s i_if h = absurd s
+bit_target_fine d procedural place (ASignal m) i s i_if h = selected_bit_fine d procedural place (ASignal m) i s i_if h
+bit_target_fine d procedural place Another i s i_if h = selected_bit_fine d procedural place Another i s i_if h
+bit_target_fine d procedural place Unknown i s i_if h = selected_bit_fine d procedural place Unknown i s i_if h
+
 module _ (d : Design) (find : Find) (s : AreSound d false find) where
   selected_target_fine : (select : tree.Select) (name : tree.Name) (procedural : Bool) → IsSelect select → (selected_target select name find procedural).faults ≡ [] → IsFineTarget d procedural (selected_target select name find procedural)
   selected_target_fine tree.Whole name procedural x h =
       let n = name_of_target d procedural false name.place (find name.bytes) (s name.bytes) h in
       record { formed = both (is_plain d (meant_signal (find name.bytes))) (allowed procedural (meant_signal (find name.bytes))) n.signal n.allowed_to; constant = λ k. refl }
   selected_target_fine (tree.BitAt bracket index) name procedural x h =
-      let m = find name.bytes in
-      let b = target_base procedural name.place true m in
-      let i = typed index find (not procedural) in
-      let k = both_nil b.faults (taken b.range true 1 i i.faults).faults h in
-      let n = name_of_target d procedural true name.place m (s name.bytes) k.0 in
-      let r = n.range refl in
-      part_target_fine d procedural m b (taken b.range true 1 i i.faults) r.0 n r.1
-      (bit_fine d (not procedural) b.range r.0 i (base_range procedural true name.place m r.0 k.0 r.1) (typed_fine d find index (not procedural) (weaker (not procedural)) x (sym (taken_faults b.range true 1 i i.faults) ∙ k.1)))
+      bit_target_fine d procedural name.place (find name.bytes) (typed index find (not procedural)) (s name.bytes) (λ k. typed_fine d find index (not procedural) (weaker (not procedural)) x k) h
     where
       weaker : (b : Bool) → AreSound d b find
       weaker true = λ name. sound_needed d false (find name) (s name)
@@ -231,6 +260,7 @@ module _ (d : Design) (find : Find) (s : AreSound d false find) where
       scalar true None k = refl
       scalar true (Some r) k = cc
       scalar false r k = refl
+  event_fine place edge (AMemory m) q h = cc
   event_fine place edge Another q h = cc
   event_fine place edge Unknown q h = cc
 

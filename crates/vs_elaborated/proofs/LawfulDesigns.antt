@@ -12,8 +12,9 @@ use Rattle.vs_const.specs.declared.faults.Fault.{Fault}
 use Rattle.vs_const.specs.Faults.{least}
 use Rattle.vs_const.proofs.Formed.{both}
 use Rattle.vs_elaborated.specs.Limits.{Limits, the_limits}
+use Rattle.vs_elaborated.specs.Environments.{Entry}
 use Rattle.vs_elaborated.specs.Ports.{find_module, find_in}
-use Rattle.vs_elaborated.specs.Pieces.{Task, Piece, Own, Instance, Within, Connection, is_instance}
+use Rattle.vs_elaborated.specs.Pieces.{Task, Piece, Own, Instance, Within, Connection, IntoInput, FromOutput, is_instance}
 use Rattle.vs_elaborated.specs.Surveys.{declarations_of, Totals, no_totals, survey}
 use Rattle.vs_elaborated.specs.Elaborated.{both_designs, of_processes, then_do, port_assign, Read, ReadPieces, read_piece, read_pieces, counted, limit_faults, scope_design, read_scope, repeated_modules, top_task, scope_depth, elaborated_top, elaborated_within, elaborated}
 use Rattle.vs_elaborated.specs.Sound.{IsFineConnection, IsSoundTask, IsFinePiece, AreFinePieces, AreModules}
@@ -25,21 +26,24 @@ use Rattle.vs_elaborated.proofs.FinePieces.{found_shaped, survey_pieces}
 use Rattle.vs_elaborated.proofs.PortNames.{IsDirected, IsDirectedPiece, AreDirectedPieces, survey_directed}
 use Rattle.vs_elaborated.proofs.PortsFormed.{IsDeclaredSignal, AreFineSignals, survey_signals, port_formed}
 use Rattle.vs_elaborated.proofs.InDesign.{AreIn, in_design}
-use Rattle.vs_elaborated.proofs.Wordless.{AreWordless, memory_one, process_unworded}
+
+-- a process that writes words of memories only if it is clocked
+abbrev pub IsGoodProcess : Design → Process → Type 0
+IsGoodProcess d p = (is_formed_process d p ≡ true) × (has_clocked_words p ≡ true)
 
 abbrev pub AreFormed : Design → List Process → Type 0
-AreFormed d ps = Each (λ (p : Process). is_formed_process d p ≡ true) ps
+AreFormed d ps = Each (IsGoodProcess d) ps
 
--- a signal of lawful range that is no memory, an input only where it is a net of the top
+-- a signal of lawful range, an input only where it is a net of the top, a memory only where it is a variable of few words
 abbrev pub IsFineSignal : Signal → Type 0
-IsFineSignal s = (is_lawful_range s.range ≡ true) × (s.input ≡ true → (s.net ≡ true) × (s.scope ≡ 0)) × (s.words ≡ None)
+IsFineSignal s = (is_lawful_range s.range ≡ true) × (s.input ≡ true → (s.net ≡ true) × (s.scope ≡ 0)) × (is_lawful_memory s ≡ true)
 
 pub record FineRead (d : Design) (limits : Limits) (k : Task) (r : Read) : Type 0 where
   pub formed : AreFormed d r.design.processes
   pub declared : Each IsFineSignal r.design.signals
   pub functions : r.design.functions ≡ []
   pub bits : r.totals.bits ≤ limits.bits
-  pub ports : is_none k.parent ≡ false → (place : ℕ) (c : Connection) → IsFineConnection d c → IsDirected (declarations_of k.contents) c → is_formed_process d (port_assign place r.entries c) ≡ true
+  pub ports : is_none k.parent ≡ false → (place : ℕ) (c : Connection) → IsFineConnection d c → IsDirected (declarations_of k.contents) c → IsGoodProcess d (port_assign place r.entries c)
 
 pub record FineParts (d : Design) (limits : Limits) (r : ReadPieces) : Type 0 where
   pub formed : AreFormed d r.design.processes
@@ -86,7 +90,7 @@ piece_fine d limits read h m (Instance connections task) f g c t b = of (read ta
     of (Ok s) q = λ i.
         let u = q i in
         record {
-          formed = each_append (λ (p : Process). is_formed_process d p ≡ true) (map (port_assign task.place s.entries) connections) s.design.processes (ports_formed d task.place task limits s u (has_parent task.parent m c) connections f.0 g) u.formed;
+          formed = each_append (IsGoodProcess d) (map (port_assign task.place s.entries) connections) s.design.processes (ports_formed d task.place task limits s u (has_parent task.parent m c) connections f.0 g) u.formed;
           declared = u.declared;
           functions = u.functions;
           bits = u.bits;
@@ -109,7 +113,7 @@ pieces_fine d limits read h m (p ∷ ps) f g c t b = of (read_piece read p t) (p
       where
         both_fine : (b : ReadPieces) → FineParts d limits a → FineParts d limits b → FineParts d limits (record { design = both_designs a.design b.design; totals = b.totals })
         both_fine b u v = record {
-          formed = each_append (λ (p : Process). is_formed_process d p ≡ true) a.design.processes b.design.processes u.formed v.formed;
+          formed = each_append (IsGoodProcess d) a.design.processes b.design.processes u.formed v.formed;
           declared = each_append IsFineSignal a.design.signals b.design.signals u.declared v.declared;
           functions = ap (λ fs. fs ++ b.design.functions) u.functions ∙ v.functions;
           bits = v.bits;
@@ -132,6 +136,11 @@ counted_bits k t = of (is_instance k.contents)
 fine_signals : (top : Bool) (scope : ℕ) → (top ≡ true → scope ≡ 0) → (ss : List Signal) → Each (IsDeclaredSignal top scope) ss → Each IsFineSignal ss
 fine_signals top scope h [] x = tt
 fine_signals top scope h (s ∷ ss) x = ((x.0.0, λ i. let k = x.0.1 i in (k.0, x.0.2 ∙ h k.1), x.0.3), fine_signals top scope h ss x.1)
+
+-- a port's assign is no block
+port_clocked : (place : ℕ) (es : List Entry) (c : Connection) → has_clocked_words (port_assign place es c) ≡ true
+port_clocked place es (IntoInput name e) = refl
+port_clocked place es (FromOutput name target_place target) = refl
 
 pub scope_fine : (d : Design) (left : ℕ) (limits : Limits) (source : Source) → AreModules source.modules → ReadsFine d limits (read_scope left limits source)
 scope_fine d zero limits source x k t s top b = tt
@@ -159,7 +168,7 @@ scope_fine d (suc left) limits source x k t s top b =
           declared = each_append IsFineSignal own q.design.signals (fine_signals (is_none k.parent) (counted k t).scopes (λ e. counted_scopes k t ∙ top e) own g.declared) u.declared;
           functions = u.functions;
           bits = u.bits;
-          ports = λ e. port_formed d limits source k (counted k t) (survey_names d limits source k (counted k t) s.frames s.overrides s.shaped w.0 h) h e;
+          ports = λ e place c g l. (port_formed d limits source k (counted k t) s.shaped (survey_names d limits source k (counted k t) s.frames s.overrides s.shaped w.0 h) h e place c g l, port_clocked place (survey limits source k (counted k t)).entries c);
         }
 
 -- ---- the whole
@@ -187,15 +196,15 @@ declared_all d (s ∷ ss) b f = (declared_one d s b.0 f.0, declared_all d ss b.1
 
 memories_all : (ss : List Signal) → Each IsFineSignal ss → Each (λ (s : Signal). is_lawful_memory s ≡ true) ss
 memories_all [] f = tt
-memories_all (s ∷ ss) f = (memory_one s f.0.2, memories_all ss f.1)
+memories_all (s ∷ ss) f = (f.0.2, memories_all ss f.1)
 
-wordless_all : (ss : List Signal) → Each IsFineSignal ss → AreWordless ss
-wordless_all [] f = tt
-wordless_all (s ∷ ss) f = (f.0.2, wordless_all ss f.1)
+formed_all : (d : Design) (ps : List Process) → AreFormed d ps → Each (λ (p : Process). is_formed_process d p ≡ true) ps
+formed_all d [] f = tt
+formed_all d (p ∷ ps) f = (f.0.0, formed_all d ps f.1)
 
-unworded_all : (d : Design) → AreWordless d.signals → (ps : List Process) → AreFormed d ps → Each (λ (p : Process). has_clocked_words p ≡ true) ps
-unworded_all d w [] f = tt
-unworded_all d w (p ∷ ps) f = (process_unworded d w p f.0, unworded_all d w ps f.1)
+clocked_all : (d : Design) (ps : List Process) → AreFormed d ps → Each (λ (p : Process). has_clocked_words p ≡ true) ps
+clocked_all d [] f = tt
+clocked_all d (p ∷ ps) f = (f.0.1, clocked_all d ps f.1)
 
 sum_from : (k : ℕ) (ss : List Signal) → fold (λ (n : ℕ) (s : Signal). n + signal_length s) k ss ≡ k + bits_of_all ss
 sum_from k [] = omega arith
@@ -242,9 +251,9 @@ lawful_result (Ok d) g n f x = record {
   bits_numbered = g.bits_numbered;
   declared = all_true (is_declared d) d.signals (declared_all d d.signals g.below x.1);
   memories = all_true is_lawful_memory d.signals (memories_all d.signals x.1);
-  formed = all_true (is_formed_process d) d.processes x.0;
+  formed = all_true (is_formed_process d) d.processes (formed_all d d.processes x.0);
   functions = ap (list_all (is_formed_function d)) x.3;
-  clocked_words = all_true has_clocked_words d.processes (unworded_all d (wordless_all d.signals x.1) d.processes x.0);
+  clocked_words = all_true has_clocked_words d.processes (clocked_all d d.processes x.0);
   few_bits = x.2;
   few_processes = f;
 }

@@ -10,7 +10,7 @@ mod InDesign
 mod FirstNames
 mod PortNames
 mod PortsFormed
-mod Wordless
+mod ClockedWords
 mod LawfulDesigns
 mod LowBlocks
 mod SoundScopes

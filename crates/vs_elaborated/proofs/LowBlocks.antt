@@ -165,7 +165,7 @@ blocks_low l around (b ∷ bs) x = (record { low = x.0; same = refl }, blocks_lo
 wire_low : (l : ℕ) (around : Around) (place : ℕ) (d : tree.Declarator) → AreLowPieces around.depth l (wire_said around.env place d).pieces
 wire_low l around place d = of d.name d.value
   where
-    of : (w : tree.Name) (v : Option tree.Expr) → AreLowPieces around.depth l (wire_said around.env place (record { name = w; value = v })).pieces
+    of : (w : tree.Name) (v : Option tree.Expr) → AreLowPieces around.depth l (wire_said around.env place (record { name = w; addresses = d.addresses; value = v })).pieces
     of w None = tt
     of w (Some e) = (tt, tt)
 

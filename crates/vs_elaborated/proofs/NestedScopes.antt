@@ -99,7 +99,7 @@ blocks_children around (b ∷ bs) = (refl, blocks_children around bs)
 wire_child : (around : Around) (place : ℕ) (d : tree.Declarator) → AreChildren around.scope (wire_said around.env place d).pieces
 wire_child around place d = of d.name d.value
   where
-    of : (w : Name) (v : Option tree.Expr) → AreChildren around.scope (wire_said around.env place (record { name = w; value = v })).pieces
+    of : (w : Name) (v : Option tree.Expr) → AreChildren around.scope (wire_said around.env place (record { name = w; addresses = d.addresses; value = v })).pieces
     of w None = tt
     of w (Some e) = (tt, tt)
 

@@ -1,5 +1,5 @@
 -- Each connection of an instance is to a port that its module declares.
-use Rattle.std.proofs.Common.{◌≡◌, ℕ, zero, suc, Bool, true, false, List, [], ◌∷◌, ◌++◌, map, flat_map, Option, Some, None, ◌⊎◌, inl, inr, if◌then◌else◌, refl, subst}
+use Rattle.std.proofs.Common.{◌≡◌, ℕ, zero, suc, Bool, true, false, List, [], ◌∷◌, ◌++◌, map, flat_map, Option, Some, None, ◌⊎◌, inl, inr, ◌||◌, if◌then◌else◌, refl, subst}
 use Rattle.std.specs.Prelude.{slice_get, is_none}
 use Rattle.vs_design.specs.Clocks.{same_name}
 use Rattle.vs_grammar.specs.Trees as tree
@@ -51,25 +51,25 @@ abbrev directions : tree.SignalKind → List tree.Declarator → List Direction
 directions kind names = map (λ (d : tree.Declarator). record { name = d.name; input = is_input kind }) names
 
 abbrev declarations : Bool → tree.Signals → List tree.Declarator → List Declaration
-declarations header t names = map (λ (d : tree.Declarator). record { name = d.name; sort = SignalOf (record { kind = t.kind; signed = t.signed; range = t.range; header = header }) }) names
+declarations header t names = map (λ (d : tree.Declarator). record { name = d.name; sort = SignalOf (record { kind = t.kind; signed = t.signed; range = t.range; addresses = d.addresses; header = header }) }) names
 
-signals_port : (header : Bool) (t : tree.Signals) (w : List ℕ) (b : Bool) (names : List tree.Declarator) → direction_of (directions t.kind names) w ≡ Some b → Has (IsPort w b) (declarations header t names)
-signals_port header t w b [] h = cc
-signals_port header t w b (x ∷ xs) h = of (same_name x.name.bytes w) refl h (λ k. signals_port header t w b xs k)
+signals_port : (header : Bool) (t : tree.Signals) (w : List ℕ) (b : Bool) → (header || is_port_kind t.kind) ≡ true → (names : List tree.Declarator) → direction_of (directions t.kind names) w ≡ Some b → Has (IsPort w b) (declarations header t names)
+signals_port header t w b p [] h = cc
+signals_port header t w b p (x ∷ xs) h = of (same_name x.name.bytes w) refl h (λ k. signals_port header t w b p xs k)
   where
     same : Some (is_input t.kind) ≡ Some b → is_input t.kind ≡ b
     same k = cc
 
     of : (c : Bool) → same_name x.name.bytes w ≡ c → (if c then Some (is_input t.kind) else direction_of (directions t.kind xs) w) ≡ Some b → (direction_of (directions t.kind xs) w ≡ Some b → Has (IsPort w b) (declarations header t xs)) → Has (IsPort w b) (declarations header t (x ∷ xs))
-    of true e k r = inl (record { name_is = same_is x.name.bytes w e; sort = same k })
+    of true e k r = inl (record { name_is = same_is x.name.bytes w e; sort = (same k, p) })
     of false e k r = inr (r k)
 
 item_port : (item : tree.Item) (w : List ℕ) (b : Bool) → direction_of (item_directions item) w ≡ Some b → Has (IsPort w b) (item_declared item)
-item_port (tree.SignalsItem t) w b h = of (is_port_kind t.kind) h
+item_port (tree.SignalsItem t) w b h = of (is_port_kind t.kind) refl h
   where
-    of : (c : Bool) → direction_of (if c then directions_in t else []) w ≡ Some b → Has (IsPort w b) (signals_declared false t)
-    of true k = signals_port false t w b t.names k
-    of false k = cc
+    of : (c : Bool) → is_port_kind t.kind ≡ c → direction_of (if c then directions_in t else []) w ≡ Some b → Has (IsPort w b) (signals_declared false t)
+    of true e k = signals_port false t w b e t.names k
+    of false e k = cc
 item_port (tree.ParametersItem t) w b h = cc
 item_port (tree.AssignsItem place assigns) w b h = cc
 item_port (tree.AlwaysItem block) w b h = cc
@@ -99,16 +99,16 @@ items_port (i ∷ is) w b h = of (direction_in (item_directions i) (flat_map ite
 abbrev IsThere : List Declaration → Direction → Type 0
 IsThere ds d = Has (IsPort d.name.bytes d.input) ds
 
-one_there : (header : Bool) (t : tree.Signals) (names : List tree.Declarator) → Each (IsThere (declarations header t names)) (directions t.kind names)
-one_there header t [] = tt
-one_there header t (x ∷ xs) = (inl (record { name_is = refl; sort = refl }), weaker (IsThere (declarations header t xs)) (IsThere (declarations header t (x ∷ xs))) (λ d h. inr h) (directions t.kind xs) (one_there header t xs))
+one_there : (t : tree.Signals) (names : List tree.Declarator) → Each (IsThere (declarations true t names)) (directions t.kind names)
+one_there t [] = tt
+one_there t (x ∷ xs) = (inl (record { name_is = refl; sort = (refl, refl) }), weaker (IsThere (declarations true t xs)) (IsThere (declarations true t (x ∷ xs))) (λ d h. inr h) (directions t.kind xs) (one_there t xs))
 
 all_there : (ports : List tree.Signals) → Each (IsThere (flat_map (signals_declared true) ports)) (flat_map directions_in ports)
 all_there [] = tt
 all_there (t ∷ ts) =
     let all = flat_map (signals_declared true) (t ∷ ts) in
     each_append (IsThere all) (directions_in t) (flat_map directions_in ts)
-    (weaker (IsThere (signals_declared true t)) (IsThere all) (λ d h. has_left (IsPort d.name.bytes d.input) (signals_declared true t) (flat_map (signals_declared true) ts) h) (directions_in t) (one_there true t t.names))
+    (weaker (IsThere (signals_declared true t)) (IsThere all) (λ d h. has_left (IsPort d.name.bytes d.input) (signals_declared true t) (flat_map (signals_declared true) ts) h) (directions_in t) (one_there t t.names))
     (weaker (IsThere (flat_map (signals_declared true) ts)) (IsThere all) (λ d h. has_right (IsPort d.name.bytes d.input) (signals_declared true t) (flat_map (signals_declared true) ts) h) (flat_map directions_in ts) (all_there ts))
 
 header_good : (h : tree.Header) (params : List Declaration) (items : List tree.Item) → Each (IsGoodPort (params ++ (header_declared h ++ flat_map item_declared items))) (header_ports h (flat_map item_directions items))
@@ -224,7 +224,7 @@ blocks_directed around (b ∷ bs) = (tt, blocks_directed around bs)
 wire_directed : (around : Around) (place : ℕ) (d : tree.Declarator) → AreDirectedPieces (wire_said around.env place d).pieces
 wire_directed around place d = of d.name d.value
   where
-    of : (w : tree.Name) (v : Option tree.Expr) → AreDirectedPieces (wire_said around.env place (record { name = w; value = v })).pieces
+    of : (w : tree.Name) (v : Option tree.Expr) → AreDirectedPieces (wire_said around.env place (record { name = w; addresses = d.addresses; value = v })).pieces
     of w None = tt
     of w (Some e) = (tt, tt)
 

@@ -1,46 +1,74 @@
 -- The assigns that ports imply are formed, and the signals of a scope without a fault are declared as the law has it.
-use Rattle.std.proofs.Common.{◌≡◌, ℕ, ◌+◌, ◌≤◌, Bool, true, false, not, ◌&&◌, ◌||◌, List, [], ◌∷◌, ◌++◌, map, flat_map, Option, Some, None, is_none, if◌then◌else◌, refl, sym, ap, ◌∙◌, subst, arith, nat_lt}
+use Rattle.std.proofs.Common.{◌≡◌, ℕ, ◌+◌, ◌≤◌, Bool, true, false, not, ◌&&◌, ◌||◌, List, [], ◌∷◌, ◌++◌, map, flat_map, Option, Some, None, is_none, is_some, ◌⊎◌, inl, inr, if◌then◌else◌, refl, sym, ap, ◌∙◌, subst, arith, nat_lt}
 use Rattle.std.proofs.lemmas.Bool.{ltb-false}
+use Rattle.vs_four.specs.declared.Range.{Range}
 use Rattle.vs_design.specs.Expressions.{Signal, signal_length, Expression, At, Name as NameOf}
 use Rattle.vs_design.specs.Statements.{Target, Whole}
 use Rattle.vs_design.specs.Designs.{Design, InputPort, OutputPort, Continuous}
 use Rattle.vs_design.specs.Clocks.{same_name}
-use Rattle.vs_design.specs.Footprints.{is_net}
-use Rattle.vs_design.specs.Elaborated.{is_plain, is_formed, is_formed_target, has_constant_selects, is_formed_process, is_lawful_range}
+use Rattle.vs_design.specs.Footprints.{is_net, is_variable, is_memory}
+use Rattle.vs_design.specs.Elaborated.{is_plain, is_formed, is_formed_target, has_constant_selects, is_formed_process, is_lawful_range, are_lawful_words, is_lawful_memory}
 use Rattle.vs_grammar.specs.Trees as tree
-use Rattle.vs_grammar.specs.Trees.{Source}
+use Rattle.vs_grammar.specs.Trees.{RangeTree, Source}
 use Rattle.vs_grammar.specs.Shapes.{Each}
 use Rattle.vs_const.specs.Faults.{fault}
 use Rattle.vs_const.specs.declared.rules.Rule.TheVariants.{TooManyBits}
 use Rattle.vs_const.specs.Meanings.{SignalMeaning}
-use Rattle.vs_const.proofs.Formed.{both_nil, split}
+use Rattle.vs_const.specs.Sound.{IsSound}
+use Rattle.vs_const.proofs.Formed.{both_nil, both, split}
 use Rattle.vs_elaborated.specs.Limits.{Limits}
-use Rattle.vs_elaborated.specs.Environments.{Declared, Later, OfSignal, OfParameter, OfGenvar, OfScope, Entry, Env, within, find_entry}
+use Rattle.vs_elaborated.specs.Environments.{Declared, Later, OfSignal, OfParameter, OfGenvar, OfScope, Entry, Env, within, with_words, find_entry}
 use Rattle.vs_elaborated.specs.Targets.{no_signal}
-use Rattle.vs_elaborated.specs.Declarations.{Sort, SignalOf, ParameterOf, GenvarSort, InstanceSort, Declaration, Named, are_sorts_of_one, names_of, first_named, repeated_names}
-use Rattle.vs_elaborated.specs.Parameters.{said_range, said_parameters, first_entries}
-use Rattle.vs_elaborated.specs.Signals.{is_input, second_sort, Start, SaidSignal, said_signal, said_signals, after, put_signals, range_faults}
+use Rattle.vs_elaborated.specs.Declarations.{SignalSort, has_addresses, Sort, SignalOf, ParameterOf, GenvarSort, InstanceSort, Declaration, Named, are_sorts_of_one, names_of, first_named, repeated_names}
+use Rattle.vs_elaborated.specs.Parameters.{said_range, said_addresses, said_parameters, first_entries}
+use Rattle.vs_elaborated.specs.Signals.{is_reg, is_input, second_sort, Start, SaidSignal, said_signal, said_signals, after, put_signals, range_faults}
 use Rattle.vs_elaborated.specs.Generate.{Made}
 use Rattle.vs_elaborated.specs.Constructs.{constructs}
 use Rattle.vs_elaborated.specs.Pieces.{Task, Connection, IntoInput, FromOutput}
 use Rattle.vs_elaborated.specs.Instances.{Around}
 use Rattle.vs_elaborated.specs.Surveys.{items_of, declarations_of, overrides_of, header_of, block_entries, block_faults, bits_over, items_said, Totals, survey}
 use Rattle.vs_elaborated.specs.Elaborated.{entry_signal, port_assign}
-use Rattle.vs_elaborated.specs.Sound.{IsSoundDeclared, AreSoundEntries, AreSoundFrames, IsFineConnection, IsSoundTask}
+use Rattle.vs_elaborated.specs.Sound.{IsSoundDeclared, AreSoundEntries, AreSoundFrames, IsShapedContents, IsFineConnection, IsSoundTask}
 use Rattle.vs_elaborated.proofs.NumberedSignals.{bits_of_all, signals_of}
-use Rattle.vs_elaborated.proofs.SoundNames.{frames_needed, IsShapedSort, range_fine, first_entries_sound, parameters_good, there}
+use Rattle.vs_elaborated.proofs.SoundNames.{frames_needed, IsShapedSignal, IsShapedSort, AreShapedDeclarations, range_fine, addresses_fine, first_entries_sound, parameters_good, there}
 use Rattle.vs_elaborated.proofs.SurveyNames.{contents_shaped, names_shaped, names_ranges}
-use Rattle.vs_elaborated.proofs.FirstNames.{same_is, IsFirst, names_first, entry_first, Has, IsFirstOf, first_of, IsDeclaredWith, IsSignalWith, signals_put, parameters_put, entry_within, MayBeInput, sort_may, IsNetNamed, net_of, any_signal, first_with, input_net, said_nets}
+use Rattle.vs_elaborated.proofs.FirstNames.{same_is, IsFirst, names_first, entry_first, Has, IsFirstOf, first_of, IsDeclaredWith, IsSignalWith, signals_put, parameters_put, entry_within, MayBeInput, sort_may, IsNetNamed, net_of, any_signal, first_with, input_net, said_nets, IsPlainSort, plain_of, said_plain, memory_variable}
 use Rattle.vs_elaborated.proofs.PortNames.{IsPort, IsDirected}
 
 -- ---- the entry of a port
 
--- what holds of a signal before it is said, and of each one said of this name, holds of the entry of this name
+-- a signal that is no memory, of which this holds
+abbrev pub PlainWith : (SignalMeaning → Type 0) → SignalMeaning → Type 0
+PlainWith Q m = (m.signal.words ≡ None) × Q m
+
+-- a declaration of this port, as the grammar has it
+abbrev IsShapedPort : List ℕ → Bool → Declaration → Type 0
+IsShapedPort w b a = IsPort w b a × IsShapedSort a.sort
+
+has_shape : (w : List ℕ) (b : Bool) (ds : List Declaration) → AreShapedDeclarations ds → Has (IsPort w b) ds → Has (IsShapedPort w b) ds
+has_shape w b [] x h = absurd h
+has_shape w b (a ∷ ds) x (inl h) = inl (h, x.0)
+has_shape w b (a ∷ ds) x (inr h) = inr (has_shape w b ds x.1 h)
+
+both_said : (A B : SignalMeaning → Type 0) (w : List ℕ) (ss : List SaidSignal) → Each (λ (s : SaidSignal). same_name w s.meaning.signal.name ≡ true → A s.meaning) ss → Each (λ (s : SaidSignal). same_name w s.meaning.signal.name ≡ true → B s.meaning) ss
+    → Each (λ (s : SaidSignal). same_name w s.meaning.signal.name ≡ true → A s.meaning × B s.meaning) ss
+both_said A B w [] h k = tt
+both_said A B w (s ∷ ss) h k = ((λ e. (h.0 e, k.0 e)), both_said A B w ss h.1 k.1)
+
+-- what holds of the first declaration of a name holds of each name with it
+first_names : (w : List ℕ) (P : Sort → Type 0) (ds : List Declaration) (f : Declaration) → first_named w ds ≡ Some f → P f.sort → (ns : List Named) → Each (IsFirst [] ds) ns → Each (λ (n : Named). same_name w n.first.name.bytes ≡ true → P n.first.sort) ns
+first_names w P ds f e m [] h = tt
+first_names w P ds f e m (n ∷ ns) h = ((λ i. subst (λ (u : Declaration). P u.sort) (same (sym e ∙ ap (λ u. first_named u ds) (same_is w n.first.name.bytes i) ∙ h.0.first)) m), first_names w P ds f e m ns h.1)
+  where
+    same : Some f ≡ Some n.first → f ≡ n.first
+    same k = cc
+
+-- what holds of a signal before it is said, and of each one said of this name, holds of the entry of this name; a port is no memory
 port_entry : (Q : SignalMeaning → Type 0) → Q (record { signal = no_signal; input = false; known = false }) → (b : Bool) (w : List ℕ) (limits : Limits) (source : Source) (k : Task) (t : Totals)
-    → Has (IsPort w b) (declarations_of k.contents) → (survey limits source k t).faults ≡ []
+    → IsShapedContents k.contents → Has (IsPort w b) (declarations_of k.contents) → (survey limits source k t).faults ≡ []
     → ((env : Env) (start : Start) (a f : Declaration) → IsPort w b a → IsFirstOf (declarations_of k.contents) a f → start.top ≡ is_none k.parent → Each (λ (s : SaidSignal). same_name w s.meaning.signal.name ≡ true → Q s.meaning) (said_signals env start (names_of (declarations_of k.contents))))
-    → IsSignalWith Q (find_entry (survey limits source k t).entries w)
-port_entry Q q b w limits source k t p h said =
+    → IsSignalWith (PlainWith Q) (find_entry (survey limits source k t).entries w)
+port_entry Q q b w limits source k t x p h said =
     let ds = declarations_of k.contents in
     let names = names_of ds in
     let parameters = said_parameters k.env (overrides_of k.contents) ds (first_entries names) in
@@ -52,24 +80,23 @@ port_entry Q q b w limits source k t p h said =
     let blocks = flat_map (λ (m : Made). m.names) made in
     let h1 = (both_nil (header_of k.contents) _ h).1 in
     let h2 = (both_nil (repeated_names [] ds) _ h1).0 in
-    first_of (IsPort w b) (IsSignalWith Q (find_entry (survey limits source k t).entries w)) [] ds h2 p λ a f g i.
-    let first = ap (λ u. first_named u ds) (sym g.name_is) ∙ i.first in
-    let began = subst (IsSignalWith Q) (sym (entry_first [] ds w f refl first)) (first_with Q q f.sort (any_signal b f.sort a.sort g.sort i.sorts)) in
-    entry_within Q w entries (block_entries blocks) (signals_put Q w signals parameters.entries (said ranged start a f g i refl) (parameters_put Q w k.env (overrides_of k.contents) ds (first_entries names) began))
+    first_of (IsShapedPort w b) (IsSignalWith (PlainWith Q) (find_entry (survey limits source k t).entries w)) [] ds h2 (has_shape w b ds (contents_shaped k.contents x) p) λ a f g i.
+    let first = ap (λ u. first_named u ds) (sym g.0.name_is) ∙ i.first in
+    let began = subst (IsSignalWith (PlainWith Q)) (sym (entry_first [] ds w f refl first)) (first_with (PlainWith Q) (refl, q) f.sort (any_signal b f.sort a.sort g.0.sort i.sorts)) in
+    let plain = said_plain w ranged names start (first_names w IsPlainSort ds f first (plain_of b f.sort a.sort g.0.sort g.1 i.sorts) names (names_first [] ds)) in
+    entry_within (PlainWith Q) w entries (block_entries blocks)
+    (signals_put (PlainWith Q) w signals parameters.entries (both_said (λ (m : SignalMeaning). m.signal.words ≡ None) Q w signals plain (said ranged start a f g.0 i refl)) (parameters_put (PlainWith Q) w k.env (overrides_of k.contents) ds (first_entries names) began))
 
 abbrev pub IsNetMeaning : SignalMeaning → Type 0
 IsNetMeaning m = (m.signal.net ≡ true) × (m.signal.input ≡ false)
 
 nets_named : (w : List ℕ) (ds : List Declaration) (f : Declaration) → first_named w ds ≡ Some f → MayBeInput f.sort → (ns : List Named) → Each (IsFirst [] ds) ns → Each (IsNetNamed w) ns
 nets_named w ds f e m [] h = tt
-nets_named w ds f e m (n ∷ ns) h = ((λ i. net_of n.first.sort n.second (subst (λ (u : Declaration). MayBeInput u.sort) (same (sym e ∙ ap (λ u. first_named u ds) (same_is w n.first.name.bytes i) ∙ h.0.first)) m) h.0.second), nets_named w ds f e m ns h.1)
-  where
-    same : Some f ≡ Some n.first → f ≡ n.first
-    same k = cc
+nets_named w ds f e m (n ∷ ns) h = ((λ i. net_of n.first.sort n.second ((first_names w MayBeInput ds f e m (n ∷ []) (h.0, tt)).0 i) h.0.second), nets_named w ds f e m ns h.1)
 
-pub input_entry : (w : List ℕ) (limits : Limits) (source : Source) (k : Task) (t : Totals) → Has (IsPort w true) (declarations_of k.contents) → (survey limits source k t).faults ≡ [] → is_none k.parent ≡ false
-    → IsSignalWith IsNetMeaning (find_entry (survey limits source k t).entries w)
-input_entry w limits source k t p h top = port_entry IsNetMeaning (refl, refl) true w limits source k t p h λ env start a f g i e.
+pub input_entry : (w : List ℕ) (limits : Limits) (source : Source) (k : Task) (t : Totals) → IsShapedContents k.contents → Has (IsPort w true) (declarations_of k.contents) → (survey limits source k t).faults ≡ [] → is_none k.parent ≡ false
+    → IsSignalWith (PlainWith IsNetMeaning) (find_entry (survey limits source k t).entries w)
+input_entry w limits source k t x p h top = port_entry IsNetMeaning (refl, refl) true w limits source k t x p h λ env start a f g i e.
     let ds = declarations_of k.contents in
     said_nets w env (names_of ds) start (e ∙ top) (nets_named w ds f (ap (λ u. first_named u ds) (sym g.name_is) ∙ i.first) (sort_may f.sort a.sort g.sort i.sorts) (names_of ds) (names_first [] ds))
 
@@ -80,26 +107,31 @@ any_said : (w : List ℕ) (ss : List SaidSignal) → Each (λ (s : SaidSignal). 
 any_said w [] = tt
 any_said w (s ∷ ss) = ((λ e. tt), any_said w ss)
 
-pub port_signal : (b : Bool) (w : List ℕ) (limits : Limits) (source : Source) (k : Task) (t : Totals) → Has (IsPort w b) (declarations_of k.contents) → (survey limits source k t).faults ≡ [] → IsSignalWith AnyMeaning (find_entry (survey limits source k t).entries w)
-port_signal b w limits source k t p h = port_entry AnyMeaning tt b w limits source k t p h λ env start a f g i e. any_said w (said_signals env start (names_of (declarations_of k.contents)))
+pub port_signal : (b : Bool) (w : List ℕ) (limits : Limits) (source : Source) (k : Task) (t : Totals) → IsShapedContents k.contents → Has (IsPort w b) (declarations_of k.contents) → (survey limits source k t).faults ≡ []
+    → IsSignalWith (PlainWith AnyMeaning) (find_entry (survey limits source k t).entries w)
+port_signal b w limits source k t x p h = port_entry AnyMeaning tt b w limits source k t x p h λ env start a f g i e. any_said w (said_signals env start (names_of (declarations_of k.contents)))
 
 -- ---- it is a signal of the design
 
 abbrev pub WithIn : Design → (SignalMeaning → Type 0) → SignalMeaning → Type 0
 WithIn d Q m = (is_plain d m.signal ≡ true) × Q m
 
-pub entry_in : (d : Design) (Q : SignalMeaning → Type 0) (es : List Entry) (w : List ℕ) → AreSoundEntries d false es → IsSignalWith Q (find_entry es w) → IsSignalWith (WithIn d Q) (find_entry es w)
+pub entry_in : (d : Design) (Q : SignalMeaning → Type 0) (es : List Entry) (w : List ℕ) → AreSoundEntries d false es → IsSignalWith (PlainWith Q) (find_entry es w) → IsSignalWith (WithIn d Q) (find_entry es w)
 entry_in d Q [] w s h = absurd h
 entry_in d Q (e ∷ es) w s h = of (same_name e.name w) h (λ k. entry_in d Q es w s.1 k)
   where
-    declared : (x : Declared) → IsSoundDeclared d false x → IsDeclaredWith Q x → IsDeclaredWith (WithIn d Q) x
+    plain : (m : SignalMeaning) (words : Option Range) → IsSound d false (with_words words m) → words ≡ None → is_plain d m.signal ≡ true
+    plain m None i k = i.0
+    plain m (Some r) i k = cc
+
+    declared : (x : Declared) → IsSoundDeclared d false x → IsDeclaredWith (PlainWith Q) x → IsDeclaredWith (WithIn d Q) x
     declared Later i k = absurd k
-    declared (OfSignal m) i k = (i.0, k)
+    declared (OfSignal m) i k = (plain m m.signal.words i k.0, k.1)
     declared (OfParameter v r) i k = absurd k
     declared OfGenvar i k = absurd k
     declared OfScope i k = absurd k
 
-    of : (b : Bool) → IsSignalWith Q (if b then Some e else find_entry es w) → (IsSignalWith Q (find_entry es w) → IsSignalWith (WithIn d Q) (find_entry es w)) → IsSignalWith (WithIn d Q) (if b then Some e else find_entry es w)
+    of : (b : Bool) → IsSignalWith (PlainWith Q) (if b then Some e else find_entry es w) → (IsSignalWith (PlainWith Q) (find_entry es w) → IsSignalWith (WithIn d Q) (find_entry es w)) → IsSignalWith (WithIn d Q) (if b then Some e else find_entry es w)
     of true k r = declared e.declared s.0 k
     of false k r = r k
 
@@ -140,12 +172,12 @@ output_formed d place target_place t f g (Some x) h = of x.name x.place x.declar
     of n p OfScope k = absurd k
 
 -- the assign of a connection without a fault
-pub port_formed : (d : Design) (limits : Limits) (source : Source) (k : Task) (t : Totals) → AreSoundEntries d false (survey limits source k t).entries → (survey limits source k t).faults ≡ [] → is_none k.parent ≡ false
+pub port_formed : (d : Design) (limits : Limits) (source : Source) (k : Task) (t : Totals) → IsShapedContents k.contents → AreSoundEntries d false (survey limits source k t).entries → (survey limits source k t).faults ≡ [] → is_none k.parent ≡ false
     → (place : ℕ) (c : Connection) → IsFineConnection d c → IsDirected (declarations_of k.contents) c → is_formed_process d (port_assign place (survey limits source k t).entries c) ≡ true
-port_formed d limits source k t s h top place (IntoInput name e) f g =
-    input_formed d place e f (find_entry (survey limits source k t).entries name) (entry_in d IsNetMeaning (survey limits source k t).entries name s (input_entry name limits source k t g h top))
-port_formed d limits source k t s h top place (FromOutput name target_place target) f g =
-    output_formed d place target_place target f.0 f.1 (find_entry (survey limits source k t).entries name) (entry_in d AnyMeaning (survey limits source k t).entries name s (port_signal false name limits source k t g h))
+port_formed d limits source k t x s h top place (IntoInput name e) f g =
+    input_formed d place e f (find_entry (survey limits source k t).entries name) (entry_in d IsNetMeaning (survey limits source k t).entries name s (input_entry name limits source k t x g h top))
+port_formed d limits source k t x s h top place (FromOutput name target_place target) f g =
+    output_formed d place target_place target f.0 f.1 (find_entry (survey limits source k t).entries name) (entry_in d AnyMeaning (survey limits source k t).entries name s (port_signal false name limits source k t x g h))
 
 -- ---- the signals of a scope
 
@@ -154,7 +186,29 @@ pub record IsDeclaredSaid (top : Bool) (scope : ℕ) (s : SaidSignal) : Type 0 w
   pub range : is_lawful_range s.meaning.signal.range ≡ true
   pub input : s.meaning.signal.input ≡ true → (s.meaning.signal.net ≡ true) × (top ≡ true)
   pub scope_is : s.meaning.signal.scope ≡ scope
-  pub words : s.meaning.signal.words ≡ None
+  pub memory : is_lawful_memory s.meaning.signal ≡ true
+
+-- a memory is a variable
+variable : (env : Env) (start : Start) (n : Named) (s : SignalSort) → IsShapedSignal s → (has_addresses s ≡ true → (not (is_reg s.kind || is_reg (second_sort s n.second).kind) ≡ false) × ((is_input s.kind || is_input (second_sort s n.second).kind) ≡ false))
+    → (not (is_memory (said_signal env start n s).meaning.signal) || is_variable (said_signal env start n s).meaning.signal) ≡ true
+variable env start n s x h = of s.addresses refl (λ e. h e)
+  where
+    two : (a b c : Bool) → a ≡ false → b ≡ false → (not a && not (b && c)) ≡ true
+    two false false c i k = refl
+    two false true c i k = cc
+    two true b c i k = cc
+
+    later : (a b : Bool) → b ≡ true → (a || b) ≡ true
+    later true b k = refl
+    later false b k = k
+
+    of : (o : Option RangeTree) → s.addresses ≡ o → (is_some s.addresses ≡ true → (not (is_reg s.kind || is_reg (second_sort s n.second).kind) ≡ false) × ((is_input s.kind || is_input (second_sort s n.second).kind) ≡ false))
+        → (not (is_some (said_addresses s.addresses env).range) || (not (not (is_reg s.kind || is_reg (second_sort s n.second).kind)) && not ((is_input s.kind || is_input (second_sort s n.second).kind) && start.top))) ≡ true
+    of None e k = ap (λ (o : Option RangeTree). not (is_some (said_addresses o env).range) || (not (not (is_reg s.kind || is_reg (second_sort s n.second).kind)) && not ((is_input s.kind || is_input (second_sort s n.second).kind) && start.top))) e
+    of (Some r) e k =
+        let i = k (ap (λ (o : Option RangeTree). is_some o) e) in
+        later (not (is_some (said_addresses s.addresses env).range)) (not (not (is_reg s.kind || is_reg (second_sort s n.second).kind)) && not ((is_input s.kind || is_input (second_sort s n.second).kind) && start.top))
+        (two (not (is_reg s.kind || is_reg (second_sort s n.second).kind)) (is_input s.kind || is_input (second_sort s n.second).kind) start.top i.0 i.1)
 
 said_declared : (d : Design) (env : Env) → AreSoundFrames d true env.frames → (ds : List Declaration) (names : List Named) (start : Start) → Each (IsFirst [] ds) names → Each (λ (n : Named). IsShapedSort n.first.sort) names
     → range_faults env (map (λ (n : Named). n.first) names) ≡ [] → Each (IsDeclaredSaid start.top start.scope) (said_signals env start names)
@@ -167,14 +221,17 @@ said_declared d env s ds (n ∷ ns) start f x h = of n.first.name n.first.sort n
         → Each (IsDeclaredSaid start.top start.scope) (said_signals env start (record { first = record { name = w; sort = q }; second = second } ∷ ns))
     of w (SignalOf t) second g x h rest =
         let m : Named = record { first = record { name = w; sort = SignalOf t }; second = second } in
-        let k = both_nil (said_range t.range env).faults (range_faults env (map (λ (n : Named). n.first) ns)) h in
-        let r = range_fine d t.range env s x k.0 in (
+        let one = said_signal env start m t in
+        let k = both_nil ((said_range t.range env).faults ++ (said_addresses t.addresses env).faults) (range_faults env (map (λ (n : Named). n.first) ns)) h in
+        let l = both_nil (said_range t.range env).faults (said_addresses t.addresses env).faults k.0 in
+        let r = range_fine d t.range env s x.range l.0 in
+        let a = addresses_fine d t.addresses env s x.addresses l.1 in (
           record {
-            known = r.known;
+            known = both (said_range t.range env).known (said_addresses t.addresses env).known r.known a.known;
             range = r.lawful;
             input = λ e. let i = split (is_input t.kind || is_input (second_sort t second).kind) start.top e in (input_net t second g i.0, i.1);
             scope_is = refl;
-            words = refl;
+            memory = both (are_lawful_words one.meaning.signal.words) (not (is_memory one.meaning.signal) || is_variable one.meaning.signal) a.lawful (variable env start m t x (λ e. memory_variable t second x g e));
           },
           rest (after start (said_signal env start m t).meaning) k.1,
         )
@@ -196,7 +253,7 @@ not_over most total (s ∷ ss) top scope x b h =
         by false g j = let l = r n (ltb-false most n g) j in omega (arith, e, l)
 
 abbrev pub IsDeclaredSignal : Bool → ℕ → Signal → Type 0
-IsDeclaredSignal top scope s = (is_lawful_range s.range ≡ true) × (s.input ≡ true → (s.net ≡ true) × (top ≡ true)) × (s.scope ≡ scope) × (s.words ≡ None)
+IsDeclaredSignal top scope s = (is_lawful_range s.range ≡ true) × (s.input ≡ true → (s.net ≡ true) × (top ≡ true)) × (s.scope ≡ scope) × (is_lawful_memory s ≡ true)
 
 pub record AreFineSignals (d : Design) (limits : Limits) (source : Source) (k : Task) (t : Totals) : Type 0 where
   pub declared : Each (IsDeclaredSignal (is_none k.parent) t.scopes) (survey limits source k t).signals
@@ -232,4 +289,4 @@ survey_signals d limits source k t s b h =
   where
     each : (ss : List SaidSignal) → Each (IsDeclaredSaid (is_none k.parent) t.scopes) ss → Each (IsDeclaredSignal (is_none k.parent) t.scopes) (signals_of ss)
     each [] x = tt
-    each (s ∷ ss) x = ((x.0.range, x.0.input, x.0.scope_is, x.0.words), each ss x.1)
+    each (s ∷ ss) x = ((x.0.range, x.0.input, x.0.scope_is, x.0.memory), each ss x.1)

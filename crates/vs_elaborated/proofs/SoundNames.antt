@@ -1,31 +1,32 @@
 -- Where a scope has no fault, each of its names means a known signal of the design, a value, or nothing that an expression can name.
-use Rattle.std.proofs.Common.{◌≡◌, ℕ, zero, suc, ◌*◌, ◌-◌, ◌≤◌, Bool, true, false, ◌&&◌, ◌||◌, List, [], ◌∷◌, Option, Some, None, length, map, nat_lt, nat_le, if◌then◌else◌, ◌==◌, ◌⊎◌, inl, inr, refl, sym, ap, ◌∙◌, subst, arith, eq-eqb}
+use Rattle.std.proofs.Common.{◌≡◌, ℕ, zero, suc, ◌*◌, ◌-◌, ◌≤◌, Bool, true, false, ◌&&◌, ◌||◌, List, [], ◌∷◌, ◌++◌, Option, Some, None, is_some, not, length, map, max, min, nat_lt, nat_le, if◌then◌else◌, ◌==◌, ◌⊎◌, inl, inr, refl, sym, ap, ◌∙◌, subst, arith, eq-eqb}
 use Rattle.std.specs.List.{list_any}
-use Rattle.std.proofs.lemmas.Bool.{leb-true, le-leb, ltb-false}
+use Rattle.std.proofs.lemmas.Bool.{leb-true, leb-false, le-leb, ltb-false}
 use Rattle.vs_four.specs.declared.Bit4.TheVariants.{X}
 use Rattle.vs_four.specs.declared.Range.{Range}
-use Rattle.vs_four.specs.Selects.{Part, range_length}
+use Rattle.vs_four.specs.Selects.{Part, is_descending, range_length}
 use Rattle.vs_design.specs.Expressions.{Signal, range_or_one, words_length, signal_length, OfSignal as SignalSource, OfConstant, Expression, Literal, Name, Select, Word, Unary, Binary, Choice, Join, Repeat, At, Call, UnaryOp, Plus, Minus, BitNot, LogicalNot, ReduceAnd, ReduceNand, ReduceOr, ReduceNor, ReduceXor, ReduceXnor, Signed, Unsigned, unary_length, Way, InContext, Own, Compared, Shifted, way, binary_length, width, sign}
 use Rattle.vs_design.specs.Values.{constant_value}
 use Rattle.vs_design.specs.Designs.{Design}
 use Rattle.vs_design.specs.Fits.{fits_64}
-use Rattle.vs_design.specs.Elaborated.{is_signal, is_plain, is_lawful_range, same_range, is_formed, is_formed_select}
+use Rattle.vs_design.specs.Footprints.{is_memory}
+use Rattle.vs_design.specs.Elaborated.{is_signal, is_plain, is_lawful_range, are_lawful_words, same_range, is_formed, is_formed_select}
 use Rattle.vs_design.proofs.Lengths.{length_bits_of, length_value, length_assigned}
 use Rattle.vs_design.specs.Clocks.{same_name}
 use Rattle.vs_grammar.specs.Trees as tree
 use Rattle.vs_grammar.specs.Shapes.{Each, Given, IsExpr, IsRange as IsRangeTree}
 use Rattle.vs_const.specs.declared.faults.Fault.{Fault}
-use Rattle.vs_const.specs.Meanings.{ConstantValue, Unknown, Find, IsFairValue}
-use Rattle.vs_const.specs.Typed.{Typed, is_over}
-use Rattle.vs_const.specs.Selects.{bounds}
+use Rattle.vs_const.specs.Meanings.{ConstantValue, SignalMeaning, Unknown, Find, IsFairValue}
+use Rattle.vs_const.specs.Typed.{Typed, is_over, natural}
+use Rattle.vs_const.specs.Selects.{range_if, range_of, bounds, address_bounds}
 use Rattle.vs_grammar.specs.Trees.{expr_place}
 use Rattle.vs_const.specs.Expressions.{constant}
-use Rattle.vs_const.specs.Sound.{IsSound, IsSoundSignal, AreSound}
+use Rattle.vs_const.specs.Sound.{IsSound, AreSound, IsFine}
 use Rattle.vs_const.proofs.Short.{short}
-use Rattle.vs_const.proofs.Formed.{IsRange, both_nil, both, split, bounds_fine, typed_fine, length_some}
-use Rattle.vs_elaborated.specs.Environments.{Declared, Later, OfSignal, OfParameter, OfGenvar, OfScope, Entry, Env, within, up_to, find_entry, find_name, turn_of, is_late, parameter_meaning, turn_meaning, declared_meaning, entry_meaning, named}
-use Rattle.vs_elaborated.specs.Declarations.{SignalSort, ParameterSort, Sort, SignalOf, ParameterOf, GenvarSort, InstanceSort, Declaration, Named}
-use Rattle.vs_elaborated.specs.Parameters.{SaidRange, of_bounds, said_range, Override, override_of, chosen, converted, declared_if, said_parameter, valued, put_value, first_declared, first_entries, said_parameters}
+use Rattle.vs_const.proofs.Formed.{IsNumber, natural_fine, IsRange, both_nil, both, split, bounds_fine, typed_fine, length_some}
+use Rattle.vs_elaborated.specs.Environments.{Declared, Later, OfSignal, OfParameter, OfGenvar, OfScope, Entry, Env, within, up_to, find_entry, find_name, turn_of, is_late, parameter_meaning, turn_meaning, with_words, signal_means, declared_meaning, entry_meaning, named}
+use Rattle.vs_elaborated.specs.Declarations.{SignalSort, has_addresses, ParameterSort, Sort, SignalOf, ParameterOf, GenvarSort, InstanceSort, Declaration, Named}
+use Rattle.vs_elaborated.specs.Parameters.{SaidRange, of_bounds, said_range, descending, of_addresses, said_addresses, Override, override_of, chosen, converted, declared_if, said_parameter, valued, put_value, first_declared, first_entries, said_parameters}
 use Rattle.vs_elaborated.specs.Signals.{Start, said_signal, said_signals, after, SaidSignal, put_signal, put_signals, range_faults}
 use Rattle.vs_elaborated.specs.Sound.{IsSoundDeclared, AreSoundEntries, AreSoundFrames, IsConstantFine, AreFineOverrides}
 
@@ -67,10 +68,14 @@ name_sound d needed env (f ∷ fs) name s = of (find_entry f name) (entry_sound 
 pub named_sound : (d : Design) (needed : Bool) (env : Env) → AreSoundFrames d needed env.frames → AreSound d needed (named env)
 named_sound d needed env s name = name_sound d needed env env.frames name s
 
--- in a constant less is asked of signals
+-- in a constant nothing is asked of signals
+signal_needed : (d : Design) (m : SignalMeaning) (words : Option Range) → IsSound d true (with_words words m)
+signal_needed d m None = tt
+signal_needed d m (Some r) = tt
+
 declared_needed : (d : Design) (declared : Declared) → IsSoundDeclared d false declared → IsSoundDeclared d true declared
 declared_needed d Later s = s
-declared_needed d (OfSignal m) s = tt
+declared_needed d (OfSignal m) s = signal_needed d m m.signal.words
 declared_needed d (OfParameter (Some v) (Some r)) s = s
 declared_needed d (OfParameter (Some v) None) s = s
 declared_needed d (OfParameter None r) s = s
@@ -190,6 +195,90 @@ range_fine d (Some t) env s x h =
     (bounds_fine d t.bracket (tree.expr_place t.left) (tree.expr_place t.right) (constant t.left (named env)) (constant t.right (named env))
     (typed_fine d (named env) t.left true (named_sound d true env s) x.0) (typed_fine d (named env) t.right true (named_sound d true env s) x.1) (bounds_faults b.range b.faults h))
 
+-- the addresses of a memory
+pub record AreFineAddresses (r : SaidRange) : Type 0 where
+  pub known : r.known ≡ true
+  pub lawful : are_lawful_words r.range ≡ true
+
+-- two bounds that are not too far apart
+record AreBounds (o : Option Range) : Type 0 where
+  r : Range
+  is : o ≡ Some r
+  left : r.left ≤ 65535
+  right : r.right ≤ 65535
+  few : range_length r ≤ 1024
+
+length_is : (r : Range) → range_length r ≡ suc (max r.left r.right - min r.left r.right)
+length_is r = of (is_descending r) refl
+  where
+    of : (b : Bool) → is_descending r ≡ b → (if b then suc (r.left - r.right) else suc (r.right - r.left)) ≡ suc (max r.left r.right - min r.left r.right)
+    of true e = let h = leb-true r.right r.left e in omega (arith, h)
+    of false e = let h = leb-false r.right r.left e in omega (arith, h)
+
+descending_lawful : (r : Range) → r.left ≤ 65535 → r.right ≤ 65535 → range_length r ≤ 1024 → are_lawful_words (Some (descending r)) ≡ true
+descending_lawful r h k l =
+    let q = descending r in
+    let m = length_is r in
+    let n = length_is q in
+    three (nat_le q.right q.left) (nat_le q.left 65535) (nat_le (range_length q) 1024) (le-leb q.right q.left (omega arith)) (le-leb q.left 65535 (omega (arith, h, k))) (le-leb (range_length q) 1024 (omega (arith, l, m, n)))
+  where
+    three : (a b c : Bool) → a ≡ true → b ≡ true → c ≡ true → (a && b && c) ≡ true
+    three true true true h k l = refl
+    three true true false h k l = cc
+    three true false c h k l = cc
+    three false b c h k l = cc
+
+bounds_are : (bracket m n : ℕ) (few : Bool) → nat_le (range_length (record { left = m; right = n })) 1024 ≡ few → m ≤ 65535 → n ≤ 65535 → (range_if few bracket (record { left = m; right = n })).faults ≡ [] → AreBounds (range_if few bracket (record { left = m; right = n })).range
+bounds_are bracket m n true e h k f = record { r = record { left = m; right = n }; is = refl; left = h; right = k; few = leb-true (range_length (record { left = m; right = n })) 1024 e }
+bounds_are bracket m n false e h k f = cc
+
+numbers_bound : (bracket : ℕ) (m n : Option ℕ) → IsNumber 0 65535 m → IsNumber 0 65535 n → (range_of 1024 bracket m n).faults ≡ [] → AreBounds (range_of 1024 bracket m n).range
+numbers_bound bracket None n g h f = absurd (no g.is)
+  where
+    no : {m : ℕ} → None ≡ Some m → ⊥
+    no e = cc
+numbers_bound bracket (Some m) None g h f = absurd (no h.is)
+  where
+    no : {m : ℕ} → None ≡ Some m → ⊥
+    no e = cc
+numbers_bound bracket (Some m) (Some n) g h f = bounds_are bracket m n (nat_le (range_length (record { left = m; right = n })) 1024) refl (small m g) (small n h) f
+  where
+    same : {a b : ℕ} → Some a ≡ Some b → a ≡ b
+    same e = cc
+
+    small : (a : ℕ) → IsNumber 0 65535 (Some a) → a ≤ 65535
+    small a w = subst (λ b. b ≤ 65535) (sym (same w.is)) (leb-true w.n 65535 (split (nat_le 0 w.n) (nat_le w.n 65535) w.within).1)
+
+address_bounds_are : (d : Design) (bracket p q : ℕ) (t u : Typed) → (t.faults ≡ [] → IsFine d true t) → (u.faults ≡ [] → IsFine d true u) → (address_bounds bracket p t q u).faults ≡ [] → AreBounds (address_bounds bracket p t q u).range
+address_bounds_are d bracket p q t u t_if u_if h =
+    let m = natural 0 65535 p t in
+    let n = natural 0 65535 q u in
+    let a = both_nil m.faults (n.faults ++ (range_of 1024 bracket m.number n.number).faults) h in
+    let b = both_nil n.faults (range_of 1024 bracket m.number n.number).faults a.1 in
+    numbers_bound bracket m.number n.number (natural_fine d true 0 65535 p t t_if a.0) (natural_fine d true 0 65535 q u u_if b.0) b.1
+
+bounds_addresses : (o : Option Range) (fs : List Fault) → AreBounds o → AreFineAddresses (of_addresses o fs)
+bounds_addresses None fs w = absurd (no w.is)
+  where
+    no : {r : Range} → None ≡ Some r → ⊥
+    no k = cc
+bounds_addresses (Some r) fs w = record { known = refl; lawful = subst (λ (q : Range). are_lawful_words (Some (descending q)) ≡ true) (sym (same w.is)) (descending_lawful w.r w.left w.right w.few) }
+  where
+    same : {q : Range} → Some r ≡ Some q → r ≡ q
+    same k = cc
+
+addresses_faults : (o : Option Range) (fs : List Fault) → (of_addresses o fs).faults ≡ [] → fs ≡ []
+addresses_faults None fs h = h
+addresses_faults (Some r) fs h = h
+
+pub addresses_fine : (d : Design) (o : Option tree.RangeTree) (env : Env) → AreSoundFrames d true env.frames → Given IsRangeTree o → (said_addresses o env).faults ≡ [] → AreFineAddresses (said_addresses o env)
+addresses_fine d None env s x h = record { known = refl; lawful = refl }
+addresses_fine d (Some t) env s x h =
+    let b = address_bounds t.bracket (tree.expr_place t.left) (constant t.left (named env)) (tree.expr_place t.right) (constant t.right (named env)) in
+    bounds_addresses b.range b.faults
+    (address_bounds_are d t.bracket (tree.expr_place t.left) (tree.expr_place t.right) (constant t.left (named env)) (constant t.right (named env))
+    (typed_fine d (named env) t.left true (named_sound d true env s) x.0) (typed_fine d (named env) t.right true (named_sound d true env s) x.1) (addresses_faults b.range b.faults h))
+
 override_fine : (d : Design) (os : List Override) (name : List ℕ) (t : Typed) → AreFineOverrides d os → override_of os name ≡ Some t → IsConstantFine d t
 override_fine d [] name t f h = cc
 override_fine d (o ∷ os) name t f h = of (same_name o.name name) h (λ k. override_fine d os name t f.1 k)
@@ -277,9 +366,16 @@ put_sound d needed name value (e ∷ es) k s = (of (same_name e.name name), put_
     of true = value_kept d needed value e.declared k s.0
     of false = s.0
 
+-- only a `reg` has addresses, and none of a header's ports has
+pub record IsShapedSignal (s : SignalSort) : Type 0 where
+  pub range : Given IsRangeTree s.range
+  pub addresses : Given IsRangeTree s.addresses
+  pub variable : has_addresses s ≡ true → s.kind ≡ tree.Reg
+  pub body : has_addresses s ≡ true → s.header ≡ false
+
 -- the shape of what is declared
 abbrev pub IsShapedSort : Sort → Type 0
-IsShapedSort (SignalOf s) = Given IsRangeTree s.range
+IsShapedSort (SignalOf s) = IsShapedSignal s
 IsShapedSort (ParameterOf p) = Given IsRangeTree p.range × IsExpr p.value
 IsShapedSort GenvarSort = Unit {0}
 IsShapedSort InstanceSort = Unit {0}
@@ -375,7 +471,7 @@ there d env (n ∷ ns) start = of n.first.name n.first.sort n.second (there d en
     of w InstanceSort second rest = (inl tt, rest start)
 
 -- once all signals are put, each entry is sound
-pub all_settled : (d : Design) (ss : List SaidSignal) (es : List Entry) → Each (λ (s : SaidSignal). IsSoundSignal d false s.meaning) ss → Each (IsSettled d ss) es → AreSoundEntries d false (put_signals ss es)
+pub all_settled : (d : Design) (ss : List SaidSignal) (es : List Entry) → Each (λ (s : SaidSignal). IsSound d false (signal_means s.meaning)) ss → Each (IsSettled d ss) es → AreSoundEntries d false (put_signals ss es)
 all_settled d [] [] k g = tt
 all_settled d [] (e ∷ es) k g = (of g.0, all_settled d [] es k g.1)
   where
@@ -401,22 +497,26 @@ all_settled d (s ∷ ss) es k g = all_settled d ss (put_signal s.meaning es) k.1
             rest true b i k = cc
 
 -- the signals of a scope whose ranges have no fault
-signal_sound : (d : Design) (env : Env) (start : Start) (n : Named) (s : SignalSort) → is_signal d (said_signal env start n s).meaning.signal ≡ true → (said_range s.range env).known ≡ true → IsSoundSignal d false (said_signal env start n s).meaning
-signal_sound d env start n s h k = (both (is_signal d (said_signal env start n s).meaning.signal) true h refl, k, λ i. (split (said_signal env start n s).meaning.input start.top i).0)
+signal_sound : (d : Design) (m : SignalMeaning) (words : Option Range) → m.signal.words ≡ words → is_signal d m.signal ≡ true → m.known ≡ true → (m.signal.input ≡ true → m.input ≡ true) → IsSound d false (with_words words m)
+signal_sound d m None e h k i = (both (is_signal d m.signal) (not (is_memory m.signal)) h (ap (λ (w : Option Range). not (is_some w)) e), k, i)
+signal_sound d m (Some r) e h k i = (both (is_signal d m.signal) (is_memory m.signal) h (ap (λ (w : Option Range). is_some w) e), k, i)
 
 pub signals_sound : (d : Design) (env : Env) → AreSoundFrames d true env.frames → (names : List Named) (start : Start) → Each (λ (s : SaidSignal). is_signal d s.meaning.signal ≡ true) (said_signals env start names)
-    → Each (λ (n : Named). IsShapedSort n.first.sort) names → range_faults env (map (λ (n : Named). n.first) names) ≡ [] → Each (λ (s : SaidSignal). IsSoundSignal d false s.meaning) (said_signals env start names)
+    → Each (λ (n : Named). IsShapedSort n.first.sort) names → range_faults env (map (λ (n : Named). n.first) names) ≡ [] → Each (λ (s : SaidSignal). IsSound d false (signal_means s.meaning)) (said_signals env start names)
 signals_sound d env s [] start h x k = tt
 signals_sound d env s (n ∷ ns) start h x k = of n.first.name n.first.sort n.second h x.0 k (λ next g l. signals_sound d env s ns next g x.1 l)
   where
     of : (w : tree.Name) (q : Sort) (second : Option Declaration) → Each (λ (s : SaidSignal). is_signal d s.meaning.signal ≡ true) (said_signals env start (record { first = record { name = w; sort = q }; second = second } ∷ ns)) → IsShapedSort q
         → range_faults env (record { name = w; sort = q } ∷ map (λ (n : Named). n.first) ns) ≡ []
-        → ((next : Start) → Each (λ (s : SaidSignal). is_signal d s.meaning.signal ≡ true) (said_signals env next ns) → range_faults env (map (λ (n : Named). n.first) ns) ≡ [] → Each (λ (s : SaidSignal). IsSoundSignal d false s.meaning) (said_signals env next ns))
-        → Each (λ (s : SaidSignal). IsSoundSignal d false s.meaning) (said_signals env start (record { first = record { name = w; sort = q }; second = second } ∷ ns))
+        → ((next : Start) → Each (λ (s : SaidSignal). is_signal d s.meaning.signal ≡ true) (said_signals env next ns) → range_faults env (map (λ (n : Named). n.first) ns) ≡ [] → Each (λ (s : SaidSignal). IsSound d false (signal_means s.meaning)) (said_signals env next ns))
+        → Each (λ (s : SaidSignal). IsSound d false (signal_means s.meaning)) (said_signals env start (record { first = record { name = w; sort = q }; second = second } ∷ ns))
     of w (SignalOf t) second h x k rest =
         let m : Named = record { first = record { name = w; sort = SignalOf t }; second = second } in
-        let f = both_nil (said_range t.range env).faults (range_faults env (map (λ (n : Named). n.first) ns)) k in
-        (signal_sound d env start m t h.0 (range_fine d t.range env s x f.0).known, rest (after start (said_signal env start m t).meaning) h.1 f.1)
+        let f = both_nil ((said_range t.range env).faults ++ (said_addresses t.addresses env).faults) (range_faults env (map (λ (n : Named). n.first) ns)) k in
+        let g = both_nil (said_range t.range env).faults (said_addresses t.addresses env).faults f.0 in
+        let one = (said_signal env start m t).meaning in
+        let known = both (said_range t.range env).known (said_addresses t.addresses env).known (range_fine d t.range env s x.range g.0).known (addresses_fine d t.addresses env s x.addresses g.1).known in
+        (signal_sound d one one.signal.words refl h.0 known (λ i. (split one.input start.top i).0), rest (after start one) h.1 f.1)
     of w (ParameterOf p) second h x k rest = rest start h k
     of w GenvarSort second h x k rest = rest start h k
     of w InstanceSort second h x k rest = rest start h k

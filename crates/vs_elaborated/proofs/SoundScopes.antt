@@ -14,7 +14,7 @@ use Rattle.vs_elaborated.specs.Constructs.{constructs}
 use Rattle.vs_elaborated.specs.Pieces.{Task, Connection, IntoInput, FromOutput, Piece, Own, Instance, Within}
 use Rattle.vs_elaborated.specs.Instances.{connection_name, instance_said}
 use Rattle.vs_elaborated.specs.Surveys.{Totals, survey, declarations_of, overrides_of}
-use Rattle.vs_elaborated.specs.Sound.{AreSoundEntries, AreCounted, MeansSignal, HasPorts, FaultlessIsFair, SignalsAreCounted, PortsAreSignals, BlocksAreLower, OverridesAreFine, InstancesHavePorts}
+use Rattle.vs_elaborated.specs.Sound.{AreSoundEntries, IsShapedContents, AreCounted, MeansSignal, HasPorts, FaultlessIsFair, SignalsAreCounted, PortsAreSignals, BlocksAreLower, OverridesAreFine, InstancesHavePorts}
 use Rattle.vs_elaborated.proofs.NumberedSignals.{signals_of, good_survey}
 use Rattle.vs_elaborated.proofs.SurveyNames.{survey_names}
 use Rattle.vs_elaborated.proofs.FinePieces.{overrides_fine, survey_pieces}
@@ -64,21 +64,21 @@ means d es name (Some x) e h = of x.name x.place x.declared e h
     of n p OfGenvar e k = absurd k
     of n p OfScope e k = absurd k
 
-port_means : (d : Design) (limits : Limits) (source : Source) (k : Task) (t : Totals) → (survey limits source k t).faults ≡ [] → AreSoundEntries d false (survey limits source k t).entries
+port_means : (d : Design) (limits : Limits) (source : Source) (k : Task) (t : Totals) → IsShapedContents k.contents → (survey limits source k t).faults ≡ [] → AreSoundEntries d false (survey limits source k t).entries
     → (c : Connection) → IsDirected (declarations_of k.contents) c → MeansSignal d (survey limits source k t).entries (connection_name c)
-port_means d limits source k t h s (IntoInput name e) g =
-    means d (survey limits source k t).entries name (find_entry (survey limits source k t).entries name) refl (entry_in d AnyMeaning (survey limits source k t).entries name s (port_signal true name limits source k t g h))
-port_means d limits source k t h s (FromOutput name place target) g =
-    means d (survey limits source k t).entries name (find_entry (survey limits source k t).entries name) refl (entry_in d AnyMeaning (survey limits source k t).entries name s (port_signal false name limits source k t g h))
+port_means d limits source k t x h s (IntoInput name e) g =
+    means d (survey limits source k t).entries name (find_entry (survey limits source k t).entries name) refl (entry_in d AnyMeaning (survey limits source k t).entries name s (port_signal true name limits source k t x g h))
+port_means d limits source k t x h s (FromOutput name place target) g =
+    means d (survey limits source k t).entries name (find_entry (survey limits source k t).entries name) refl (entry_in d AnyMeaning (survey limits source k t).entries name s (port_signal false name limits source k t x g h))
 
-ports_mean : (d : Design) (limits : Limits) (source : Source) (k : Task) (t : Totals) → (survey limits source k t).faults ≡ [] → AreSoundEntries d false (survey limits source k t).entries
+ports_mean : (d : Design) (limits : Limits) (source : Source) (k : Task) (t : Totals) → IsShapedContents k.contents → (survey limits source k t).faults ≡ [] → AreSoundEntries d false (survey limits source k t).entries
     → (cs : List Connection) → Each (IsDirected (declarations_of k.contents)) cs → Each (λ (c : Connection). MeansSignal d (survey limits source k t).entries (connection_name c)) cs
-ports_mean d limits source k t h s [] g = tt
-ports_mean d limits source k t h s (c ∷ cs) g = (port_means d limits source k t h s c g.0, ports_mean d limits source k t h s cs g.1)
+ports_mean d limits source k t x h s [] g = tt
+ports_mean d limits source k t x h s (c ∷ cs) g = (port_means d limits source k t x h s c g.0, ports_mean d limits source k t x h s cs g.1)
 
 piece_ports : (d : Design) (limits : Limits) (source : Source) (p : Piece) → IsDirectedPiece p → HasPorts d limits source p
 piece_ports d limits source (Own p) g = tt
-piece_ports d limits source (Instance cs k) g = λ totals h s. ports_mean d limits source k totals h s cs g
+piece_ports d limits source (Instance cs k) g = λ totals x h s. ports_mean d limits source k totals x h s cs g
 piece_ports d limits source (Within k) g = tt
 
 pieces_ports : (d : Design) (limits : Limits) (source : Source) (ps : List Piece) → Each IsDirectedPiece ps → Each (HasPorts d limits source) ps

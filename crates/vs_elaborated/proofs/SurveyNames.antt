@@ -1,5 +1,5 @@
 -- Where a scope has no fault, all its names are sound.
-use Rattle.std.proofs.Common.{◌≡◌, ℕ, Bool, true, false, List, [], ◌∷◌, ◌++◌, map, refl, if◌then◌else◌}
+use Rattle.std.proofs.Common.{◌≡◌, ℕ, Bool, true, false, List, [], ◌∷◌, ◌++◌, map, Option, Some, None, is_some, refl, sym, ap, ◌∙◌, if◌then◌else◌}
 use Rattle.std.specs.Prelude.{is_none}
 use Rattle.std.specs.List.{flat_map, list_any}
 use Rattle.vs_design.specs.Expressions.{Signal}
@@ -7,14 +7,14 @@ use Rattle.vs_design.specs.Designs.{Design}
 use Rattle.vs_design.specs.Clocks.{same_name}
 use Rattle.vs_design.specs.Elaborated.{is_signal}
 use Rattle.vs_grammar.specs.Trees as tree
-use Rattle.vs_grammar.specs.Trees.{Module, Source, items_list}
-use Rattle.vs_grammar.specs.Shapes.{Each, OneOrMore, Given, IsRange, IsSetting, AreParameters, IsItem, AreItems, IsGenerateItem, AreHeaderParameters, ArePorts, IsHeader}
+use Rattle.vs_grammar.specs.Trees.{Module, Source, SignalKind, Input, InputWire, Output, OutputWire, OutputReg, Reg, Wire, items_list}
+use Rattle.vs_grammar.specs.Shapes.{Each, OneOrMore, Given, IsRange, IsVariable, IsNet, IsPort, is_port_kind, AreNames, AreSignals, IsSetting, AreParameters, IsItem, AreItems, IsGenerateItem, AreHeaderParameters, ArePorts, IsHeader}
 use Rattle.vs_const.specs.declared.faults.Fault.{Fault}
 use Rattle.vs_const.proofs.Formed.{both_nil}
 use Rattle.vs_elaborated.specs.Limits.{Limits}
 use Rattle.vs_elaborated.specs.Environments.{OfScope, Env, within}
 use Rattle.vs_elaborated.specs.Declarations.{Sort, SignalOf, ParameterOf, GenvarSort, InstanceSort, Declaration, Named, signals_declared, parameters_declared, item_declared, header_declared, second_of, names_after, names_of, repeated_names}
-use Rattle.vs_elaborated.specs.Parameters.{said_range, said_parameters, first_entries}
+use Rattle.vs_elaborated.specs.Parameters.{said_range, said_addresses, said_parameters, first_entries}
 use Rattle.vs_elaborated.specs.Signals.{Start, SaidSignal, said_signals, put_signals, range_faults}
 use Rattle.vs_elaborated.specs.Generate.{BlockName, Made}
 use Rattle.vs_elaborated.specs.Constructs.{constructs}
@@ -29,12 +29,63 @@ pub each_append : {A : Type 0} (P : A → Type 0) (xs ys : List A) → Each P xs
 each_append P [] ys h k = k
 each_append P (x ∷ xs) ys h k = (h.0, each_append P xs ys h.1 k)
 
-signals_shaped : (header : Bool) (t : tree.Signals) → Given IsRange t.range → AreShapedDeclarations (signals_declared header t)
-signals_shaped header t h = of t.names
+-- a name of this kind with its addresses
+record IsShapedName (kind : SignalKind) (d : tree.Declarator) : Type 0 where
+  addresses : Given IsRange d.addresses
+  variable : is_some d.addresses ≡ true → kind ≡ Reg
+
+no_addresses : (kind : SignalKind) (d : tree.Declarator) (a : Option tree.RangeTree) → d.addresses ≡ a → a ≡ None → IsShapedName kind d
+no_addresses kind d None e h = record { addresses = given d.addresses e; variable = λ k. absurd (no (sym (ap is_some e) ∙ k)) }
   where
-    of : (names : List tree.Declarator) → AreShapedDeclarations (map (λ (d : tree.Declarator). record { name = d.name; sort = SignalOf (record { kind = t.kind; signed = t.signed; range = t.range; header = header }) }) names)
-    of [] = tt
-    of (d ∷ ds) = (h, of ds)
+    given : (o : Option tree.RangeTree) → o ≡ None → Given IsRange o
+    given None i = tt
+    given (Some r) i = cc
+
+    no : false ≡ true → ⊥
+    no k = cc
+no_addresses kind d (Some r) e h = cc
+
+names_of_kind : (kind : SignalKind) (names : List tree.Declarator) → AreNames kind names → Each (IsShapedName kind) names
+names_of_kind kind names x = of kind names x
+  where
+    each : (P : tree.Declarator → Type 0) (kind : SignalKind) → ((d : tree.Declarator) → P d → IsShapedName kind d) → (ds : List tree.Declarator) → OneOrMore P ds → Each (IsShapedName kind) ds
+    each P kind f [] k = absurd k
+    each P kind f (d ∷ ds) k = (f d k.0, all ds k.1)
+      where
+        all : (ds : List tree.Declarator) → Each P ds → Each (IsShapedName kind) ds
+        all [] i = tt
+        all (c ∷ cs) i = (f c i.0, all cs i.1)
+
+    port : (kind : SignalKind) (d : tree.Declarator) → IsPort d → IsShapedName kind d
+    port kind d k = no_addresses kind d d.addresses refl k.1
+
+    of : (kind : SignalKind) (names : List tree.Declarator) → AreNames kind names → Each (IsShapedName kind) names
+    of Input ds k = each IsPort Input (port Input) ds k
+    of InputWire ds k = each IsPort InputWire (port InputWire) ds k
+    of Output ds k = each IsPort Output (port Output) ds k
+    of OutputWire ds k = each IsPort OutputWire (port OutputWire) ds k
+    of OutputReg ds k = each IsPort OutputReg (port OutputReg) ds k
+    of Reg ds k = each IsVariable Reg (λ d i. record { addresses = i.1; variable = λ e. refl }) ds k
+    of Wire ds k = each IsNet Wire (λ d i. no_addresses Wire d d.addresses refl i.1) ds k
+
+signals_shaped : (header : Bool) (t : tree.Signals) → AreSignals t → (header ≡ true → is_port_kind t.kind ≡ true) → AreShapedDeclarations (signals_declared header t)
+signals_shaped header t x h = of t.names (names_of_kind t.kind t.names x.names)
+  where
+    -- a `reg` is no port of a header
+    in_body : (b : Bool) (kind : SignalKind) → (b ≡ true → is_port_kind kind ≡ true) → kind ≡ Reg → b ≡ false
+    in_body false kind p e = refl
+    in_body true kind p e = absurd (no (sym (p refl) ∙ ap is_port_kind e))
+      where
+        no : true ≡ false → ⊥
+        no k = cc
+
+    of : (names : List tree.Declarator) → Each (IsShapedName t.kind) names
+        → AreShapedDeclarations (map (λ (d : tree.Declarator). record { name = d.name; sort = SignalOf (record { kind = t.kind; signed = t.signed; range = t.range; addresses = d.addresses; header = header }) }) names)
+    of [] k = tt
+    of (d ∷ ds) k = (record { range = x.range; addresses = k.0.addresses; variable = k.0.variable; body = λ e. in_body header t.kind h (k.0.variable e) }, of ds k.1)
+
+in_no_header : (kind : SignalKind) → false ≡ true → is_port_kind kind ≡ true
+in_no_header kind h = cc
 
 parameters_shaped : (t : tree.Parameters) → AreParameters t → AreShapedDeclarations (parameters_declared t)
 parameters_shaped t h = of t.settings (all t.settings h.settings)
@@ -56,7 +107,7 @@ instances_shaped [] = tt
 instances_shaped (i ∷ is) = (tt, instances_shaped is)
 
 generate_item_shaped : (item : tree.Item) → IsGenerateItem item → AreShapedDeclarations (item_declared item)
-generate_item_shaped (tree.SignalsItem t) x = signals_shaped false t x.0.range
+generate_item_shaped (tree.SignalsItem t) x = signals_shaped false t x.0 (in_no_header t.kind)
 generate_item_shaped (tree.ParametersItem t) x = parameters_shaped t x.0
 generate_item_shaped (tree.AssignsItem place assigns) x = tt
 generate_item_shaped (tree.AlwaysItem block) x = tt
@@ -67,7 +118,7 @@ generate_item_shaped (tree.GenerateIf place c taken other) x = tt
 generate_item_shaped (tree.GenerateCase place subject arms other) x = tt
 
 item_shaped : (item : tree.Item) → IsItem item → AreShapedDeclarations (item_declared item)
-item_shaped (tree.SignalsItem t) x = signals_shaped false t x.range
+item_shaped (tree.SignalsItem t) x = signals_shaped false t x (in_no_header t.kind)
 item_shaped (tree.ParametersItem t) x = parameters_shaped t x
 item_shaped (tree.AssignsItem place assigns) x = tt
 item_shaped (tree.AlwaysItem block) x = tt
@@ -89,7 +140,7 @@ header_shaped : (h : tree.Header) → IsHeader h → AreShapedDeclarations (head
 header_shaped tree.NoPorts x = tt
 header_shaped (tree.PlainPorts names) x = tt
 header_shaped (tree.DeclaredPorts []) x = tt
-header_shaped (tree.DeclaredPorts (p ∷ ps)) x = flat_shaped (signals_declared true) ArePorts (λ t k. signals_shaped true t k.0.range) (p ∷ ps) x
+header_shaped (tree.DeclaredPorts (p ∷ ps)) x = flat_shaped (signals_declared true) ArePorts (λ t k. signals_shaped true t k.0 (λ e. k.1)) (p ∷ ps) x
 
 pub contents_shaped : (c : Contents) → IsShapedContents c → AreShapedDeclarations (declarations_of c)
 contents_shaped (OfModule m overrides) x =
@@ -122,7 +173,7 @@ names_ranges env seen (a ∷ rest) h =
     range_faults_of x = range_of_sort x.sort
       where
         range_of_sort : Sort → List Fault
-        range_of_sort (SignalOf s) = (said_range s.range env).faults
+        range_of_sort (SignalOf s) = (said_range s.range env).faults ++ (said_addresses s.addresses env).faults
         range_of_sort (ParameterOf p) = []
         range_of_sort GenvarSort = []
         range_of_sort InstanceSort = []
