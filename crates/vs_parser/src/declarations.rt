@@ -143,6 +143,7 @@ pub(crate) fn plain_declarator(
     Ok(Found {
         value: Declarator {
             name: name.value,
+            addresses: None,
             value: None,
         },
         to: name.to,
@@ -177,6 +178,55 @@ fn plain_declarators(
     })
 }
 
+/// A declared variable, and the addresses of a memory (4.9).
+fn variable_declarator(
+    input: &Input<'_>,
+    at: u32,
+    depth: Depth,
+) -> Result<Found<Declarator>, ParseError>
+    ensures { Answers input.now grammar.variable_name meaning.variable_of view.declarator depth at result }
+{
+    let name = identifier(input, at)?;
+    let addresses = optional_range(input, name.to, depth);
+    let (name, addresses) = both(name, addresses)?;
+    Ok(Found {
+        value: Declarator {
+            name: name.value,
+            addresses: addresses.value,
+            value: None,
+        },
+        to: addresses.to,
+    })
+}
+
+/// A declared variable, as a part of a list.
+struct VariablePart;
+
+impl Part for VariablePart {
+    type Value = Declarator;
+
+    ghost Tree = { tree.Declarator };
+
+    ghost phrase = { grammar.variable_name };
+
+    ghost meaning = { meaning.variable_of };
+
+    ghost view = { view.declarator };
+}
+
+/// Declared variables, with commas between them.
+fn variable_declarators(
+    input: &Input<'_>,
+    at: u32,
+    depth: Depth,
+) -> Result<Found<Vec<Declarator>>, ParseError>
+    ensures { Answers input.now (separated grammar.variable_name) (λ b d. meaning.list_of (meaning.variable_of b) d) (λ v. map view.declarator v.items) depth at result }
+{
+    comma_list::<VariablePart, _>(input, at, depth, |place, inner| {
+        variable_declarator(input, place, inner)
+    })
+}
+
 /// A declared net, and what it is assigned.
 fn wire_declarator(
     input: &Input<'_>,
@@ -191,6 +241,7 @@ fn wire_declarator(
     Ok(Found {
         value: Declarator {
             name: name.value,
+            addresses: None,
             value: value.value,
         },
         to: value.to,
@@ -232,7 +283,7 @@ pub(crate) fn regs(input: &Input<'_>, at: u32, depth: Depth) -> Result<Found<Ite
     let word = take(input, at, TokenKind::KeywordReg)?;
     let signed = optional(input, word, depth, TokenKind::KeywordSigned);
     let range = optional_range(input, signed.to, depth)?;
-    let names = plain_declarators(input, range.to, depth);
+    let names = variable_declarators(input, range.to, depth);
     let (range, names) = both(range, names)?;
     let end = take(input, names.to, TokenKind::Semicolon);
     let (declared, end) = both((range.value, names.value), end)?;

@@ -7,4 +7,4 @@ pub returns-in_err-name : goal.returns-in_err-name
 returns-in_err-name c = answer_exit _ _ c.from_residual.result c.in_err-name.field-0.0 c.from_residual.ensures.1 (refused_missing c.in_err-name.ensures)
 
 pub returns : goal.returns
-returns c = parsed (read_tok c.args.depth.limit c.in_ok-name.ensures.took) (ap (λ z. record { name = z; value = None }) c.in_ok-name.ensures.made)
+returns c = parsed (read_tok c.args.depth.limit c.in_ok-name.ensures.took) (ap (λ z. record { name = z; addresses = None; value = None }) c.in_ok-name.ensures.made)
