@@ -10,6 +10,11 @@ pub whole_designs : WholeDesigns
 unfolding is_in_range word_kind system_kind sign_kind signs keywords left_out_words system_names literal_bits is_signed_literal has_size literal_size number_bits
 whole_designs = record {
   whole = shows refl;
+  memory = shows refl;
+  turned = alike refl refl;
+  beside = shows refl;
+  later = shows refl;
+  joined = elaborates refl;
 }
 
 pub parameters : Parameters

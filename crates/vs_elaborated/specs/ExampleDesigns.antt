@@ -2,11 +2,11 @@
 use Rattle.std.specs.Prelude.{◌≡◌, ℕ, true, false, List, [], ◌∷◌, ◌++◌, Option, Some, None, map, codes}
 use Rattle.vs_four.specs.declared.Bit4.TheVariants.{Zero, One}
 use Rattle.vs_four.specs.declared.Range.{Range}
-use Rattle.vs_design.specs.Expressions.{Signal, signal_length, BitNot, BitAnd, Name, Unary, Binary, At}
+use Rattle.vs_design.specs.Expressions.{Signal, signal_length, BitNot, BitAnd, Name, Word, Unary, Binary, At}
 use Rattle.vs_design.specs.Values.{assigned_value}
-use Rattle.vs_design.specs.Statements.{Whole}
+use Rattle.vs_design.specs.Statements.{Whole, WordOf, Empty, Assignment, If}
 use Rattle.vs_design.specs.Designs.{Scope, Written, InputPort, OutputPort, Continuous, Design}
-use Rattle.vs_design.specs.ExampleParts.{input_of, wire_of, reg_of, to_zero, blocking, on_star, top_scope, design_of}
+use Rattle.vs_design.specs.ExampleParts.{input_of, wire_of, reg_of, range_of, to_zero, clk_signal, blocking, on_posedge, on_star, top_scope, design_of}
 use Rattle.vs_elaborated.specs.Limits.{the_limits}
 use Rattle.vs_elaborated.specs.Worked.{Elaborates, Shows, AreAlike, unplaced_processes}
 
@@ -36,9 +36,46 @@ whole_design =
 abbrev pub itself : Design → Design
 itself d = d
 
+-- four words of two bits, with these addresses: one of them is written at a clock's edge, and read at once (4.9)
+abbrev pub memory_text : List ℕ → List ℕ
+memory_text addresses = codes "module top(input clk, w, input [1:0] a, d, output [1:0] q); reg [1:0] m " ++ (addresses ++ codes "; always @(posedge clk) if (w) m[a] <= d; assign q = m[a]; endmodule")
+
+-- its signals
+abbrev pub w1 : Signal
+w1 = input_of (codes "w") 1 None 1
+
+abbrev pub a2 : Signal
+a2 = input_of (codes "a") 2 (to_zero 1) 2
+
+abbrev pub d3 : Signal
+d3 = input_of (codes "d") 3 (to_zero 1) 4
+
+abbrev pub q4 : Signal
+q4 = wire_of (codes "q") 4 (to_zero 1) 6
+
+abbrev pub m5 : Signal
+m5 = record { name = codes "m"; scope = 0; number = 5; net = false; input = false; range = to_zero 1; signed = false; first = 8; words = to_zero 3 }
+
+-- its design
+abbrev pub memory_design : Design
+memory_design =
+    design_of (clk_signal ∷ w1 ∷ a2 ∷ d3 ∷ q4 ∷ m5 ∷ [])
+    (on_posedge 40 clk_signal (If (At 48 (Name w1)) (Assignment 50 (WordOf m5 (At 52 (Name a2))) (At 55 (Name d3)) false) Empty) ∷ Continuous 57 Written 58 (Whole q4) (At 60 (Word m5 (At 62 (Name a2)))) ∷ [])
+
+-- the addresses of each signal
+abbrev pub addresses_of : Design → List (Option Range)
+addresses_of d = map (λ (s : Signal). s.words) d.signals
+
 -- signals, processes, and the token at which each of them begins
 pub record WholeDesigns : Type 0 where
   pub whole : Shows itself whole_design whole_text
+  pub memory : Shows itself memory_design (memory_text (codes "[0:3]"))
+  -- nothing tells which of its addresses a memory has first
+  pub turned : AreAlike (memory_text (codes "[3:0]")) (memory_text (codes "[0:3]"))
+  -- addresses are those of one name, and constants
+  pub beside : Shows addresses_of (None ∷ to_zero 1 ∷ Some (range_of 9 8) ∷ []) (codes "module top; reg [3:0] r, m [1:0], n [8:9]; endmodule")
+  pub later : Shows addresses_of (to_zero 2 ∷ []) (codes "module top; reg m [P:0]; localparam P = 2; endmodule")
+  pub joined : Elaborates the_limits (codes "module top(input clk); reg r, m [0:1]; always @(negedge clk) {r, m[0]} = {m[0], m[1]}; endmodule")
 
 -- ---- parameters (4.10, 12.2)
 

@@ -17,6 +17,10 @@ pub record NotConstants : Type 0 where
   -- also the index of an assign's target, and of an output's
   pub target : AreRefused NotConstant (codes "wire [3:0] w; assign w[") (codes "a] = a;")
   pub output_target : IsRefused NotConstant (codes "module m(output q); endmodule module top(input a, output [1:0] y); m u(.q(y[") (codes "a])); endmodule")
+  -- a memory is none, by its name or by a word (4.9)
+  pub memory : AreRefused NotConstant (codes "reg m [0:1]; localparam P = ") (codes "m;")
+  pub word : AreRefused NotConstant (codes "reg m [0:1]; localparam P = ") (codes "m[0];")
+  pub addresses : AreRefused NotConstant (codes "reg m [0:") (codes "a];")
   -- an override stands where its instance does
   pub override : IsRefused NotConstant (codes "module m #(parameter P = 1)(input p); endmodule module top(input a); m #(") (codes "a) u(a); endmodule")
 
@@ -77,6 +81,9 @@ pub record RepeatedNames : Type 0 where
   pub third : IsRefused DuplicateName (codes "module top(y); output y; reg y; wire ") (codes "y; endmodule")
   pub complete : IsRefused DuplicateName (codes "module top(y); output reg y; reg ") (codes "y; endmodule")
   pub complete_input : IsRefused DuplicateName (codes "module top(a); input wire a; wire ") (codes "a; endmodule")
+  -- a memory has one declaration, so it is no port (4.9)
+  pub memory : AreRefused DuplicateName (codes "reg m [0:1]; reg ") (codes "m;")
+  pub memory_port : IsRefused DuplicateName (codes "module top(y); output y; reg ") (codes "y [0:1]; endmodule")
   pub block : AreRefused DuplicateName (codes "if (1) begin : g end if (1) begin : ") (codes "g end")
   pub before_block : AreRefused DuplicateName (codes "wire g; if (1) begin : ") (codes "g end")
   pub behind_block : AreRefused DuplicateName (codes "if (1) begin : g end wire ") (codes "g;")
@@ -108,6 +115,9 @@ pub record BadRanges : Type 0 where
   pub genvar : AreRefused BadRange (codes "genvar i; for (i = 1; i >= 0; i = ") (codes "i - 1) ;")
   pub genvar_sign : AreRefused BadRange (codes "genvar i; for (i = 0; i < 1; i = ") (codes "40'h80000000) ;")
   pub genvar_slice : AreRefused BadRange (codes "genvar i; for (i = 1; i < 2; i = i + 1) assign y = i") (codes "[0:1];")
+  -- a memory has at most 1,024 words (4.9)
+  pub words : AreRefused BadRange (codes "reg m ") (codes "[0:1024];")
+  pub address : AreRefused BadRange (codes "reg m [65535:") (codes "65536];")
   -- both declarations of a port have the same range
   pub unequal : IsRefused BadRange (codes "module top(y); output [1:0] y; reg ") (codes "y; endmodule")
   pub turned : IsRefused BadRange (codes "module top(y); output [1:0] y; reg [0:1] ") (codes "y; endmodule")
@@ -138,6 +148,16 @@ pub record WrongKinds : Type 0 where
   pub scalar_target : AreRefused WrongKind (codes "assign ") (codes "y[0] = a;")
   pub event : AreRefused WrongKind (codes "localparam P = 1; always @(") (codes "P) ;")
   pub edge : AreRefused WrongKind (codes "wire [3:0] v; always @(posedge ") (codes "v) ;")
+  -- nothing but a word of a memory can be named, and clocked blocks alone write one (4.9)
+  pub memory : AreRefused WrongKind (codes "reg [3:0] m [0:1]; assign y = ") (codes "m;")
+  pub memory_part : AreRefused WrongKind (codes "reg [3:0] m [0:1]; assign y = ") (codes "m[1:0];")
+  pub memory_upward : AreRefused WrongKind (codes "reg [3:0] m [0:1]; assign y = ") (codes "m[0 +: 1];")
+  pub memory_target : AreRefused WrongKind (codes "reg [3:0] m [0:1]; always @(posedge a) ") (codes "m <= a;")
+  pub memory_target_part : AreRefused WrongKind (codes "reg [3:0] m [0:1]; always @(posedge a) ") (codes "m[1:0] <= a;")
+  pub memory_event : AreRefused WrongKind (codes "reg [3:0] m [0:1]; always @(") (codes "m) ;")
+  pub combinational_word : AreRefused WrongKind (codes "reg [3:0] m [0:1]; always @* ") (codes "m[a] = a;")
+  pub listed_word : AreRefused WrongKind (codes "reg [3:0] m [0:1]; always @(a) if (a) begin end else ") (codes "m[a] = a;")
+  pub assigned_word : AreRefused WrongKind (codes "reg [3:0] m [0:1]; assign ") (codes "m[0] = a;")
   -- a literal without a size in a concatenation (5.1.14)
   pub unsized : AreRefused WrongKind (codes "assign y = {") (codes "1, a};")
   pub unsized_in_brackets : AreRefused WrongKind (codes "assign y = {(") (codes "1), a};")
@@ -157,6 +177,7 @@ pub record OtherKinds : Type 0 where
   -- an output is connected to a net (12.3.9.2)
   pub connected_value : IsRefused WrongKind (codes "module m(output q); endmodule module top(input a, output y); m u(") (codes "~y); endmodule")
   pub connected_input : IsRefused WrongKind (codes "module m(output q); endmodule module top(input a, output y); m u(") (codes "a); endmodule")
+  pub connected_word : IsRefused WrongKind (codes "module m(output q); endmodule module top; reg w [0:1]; m u(") (codes "w[0]); endmodule")
   pub connected_reg : IsRefused WrongKind (codes "module m(output q); endmodule module top(input a, output reg y); m u(") (codes "y); endmodule")
 
 -- which of several faults is the first: that of the first scope, and there the one at the least place
@@ -183,6 +204,9 @@ pub record Limited : Type 0 where
   pub all_turns : IsRefusedWithin small GenerateTurns (codes "module top; genvar i; for (i = 0; i < 2; i = i + 1) ; ") (codes "for (i = 0; i < 2; i = i + 1) ; endmodule")
   pub bits_most : Elaborates small (codes "module top(input a); wire [2:0] w; endmodule")
   pub bits : IsRefusedWithin small TooManyBits (codes "module top(input a); wire [2:0] w; wire ") (codes "x; endmodule")
+  -- a memory's bits are those of all words
+  pub memory_most : Elaborates small (codes "module top; reg [1:0] m [0:1]; endmodule")
+  pub memory : IsRefusedWithin small TooManyBits (codes "module top; reg [1:0] ") (codes "m [0:2]; endmodule")
   pub bits_below : IsRefusedWithin small TooManyBits (codes "module m; wire [1:0] w, ") (codes "x; endmodule module top(input a); m u(); endmodule")
   pub processes_most : Elaborates small (codes "module top(input a); wire w = a, x = a; endmodule")
   pub processes : IsRefusedWithin small TooManyProcesses (codes "module top(input a); wire w = a, x = a; ") (codes "always @* ; endmodule")

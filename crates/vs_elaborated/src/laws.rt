@@ -11,8 +11,9 @@ pub fn elaborated_law()
     ensures depth { DepthIsEnough }
 {}
 
-/// What holds of a scope without a fault, in every design that has its signals: its names mean known signals, values or nothing, its pieces are
-/// formed, the ports that its instances connect are signals and no memories, and its signals are numbered one after the other; and what generate constructs make nests less deep than they do (IEEE 1364-2005, clause 12).
+/// What holds of a scope without a fault, in every design that has its signals: its names mean known signals or memories, values or nothing, its pieces
+/// are formed and write words of memories in clocked blocks alone, the ports that its instances connect are signals and no memories, and its signals are
+/// numbered one after the other; and what generate constructs make nests less deep than they do (IEEE 1364-2005, 4.9 and clause 12).
 pub fn scope_law()
     ensures names { NamesAreSound }
     ensures fair { FaultlessIsFair }
