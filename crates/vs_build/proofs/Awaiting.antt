@@ -11,7 +11,7 @@ use Rattle.vs_grammar.specs.Trees as tree
 use Rattle.vs_ast.specs.declared.items.Event.{Event as TextEvent}
 use Rattle.vs_ast.specs.Views as view
 use Rattle.vs_const.specs.declared.names.Named.{Named}
-use Rattle.vs_const.specs.Meanings.{SignalMeaning, Meaning, AValue, Undefined, ASignal, Another, Unknown, Find, Means}
+use Rattle.vs_const.specs.Meanings.{SignalMeaning, Meaning, AValue, Undefined, ASignal, AMemory, Another, Unknown, Find, Means}
 use Rattle.vs_const.specs.Sound.{IsSound, AreSound}
 use Rattle.vs_const.proofs.Formed.{both_nil}
 use Rattle.vs_flat.specs.declared.processes.Event.{Event}
@@ -19,7 +19,7 @@ use Rattle.vs_flat.specs.Named.{all_below}
 use Rattle.vs_flat.specs.Trees.{signal_at}
 use Rattle.vs_flat.specs.DesignOf.{event_of}
 use Rattle.vs_elaborated.specs.Targets.{meant_signal}
-use Rattle.vs_elaborated.specs.Statements.{event_faults, typed_events, typed_control, typed_statement}
+use Rattle.vs_elaborated.specs.Statements.{event_faults, typed_events, typed_control, typed_statement, is_clocked_by, unclocked_faults}
 use Rattle.vs_build.specs.Drafts.{Draft, and_process, AddsStatement, EndsInParts}
 use Rattle.vs_build.specs.Executable.{IsExecutable, IsRunnable, Awaited, awaited_of, awaited, block_process}
 use Rattle.vs_build.proofs.SignalNames.{signal_is, signal_within, plain_signal}
@@ -36,6 +36,7 @@ pub nothing_else : (n : Named) (place : ℕ) (edge : D.Edge) (m : Meaning) → M
 nothing_else n place edge (AValue v r) h f = cc
 nothing_else n place edge (Undefined r) h f = cc
 nothing_else n place edge (ASignal t) h f = (t, refl)
+nothing_else n place edge (AMemory t) h f = cc
 nothing_else n place edge Another h f = cc
 nothing_else n place edge Unknown h f = cc
 
@@ -69,6 +70,7 @@ sound_signal : (d : Design) (place : ℕ) (edge : D.Edge) (m : Meaning) → IsSo
 sound_signal d place edge (AValue v r) s h = cc
 sound_signal d place edge (Undefined r) s h = cc
 sound_signal d place edge (ASignal t) s h = plain_signal d t.signal s.0
+sound_signal d place edge (AMemory t) s h = cc
 sound_signal d place edge Another s h = cc
 sound_signal d place edge Unknown s h = cc
 
@@ -116,10 +118,14 @@ not_star (e ∷ es) find = refl
 -- ---- the block
 
 pub body_executable : (d : Design) (find : Find) (b : tree.AlwaysBlock) → IsRunnable d find b → IsExecutable d find b.statement
-body_executable d find b r = record { shaped = r.shaped; sound = r.sound; clean = (both_nil (typed_control b.control find).faults (typed_statement b.statement find).faults r.clean).1; shallow = r.shallow }
+body_executable d find b r =
+    let fs = (typed_statement b.statement find).faults in
+    let gs = unclocked_faults (is_clocked_by b.control) b.statement find in
+    record { shaped = r.shaped; sound = r.sound; clean = (both_nil fs gs (both_nil (typed_control b.control find).faults (fs ++ gs) r.clean).1).0; shallow = r.shallow }
 
 pub control_clean : (d : Design) (find : Find) (b : tree.AlwaysBlock) (c : tree.EventControl) → b.control ≡ c → IsRunnable d find b → (typed_control c find).faults ≡ []
-control_clean d find b c e r = subst (λ x. (typed_control x find).faults ≡ []) e (both_nil (typed_control b.control find).faults (typed_statement b.statement find).faults r.clean).0
+control_clean d find b c e r =
+    subst (λ x. (typed_control x find).faults ≡ []) e (both_nil (typed_control b.control find).faults ((typed_statement b.statement find).faults ++ unclocked_faults (is_clocked_by b.control) b.statement find) r.clean).0
 
 pub block_ends : (s v : Draft) (t : T.Statement) (m : ℕ) → AddsStatement s v t m → m ≤ 255 → EndsInParts 0 1 v
 block_ends s v t m h le = ends_in_parts s v [] (t ∷ []) m 0 1 (one_statement s v t m h) le refl refl

@@ -23,21 +23,24 @@ use Rattle.vs_ast.proofs.statements.Statement.TheLaws as statement_laws
 use Rattle.vs_ast.proofs.statements.CaseArm.TheLaws as arm_laws
 use Rattle.vs_ast.proofs.Rows.{statement_rows, arm_rows}
 use Rattle.vs_ast.specs.Views as view
-use Rattle.vs_const.specs.Meanings.{Meaning, AValue, Undefined, ASignal, Another, Unknown, Find}
+use Rattle.vs_const.specs.Meanings.{SignalMeaning, Meaning, AValue, Undefined, ASignal, AMemory, Another, Unknown, Find}
 use Rattle.vs_const.specs.Sound.{IsSound, AreSound}
+use Rattle.vs_const.specs.Typed.{Typed}
 use Rattle.vs_const.specs.Selects.{is_scalar, taken, slice_taken, first_needed}
 use Rattle.vs_const.specs.Expressions.{typed}
 use Rattle.vs_const.proofs.Formed.{both_nil, no_fault}
+use Rattle.vs_const.specs.Faults.{fault_if}
 use Rattle.vs_flat.specs.Trees.{no_signal, target_tree, sequence}
-use Rattle.vs_elaborated.specs.Targets.{meant_signal, is_wrong_target, target_base, selected_target, typed_target, typed_targets}
+use Rattle.vs_elaborated.specs.Targets.{meant_signal, TypedTarget, is_wrong_target, target_base, word_target, bit_target, selected_target, typed_target, typed_targets}
 use Rattle.vs_elaborated.specs.Statements.{TypedStatement, typed_list, typed_fallback, typed_statement, typed_sequence, typed_arms}
 use Rattle.vs_build.specs.Drafts.{Root, Body, Draft, and_roots, and_bodies, most_body_levels, AddsExpression, AddsParts, AddsStatement, Adds, EndsInParts, EndsInAssignment, writes_variables, Labelled, total, arms_with, EndsInCase}
 use Rattle.vs_build.specs.Cut.{label_counts}
-use Rattle.vs_build.specs.Buildable.{IsBuildable, part_expressions}
+use Rattle.vs_build.specs.Buildable.{IsBuildable, part_expressions, memory_of}
 use Rattle.vs_build.specs.Writable.{target_expression, IsWritable}
 use Rattle.vs_build.specs.Executable.{IsExecutable, AreExecutable, AreLabels, AreChoosable, part_statements, labelled}
 use Rattle.vs_build.proofs.Lists.{levels-append, taken_more}
-use Rattle.vs_build.proofs.TargetFacts.{written}
+use Rattle.vs_build.proofs.Selects.{memory_is}
+use Rattle.vs_build.proofs.TargetFacts.{written, bit_target_is}
 use Rattle.vs_const.specs.declared.rules.Rule.TheVariants.{WrongKind}
 
 -- ---- what was added one after the other
@@ -138,15 +141,32 @@ variable_named d place selected (Undefined r) sound h = cc
 variable_named d place selected (ASignal s) sound h =
     let n = either_false (is_wrong_target true s) (selected && is_scalar s) (no_fault (is_wrong_target true s || (selected && is_scalar s)) WrongKind place h) in
     variable_kind s.input s.signal.net s.signal.input n.0 sound.2
+variable_named d place selected (AMemory s) sound h = cc
 variable_named d place selected Another sound h = cc
 variable_named d place selected Unknown sound h = cc
 
+-- a word of a memory
+memory_written : (d : Design) (place : ℕ) (s : SignalMeaning) (i : Typed) → IsSound d false (AMemory s) → (word_target true place s i).faults ≡ [] → is_variable s.signal ≡ true
+memory_written d place s i sound h =
+    variable_kind s.input s.signal.net s.signal.input (no_fault (is_wrong_target true s) WrongKind place (both_nil (fault_if (is_wrong_target true s) WrongKind place) i.faults h).0) sound.2
+
+variable_bit : (d : Design) (place : ℕ) (m : Meaning) (i : Typed) → IsSound d false m → (bit_target true place m i).faults ≡ [] → writes_variables (bit_target true place m i).target ≡ true
+variable_bit d place m i sound h = of (memory_of m) refl
+  where
+    of : (o : Option ℕ) → memory_of m ≡ o → writes_variables (bit_target true place m i).target ≡ true
+    of None e =
+        let b = target_base true place true m in
+        let is = bit_target_is true place m i e in
+        ap (λ (t : TypedTarget). writes_variables t.target) is
+        ∙ variable_named d place true m sound (both_nil b.faults (taken b.range true 1 i i.faults).faults (sym (ap (λ (t : TypedTarget). t.faults) is) ∙ h)).0
+    of (Some n) e =
+        let w = memory_is m n e in
+        ap (λ x. writes_variables (bit_target true place x i).target) w.1
+        ∙ memory_written d place w.0 i (subst (IsSound d false) w.1 sound) (subst (λ x. (bit_target true place x i).faults ≡ []) w.1 h)
+
 variable_selected : (d : Design) (find : Find) (select : tree.Select) (name : tree.Name) → AreSound d false find → (selected_target select name find true).faults ≡ [] → writes_variables (selected_target select name find true).target ≡ true
 variable_selected d find tree.Whole name sound h = variable_named d name.place false (find name.bytes) (sound name.bytes) h
-variable_selected d find (tree.BitAt bracket index) name sound h =
-    let b = target_base true name.place true (find name.bytes) in
-    let i = typed index find false in
-    variable_named d name.place true (find name.bytes) (sound name.bytes) (both_nil b.faults (taken b.range true 1 i i.faults).faults h).0
+variable_selected d find (tree.BitAt bracket index) name sound h = variable_bit d name.place (find name.bytes) (typed index find false) (sound name.bytes) h
 variable_selected d find (tree.Slice bracket kind e f) name sound h =
     let b = target_base true name.place true (find name.bytes) in
     variable_named d name.place true (find name.bytes) (sound name.bytes) (both_nil b.faults (slice_taken b.range bracket kind (tree.expr_place e) (typed e find (first_needed kind false)) (tree.expr_place f) (typed f find true)).faults h).0

@@ -87,11 +87,11 @@ assigns_fine d env place (a ∷ rest) x sound le h =
     let first : IsAssignable d (named env) a = record { shaped = x.0; sound = sound; clean = n.0; shallow = omega (arith, le) } in
     ((first, r.0), ap (λ ps. Own (assign_process place a (named env)) ∷ ps) r.1)
 
-value_fine : (d : Design) (env : Env) (place : ℕ) (name : tree.Name) (o : Option tree.Expr) (shaped : IsDeclarator (record { name = name; value = o })) → AreSound d false (named env) → option_depth expr_depth o ≤ 253
-    → (let n : tree.Declarator = record { name = name; value = o } in (wire_said env place n).faults ≡ [])
-    → IsAssigned d (named env) name o × (let n : tree.Declarator = record { name = name; value = o } in (wire_said env place n).pieces ≡ map Own (value_processes place name o (named env)))
-value_fine d env place name None shaped sound le h = (tt, refl)
-value_fine d env place name (Some e) shaped sound le h =
+value_fine : (d : Design) (env : Env) (place : ℕ) (name : tree.Name) (addresses : Option tree.RangeTree) (o : Option tree.Expr) (shaped : IsDeclarator (record { name = name; addresses = addresses; value = o })) → AreSound d false (named env) → option_depth expr_depth o ≤ 253
+    → (let n : tree.Declarator = record { name = name; addresses = addresses; value = o } in (wire_said env place n).faults ≡ [])
+    → IsAssigned d (named env) name o × (let n : tree.Declarator = record { name = name; addresses = addresses; value = o } in (wire_said env place n).pieces ≡ map Own (value_processes place name o (named env)))
+value_fine d env place name addresses None shaped sound le h = (tt, refl)
+value_fine d env place name addresses (Some e) shaped sound le h =
     let fine : IsAssignable d (named env) (wire_assign name e) = record { shaped = ((shaped.0, tt), shaped.1); sound = sound; clean = h; shallow = omega (arith, le) } in
     (fine, refl)
 
@@ -99,7 +99,7 @@ pub wires_fine : WiresAreFine
 wires_fine d env place [] x sound le h = (tt, refl)
 wires_fine d env place (n ∷ rest) x sound le h =
     let m = both_nil (wire_said env place n).faults (all_said (wire_said env place) rest).faults h in
-    let f = value_fine d env place n.name n.value x.0 sound (omega (arith, le)) m.0 in
+    let f = value_fine d env place n.name n.addresses n.value x.0 sound (omega (arith, le)) m.0 in
     let r = wires_fine d env place rest x.1 sound (omega (arith, le)) m.1 in (
       (f.0, r.0),
       ap (λ ps. ps ++ (all_said (wire_said env place) rest).pieces) f.1 ∙ ap (λ ps. map Own (value_processes place n.name n.value (named env)) ++ ps) r.1

@@ -15,7 +15,7 @@ use Rattle.vs_ast.specs.declared.expressions.Expr.{Expr, Concatenation, Replicat
 use Rattle.vs_ast.specs.Views.{expr, exprs}
 use Rattle.vs_ast.proofs.Rows.{expr_rows}
 use Rattle.vs_const.specs.declared.faults.Fault.{Fault}
-use Rattle.vs_const.specs.Meanings.{Meaning, AValue, Undefined, ASignal, Another, Unknown, Find, IsFair, IsFairMeaning}
+use Rattle.vs_const.specs.Meanings.{Meaning, AValue, Undefined, ASignal, AMemory, Another, Unknown, Find, IsFair, IsFairMeaning}
 use Rattle.vs_const.specs.Typed.{Typed, begins_at, natural, copies_typed}
 use Rattle.vs_const.specs.Expressions.{constant, unsized_faults, typed, typed_parts, replicated, replication_typed}
 use Rattle.vs_const.specs.Sound.{IsSound, AreSound}
@@ -146,6 +146,7 @@ fair_of d needed find s = λ name. of (find name) (s name)
     of (AValue v r) h = h.0
     of (Undefined r) h = tt
     of (ASignal t) h = tt
+    of (AMemory t) h = tt
     of Another h = tt
     of Unknown h = tt
 

@@ -4,7 +4,7 @@ use Rattle.std.proofs.lemmas.Bool.{lt-ltb}
 use Rattle.vs_four.specs.declared.Range.{Range}
 use Rattle.vs_four.specs.Selects.{one_bit, Part}
 use Rattle.vs_design.specs.Expressions as E
-use Rattle.vs_design.specs.Elaborated.{is_formed, is_formed_select}
+use Rattle.vs_design.specs.Elaborated.{has_words, is_formed, is_formed_select}
 use Rattle.vs_flat.specs.declared.expressions.Node.{Node}
 use Rattle.vs_flat.specs.declared.expressions.Node.TheVariants as N
 use Rattle.vs_base.specs.declared.operators.UnaryOp.{UnaryOp}
@@ -85,6 +85,30 @@ unary_adds r a b rs after rest bs op x at s t m p d h =
     let is : root_at a x ≡ root = head_is (root_at a x) root [] [] q.0 in
     step_adds r a b rs after bs rest (x ∷ []) (N.Unary op x) at s (E.At at (E.Unary op t)) m p d q.1
     (ap (λ (z : Root). E.At at (E.Unary op z.tree)) is) (omega (arith, ap (λ (z : Root). z.levels) is, h.few))
+
+pub word_step : (a : Arena) (rs rest bs : List ℕ) (n x at : ℕ) → IsGrowing a rs bs → rs ≡ rest ++ x ∷ [] → n < length a.signals → has_words (design_of a) (signal_at (arena_signals a) n) ≡ true → EndsWith 1 (draft_of a rs bs)
+    → IsStep a rs bs rest (x ∷ []) (N.Word n x) at
+word_step a rs rest bs n x at g e there words ends =
+    let below = used_below a rs rest (x ∷ []) bs g e in
+    record {
+      growing = g;
+      is = e;
+      names = λ k. refl;
+      covers = and_true (nat_lt n (length a.signals) && true) (all_below (length a.nodes) (x ∷ [])) (and_true (nat_lt n (length a.signals)) true (lt-ltb n (length a.signals) there) refl) below;
+      copies = refl;
+      formed = and_true (has_words (design_of a) (signal_at (arena_signals a) n)) (is_formed (design_of a) (tree_at (arena_trees a) x)) words (first_formed a rs bs x [] g below);
+      few = omega (arith, few_used 1 a rs rest (x ∷ []) bs e refl ends);
+    }
+
+pub word_adds : {U F : Type 0} (r : Result U F) (a b : Arena) (rs after rest bs : List ℕ) (n x at : ℕ) (memory : E.Signal) (s : Draft) (t : E.Expression) (m : ℕ) → signal_at (arena_signals a) n ≡ memory
+    → IsStep a rs bs rest (x ∷ []) (N.Word n x) at → IsAdded r a b rs after rest (N.Word n x) at → AddsExpression s (draft_of a rs bs) t m
+    → OnOk r (AddsExpression s (draft_of b after bs) (E.At at (E.Word memory t)) (1 + m))
+word_adds r a b rs after rest bs n x at memory s t m e p d h =
+    let root : Root = record { tree = t; levels = h.levels } in
+    let q = parts_are a rest (x ∷ []) bs s (root ∷ []) (ap (λ xs. draft_of a xs bs) (sym p.is) ∙ h.is) refl in
+    let is : root_at a x ≡ root = head_is (root_at a x) root [] [] q.0 in
+    step_adds r a b rs after bs rest (x ∷ []) (N.Word n x) at s (E.At at (E.Word memory t)) m p d q.1
+    (ap (λ z. E.At at (E.Word z (tree_at (arena_trees a) x))) e ∙ ap (λ (z : Root). E.At at (E.Word memory z.tree)) is) (omega (arith, ap (λ (z : Root). z.levels) is, h.few))
 
 pub binary_step : (a : Arena) (rs rest bs : List ℕ) (op : BinaryOp) (x y at : ℕ) → IsGrowing a rs bs → rs ≡ rest ++ x ∷ y ∷ [] → EndsWith 2 (draft_of a rs bs) → IsStep a rs bs rest (x ∷ y ∷ []) (N.Binary op x y) at
 binary_step a rs rest bs op x y at g e ends =
@@ -272,3 +296,10 @@ name_in a rs bs v n e h =
 
 pub signal_in : (a : Arena) (rs bs : List ℕ) (v : Growing) (n : ℕ) → (let w : Growing = record { arena = a; roots = rs; bodies = bs } in w) ≡ v → signal_at (arena_signals a) n ≡ signal_at (draft v).design.signals n
 signal_in a rs bs v n e = ap (λ (w : Growing). signal_at (draft w).design.signals n) e
+
+pub word_found : (a : Arena) (rs bs : List ℕ) (v : Growing) (n len x at : ℕ) → IsGrowing a rs bs → (let w : Growing = record { arena = a; roots = rs; bodies = bs } in w) ≡ v → n < length (draft v).design.signals
+    → has_words (draft v).design (signal_at (draft v).design.signals n) ≡ true → EndsWith 1 (draft v) → len ≡ length rs → x ≡ get_or rs (len - 1) x → IsStep a rs bs (take (length rs - 1) rs) (x ∷ []) (N.Word n x) at
+word_found a rs bs v n len x at g view there words h e f =
+    let ends = ends_in 1 a rs bs v view h in
+    word_step a rs (take (length rs - 1) rs) bs n x at g (last_one rs x (ends_enough 1 a rs bs ends) (at_last rs len 1 x e f)) (name_in a rs bs v n view there)
+    (subst (λ (w : Growing). has_words (draft w).design (signal_at (draft w).design.signals n) ≡ true) (sym view) words) ends

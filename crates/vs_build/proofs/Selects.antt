@@ -1,5 +1,5 @@
 -- Selects of names, and calls.
-use Rattle.std.proofs.Common.{◌≡◌, ℕ, ◌+◌, ◌≤◌, Bool, true, false, not, ◌&&◌, List, [], ◌∷◌, ◌++◌, max, min, nat_le, Option, Some, None, Result, OnOk, refl, sym, ap, ◌∙◌, subst, arith}
+use Rattle.std.proofs.Common.{◌≡◌, ℕ, ◌+◌, ◌<◌, ◌≤◌, Bool, true, false, not, ◌&&◌, List, [], ◌∷◌, ◌++◌, length, max, min, nat_le, Option, Some, None, Result, OnOk, refl, sym, ap, ◌∙◌, subst, arith}
 use Rattle.std.proofs.lemmas.Bool.{leb-true}
 use Rattle.vs_four.specs.declared.Range.{Range}
 use Rattle.vs_four.specs.Logic.{BitList}
@@ -9,24 +9,26 @@ use Rattle.vs_design.specs.Expressions as E
 use Rattle.vs_design.specs.Expressions.{Expression}
 use Rattle.vs_design.specs.Values.{constant_value}
 use Rattle.vs_design.specs.Designs.{Design}
-use Rattle.vs_design.specs.Elaborated.{is_formed, is_formed_select}
+use Rattle.vs_design.specs.Elaborated.{has_words, is_formed, is_formed_select}
 use Rattle.vs_grammar.specs.Trees as tree
 use Rattle.vs_grammar.specs.Trees.{expr_place}
 use Rattle.vs_grammar.specs.Depths.{expr_depth}
 use Rattle.vs_const.specs.declared.faults.Fault.{Fault}
 use Rattle.vs_const.specs.Faults.{fault, fault_if, names_signal}
-use Rattle.vs_const.specs.declared.rules.Rule.TheVariants.{BadRange}
-use Rattle.vs_const.specs.Meanings.{Find}
+use Rattle.vs_const.specs.declared.rules.Rule.TheVariants.{BadRange, NotConstant}
+use Rattle.vs_const.specs.Meanings.{SignalMeaning, Meaning, AValue, Undefined, ASignal, AMemory, Another, Unknown, Find}
 use Rattle.vs_const.specs.Sound.{AreSound}
 use Rattle.vs_const.specs.Typed.{Typed, begins_at, noted, natural, is_over, unary_typed}
-use Rattle.vs_const.specs.Selects.{Base, base_of, Taken, taken, if_width, moving, is_against, lesser_bound, along, between, range_if, range_of, up_to_64, bounds, slice_taken, first_needed, select_if, select_typed}
+use Rattle.vs_const.specs.Selects.{Base, base_of, Taken, taken, if_width, moving, is_against, lesser_bound, along, between, range_if, range_of, up_to, bounds, slice_taken, first_needed, select_if, select_typed, word_if, word_typed, bit_typed}
 use Rattle.vs_const.specs.Expressions.{constant, typed, selected, clog2_of, clog2_typed}
 use Rattle.vs_const.proofs.Formed.{both_nil, begins_same, split, sound_needed, typed_fine}
 use Rattle.vs_flat.specs.Targets.{source_of}
-use Rattle.vs_build.specs.Drafts.{Draft, EndsInSelect, AddsExpression}
-use Rattle.vs_build.specs.Buildable.{IsBuildable, selected_by, IsSelectable, HasBits, AddsSource, IsNumbered, AreBounds, IsRangeOf, IsConstant}
+use Rattle.vs_flat.specs.Trees.{signal_at}
+use Rattle.vs_build.specs.Drafts.{Draft, EndsWith, EndsInSelect, AddsExpression}
+use Rattle.vs_build.specs.Buildable.{IsBuildable, selected_by, memory_of, IsSelectable, HasBits, AddsSource, IsNumbered, AreBounds, IsRangeOf, IsConstant}
 use Rattle.vs_build.proofs.Arms.{begins_twice, noted_clean, same_design, ok_up_to}
 use Rattle.vs_build.proofs.Lists.{fair_of, number_is}
+use Rattle.vs_build.proofs.SignalNames.{signal_is, signal_within, memory_signal}
 use Rattle.vs_build.proofs.Steps.{added_two}
 
 -- ---- names
@@ -99,9 +101,6 @@ taken_bits d find fixed needed name select up n i fs s e =
       formed = λ r k. (split (is_formed_select d b.source (record { range = r; up = up; width = n })) (is_formed d i.expression) (sym (ap (is_formed d) (is r k)) ∙ s.formed)).0;
     }
 
-pub bit_taken : (d : Design) (find : Find) (fixed needed : Bool) (name : tree.Name) (bracket : ℕ) (index : tree.Expr) → IsSelectable d find fixed needed name (tree.BitAt bracket index) → IsTaken d find fixed needed name (tree.BitAt bracket index) true 1 (typed index find needed).expression
-bit_taken d find fixed needed name bracket index s = taken_bits d find fixed needed name (tree.BitAt bracket index) true 1 (typed index find needed) (typed index find needed).faults s refl
-
 -- ---- `[a +: w]` and `[a -: w]`
 
 pub moving_taken : (d : Design) (find : Find) (fixed needed up : Bool) (name : tree.Name) (bracket : ℕ) (kind : tree.SliceKind) (a w : tree.Expr) (n : ℕ)
@@ -142,17 +141,87 @@ moving_is d find fixed needed up name bracket kind a w kinds s =
       width = number_is d needed find 1 64 w s.sound s.shaped.1 p.1;
     }
 
-pub bit_index : (d : Design) (find : Find) (fixed needed : Bool) (name : tree.Name) (bracket : ℕ) (index : tree.Expr) → IsSelectable d find fixed needed name (tree.BitAt bracket index) → IsBuildable d find needed index
-bit_index d find fixed needed name bracket index s =
-    let b = base_of fixed name.place (find name.bytes) in
+-- ---- `[i]`: a bit, or a word
+
+-- of what is no memory
+pub bit_is : (needed : Bool) (place : ℕ) (m : Meaning) (i : Typed) → memory_of m ≡ None → bit_typed needed place m i ≡ select_typed (base_of needed place m) (taken (base_of needed place m).range true 1 i i.faults)
+bit_is needed place (AValue v r) i e = refl
+bit_is needed place (Undefined r) i e = refl
+bit_is needed place (ASignal s) i e = refl
+bit_is needed place (AMemory s) i e = cc
+bit_is needed place Another i e = refl
+bit_is needed place Unknown i e = refl
+
+pub memory_is : (m : Meaning) (n : ℕ) → memory_of m ≡ Some n → (t : SignalMeaning) × (m ≡ AMemory t) × (t.signal.number ≡ n)
+memory_is (AValue v r) n e = cc
+memory_is (Undefined r) n e = cc
+memory_is (ASignal s) n e = cc
+memory_is (AMemory s) n e = (s, refl, (let same : s.signal.number ≡ n = cc in same))
+memory_is Another n e = cc
+memory_is Unknown n e = cc
+
+pub bit_taken : (d : Design) (find : Find) (fixed needed : Bool) (name : tree.Name) (bracket : ℕ) (index : tree.Expr) → memory_of (find name.bytes) ≡ None → IsSelectable d find fixed needed name (tree.BitAt bracket index)
+    → IsTaken d find fixed needed name (tree.BitAt bracket index) true 1 (typed index find needed).expression
+bit_taken d find fixed needed name bracket index e s =
     let i = typed index find needed in
-    let t = taken b.range true 1 i i.faults in
-    let k = select_faults b t (b.good && t.good) s.clean in
-    record { shaped = s.shaped; sound = s.sound; clean = sym (faults b.range) ∙ k.1; shallow = omega (arith, s.shallow) }
+    taken_bits d find fixed needed name (tree.BitAt bracket index) true 1 i i.faults s (bit_is fixed name.place (find name.bytes) i e)
+
+-- the index has no fault
+bit_faults : (needed : Bool) (place : ℕ) (m : Meaning) (i : Typed) → (bit_typed needed place m i).faults ≡ [] → i.faults ≡ []
+bit_faults needed place m i h = of (memory_of m) refl
   where
-    faults : (declared : Option Range) → (taken declared true 1 (typed index find needed) (typed index find needed).faults).faults ≡ (typed index find needed).faults
+    faults : (declared : Option Range) → (taken declared true 1 i i.faults).faults ≡ i.faults
     faults None = refl
     faults (Some r) = refl
+
+    good_or_not : (t : SignalMeaning) (good : Bool) → (word_if good t i).faults ≡ [] → i.faults ≡ []
+    good_or_not t true k = k
+    good_or_not t false k = k
+
+    of_word : (b : Bool) (t : SignalMeaning) → (word_typed b place t i).faults ≡ [] → i.faults ≡ []
+    of_word true t k = (both_nil (fault NotConstant place) i.faults k).1
+    of_word false t k = good_or_not t (t.known && i.good) k
+
+    of : (o : Option ℕ) → memory_of m ≡ o → i.faults ≡ []
+    of None e =
+        let b = base_of needed place m in
+        let t = taken b.range true 1 i i.faults in
+        sym (faults b.range) ∙ (select_faults b t (b.good && t.good) (sym (ap (λ (x : Typed). x.faults) (bit_is needed place m i e)) ∙ h)).1
+    of (Some n) e = let w = memory_is m n e in of_word needed w.0 (subst (λ x. (bit_typed needed place x i).faults ≡ []) w.1 h)
+
+pub bit_index : (d : Design) (find : Find) (fixed needed : Bool) (name : tree.Name) (bracket : ℕ) (index : tree.Expr) → IsSelectable d find fixed needed name (tree.BitAt bracket index) → IsBuildable d find needed index
+bit_index d find fixed needed name bracket index s =
+    record { shaped = s.shaped; sound = s.sound; clean = bit_faults fixed name.place (find name.bytes) (typed index find needed) s.clean; shallow = omega (arith, s.shallow) }
+
+-- a word of the memory of this number, at the address that `i` is
+pub record IsWord (d : Design) (t i : Typed) (n : ℕ) : Type 0 where
+  pub there : n < length d.signals
+  pub memory : has_words d (signal_at d.signals n) ≡ true
+  pub expression : t.expression ≡ E.Word (signal_at d.signals n) i.expression
+
+word_good : (needed : Bool) (place : ℕ) (m : SignalMeaning) (i : Typed) → (word_typed needed place m i).good ≡ true → (word_typed needed place m i).expression ≡ E.Word m.signal i.expression
+word_good true place m i h = cc
+word_good false place m i h = of (m.known && i.good) h
+  where
+    of : (good : Bool) → (word_if good m i).good ≡ true → (word_if good m i).expression ≡ E.Word m.signal i.expression
+    of true k = refl
+    of false k = cc
+
+word_is : (d : Design) (t i : Typed) (m : E.Signal) (n : ℕ) → m.number ≡ n → t.expression ≡ E.Word m i.expression → is_formed d t.expression ≡ true → IsWord d t i n
+word_is d t i m n e is formed =
+    let words : has_words d m ≡ true = (split (has_words d m) (is_formed d i.expression) (sym (ap (is_formed d) is) ∙ formed)).0 in
+    let signal = memory_signal d m words in
+    let at : signal_at d.signals n ≡ m = ap (signal_at d.signals) (sym e) ∙ signal_is d m signal in
+    record { there = subst (λ k. k < length d.signals) e (signal_within d m signal); memory = ap (has_words d) at ∙ words; expression = is ∙ ap (λ x. E.Word x i.expression) (sym at) }
+
+pub bit_word : (d : Design) (find : Find) (fixed needed : Bool) (name : tree.Name) (bracket : ℕ) (index : tree.Expr) (n : ℕ) → memory_of (find name.bytes) ≡ Some n → IsSelectable d find fixed needed name (tree.BitAt bracket index)
+    → IsWord d (selected_by (tree.BitAt bracket index) name find fixed needed) (typed index find needed) n
+bit_word d find fixed needed name bracket index n e s =
+    let i = typed index find needed in
+    let t = selected_by (tree.BitAt bracket index) name find fixed needed in
+    let w = memory_is (find name.bytes) n e in
+    let is : t ≡ word_typed fixed name.place w.0 i = ap (λ m. bit_typed fixed name.place m i) w.1 in
+    word_is d t i w.0.signal n w.2 (ap (λ (x : Typed). x.expression) is ∙ word_good fixed name.place w.0 i (sym (ap (λ (x : Typed). x.good) is) ∙ s.good)) s.formed
 
 -- ---- `[a:b]`
 
@@ -174,10 +243,10 @@ pub record IsBetween (d : Design) (find : Find) (needed : Bool) (bracket : ℕ) 
   pub range : (l r : ℕ) → (natural 0 65535 (expr_place a) (constant a find)).number ≡ Some l → (natural 0 65535 (expr_place b) (constant b find)).number ≡ Some r
       → (bounds bracket (expr_place a) (typed a find true) (expr_place b) (typed b find true)).range ≡ Some (record { left = l; right = r })
 
-between_range : (bracket : ℕ) (m n : Option ℕ) (l r : ℕ) → m ≡ Some l → n ≡ Some r → (range_of bracket m n).faults ≡ []
-    → (range_length (record { left = l; right = r }) ≤ 64) × ((range_of bracket m n).range ≡ Some (record { left = l; right = r }))
+between_range : (bracket : ℕ) (m n : Option ℕ) (l r : ℕ) → m ≡ Some l → n ≡ Some r → (range_of 64 bracket m n).faults ≡ []
+    → (range_length (record { left = l; right = r }) ≤ 64) × ((range_of 64 bracket m n).range ≡ Some (record { left = l; right = r }))
 between_range bracket m n l r e f h =
-    let is : range_of bracket m n ≡ up_to_64 bracket (record { left = l; right = r }) = ap (λ o. range_of bracket o n) e ∙ ap (range_of bracket (Some l)) f in
+    let is : range_of 64 bracket m n ≡ up_to 64 bracket (record { left = l; right = r }) = ap (λ o. range_of 64 bracket o n) e ∙ ap (range_of 64 bracket (Some l)) f in
     let q : Range = record { left = l; right = r } in
     let p = short_range bracket q (nat_le (range_length q) 64) refl (sym (ap (λ x. x.faults) is) ∙ h) in
     (p.0, ap (λ x. x.range) is ∙ p.1)
@@ -190,8 +259,8 @@ between_is d find fixed needed name bracket a b s =
     let m = natural 0 65535 (expr_place a) (typed a find true) in
     let n = natural 0 65535 (expr_place b) (typed b find true) in
     let k = select_faults base t (base.good && t.good) s.clean in
-    let w = both_nil m.faults (n.faults ++ (range_of bracket m.number n.number).faults) (between_faults base.range bracket (expr_place a) q.range q.faults k.1) in
-    let v = both_nil n.faults (range_of bracket m.number n.number).faults w.1 in
+    let w = both_nil m.faults (n.faults ++ (range_of 64 bracket m.number n.number).faults) (between_faults base.range bracket (expr_place a) q.range q.faults k.1) in
+    let v = both_nil n.faults (range_of 64 bracket m.number n.number).faults w.1 in
     let first = number_is d needed find 0 65535 a s.sound s.shaped.0 w.0 in
     let second = number_is d needed find 0 65535 b s.sound s.shaped.1 v.0 in
     record {
@@ -244,6 +313,28 @@ select_arm o d find fixed needed name select up n i s q v new m at most r t h a 
     let part : Part = record { range = r; up = up; width = n } in
     subst (λ x. OnOk o (AddsExpression s new x most)) (ap (λ x. E.At at (E.Select x part i)) a.source ∙ sym (ap (begins_at at) (t.expression r a.has_range)))
     (ok_up_to o s new (E.At at (E.Select (source_of a.tree) part i)) (1 + max m 1) most (f s q i a.tree m 1 h a.adds) le)
+
+-- what a word is built on
+pub record EndsInAddress (n : ℕ) (s : Draft) : Type 0 where
+  pub there : n < length s.design.signals
+  pub memory : has_words s.design (signal_at s.design.signals n) ≡ true
+  pub ends : EndsWith 1 s
+
+pub word_ends : (s v : Draft) (t i : Typed) (n m : ℕ) → IsWord s.design t i n → AddsExpression s v i.expression m → m ≤ 254 → EndsInAddress n v
+word_ends s v t i n m w h few =
+    let design : s.design ≡ v.design = same_design s v i.expression m h in
+    record {
+      there = subst (λ (d : Design). n < length d.signals) design w.there;
+      memory = subst (λ (d : Design). has_words d (signal_at d.signals n) ≡ true) design w.memory;
+      ends = record { before = s; last = record { tree = i.expression; levels = h.levels } ∷ []; is = h.is; many = refl; few = omega (arith, h.few, few) };
+    }
+
+pub word_arm : {U F : Type 0} (o : Result U F) (s v new : Draft) (t i : Typed) (n m at most : ℕ) → IsWord s.design t i n → AddsExpression s v i.expression m
+    → ((p : Draft) (x : Expression) (k : ℕ) → AddsExpression p v x k → OnOk o (AddsExpression p new (E.At at (E.Word (signal_at v.design.signals n) x)) (1 + k)))
+    → 1 + m ≤ most → OnOk o (AddsExpression s new (begins_at at t.expression) most)
+word_arm o s v new t i n m at most w h f le =
+    subst (λ x. OnOk o (AddsExpression s new x most)) (ap (λ (d : Design). E.At at (E.Word (signal_at d.signals n) i.expression)) (sym (same_design s v i.expression m h)) ∙ sym (ap (begins_at at) w.expression))
+    (ok_up_to o s new (E.At at (E.Word (signal_at v.design.signals n) i.expression)) (1 + m) most (f s i.expression m h) le)
 
 -- ---- calls
 

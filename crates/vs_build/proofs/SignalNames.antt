@@ -6,7 +6,7 @@ use Rattle.vs_design.specs.Expressions.{Signal, Expression}
 use Rattle.vs_design.specs.Designs.{Design}
 use Rattle.vs_design.specs.Clocks.{same_name}
 use Rattle.vs_design.specs.Footprints.{is_memory}
-use Rattle.vs_design.specs.Elaborated.{same_range, same_flag, same_signal, is_this, is_signal, is_plain}
+use Rattle.vs_design.specs.Elaborated.{same_range, same_flag, same_signal, is_this, is_signal, is_plain, has_words}
 use Rattle.vs_const.specs.declared.names.SignalShape.{SignalShape}
 use Rattle.vs_const.specs.declared.names.Named.TheVariants as named
 use Rattle.vs_const.specs.Meanings.{SignalMeaning, Meaning, ASignal, Means}
@@ -87,6 +87,10 @@ signal_within d s h = within s d.signals s.number h
 -- one that is no memory is a signal of the design
 pub plain_signal : (d : Design) (s : Signal) → is_plain d s ≡ true → is_signal d s ≡ true
 plain_signal d s h = (and_both (is_signal d s) (not (is_memory s)) h).0
+
+-- and so is one that is
+pub memory_signal : (d : Design) (s : Signal) → has_words d s ≡ true → is_signal d s ≡ true
+memory_signal d s h = (and_both (is_signal d s) (is_memory s) h).0
 
 -- what a name that means a signal says
 pub record MeansThere (d : Design) (needed : Bool) (m : Meaning) (number : ℕ) (range : Option Range) : Type 0 where

@@ -1,5 +1,5 @@
 -- Targets without a fault.
-use Rattle.std.proofs.Common.{rules, ◌≡◌, ℕ, zero, suc, ◌+◌, ◌*◌, ◌<◌, ◌≤◌, Bool, true, false, not, ◌&&◌, ◌||◌, List, [], ◌∷◌, ◌++◌, length, get_or, map, take, Option, Some, Vec, Global, Result, OnOk, refl, sym, ap, ◌∙◌, subst, arith}
+use Rattle.std.proofs.Common.{rules, ◌≡◌, ℕ, zero, suc, ◌+◌, ◌*◌, ◌<◌, ◌≤◌, Bool, true, false, not, ◌&&◌, ◌||◌, List, [], ◌∷◌, ◌++◌, length, get_or, map, take, Option, Some, None, Vec, Global, Result, OnOk, refl, sym, ap, ◌∙◌, subst, arith}
 use Rattle.std.proofs.Math.Seq.{take-suc, take-length}
 use Rattle.std.proofs.lemmas.List.{map-append, length-map}
 use denote.Param.Weighed.{most, at_most}
@@ -8,10 +8,10 @@ use Rattle.vs_design.specs.Expressions as E
 use Rattle.vs_design.specs.Expressions.{Expression}
 use Rattle.vs_design.specs.Statements.{Whole, PartOf}
 use Rattle.vs_design.specs.Designs.{Design}
-use Rattle.vs_design.specs.Elaborated.{is_plain, is_formed, is_formed_select}
+use Rattle.vs_design.specs.Elaborated.{is_plain, has_words, is_formed, is_formed_select}
 use Rattle.vs_grammar.specs.Trees as tree
 use Rattle.vs_grammar.specs.Trees.{expr_place, target_place}
-use Rattle.vs_grammar.specs.Shapes.{IsSelect, IsTarget, ArePartsOfTarget, AreTargets}
+use Rattle.vs_grammar.specs.Shapes.{IsExpr, IsSelect, IsTarget, ArePartsOfTarget, AreTargets}
 use Rattle.vs_grammar.specs.Depths.{target_depth, targets_depth}
 use Rattle.vs_ast.proofs.statements.Target.TheLaws.{the_size}
 use Rattle.vs_ast.specs.declared.statements.Target.{Target, Concatenation, the_lemmas}
@@ -19,19 +19,20 @@ use Rattle.vs_ast.specs.Views.{target, targets}
 use Rattle.vs_ast.proofs.Rows.{target_rows}
 use Rattle.vs_const.specs.Faults.{fault_if}
 use Rattle.vs_const.specs.declared.rules.Rule.TheVariants.{WrongKind}
-use Rattle.vs_const.specs.Meanings.{SignalMeaning, Meaning, AValue, Undefined, ASignal, Another, Unknown, Find}
+use Rattle.vs_const.specs.Meanings.{SignalMeaning, Meaning, AValue, Undefined, ASignal, AMemory, Another, Unknown, Find}
 use Rattle.vs_const.specs.Sound.{IsSound, AreSound}
 use Rattle.vs_const.specs.Typed.{Typed, begins_at, fine}
-use Rattle.vs_const.specs.Selects.{Base, signal_base, base_of, is_scalar, name_typed, known_signal, Taken, taken, slice_taken, first_needed, select_if, select_typed}
+use Rattle.vs_const.specs.Selects.{Base, signal_base, base_of, is_scalar, name_typed, known_signal, Taken, taken, slice_taken, first_needed, select_if, select_typed, word_if, bit_typed}
 use Rattle.vs_const.specs.Expressions.{typed}
 use Rattle.vs_const.proofs.Formed.{both_nil, both, no_fault, sound_needed, first_sound, signal_base_fine, IsFineTaken, bit_fine, slice_fine, taken_faults, typed_fine}
 use Rattle.vs_flat.specs.Targets.{target_of, both_of, place_of}
 use Rattle.vs_flat.specs.Trees.{joined}
-use Rattle.vs_elaborated.specs.Targets.{meant_signal, TypedTarget, is_wrong_target, target_base, part_target, selected_target, typed_target, typed_targets}
+use Rattle.vs_elaborated.specs.Targets.{meant_signal, TypedTarget, is_wrong_target, target_base, part_target, word_target, bit_target, selected_target, typed_target, typed_targets}
 use Rattle.vs_build.specs.Drafts.{Draft, AddsExpression, AddsParts}
-use Rattle.vs_build.specs.Buildable.{selected_by, IsSelectable}
+use Rattle.vs_build.specs.Buildable.{selected_by, memory_of, IsSelectable}
 use Rattle.vs_build.specs.Writable.{target_expression, targets_expression, IsWritable, AreWritable, target_expressions}
 use Rattle.vs_build.proofs.Lists.{parts_design}
+use Rattle.vs_build.proofs.Selects.{bit_is, memory_is}
 
 -- ---- names
 
@@ -52,6 +53,7 @@ names_signal d procedural selected place (AValue v r) h f = cc
 names_signal d procedural selected place (Undefined r) h f = cc
 names_signal d procedural selected place (ASignal s) h f =
     record { s = s; is = refl; of_design = h.0; known = h.1; vector = (either_false (is_wrong_target procedural s) (selected && is_scalar s) (no_fault (is_wrong_target procedural s || (selected && is_scalar s)) WrongKind place f)).1 }
+names_signal d procedural selected place (AMemory s) h f = cc
 names_signal d procedural selected place Another h f = cc
 names_signal d procedural selected place Unknown h f = cc
 
@@ -114,12 +116,47 @@ needed_sound : (d : Design) (needed : Bool) (find : Find) → AreSound d false f
 needed_sound d true find s = λ name. sound_needed d false (find name) (s name)
 needed_sound d false find s = s
 
+-- a word of a memory
+word_case : (d : Design) (find : Find) (procedural : Bool) (name : tree.Name) (bracket : ℕ) (index : tree.Expr) (m : SignalMeaning) → find name.bytes ≡ AMemory m → IsExpr index → AreSound d false find
+    → (selected_target (tree.BitAt bracket index) name find procedural).faults ≡ [] → IsNamedTarget d find procedural name (tree.BitAt bracket index)
+word_case d find procedural name bracket index m e x sound h =
+    let i = typed index find (not procedural) in
+    let by_target : selected_target (tree.BitAt bracket index) name find procedural ≡ word_target procedural name.place m i = ap (λ y. bit_target procedural name.place y i) e in
+    let k = both_nil (fault_if (is_wrong_target procedural m) WrongKind name.place) i.faults (sym (ap (λ (t : TypedTarget). t.faults) by_target) ∙ h) in
+    let s = subst (IsSound d false) e (sound name.bytes) in
+    let f = typed_fine d find index (not procedural) (needed_sound d (not procedural) find sound) x k.1 in
+    let is : selected_by (tree.BitAt bracket index) name find false (not procedural) ≡ fine (E.Word m.signal i.expression) i.faults = ap (λ y. bit_typed false name.place y i) e ∙ ap (λ b. word_if b m i) (both m.known i.good s.1 f.good) in
+    record {
+      good = ap (λ (t : Typed). t.good) is;
+      clean = ap (λ (t : Typed). t.faults) is ∙ k.1;
+      formed = ap (λ (t : Typed). is_formed d t.expression) is ∙ both (has_words d m.signal) (is_formed d i.expression) s.0 f.formed;
+      written = ap (λ (t : Typed). target_of t.expression) is ∙ ap (λ (t : TypedTarget). Some t.target) (sym by_target);
+    }
+
+-- a bit of what is no memory
+pub bit_target_is : (procedural : Bool) (place : ℕ) (m : Meaning) (i : Typed) → memory_of m ≡ None → bit_target procedural place m i ≡ part_target (meant_signal m) (target_base procedural place true m) (taken (target_base procedural place true m).range true 1 i i.faults)
+bit_target_is procedural place (AValue v r) i e = refl
+bit_target_is procedural place (Undefined r) i e = refl
+bit_target_is procedural place (ASignal s) i e = refl
+bit_target_is procedural place (AMemory s) i e = cc
+bit_target_is procedural place Another i e = refl
+bit_target_is procedural place Unknown i e = refl
+
+bit_case : (d : Design) (find : Find) (procedural : Bool) (name : tree.Name) (bracket : ℕ) (index : tree.Expr) → memory_of (find name.bytes) ≡ None → IsExpr index → AreSound d false find
+    → (selected_target (tree.BitAt bracket index) name find procedural).faults ≡ [] → IsNamedTarget d find procedural name (tree.BitAt bracket index)
+bit_case d find procedural name bracket index e x sound h =
+    let i = typed index find (not procedural) in
+    let m = find name.bytes in
+    part_case d find procedural name (tree.BitAt bracket index) (λ o. taken o true 1 i i.faults) (sound name.bytes) (bit_is false name.place m i e) (bit_target_is procedural name.place m i e)
+    (λ r o q f. bit_fine d (not procedural) o r i q (typed_fine d find index (not procedural) (needed_sound d (not procedural) find sound) x (sym (taken_faults o true 1 i i.faults) ∙ f))) h
+
 pub named_target : (d : Design) (find : Find) (procedural : Bool) (name : tree.Name) (select : tree.Select) → IsSelect select → AreSound d false find → (selected_target select name find procedural).faults ≡ [] → IsNamedTarget d find procedural name select
 named_target d find procedural name tree.Whole x sound h = whole_target d find procedural name (sound name.bytes) h
-named_target d find procedural name (tree.BitAt bracket index) x sound h =
-    let i = typed index find (not procedural) in
-    part_case d find procedural name (tree.BitAt bracket index) (λ o. taken o true 1 i i.faults) (sound name.bytes) refl refl
-    (λ r o e f. bit_fine d (not procedural) o r i e (typed_fine d find index (not procedural) (needed_sound d (not procedural) find sound) x (sym (taken_faults o true 1 i i.faults) ∙ f))) h
+named_target d find procedural name (tree.BitAt bracket index) x sound h = of (memory_of (find name.bytes)) refl
+  where
+    of : (o : Option ℕ) → memory_of (find name.bytes) ≡ o → IsNamedTarget d find procedural name (tree.BitAt bracket index)
+    of None e = bit_case d find procedural name bracket index e x sound h
+    of (Some n) e = let w = memory_is (find name.bytes) n e in word_case d find procedural name bracket index w.0 w.1 x sound h
 named_target d find procedural name (tree.Slice bracket kind a b) x sound h =
     let needed = not procedural in
     let all = needed_sound d needed find sound in

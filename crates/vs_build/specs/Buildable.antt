@@ -1,5 +1,5 @@
 -- What can be built: a tree of the text without a fault, whose names mean something in the design.
-use Rattle.std.specs.Prelude.{◌≡◌, ◌≤◌, ℕ, Bool, true, List, [], map, Some}
+use Rattle.std.specs.Prelude.{◌≡◌, ◌≤◌, ℕ, Bool, true, List, [], map, Option, Some, None}
 use Rattle.vs_four.specs.declared.Range.{Range}
 use Rattle.vs_four.specs.Selects.{range_length}
 use Rattle.vs_ast.specs.declared.expressions.Expr.{Expr}
@@ -11,10 +11,10 @@ use Rattle.vs_grammar.specs.Trees as tree
 use Rattle.vs_grammar.specs.Trees.{expr_place}
 use Rattle.vs_grammar.specs.Shapes.{IsExpr, IsSelect, AreParts}
 use Rattle.vs_grammar.specs.Depths.{expr_depth, exprs_depth, select_depth}
-use Rattle.vs_const.specs.Meanings.{Meaning, Find, IsFair}
+use Rattle.vs_const.specs.Meanings.{Meaning, AMemory, Find, IsFair}
 use Rattle.vs_const.specs.Sound.{IsSound, AreSound}
 use Rattle.vs_const.specs.Typed.{Typed, natural}
-use Rattle.vs_const.specs.Selects.{name_typed, Base, base_of, taken, slice_taken, first_needed, select_typed}
+use Rattle.vs_const.specs.Selects.{name_typed, Base, base_of, slice_taken, first_needed, select_typed, bit_typed}
 use Rattle.vs_const.specs.Expressions.{constant, typed, typed_parts}
 use Rattle.vs_flat.specs.Targets.{source_of}
 use Rattle.vs_build.specs.Drafts.{Draft, AddsExpression}
@@ -29,10 +29,7 @@ pub record IsBuildable (d : Design) (find : Find) (needed : Bool) (e : tree.Expr
 -- a name with what is selected of it; `fixed`: where the name has to be a constant, `needed`: where the index has to be one
 abbrev pub selected_by : tree.Select → tree.Name → Find → (fixed needed : Bool) → Typed
 selected_by tree.Whole name find fixed needed = name_typed fixed name.place (find name.bytes)
-selected_by (tree.BitAt bracket index) name find fixed needed =
-    let b = base_of fixed name.place (find name.bytes) in
-    let i = typed index find needed in
-    select_typed b (taken b.range true 1 i i.faults)
+selected_by (tree.BitAt bracket index) name find fixed needed = bit_typed fixed name.place (find name.bytes) (typed index find needed)
 selected_by (tree.Slice bracket kind e f) name find fixed needed =
     let b = base_of fixed name.place (find name.bytes) in
     select_typed b (slice_taken b.range bracket kind (expr_place e) (typed e find (first_needed kind needed)) (expr_place f) (typed f find true))
@@ -82,6 +79,11 @@ pub record IsConstant (find : Find) (e : tree.Expr) : Type 0 where
   pub fair : IsFair find
   pub clean : (typed e find true).faults ≡ []
   pub good : (typed e find true).good ≡ true
+
+-- the memory that a name means (4.9), by its number
+abbrev pub memory_of : Meaning → Option ℕ
+memory_of (AMemory m) = Some m.signal.number
+memory_of _ = None
 
 -- a name alone
 pub record IsNameable (d : Design) (needed : Bool) (place : ℕ) (m : Meaning) : Type 0 where

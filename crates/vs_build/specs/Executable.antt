@@ -11,7 +11,7 @@ use Rattle.vs_grammar.specs.Depths.{deepest, expr_depth, statement_depth, statem
 use Rattle.vs_const.specs.Meanings.{Find}
 use Rattle.vs_const.specs.Sound.{AreSound}
 use Rattle.vs_elaborated.specs.Targets.{meant_signal}
-use Rattle.vs_elaborated.specs.Statements.{typed_list, typed_fallback, typed_statement, typed_sequence, typed_arms, typed_control}
+use Rattle.vs_elaborated.specs.Statements.{typed_list, typed_fallback, typed_statement, typed_sequence, typed_arms, typed_control, is_clocked_by, unclocked_faults}
 use Rattle.vs_build.specs.Drafts.{Labelled}
 
 -- a statement
@@ -51,11 +51,11 @@ abbrev pub labelled : Find → tree.CaseArms → List Labelled
 labelled find tree.NoArm = []
 labelled find (tree.AndArm labels s rest) = record { labels = (typed_list labels find).expressions; statement = (typed_statement s find).statement } ∷ labelled find rest
 
--- an always block (9.9.2)
+-- an always block (9.9.2); a clocked one alone writes words of memories
 pub record IsRunnable (d : Design) (find : Find) (b : tree.AlwaysBlock) : Type 0 where
   pub shaped : IsStatement b.statement
   pub sound : AreSound d false find
-  pub clean : (typed_control b.control find).faults ++ (typed_statement b.statement find).faults ≡ []
+  pub clean : (typed_control b.control find).faults ++ ((typed_statement b.statement find).faults ++ unclocked_faults (is_clocked_by b.control) b.statement find) ≡ []
   pub shallow : statement_depth b.statement ≤ 253
 
 -- the process of a design that it is

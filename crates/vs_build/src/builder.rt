@@ -38,7 +38,7 @@ impl Builder {
     ghost use Rattle.vs_design.specs.Expressions as E;
     ghost use Rattle.vs_design.specs.Statements as T;
     ghost use Rattle.vs_design.specs.Designs.{Continuous, Always, bit_count as design_bits};
-    ghost use Rattle.vs_design.specs.Elaborated.{is_formed, IsLawfulDesign};
+    ghost use Rattle.vs_design.specs.Elaborated.{has_words, is_formed, IsLawfulDesign};
     ghost use Rattle.vs_flat.specs.Ports.{port_of};
     ghost use Rattle.vs_flat.specs.DesignOf.{scope_of, event_of, design_of};
     ghost use Rattle.vs_flat.specs.Lawful.{IsLawful};
@@ -183,6 +183,25 @@ impl Builder {
                 up,
                 width,
             },
+            at,
+        )
+    }
+
+    /// Builds a word of a memory (IEEE 1364-2005, 4.9.3): the last expression is its address.
+    pub fn word(&mut self, signal: u32, at: u32) -> Result<(), AllocError>
+        requires there { signal < length (draft self.old).design.signals }
+        requires memory { has_words (draft self.old).design (signal_at (draft self.old).design.signals signal) ≡ true }
+        requires ends { EndsWith 1 (draft self.old) }
+        ensures { (s : Draft) (t : E.Expression) (m : ℕ) → AddsExpression s (draft self.old) t m
+            → OnOk result (AddsExpression s (draft self.new) (E.At at (E.Word (signal_at (draft self.old).design.signals signal) t)) (1 + m)) }
+    {
+        let n = self.roots.len();
+        let index = self.roots[n - 1];
+        add_over(
+            &mut self.flat,
+            &mut self.roots,
+            1,
+            Node::Word { signal, index },
             at,
         )
     }

@@ -12,7 +12,7 @@ ghost use Rattle.vs_build.specs.Buildable.{IsBuildable, IsSelectable, AreBuildab
 
 use crate::builder::Builder;
 use crate::names::{
-    bounds_of, constant_bits, lesser, name_alone, number_within, range_length, source,
+    bounds_of, constant_bits, lesser, memory, name_alone, number_within, range_length, source,
 };
 use std::alloc::{AllocError, Global};
 use vs_ast::{Expr, Name, Select, SliceKind, SystemFunction};
@@ -122,7 +122,8 @@ fn parts<E: Env>(
     Ok(())
 }
 
-/// Builds a name, with what is selected of it. `fixed` is where the name has to be a constant, `needed` where its index has to be one.
+/// Builds a name, with what is selected of it: `name[i]` is a word of a memory (IEEE 1364-2005, 4.9.3), a bit of anything else. `fixed` is where
+/// the name has to be a constant, `needed` where its index has to be one.
 #[cycle(expressions)]
 pub(crate) fn selected<E: Env>(
     builder: &mut Builder,
@@ -141,8 +142,13 @@ pub(crate) fn selected<E: Env>(
         Select::Whole => name_alone(builder, fixed, name, at, env),
         Select::Bit { index, .. } => {
             operand(builder, alloc, index, env, needed)?;
-            let range = source(builder, fixed, name, env)?;
-            builder.bit(range, at)
+            match memory(name, env) {
+                Some(signal) => builder.word(signal, at),
+                None => {
+                    let range = source(builder, fixed, name, env)?;
+                    builder.bit(range, at)
+                }
+            }
         }
         Select::Slice {
             kind,

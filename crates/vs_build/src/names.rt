@@ -10,7 +10,7 @@ ghost use Rattle.vs_design.specs.Values.{constant_value};
 ghost use Rattle.vs_const.specs.Expressions.{constant};
 ghost use Rattle.vs_build.specs.Drafts.{AddsExpression};
 ghost use Rattle.vs_build.specs.Growth.{draft};
-ghost use Rattle.vs_build.specs.Buildable.{IsNameable, HasBits, AddsSource, IsNumbered, AreBounds, IsRangeOf, IsConstant};
+ghost use Rattle.vs_build.specs.Buildable.{memory_of, IsNameable, HasBits, AddsSource, IsNumbered, AreBounds, IsRangeOf, IsConstant};
 
 use crate::builder::Builder;
 use std::alloc::{AllocError, Global};
@@ -33,6 +33,16 @@ pub(crate) fn name_alone<E: Env>(
         Named::Value { value, .. } => builder.literal(value.bits, value.signed, true, at),
         Named::Signal(s) => builder.name(s.number, at),
         _ => unreachable!(),
+    }
+}
+
+/// The number of the memory that a name means, if it means one (IEEE 1364-2005, 4.9).
+pub(crate) fn memory<E: Env>(name: &Name, env: &E) -> Option<u32>
+    ensures { result ≡ memory_of (E.names env.now name.now.text) }
+{
+    match env.find(name.text.as_slice()) {
+        Named::Memory(m) => Some(m.number),
+        _ => None,
     }
 }
 

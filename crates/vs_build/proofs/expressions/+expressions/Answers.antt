@@ -19,7 +19,7 @@ use Rattle.vs_build.specs.Growth.{draft}
 use Rattle.vs_build.specs.Buildable.{IsBuildable, IsSelectable, AreBuildable, HasBits, IsNumbered, AreBounds, IsRangeOf, IsConstant, part_expressions, selected_by}
 use Rattle.vs_build.proofs.Arms.{begins_twice, begins_itself, child, child_ends, children_end, ends_three, after, same_design, ok_up_to, unary_operand, brackets_inner, binary_left, binary_right, choice_condition, choice_yes, choice_no, unary_arm, binary_arm, choice_arm}
 use Rattle.vs_build.proofs.Lists.{concatenation_view, replication_view, each_part, part_levels, part_falls, taken_more, taken_all, parts_none, parts_more, parts_are, ends_parts, part_after, part_count, concatenation_parts, join_arm, replication_is, replication_expression, deeper_up_to}
-use Rattle.vs_build.proofs.Selects.{named_select, named_expression, bit_taken, bit_index, moving_taken, moving_is, between_is, between_taken, select_ends, select_arm, signed_operand, unsigned_operand, clog2_constant, clog2_arm}
+use Rattle.vs_build.proofs.Selects.{named_select, named_expression, bit_taken, bit_index, bit_word, word_ends, word_arm, moving_taken, moving_is, between_is, between_taken, select_ends, select_arm, signed_operand, unsigned_operand, clog2_constant, clog2_arm}
 use Rattle.vs_build.proofs.expressions.+expressions.Goals as goal
 
 pub expression-unary-requires : goal.expression-unary-requires
@@ -173,14 +173,33 @@ expression-returns-in_ok-bits-in-Clog2 g t c =
     (clog2_arm c.literal-in-Clog2.result (draft c.args.builder.now) (draft c.literal-in-Clog2.new.self) (draft c.args.builder.now).design (g.E.Env.names c.args.env.now) c.args.needed c.args.at c.in-Call.place (view.expr c.in-Call.a.value) c.in_ok-bits-in-Clog2.bits
     (subst (λ f. IsBuildable (draft c.args.builder.now).design (g.E.Env.names c.args.env.now) c.args.needed (tree.Call c.in-Call.place (view.system_function f) (view.expr c.in-Call.a.value))) c.in-Clog2.is (subst (λ x. IsBuildable (draft c.args.builder.now).design (g.E.Env.names c.args.env.now) c.args.needed (view.expr x)) c.in-Call.is c.requires)) bits c.literal-in-Clog2.ensures))
 
+pub selected-word-requires-clause-there : goal.selected-word-requires-clause-there
+selected-word-requires-clause-there g t c = (word_ends (draft c.args.builder.now) (draft c.operand.new.builder) (selected_by (tree.BitAt c.in-Bit.bracket (view.expr c.in-Bit.index.value)) (view.name c.args.name.now) (g.E.Env.names c.args.env.now) c.args.fixed c.args.needed) (typed (view.expr c.in-Bit.index.value) (g.E.Env.names c.args.env.now) c.args.needed) c.in-Some.signal (1 + expr_depth (view.expr c.in-Bit.index.value)) (bit_word (draft c.args.builder.now).design (g.E.Env.names c.args.env.now) c.args.fixed c.args.needed (view.name c.args.name.now) c.in-Bit.bracket (view.expr c.in-Bit.index.value) c.in-Some.signal (sym c.memory.ensures ∙ c.in-Some.is) (subst (λ x. IsSelectable (draft c.args.builder.now).design (g.E.Env.names c.args.env.now) c.args.fixed c.args.needed (view.name c.args.name.now) (view.select x)) c.in-Bit.is c.requires)) (subst (λ x. AddsExpression (draft c.args.builder.now) (draft c.operand.new.builder) (typed (view.expr x) (g.E.Env.names c.args.env.now) c.args.needed).expression (1 + expr_depth (view.expr x))) c.deref.ensures c.in_ok-operand-in-Bit.ensures) (omega (arith, (bit_index (draft c.args.builder.now).design (g.E.Env.names c.args.env.now) c.args.fixed c.args.needed (view.name c.args.name.now) c.in-Bit.bracket (view.expr c.in-Bit.index.value) (subst (λ x. IsSelectable (draft c.args.builder.now).design (g.E.Env.names c.args.env.now) c.args.fixed c.args.needed (view.name c.args.name.now) (view.select x)) c.in-Bit.is c.requires)).shallow))).there
+
+pub selected-word-requires-clause-memory : goal.selected-word-requires-clause-memory
+selected-word-requires-clause-memory g t c = (word_ends (draft c.args.builder.now) (draft c.operand.new.builder) (selected_by (tree.BitAt c.in-Bit.bracket (view.expr c.in-Bit.index.value)) (view.name c.args.name.now) (g.E.Env.names c.args.env.now) c.args.fixed c.args.needed) (typed (view.expr c.in-Bit.index.value) (g.E.Env.names c.args.env.now) c.args.needed) c.in-Some.signal (1 + expr_depth (view.expr c.in-Bit.index.value)) (bit_word (draft c.args.builder.now).design (g.E.Env.names c.args.env.now) c.args.fixed c.args.needed (view.name c.args.name.now) c.in-Bit.bracket (view.expr c.in-Bit.index.value) c.in-Some.signal (sym c.memory.ensures ∙ c.in-Some.is) (subst (λ x. IsSelectable (draft c.args.builder.now).design (g.E.Env.names c.args.env.now) c.args.fixed c.args.needed (view.name c.args.name.now) (view.select x)) c.in-Bit.is c.requires)) (subst (λ x. AddsExpression (draft c.args.builder.now) (draft c.operand.new.builder) (typed (view.expr x) (g.E.Env.names c.args.env.now) c.args.needed).expression (1 + expr_depth (view.expr x))) c.deref.ensures c.in_ok-operand-in-Bit.ensures) (omega (arith, (bit_index (draft c.args.builder.now).design (g.E.Env.names c.args.env.now) c.args.fixed c.args.needed (view.name c.args.name.now) c.in-Bit.bracket (view.expr c.in-Bit.index.value) (subst (λ x. IsSelectable (draft c.args.builder.now).design (g.E.Env.names c.args.env.now) c.args.fixed c.args.needed (view.name c.args.name.now) (view.select x)) c.in-Bit.is c.requires)).shallow))).memory
+
+pub selected-word-requires-clause-ends : goal.selected-word-requires-clause-ends
+selected-word-requires-clause-ends g t c = (word_ends (draft c.args.builder.now) (draft c.operand.new.builder) (selected_by (tree.BitAt c.in-Bit.bracket (view.expr c.in-Bit.index.value)) (view.name c.args.name.now) (g.E.Env.names c.args.env.now) c.args.fixed c.args.needed) (typed (view.expr c.in-Bit.index.value) (g.E.Env.names c.args.env.now) c.args.needed) c.in-Some.signal (1 + expr_depth (view.expr c.in-Bit.index.value)) (bit_word (draft c.args.builder.now).design (g.E.Env.names c.args.env.now) c.args.fixed c.args.needed (view.name c.args.name.now) c.in-Bit.bracket (view.expr c.in-Bit.index.value) c.in-Some.signal (sym c.memory.ensures ∙ c.in-Some.is) (subst (λ x. IsSelectable (draft c.args.builder.now).design (g.E.Env.names c.args.env.now) c.args.fixed c.args.needed (view.name c.args.name.now) (view.select x)) c.in-Bit.is c.requires)) (subst (λ x. AddsExpression (draft c.args.builder.now) (draft c.operand.new.builder) (typed (view.expr x) (g.E.Env.names c.args.env.now) c.args.needed).expression (1 + expr_depth (view.expr x))) c.deref.ensures c.in_ok-operand-in-Bit.ensures) (omega (arith, (bit_index (draft c.args.builder.now).design (g.E.Env.names c.args.env.now) c.args.fixed c.args.needed (view.name c.args.name.now) c.in-Bit.bracket (view.expr c.in-Bit.index.value) (subst (λ x. IsSelectable (draft c.args.builder.now).design (g.E.Env.names c.args.env.now) c.args.fixed c.args.needed (view.name c.args.name.now) (view.select x)) c.in-Bit.is c.requires)).shallow))).ends
+
+pub selected-returns-in-Some : goal.selected-returns-in-Some
+selected-returns-in-Some g t c =
+    subst (λ x. OnOk c.word.result (AddsExpression (draft c.args.builder.now) (draft c.word.new.self) (begins_at c.args.at (selected_by (view.select x) (view.name c.args.name.now) (g.E.Env.names c.args.env.now) c.args.fixed c.args.needed).expression) (1 + select_depth (view.select x)))) (sym c.in-Bit.is)
+    (word_arm c.word.result (draft c.args.builder.now) (draft c.operand.new.builder) (draft c.word.new.self) (selected_by (tree.BitAt c.in-Bit.bracket (view.expr c.in-Bit.index.value)) (view.name c.args.name.now) (g.E.Env.names c.args.env.now) c.args.fixed c.args.needed) (typed (view.expr c.in-Bit.index.value) (g.E.Env.names c.args.env.now) c.args.needed) c.in-Some.signal (1 + expr_depth (view.expr c.in-Bit.index.value)) c.args.at (1 + (1 + expr_depth (view.expr c.in-Bit.index.value))) (bit_word (draft c.args.builder.now).design (g.E.Env.names c.args.env.now) c.args.fixed c.args.needed (view.name c.args.name.now) c.in-Bit.bracket (view.expr c.in-Bit.index.value) c.in-Some.signal (sym c.memory.ensures ∙ c.in-Some.is) (subst (λ x. IsSelectable (draft c.args.builder.now).design (g.E.Env.names c.args.env.now) c.args.fixed c.args.needed (view.name c.args.name.now) (view.select x)) c.in-Bit.is c.requires)) (subst (λ x. AddsExpression (draft c.args.builder.now) (draft c.operand.new.builder) (typed (view.expr x) (g.E.Env.names c.args.env.now) c.args.needed).expression (1 + expr_depth (view.expr x))) c.deref.ensures c.in_ok-operand-in-Bit.ensures) c.word.ensures (omega arith))
+
+pub selected-source-requires : goal.selected-source-requires
+selected-source-requires g t c =
+    subst (λ d. HasBits d c.args.fixed c.args.name.now.place ((g.E.Env.names c.args.env.now) c.args.name.now.text)) (same_design (draft c.args.builder.now) (draft c.operand.new.builder) (typed (view.expr c.in-Bit.index.value) (g.E.Env.names c.args.env.now) c.args.needed).expression (1 + expr_depth (view.expr c.in-Bit.index.value)) (subst (λ x. AddsExpression (draft c.args.builder.now) (draft c.operand.new.builder) (typed (view.expr x) (g.E.Env.names c.args.env.now) c.args.needed).expression (1 + expr_depth (view.expr x))) c.deref.ensures c.in_ok-operand-in-Bit.ensures))
+    (bit_taken (draft c.args.builder.now).design (g.E.Env.names c.args.env.now) c.args.fixed c.args.needed (view.name c.args.name.now) c.in-Bit.bracket (view.expr c.in-Bit.index.value) (sym c.memory.ensures ∙ c.in-None.is) (subst (λ x. IsSelectable (draft c.args.builder.now).design (g.E.Env.names c.args.env.now) c.args.fixed c.args.needed (view.name c.args.name.now) (view.select x)) c.in-Bit.is c.requires)).bits
+
 pub selected-bit-requires : goal.selected-bit-requires
 selected-bit-requires g t c =
-    select_ends (draft c.args.builder.now).design (g.E.Env.names c.args.env.now) c.args.fixed c.args.needed (view.name c.args.name.now) (tree.BitAt c.in-Bit.bracket (view.expr c.in-Bit.index.value)) true 1 (typed (view.expr c.in-Bit.index.value) (g.E.Env.names c.args.env.now) c.args.needed).expression (draft c.args.builder.now) (draft c.operand.new.builder) (draft c.source.new.builder) (1 + expr_depth (view.expr c.in-Bit.index.value)) c.in_ok-range-in-Bit.range (bit_taken (draft c.args.builder.now).design (g.E.Env.names c.args.env.now) c.args.fixed c.args.needed (view.name c.args.name.now) c.in-Bit.bracket (view.expr c.in-Bit.index.value) (subst (λ x. IsSelectable (draft c.args.builder.now).design (g.E.Env.names c.args.env.now) c.args.fixed c.args.needed (view.name c.args.name.now) (view.select x)) c.in-Bit.is c.requires)) refl (subst (λ x. AddsExpression (draft c.args.builder.now) (draft c.operand.new.builder) (typed (view.expr x) (g.E.Env.names c.args.env.now) c.args.needed).expression (1 + expr_depth (view.expr x))) c.deref.ensures c.in_ok-operand-in-Bit.ensures) (omega (arith, (bit_index (draft c.args.builder.now).design (g.E.Env.names c.args.env.now) c.args.fixed c.args.needed (view.name c.args.name.now) c.in-Bit.bracket (view.expr c.in-Bit.index.value) (subst (λ x. IsSelectable (draft c.args.builder.now).design (g.E.Env.names c.args.env.now) c.args.fixed c.args.needed (view.name c.args.name.now) (view.select x)) c.in-Bit.is c.requires)).shallow)) c.in_ok-range-in-Bit.ensures
+    select_ends (draft c.args.builder.now).design (g.E.Env.names c.args.env.now) c.args.fixed c.args.needed (view.name c.args.name.now) (tree.BitAt c.in-Bit.bracket (view.expr c.in-Bit.index.value)) true 1 (typed (view.expr c.in-Bit.index.value) (g.E.Env.names c.args.env.now) c.args.needed).expression (draft c.args.builder.now) (draft c.operand.new.builder) (draft c.source.new.builder) (1 + expr_depth (view.expr c.in-Bit.index.value)) c.in_ok-range-in-None.range (bit_taken (draft c.args.builder.now).design (g.E.Env.names c.args.env.now) c.args.fixed c.args.needed (view.name c.args.name.now) c.in-Bit.bracket (view.expr c.in-Bit.index.value) (sym c.memory.ensures ∙ c.in-None.is) (subst (λ x. IsSelectable (draft c.args.builder.now).design (g.E.Env.names c.args.env.now) c.args.fixed c.args.needed (view.name c.args.name.now) (view.select x)) c.in-Bit.is c.requires)) refl (subst (λ x. AddsExpression (draft c.args.builder.now) (draft c.operand.new.builder) (typed (view.expr x) (g.E.Env.names c.args.env.now) c.args.needed).expression (1 + expr_depth (view.expr x))) c.deref.ensures c.in_ok-operand-in-Bit.ensures) (omega (arith, (bit_index (draft c.args.builder.now).design (g.E.Env.names c.args.env.now) c.args.fixed c.args.needed (view.name c.args.name.now) c.in-Bit.bracket (view.expr c.in-Bit.index.value) (subst (λ x. IsSelectable (draft c.args.builder.now).design (g.E.Env.names c.args.env.now) c.args.fixed c.args.needed (view.name c.args.name.now) (view.select x)) c.in-Bit.is c.requires)).shallow)) c.in_ok-range-in-None.ensures
 
-pub selected-returns-in_ok-range-in-Bit : goal.selected-returns-in_ok-range-in-Bit
-selected-returns-in_ok-range-in-Bit g t c =
+pub selected-returns-in_ok-range-in-None : goal.selected-returns-in_ok-range-in-None
+selected-returns-in_ok-range-in-None g t c =
     subst (λ x. OnOk c.bit.result (AddsExpression (draft c.args.builder.now) (draft c.bit.new.self) (begins_at c.args.at (selected_by (view.select x) (view.name c.args.name.now) (g.E.Env.names c.args.env.now) c.args.fixed c.args.needed).expression) (1 + select_depth (view.select x)))) (sym c.in-Bit.is)
-    (select_arm c.bit.result (draft c.args.builder.now).design (g.E.Env.names c.args.env.now) c.args.fixed c.args.needed (view.name c.args.name.now) (tree.BitAt c.in-Bit.bracket (view.expr c.in-Bit.index.value)) true 1 (typed (view.expr c.in-Bit.index.value) (g.E.Env.names c.args.env.now) c.args.needed).expression (draft c.args.builder.now) (draft c.operand.new.builder) (draft c.source.new.builder) (draft c.bit.new.self) (1 + expr_depth (view.expr c.in-Bit.index.value)) c.args.at (1 + (1 + expr_depth (view.expr c.in-Bit.index.value))) c.in_ok-range-in-Bit.range (bit_taken (draft c.args.builder.now).design (g.E.Env.names c.args.env.now) c.args.fixed c.args.needed (view.name c.args.name.now) c.in-Bit.bracket (view.expr c.in-Bit.index.value) (subst (λ x. IsSelectable (draft c.args.builder.now).design (g.E.Env.names c.args.env.now) c.args.fixed c.args.needed (view.name c.args.name.now) (view.select x)) c.in-Bit.is c.requires)) (subst (λ x. AddsExpression (draft c.args.builder.now) (draft c.operand.new.builder) (typed (view.expr x) (g.E.Env.names c.args.env.now) c.args.needed).expression (1 + expr_depth (view.expr x))) c.deref.ensures c.in_ok-operand-in-Bit.ensures) c.in_ok-range-in-Bit.ensures c.bit.ensures (omega arith))
+    (select_arm c.bit.result (draft c.args.builder.now).design (g.E.Env.names c.args.env.now) c.args.fixed c.args.needed (view.name c.args.name.now) (tree.BitAt c.in-Bit.bracket (view.expr c.in-Bit.index.value)) true 1 (typed (view.expr c.in-Bit.index.value) (g.E.Env.names c.args.env.now) c.args.needed).expression (draft c.args.builder.now) (draft c.operand.new.builder) (draft c.source.new.builder) (draft c.bit.new.self) (1 + expr_depth (view.expr c.in-Bit.index.value)) c.args.at (1 + (1 + expr_depth (view.expr c.in-Bit.index.value))) c.in_ok-range-in-None.range (bit_taken (draft c.args.builder.now).design (g.E.Env.names c.args.env.now) c.args.fixed c.args.needed (view.name c.args.name.now) c.in-Bit.bracket (view.expr c.in-Bit.index.value) (sym c.memory.ensures ∙ c.in-None.is) (subst (λ x. IsSelectable (draft c.args.builder.now).design (g.E.Env.names c.args.env.now) c.args.fixed c.args.needed (view.name c.args.name.now) (view.select x)) c.in-Bit.is c.requires)) (subst (λ x. AddsExpression (draft c.args.builder.now) (draft c.operand.new.builder) (typed (view.expr x) (g.E.Env.names c.args.env.now) c.args.needed).expression (1 + expr_depth (view.expr x))) c.deref.ensures c.in_ok-operand-in-Bit.ensures) c.in_ok-range-in-None.ensures c.bit.ensures (omega arith))
 
 pub selected-number_within-requires : goal.selected-number_within-requires
 selected-number_within-requires g t c =
