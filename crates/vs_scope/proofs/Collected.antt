@@ -4,7 +4,7 @@ use Rattle.vs_grammar.specs.Trees as tree
 use Rattle.vs_elaborated.specs.Declarations.{Declaration, SignalOf, ParameterOf, GenvarSort, InstanceSort}
 
 abbrev pub signal_declared : Bool → tree.Signals → tree.Declarator → Declaration
-signal_declared header t d = record { name = d.name; sort = SignalOf (record { kind = t.kind; signed = t.signed; range = t.range; header = header }) }
+signal_declared header t d = record { name = d.name; sort = SignalOf (record { kind = t.kind; signed = t.signed; range = t.range; addresses = d.addresses; header = header }) }
 
 abbrev pub parameter_declared : tree.Parameters → tree.Setting → Declaration
 parameter_declared t s = record { name = s.name; sort = ParameterOf (record { is_local = t.is_local; signed = t.signed; range = t.range; value = s.value }) }

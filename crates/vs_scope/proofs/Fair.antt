@@ -2,8 +2,8 @@
 use Rattle.std.proofs.Common.{ℕ, zero, suc, Bool, true, false, List, [], ◌∷◌, ◌++◌, slice_index_or, map, Option, Some, None, if◌then◌else◌, refl, sym, subst, arith}
 use Rattle.vs_four.specs.declared.Range.{Range}
 use Rattle.vs_design.specs.Clocks.{same_name}
-use Rattle.vs_const.specs.Meanings.{ConstantValue, Unknown, IsFairValue, IsFairMeaning, IsFair}
-use Rattle.vs_elaborated.specs.Environments.{Declared, Later, OfSignal, OfParameter, OfGenvar, OfScope, Entry, Env, no_env, find_entry, find_name, is_late, turn_meaning, turn_of, parameter_meaning, declared_meaning, entry_meaning, named}
+use Rattle.vs_const.specs.Meanings.{ConstantValue, SignalMeaning, Unknown, IsFairValue, IsFairMeaning, IsFair}
+use Rattle.vs_elaborated.specs.Environments.{Declared, Later, OfSignal, OfParameter, OfGenvar, OfScope, Entry, Env, no_env, find_entry, find_name, is_late, turn_meaning, turn_of, parameter_meaning, with_words, declared_meaning, entry_meaning, named}
 use Rattle.vs_scope.specs.Maps.{Pair}
 use Rattle.vs_scope.specs.MapViews.{pairs}
 use Rattle.vs_scope.specs.declared.names.Declared.{Declared as DeclaredOf}
@@ -103,9 +103,13 @@ fair_parameter None range h = tt
 fair_parameter (Some v) None h = tt
 fair_parameter (Some v) (Some r) h = h
 
+fair_signal : (s : SignalMeaning) (words : Option Range) → IsFairMeaning (with_words words s)
+fair_signal s None = tt
+fair_signal s (Some r) = tt
+
 fair_meaning : (env : Env) (place : ℕ) (d : Declared) → FairDeclared d → IsFairMeaning (declared_meaning env place d)
 fair_meaning env place Later h = tt
-fair_meaning env place (OfSignal s) h = tt
+fair_meaning env place (OfSignal s) h = fair_signal s s.signal.words
 fair_meaning env place (OfParameter value range) h = by (is_late env.before place)
   where
     by : (b : Bool) → IsFairMeaning (if b then Unknown else parameter_meaning value range)

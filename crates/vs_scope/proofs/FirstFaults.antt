@@ -17,6 +17,10 @@ use Rattle.vs_scope.proofs.Steps.{append_none, none_left, from_place}
 pub record AreRanged (env : Env) (rest all : List spec.Declaration) (found : Option Fault) : Type 0 where
   pub some : (fs : List Fault) × (found ≡ least fs) × (least (fs ++ range_faults env rest) ≡ least (range_faults env all))
 
+-- of a range and addresses
+pub both_first : (xs ys : List Fault) (x y o : Option Fault) → x ≡ least xs → y ≡ least ys → o ≡ better x y → o ≡ least ((xs ++ ys) ++ [])
+both_first xs ys x y o h k e = e ∙ ap (λ (q : Option Fault). better q y) h ∙ ap (better (least xs)) k ∙ sym (least_append xs ys) ∙ ap least (sym (append_none (xs ++ ys)))
+
 range_step : (env : Env) (d : spec.Declaration) (rest : List spec.Declaration) → range_faults env (d ∷ rest) ≡ range_faults env (d ∷ []) ++ range_faults env rest
 range_step env d rest = ap (λ (x : List Fault). x ++ range_faults env rest) (sym (append_none _))
 

@@ -1,8 +1,8 @@
 -- Every declaration of a module's tree is as the grammar has it.
-use Rattle.std.proofs.Common.{Bool, true, false, List, [], ◌∷◌, ◌++◌, map, flat_map}
+use Rattle.std.proofs.Common.{◌≡◌, Bool, true, false, List, [], ◌∷◌, ◌++◌, map, flat_map, Option, Some, None}
 use Rattle.vs_grammar.specs.Trees as tree
 use Rattle.vs_grammar.specs.Trees.{items_list}
-use Rattle.vs_grammar.specs.Shapes.{IsRange, Given, Each, OneOrMore, IsSetting, AreParameters, ArePorts, AreHeaderParameters, IsGenerateItem, IsItem, AreItems, IsHeader, IsModule}
+use Rattle.vs_grammar.specs.Shapes.{IsRange, Given, Each, OneOrMore, IsVariable, IsNet, IsPort, AreNames, AreSignals, IsSetting, AreParameters, ArePorts, AreHeaderParameters, IsGenerateItem, IsItem, AreItems, IsHeader, IsModule}
 use Rattle.vs_elaborated.specs.Declarations.{Declaration, signals_declared, parameters_declared, item_declared, header_declared, module_declared}
 use Rattle.vs_scope.specs.Shaped.{AreShaped}
 use Rattle.vs_scope.proofs.Collected.{signal_declared, parameter_declared, genvar_declared, instance_declared}
@@ -11,9 +11,40 @@ both_shaped : (xs ys : List Declaration) → AreShaped xs → AreShaped ys → A
 both_shaped [] ys h k = k
 both_shaped (x ∷ xs) ys h k = (h.0, both_shaped xs ys h.1 k)
 
-signals_shaped : (header : Bool) (t : tree.Signals) (ds : List tree.Declarator) → Given IsRange t.range → AreShaped (map (signal_declared header t) ds)
-signals_shaped header t [] h = tt
-signals_shaped header t (d ∷ ds) h = (h, signals_shaped header t ds h)
+-- addresses are a range
+abbrev IsAddressed : tree.Declarator → Type 0
+IsAddressed d = Given IsRange d.addresses
+
+no_addresses : (a : Option tree.RangeTree) → a ≡ None → Given IsRange a
+no_addresses None h = tt
+no_addresses (Some r) h = cc
+
+each_of : (P : tree.Declarator → Type 0) → ((d : tree.Declarator) → P d → IsAddressed d) → (ds : List tree.Declarator) → Each P ds → Each IsAddressed ds
+each_of P f [] h = tt
+each_of P f (d ∷ ds) h = (f d h.0, each_of P f ds h.1)
+
+all_of : (P : tree.Declarator → Type 0) → ((d : tree.Declarator) → P d → IsAddressed d) → (ds : List tree.Declarator) → OneOrMore P ds → Each IsAddressed ds
+all_of P f [] h = tt
+all_of P f (d ∷ ds) h = (f d h.0, each_of P f ds h.1)
+
+port_addressed : (d : tree.Declarator) → IsPort d → IsAddressed d
+port_addressed d h = no_addresses d.addresses h.1
+
+names_addressed : (k : tree.SignalKind) (ds : List tree.Declarator) → AreNames k ds → Each IsAddressed ds
+names_addressed tree.Reg ds h = all_of IsVariable (λ d k. k.1) ds h
+names_addressed tree.Wire ds h = all_of IsNet (λ d k. no_addresses d.addresses k.1) ds h
+names_addressed tree.Input ds h = all_of IsPort port_addressed ds h
+names_addressed tree.InputWire ds h = all_of IsPort port_addressed ds h
+names_addressed tree.Output ds h = all_of IsPort port_addressed ds h
+names_addressed tree.OutputWire ds h = all_of IsPort port_addressed ds h
+names_addressed tree.OutputReg ds h = all_of IsPort port_addressed ds h
+
+names_shaped : (header : Bool) (t : tree.Signals) (ds : List tree.Declarator) → Given IsRange t.range → Each IsAddressed ds → AreShaped (map (signal_declared header t) ds)
+names_shaped header t [] h k = tt
+names_shaped header t (d ∷ ds) h k = ((h, k.0), names_shaped header t ds h k.1)
+
+signals_shaped : (header : Bool) (t : tree.Signals) → AreSignals t → AreShaped (signals_declared header t)
+signals_shaped header t h = names_shaped header t t.names h.range (names_addressed t.kind t.names h.names)
 
 settings_shaped : (t : tree.Parameters) (ss : List tree.Setting) → Given IsRange t.range → Each IsSetting ss → AreShaped (map (parameter_declared t) ss)
 settings_shaped t [] h k = tt
@@ -35,7 +66,7 @@ parameters_shaped : (t : tree.Parameters) → AreParameters t → AreShaped (par
 parameters_shaped t h = some_settings t t.settings h.range h.settings
 
 item_shaped : (i : tree.Item) → IsItem i → AreShaped (item_declared i)
-item_shaped (tree.SignalsItem t) h = signals_shaped false t t.names h.range
+item_shaped (tree.SignalsItem t) h = signals_shaped false t h
 item_shaped (tree.ParametersItem t) h = parameters_shaped t h
 item_shaped (tree.AssignsItem place assigns) h = tt
 item_shaped (tree.AlwaysItem block) h = tt
@@ -55,11 +86,11 @@ header_parameters (p ∷ ps) h = both_shaped (parameters_declared p) (flat_map p
 
 ports_shaped : (ps : List tree.Signals) → Each ArePorts ps → AreShaped (flat_map (signals_declared true) ps)
 ports_shaped [] h = tt
-ports_shaped (p ∷ ps) h = both_shaped (signals_declared true p) (flat_map (signals_declared true) ps) (signals_shaped true p p.names h.0.0.range) (ports_shaped ps h.1)
+ports_shaped (p ∷ ps) h = both_shaped (signals_declared true p) (flat_map (signals_declared true) ps) (signals_shaped true p h.0.0) (ports_shaped ps h.1)
 
 some_ports : (ps : List tree.Signals) → OneOrMore ArePorts ps → AreShaped (flat_map (signals_declared true) ps)
 some_ports [] h = tt
-some_ports (p ∷ ps) h = both_shaped (signals_declared true p) (flat_map (signals_declared true) ps) (signals_shaped true p p.names h.0.0.range) (ports_shaped ps h.1)
+some_ports (p ∷ ps) h = both_shaped (signals_declared true p) (flat_map (signals_declared true) ps) (signals_shaped true p h.0.0) (ports_shaped ps h.1)
 
 header_shaped : (h : tree.Header) → IsHeader h → AreShaped (header_declared h)
 header_shaped tree.NoPorts h = tt

@@ -3,7 +3,7 @@ use Rattle.std.proofs.Common.{◌≡◌, ◌≤◌, ◌+◌, ℕ, zero, suc, Boo
 use Rattle.std.proofs.lemmas.List.{map-append}
 use Rattle.vs_grammar.specs.Shapes.{Given}
 use Rattle.vs_ast.specs.Views as view
-use Rattle.vs_design.specs.Expressions.{signal_length, range_or_one}
+use Rattle.vs_design.specs.Expressions.{signal_length}
 use Rattle.vs_const.specs.declared.faults.Fault.{Fault}
 use Rattle.vs_const.specs.Faults.{least, better}
 use Rattle.vs_const.specs.Meanings.{SignalMeaning}
@@ -134,7 +134,3 @@ signalled_next env start next ns i list found h e =
 pub signalled_as : (env : Env) (start a b : Start) (rest all : List Named) (l m : List Signal) (f g : Option Fault) → b ≡ a → m ≡ l → g ≡ f → IsSignalled env start a rest all l f → IsSignalled env start b rest all m g
 signalled_as env start a b rest all l m f g x y z h =
     subst (λ (s : Start). IsSignalled env start s rest all m g) (sym x) (subst (λ (s : List Signal). IsSignalled env start a rest all s g) (sym y) (subst (λ (s : Option Fault). IsSignalled env start a rest all l s) (sym z) h))
-
--- how many bits a signal has, by its range
-pub length_is : (c : SignalFound) (x : SaidSignal) → IsSaidSignal c x → signal_length x.meaning.signal ≡ range_or_one c.signal.range
-length_is c x h = sym (ap (λ (m : SignalMeaning). signal_length m.signal) h.meaning)

@@ -14,13 +14,13 @@ use Rattle.vs_scope.specs.declared.names.Declaration.{Declaration}
 use Rattle.vs_scope.specs.Views.{declaration}
 use Rattle.vs_scope.specs.Signalled.{second_faults}
 
-abbrev meaning_of : List ℕ → ℕ → ℕ → Bool → Bool → Option Range → Bool → ℕ → Bool → Bool → SignalMeaning
-meaning_of name scope number net input range signed first is_input known =
-    record { signal = record { name = name; scope = scope; number = number; net = net; input = input; range = range; signed = signed; first = first; words = None }; input = is_input; known = known }
+abbrev meaning_of : List ℕ → ℕ → ℕ → Bool → Bool → Option Range → Bool → ℕ → Option Range → Bool → Bool → SignalMeaning
+meaning_of name scope number net input range signed first words is_input known =
+    record { signal = record { name = name; scope = scope; number = number; net = net; input = input; range = range; signed = signed; first = first; words = words }; input = is_input; known = known }
 
-pub same_meaning : (scope number first : ℕ) (n m : List ℕ) (a b c d e f g h k l : Bool) (r q : Option Range) → n ≡ m → a ≡ b → c ≡ d → e ≡ f → g ≡ h → k ≡ l → r ≡ q
-    → meaning_of n scope number a c r e first g k ≡ meaning_of m scope number b d q f first h l
-same_meaning scope number first n m a b c d e f g h k l r q x1 x2 x3 x4 x5 x6 x7 = cc
+pub same_meaning : (scope number first : ℕ) (n m : List ℕ) (a b c d e f g h k l : Bool) (r q v w : Option Range) → n ≡ m → a ≡ b → c ≡ d → e ≡ f → g ≡ h → k ≡ l → r ≡ q → v ≡ w
+    → meaning_of n scope number a c r e first v g k ≡ meaning_of m scope number b d q f first w h l
+same_meaning scope number first n m a b c d e f g h k l r q v w x1 x2 x3 x4 x5 x6 x7 x8 = cc
 
 pub same_faults : (env : Env) (s : SignalSort) (other : Option RangeTree) (second : Option Declaration) → other ≡ (spec.second_sort s (option declaration second)).range
     → second_faults (said_range s.range env) (said_range other env) second ≡ spec.second_faults env s (option declaration second)

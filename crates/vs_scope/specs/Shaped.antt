@@ -3,9 +3,9 @@ use Rattle.std.specs.Prelude.{List, [], ◌∷◌}
 use Rattle.vs_grammar.specs.Shapes.{IsExpr, IsRange, Given}
 use Rattle.vs_elaborated.specs.Declarations.{Sort, SignalOf, ParameterOf, GenvarSort, InstanceSort, Declaration, Named}
 
--- ranges and values are expressions
+-- ranges, addresses and values are expressions
 abbrev pub IsShapedSort : Sort → Type 0
-IsShapedSort (SignalOf s) = Given IsRange s.range
+IsShapedSort (SignalOf s) = Given IsRange s.range × Given IsRange s.addresses
 IsShapedSort (ParameterOf p) = Given IsRange p.range × IsExpr p.value
 IsShapedSort GenvarSort = Unit {0}
 IsShapedSort InstanceSort = Unit {0}

@@ -2,6 +2,7 @@
 use Rattle.std.specs.Prelude.{◌≡◌, ℕ, ◌+◌, Bool, List, [], ◌∷◌, length, sum_by, Option, Some, None}
 use Rattle.vs_design.specs.Expressions.{signal_length}
 use Rattle.vs_ast.specs.Views as view
+use Rattle.vs_grammar.specs.Trees.{RangeTree}
 use Rattle.vs_ast.specs.declared.items.Signals.{Signals}
 use Rattle.vs_const.specs.declared.faults.Fault.{Fault}
 use Rattle.vs_const.specs.Faults.{least, fault_if}
@@ -25,16 +26,16 @@ start_of s = record { scope = s.scope; top = s.top; signal = s.signal; bit = s.b
 abbrev pub start_after : spec.Start → List spec.SaidSignal → spec.Start
 start_after s ss = record s { signal = s.signal + length ss; bit = s.bit + sum_by (λ (x : spec.SaidSignal). signal_length x.meaning.signal) ss }
 
--- a declaration of signals
-abbrev pub signal_sort : Signals → Bool → SignalSort
-signal_sort s header = record { kind = view.signal_kind s.kind; signed = s.signed; range = view.option view.range s.range; header = header }
+-- one name of a declaration of signals, with its addresses
+abbrev pub signal_sort : Signals → Option RangeTree → Bool → SignalSort
+signal_sort s addresses header = record { kind = view.signal_kind s.kind; signed = s.signed; range = view.option view.range s.range; addresses = addresses; header = header }
 
 -- the ranges of both declarations are equal
 abbrev pub second_faults : parameters.SaidRange → parameters.SaidRange → Option Declaration → List Fault
 second_faults r q None = []
 second_faults r q (Some d) = fault_if (spec.are_unequal r q) BadRange d.name.now.place
 
--- but for where it stands
+-- but for its addresses and where it stands
 pub record IsSortOf (c : Signals) (s : SignalSort) : Type 0 where
   pub kind : view.signal_kind c.kind ≡ s.kind
   pub signed : c.signed ≡ s.signed

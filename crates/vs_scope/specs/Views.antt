@@ -20,7 +20,7 @@ use Rattle.vs_scope.specs.MapViews.{pairs}
 
 -- what a declaration declares
 abbrev pub sort : Sort → declarations.Sort
-sort (sorts.Signal s header) = declarations.SignalOf (record { kind = view.signal_kind s.now.kind; signed = s.now.signed; range = view.option view.range s.now.range; header = header })
+sort (sorts.Signal s addresses header) = declarations.SignalOf (record { kind = view.signal_kind s.now.kind; signed = s.now.signed; range = view.option view.range s.now.range; addresses = view.option view.range addresses.now; header = header })
 sort (sorts.Parameter p value) = declarations.ParameterOf (record { is_local = p.now.is_local; signed = p.now.signed; range = view.option view.range p.now.range; value = view.expr value.now })
 sort sorts.Genvar = declarations.GenvarSort
 sort sorts.Scope = declarations.InstanceSort
@@ -31,7 +31,7 @@ declaration d = record { name = view.name d.name.now; sort = sort d.sort }
 
 -- a signal
 abbrev pub signal_meaning : Signal → SignalMeaning
-signal_meaning s = record { signal = record { name = s.name.now; scope = s.scope; number = s.number; net = s.net; input = s.input; range = s.range; signed = s.signed; first = s.first; words = None }; input = s.is_input; known = s.known }
+signal_meaning s = record { signal = record { name = s.name.now; scope = s.scope; number = s.number; net = s.net; input = s.input; range = s.range; signed = s.signed; first = s.first; words = s.words }; input = s.is_input; known = s.known }
 
 -- a signal of which nothing is known
 abbrev pub unknown_signal : SignalMeaning

@@ -7,7 +7,7 @@ ghost use Rattle.vs_scope.specs.Bits.{counted_bits, over};
 ghost use Rattle.vs_scope.specs.Signalled.{placed};
 
 use crate::names::Signal;
-use crate::signals::length_or_one;
+use crate::signals::signal_length;
 use vs_const::{Fault, Rule, fault_at};
 
 /// How many bits all signals have at most.
@@ -17,7 +17,7 @@ const MOST_BITS: u64 = 1_048_576;
 fn counted(s: &Signal<'_>) -> u64
     ensures { result ≡ counted_bits (placed s.now) }
 {
-    if s.known { length_or_one(s.range) } else { 0 }
+    if s.known { signal_length(s) } else { 0 }
 }
 
 /// The count with one more signal, if it isn't over the most.
@@ -29,10 +29,10 @@ fn with_signal(total: u64, s: &Signal<'_>) -> Option<u64>
 }
 
 /// The first signal with whose bits there are more than the most; `total` are those before.
-pub(crate) fn bits_fault(total: u32, signals: &[Signal<'_>]) -> Option<Fault>
+pub(crate) fn bits_fault(total: u64, signals: &[Signal<'_>]) -> Option<Fault>
     ensures { result ≡ least (over the_limits.bits total (map placed signals.now)) }
 {
-    let mut sum = total as u64;
+    let mut sum = total;
     for s in signals {
         match with_signal(sum, s) {
             None => return fault_at(Rule::TooManyBits, s.place),

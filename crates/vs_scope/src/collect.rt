@@ -21,7 +21,11 @@ fn collect_signals<'a>(
     ensures { OnOk result (map declaration list.new.items ≡ map declaration list.old.items ++ spec.signals_declared header (view.signals signals.now)) }
 {
     for d in &signals.names {
-        let sort = Sort::Signal { signals, header };
+        let sort = Sort::Signal {
+            signals,
+            addresses: &d.addresses,
+            header,
+        };
         list.push(Declaration {
             name: &d.name,
             sort,

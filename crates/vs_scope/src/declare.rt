@@ -37,18 +37,29 @@ fn are_kinds_of_one(a: SignalKind, b: SignalKind) -> bool
     }
 }
 
-/// Whether two declarations are those of one signal; what a header declares with its direction is complete.
+/// Whether two declarations are those of one signal; what a header declares with its direction is complete, and a port is no memory.
 fn are_sorts_of_one(a: Sort<'_>, b: Sort<'_>) -> bool
     ensures { result ≡ spec.are_sorts_of_one (scope.sort a.entry) (scope.sort b.entry) }
 {
     match (a, b) {
         (
-            Sort::Signal { signals, header },
+            Sort::Signal {
+                signals,
+                addresses,
+                header,
+            },
             Sort::Signal {
                 signals: others,
+                addresses: other_addresses,
                 header: other_header,
             },
-        ) => !header && (!other_header && are_kinds_of_one(signals.kind, others.kind)),
+        ) => {
+            !header
+                && (!other_header
+                    && (addresses.is_none()
+                        && (other_addresses.is_none()
+                            && are_kinds_of_one(signals.kind, others.kind))))
+        }
         _ => false,
     }
 }

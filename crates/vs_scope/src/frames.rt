@@ -3,10 +3,10 @@
 ghost use Rattle.std.specs.Prelude.{◌≡◌, ◌<◌, None, Some, MatchOption, length};
 ghost use Rattle.vs_const.specs.Meanings.{Means};
 ghost use Rattle.vs_elaborated.specs.Environments as spec;
-ghost use Rattle.vs_scope.specs.Views.{declared, entries, entry_of};
+ghost use Rattle.vs_scope.specs.Views.{declared, entries, entry_of, signal_meaning};
 ghost use Rattle.vs_scope.specs.Frames as view;
 
-use crate::names::{Declared, Entry, Evaluated, Names};
+use crate::names::{Declared, Entry, Evaluated, Names, Signal};
 use vs_const::{Constant, Env, Named, SignalShape};
 use vs_four::{Range, of_number};
 
@@ -185,12 +185,7 @@ impl<'f, 'a> View<'f, 'a> {
                 signed: false,
                 known: false,
             }),
-            Declared::Signal(s) => Named::Signal(SignalShape {
-                number: s.number,
-                range: s.range,
-                signed: s.signed,
-                known: s.known,
-            }),
+            Declared::Signal(s) => signal_means(&s),
             Declared::Parameter(_) if self.is_late(place) => Named::Unknown,
             Declared::Parameter(Evaluated::Value(p)) => Named::Value {
                 value: p.value,
@@ -200,6 +195,22 @@ impl<'f, 'a> View<'f, 'a> {
             Declared::Genvar => genvar_meaning(self.turn(place)),
             Declared::Scope => Named::Other,
         }
+    }
+}
+
+/// A signal, or a memory if it has words (4.9).
+fn signal_means(s: &Signal<'_>) -> Named
+    ensures { Means result (spec.signal_means (signal_meaning s.now)) }
+{
+    let shape = SignalShape {
+        number: s.number,
+        range: s.range,
+        signed: s.signed,
+        known: s.known,
+    };
+    match s.words {
+        None => Named::Signal(shape),
+        Some(_) => Named::Memory(shape),
     }
 }
 

@@ -8,7 +8,8 @@ pub fn fair_law()
     ensures { ViewsAreFair }
 {}
 
-/// Every declaration of a module's tree, and of a generate block's items, has ranges and values that are expressions of the grammar.
+/// Every declaration of a module's tree, and of a generate block's items, has ranges, addresses and values that are expressions of the
+/// grammar.
 pub fn shaped_law()
     ensures modules { ModulesAreShaped }
     ensures blocks { BlocksAreShaped }

@@ -1,6 +1,8 @@
 //! The names of a scope, and what each of them was declared as (IEEE 1364-2005, 12.7).
 
-ghost use Rattle.std.specs.Prelude.{◌≡◌, None, Some, MatchOption};
+ghost use Rattle.std.specs.Prelude.{◌≡◌, ◌≤◌, None, Some, MatchOption};
+ghost use Rattle.std.specs.Option.{ForSome};
+ghost use Rattle.vs_four.specs.Selects.{range_length};
 ghost use Rattle.vs_const.specs.Meanings.{IsFairValue};
 ghost use Rattle.vs_elaborated.specs.Environments.{find_entry};
 
@@ -12,9 +14,10 @@ use vs_four::Range;
 /// What a declaration declares.
 #[derive(Clone, Copy)]
 pub enum Sort<'a> {
-    /// A signal, by all that its declaration says; `header` says whether it is one of a header's ports.
+    /// A signal, by all that its declaration says, with the addresses of a memory (4.9); `header` says whether it is one of a header's ports.
     Signal {
         signals: &'a Signals,
+        addresses: &'a Option<vs_ast::Range>,
         header: bool,
     },
     /// A parameter, with its default.
@@ -35,8 +38,8 @@ pub struct Declaration<'a> {
 }
 
 /// A signal of a scope (3.2, 3.3). `number` and `first` are the numbers of the signal and of its first bit in the design, `input` says whether
-/// it is an input of the top and `is_input` whether it is one of its own module, and `known` that no fault leaves its range undefined. `place` is
-/// that of its first declaration.
+/// it is an input of the top and `is_input` whether it is one of its own module, and `known` that no fault leaves its range undefined. A memory
+/// (4.9) has addresses in `words`, the greater bound on the left, and `range` is that of each word. `place` is that of its first declaration.
 #[derive(Clone, Copy)]
 pub struct Signal<'a> {
     pub name: &'a [u8],
@@ -47,9 +50,12 @@ pub struct Signal<'a> {
     pub input: bool,
     pub range: Option<Range>,
     pub signed: bool,
-    pub first: u32,
+    pub first: u64,
+    pub words: Option<Range>,
     pub is_input: bool,
     pub known: bool,
+    ghost short: { ForSome range (λ r. range_length r ≤ 64) },
+    ghost few: { ForSome words (λ r. range_length r ≤ 1024) },
 }
 
 /// The value of a parameter, with the range of its bits (4.10, 12.2): 1 to 64, and as many as the range has.

@@ -1,4 +1,4 @@
-//! Constants that are numbers, and declared ranges (IEEE 1364-2005, 3.3, 4.10 and 5.2.1).
+//! Constants that are numbers, and declared ranges (IEEE 1364-2005, 3.3, 4.9, 4.10 and 5.2.1).
 
 ghost use Rattle.std.specs.Prelude.{◌≡◌, ◌≤◌, true, IfOk, IfSome};
 ghost use Rattle.vs_four.specs.Selects.{range_length};
@@ -17,10 +17,11 @@ ghost use Rattle.vs_scope.specs.Numbers.{IsSaidRange};
 use crate::frames::View;
 use std::alloc::{AllocError, Global};
 use vs_ast::Expr;
-use vs_const::{Bounds, Fault, Found, Numbered, bounds, check, numbered};
+use vs_const::{Bounds, Fault, Found, Numbered, address_bounds, bounds, check, numbered};
 use vs_four::Range;
 
-/// A declared range, none for a scalar, and its first fault; `known` says that no fault leaves it undefined.
+/// A declared range, none for a scalar and for the addresses of what is no memory, and its first fault; `known` says that no fault leaves it
+/// undefined.
 #[derive(Clone, Copy)]
 pub(crate) struct SaidRange {
     pub(crate) range: Option<Range>,
@@ -77,6 +78,71 @@ pub(crate) fn said_range(
                 known: b.range.is_some(),
                 fault: b.flaws.first,
             })
+        }
+    }
+}
+
+/// The addresses whose bounds are constants.
+fn addressed(
+    alloc: Global,
+    range: &vs_ast::Range,
+    here: &View<'_, '_>,
+) -> Result<Bounds, AllocError>
+    requires { IsRange (view.range range.now) }
+    ensures short { IfOk result (λ b. IfSome b.range (λ r. range_length r ≤ 1024)) }
+    ensures is { IfOk result (λ b. ChecksBounds b (selects.address_bounds range.now.bracket (expr_place (view.expr range.now.left)) (expr.constant (view.expr range.now.left) (named (view_env here.now)))
+        (expr_place (view.expr range.now.right)) (expr.constant (view.expr range.now.right) (named (view_env here.now))))) }
+{
+    address_bounds(alloc, range.bracket, &range.left, &range.right, here)
+}
+
+/// Addresses in descending order: nothing tells `[0:3]` from `[3:0]`.
+fn descending(range: Range) -> Range
+    ensures same { range_length result ≡ range_length range }
+    ensures is { result ≡ spec.descending range }
+{
+    Range {
+        left: range.left.max(range.right),
+        right: range.left.min(range.right),
+    }
+}
+
+/// Addresses by what is found of their bounds: those that a fault leaves undefined are taken as 0 alone.
+fn of_addresses(b: Bounds) -> SaidRange
+    requires { IfSome b.range (λ r. range_length r ≤ 1024) }
+    ensures short { IfSome result.range (λ g. range_length g ≤ 1024) }
+    ensures is { (s : selects.Bounds) → ChecksBounds b s → IsSaidRange result (spec.of_addresses s.range s.faults) }
+{
+    let range = match b.range {
+        None => Range { left: 0, right: 0 },
+        Some(r) => descending(r),
+    };
+    SaidRange {
+        range: Some(range),
+        known: b.range.is_some(),
+        fault: b.flaws.first,
+    }
+}
+
+/// The declared addresses of a memory (4.9), or none of what is no memory.
+pub(crate) fn said_addresses(
+    alloc: Global,
+    addresses: &Option<vs_ast::Range>,
+    here: &View<'_, '_>,
+) -> Result<SaidRange, AllocError>
+    requires { Given IsRange (view.option view.range addresses.now) }
+    ensures short { IfOk result (λ r. IfSome r.range (λ g. range_length g ≤ 1024)) }
+    ensures is { IfOk result (λ r. IsSaidRange r (spec.said_addresses (view.option view.range addresses.now) (view_env here.now))) }
+{
+    match addresses {
+        None => Ok(SaidRange {
+            range: None,
+            known: true,
+            fault: None,
+        }),
+        Some(range) => {
+            let b = addressed(alloc, range, here)?;
+            Ok(of_addresses(b))
         }
     }
 }

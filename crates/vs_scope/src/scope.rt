@@ -21,7 +21,7 @@ use crate::declare::{DeclaredNames, declared_names};
 use crate::frames::{Around, View};
 use crate::maps::NameMap;
 use crate::names::{Declaration, Names, Signal, Sort};
-use crate::numbers::said_range;
+use crate::numbers::{said_addresses, said_range};
 use crate::parameters::{Override, evaluate};
 use crate::signals::{SaidSignals, Start, said_signals};
 use std::alloc::{AllocError, Global};
@@ -47,7 +47,7 @@ fn put_signals<'a>(names: &mut Names<'a>, signals: &[Signal<'a>]) -> Result<(), 
     Ok(())
 }
 
-/// The first fault of the range of one declaration, if it declares a signal.
+/// The first fault of the range and the addresses of one declaration, if it declares a signal.
 fn range_fault(
     alloc: Global,
     here: &View<'_, '_>,
@@ -57,15 +57,20 @@ fn range_fault(
     ensures { IfOk result (λ f. f ≡ least (spec.range_faults (view_env here.now) (declaration d.now ∷ []))) }
 {
     match d.sort {
-        Sort::Signal { signals, .. } => {
-            let r = said_range(alloc, &signals.range, here)?;
-            Ok(r.fault)
+        Sort::Signal {
+            signals,
+            addresses,
+            ..
+        } => {
+            let range = said_range(alloc, &signals.range, here)?;
+            let words = said_addresses(alloc, addresses, here)?;
+            Ok(first_of(range.fault, words.fault))
         }
         _ => Ok(None),
     }
 }
 
-/// The first fault of the ranges of all declarations of signals.
+/// The first fault of the ranges and the addresses of all declarations of signals.
 fn range_faults(
     alloc: Global,
     here: &View<'_, '_>,
@@ -88,10 +93,10 @@ fn range_faults(
 /// `fault` is the first rule that the declarations break, at a token of the text. Where several are, it is the one at the least token, and there
 /// the one with the least number:
 /// - `DuplicateName`: a second declaration of a name (12.7).
-/// - `BadRange`: a range that has no meaning, or unequal ranges of one signal.
-/// - and what a constant of a parameter or a range breaks: `NotConstant`, `UnknownConstant`, `UnknownName`, `BadRange` and `WrongKind`.
+/// - `BadRange`: a range or addresses that have no meaning, or unequal ranges of one signal.
+/// - and what a constant of a parameter, a range or addresses breaks: `NotConstant`, `UnknownConstant`, `UnknownName`, `BadRange` and `WrongKind`.
 ///
-/// An error is want of memory; more signals or bits than 32 bits count are too many, too.
+/// An error is want of memory; more signals than 32 bits count, and more bits than 64, are too many, too.
 pub(crate) fn declare_scope<'a>(
     alloc: Global,
     contents: Contents<'a>,

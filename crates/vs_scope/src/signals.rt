@@ -1,14 +1,14 @@
-//! The signals of a scope, with their ranges and numbers (IEEE 1364-2005, 3.2, 3.3 and 12.3.3).
+//! The signals of a scope, with their ranges and numbers (IEEE 1364-2005, 3.2, 3.3, 4.9 and 12.3.3).
 
-ghost use Rattle.std.specs.Prelude.{◌≡◌, ◌&&◌, ◌||◌, ◌∷◌, [], not, Bool, IfOk, map, flat_map};
+ghost use Rattle.std.specs.Prelude.{◌≡◌, ◌&&◌, ◌||◌, ◌∷◌, [], not, Bool, Option, IfOk, map, flat_map};
 ghost use Rattle.vs_design.specs.Expressions.{range_or_one, signal_length};
 ghost use Rattle.vs_design.specs.Elaborated.{same_range};
+ghost use Rattle.vs_grammar.specs.Trees as tree;
 ghost use Rattle.vs_grammar.specs.Shapes.{IsRange, Given};
 ghost use Rattle.vs_ast.specs.Views as view;
 ghost use Rattle.vs_const.specs.Faults.{least};
 ghost use Rattle.vs_elaborated.specs.Signals as spec;
 ghost use Rattle.vs_elaborated.specs.Parameters as parameters;
-ghost use Rattle.vs_const.specs.Meanings.{SignalMeaning};
 ghost use Rattle.vs_scope.specs.Declares.{named_list};
 ghost use Rattle.vs_scope.specs.Frames.{view_env};
 ghost use Rattle.vs_scope.specs.Numbers.{IsSaidRange};
@@ -18,7 +18,7 @@ ghost use Rattle.vs_scope.specs.Views as scope;
 
 use crate::frames::View;
 use crate::names::{Declaration, Entry, Names, Signal, Sort};
-use crate::numbers::{SaidRange, said_range};
+use crate::numbers::{SaidRange, said_addresses, said_range};
 use std::alloc::{AllocError, Global};
 use vs_ast::{SignalKind, Signals};
 use vs_const::{Fault, Rule, fault_if, first_of};
@@ -30,7 +30,7 @@ pub struct Start {
     pub scope: u32,
     pub top: bool,
     pub signal: u32,
-    pub bit: u32,
+    pub bit: u64,
 }
 
 /// A signal, and the fault of its second declaration.
@@ -106,9 +106,16 @@ fn are_unequal(a: SaidRange, b: SaidRange) -> bool
     a.known && (b.known && !same_range(a.range, b.range))
 }
 
+/// Whether the range and the addresses of a signal are known.
+fn are_known(range: SaidRange, words: SaidRange) -> bool
+    ensures { result ≡ (range.known && words.known) }
+{
+    range.known && words.known
+}
+
 /// The second declaration of a signal, or else the first one.
 fn second_of<'a>(signals: &'a Signals, second: Option<Declaration<'a>>) -> &'a Signals
-    ensures sort { (header : Bool) → IsSortOf result.now (spec.second_sort (signal_sort signals.now header) (view.option scope.declaration second.entry)) }
+    ensures sort { (addresses : Option tree.RangeTree) (header : Bool) → IsSortOf result.now (spec.second_sort (signal_sort signals.now addresses header) (view.option scope.declaration second.entry)) }
     ensures shaped { Given IsRange (view.option view.range signals.now.range) → Given IsShaped (view.option scope.declaration second.entry)
         → Given IsRange (view.option view.range result.now.range) }
 {
@@ -142,8 +149,8 @@ fn second_fault(
     }
 }
 
-/// How many bits a signal of this range has.
-pub(crate) fn length_or_one(range: Option<Range>) -> u64
+/// How many bits a range has, or one bit.
+fn length_or_one(range: Option<Range>) -> u64
     ensures { result ≡ range_or_one range }
 {
     match range {
@@ -152,7 +159,18 @@ pub(crate) fn length_or_one(range: Option<Range>) -> u64
     }
 }
 
-/// One signal, of its one or two declarations: a variable, an input, signed where one of them says so.
+/// How many bits a signal has, a memory those of all its words.
+pub(crate) fn signal_length(s: &Signal<'_>) -> u64
+    ensures { result ≡ signal_length (scope.signal_meaning s.now).signal }
+{
+    let word = length_or_one(s.range);
+    match s.words {
+        None => word,
+        Some(r) => r.length() * word,
+    }
+}
+
+/// One signal, of its one or two declarations: a variable, an input, signed where one of them says so; a memory has one alone.
 pub(crate) fn said_signal<'a>(
     alloc: Global,
     here: &View<'_, 'a>,
@@ -160,15 +178,18 @@ pub(crate) fn said_signal<'a>(
     first: Declaration<'a>,
     second: Option<Declaration<'a>>,
     signals: &'a Signals,
+    addresses: &'a Option<vs_ast::Range>,
 ) -> Result<SaidSignal<'a>, AllocError>
     requires range { Given IsRange (view.option view.range signals.now.range) }
+    requires addresses { Given IsRange (view.option view.range addresses.now) }
     requires second { Given IsShaped (view.option scope.declaration second) }
     ensures { (header : Bool) → IfOk result (λ r. IsSaidSignal r (spec.said_signal (view_env here.now) (start_of start)
-        (record { first = scope.declaration first.entry; second = view.option scope.declaration second.entry }) (signal_sort signals.now header))) }
+        (record { first = scope.declaration first.entry; second = view.option scope.declaration second.entry }) (signal_sort signals.now (view.option view.range addresses.now) header))) }
 {
     let other = second_of(signals, second);
     let range = said_range(alloc, &signals.range, here)?;
     let second_range = said_range(alloc, &other.range, here)?;
+    let words = said_addresses(alloc, addresses, here)?;
     let is_input = is_input_of(signals.kind, other.kind);
     let signal = Signal {
         name: first.name.text.as_slice(),
@@ -180,8 +201,9 @@ pub(crate) fn said_signal<'a>(
         range: range.range,
         signed: is_signed(signals.signed, other.signed),
         first: start.bit,
+        words: words.range,
         is_input,
-        known: range.known,
+        known: are_known(range, words),
     };
     Ok(SaidSignal {
         signal,
@@ -210,21 +232,24 @@ fn signal_at<'a>(
     ensures { IfOk result (λ o. IsSignalAt o (spec.said_signals (view_env here.now) (start_of start) (record { first = scope.declaration first.entry; second = view.option scope.declaration second.entry } ∷ []))) }
 {
     match first.sort {
-        Sort::Signal { signals, .. } => {
-            let one = said_signal(alloc, here, start, first, second, signals)?;
+        Sort::Signal {
+            signals,
+            addresses,
+            ..
+        } => {
+            let one = said_signal(alloc, here, start, first, second, signals, addresses)?;
             Ok(Some(one))
         }
         _ => Ok(None),
     }
 }
 
-/// Where the next signal begins, behind one of this range. More signals or bits than 32 bits count are too many for memory.
-fn after(start: Start, range: Option<Range>) -> Result<Start, AllocError>
-    ensures { (m : SignalMeaning) → signal_length m.signal ≡ range_or_one range → IfOk result (λ r. start_of r ≡ spec.after (start_of start) m) }
+/// Where the next signal begins, behind this one. More signals than 32 bits count, and more bits than 64, are too many for memory.
+fn after(start: Start, s: &Signal<'_>) -> Result<Start, AllocError>
+    ensures { IfOk result (λ r. start_of r ≡ spec.after (start_of start) (scope.signal_meaning s.now)) }
 {
     let signal = start.signal.checked_add(1).ok_or(AllocError)?;
-    let length = u32::try_from(length_or_one(range)).map_err(|_| AllocError)?;
-    let bit = start.bit.checked_add(length).ok_or(AllocError)?;
+    let bit = start.bit.checked_add(signal_length(s)).ok_or(AllocError)?;
     Ok(Start {
         scope: start.scope,
         top: start.top,
@@ -253,7 +278,7 @@ pub(crate) fn said_signals<'a>(
         match signal_at(alloc, here, next, first, second)? {
             None => {}
             Some(one) => {
-                next = after(next, one.signal.range)?;
+                next = after(next, &one.signal)?;
                 fault = first_of(fault, one.fault);
                 signals.push(one.signal)?;
             }

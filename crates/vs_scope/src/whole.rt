@@ -100,13 +100,13 @@ fn next_scope(start: Start) -> Result<Start, AllocError>
 /// - `UnknownConstant`: a label of a generate `case` has unknown bits, or the value of a loop's variable has.
 /// - `UnknownName`, `DuplicateName`, `UnknownPort`: a name of the header's plain list without a direction, one that stands there again, and a direction of another name (12.3.3).
 /// - `DuplicateName`: a second declaration of a name (12.7), a block of a declared name, or a loop's variable that has a value again.
-/// - `BadRange`: a range that has no meaning, unequal ranges of one signal, or a negative value of a loop's variable.
+/// - `BadRange`: a range or addresses that have no meaning, unequal ranges of one signal, or a negative value of a loop's variable.
 /// - `UnknownName`, `WrongKind`: a loop's variable that is no genvar, and a second assignment to another name (12.4.1).
 /// - `GenerateTurns`: over 4,096 turns of one loop, or 1,048,576 of all.
 /// - `TooManyBits`: over 1,048,576 bits of all signals.
 /// - and what a constant breaks: `NotConstant`, `UnknownConstant`, `UnknownName`, `BadRange` and `WrongKind`.
 ///
-/// An error is want of memory; more scopes, signals, bits, constructs or turns than 32 bits count are too many, too.
+/// An error is want of memory; more scopes, signals, constructs or turns than 32 bits count, and more bits than 64, are too many, too.
 pub fn survey<'a>(
     alloc: Global,
     contents: Contents<'a>,

@@ -5,7 +5,7 @@ use Rattle.vs_scope.specs.MapViews.{pairs}
 use Rattle.vs_scope.specs.Declares.{entry_named, named_list, named_of}
 use Rattle.vs_scope.specs.Frames.{view_env}
 use Rattle.vs_scope.specs.Signalled.{start_of, IsSignalAt}
-use Rattle.vs_scope.proofs.SignalLoops.{IsSignalled, named_from, shaped_name, signalled_skip, signalled_more, signalled_as, signalled_next, length_is}
+use Rattle.vs_scope.proofs.SignalLoops.{IsSignalled, named_from, shaped_name, signalled_skip, signalled_more, signalled_as, signalled_next}
 use Rattle.vs_scope.proofs.signals.said_signals.Goals as goal
 use Rattle.vs_scope.proofs.signals.said_signals.Goals.{in-Some+in_ok-next-in-Some+in_ok-push-in-Some, in-None}
 
@@ -34,7 +34,7 @@ loop-i-preserved c =
           signalled_as env (start_of c.args.start) (start_of w.in_ok-next-in-Some.next) (start_of c.match-branch-2.next) (drop (suc i) ns) ns (c.loop-i.signals.items ++ w.in-Some.one.signal ∷ []) c.match-branch-2.signals.items w.first_of-fault.result c.match-branch-2.fault
           (ap start_of w.next-is) (ap (λ v. v.items) w.signals-is ∙ w.in_ok-push-in-Some.ensures.items) w.fault-is
           (signalled_more env (start_of c.args.start) (start_of c.loop-i.next) (start_of w.in_ok-next-in-Some.next) n (drop (suc i) ns) (drop i ns) ns c.loop-i.signals.items c.loop-i.fault w.first_of-fault.result w.in-Some.one s.0
-          here c.loop-i.invariant s.1 s.2 (w.in_ok-next-in-Some.ensures s.0.meaning (length_is w.in-Some.one s.0 s.2)) w.first_of-fault.ensures)
+          here c.loop-i.invariant s.1 s.2 (w.in_ok-next-in-Some.ensures ∙ ap (spec.after (start_of c.loop-i.next)) s.2.meaning) w.first_of-fault.ensures)
     ])
 
 len_map : {A B : Type 0} (f : A → B) (xs : List A) → length (map f xs) ≡ length xs

@@ -12,7 +12,7 @@ returns-in_ok-one-in-Signal c =
     let env = view_env c.args.here.now in
     let start = start_of c.args.start in
     let second = view.option scope.declaration c.args.second in (
-      spec.said_signal env start (record { first = scope.declaration c.args.first; second = second }) (signal_sort c.in-Signal.signals.now c.in-Signal.header),
+      spec.said_signal env start (record { first = scope.declaration c.args.first; second = second }) (signal_sort c.in-Signal.signals.now (view.option view.range c.in-Signal.addresses.now) c.in-Signal.header),
       ap (λ (x : Sort). spec.said_signals env start (record { first = record { name = view.name c.args.first.name.now; sort = scope.sort x }; second = second } ∷ [])) c.in-Signal.is,
       c.in_ok-one-in-Signal.ensures c.in-Signal.header,
     )
