@@ -11,7 +11,7 @@ use Rattle.vs_const.specs.Expressions.{typed}
 use Rattle.vs_const.proofs.Least.{least_append}
 use Rattle.vs_elaborated.specs.Environments.{Env, named}
 use Rattle.vs_elaborated.specs.Targets.{target_base, typed_target}
-use Rattle.vs_elaborated.specs.Statements.{typed_statement, typed_control}
+use Rattle.vs_elaborated.specs.Statements.{typed_statement, typed_control, is_clocked_by, unclocked_faults}
 use Rattle.vs_elaborated.specs.Generate.{Made}
 use Rattle.vs_elaborated.specs.Pieces.{all_said}
 use Rattle.vs_elaborated.specs.Instances.{Around}
@@ -44,7 +44,7 @@ module _ (e1 e2 : Env) (h : named e1 ≡ named e2) where
   wires_alike place xs = wires_have e1 place xs ∙ flat_alike (wire_faults e1) (wire_faults e2) (λ d. value_alike d.name d.value) xs ∙ sym (wires_have e2 place xs)
 
   pub block_alike : (b : tree.AlwaysBlock) → (block_said e1 b).faults ≡ (block_said e2 b).faults
-  block_alike b = ap (λ (find : Find). (typed_control b.control find).faults ++ (typed_statement b.statement find).faults) h
+  block_alike b = ap (λ (find : Find). (typed_control b.control find).faults ++ ((typed_statement b.statement find).faults ++ unclocked_faults (is_clocked_by b.control) b.statement find)) h
 
 -- ---- one item more
 

@@ -136,15 +136,15 @@ pub viewed : (v : Option Expr) → is_some (view.option view.expr v) ≡ is_some
 viewed None = refl
 viewed (Some e) = refl
 
-pub wire_counted : (env : Env) (place : ℕ) (n : tree.Name) (v : Option tree.Expr) → is_some v ≡ true → (Q : List Piece → Type 0) → ((p : Piece) → piece_processes p ≡ 1 → piece_place p ≡ place → Q (p ∷ []))
-    → (let d : tree.Declarator = record { name = n; value = v } in Q (wire_said env place d).pieces)
-wire_counted env place n None h Q k = cc
-wire_counted env place n (Some e) h Q k = k (Own (assign_process place (wire_assign n e) (named env))) refl refl
+pub wire_counted : (env : Env) (place : ℕ) (n : tree.Name) (a : Option tree.RangeTree) (v : Option tree.Expr) → is_some v ≡ true → (Q : List Piece → Type 0)
+    → ((p : Piece) → piece_processes p ≡ 1 → piece_place p ≡ place → Q (p ∷ [])) → (let d : tree.Declarator = record { name = n; addresses = a; value = v } in Q (wire_said env place d).pieces)
+wire_counted env place n a None h Q k = cc
+wire_counted env place n a (Some e) h Q k = k (Own (assign_process place (wire_assign n e) (named env))) refl refl
 
-pub wire_uncounted : (env : Env) (place : ℕ) (n : tree.Name) (v : Option tree.Expr) → is_some v ≡ false → (c : Count) (before : ℕ) (ps : List Piece) → IsCounted c before ps
-    → (let d : tree.Declarator = record { name = n; value = v } in IsCounted c before (ps ++ (wire_said env place d).pieces))
-wire_uncounted env place n None h c before ps k = counted_nothing c before ps k
-wire_uncounted env place n (Some e) h c before ps k = cc
+pub wire_uncounted : (env : Env) (place : ℕ) (n : tree.Name) (a : Option tree.RangeTree) (v : Option tree.Expr) → is_some v ≡ false → (c : Count) (before : ℕ) (ps : List Piece) → IsCounted c before ps
+    → (let d : tree.Declarator = record { name = n; addresses = a; value = v } in IsCounted c before (ps ++ (wire_said env place d).pieces))
+wire_uncounted env place n a None h c before ps k = counted_nothing c before ps k
+wire_uncounted env place n a (Some e) h c before ps k = cc
 
 -- instances of a module that the text doesn't have
 none_said : (around : Around) (place : ℕ) (os : List Override) (is : List tree.Instance) → (all_said (instance_said around place None os) is).pieces ≡ []

@@ -8,6 +8,7 @@ mod ConnectionSteps
 mod NamedConnections
 mod FaultLists
 mod OverrideFaults
+mod WrittenNames
 mod SelectFaults
 mod TargetFaults
 mod OutputFaults
@@ -20,5 +21,6 @@ mod CountedPorts
 mod SameNames
 mod ItemLists
 mod StatementFacts
+mod MemoryFacts
 mod BodyFaults
 mod FineConnections

@@ -1,18 +1,16 @@
 -- The faults of selects, without the bits.
-use Rattle.std.proofs.Common.{◌≡◌, ℕ, Bool, true, false, not, List, ◌++◌, Option, Some, None, refl, sym, ap}
+use Rattle.std.proofs.Common.{◌≡◌, ℕ, Bool, true, false, List, ◌++◌, Option, Some, None, refl, sym, ap}
 use Rattle.std.proofs.lemmas.List.{append-nil}
 use Rattle.vs_four.specs.declared.Range.{Range}
-use Rattle.vs_grammar.specs.Trees as tree
-use Rattle.vs_grammar.specs.Trees.{expr_place}
 use Rattle.vs_const.specs.declared.faults.Fault.{Fault}
 use Rattle.vs_const.specs.Faults.{fault_if}
 use Rattle.vs_const.specs.declared.rules.Rule.TheVariants.{BadRange}
-use Rattle.vs_const.specs.Meanings.{Find}
+use Rattle.vs_const.specs.Meanings.{Meaning, AValue, Undefined, ASignal, AMemory, Another, Unknown}
 use Rattle.vs_const.specs.Typed.{Typed, natural}
-use Rattle.vs_const.specs.Expressions.{typed}
 use Rattle.vs_const.specs.Selects.{taken, if_width, moving, is_against, along, between}
-use Rattle.vs_elaborated.specs.Targets.{target_base, selected_target}
-use Rattle.vs_items.specs.Selects.{against_faults, is_select, select_faults}
+use Rattle.vs_elaborated.specs.Targets.{meant_signal, target_base, part_target, bit_target}
+use Rattle.vs_items.specs.Selects.{against_faults}
+use Rattle.vs_items.specs.Written.{indexed_faults}
 
 taken_has : (declared : Option Range) (up : Bool) (n : ℕ) (index : Typed) (fs : List Fault) → (taken declared up n index fs).faults ≡ fs
 taken_has None up n index fs = refl
@@ -34,12 +32,14 @@ pub between_has : (declared : Option Range) (bracket place : ℕ) (range : Optio
 between_has declared bracket place None fs = sym (append-nil fs)
 between_has declared bracket place (Some r) fs = along_has (is_against declared r) declared bracket place r fs
 
-pub selected_has : (s : tree.Select) (name : tree.Name) (find : Find) (procedural : Bool)
-    → (selected_target s name find procedural).faults
-    ≡ (target_base procedural name.place (is_select s) (find name.bytes)).faults ++ select_faults (target_base procedural name.place (is_select s) (find name.bytes)).range s find (not procedural)
-selected_has tree.Whole name find procedural = sym (append-nil (target_base procedural name.place false (find name.bytes)).faults)
-selected_has (tree.BitAt bracket index) name find procedural =
-    let b = target_base procedural name.place true (find name.bytes) in
-    let i = typed index find (not procedural) in
-    ap (λ fs. b.faults ++ fs) (taken_has b.range true 1 i i.faults)
-selected_has (tree.Slice bracket kind e f) name find procedural = refl
+base_has : (procedural : Bool) (place : ℕ) (m : Meaning) (i : Typed) → (let b = target_base procedural place true m in (part_target (meant_signal m) b (taken b.range true 1 i i.faults)).faults) ≡ (target_base procedural place true m).faults ++ i.faults
+base_has procedural place m i = let b = target_base procedural place true m in ap (λ fs. b.faults ++ fs) (taken_has b.range true 1 i i.faults)
+
+-- a word of a memory, or a bit: the index breaks the same rules
+pub bit_has : (procedural : Bool) (place : ℕ) (m : Meaning) (i : Typed) → (bit_target procedural place m i).faults ≡ indexed_faults procedural place m ++ i.faults
+bit_has procedural place (AMemory m) i = refl
+bit_has procedural place (AValue v r) i = base_has procedural place (AValue v r) i
+bit_has procedural place (Undefined r) i = base_has procedural place (Undefined r) i
+bit_has procedural place (ASignal s) i = base_has procedural place (ASignal s) i
+bit_has procedural place Another i = base_has procedural place Another i
+bit_has procedural place Unknown i = base_has procedural place Unknown i

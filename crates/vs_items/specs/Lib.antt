@@ -12,6 +12,7 @@ pub mod Written
 pub mod Selects
 pub mod Outputs
 pub mod Items
+pub mod Memories
 pub mod Instances
 pub mod StatementFaults
 pub mod Stated

@@ -1,5 +1,5 @@
 -- The faults of selects.
-use Rattle.std.specs.Prelude.{ℕ, Bool, true, false, List, [], Option, Some, None}
+use Rattle.std.specs.Prelude.{ℕ, Bool, true, List, [], Option, Some, None}
 use Rattle.vs_four.specs.declared.Range.{Range}
 use Rattle.vs_grammar.specs.Trees as tree
 use Rattle.vs_grammar.specs.Trees.{expr_place}
@@ -18,14 +18,3 @@ against_faults declared bracket (Some r) = fault_if (is_against declared r) BadR
 -- of bits of a range
 abbrev pub slice_faults : Option Range → ℕ → tree.SliceKind → tree.Expr → tree.Expr → Find → Bool → List Fault
 slice_faults declared bracket kind e f find needed = (slice_taken declared bracket kind (expr_place e) (typed e find (first_needed kind needed)) (expr_place f) (typed f find true)).faults
-
--- whether bits are selected
-abbrev pub is_select : tree.Select → Bool
-is_select tree.Whole = false
-is_select _ = true
-
--- of a select, but for what it is taken of
-abbrev pub select_faults : Option Range → tree.Select → Find → Bool → List Fault
-select_faults declared tree.Whole find needed = []
-select_faults declared (tree.BitAt bracket index) find needed = (typed index find needed).faults
-select_faults declared (tree.Slice bracket kind e f) find needed = slice_faults declared bracket kind e f find needed

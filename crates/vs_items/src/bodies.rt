@@ -112,7 +112,8 @@ pub struct SaidItems {
 /// - `UnknownModule`: an instance of a module that the text doesn't have (12.1.2).
 /// - `DuplicateName`, `PortCount`, `UnknownPort`: a name that is connected or overridden twice, a wrong number of connections or too many overrides, and
 ///   a name that the module doesn't have (12.2.2, 12.3.5, 12.3.6).
-/// - `WrongKind`: what is assigned to, or connected to an output, is no net where it has to be one, or no variable (6.1, 9.2, 12.3.9.2).
+/// - `WrongKind`: what is assigned to, or connected to an output, is no net where it has to be one, or no variable (6.1, 9.2, 12.3.9.2), or a block without an
+///   edge among its events writes a word of a memory (4.9).
 /// - `TooManyProcesses`: where the first piece begins with which there are more than `most`.
 ///
 /// An error is want of memory.

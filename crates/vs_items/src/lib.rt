@@ -9,6 +9,7 @@ mod counts;
 mod instances;
 mod interfaces;
 mod items;
+mod memories;
 mod modules;
 mod noted;
 mod numbers;

@@ -1,6 +1,6 @@
 //! The faults of selects of targets (IEEE 1364-2005, 5.2.1 and table 6-1).
 
-ghost use Rattle.std.specs.Prelude.{◌≡◌, ◌++◌, Bool, IfOk};
+ghost use Rattle.std.specs.Prelude.{◌≡◌, ◌++◌, Bool, not, IfOk};
 ghost use Rattle.vs_grammar.specs.Trees as tree;
 ghost use Rattle.vs_grammar.specs.Trees.{expr_place};
 ghost use Rattle.vs_grammar.specs.Shapes.{IsExpr, IsSelect};
@@ -10,13 +10,13 @@ ghost use Rattle.vs_const.specs.Faults.{least};
 ghost use Rattle.vs_const.specs.Selects as selects;
 ghost use Rattle.vs_const.specs.Typed.{natural};
 ghost use Rattle.vs_elaborated.specs.Environments.{named};
-ghost use Rattle.vs_elaborated.specs.Targets.{selected_target};
+ghost use Rattle.vs_elaborated.specs.Targets.{bit_target, selected_target};
 ghost use Rattle.vs_scope.specs.Frames.{view_env};
-ghost use Rattle.vs_items.specs.Selects.{against_faults, is_select, select_faults, slice_faults};
+ghost use Rattle.vs_items.specs.Selects.{against_faults, slice_faults};
 
 use crate::numbers::{bounds_at, natural_at};
 use crate::values::expr_fault;
-use crate::written::base_of;
+use crate::written::{base_of, indexed_fault};
 use std::alloc::{AllocError, Global};
 use vs_ast::{Expr, Name, Select, SliceKind};
 use vs_const::{Fault, Rule, fault_if, first_of, is_against};
@@ -90,37 +90,20 @@ fn slice_fault(
     }
 }
 
-/// Whether bits are selected.
-fn is_select(select: &Select) -> bool
-    ensures { result ≡ is_select (view.select select.now) }
-{
-    match select {
-        Select::Whole => false,
-        _ => true,
-    }
-}
-
-/// The first rule that a select breaks, where it is taken of this range; `needed` says whether an index has to be a constant.
-fn select_fault(
+/// The first rule that `name[index]` breaks: a word of a memory (4.9.3), a bit of anything else.
+fn bit_fault(
     alloc: Global,
-    declared: Option<Range>,
-    select: &Select,
+    name: &Name,
+    index: &Expr,
     here: &View<'_, '_>,
-    needed: bool,
+    procedural: bool,
 ) -> Result<Option<Fault>, AllocError>
-    requires { IsSelect (view.select select.now) }
-    ensures { IfOk result (λ f. f ≡ least (select_faults declared (view.select select.now) (named (view_env here.now)) needed)) }
+    requires { IsExpr (view.expr index.now) }
+    ensures { IfOk result (λ f. f ≡ least (bit_target procedural name.now.place (named (view_env here.now) name.now.text) (typed (view.expr index.now) (named (view_env here.now)) (not procedural))).faults) }
 {
-    match select {
-        Select::Whole => Ok(None),
-        Select::Bit { index, .. } => expr_fault(alloc, index, here, needed),
-        Select::Slice {
-            bracket,
-            kind,
-            left,
-            right,
-        } => slice_fault(alloc, declared, *bracket, *kind, left, right, here, needed),
-    }
+    let indexed = indexed_fault(here, name, procedural);
+    let found = expr_fault(alloc, index, here, !procedural)?;
+    Ok(first_of(indexed, found))
 }
 
 /// The first rule that a name breaks as a target, with what is selected of it.
@@ -134,7 +117,27 @@ pub(crate) fn selected_fault(
     requires { IsSelect (view.select select.now) }
     ensures { IfOk result (λ f. f ≡ least (selected_target (view.select select.now) (view.name name.now) (named (view_env here.now)) procedural).faults) }
 {
-    let base = base_of(here, name, procedural, is_select(select));
-    let found = select_fault(alloc, base.range, select, here, !procedural)?;
-    Ok(first_of(base.fault, found))
+    match select {
+        Select::Whole => Ok(base_of(here, name, procedural, false).fault),
+        Select::Bit { index, .. } => bit_fault(alloc, name, index, here, procedural),
+        Select::Slice {
+            bracket,
+            kind,
+            left,
+            right,
+        } => {
+            let base = base_of(here, name, procedural, true);
+            let found = slice_fault(
+                alloc,
+                base.range,
+                *bracket,
+                *kind,
+                left,
+                right,
+                here,
+                !procedural,
+            )?;
+            Ok(first_of(base.fault, found))
+        }
+    }
 }

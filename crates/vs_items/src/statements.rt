@@ -12,6 +12,7 @@ ghost use Rattle.vs_elaborated.specs.Targets.{typed_target};
 ghost use Rattle.vs_scope.specs.Frames.{view_env};
 ghost use Rattle.vs_items.specs.StatementFaults.{arms_faults};
 
+use crate::memories::unclocked_fault;
 use crate::targets::target_fault;
 use crate::values::expr_fault;
 use std::alloc::{AllocError, Global};
@@ -151,7 +152,7 @@ fn arms_fault(
     Ok(fault)
 }
 
-/// The first rule that an always block breaks (9.9.2), in its event control or in its statement.
+/// The first rule that an always block breaks (9.9.2), in its event control or in its statement, or by a memory that it writes unclocked (4.9).
 pub(crate) fn block_fault(
     alloc: Global,
     b: &AlwaysBlock,
@@ -162,5 +163,6 @@ pub(crate) fn block_fault(
 {
     let waits = check_control(&b.control, here);
     let found = statement_fault(alloc, &b.statement, here)?;
-    Ok(first_of(waits, found))
+    let unclocked = unclocked_fault(b, here);
+    Ok(first_of(waits, first_of(found, unclocked)))
 }

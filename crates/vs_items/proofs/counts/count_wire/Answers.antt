@@ -7,9 +7,9 @@ use Rattle.vs_items.proofs.counts.count_wire.Goals as goal
 
 pub returns-then-is_some-clause-counted : goal.returns-then-is_some-clause-counted
 returns-then-is_some-clause-counted c = λ env before ps h.
-    wire_counted env c.args.place (view.name c.args.d.now.name) (view.option view.expr c.args.d.now.value) (viewed c.args.d.now.value ∙ sym c.is_some.ensures ∙ c.if-is_some.true)
+    wire_counted env c.args.place (view.name c.args.d.now.name) (view.option view.range c.args.d.now.addresses) (view.option view.expr c.args.d.now.value) (viewed c.args.d.now.value ∙ sym c.is_some.ensures ∙ c.if-is_some.true)
     (λ (qs : List Piece). IsCounted c.add.new.self before (ps ++ qs)) (λ p i j. c.add.ensures.counted before ps p h i j)
 
 pub returns-else-is_some-clause-counted : goal.returns-else-is_some-clause-counted
 returns-else-is_some-clause-counted c = λ env before ps h.
-    wire_uncounted env c.args.place (view.name c.args.d.now.name) (view.option view.expr c.args.d.now.value) (viewed c.args.d.now.value ∙ sym c.is_some.ensures ∙ c.if-is_some.false) c.args.count.now before ps h
+    wire_uncounted env c.args.place (view.name c.args.d.now.name) (view.option view.range c.args.d.now.addresses) (view.option view.expr c.args.d.now.value) (viewed c.args.d.now.value ∙ sym c.is_some.ensures ∙ c.if-is_some.false) c.args.count.now before ps h
