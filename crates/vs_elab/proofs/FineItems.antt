@@ -30,13 +30,13 @@ all_fine said shaped fine depth h (x ∷ xs) s d c =
 
 -- ---- declared names
 
-value_fine : (env : Env) (place : ℕ) (name : tree.Name) (v : Option tree.Expr)
-    → (let d : tree.Declarator = record { name = name; value = v } in IsDeclarator d → declarator_depth d ≤ depth_limit → (wire_said env place d).faults ≡ [] → IsFineWire env d)
-value_fine env place name None s h c = tt
-value_fine env place name (Some e) s h c = record { shaped = ((s.0, tt), s.1); clean = c; shallow = omega (arith, h) }
+value_fine : (env : Env) (place : ℕ) (name : tree.Name) (a : Option tree.RangeTree) (v : Option tree.Expr)
+    → (let d : tree.Declarator = record { name = name; addresses = a; value = v } in IsDeclarator d → declarator_depth d ≤ depth_limit → (wire_said env place d).faults ≡ [] → IsFineWire env d)
+value_fine env place name a None s h c = tt
+value_fine env place name a (Some e) s h c = record { shaped = ((s.0, tt), s.1); clean = c; shallow = omega (arith, h) }
 
 wire_fine : (env : Env) (place : ℕ) (d : tree.Declarator) → IsDeclarator d → declarator_depth d ≤ depth_limit → (wire_said env place d).faults ≡ [] → IsFineWire env d
-wire_fine env place d s h c = value_fine env place d.name d.value s h c
+wire_fine env place d s h c = value_fine env place d.name d.addresses d.value s h c
 
 pub wires_fine : (source : tree.Source) (around : Around) (t : tree.Signals) (m : Made) → IsFineItem source around (tree.SignalsItem t) m → Each (IsFineWire around.env) t.names
 wires_fine source around t m f =

@@ -19,5 +19,5 @@ pub part_fine : (source : tree.Source) (env : Env) (ps qs : List Part) (p : Part
 part_fine source env ps qs p e h k = each_more (IsFinePart source env) ps qs p e h k
 
 -- a name that has a value
-pub wire_given : (env : Env) (name : tree.Name) (v : Option tree.Expr) (e : tree.Expr) → v ≡ Some e → (let d : tree.Declarator = record { name = name; value = v } in IsFineWire env d) → IsFineAssign env (wire_assign name e)
-wire_given env name v e is h = subst (λ (o : Option tree.Expr). Given (λ (x : tree.Expr). IsFineAssign env (wire_assign name x)) o) is h
+pub wire_given : (env : Env) (name : tree.Name) (a : Option tree.RangeTree) (v : Option tree.Expr) (e : tree.Expr) → v ≡ Some e → (let d : tree.Declarator = record { name = name; addresses = a; value = v } in IsFineWire env d) → IsFineAssign env (wire_assign name e)
+wire_given env name a v e is h = subst (λ (o : Option tree.Expr). Given (λ (x : tree.Expr). IsFineAssign env (wire_assign name x)) o) is h

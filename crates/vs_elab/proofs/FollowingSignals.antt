@@ -10,4 +10,4 @@ pub counted_follow : (scopes scope n b : ℕ) (ss : List Signal) → AreCounted 
 counted_follow scopes scope n b [] c h k = tt
 counted_follow scopes scope n b (s ∷ ss) c h k =
     let e = sum_by-cons signal_length s ss in
-    (c.0, subst (λ m. m < scopes) (sym c.2) h, omega (arith, e, k), counted_follow scopes scope (n + 1) (b + signal_length s) ss c.3 h (omega (arith, e, k)))
+    (c.0, c.1, subst (λ m. m < scopes) (sym c.2) h, omega (arith, e, k), counted_follow scopes scope (n + 1) (b + signal_length s) ss c.3 h (omega (arith, e, k)))

@@ -167,7 +167,7 @@ module _ (text : Text) (whole : IsText text) (old : Reading) (stack : List Pendi
             ports_wirable names ports =
                 subst (λ (ys : List Connection). AreWirable (design_so_far mid) (named here) (entries x.names) ys) (sym same)
                 (subst (λ (es : List Entry). AreWirable (design_so_far mid) (named here) es cs) (sym names_are)
-                (instance_wirable text old stack at t i m fine.found mid ps whole_opened cs here names ports pend.within seen said_is each_fine))
+                (instance_wirable text old stack at t i m fine.found mid ps whole_opened cs here names ports module_shaped pend.within seen said_is each_fine))
 
             -- the step is done
             pub all_done : (new : Reading) (rest : List Pending) → new.frames.items ≡ mid.frames.items → new.counts ≡ mid.counts

@@ -5,7 +5,7 @@ use Rattle.std.specs.Borrow.{Bor}
 use Rattle.std.proofs.lemmas.List.{append-nil}
 use Rattle.vs_design.specs.Designs.{Process, Design}
 use Rattle.vs_grammar.specs.Trees as tree
-use Rattle.vs_grammar.specs.Shapes.{Each}
+use Rattle.vs_grammar.specs.Shapes.{Each, IsModule}
 use Rattle.vs_ast.specs.declared.items.Instance.{Instance as CodeInstance}
 use Rattle.vs_ast.specs.declared.items.Instances.{Instances as CodeInstances}
 use Rattle.vs_ast.specs.Views as view
@@ -200,16 +200,16 @@ module _ (text : Text) (old : Reading) (stack : List Pending) (at : Standing) (t
     count_more = ap (λ (fs : List Frame). length fs) opened.frames ∙ length-append old.frames.items (opened.frame ∷ [])
 
     -- its ports can be built
-    pub instance_wirable : (cs : List Connection) (here : Env) → NamesAreSound → InstancesHavePorts → at.frame < length old.frames.items → here ≡ env_at (envs mid.frames.items) (Some at.frame)
+    pub instance_wirable : (cs : List Connection) (here : Env) → NamesAreSound → InstancesHavePorts → IsModule m → at.frame < length old.frames.items → here ≡ env_at (envs mid.frames.items) (Some at.frame)
         → said (env_at (envs old.frames.items) (Some at.frame)) cs ≡ ports_at old at i m → Each (IsFineConnected (env_at (envs old.frames.items) (Some at.frame))) cs
         → AreWirable (design_so_far mid) (named here) own.entries cs
-    instance_wirable cs here sound meant h e s f =
+    instance_wirable cs here sound meant shaped h e s f =
         let env : Env = env_at (envs old.frames.items) (Some at.frame) in
         let d : Design = design_so_far mid in
         let seen = subst (λ (x : Env). AreSoundFrames d false x.frames) (around_kept h) (opened.read.seen at.frame (let n = count_more in omega (arith, n, h))) in
         let inside = subst (λ (x : Env). AreSoundFrames d false x.frames) opened.seen (opened.read.seen (length old.frames.items) (let n = count_more in omega (arith, n))) in
         let all = meant d the_limits (source_of text) (around_of old at) (view.instances t.now).of.place (Some m) (said_overrides (view.instances t.now).of (Some m) (view.instances t.now).overrides env).overrides (view.instance i.now) in
-        let mean = all.0 (counted (task_at old at t i m) (totals_of old.counts)) (faultless own.faults opened.fair) inside.0 in
+        let mean = all.0 (counted (task_at old at t i m) (totals_of old.counts)) shaped (faultless own.faults opened.fair) inside.0 in
         subst (λ (x : Env). AreWirable d (named x) own.entries cs) (sym (e ∙ around_kept h))
         (ports.wired d env own.entries cs (sound d false env seen) f (subst (λ (xs : List pieces.Connection). Each (λ (c : pieces.Connection). MeansSignal d own.entries (connection_name c)) xs) (sym s) mean))
 

@@ -15,6 +15,7 @@ mod PendingStacks
 mod SignalsFollow
 mod SameOverrides
 mod MoreFrames
+mod WiderScopes
 mod FineParts
 mod FineItems
 mod WiredPorts
@@ -29,7 +30,6 @@ mod SoundInstances
 mod InstanceReads
 mod InstanceCalls
 mod NewSignals
-mod WiderScopes
 mod FineScopes
 mod OpenedScopes
 mod CountedScopes

@@ -1,5 +1,5 @@
 -- A scope is opened: its parts are pending in its place.
-use Rattle.std.proofs.Common.{◌≡◌, ℕ, suc, ◌+◌, ◌<◌, ◌≤◌, ◌^◌, Bool, true, false, List, [], ◌∷◌, ◌++◌, length, length-append, map, Option, Some, None, if◌then◌else◌, refl, sym, ap, ◌∙◌, subst, arith}
+use Rattle.std.proofs.Common.{◌≡◌, ℕ, suc, ◌+◌, ◌<◌, ◌≤◌, ◌^◌, Bool, true, false, List, [], ◌∷◌, ◌++◌, length, length-append, map, Option, Some, if◌then◌else◌, refl, sym, ap, ◌∙◌, subst, arith}
 use Rattle.std.specs.Prelude.{Result, Err, IfErr, option_to_list, sum_by}
 use Rattle.std.specs.Result.{IsErrAnd}
 use Rattle.std.proofs.lemmas.Result.{err_from_is_err_and}
@@ -11,11 +11,10 @@ use Rattle.vs_grammar.specs.Trees as tree
 use Rattle.vs_grammar.specs.Shapes.{Each}
 use Rattle.vs_const.specs.declared.faults.Fault.{Fault}
 use Rattle.vs_elaborated.specs.Limits.{the_limits}
-use Rattle.vs_elaborated.specs.Environments.{Env, Entry, Later, OfSignal, OfParameter, OfGenvar, OfScope, Declared}
+use Rattle.vs_elaborated.specs.Environments.{Env}
 use Rattle.vs_elaborated.specs.Pieces.{Task, Piece, Within, is_instance}
 use Rattle.vs_elaborated.specs.Surveys.{Totals, survey, piece_processes}
 use Rattle.vs_elaborated.specs.Elaborated.{both_designs, counted, read_scope}
-use Rattle.vs_elaborated.specs.Sound.{IsSoundDeclared, AreSoundEntries, AreSoundFrames}
 use Rattle.vs_build.proofs.Wider.{IsWider, same_signals}
 use Rattle.vs_scope.specs.declared.frames.Frame.{Frame}
 use Rattle.vs_scope.specs.Frames.{env_at, envs}
@@ -34,7 +33,7 @@ use Rattle.vs_elab.specs.Stacks.{built_then, pending, rest_of, scope_part, work}
 use Rattle.vs_elab.proofs.MoreFrames.{each_behind, env_kept, stack_kept}
 use Rattle.vs_elab.proofs.PendingStacks.{stack_behind}
 use Rattle.vs_elab.proofs.Stacks.{within_fails, within_step}
-use Rattle.vs_elab.proofs.Wider.{signal_wider}
+use Rattle.vs_elab.proofs.WiderScopes.{frames_wider}
 use Rattle.vs_elab.proofs.Work.{within_less}
 
 -- ---- lists
@@ -109,24 +108,7 @@ are_within source fs (p ∷ ps) h = (h.0.within, are_within source fs ps h.1)
 
 -- ---- names in a design that has more
 
-declared_wider : (c d : Design) → IsWider c d → (needed : Bool) (x : Declared) → IsSoundDeclared c needed x → IsSoundDeclared d needed x
-declared_wider c d w needed Later h = tt
-declared_wider c d w needed (OfSignal s) h = signal_wider c d w needed s h
-declared_wider c d w needed (OfParameter (Some v) (Some r)) h = h
-declared_wider c d w needed (OfParameter (Some v) None) h = h
-declared_wider c d w needed (OfParameter None r) h = h
-declared_wider c d w needed OfGenvar h = tt
-declared_wider c d w needed OfScope h = tt
-
-pub entries_wider : (c d : Design) → IsWider c d → (needed : Bool) (es : List Entry) → AreSoundEntries c needed es → AreSoundEntries d needed es
-entries_wider c d w needed [] h = tt
-entries_wider c d w needed (e ∷ es) h = (declared_wider c d w needed e.declared h.0, entries_wider c d w needed es h.1)
-
-pub frames_wider : (c d : Design) → IsWider c d → (needed : Bool) (fs : List (List Entry)) → AreSoundFrames c needed fs → AreSoundFrames d needed fs
-frames_wider c d w needed [] h = tt
-frames_wider c d w needed (f ∷ fs) h = (entries_wider c d w needed f h.0, frames_wider c d w needed fs h.1)
-
-pub seen_wider : (c d : Design) → IsWider c d → (frames : List Frame) → AreSeen c frames → AreSeen d frames
+seen_wider : (c d : Design) → IsWider c d → (frames : List Frame) → AreSeen c frames → AreSeen d frames
 seen_wider c d w frames h = λ i within. frames_wider c d w false (env_at (envs frames) (Some i)).frames (h i within)
 
 -- ---- processes more

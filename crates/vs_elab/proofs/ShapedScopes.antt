@@ -2,7 +2,7 @@
 use Rattle.std.proofs.Common.{◌≡◌, max, List, [], ◌∷◌, Option, refl, sym, ap, subst}
 use Rattle.vs_grammar.specs.Trees as tree
 use Rattle.vs_grammar.specs.Trees.{items_list}
-use Rattle.vs_grammar.specs.Shapes.{Each, OneOrMore, Given, IsExpr, IsPlain, IsDeclarator, AreNames, IsAssign, IsGenerateItem, IsItem, AreItems}
+use Rattle.vs_grammar.specs.Shapes.{Each, OneOrMore, Given, IsExpr, IsPlain, IsDeclarator, IsVariable, IsNet, IsPort, AreNames, IsAssign, IsGenerateItem, IsItem, AreItems}
 use Rattle.vs_grammar.specs.Depths.{deepest, item_depth, items_depth}
 use Rattle.vs_ast.specs.Views as view
 use Rattle.vs_scope.specs.declared.contents.Contents.{Contents}
@@ -16,26 +16,31 @@ use Rattle.vs_items.specs.Stated.{IsStated, AreStated}
 plain_declarator : (d : tree.Declarator) → IsPlain d → IsDeclarator d
 plain_declarator d x = (x.0, subst (λ (v : Option tree.Expr). Given IsExpr v) (sym x.1) tt)
 
-plains : (ds : List tree.Declarator) → Each IsPlain ds → Each IsDeclarator ds
-plains [] x = tt
-plains (d ∷ ds) x = (plain_declarator d x.0, plains ds x.1)
+some_declarators : (P : tree.Declarator → Type 0) → ((d : tree.Declarator) → P d → IsDeclarator d) → (ds : List tree.Declarator) → OneOrMore P ds → Each IsDeclarator ds
+some_declarators P f [] x = tt
+some_declarators P f (d ∷ ds) x = each (d ∷ ds) x
+  where
+    each : (xs : List tree.Declarator) → Each P xs → Each IsDeclarator xs
+    each [] h = tt
+    each (y ∷ ys) h = (f y h.0, each ys h.1)
 
-some_plains : (ds : List tree.Declarator) → OneOrMore IsPlain ds → Each IsDeclarator ds
-some_plains [] x = tt
-some_plains (d ∷ ds) x = plains (d ∷ ds) x
+some_variables : (ds : List tree.Declarator) → OneOrMore IsVariable ds → Each IsDeclarator ds
+some_variables ds x = some_declarators IsVariable (λ d h. plain_declarator d h.0) ds x
 
-some_declarators : (ds : List tree.Declarator) → OneOrMore IsDeclarator ds → Each IsDeclarator ds
-some_declarators [] x = tt
-some_declarators (d ∷ ds) x = x
+some_nets : (ds : List tree.Declarator) → OneOrMore IsNet ds → Each IsDeclarator ds
+some_nets ds x = some_declarators IsNet (λ d h. h.0) ds x
+
+some_ports : (ds : List tree.Declarator) → OneOrMore IsPort ds → Each IsDeclarator ds
+some_ports ds x = some_declarators IsPort (λ d h. plain_declarator d h.0) ds x
 
 names_stated : (k : tree.SignalKind) (ds : List tree.Declarator) → AreNames k ds → Each IsDeclarator ds
-names_stated tree.Input ds x = some_plains ds x
-names_stated tree.InputWire ds x = some_plains ds x
-names_stated tree.Output ds x = some_plains ds x
-names_stated tree.OutputWire ds x = some_plains ds x
-names_stated tree.OutputReg ds x = some_plains ds x
-names_stated tree.Reg ds x = some_plains ds x
-names_stated tree.Wire ds x = some_declarators ds x
+names_stated tree.Input ds x = some_ports ds x
+names_stated tree.InputWire ds x = some_ports ds x
+names_stated tree.Output ds x = some_ports ds x
+names_stated tree.OutputWire ds x = some_ports ds x
+names_stated tree.OutputReg ds x = some_ports ds x
+names_stated tree.Reg ds x = some_variables ds x
+names_stated tree.Wire ds x = some_nets ds x
 
 some_assigns : (xs : List tree.Assign) → OneOrMore IsAssign xs → Each IsAssign xs
 some_assigns [] x = tt

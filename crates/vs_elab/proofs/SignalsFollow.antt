@@ -1,7 +1,7 @@
 -- Signals behind those of a design, one after the other.
-use Rattle.std.proofs.Common.{◌≡◌, ℕ, zero, suc, ◌+◌, ◌<◌, ◌≤◌, ◌^◌, false, None, List, [], ◌∷◌, length, length-append, get_or, take, map, refl, sym, ap, ◌∙◌, subst, append_assoc, arith}
+use Rattle.std.proofs.Common.{◌≡◌, ℕ, zero, suc, ◌+◌, ◌<◌, ◌≤◌, ◌^◌, List, [], ◌∷◌, length, length-append, get_or, take, map, refl, sym, ap, ◌∙◌, subst, append_assoc, arith}
 use Rattle.std.specs.Prelude.{sum_by}
-use Rattle.std.proofs.lemmas.List.{append-nil, get_or_default}
+use Rattle.std.proofs.lemmas.List.{append-nil}
 use Rattle.std.proofs.lemmas.List.Sums.{sum_by-append, sum_by-cons}
 use Rattle.vs_design.specs.Expressions as design
 use Rattle.vs_design.specs.Expressions.{signal_length}
@@ -11,19 +11,10 @@ use Rattle.vs_scope.specs.declared.names.Signal.{Signal}
 use Rattle.vs_elab.specs.Opening.{signal, Follow, and_signals}
 use Rattle.vs_elab.proofs.Sequences.{one_more}
 
--- the i-th of them
-abbrev no_signal : Signal
-no_signal = record { name = record { ref_ptr = (0, 0); now = [] }; place = 0; scope = 0; number = 0; net = false; input = false; range = None; signed = false; first = 0; is_input = false; known = false }
-
-abbrev pub item_at : List Signal → ℕ → Signal
-item_at xs i = get_or xs i no_signal
-
-pub item_is : (xs : List Signal) (i : ℕ) → i < length xs → item_at xs i ≡ get_or xs i (item_at xs i)
-item_is xs i h = get_or_default xs i no_signal (item_at xs i) h
-
 -- what holds of one of them
 pub record Follows (scopes n b : ℕ) (s : design.Signal) : Type 0 where
   pub number : s.number ≡ n
+  pub first : s.first ≡ b
   pub scope : s.scope < scopes
   pub bits : b + signal_length s ≤ 2 ^ 20
 
@@ -31,11 +22,11 @@ follow_at : (scopes n b : ℕ) (xs : List Signal) (i : ℕ) (x : Signal) → i <
     → Follows scopes (n + i) (b + sum_by signal_length (map signal (take i xs))) (signal x)
 follow_at scopes n b [] i x h e f = absurd (let no : ⊥ = omega (arith, h) in no)
 follow_at scopes n b (y ∷ ys) zero x h e f =
-    subst (λ (s : Signal). Follows scopes (n + 0) (b + 0) (signal s)) (sym e) (record { number = f.0 ∙ (let k : n ≡ n + 0 = omega arith in k); scope = f.1; bits = omega (arith, f.2) })
+    subst (λ (s : Signal). Follows scopes (n + 0) (b + 0) (signal s)) (sym e) (record { number = f.0 ∙ (let k : n ≡ n + 0 = omega arith in k); first = f.1 ∙ (let k : b ≡ b + 0 = omega arith in k); scope = f.2; bits = omega (arith, f.3) })
 follow_at scopes n b (y ∷ ys) (suc i) x h e f =
-    let r = follow_at scopes (n + 1) (b + signal_length (signal y)) ys i x (omega (arith, h)) e f.3 in
+    let r = follow_at scopes (n + 1) (b + signal_length (signal y)) ys i x (omega (arith, h)) e f.4 in
     let s = sum_by-cons signal_length (signal y) (map signal (take i ys)) in
-    record { number = r.number ∙ (let k : (n + 1) + i ≡ n + suc i = omega arith in k); scope = r.scope; bits = let q = r.bits in omega (arith, q, s) }
+    record { number = r.number ∙ (let k : (n + 1) + i ≡ n + suc i = omega arith in k); first = let p = r.first in omega (arith, p, s); scope = r.scope; bits = let q = r.bits in omega (arith, q, s) }
 
 pub signals_nothing : (s : Draft) → s ≡ and_signals s []
 signals_nothing s = ap (λ ss. let t : Draft = record s { design = record s.design { signals = ss } } in t) (sym (append-nil s.design.signals))
@@ -61,4 +52,4 @@ next_follows s t xs i x h e is f =
     let a = length-append s.design.signals (map signal (take i xs)) in
     let b = taken xs i h in
     let d = sum_by-append signal_length s.design.signals (map signal (take i xs)) in
-    record { number = r.number ∙ sym (a ∙ ap (λ n. length s.design.signals + n) b); scope = r.scope; bits = let q = r.bits in omega (arith, q, d) })
+    record { number = r.number ∙ sym (a ∙ ap (λ n. length s.design.signals + n) b); first = r.first ∙ sym d; scope = r.scope; bits = let q = r.bits in omega (arith, q, d) })

@@ -2,7 +2,7 @@
 use Rattle.std.proofs.Common.{◌≡◌, ◌<◌, ◌≤◌, Bool, false, List, [], ◌∷◌, ◌++◌, length, length-append, Some, None, sym, subst, arith, ◌⊎◌, inl, inr}
 use Rattle.std.proofs.lemmas.Bool.{cases_lt}
 use Rattle.vs_design.specs.Designs.{Design}
-use Rattle.vs_elaborated.specs.Environments.{Declared, Later, OfSignal, OfParameter, OfGenvar, OfScope, Entry, Env, within}
+use Rattle.vs_elaborated.specs.Environments.{Declared, Later, OfSignal, OfParameter, OfGenvar, OfScope, Entry, Env, within, signal_means}
 use Rattle.vs_elaborated.specs.Parameters.{Override}
 use Rattle.vs_elaborated.specs.Pieces.{Task}
 use Rattle.vs_elaborated.specs.Surveys.{overrides_of}
@@ -12,12 +12,12 @@ use Rattle.vs_scope.specs.declared.frames.Frame.{Frame}
 use Rattle.vs_scope.specs.Frames.{env_at, envs}
 use Rattle.vs_elab.specs.Reading.{AreSeen}
 use Rattle.vs_elab.proofs.MoreFrames.{env_kept}
-use Rattle.vs_elab.proofs.Wider.{signal_wider}
+use Rattle.vs_elab.proofs.Wider.{meaning_wider}
 
 module _ (c d : Design) (w : IsWider c d) where
   declared_wider : (needed : Bool) (x : Declared) → IsSoundDeclared c needed x → IsSoundDeclared d needed x
   declared_wider needed Later h = h
-  declared_wider needed (OfSignal s) h = signal_wider c d w needed s h
+  declared_wider needed (OfSignal s) h = meaning_wider c d w needed (signal_means s) h
   declared_wider needed (OfParameter (Some v) (Some r)) h = h
   declared_wider needed (OfParameter (Some v) None) h = h
   declared_wider needed (OfParameter None r) h = h

@@ -8,7 +8,7 @@ use Rattle.vs_ast.specs.Views as view
 use Rattle.vs_const.specs.Expressions.{typed}
 use Rattle.vs_elaborated.specs.Environments.{Env, named}
 use Rattle.vs_elaborated.specs.Targets.{typed_target}
-use Rattle.vs_elaborated.specs.Statements.{typed_control, typed_statement}
+use Rattle.vs_elaborated.specs.Statements.{typed_control, typed_statement, is_clocked_by, unclocked_faults}
 use Rattle.vs_elaborated.specs.Generate.{Nested, Made}
 use Rattle.vs_elaborated.specs.Ports.{find_module}
 use Rattle.vs_elaborated.specs.Instances.{Around, said_overrides, said_connections}
@@ -31,10 +31,10 @@ pub record IsFineAssign (env : Env) (a : tree.Assign) : Type 0 where
 abbrev pub IsFineWire : Env → tree.Declarator → Type 0
 IsFineWire env d = Given (λ (e : tree.Expr). IsFineAssign env (wire_assign d.name e)) d.value
 
--- an always block (9.9.2)
+-- an always block (9.9.2); a clocked one alone writes words of memories (4.9)
 pub record IsFineBlock (env : Env) (b : tree.AlwaysBlock) : Type 0 where
   pub shaped : IsStatement b.statement
-  pub clean : (typed_control b.control (named env)).faults ++ (typed_statement b.statement (named env)).faults ≡ []
+  pub clean : (typed_control b.control (named env)).faults ++ ((typed_statement b.statement (named env)).faults ++ unclocked_faults (is_clocked_by b.control) b.statement (named env)) ≡ []
   pub shallow : statement_depth b.statement ≤ depth_limit
 
 -- an instance of an item, whose module the text has (12.1.2)

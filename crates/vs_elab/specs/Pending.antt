@@ -1,5 +1,5 @@
 -- What the code keeps of what is still to be read.
-use Rattle.std.specs.Prelude.{◌<◌, ℕ, List, [], ◌∷◌, map, flat_map, reverse, Some}
+use Rattle.std.specs.Prelude.{◌<◌, ℕ, List, [], ◌∷◌, map, flat_map, reverse, Some, None}
 use Rattle.vs_grammar.specs.Trees as tree
 use Rattle.vs_grammar.specs.Shapes.{Each}
 use Rattle.vs_ast.specs.Views as view
@@ -23,7 +23,7 @@ instance_pieces source around t i =
 
 -- a part of a scope, where this stands around it
 abbrev pub part_pieces : tree.Source → Around → Part → List Piece
-part_pieces source around (Wire place name value) = (wire_said around.env place (record { name = view.name name.now; value = Some (view.expr value.now) })).pieces
+part_pieces source around (Wire place name value) = (wire_said around.env place (record { name = view.name name.now; addresses = None; value = Some (view.expr value.now) })).pieces
 part_pieces source around (Assigned place a) = (assign_said around.env place (view.assign a.now)).pieces
 part_pieces source around (Always b) = (block_said around.env (view.always_block b.now)).pieces
 part_pieces source around (Instance t i) = instance_pieces source around (view.instances t.now) (view.instance i.now)

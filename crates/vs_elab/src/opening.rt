@@ -1,4 +1,4 @@
-//! A scope and its signals in the flat design (IEEE 1364-2005, 3.2 and 12.1).
+//! A scope and its signals in the flat design (IEEE 1364-2005, 3.2, 4.9 and 12.1).
 
 ghost use Rattle.std.specs.Prelude.{◌≡◌, ◌+◌, ◌≤◌, ◌<◌, ◌^◌, Some, OnOk, IsTrue, length, map, option_to_list};
 ghost use Rattle.vs_design.specs.Designs.{bit_count};
@@ -34,9 +34,10 @@ pub(crate) fn add_scope(
     Ok(())
 }
 
-/// Adds a signal, which has the first free number.
+/// Adds a signal, which has the first free number, and its bits from the first free one on.
 fn add_signal(builder: &mut Builder, alloc: Global, s: &Signal<'_>) -> Result<(), AllocError>
     requires number { s.now.number ≡ length (draft builder.old).design.signals }
+    requires first { s.now.first ≡ bit_count (draft builder.old).design }
     requires scope { s.now.scope < length (draft builder.old).design.scopes }
     requires bits { bit_count (draft builder.old).design + signal_length (signal s.now) ≤ 2 ^ 20 }
     ensures { OnOk result (draft builder.new ≡ and_signal (draft builder.old) (signal s.now)) }
@@ -49,8 +50,8 @@ fn add_signal(builder: &mut Builder, alloc: Global, s: &Signal<'_>) -> Result<()
         input: s.input,
         range: s.range,
         signed: s.signed,
-        first_bit: s.first,
-        words: None,
+        first_bit: s.first as u32,
+        words: s.words,
     })?;
     Ok(())
 }

@@ -111,11 +111,11 @@ fn read_top<'a>(alloc: Global, text: &Text<'a>, top: &Known<'a>) -> Result<Readi
 /// - `DuplicateModule`: the second module of a name.
 /// - `UnknownModule`: an instance of a module that the text doesn't have.
 /// - `UnknownName`, `DuplicateName`: a name that isn't declared, or is twice (12.7).
-/// - `BadRange`: a range, a select or a number of copies that has no meaning.
+/// - `BadRange`: a range, the addresses of a memory, a select or a number of copies that has no meaning.
 /// - `PortCount`, `UnknownPort`: too many connections or overrides, and one of a name that the module doesn't have (12.2, 12.3).
 /// - `InstanceDepth`, `TooManyInstances`: over 32 instances within one another, and over 4,096 in all.
 /// - `GenerateTurns`: over 4,096 turns of one generate loop, or 1,048,576 of all (12.4.1).
-/// - `WrongKind`: a name of another kind than is needed there.
+/// - `WrongKind`: a name of another kind than is needed there, and a memory of which a block writes a word that isn't clocked (4.9).
 /// - `TooManyBits`, `TooManyProcesses`: over 1,048,576 bits, and over 65,536 processes.
 ///
 /// Or it is want of memory. It takes time linear in the text and in what the generate constructs and instances make of it.
