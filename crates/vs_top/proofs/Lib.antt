@@ -8,4 +8,3 @@ pub mod Refusals
 pub mod Lawful
 pub mod Benches
 pub mod Stores
-pub mod Flushing
