@@ -184,7 +184,7 @@ FAMILIES = {
     "variable selects": ((1000, 2000, 4000), lambda n: "module top(input clk, input [63:0] a); wire " + many(n, "w@ = a[a[5:0]]", ",") + "; endmodule\n"),
     "sums": ((16000, 32000, 64000), lambda n: "module top(input clk, input [63:0] a); wire [15:0] " + many(n, "w@ = a + 1", ",") + "; endmodule\n"),
     # memories
-    "memories of one bit": ((60000, 120000, 240000), lambda n: HEAD + "assign y = a; reg " + many(n, "m@[0:0]", ",") + "; endmodule\n"),
+    "memories of one bit": ((40000, 80000, 160000), lambda n: HEAD + "assign y = a; reg " + many(n, "m@[0:0]", ",") + "; endmodule\n"),
     "memories of 65,536 bits": ((4, 8, 15), lambda n: HEAD + "assign y = a; reg [63:0] " + many(n, "m@ [0:1023]", ", ") + "; endmodule\n"),
     "memories of more bits than a design has": ((16000, 32000, 64000), lambda n: HEAD + "assign y = a; reg [63:0] " + many(n, "m@ [0:1023]", ", ") + "; endmodule\n"),
     "reads of a memory of 65,536 bits": ((30, 60, 120), lambda n: HEAD + "assign y = a; reg [63:0] m [0:1023]; wire " + many(n, "w@ = m[a]", ", ") + "; endmodule\n"),
