@@ -1,6 +1,6 @@
 //! Runs over a desk in memory on which calls fail.
 
-ghost use Rattle.std.specs.Prelude.{◌<◌, ◌+◌, ◌^◌};
+ghost use Rattle.std.specs.Prelude.{◌<◌};
 
 use crate::runs::{AND, desk_with, run_words, words};
 use std::alloc::{AllocError, Global};
@@ -13,6 +13,9 @@ const TWO_LANES: &str = "c run --top top --clock clk d.v s0 s1";
 
 /// Six lanes of one vector.
 const SIX_LANES: &str = "c run --top top --clock clk d.v s1 s2 s3 s4 s5 s6";
+
+/// Two lanes, of which the second has no vector in its third line.
+const REFUSED_LATER: &str = "c run --top top --clock clk d.v s0 s7";
 
 /// Runs a line on a desk on which the calls of these numbers fail, and answers the status.
 fn run_failing(
@@ -33,6 +36,7 @@ fn run_failing(
         ("s4", short),
         ("s5", short),
         ("s6", short),
+        ("s7", "inputs a b\n1 0\n1 2\n"),
     ];
     let mut desk = desk_with(alloc, piece, &files)?;
     desk.fail_at(failing)?;
@@ -42,9 +46,9 @@ fn run_failing(
 }
 
 /// Where call n fails, one count has risen, each waveform is some first part of the whole one, and the
-/// report is the fault's line, behind some first part of the line that was lost. Where the put behind
-/// it fails too, all is the same but that this line is lost. A read that fails before the first round
-/// has touched no waveform.
+/// report is the fault's line, behind some first part of the line that was lost. Where a put of the
+/// fault's line fails too, all is the same but that this line is cut. A read that fails before the
+/// first round has touched no waveform.
 fn expect_fault(
     rt: &impl Abort,
     alloc: Global,
@@ -52,11 +56,15 @@ fn expect_fault(
     n: u64,
     whole: &MemoryDesk,
 ) -> Result<(), Fail>
-    requires piece { 0 < piece }
-    requires number { n + 1 < 2 ^ 64 }
+    requires { 0 < piece }
 {
     let (code, desk) = run_failing(alloc, piece, TWO_LANES, &[n])?;
-    let (again, lost) = run_failing(alloc, piece, TWO_LANES, &[n, n + 1])?;
+    let put = if desk.losses() == 1 {
+        n.saturating_add(1)
+    } else {
+        desk.calls().saturating_sub(1)
+    };
+    let (again, lost) = run_failing(alloc, piece, TWO_LANES, &[n, put])?;
     assert_eq!(rt; code, again, "call {n}");
     for place in [2000, 2001] {
         assert!(rt;
@@ -130,8 +138,8 @@ fn faults_at_late_places(rt: HostRuntime) -> Result<(), Fail> {
     Ok(())
 }
 
-/// A waveform gets its head and first round by one put, each later round by one, and its last line by one. With the attach these are
-/// the calls that fail at its place, if they do.
+/// A waveform gets its head and first round by one put, each later round by one, and its last line by
+/// one. With the attach and the flush these are the calls that fail at its place, if they do.
 #[test]
 fn a_put_for_each_round(rt: HostRuntime) -> Result<(), Fail> {
     let (_, whole) = run_failing(rt.alloc(), 4096, TWO_LANES, &[])?;
@@ -145,6 +153,51 @@ fn a_put_for_each_round(rt: HostRuntime) -> Result<(), Fail> {
             _ => {}
         }
     }
-    assert_eq!(rt; (first, second), (3, 5));
+    assert_eq!(rt; (first, second), (4, 6));
+    Ok(())
+}
+
+/// Where what was put can't be written out at the places of two waveforms, the first lane is told.
+#[test]
+fn the_first_lane_that_is_not_written_out(rt: HostRuntime) -> Result<(), Fail> {
+    let (_, whole) = run_failing(rt.alloc(), 4096, TWO_LANES, &[])?;
+    let mut both = false;
+    for n in 0..whole.calls() {
+        let (code, desk) = run_failing(rt.alloc(), 4096, TWO_LANES, &[n, n.saturating_add(1)])?;
+        let all_put = [2000, 2001]
+            .iter()
+            .all(|place| desk.written(*place) == whole.written(*place));
+        if desk.faults() == 2 && all_put {
+            both = true;
+            assert_eq!(rt;
+                (code, desk.written(0)),
+                (6, b"refused 5 WriteFault place=2000\n".as_slice())
+            );
+        }
+    }
+    assert!(rt; both);
+    Ok(())
+}
+
+/// Where a line is refused in a later round, each lane is written out once, when all is put and before
+/// the report line.
+#[test]
+fn written_out_behind_a_refusal(rt: HostRuntime) -> Result<(), Fail> {
+    let (code, whole) = run_failing(rt.alloc(), 4096, REFUSED_LATER, &[])?;
+    assert_eq!(rt; code, 4);
+    let mut first = 0u32;
+    let mut second = 0u32;
+    for n in 0..whole.calls() {
+        let (_, desk) = run_failing(rt.alloc(), 4096, REFUSED_LATER, &[n])?;
+        let all_put = [2000, 2001]
+            .iter()
+            .all(|place| desk.written(*place) == whole.written(*place));
+        match desk.written(0) {
+            b"refused 5 WriteFault place=2000\n" if all_put => first = first.saturating_add(1),
+            b"refused 5 WriteFault place=2001\n" if all_put => second = second.saturating_add(1),
+            _ => {}
+        }
+    }
+    assert_eq!(rt; (first, second), (1, 1));
     Ok(())
 }

@@ -17,8 +17,9 @@ use std::rt::Files;
 
 /// The system's files as places. Place 0 is standard output; nothing goes to standard error.
 ///
-/// What is put is written at once, so `flush` finds nothing. A call fails where std's open, read or
-/// write failed or wrote nothing. It tells no bytes. What the system does is not proved.
+/// What is put at a place other than 0 is gathered in a block of 64 KiB, which is written when it is
+/// full, and at `flush`; what is put at place 0 is written at once. A call fails where std's open, read
+/// or write failed or wrote nothing. It tells no bytes. What the system does is not proved.
 #[derive(Drop)]
 pub struct HostDesk<R: Files + Print> {
     rt: R,
@@ -60,13 +61,13 @@ impl<R: Files + Print> HostDesk<R> {
     }
 }
 
-/// The room in which a file's bytes are kept back: none.
-const BLOCK: usize = 0;
+/// The bytes of a block that is gathered before it is written.
+const BLOCK: usize = 65536;
 
-/// Opens the file at a path, to read it, or to write it from its start after it was made or emptied.
+/// Opens the file at a path, to read it, or to write it from its start after it was made or emptied. A file that is read has no block.
 fn open<R: Files>(rt: &R, alloc: Global, path: &str, way: Way) -> io::Result<BufWriter<R::File>> {
     match way {
-        Way::Read => BufWriter::with_capacity(alloc, BLOCK, File::open(rt, path)?),
+        Way::Read => BufWriter::with_capacity(alloc, 0, File::open(rt, path)?),
         Way::Write => BufWriter::with_capacity(alloc, BLOCK, File::create(rt, path)?),
     }
 }
@@ -114,7 +115,7 @@ fn read_from<F: Read + Write + Drop>(
     places.get_mut(&place).unwrap().stream.get_mut().read(buf)
 }
 
-/// Writes once: at place 0 to standard output, else to the file at the place.
+/// Writes once: at place 0 to standard output, else to the block of the place.
 fn write_to<R: Files + Print>(
     rt: &R,
     places: &mut BTreeMap<u32, Place<BufWriter<R::File>>>,
@@ -131,7 +132,7 @@ fn write_to<R: Files + Print>(
     places.get_mut(&place).unwrap().stream.write(bytes)
 }
 
-/// Writes out what is kept back of a place. At place 0 nothing is.
+/// Writes the block of a place out. At place 0 nothing is kept back.
 fn write_out<F: Write + Drop>(
     places: &mut BTreeMap<u32, Place<BufWriter<F>>>,
     place: u32,

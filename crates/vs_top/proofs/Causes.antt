@@ -1,5 +1,5 @@
 -- What the desk's counts say of each answer.
-use Rattle.std.proofs.Common.{◌≡◌, ◌≢◌, ℕ, suc, ◌+◌, Bool, List, [], ◌∷◌, take, refl, sym, ap, ◌∙◌, subst, inl, inr, arith}
+use Rattle.std.proofs.Common.{◌≡◌, ◌≢◌, ◌⊎◌, ℕ, suc, ◌+◌, Bool, List, [], ◌∷◌, take, refl, sym, ap, ◌∙◌, subst, inl, inr, arith}
 use Rattle.vs_desk.specs.declared.desk.Way.{Way}
 use Rattle.vs_desk.specs.declared.desk.Way.TheVariants.{Read, Write}
 use Rattle.vs_desk.specs.Desk.{Told, Register, Rose, Fails, with_place}
@@ -22,11 +22,12 @@ use Rattle.vs_top.specs.declared.outcome.Outcome.{Outcome}
 use Rattle.vs_top.specs.declared.outcome.Outcome.TheVariants.{Done, Refused, ReadFault, WriteFault, Memory}
 use Rattle.vs_top.specs.Answers.{stimulus_outcome, setup_outcome, stop_outcome}
 use Rattle.vs_refusal.specs.declared.refusal.Refusal.TheVariants.{SamePath}
-use Rattle.vs_top.specs.Ended.{IsEnd, IsStopped, with_waves, wave_paths}
-use Rattle.vs_top.specs.Ended.IsEnd.{same, setup, first, attached, stopped, whole}
+use Rattle.vs_top.specs.Ended.{IsEnd, IsRoundEnd, IsWholeEnd, IsStopped, with_waves, wave_paths}
+use Rattle.vs_top.specs.Ended.IsEnd.{same, setup, first, attached, stopped, whole, unflushed}
 use Rattle.vs_top.specs.Outcomes.{outcome_line}
 use Rattle.vs_top.specs.Reported.{ReportsLine, ReportsDone, OnStopped}
 use Rattle.vs_top.specs.Causes.{IsFaultAt, ShowsCause}
+use Rattle.vs_top.proofs.Losing.{Rose-trans}
 
 -- ---- places that are attached
 
@@ -144,9 +145,35 @@ setup_ends job old new S.Memory (inl h) = let q = quiet_at old.register old.regi
 setup_ends job old new S.Memory (inr h) =
     let q = quiet_at old.register (with_texts old.register job (take h.0 job.stimuli)) new.register (texts old.register job (take h.0 job.stimuli)) h.2 in record { fault = q.faults; losses = q.losses }
 
+-- a call at a place other than 0 failed behind a job that ended
+more_fault : (old mid new : Register) (o : Outcome) (place : ℕ) → place ≢ 0 → ShowsFault old mid o → Fails mid new place mid.asked → IsFaultAt old new place
+more_fault old mid new o place other h f = record { other = other; rose = rose o h; failed = f.noted other }
+  where
+    later : Rose mid.faults new.faults
+    later = f.fault other
+
+    rose : (o : Outcome) → ShowsFault old mid o → Rose old.faults new.faults
+    rose (Done s) e = rose_from old.faults mid.faults new.faults e later
+    rose (Refused r) e = rose_from old.faults mid.faults new.faults e later
+    rose Memory e = rose_from old.faults mid.faults new.faults e later
+    rose (ReadFault p) e = Rose-trans old.faults mid.faults new.faults e.rose later
+    rose (WriteFault p) e = Rose-trans old.faults mid.faults new.faults e.rose later
+
+unflushed_ends : (old mid new : Register) (o : Outcome) (place : ℕ) → place ≢ 0 → Ends old mid o → Fails mid new place mid.asked → Ends old new (WriteFault place)
+unflushed_ends old mid new o place other e f = record { fault = more_fault old mid new o place other e.fault f; losses = f.no_loss other ∙ e.losses }
+
 -- an outcome that is this one
 of_outcome : (old new : Register) (o p : Outcome) → o ≡ p → Ends old new p → Ends old new o
 of_outcome old new o p e h = subst (Ends old new) (sym e) h
+
+round_ends : {tells : Bool} (job : Job) (old new : Told tells) (o : Outcome) → IsRoundEnd job old new o → Ends old.register new.register o
+round_ends job old new o e =
+    of_outcome old.register new.register o (stop_outcome e.stop) e.outcome_is (stop_ends old.register (with_waves old.register job (wave_paths job)) new.register e.stop (waves old.register job (wave_paths job)) e.cause)
+
+whole_ends : {tells : Bool} (job : Job) (old new : Told tells) (o : Outcome) → IsWholeEnd job old new o → Ends old.register new.register o
+whole_ends job old new o e =
+    let q = quiet_at old.register (with_waves old.register job (wave_paths job)) new.register (waves old.register job (wave_paths job)) e.register_is in
+    of_outcome old.register new.register o (Done e.summary) e.outcome_is (record { fault = q.faults; losses = q.losses })
 
 ends : {tells : Bool} (job : Job) (old new : Told tells) (o : Outcome) → IsEnd job old new o → Ends old.register new.register o
 ends job old new o (same e) =
@@ -158,11 +185,15 @@ ends job old new o (attached d e) =
     let paths = take e.lane (wave_paths job) in
     of_outcome old.register new.register o (WriteFault (wave_place e.lane)) e.outcome_is
     (write_ends old.register (with_waves old.register job paths) new.register (wave_place e.lane) (path_at (wave_paths job) e.lane) (waves old.register job paths) (λ z. omega arith) e.fails)
-ends job old new o (stopped d e) =
-    of_outcome old.register new.register o (stop_outcome e.stop) e.outcome_is (stop_ends old.register (with_waves old.register job (wave_paths job)) new.register e.stop (waves old.register job (wave_paths job)) e.cause)
-ends job old new o (whole d e) =
-    let q = quiet_at old.register (with_waves old.register job (wave_paths job)) new.register (waves old.register job (wave_paths job)) e.register_is in
-    of_outcome old.register new.register o (Done e.summary) e.outcome_is (record { fault = q.faults; losses = q.losses })
+ends job old new o (stopped d e) = round_ends job old new o e
+ends job old new o (whole d e) = whole_ends job old new o e
+ends job old new o (unflushed d e) =
+    of_outcome old.register new.register o (WriteFault (wave_place e.lane)) e.outcome_is
+    (unflushed_ends old.register e.before.register new.register e.answer (wave_place e.lane) (λ z. omega arith) (before e.ended) e.fails.fails)
+  where
+    before : IsRoundEnd job old e.before e.answer ⊎ IsWholeEnd job old e.before e.answer → Ends old.register e.before.register e.answer
+    before (inl r) = round_ends job old e.before e.answer r
+    before (inr w) = whole_ends job old e.before e.answer w
 
 -- ---- the report
 

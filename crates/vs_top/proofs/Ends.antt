@@ -31,7 +31,7 @@ use Rattle.vs_setup.specs.Unprepared.{IsUnprepared}
 use Rattle.vs_top.specs.declared.outcome.Outcome.TheVariants.{Done, Refused, ReadFault, WriteFault, Memory}
 use Rattle.vs_top.specs.Answers.{stimulus_outcome, setup_outcome, stop_outcome}
 use Rattle.vs_top.specs.Ended.{IsEnd}
-use Rattle.vs_top.specs.Ended.IsEnd.{same, setup, first, attached, stopped, whole}
+use Rattle.vs_top.specs.Ended.IsEnd.{same, setup, first, attached, stopped, whole, unflushed}
 use Rattle.vs_top.specs.Reports.{IsSimulated}
 use Rattle.vs_top.specs.Outcomes.{outcome_line}
 use Rattle.vs_top.specs.Reported.{OnDone, OnStopped, ReportsDone}
@@ -148,6 +148,9 @@ stop_usage (R.Refused i e) h = stimulus_usage i e h
 stop_usage (R.ReadFault i) h = cc
 stop_usage (R.WriteFault i) h = cc
 
+fault_usage : (p : ℕ) → WriteFault p ≡ Refused (Bare Usage) → ⊥
+fault_usage p h = cc
+
 pub end_usage : {tells : Bool} (job : Job) (old new : Told tells) (o : Outcome) → IsEnd job old new o → o ≡ Refused (Bare Usage) → ⊥
 end_usage job old new o (same e) h = same_usage e.first e.second (sym e.outcome_is ∙ h)
   where
@@ -156,9 +159,7 @@ end_usage job old new o (same e) h = same_usage e.first e.second (sym e.outcome_
 end_usage job old new o (setup d e) h = setup_usage job old new e.error e.cause (sym e.outcome_is ∙ h)
 end_usage job old new o (first d e) h = stop_usage e.stop (sym e.outcome_is ∙ h)
 end_usage job old new o (attached d e) h = fault_usage (wave_place e.lane) (sym e.outcome_is ∙ h)
-  where
-    fault_usage : (p : ℕ) → WriteFault p ≡ Refused (Bare Usage) → ⊥
-    fault_usage p h = cc
+end_usage job old new o (unflushed d e) h = fault_usage (wave_place e.lane) (sym e.outcome_is ∙ h)
 end_usage job old new o (stopped d e) h = stop_usage e.stop (sym e.outcome_is ∙ h)
 end_usage job old new o (whole d e) h = done_usage e.summary (sym e.outcome_is ∙ h)
   where
@@ -174,13 +175,10 @@ simulated_usage told job old new result s = λ h. by_outcome s.outcome s.ended s
     done_usage : (t : Summary) → Done t ≡ Refused (Bare Usage) → ⊥
     done_usage t h = cc
 
-    fault_usage : WriteFault 0 ≡ Refused (Bare Usage) → ⊥
-    fault_usage h = cc
-
     by_outcome : (o : Outcome) → IsEnd job (told old) (told s.middle) o
         → OnDone o (ReportsDone (told s.middle) (told new) o result) → OnStopped o (result ≡ o) → result ≡ Refused (Bare Usage) → ⊥
     by_outcome (Done t) e (inl r) is h = done_usage t (sym r.0 ∙ h)
-    by_outcome (Done t) e (inr r) is h = fault_usage (sym r.0 ∙ h)
+    by_outcome (Done t) e (inr r) is h = fault_usage 0 (sym r.0 ∙ h)
     by_outcome (Refused r) e d is h = by_end (Refused r) e is h
     by_outcome (ReadFault p) e d is h = by_end (ReadFault p) e is h
     by_outcome (WriteFault p) e d is h = by_end (WriteFault p) e is h

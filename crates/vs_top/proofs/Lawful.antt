@@ -25,7 +25,7 @@ use Rattle.vs_top.specs.declared.outcome.Outcome.{Outcome}
 use Rattle.vs_top.specs.declared.outcome.Outcome.TheVariants.{Done, Refused, ReadFault, WriteFault, Memory}
 use Rattle.vs_top.specs.Headline.{IsWritten}
 use Rattle.vs_top.specs.Ended.{IsEnd, IsStopped, IsRunOf}
-use Rattle.vs_top.specs.Ended.IsEnd.{same, setup, first, attached, stopped, whole}
+use Rattle.vs_top.specs.Ended.IsEnd.{same, setup, first, attached, stopped, whole, unflushed}
 use Rattle.vs_top.specs.Reported.{ReportsDone, OnStopped}
 use Rattle.vs_top.specs.Causes.{ShowsCause, IsLawful, IsFaultless, IsDoneOrMemory}
 use Rattle.vs_top.specs.Refused.{IsRefusedJob, ByPaths, ByLength, ByDesign, ByHeader, ByLine, IsRefusedSo}
@@ -175,6 +175,7 @@ different job old new s (first d e) = d
 different job old new s (attached d e) = d
 different job old new s (stopped d e) = d
 different job old new s (whole d e) = d
+different job old new s (unflushed d e) = d
 
 -- a job that is refused isn't done
 pub refused_undone : {tells : Bool} (job : Job) (old new : Told tells) (s : Summary) → OneDesign → NotBoth

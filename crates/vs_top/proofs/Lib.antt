@@ -8,3 +8,4 @@ pub mod Refusals
 pub mod Lawful
 pub mod Benches
 pub mod Stores
+pub mod Flushing

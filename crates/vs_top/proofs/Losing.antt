@@ -14,7 +14,7 @@ pub puts_line : {tells : Bool} {V E : Type 0} (old new : Told tells) (line : Lis
 puts_line old new line (Ok v) put same = record { same = same; put = put }
 puts_line old new line (Err e) put same = tt
 
-Rose-trans : (a b c : ℕ) → Rose a b → Rose b c → Rose a c
+pub Rose-trans : (a b c : ℕ) → Rose a b → Rose b c → Rose a c
 Rose-trans a b c (inl x) (inl y) = inl (omega arith, y.1)
 Rose-trans a b c (inl x) (inr y) = inl (omega arith, omega arith)
 Rose-trans a b c (inr x) (inl y) = absurd (omega arith)

@@ -30,7 +30,7 @@ use Rattle.vs_top.specs.declared.outcome.Outcome.{Outcome}
 use Rattle.vs_top.specs.declared.outcome.Outcome.TheVariants.{Done, Refused, WriteFault}
 use Rattle.vs_top.specs.Answers.{stimulus_outcome, setup_outcome, stop_outcome}
 use Rattle.vs_top.specs.Ended.{IsEnd, IsRunOf}
-use Rattle.vs_top.specs.Ended.IsEnd.{same, setup, first, attached, stopped, whole}
+use Rattle.vs_top.specs.Ended.IsEnd.{same, setup, first, attached, stopped, whole, unflushed}
 use Rattle.vs_top.specs.Refused.{IsRefusedJob, ByPaths, ByLength, ByDesign, ByHeader, ByLine}
 use Rattle.vs_top.proofs.Behind.{told_alike}
 
@@ -67,6 +67,10 @@ unsettled job old d run is k new (R.Refused i error) r lane s e = ByLine d run k
 unsettled job old d run is k new (R.ReadFault i) r lane s e = cc
 unsettled job old d run is k new (R.WriteFault i) r lane s e = cc
 
+-- a refusal is no fault
+no_fault : (r : Refusal) (p : ℕ) → Refused r ≡ WriteFault p → ⊥
+no_fault r p h = cc
+
 pub refused_job : {tells : Bool} (job : Job) (old new : Told tells) → IsTrue tells
     → (o : Outcome) (r : Refusal) → Refused r ≡ o → IsEnd job old new o → IsRefusedJob job old.contents r
 refused_job job old new told o r is (same e) =
@@ -76,10 +80,8 @@ refused_job job old new told o r is (setup d e) = unprepared job old new told d 
 refused_job job old new told o r is (first d e) =
     let s = e.stops told in
     unread job old.contents d s.0 s.1 0 new.contents e.stop r e.lane s.2 (is ∙ e.outcome_is)
-refused_job job old new told o r is (attached d e) = absurd (fault (wave_place e.lane) (is ∙ e.outcome_is))
-  where
-    fault : (p : ℕ) → Refused r ≡ WriteFault p → ⊥
-    fault p h = cc
+refused_job job old new told o r is (attached d e) = absurd (no_fault r (wave_place e.lane) (is ∙ e.outcome_is))
+refused_job job old new told o r is (unflushed d e) = absurd (no_fault r (wave_place e.lane) (is ∙ e.outcome_is))
 refused_job job old new told o r is (stopped d e) =
     let s = e.stops told in
     unsettled job old.contents d s.0 s.1 s.2.0 new.contents e.stop r e.lane s.2.1 (is ∙ e.outcome_is)

@@ -1,7 +1,7 @@
 -- How a job ended, before its line is reported.
-use Rattle.std.specs.Prelude.{◌≡◌, ◌≢◌, ℕ, ◌<◌, Bool, IsTrue, List, [], length, map, take, Some, None}
+use Rattle.std.specs.Prelude.{◌≡◌, ◌≢◌, ◌⊎◌, ℕ, ◌<◌, Bool, IsTrue, List, [], length, map, take, Some, None}
 use Rattle.vs_desk.specs.declared.desk.Way.TheVariants.{Write}
-use Rattle.vs_desk.specs.Desk.{Register, Contents, Told, Fails}
+use Rattle.vs_desk.specs.Desk.{Register, Contents, Told, Fails, FailsAlone}
 use Rattle.vs_desk.specs.Places.{with_places, waveform_place}
 use Rattle.vs_design.specs.Designs.{Design}
 use Rattle.vs_feed.specs.Opened.{path_at, HaveHeaders}
@@ -101,6 +101,17 @@ pub record IsWholeEnd {tells : Bool} (job : Job) (old new : Told tells) (o : Out
   pub written : IsTrue tells → IsWritten job old.contents new.contents summary
   pub puts : IsTrue tells → OnlyWavesPut (length job.stimuli) old.contents new.contents
 
+-- The rounds ended, or one of them stopped, and what the desk had kept back of a waveform couldn't be written out then, nor perhaps that
+-- of later lanes. What was put is as the rounds left it.
+pub record IsUnflushedEnd {tells : Bool} (job : Job) (old new : Told tells) (o : Outcome) : Type 0 where
+  pub lane : ℕ
+  pub is_lane : lane < length job.stimuli
+  pub outcome_is : o ≡ WriteFault (wave_place lane)
+  pub before : Told tells
+  pub answer : Outcome
+  pub ended : IsRoundEnd job old before answer ⊎ IsWholeEnd job old before answer
+  pub fails : FailsAlone before new (wave_place lane) before.register.asked
+
 -- How a job ended, where the desk told this before and tells that now: two of its paths are equal, or none are and it went on.
 pub data IsEnd {tells : Bool} (job : Job) (old new : Told tells) (o : Outcome) : Type 0 where
   same : IsSameEnd job old new o → IsEnd job old new o
@@ -109,6 +120,7 @@ pub data IsEnd {tells : Bool} (job : Job) (old new : Told tells) (o : Outcome) :
   attached : same_paths job ≡ None → IsAttachEnd job old new o → IsEnd job old new o
   stopped : same_paths job ≡ None → IsRoundEnd job old new o → IsEnd job old new o
   whole : same_paths job ≡ None → IsWholeEnd job old new o → IsEnd job old new o
+  unflushed : same_paths job ≡ None → IsUnflushedEnd job old new o → IsEnd job old new o
 
 -- the job isn't done
 abbrev pub IsStopped : Outcome → Type 0

@@ -20,14 +20,15 @@ use Rattle.vs_setup.specs.Places.{with_texts}
 use Rattle.vs_top.specs.declared.outcome.Outcome.TheVariants.{Done}
 use Rattle.vs_top.specs.Ended.{IsWholeEnd, wave_paths, with_waves}
 use Rattle.vs_top.proofs.simulation.run_lanes.Given.{Over}
-use Rattle.vs_top.specs.Ended.IsEnd.{setup, first, attached, stopped, whole}
+use Rattle.vs_top.specs.Ended.IsEnd.{setup, first, attached}
 use Rattle.vs_top.proofs.Places.{with_places-at, still_attached, still_free}
+use Rattle.vs_top.proofs.Flushing.{attached_writable, cause_attached, still_writable}
 use Rattle.vs_top.proofs.Lanes.{are_data_inputs, lane_written, accepted_as, run_is}
 use Rattle.vs_top.proofs.Stores.{has_vector, some_settling, are_stores}
 use Rattle.vs_top.proofs.simulation.run_lanes.Goals as goal
 
-pub returns-in-Err-begin-clause-stopped : goal.returns-in-Err-begin-clause-stopped
-returns-in-Err-begin-clause-stopped g c =
+pub returns-in-Err-begin-clause-unbegun : goal.returns-in-Err-begin-clause-unbegun
+returns-in-Err-begin-clause-unbegun g c =
     let job = c.args.job.now in
     let p = c.in-Ok.ensures.prepared in
     let stop = c.in-Err-begin.stop in
@@ -74,8 +75,8 @@ overflow_add-place g c =
 emptied_from : (now old new : Contents) (paths : List (List ℕ)) → now.files ≡ old.files → AreEmptied paths now new → AreEmptied paths old new
 emptied_from now old new paths e h = record { files = λ path. h.files path ∙ ap (λ (f : List ℕ → List ℕ). if is_one_of paths path then [] else f path) e }
 
-pub returns-in-Err-attach-clause-stopped : goal.returns-in-Err-attach-clause-stopped
-returns-in-Err-attach-clause-stopped g c =
+pub returns-in-Err-attach-clause-unbegun : goal.returns-in-Err-attach-clause-unbegun
+returns-in-Err-attach-clause-unbegun g c =
     let job = c.args.job.now in
     let p = c.in-Ok.ensures.prepared in
     let now = (g.D.Desk.told c.attach.new.desk).register in
@@ -169,7 +170,7 @@ all_written g c =
     }
 
 pub returns-in-Ok-rounds-clause-done : goal.returns-in-Ok-rounds-clause-done
-returns-in-Ok-rounds-clause-done g c = whole (sym c.same_paths.ensures ∙ c.in_default.is) (all_written g c)
+returns-in-Ok-rounds-clause-done g c = all_written g c
 
 pub returns-in-Ok-rounds-clause-within : goal.returns-in-Ok-rounds-clause-within
 returns-in-Ok-rounds-clause-within g c =
@@ -200,7 +201,7 @@ returns-clause-stopped g c =
     let register : (g.D.Desk.told c.attach.new.desk).register ≡ with_waves (g.D.Desk.told c.args.desk.now).register job (wave_paths job) = c.in_default-attach.ensures.attached
     ∙ ap (λ (ps : List (List ℕ)). with_places (g.D.Desk.told c.begin.new.desk).register (waveform_place 0) Write ps) p.paths
     ∙ ap (λ (r : Register). with_places r (waveform_place 0) Write (wave_paths job)) (c.in_default-begin.ensures.same ∙ p.register_is) in
-    stopped (sym c.same_paths.ensures ∙ c.in_default.is) (record {
+    record {
       stop = stop;
       outcome_is = c.stop_outcome-in-Err-rounds.ensures.outcome;
       lane = subst (λ (n : ℕ). IsLaneOf n stop) lanes c.in-Err-rounds.ensures.lane;
@@ -212,16 +213,38 @@ returns-clause-stopped g c =
           (c.rounds.ensures.others t).others place (λ i h. other i (subst (λ n. i < n) lanes h))
           ∙ (empty t).others place (λ i h. other i (omega (arith, h, held, paths)))
           ∙ ap (λ (f : ℕ → List ℕ). f place) ((c.begin.ensures.others t).put ∙ (p.kept t).put);
-    })
+    }
 
 pub returns-in-Ok-rounds-clause-written : goal.returns-in-Ok-rounds-clause-written
 unfolding all_written
 returns-in-Ok-rounds-clause-written g c = λ t. (all_written g c).written t
 
-pub returns-in-Err-clause-stopped : goal.returns-in-Err-clause-stopped
-returns-in-Err-clause-stopped g c = setup (sym c.same_paths.ensures ∙ c.in_default.is) (record {
+pub returns-in-Err-clause-unbegun : goal.returns-in-Err-clause-unbegun
+returns-in-Err-clause-unbegun g c = setup (sym c.same_paths.ensures ∙ c.in_default.is) (record {
   error = c.in-Err.error;
   outcome_is = c.setup_outcome.ensures.outcome;
   cause = c.in-Err.ensures.unprepared;
   kept = λ t. c.prepare.ensures.kept t;
 })
+
+pub returns-in-Ok-rounds-clause-different : goal.returns-in-Ok-rounds-clause-different
+returns-in-Ok-rounds-clause-different g c = sym c.same_paths.ensures ∙ c.in_default.is
+
+pub returns-clause-different : goal.returns-clause-different
+returns-clause-different g c = sym c.same_paths.ensures ∙ c.in_default.is
+
+pub returns-in-Ok-rounds-clause-writable : goal.returns-in-Ok-rounds-clause-writable
+returns-in-Ok-rounds-clause-writable g c =
+    let job = c.args.job.now in
+    let items : List (String Global) = c.in-Ok.prepared.wave_paths.items in
+    let paths : length (map (string_bytes {Z = Global}) items) ≡ length job.stimuli = ap length c.in-Ok.ensures.prepared.paths ∙ length-map job.stimuli vcd_path in
+    still_writable (g.D.Desk.told c.attach.new.desk).register (g.D.Desk.told c.rounds.new.desk).register (length job.stimuli) (ap (λ (r : Register). r.attached) c.in-Ok-rounds.ensures.same)
+    (attached_writable c.attach_law.ensures.each (g.D.Desk.told c.begin.new.desk).register (g.D.Desk.told c.attach.new.desk).register (map (string_bytes {Z = Global}) items) (length job.stimuli) paths c.in_default-attach.ensures.attached)
+
+pub returns-clause-writable : goal.returns-clause-writable
+returns-clause-writable g c =
+    let job = c.args.job.now in
+    let items : List (String Global) = c.in-Ok.prepared.wave_paths.items in
+    let paths : length (map (string_bytes {Z = Global}) items) ≡ length job.stimuli = ap length c.in-Ok.ensures.prepared.paths ∙ length-map job.stimuli vcd_path in
+    still_writable (g.D.Desk.told c.attach.new.desk).register (g.D.Desk.told c.rounds.new.desk).register (length job.stimuli) (cause_attached (g.D.Desk.told c.attach.new.desk).register (g.D.Desk.told c.rounds.new.desk).register c.in-Err-rounds.stop c.in-Err-rounds.ensures.cause)
+    (attached_writable c.attach_law.ensures.each (g.D.Desk.told c.begin.new.desk).register (g.D.Desk.told c.attach.new.desk).register (map (string_bytes {Z = Global}) items) (length job.stimuli) paths c.in_default-attach.ensures.attached)
