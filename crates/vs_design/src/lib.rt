@@ -20,6 +20,7 @@ ghost use Rattle.vs_design.specs.Memories.{WordsAre};
 ghost use Rattle.vs_design.specs.Paths.{LatchBitsAre};
 ghost use Rattle.vs_design.specs.RefusalLaws.{BlockRefusalIs, ClockRefusalIs, DriverRefusalIs, DriversAre, WidthRefusalIs, ZeroRefusalIs};
 ghost use Rattle.vs_design.specs.SlotValues.{SlotValuesAre};
+ghost use Rattle.vs_design.specs.Within.{FormedIsWithin, FunctionIsWithin, StatementIsWithin, TargetIsWithin};
 ghost use Rattle.vs_design.specs.TreeLaws.{AssignWritesExactly, AssignedLength, BlockReads, BlockWritesExactly, BodyAssigns, BodyInSets, BodyReads, BodySetsRead, BodyWritesWithin, ConstantValue, NoUpdates, NoWrites, ValueInSets, ValueLength, ValueReads, ValueSetsRead};
 
 /// A value has the length of its context, and a constant expression has one value (IEEE 1364-2005, 5.4 and 5.5).
@@ -90,6 +91,14 @@ pub fn footprint_law()
     ensures star { StarMissesNone }
     ensures ascending { AscendingHas }
     ensures rises { AscendingRises }
+{}
+
+/// What is formed in a design names bits of the design alone, and a function's statement its local bits (IEEE 1364-2005, 10.4).
+pub fn within_law()
+    ensures expressions { FormedIsWithin }
+    ensures targets { TargetIsWithin }
+    ensures statements { StatementIsWithin }
+    ensures functions { FunctionIsWithin }
 {}
 
 /// A bit may latch exactly where the block writes it somewhere, and on some path through its `if` and `case` statements it reaches a read of it, or the end, unassigned.
