@@ -17,7 +17,7 @@ use Rattle.vs_flat.specs.Named.{all_below, node_signals, node_expressions, state
 use Rattle.vs_flat.specs.Arena.{Arena, placed, empty_arena, with_scope, with_signal, with_process, with_node, with_statement, with_function, with_body}
 use Rattle.vs_flat.specs.declared.processes.Scope.{Scope}
 use Rattle.vs_flat.specs.declared.processes.Signal.{Signal}
-use Rattle.vs_flat.specs.Lawful.{is_before, calls_below, calls_earlier, is_closed, nodes_name_earlier, statements_name_earlier, NamesEarlier}
+use Rattle.vs_flat.specs.Lawful.{is_before, calls_below, calls_earlier, is_closed, are_rising, nodes_name_earlier, statements_name_earlier, NamesEarlier}
 use Rattle.vs_flat.proofs.Agreeing.{and_both, and_true, first_below, rest_below, node_parts, statement_parts, kind_parts}
 use Rattle.vs_flat.proofs.Building.{some_is}
 
@@ -278,10 +278,10 @@ covered_calls a (Choice c p q) e h = refl
 covered_calls a (Join parts) e h = refl
 
 pub names_empty : NamesEarlier empty_arena
-names_empty = record { nodes = refl; statements = refl; processes = refl; calls = refl; bodies = refl; matched = omega arith }
+names_empty = record { nodes = refl; statements = refl; processes = refl; calls = refl; bodies = refl; matched = omega arith; rising = refl }
 
 pub names_with_scope : (a : Arena) (s : Scope) → NamesEarlier a → NamesEarlier (with_scope a s)
-names_with_scope a s e = record { nodes = e.nodes; statements = e.statements; processes = e.processes; calls = e.calls; bodies = e.bodies; matched = e.matched }
+names_with_scope a s e = record { nodes = e.nodes; statements = e.statements; processes = e.processes; calls = e.calls; bodies = e.bodies; matched = e.matched; rising = e.rising }
 
 pub names_with_signal : (a : Arena) (s : Signal) → NamesEarlier a → NamesEarlier (with_signal a s)
 names_with_signal a s e =
@@ -293,10 +293,11 @@ names_with_signal a s e =
       calls = e.calls;
       bodies = e.bodies;
       matched = e.matched;
+      rising = e.rising;
     }
 
 pub names_with_process : (a : Arena) (p : Process) → NamesEarlier a → covers_process a p ≡ true → NamesEarlier (with_process a p)
-names_with_process a p e h = record { nodes = e.nodes; statements = e.statements; processes = processes_with (length a.signals) (length a.nodes) (length a.statements) a.processes p e.processes h; calls = e.calls; bodies = e.bodies; matched = e.matched }
+names_with_process a p e h = record { nodes = e.nodes; statements = e.statements; processes = processes_with (length a.signals) (length a.nodes) (length a.statements) a.processes p e.processes h; calls = e.calls; bodies = e.bodies; matched = e.matched; rising = e.rising }
 
 pub names_with_node : (a : Arena) (n : Node) (at : ℕ) → NamesEarlier a → covers_node a n ≡ true → NamesEarlier (with_node a n at)
 names_with_node a n at e h =
@@ -307,6 +308,7 @@ names_with_node a n at e h =
       calls = calls_with a.functions a.bodies 0 a.nodes (placed n at) e.calls (subst (λ k. calls_below a.functions a.bodies k n ≡ true) (omega arith) (covered_calls a n e c.1));
       bodies = closed_more_nodes (length a.nodes) (length (a.nodes ++ placed n at ∷ [])) a.statements a.bodies le e.bodies;
       matched = e.matched;
+      rising = e.rising;
       statements = statements_more (length a.nodes) (length (a.nodes ++ placed n at ∷ [])) 0 a.statements le e.statements;
       processes = processes_more (length a.signals) (length a.nodes) (length a.statements) (length a.signals) (length (a.nodes ++ placed n at ∷ [])) (length a.statements) a.processes (omega arith) le (omega arith) e.processes;
     }
@@ -319,6 +321,7 @@ names_with_statement a s at e h =
       calls = e.calls;
       bodies = closed_more_statements (length a.nodes) a.statements (placed s at) a.bodies e.bodies;
       matched = e.matched;
+      rising = e.rising;
       statements = statements_with (length a.nodes) 0 a.statements (placed s at) e.statements (subst (λ k. statement_names_below (length a.nodes) k s ≡ true) (omega arith) h);
       processes = processes_more (length a.signals) (length a.nodes) (length a.statements) (length a.signals) (length a.nodes) (length (a.statements ++ placed s at ∷ [])) a.processes (omega arith) (omega arith) le e.processes;
     }
@@ -333,7 +336,47 @@ names_with_function a f e =
       calls = all_more_functions a.functions d a.bodies 0 a.nodes e.calls;
       bodies = e.bodies;
       matched = (let l = e.matched in omega (arith, l, length-append a.functions (d ∷ [])));
+      rising = e.rising;
     }
+
+is_at_most : (n m : ℕ) → n ≤ m → nat_le n m ≡ true
+is_at_most n m h = grind arith
+
+-- each got its statement behind at most as many expressions as there are
+abbrev ends_within : ℕ → List Body → Bool
+ends_within nodes bs = list_all (λ (b : Body). nat_le b.nodes nodes) bs
+
+each_before : (nodes : ℕ) (statements : List (Placed Statement)) (bs : List Body) → list_all (is_closed nodes statements) bs ≡ true → ends_within nodes bs ≡ true
+each_before nodes statements [] h = refl
+each_before nodes statements (b ∷ bs) h =
+    let p = and_both (is_closed nodes statements b) (list_all (is_closed nodes statements) bs) h in
+    let c = closed_is nodes statements b p.0 in
+    and_true (nat_le b.nodes nodes) (ends_within nodes bs) (is_at_most b.nodes nodes c.before) (each_before nodes statements bs p.1)
+
+rising_with : (nodes first : ℕ) (bs : List Body) (b : Body) → first ≤ nodes → b.nodes ≡ nodes → are_rising first bs ≡ true → ends_within nodes bs ≡ true → are_rising first (bs ++ b ∷ []) ≡ true
+rising_with nodes first [] b f e h k = and_true (nat_le first b.nodes) true (is_at_most first b.nodes (omega (arith, f, e))) refl
+rising_with nodes first (x ∷ xs) b f e h k =
+    let p = and_both (nat_le first x.nodes) (are_rising x.nodes xs) h in
+    let q = and_both (nat_le x.nodes nodes) (ends_within nodes xs) k in
+    and_true (nat_le first x.nodes) (are_rising x.nodes (xs ++ b ∷ [])) p.0 (rising_with nodes x.nodes xs b (leb-true x.nodes nodes q.0) e p.1 q.1)
+
+-- a later one behind as many or more
+pub rising_at : (first : ℕ) (bs : List Body) (i j : ℕ) (b c : Body) → are_rising first bs ≡ true → slice_get bs i ≡ Some b → slice_get bs j ≡ Some c → i ≤ j → b.nodes ≤ c.nodes
+rising_at first [] i j b c h f g l = cc
+rising_at first (x ∷ xs) zero zero b c h f g l = let s = some_is x b f in let t = some_is x c g in subst (λ (z : Body). b.nodes ≤ z.nodes) t (subst (λ (z : Body). z.nodes ≤ x.nodes) s (omega arith))
+rising_at first (x ∷ xs) zero (suc j) b c h f g l =
+    let p = and_both (nat_le first x.nodes) (are_rising x.nodes xs) h in
+    subst (λ (z : Body). z.nodes ≤ c.nodes) (some_is x b f) (above x.nodes xs j c p.1 g)
+  where
+    above : (first : ℕ) (bs : List Body) (j : ℕ) (c : Body) → are_rising first bs ≡ true → slice_get bs j ≡ Some c → first ≤ c.nodes
+    above first [] j c h g = cc
+    above first (y ∷ ys) zero c h g = subst (λ (z : Body). first ≤ z.nodes) (some_is y c g) (leb-true first y.nodes (and_both (nat_le first y.nodes) (are_rising y.nodes ys) h).0)
+    above first (y ∷ ys) (suc j) c h g =
+        let p = and_both (nat_le first y.nodes) (are_rising y.nodes ys) h in
+        let m = leb-true first y.nodes p.0 in
+        let r = above y.nodes ys j c p.1 g in omega (arith, m, r)
+rising_at first (x ∷ xs) (suc i) zero b c h f g l = omega (arith, l)
+rising_at first (x ∷ xs) (suc i) (suc j) b c h f g l = rising_at x.nodes xs i j b c (and_both (nat_le first x.nodes) (are_rising x.nodes xs) h).1 f g (omega (arith, l))
 
 pub names_with_body : (a : Arena) (s : ℕ) → NamesEarlier a → length a.bodies < length a.functions → s < length a.statements → NamesEarlier (with_body a s)
 names_with_body a s e m h =
@@ -352,4 +395,5 @@ names_with_body a s e m h =
             named = subst (λ xs. statements_name_earlier (length a.nodes) 0 xs ≡ true) (sym (take_whole a.statements)) e.statements;
           })) refl);
       matched = omega (arith, m, length-append a.bodies (b ∷ []));
+      rising = rising_with (length a.nodes) 0 a.bodies b (omega arith) refl e.rising (each_before (length a.nodes) a.statements a.bodies e.bodies);
     }

@@ -1,5 +1,5 @@
 -- The plain design as the flat one grows.
-use Rattle.std.proofs.Common.{◌≡◌, ℕ, zero, suc, ◌+◌, ◌<◌, ◌≤◌, true, List, [], ◌∷◌, ◌++◌, map, length, take, drop, get_or, refl, sym, ap, ◌∙◌, subst, arith, length-append}
+use Rattle.std.proofs.Common.{◌≡◌, ℕ, zero, suc, ◌+◌, ◌<◌, ◌≤◌, Bool, true, false, List, [], ◌∷◌, ◌++◌, map, length, take, drop, get_or, refl, sym, ap, ◌∙◌, subst, arith, length-append}
 use Rattle.std.specs.Prelude.{Option, None, Some, slice_get, option_map, nat_lt}
 use Rattle.std.specs.List.{list_all}
 use Rattle.std.proofs.Math.ListN.{get_or-append}
@@ -29,7 +29,7 @@ use Rattle.vs_flat.specs.DesignOf.{local_of, header_of, header_in, statement_in,
 use Rattle.vs_flat.specs.Lawful.{is_before, calls_below, is_closed, NamesEarlier}
 use Rattle.vs_flat.proofs.Agreeing.{EqualBelow, Agreed, agreed_by, map_agrees, and_true, and_both, node_agrees, statement_agrees, kind_agrees}
 use Rattle.vs_flat.proofs.Building.{grown, built, built_keeps, built-append, built_at, built_agrees, length-built, some_is, IsLocal}
-use Rattle.vs_flat.proofs.Earlier.{all_at, take_drop, length_front, slice_left, slice_take, slice_there, slice_short, Closed, closed_is, node_at_calls, node_at_names, statement_at_names}
+use Rattle.vs_flat.proofs.Earlier.{all_at, take_drop, length_front, slice_left, slice_take, slice_there, slice_short, Closed, closed_is, node_at_calls, node_at_names, rising_at, statement_at_names}
 
 -- signals
 pub length-signals_from : (n : ℕ) (ss : List Signal) → length (signals_from n ss) ≡ length ss
@@ -104,6 +104,18 @@ body_closed a e k b at = closed_is (length a.nodes) a.statements b (all_at (is_c
 pub called_earlier : (a : Arena) → NamesEarlier a → (i : ℕ) (n : Placed Node) → slice_get a.nodes i ≡ Some n → (k : ℕ) (arguments : List ℕ) → n.item ≡ Call k arguments → (b : Body) → slice_get a.bodies k ≡ Some b → b.nodes ≤ i
 called_earlier a e i n at k arguments is b body =
     leb-true b.nodes i (subst (λ o. is_before i o ≡ true) body (subst (λ x. calls_below a.functions a.bodies i x ≡ true) is (node_calls_at a e i n at)))
+
+pub called_before : (a : Arena) → NamesEarlier a → (f : ℕ) (b : Body) → slice_get a.bodies f ≡ Some b → (i : ℕ) (n : Placed Node) → i < b.nodes → slice_get a.nodes i ≡ Some n → (k : ℕ) (arguments : List ℕ) → n.item ≡ Call k arguments → k < f
+called_before a e f b there i n l at k arguments is =
+    go (slice_get a.bodies k) refl (subst (λ x. calls_below a.functions a.bodies i x ≡ true) is (node_calls_at a e i n at)) (nat_lt k f) refl
+  where
+    go : (o : Option Body) → slice_get a.bodies k ≡ o → is_before i o ≡ true → (t : Bool) → nat_lt k f ≡ t → k < f
+    go None m h t d = cc
+    go (Some c) m h true d = ltb-true k f d
+    go (Some c) m h false d =
+        let s = leb-true c.nodes i h in
+        let r = rising_at 0 a.bodies f k b c e.rising there m (grind arith) in
+        omega (arith, s, r, l)
 
 pub body_there : (a : Arena) → NamesEarlier a → (k : ℕ) (b : Body) → slice_get a.bodies k ≡ Some b → (b.nodes ≤ length a.nodes) × (b.statement < b.statements) × (b.statements ≤ length a.statements)
 body_there a e k b at = let c = body_closed a e k b at in (c.before, c.there, c.within)

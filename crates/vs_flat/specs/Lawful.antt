@@ -61,6 +61,11 @@ calls_earlier functions bodies first (n ∷ ns) = calls_below functions bodies f
 abbrev pub is_closed : ℕ → List (Placed Statement) → Body → Bool
 is_closed nodes statements b = nat_le b.nodes nodes && nat_lt b.statement b.statements && nat_le b.statements (length statements) && statements_name_earlier b.nodes 0 (take b.statements statements)
 
+-- functions got their statements one after the other, each behind as many expressions as the one before it, or more
+abbrev pub are_rising : ℕ → List Body → Bool
+are_rising nodes [] = true
+are_rising nodes (b ∷ bs) = nat_le nodes b.nodes && are_rising b.nodes bs
+
 -- all names are of what is there
 pub record NamesEarlier (a : Arena) : Type 0 where
   pub nodes : nodes_name_earlier (length a.signals) 0 a.nodes ≡ true
@@ -69,6 +74,7 @@ pub record NamesEarlier (a : Arena) : Type 0 where
   pub calls : calls_earlier a.functions a.bodies 0 a.nodes ≡ true
   pub bodies : list_all (is_closed (length a.nodes) a.statements) a.bodies ≡ true
   pub matched : length a.bodies ≤ length a.functions
+  pub rising : are_rising 0 a.bodies ≡ true
 
 -- one or more copies of parts that differ (5.1.14)
 abbrev pub are_copies : List ℕ → Bool

@@ -86,6 +86,11 @@ abbrev pub CallsEarlier : Type 0
 CallsEarlier = (a : Arena) → NamesEarlier a → (e : ℕ) (n : Placed Node) → slice_get a.nodes e ≡ Some n → (function : ℕ) (arguments : List ℕ) → n.item ≡ Call function arguments
     → (b : Body) → slice_get a.bodies function ≡ Some b → b.nodes ≤ e
 
+-- so what is called within a function's statement is a function before it
+abbrev pub CallsBefore : Type 0
+CallsBefore = (a : Arena) → NamesEarlier a → (f : ℕ) (b : Body) → slice_get a.bodies f ≡ Some b → (e : ℕ) (n : Placed Node) → e < b.nodes → slice_get a.nodes e ≡ Some n
+    → (function : ℕ) (arguments : List ℕ) → n.item ≡ Call function arguments → function < f
+
 abbrev pub BodiesThere : Type 0
 BodiesThere = (a : Arena) → NamesEarlier a → (function : ℕ) (b : Body) → slice_get a.bodies function ≡ Some b → (b.nodes ≤ length a.nodes) × (b.statement < b.statements) × (b.statements ≤ length a.statements)
 

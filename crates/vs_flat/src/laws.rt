@@ -1,6 +1,6 @@
 //! What holds of every flat design.
 
-ghost use Rattle.vs_flat.specs.Laws.{NodeNames, NodeCalls, CallsEarlier, BodiesThere, BodyNames, StatementNames, EachLocal, HeaderLocals, FunctionResults, LocalBits, ProcessNames, CountsStay, InputsStay, EachSignal, EachTree, EachStatement, EachProcess, EachFunction, NamesStay, TreesKept, ScopeAdded, SignalAdded, ProcessAdded, NodeAdded, StatementAdded, FunctionAdded, BodyAdded, LawfulIsDesign, LawfulIsWithinLimits, EachIsFormed, EachStatementIsFormed, AssignTargets, StatementTargets, DifferentIsOnce, ExamplesAreDesigns, ExamplesAreLawful};
+ghost use Rattle.vs_flat.specs.Laws.{NodeNames, NodeCalls, CallsEarlier, CallsBefore, BodiesThere, BodyNames, StatementNames, EachLocal, HeaderLocals, FunctionResults, LocalBits, ProcessNames, CountsStay, InputsStay, EachSignal, EachTree, EachStatement, EachProcess, EachFunction, NamesStay, TreesKept, ScopeAdded, SignalAdded, ProcessAdded, NodeAdded, StatementAdded, FunctionAdded, BodyAdded, LawfulIsDesign, LawfulIsWithinLimits, EachIsFormed, EachStatementIsFormed, AssignTargets, StatementTargets, DifferentIsOnce, ExamplesAreDesigns, ExamplesAreLawful};
 ghost use Rattle.vs_flat.specs.Rows.{CopyRows, TargetRows, NameRows, ChainRows};
 
 /// What each expression, statement and process names is there, and what an expression or a statement names of its own kind is earlier.
@@ -14,6 +14,7 @@ pub fn names_law()
 /// A call comes after its function's statement, and all that the statement names before that. So a walk that goes from calls into statements comes to an end.
 pub fn calls_law()
     ensures calls { CallsEarlier }
+    ensures before { CallsBefore }
     ensures bodies { BodiesThere }
     ensures names { BodyNames }
 {}

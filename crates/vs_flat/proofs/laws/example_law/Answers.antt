@@ -12,7 +12,7 @@ example_lawful = record {
   few_scopes = omega arith;
   few_nodes = omega arith;
   few_statements = omega arith;
-  names = record { nodes = refl; statements = refl; processes = refl; calls = refl; bodies = refl; matched = omega arith };
+  names = record { nodes = refl; statements = refl; processes = refl; calls = refl; bodies = refl; matched = omega arith; rising = refl };
   few_functions = omega arith;
   complete = refl;
   locals = refl;
@@ -33,7 +33,7 @@ block_lawful = record {
   few_scopes = omega arith;
   few_nodes = omega arith;
   few_statements = omega arith;
-  names = record { nodes = refl; statements = refl; processes = refl; calls = refl; bodies = refl; matched = omega arith };
+  names = record { nodes = refl; statements = refl; processes = refl; calls = refl; bodies = refl; matched = omega arith; rising = refl };
   few_functions = omega arith;
   complete = refl;
   locals = refl;
@@ -54,7 +54,7 @@ function_lawful = record {
   few_scopes = omega arith;
   few_nodes = omega arith;
   few_statements = omega arith;
-  names = record { nodes = refl; statements = refl; processes = refl; calls = refl; bodies = refl; matched = omega arith };
+  names = record { nodes = refl; statements = refl; processes = refl; calls = refl; bodies = refl; matched = omega arith; rising = refl };
   few_functions = omega arith;
   complete = refl;
   locals = refl;
@@ -75,7 +75,7 @@ word_lawful = record {
   few_scopes = omega arith;
   few_nodes = omega arith;
   few_statements = omega arith;
-  names = record { nodes = refl; statements = refl; processes = refl; calls = refl; bodies = refl; matched = omega arith };
+  names = record { nodes = refl; statements = refl; processes = refl; calls = refl; bodies = refl; matched = omega arith; rising = refl };
   few_functions = omega arith;
   complete = refl;
   locals = refl;
