@@ -1,17 +1,17 @@
 -- What is formed in a design names bits of it alone.
-use Rattle.std.proofs.Common.{◌≡◌, ℕ, zero, suc, ◌+◌, ◌≤◌, Bool, true, false, List, [], ◌∷◌, ◌&&◌, ◌==◌, not, refl, subst, Some, arith, eqb-true}
+use Rattle.std.proofs.Common.{◌≡◌, ℕ, zero, suc, ◌+◌, ◌≤◌, true, false, List, [], ◌∷◌, ◌&&◌, ◌==◌, not, refl, subst, Some, arith, eqb-true}
 use Rattle.std.specs.Prelude.{sum_by, nat_le, slice_get}
 use Rattle.std.specs.List.{list_all}
 use Rattle.std.proofs.lemmas.List.Sums.{sum_by-cons}
 use Rattle.vs_four.specs.Selects.{Part}
-use Rattle.vs_design.specs.Expressions.{Signal, signal_length, local_signals, Header, Source, OfSignal, OfConstant, Expression, Literal, Name, Select, Word, Unary, Binary, Choice, Join, Repeat, At, Call, Items, NoItem, Item}
-use Rattle.vs_design.specs.Statements.{Target, Whole, PartOf, WordOf, Both, Statement, Empty, Assignment, Then, If, Case, Arms, Arm, Default, Function}
+use Rattle.vs_design.specs.Expressions.{Signal, signal_length, local_signals, Header, Source, OfSignal, OfConstant, Literal, Name, Select, Word, Unary, Binary, Choice, Join, Repeat, At, Call, Items, NoItem, Item}
+use Rattle.vs_design.specs.Statements.{Whole, PartOf, WordOf, Both, Empty, Assignment, Then, If, Case, Arms, Arm, Default}
 use Rattle.vs_design.specs.Designs.{Design, bit_count}
 use Rattle.vs_design.specs.Footprints.{is_input, is_variable}
 use Rattle.vs_design.specs.Fits.{fits_64}
 use Rattle.vs_design.specs.Rules.{mixed_in}
-use Rattle.vs_design.specs.Elaborated.{same_range, is_nil, is_signal, is_plain, has_words, is_local, is_formed_select, is_formed_header, inside, has_items, are_as_many, are_numbered, have_bits_from, is_formed, are_formed, is_formed_target, is_formed_statement, are_formed_arms, is_formed_function}
-use Rattle.vs_design.specs.Within.{signal_within, source_within, names_within, items_within, target_within, statement_within, arms_within, FormedIsWithin, TargetIsWithin, StatementIsWithin, FunctionIsWithin}
+use Rattle.vs_design.specs.Elaborated.{same_range, is_nil, is_signal, is_plain, has_words, is_local, is_formed_select, is_formed_header, inside, has_items, are_as_many, are_numbered, have_bits_from, is_formed, are_formed, is_formed_target, is_formed_statement, are_formed_arms}
+use Rattle.vs_design.specs.Within.{signal_within, source_within, items_within, arms_within, FormedIsWithin, TargetIsWithin, StatementIsWithin, FunctionIsWithin}
 use Rattle.vs_design.proofs.Lists.{and_both}
 use Rattle.vs_design.proofs.Formed.{plain_signal, words_signal, signal_at}
 use Rattle.vs_design.proofs.WidthExact.{and_true}
