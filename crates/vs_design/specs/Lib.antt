@@ -48,3 +48,4 @@ pub mod ExampleBlocking
 pub mod ExampleRefusals
 pub mod ExampleMemories
 pub mod ExampleTogether
+pub mod PlaceLaws

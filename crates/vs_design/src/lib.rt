@@ -18,6 +18,7 @@ ghost use Rattle.vs_design.specs.ExampleValues.{ValuesComputed};
 ghost use Rattle.vs_design.specs.Laws.{AcceptedExactly, AcceptedIsLawful, AscendingHas, AscendingRises, BitsOfDesign, BoundOfDesign, ClockNetsAre, EveryOrderOfDesign, LevelOrderIs, LevelRunOfDesign, OneFamilies, OnePassOfDesign, OneSolutionOfDesign, OrderOrCycle, RunsEndOfDesign, SleepersOfDesign, SleepingIs, StarMissesNone, UnmixedHasNoRace};
 ghost use Rattle.vs_design.specs.Memories.{WordsAre};
 ghost use Rattle.vs_design.specs.Paths.{LatchBitsAre};
+ghost use Rattle.vs_design.specs.PlaceLaws.{ItemPlacesAgree, StatementFits, StatementPlacesAgree};
 ghost use Rattle.vs_design.specs.RefusalLaws.{BlockRefusalIs, ClockRefusalIs, DriverRefusalIs, DriversAre, WidthRefusalIs, ZeroRefusalIs};
 ghost use Rattle.vs_design.specs.SlotValues.{SlotValuesAre};
 ghost use Rattle.vs_design.specs.Within.{FormedIsWithin, FunctionIsWithin, StatementIsWithin, TargetIsWithin};
@@ -121,6 +122,13 @@ pub fn refusal_law()
     ensures driver { DriverRefusalIs }
     ensures clock { ClockRefusalIs }
     ensures zero { ZeroRefusalIs }
+{}
+
+/// The places of what is over 64 bits or divides at run time are the same of a block's statement and of a function's, and in a formed statement all fits exactly where there are none.
+pub fn places_law()
+    ensures items { ItemPlacesAgree }
+    ensures statements { StatementPlacesAgree }
+    ensures fits { StatementFits }
 {}
 
 /// Where no clocked block writes by a blocking assignment, no clocked block reads what another one writes at once.
