@@ -1,5 +1,5 @@
 -- The signal that a select takes bits of.
-use Rattle.std.proofs.Common.{◌≡◌, ℕ, zero, suc, ◌+◌, ◌≤◌, ◌<◌, ◌==◌, true, List, [], ◌∷◌, length, sym, ap, ◌∙◌, subst, arith, Some}
+use Rattle.std.proofs.Common.{◌≡◌, ℕ, zero, suc, ◌+◌, ◌≤◌, ◌<◌, ◌==◌, true, List, [], ◌∷◌, length, sym, ap, ◌∙◌, arith, Some}
 use Rattle.std.specs.Prelude.{slice_get}
 use Rattle.std.proofs.lemmas.Bool.{eqb-true}
 use Rattle.vs_four.specs.declared.Range.{Range}
@@ -9,14 +9,13 @@ use Rattle.vs_design.specs.Fits.{source_length}
 use Rattle.vs_flat.specs.declared.processes.Signal.{Signal}
 use Rattle.vs_flat.specs.declared.expressions.Node.{Node}
 use Rattle.vs_flat.specs.declared.expressions.Node.TheVariants as N
-use Rattle.vs_flat.specs.Arena.{Arena, signal_length, declared_at}
-use Rattle.vs_flat.specs.declared.functions.Declared.{Declared}
+use Rattle.vs_flat.specs.Arena.{Arena, signal_length}
 use Rattle.vs_flat.specs.Lawful.{IsLawful}
 use Rattle.vs_flat.specs.Laws.{EachSignal, HasCounts}
 use Rattle.vs_flat.specs.Targets.{source_of}
 use Rattle.vs_flat.specs.Trees.{signal_of, signal_at}
 use Rattle.vs_flat.specs.DesignOf.{arena_signals, local_of}
-use Rattle.vs_shape.specs.Nodes.{HasNames, tree_of, place_of, tree_of_node}
+use Rattle.vs_shape.specs.Nodes.{tree_of, place_of, tree_of_node}
 use Rattle.vs_shape.proofs.Gathering.{tree_is}
 use Rattle.vs_shape.proofs.SignalBits.{signal_room}
 

@@ -1,4 +1,4 @@
-use Rattle.std.proofs.Common.{◌+◌, ◌≤◌, ◌<◌, ◌∙◌, ap, sym, refl, arith}
+use Rattle.std.proofs.Common.{◌<◌, ◌∙◌, ap, sym, refl, arith}
 use Rattle.vs_design.specs.Expressions.{OfSignal}
 use Rattle.vs_design.specs.Footprints.{somes}
 use Rattle.vs_four.specs.Selects.{range_length}
