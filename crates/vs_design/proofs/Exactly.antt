@@ -133,7 +133,7 @@ judged n k most = at (nat_lt most n) refl
     at false e = (λ h. h, λ h. h)
 
 -- the judged size is over the limit exactly where the whole is
-judged_small : (d : Design) → judged_size d ≤ 16777216 → size d ≤ 16777216
+pub judged_small : (d : Design) → judged_size d ≤ 16777216 → size d ≤ 16777216
 judged_small d h = (judged (awake_size d) (sum_by (sleeper_weight d) d.processes) 16777216).0 h
 
 pub small_judged : (d : Design) → size d ≤ 16777216 → judged_size d ≤ 16777216
