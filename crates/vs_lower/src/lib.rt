@@ -12,6 +12,8 @@ mod environments;
 mod indices;
 mod leaves;
 mod lowered;
+mod named;
+mod reach;
 mod resets;
 mod sleepers;
 mod statements;
