@@ -9,6 +9,7 @@ mod contexts;
 mod continuous;
 mod copies;
 mod environments;
+mod functions;
 mod indices;
 mod leaves;
 mod lowered;
@@ -19,6 +20,7 @@ mod sleepers;
 mod statements;
 mod writes;
 
+pub use functions::templates;
 pub use lowered::process;
 pub use resets::reset;
 pub use sleepers::sleeper;
