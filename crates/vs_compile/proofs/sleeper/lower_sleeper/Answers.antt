@@ -17,7 +17,7 @@ sleeper-done-requires-clause-unmixed c = c.requires.accepted.1.unmixed
 
 pub sleeper-done-requires-clause-mask : goal.sleeper-done-requires-clause-mask
 sleeper-done-requires-clause-mask c =
-    let a = c.args.typed.now in
+    let a = c.args.templates.now.arena in
     let d = design_of a in
     let counts = c.trees_law.ensures.counts a in
     let x = there d.processes c.args.p (omega (arith, c.requires.there, counts.processes)) in
@@ -27,7 +27,7 @@ sleeper-done-requires-clause-mask c =
 
 pub sleeper-done-requires-clause-waits : goal.sleeper-done-requires-clause-waits
 sleeper-done-requires-clause-waits c =
-    let a = c.args.typed.now in
+    let a = c.args.templates.now.arena in
     let d = design_of a in
     let counts = c.trees_law.ensures.counts a in
     let x = there d.processes c.args.p (omega (arith, c.requires.there, counts.processes)) in
@@ -35,12 +35,12 @@ sleeper-done-requires-clause-waits c =
 
 pub sleeper-done-requires-clause-slots : goal.sleeper-done-requires-clause-slots
 sleeper-done-requires-clause-slots c = λ x at.
-    let slots = slept_slots (design_of c.args.typed.now) c.args.p x at (c.requires.sleeps x at) c.args.first_temp c.requires.room in
+    let slots = slept_slots (design_of c.args.templates.now.arena) c.args.p x at (c.requires.sleeps x at) c.args.first_temp c.requires.room in
     omega (arith, slots, c.from-code.ensures.next)
 
 pub sleeper-done-requires-clause-few : goal.sleeper-done-requires-clause-few
 sleeper-done-requires-clause-few c = λ x at.
-    let a = c.args.typed.now in
+    let a = c.args.templates.now.arena in
     let d = design_of a in
     let counts = c.trees_law.ensures.counts a in
     let waits = are_waits c.list_law.ensures.few c.list_law.ensures.ascending c.footprint_law.ensures.bits d c.requires.accepted c.args.p x at (c.requires.sleeps x at) (bit_count a.signals) counts.bits c.args.waits.now (c.requires.waits x at) in
@@ -51,7 +51,7 @@ pub returns : goal.returns
 returns c =
     on_ok c.sleeper-done.result c.sleeper-done.ensures
     (λ done l layout first.
-    let a = c.args.typed.now in
+    let a = c.args.templates.now.arena in
     let d = design_of a in
     let counts = c.trees_law.ensures.counts a in
     let x = there d.processes c.args.p (omega (arith, c.requires.there, counts.processes)) in
