@@ -11,8 +11,8 @@ use vs_assemble::{Processes, registers};
 use vs_clock::{Clocks, Reset};
 use vs_cone::{list_law, sources_law};
 use vs_flat::{count_bits, trees_law};
-use vs_reads::{Footprints, footprint_law};
 use vs_lower::templates;
+use vs_reads::{Footprints, footprint_law};
 use vs_typed::Typed;
 use vs_values::Templates;
 

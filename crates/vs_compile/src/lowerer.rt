@@ -154,7 +154,14 @@ impl<'a> Lowering for Lowerer<'a> {
         within_law();
         let templates = self.facts.templates();
         match self.facts.reset(process) {
-            Some(reset) => lower_branch(alloc, templates, reset, self.count, self.first_temp, program),
+            Some(reset) => lower_branch(
+                alloc,
+                templates,
+                reset,
+                self.count,
+                self.first_temp,
+                program,
+            ),
             None => Ok(()),
         }
     }

@@ -1,8 +1,6 @@
 -- What a statement names, by the bounds of what may be lowered, and each arm of a formed case has an item.
-use Rattle.std.proofs.Common.{◌≡◌, ◌∙◌, ℕ, zero, suc, ◌≤◌, ◌<◌, true, ◌&&◌, nat_lt, List, [], ◌∷◌, ◌++◌, map, length, slice_get, Option, None, Some, refl, sym, subst, arith}
-use Rattle.std.specs.Prelude.{option_map, option_to_list}
-use Rattle.std.specs.List.{flat_map}
-use Rattle.std.proofs.lemmas.List.Folds.{list_all-append}
+use Rattle.std.proofs.Common.{◌≡◌, ℕ, ◌≤◌, ◌<◌, true, ◌&&◌, List, [], ◌∷◌, map, length, slice_get, Option, None, Some, refl, subst, arith}
+use Rattle.std.specs.Prelude.{option_map}
 use Rattle.std.specs.List.{All}
 use Rattle.std.proofs.lemmas.List.Elements.{All-nil, All-cons}
 use Rattle.vs_design.specs.Designs.{Design}
@@ -16,51 +14,16 @@ use Rattle.vs_flat.specs.declared.statements.Statement.TheVariants as S
 use Rattle.vs_flat.specs.declared.placed.Placed.{Placed}
 use Rattle.vs_flat.specs.Arena.{Arena, statement_at}
 use Rattle.vs_flat.specs.Lawful.{NamesEarlier}
-use Rattle.vs_flat.specs.Named.{all_below, statement_names_below}
+use Rattle.vs_flat.specs.Named.{statement_names_below}
 use Rattle.vs_flat.specs.Trees.{arms_tree}
-use Rattle.vs_shape.specs.Bodies.{ArmNames, EachArmNames, HasBodyNames, OtherBelow, body_of, body_of_statement}
+use Rattle.vs_shape.specs.Bodies.{HasBodyNames, body_of, body_of_statement}
 use Rattle.vs_shape.specs.Nodes.{tree_of}
-use Rattle.vs_shape.proofs.Names.{and_both, first_below, rest_below, each_below}
+use Rattle.vs_shape.proofs.BodyNames.{has_body_names}
 use Rattle.vs_values.specs.Templates.{Templated, node_bound, statement_bound, BoundedNames}
 use Rattle.vs_lower.specs.Stated.{HasItems}
 use Rattle.vs_values.proofs.Values.{both_true}
 
 -- ---- what a statement names
-
-below_append : (n : ℕ) (ms ns : List ℕ) → all_below n (ms ++ ns) ≡ true → (all_below n ms ≡ true) × (all_below n ns ≡ true)
-below_append n ms ns h = and_both (all_below n ms) (all_below n ns) (sym (list_all-append (λ m. nat_lt m n) ms ns) ∙ h)
-
-arm_names : (nodes s : ℕ) (arms : List Arm) → all_below nodes (flat_map (λ (arm : Arm). arm.items) arms) ≡ true → all_below s (map (λ (arm : Arm). arm.statement) arms) ≡ true → EachArmNames nodes s arms
-arm_names nodes s [] h k i arm at = cc
-arm_names nodes s (a ∷ arms) h k zero arm at = subst (ArmNames nodes s) (same a arm at) (record {
-  items = each_below nodes a.items (below_append nodes a.items (flat_map (λ (b : Arm). b.items) arms) h).0;
-  statement = first_below s a.statement (map (λ (b : Arm). b.statement) arms) k;
-})
-  where
-    same : (a b : Arm) → Some a ≡ Some b → a ≡ b
-    same a b e = cc
-arm_names nodes s (a ∷ arms) h k (suc i) arm at =
-    arm_names nodes s arms (below_append nodes a.items (flat_map (λ (b : Arm). b.items) arms) h).1 (rest_below s a.statement (map (λ (b : Arm). b.statement) arms) k) i arm at
-
-other_below : (s : ℕ) (other : Option ℕ) → all_below s (option_to_list other) ≡ true → OtherBelow s other
-other_below s None h = tt
-other_below s (Some n) h = first_below s n [] h
-
-body_names : (nodes s : ℕ) (b : Statement) → statement_names_below nodes s b ≡ true → HasBodyNames nodes s b
-body_names nodes s S.Empty h = tt
-body_names nodes s (S.Assign target e blocking) h =
-    let p = (and_both (all_below nodes (target ∷ e ∷ [])) true h).0 in
-    (first_below nodes target (e ∷ []) p, first_below nodes e [] (rest_below nodes target (e ∷ []) p))
-body_names nodes s (S.If c taken other) h =
-    let p = and_both (all_below nodes (c ∷ [])) (all_below s (taken ∷ option_to_list other)) h in
-    (first_below nodes c [] p.0, first_below s taken (option_to_list other) p.1, other_below s other (rest_below s taken (option_to_list other) p.1))
-body_names nodes s (S.Case kind of arms other) h =
-    let items = flat_map (λ (arm : Arm). arm.items) arms in
-    let bodies = map (λ (arm : Arm). arm.statement) arms in
-    let p = and_both (all_below nodes (of ∷ items)) (all_below s (bodies ++ option_to_list other)) h in
-    let q = below_append s bodies (option_to_list other) p.1 in
-    (first_below nodes of items p.0, arm_names nodes s arms (rest_below nodes of items p.0) q.0, other_below s other q.1)
-body_names nodes s (S.Seq parts) h = each_below s parts h
 
 -- a statement below the bound names expressions below theirs
 pub names_of : BoundedNames → (t : Templated) → NamesEarlier t.arena → (s : ℕ) (b : Statement) → s < statement_bound t → statement_at t.arena s ≡ Some b → HasBodyNames (node_bound t) s b
@@ -68,7 +31,7 @@ names_of law t names s b l at = found (slice_get t.arena.statements s) refl at
   where
     found : (o : Option (Placed Statement)) → slice_get t.arena.statements s ≡ o → option_map (λ (m : Placed Statement). m.item) o ≡ Some b → HasBodyNames (node_bound t) s b
     found None is h = cc
-    found (Some m) is h = body_names (node_bound t) s b (subst (λ (x : Statement). statement_names_below (node_bound t) s x ≡ true) (item m h) (law t names s m l is))
+    found (Some m) is h = has_body_names (node_bound t) s b (subst (λ (x : Statement). statement_names_below (node_bound t) s x ≡ true) (item m h) (law t names s m l is))
       where
         item : (m : Placed Statement) → Some m.item ≡ Some b → m.item ≡ b
         item m h = cc

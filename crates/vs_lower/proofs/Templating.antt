@@ -89,8 +89,8 @@ mutual
       let p = both_true (is_fit c && fits_statement taken) (fits_statement other) f in
       let v = both_true (names_within n c && statement_within n taken) (statement_within n other) w in
       in_either (statement_bits taken) (statement_bits other) b h
-          (statement_inside n taken (both_true (is_fit c) (fits_statement taken) p.0).1 (both_true (names_within n c) (statement_within n taken) v.0).1 b)
-          (statement_inside n other p.1 v.1 b)
+      (statement_inside n taken (both_true (is_fit c) (fits_statement taken) p.0).1 (both_true (names_within n c) (statement_within n taken) v.0).1 b)
+      (statement_inside n other p.1 v.1 b)
   statement_inside n (Case kind subject arms) f w b h =
       arms_inside n arms (both_true (is_fit subject) (fits_arms arms) f).1 (both_true (names_within n subject) (arms_within n arms) w).1 b h
 
@@ -99,8 +99,8 @@ mutual
       let p = both_true (fit_items items && fits_statement st) (fits_arms rest) f in
       let v = both_true (items_within n items && statement_within n st) (arms_within n rest) w in
       in_either (statement_bits st) (arms_bits rest) b h
-          (statement_inside n st (both_true (fit_items items) (fits_statement st) p.0).1 (both_true (items_within n items) (statement_within n st) v.0).1 b)
-          (arms_inside n rest p.1 v.1 b)
+      (statement_inside n st (both_true (fit_items items) (fits_statement st) p.0).1 (both_true (items_within n items) (statement_within n st) v.0).1 b)
+      (arms_inside n rest p.1 v.1 b)
   arms_inside n (Default st) f w b h = statement_inside n st f w b h
 
 -- ---- what the lowering of its statement needs

@@ -64,7 +64,9 @@ pub fn process(
     lawful_law();
     let _flat = templates.flat();
     match kind_at(templates, p) {
-        Kind::Assign { target, expr, .. } => continuous(alloc, templates, *target, *expr, count, code),
+        Kind::Assign { target, expr, .. } => continuous(
+            alloc, templates, *target, *expr, count, code,
+        ),
         Kind::Block {
             events,
             statement,

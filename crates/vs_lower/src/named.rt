@@ -34,7 +34,11 @@ pub(crate) fn declared<'a>(templates: &'a Templates, named: Named) -> &'a Signal
 }
 
 /// Its bits, by their numbers, the least significant one first.
-pub(crate) fn named_bits(alloc: Global, templates: &Templates, named: Named) -> Result<Vec<u32>, AllocError>
+pub(crate) fn named_bits(
+    alloc: Global,
+    templates: &Templates,
+    named: Named,
+) -> Result<Vec<u32>, AllocError>
     requires { IsNamed templates.now.arena named }
     ensures { IfOk result (λ bits. bits.items ≡ bits_of_signal (named_signal templates.now.arena named)) }
 {

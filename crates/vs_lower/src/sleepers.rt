@@ -216,6 +216,8 @@ pub fn sleeper(
     let _flat = templates.flat();
     match kind_at(templates, p) {
         Kind::Assign { .. } => Ok(()),
-        Kind::Block { statement, .. } => asleep(alloc, templates, *statement, count, waits, mask, code),
+        Kind::Block { statement, .. } => asleep(
+            alloc, templates, *statement, count, waits, mask, code,
+        ),
     }
 }

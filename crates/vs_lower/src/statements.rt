@@ -27,14 +27,20 @@ use vs_shape::{Walk, ascend};
 use vs_values::{Code, Templates, bounds_law, lower, own};
 
 /// The bits that a statement may write, in ascending order and each once.
-pub(crate) fn written_bits(alloc: Global, templates: &Templates, s: u32) -> Result<Vec<u32>, AllocError>
+pub(crate) fn written_bits(
+    alloc: Global,
+    templates: &Templates,
+    s: u32,
+) -> Result<Vec<u32>, AllocError>
     requires there { s < length templates.now.arena.statements }
     requires fits { fits_statement (body_of templates.now.arena s) ≡ true }
     ensures rising { IfOk result (λ v. IsStrictlyIncreasing v.items) }
     ensures same { IfOk result (λ v. (b : ℕ) → contains v.items b ≡ contains (statement_bits (body_of templates.now.arena s)) b) }
 {
     let mut bits = Vec::new(alloc);
-    templates.shapes().push_statement(s, Walk::Writes, &mut bits)?;
+    templates
+        .shapes()
+        .push_statement(s, Walk::Writes, &mut bits)?;
     ascend(&mut bits);
     Ok(bits)
 }
@@ -312,7 +318,8 @@ fn branches(
         let items = arms[n].items.as_slice();
         let part = arms[n].statement;
         behind = arm(
-            alloc, templates, s, kind, subject, context, items, part, bits, behind, clocked, env, code,
+            alloc, templates, s, kind, subject, context, items, part, bits, behind, clocked, env,
+            code,
         )?;
     }
     Ok(behind)

@@ -28,7 +28,10 @@ use vs_code::AnyKernel;
 use vs_flat::bits_of;
 use vs_kern_select::{Addresses, Selection};
 use vs_shape::{Part, Places, places_of};
-use vs_values::{Code, Environment, Templates, are_constant, constant_bits, first_of_word, memory_addresses, numbers, picked, place, triple, word_width};
+use vs_values::{
+    Code, Environment, Templates, are_constant, constant_bits, first_of_word, memory_addresses,
+    numbers, picked, place, triple, word_width,
+};
 
 /// Gives the bit at a place of the signal that begins with bit `first` another slot, where there is that place.
 fn set_at(
