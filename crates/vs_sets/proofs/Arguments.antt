@@ -1,6 +1,5 @@
 -- The arguments of a call, and the inputs of its function.
-use Rattle.std.proofs.Common.{◌≡◌, ℕ, zero, suc, ◌+◌, ◌-◌, ◌<◌, ◌≤◌, Bool, true, List, [], ◌∷◌, ◌++◌, length, map, take, drop, get_or, replicate, Option, Some, None, refl, sym, ap, ap₂, ◌∙◌, subst, arith}
-use Rattle.std.specs.Prelude.{◌&&◌, slice_get}
+use Rattle.std.proofs.Common.{◌≡◌, ℕ, zero, suc, ◌+◌, ◌<◌, ◌≤◌, true, List, [], ◌∷◌, ◌++◌, length, map, take, drop, get_or, replicate, Option, Some, None, refl, sym, ap, ap₂, ◌∙◌, arith}
 use Rattle.std.specs.List.{list_all}
 use mathlib.Core.Path.{fun_ext}
 use Rattle.std.proofs.lemmas.List.{drop_more}
@@ -20,7 +19,7 @@ use Rattle.vs_flat.specs.Arena.{Arena, declared_at}
 use Rattle.vs_flat.specs.Named.{locals_in}
 use Rattle.vs_flat.specs.Trees.{no_signal, joined, signal_at, signals_from}
 use Rattle.vs_flat.specs.DesignOf.{header_in, local_of}
-use Rattle.vs_sets.specs.Calls.{IsCall, arguments_of, function_of}
+use Rattle.vs_sets.specs.Calls.{IsCall, function_of}
 use Rattle.vs_sets.specs.FitParts.{Is64}
 use Rattle.vs_sets.specs.Nodes.{tree_of}
 use Rattle.vs_sets.specs.Tables.{beyond, family_of}

@@ -1,5 +1,5 @@
 -- Functions of a lawful flat design, and calls of them.
-use Rattle.std.proofs.Common.{◌≡◌, ℕ, zero, suc, ◌+◌, ◌<◌, ◌≤◌, Bool, true, false, List, [], ◌∷◌, length, map, Option, Some, None, refl, sym, ap, ◌∙◌, subst, arith}
+use Rattle.std.proofs.Common.{◌≡◌, ℕ, zero, suc, ◌+◌, ◌<◌, ◌≤◌, true, false, List, [], ◌∷◌, length, Option, Some, None, refl, sym, ap, ◌∙◌, subst, arith}
 use Rattle.std.specs.Prelude.{◌&&◌, ◌==◌, nat_le, option_map, slice_get, sum_by}
 use Rattle.std.specs.List.{list_all}
 use Rattle.std.proofs.lemmas.Bool.Decides.{nat_tests}
@@ -28,7 +28,7 @@ use Rattle.vs_shape.specs.Nodes.{HasCalls}
 use Rattle.vs_sets.specs.declared.calls.Callee.{Callee}
 use Rattle.vs_sets.specs.Calls.{IsCall, IsCallee, arguments_of, function_of}
 use Rattle.vs_sets.specs.Laws.{BlockingIsAtOnce}
-use Rattle.vs_sets.specs.Nodes.{EachBelow, HasNames, place_of, tree_of, tree_of_node}
+use Rattle.vs_sets.specs.Nodes.{HasNames, place_of, tree_of, tree_of_node}
 use Rattle.vs_sets.specs.StatementParts.{statement_of}
 use Rattle.vs_sets.proofs.Fit.{and_left, and_right, fit_parts}
 use Rattle.vs_sets.proofs.FlagSteps.{all_below}

@@ -1,6 +1,6 @@
 -- Expressions and statements that name bits among the first n alone, and their parts.
 use Rattle.std.proofs.Common.{◌≡◌, ℕ, zero, suc, ◌+◌, ◌-◌, ◌≤◌, Bool, true, List, [], ◌∷◌, length, map, take, drop, Some, refl, sym, ap, ap₂, ◌∙◌, subst, arith}
-use Rattle.std.specs.Prelude.{◌&&◌, nat_le, slice_get}
+use Rattle.std.specs.Prelude.{◌&&◌, slice_get}
 use Rattle.std.specs.List.{list_all}
 use Rattle.vs_design.specs.Designs.{Design, Process, Always, Event, bit_count}
 use Rattle.vs_design.specs.Elaborated.{IsLawfulDesign, are_formed_events, is_formed_process, is_formed_statement}
@@ -10,7 +10,7 @@ use Rattle.vs_design.specs.Statements as T
 use Rattle.vs_design.specs.Lifted.{source_sets}
 use Rattle.vs_design.specs.Sets.{Set4}
 use Rattle.vs_design.specs.Values.{count_from}
-use Rattle.vs_design.specs.Within.{signal_within, source_within, names_within, items_within, target_within, statement_within, arms_within, StatementIsWithin}
+use Rattle.vs_design.specs.Within.{signal_within, source_within, names_within, target_within, statement_within, StatementIsWithin}
 use Rattle.vs_sets.specs.StatementParts.{WithinStatement}
 use Rattle.vs_sets.specs.Tables.{family_of}
 use Rattle.vs_sets.specs.TargetsOf.{IsSignal}

@@ -1,4 +1,4 @@
-use Rattle.std.proofs.Common.{◌≡◌, ◌≤◌, ◌<◌, ◌+◌, ◌-◌, ◌*◌, ◌++◌, ℕ, suc, length, map, take, drop, true, false, List, [], ◌∷◌, get_or, replicate, Some, Result, Ok, Err, refl, sym, ap, ap₂, ◌∙◌, subst, arith, inl, inr}
+use Rattle.std.proofs.Common.{◌≡◌, ◌≤◌, ◌<◌, ◌+◌, ◌-◌, ◌*◌, ◌++◌, ℕ, length, map, take, drop, false, List, [], ◌∷◌, get_or, replicate, Some, Result, Ok, Err, refl, sym, ap, ap₂, ◌∙◌, subst, arith, inl, inr}
 use Rattle.std.specs.Prelude.{All, IfOk, OnOk}
 use Rattle.std.specs.List.{list_any}
 use Rattle.std.proofs.lemmas.Bool.{cond-true, cond-false}
@@ -12,7 +12,7 @@ use Rattle.vs_design.specs.Lifted as L
 use Rattle.vs_design.specs.LiftedBodies.{item_sets, lifted_body, write_sets}
 use Rattle.vs_design.specs.Sets.{Set4, is_only_one, only, set_or}
 use Rattle.vs_design.specs.Sleepers.{arms_at_once, at_once}
-use Rattle.vs_design.specs.Values.{bits_of_signal, count_from}
+use Rattle.vs_design.specs.Values.{count_from}
 use Rattle.vs_design.specs.Within.{items_within}
 use Rattle.vs_flat.specs.declared.expressions.Node.{Node}
 use Rattle.vs_flat.specs.declared.statements.Statement.{Statement}

@@ -1,5 +1,5 @@
 -- An expression goes to earlier ones, and to the statement of a function all of whose expressions are earlier; a statement to its expressions, to earlier statements or to fewer branches. There are fewer than 2^32 statements, and a list has fewer than 2^65.
-use Rattle.std.proofs.Common.{◌≡◌, ◌≤◌, ◌+◌, ◌*◌, ◌++◌, length, drop, map}
+use Rattle.std.proofs.Common.{◌≡◌, ◌≤◌, ◌++◌, length, drop, map}
 use Rattle.std.specs.Prelude.{◌||◌, All}
 use Rattle.std.specs.List.{list_any}
 use Rattle.vs_design.specs.Expressions.{items_of}

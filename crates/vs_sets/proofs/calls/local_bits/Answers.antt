@@ -1,4 +1,4 @@
-use Rattle.std.proofs.Common.{◌≡◌, ◌+◌, ◌-◌, ◌<◌, length, ◌∙◌, ap, arith}
+use Rattle.std.proofs.Common.{◌≡◌, ◌+◌, ◌-◌, length, ◌∙◌, ap, arith}
 use Rattle.vs_sets.proofs.Callees.{all_local_bits}
 use Rattle.vs_sets.proofs.calls.local_bits.Goals as goal
 
