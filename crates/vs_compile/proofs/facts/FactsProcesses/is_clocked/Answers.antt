@@ -9,4 +9,4 @@ pub returns : goal.returns
 returns c =
     subst (λ (a : Arena). c.is_clocked.result ≡ is_clocked_or (slice_get (design_of a).processes c.args.process))
     (ap (λ (k : Known). k.arena) c.self.view_is)
-    (subst (λ (a : Arena). c.is_clocked.result ≡ is_clocked_or (slice_get (design_of a).processes c.args.process)) c.typed.ensures.same c.is_clocked.ensures)
+    (subst (λ (a : Arena). c.is_clocked.result ≡ is_clocked_or (slice_get (design_of a).processes c.args.process)) c.typed.ensures c.is_clocked.ensures)
