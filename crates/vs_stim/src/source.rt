@@ -115,7 +115,7 @@ impl Source {
     {
         let line = (LINE_BYTES - self.length) as usize;
         let text = (TEXT_BYTES - self.start - self.length) as usize;
-        let count = digits.read(self.block.as_slice(), most.min(line).min(text));
+        let count = digits.read(self.block.as_slice(), most.min(text).min(line));
         self.block.skip(count);
         self.length += count as u64;
     }
