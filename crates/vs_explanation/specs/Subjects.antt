@@ -1,5 +1,5 @@
 -- The name or the number in the sentence of a refusal.
-use Rattle.std.specs.Prelude.{ℕ, ◌-◌, nat_lt, List, [], ◌++◌, slice_get, Option, Some, None, codes, decimal, if◌then◌else◌}
+use Rattle.std.specs.Prelude.{ℕ, ◌-◌, nat_lt, List, [], ◌++◌, slice_get, Option, codes, decimal, if◌then◌else◌}
 use Rattle.std.specs.Option.{option_map_or}
 use Rattle.vs_desk.specs.Places.{stimulus_place, waveform_place}
 use Rattle.vs_flat.specs.DesignOf.{design_of}
