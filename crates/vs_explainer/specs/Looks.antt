@@ -25,9 +25,9 @@ design_look job r = record { path = job.design; head = job.head; draws = has_num
 
 -- Of a refusal with a byte it is the design, which is drawn where the refusal has numbers of the elaborated design; of one with a line it is the lane's
 -- stimulus; and of any other it is none.
-abbrev pub look : Job → Refusal → Option Look
-look job (Line kind lane row) = option_map stimulus_look (slice_get job.stimuli lane)
-look job r = option_map (λ (at : ℕ). design_look job r) (at_of r)
+abbrev pub look_for : Job → Refusal → Option Look
+look_for job (Line kind lane row) = option_map stimulus_look (slice_get job.stimuli lane)
+look_for job r = option_map (λ (at : ℕ). design_look job r) (at_of r)
 
 -- nothing was seen of a file
 abbrev pub unseen : ℕ → Seen
@@ -54,4 +54,4 @@ SeesOf top (Some l) old new seen = OnlyRead old new × (IsUnread l old new seen 
 
 -- What was seen again of the file that a refusal of a job is about; of what the desk tells nothing changed but at the place of files that are read again.
 abbrev pub IsSeen : {tells : Bool} → Job → Refusal → Told tells → Told tells → Seen → Type 0
-IsSeen job r old new seen = SeesOf job.top (look job r) old new seen
+IsSeen job r old new seen = SeesOf job.top (look_for job r) old new seen

@@ -41,8 +41,8 @@ fn stimulus_look(job: &Job, lane: u32) -> Option<Look<'_>>
 }
 
 /// The file that a refusal is about, if it is about a part of one.
-pub(crate) fn look<'a>(job: &'a Job, refusal: &Refusal) -> Option<Look<'a>>
-    ensures { option_map look_of result ≡ spec.look job.now refusal.now }
+pub(crate) fn look_for<'a>(job: &'a Job, refusal: &Refusal) -> Option<Look<'a>>
+    ensures { option_map look_of result ≡ spec.look_for job.now refusal.now }
 {
     if let Refusal::Line(_, lane, _) = refusal {
         return stimulus_look(job, *lane);

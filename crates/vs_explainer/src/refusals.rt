@@ -10,7 +10,7 @@ ghost use Rattle.vs_explainer.specs.Looks.{IsSeen, SeesOf, unseen};
 ghost use Rattle.vs_explainer.specs.Lent.{look_of};
 ghost use Rattle.vs_explainer.specs.Told.{ExplainsRefusal};
 
-use crate::looks::{Look, draw_look, look, read_look};
+use crate::looks::{Look, draw_look, look_for, read_look};
 use std::alloc::{AllocError, Global};
 use vs_desk::{Desk, put_all};
 use vs_excerpt::Page;
@@ -87,7 +87,7 @@ fn page_of<D: Desk>(
     ensures only { OnlyRead (D.told desk.old) (D.told desk.new) }
     ensures page { IfOk result (λ page. (seen : Saw) × IsSeen job.now refusal.now (D.told desk.old) (D.told desk.new) seen × (page ≡ refusal_text job.now seen refusal.now)) }
 {
-    match look(job, refusal) {
+    match look_for(job, refusal) {
         None => unseen_page(alloc, job, refusal, 0),
         Some(look) => looked_page(alloc, job, refusal, &look, desk),
     }

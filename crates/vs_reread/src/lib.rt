@@ -2,7 +2,7 @@
 #![tactic(auto)]
 
 mod again;
-mod draw;
+mod drawing;
 
 pub use again::{AGAIN, AgainError, read_again};
-pub use draw::draw;
+pub use drawing::draw;
