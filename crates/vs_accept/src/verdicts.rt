@@ -103,11 +103,12 @@ impl Places<'_> {
         }
     }
 
-    /// A block is refused.
+    /// A function or a block is refused.
     pub(crate) fn block_error(&self, error: BlockError) -> AcceptError
         ensures { (d : Design) (clock : List ℕ) → width_refusal d ≡ None → IsBlockError d error → IsVerdict (byte_of self.now.text.now self.now.tokens.now) d clock result }
     {
         match error {
+            BlockError::FunctionLatch { at } => self.refused_at(AtName::FunctionLatch, at),
             BlockError::MixedAssign { at } => self.refused_at(AtName::MixedAssign, at),
             BlockError::Sensitivity {
                 process,

@@ -30,7 +30,7 @@ use Rattle.vs_shape.specs.Nodes.{tree_of}
 use Rattle.vs_shape.specs.Bodies.{body_of}
 use Rattle.vs_typed.specs.Laws.{EachProcessFits}
 use Rattle.vs_block.specs.declared.error.BlockError.{BlockError}
-use Rattle.vs_block.specs.declared.error.BlockError.TheVariants.{MixedAssign, Sensitivity, Latch, Memory}
+use Rattle.vs_block.specs.declared.error.BlockError.TheVariants.{FunctionLatch, MixedAssign, Sensitivity, Latch, Memory}
 use Rattle.vs_block.specs.Blocks.{IsBlock}
 use Rattle.vs_block.specs.Refused.{IsErrorOf, IsBlockError}
 use Rattle.vs_reads.specs.Laws.{HasBitsOf}
@@ -198,26 +198,31 @@ process_there [] p h = absurd (omega (arith, h))
 process_there (x ∷ ps) zero h = (x, refl)
 process_there (x ∷ ps) (suc p) h = process_there ps p (omega (arith, h))
 
--- where there are no functions, none has a latch
-no_functions : (d : Design) → d.functions ≡ [] → block_refusal d ≡ first_found (block_refusal_of d) 0 d.processes
-no_functions d none = ap (λ fs. otherwise (option_map R.FunctionLatch (least (function_latches fs))) (first_found (block_refusal_of d) 0 d.processes)) none
+-- where no function has a latch
+by_process : (d : Design) → least (function_latches d.functions) ≡ None → block_refusal d ≡ first_found (block_refusal_of d) 0 d.processes
+by_process d none = ap (λ o. otherwise (option_map R.FunctionLatch o) (first_found (block_refusal_of d) 0 d.processes)) none
+
+-- and where one has
+pub function_refused : (d : Design) (at : ℕ) → least (function_latches d.functions) ≡ Some at → block_refusal d ≡ Some (R.FunctionLatch at)
+function_refused d at h = ap (λ o. otherwise (option_map R.FunctionLatch o) (first_found (block_refusal_of d) 0 d.processes)) h
 
 -- what is found at a process, and at none before it, is found in the design
-first_of_all : (d : Design) → d.functions ≡ [] → (p : ℕ) (x : D.Process) (r : R.BlockRefusal) → slice_get d.processes p ≡ Some x → ((q : ℕ) (y : D.Process) → q < p → slice_get d.processes q ≡ Some y → block_refusal_of d q y ≡ None) → block_refusal_of d p x ≡ Some r → block_refusal d ≡ Some r
+first_of_all : (d : Design) → least (function_latches d.functions) ≡ None → (p : ℕ) (x : D.Process) (r : R.BlockRefusal) → slice_get d.processes p ≡ Some x → ((q : ℕ) (y : D.Process) → q < p → slice_get d.processes q ≡ Some y → block_refusal_of d q y ≡ None) → block_refusal_of d p x ≡ Some r → block_refusal d ≡ Some r
 first_of_all d plain p x r at none h =
     let from = λ (q : ℕ). let e : 0 + q ≡ q = omega arith in e in
-    no_functions d plain ∙ found_first (block_refusal_of d) 0 d.processes p x r at (ap (λ m. block_refusal_of d m x) (from p) ∙ h) (λ q y l k. ap (λ m. block_refusal_of d m y) (from q) ∙ none q y l k)
+    by_process d plain ∙ found_first (block_refusal_of d) 0 d.processes p x r at (ap (λ m. block_refusal_of d m x) (from p) ∙ h) (λ q y l k. ap (λ m. block_refusal_of d m y) (from q) ∙ none q y l k)
 
-pub first_refused : (d : Design) → d.functions ≡ [] → (p : ℕ) (x : D.Process) (e : BlockError) → slice_get d.processes p ≡ Some x → ((q : ℕ) (y : D.Process) → q < p → slice_get d.processes q ≡ Some y → block_refusal_of d q y ≡ None) → IsErrorOf d p x e → IsBlockError d e
+pub first_refused : (d : Design) → least (function_latches d.functions) ≡ None → (p : ℕ) (x : D.Process) (e : BlockError) → slice_get d.processes p ≡ Some x → ((q : ℕ) (y : D.Process) → q < p → slice_get d.processes q ≡ Some y → block_refusal_of d q y ≡ None) → IsErrorOf d p x e → IsBlockError d e
+first_refused d plain p x (FunctionLatch at) there none h = absurd h
 first_refused d plain p x (MixedAssign at) there none h = first_of_all d plain p x (R.MixedAssign at) there none h
 first_refused d plain p x (Sensitivity process signal at) there none h = first_of_all d plain p x (R.Sensitivity process signal at) there none h
 first_refused d plain p x (Latch process bit at) there none h = first_of_all d plain p x (R.Latch process bit at) there none h
 first_refused d plain p x Memory there none h = tt
 
-pub none_refused : (d : Design) → d.functions ≡ [] → (n : ℕ) → length d.processes ≤ n → ((q : ℕ) (y : D.Process) → q < n → slice_get d.processes q ≡ Some y → block_refusal_of d q y ≡ None) → block_refusal d ≡ None
+pub none_refused : (d : Design) → least (function_latches d.functions) ≡ None → (n : ℕ) → length d.processes ≤ n → ((q : ℕ) (y : D.Process) → q < n → slice_get d.processes q ≡ Some y → block_refusal_of d q y ≡ None) → block_refusal d ≡ None
 none_refused d plain n many none =
     let from = λ (q : ℕ). let e : 0 + q ≡ q = omega arith in e in
-    no_functions d plain ∙ found_none (block_refusal_of d) 0 d.processes (λ q y l k. ap (λ m. block_refusal_of d m y) (from q) ∙ none q y (omega (arith, l, many)) k)
+    by_process d plain ∙ found_none (block_refusal_of d) 0 d.processes (λ q y l k. ap (λ m. block_refusal_of d m y) (from q) ∙ none q y (omega (arith, l, many)) k)
 
 -- what `?` hands on
 pub refused_exit : {A : Type 0} (d : Design) (r : Result A BlockError) (e : BlockError) → IsErrAnd r (λ y. y ≡ e) → IsBlockError d e → IfErr r (IsBlockError d)

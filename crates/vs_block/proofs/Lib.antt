@@ -7,3 +7,4 @@ pub mod Branching
 pub mod Least
 pub mod Signals
 pub mod Blocks
+pub mod Latching

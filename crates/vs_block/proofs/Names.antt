@@ -7,7 +7,7 @@ use Rattle.vs_design.specs.Expressions.{items_of}
 use Rattle.vs_design.specs.Fits.{fits, divides_constants, is_fit, fit_items, fits_target, fits_statement, fits_arms}
 use Rattle.vs_flat.specs.declared.placed.Placed.{Placed}
 use Rattle.vs_flat.specs.declared.expressions.Node.{Node}
-use Rattle.vs_flat.specs.declared.expressions.Node.TheVariants.{Literal, Name, Bit, Part, Word, Unary, Binary, Choice, Join}
+use Rattle.vs_flat.specs.declared.expressions.Node.TheVariants.{Literal, Name, Bit, Part, Word, Unary, Binary, Choice, Join, Local, Call}
 use Rattle.vs_flat.specs.declared.statements.Arm.{Arm}
 use Rattle.vs_flat.specs.declared.statements.Statement.{Statement}
 use Rattle.vs_flat.specs.declared.statements.Statement.TheVariants as S
@@ -40,6 +40,8 @@ has_names signals e (Choice c p q) h =
     let r = rest_below e c (p ∷ q ∷ []) h in
     (first_below e c (p ∷ q ∷ []) h, first_below e p (q ∷ []) r, first_below e q [] (rest_below e p (q ∷ []) r))
 has_names signals e (Join parts) h = each_below e parts h
+has_names signals e (Local function signal) h = tt
+has_names signals e (Call function arguments) h = each_below e arguments h
 
 record Found {A : Type 0} (xs : List (Placed A)) (k : ℕ) (x : A) : Type 0 where
   placed : Placed A

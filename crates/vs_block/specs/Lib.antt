@@ -4,3 +4,4 @@ pub mod Walked
 pub mod Refused
 pub mod Mixed
 pub mod Blocks
+pub mod Functions

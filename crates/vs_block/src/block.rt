@@ -9,6 +9,7 @@ ghost use Rattle.vs_block.specs.Blocks.{IsBlock};
 ghost use Rattle.vs_block.specs.Refused.{IsBlockError, IsErrorOf};
 
 use crate::BlockError;
+use crate::functions::first_latching;
 use crate::latches::first_latch;
 use crate::missing::{first_missing, signal_with};
 use crate::mixed::least_mixed;
@@ -96,13 +97,17 @@ fn check_process(
     }
 }
 
-/// Whether every block of a design keeps the rules: no blocking assignment in a clocked one and no nonblocking one in any other, and a combinational one waits on all that it reads and keeps no bit. The first process that breaks a rule decides; within it a mixed assignment comes before a missing signal, and that before a latch.
+/// Whether every function and every block of a design keeps the rules. A function assigns what it writes before it reads it, on every path, and by its end; the first in the text that doesn't decides. Then no blocking assignment in a clocked one and no nonblocking one in any other, and a combinational one waits on all that it reads and keeps no bit; the first process that breaks a rule decides; within it a mixed assignment comes before a missing signal, and that before a latch.
 pub fn block_forms(alloc: Global, typed: &Typed, footprints: &Footprints) -> Result<(), BlockError>
     requires { footprints.now ≡ footprints_of (design_of typed.now) }
     ensures unrefused { OnOk result (block_refusal (design_of typed.now) ≡ None) }
     ensures refused { IfErr result (IsBlockError (design_of typed.now)) }
 {
     trees_law();
+    let latching = first_latching(alloc, typed)?;
+    if let Some(at) = latching {
+        return Err(BlockError::FunctionLatch { at });
+    }
     for p in 0..typed.flat().process_count() {
         check_process(alloc, typed, footprints, p)?;
     }

@@ -1,9 +1,10 @@
-//! The rules on blocks: a block doesn't mix blocking and nonblocking assignments, a combinational one waits on all that it reads, and it keeps no bit.
+//! The rules on functions and blocks: a function keeps no value, a block doesn't mix blocking and nonblocking assignments, a combinational one waits on all that it reads, and it keeps no bit.
 #![tactic(auto)]
 
 mod block;
 mod error;
 mod flags;
+mod functions;
 mod latches;
 mod missing;
 mod mixed;

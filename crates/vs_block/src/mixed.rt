@@ -15,7 +15,7 @@ use vs_flat::{Arm, Statement};
 use vs_shape::Shapes;
 
 /// The least of the places so far and this one.
-fn with_place(first: Option<u32>, place: u32) -> Option<u32>
+pub(crate) fn with_place(first: Option<u32>, place: u32) -> Option<u32>
     ensures { (places : List ℕ) → first ≡ least places → result ≡ least (places ++ place ∷ []) }
 {
     match first {

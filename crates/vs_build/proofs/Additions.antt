@@ -1,6 +1,8 @@
 -- One more process, scope or signal, and the end: what makes the flat design lawful stays.
-use Rattle.std.proofs.Common.{◌≡◌, ℕ, ◌+◌, ◌-◌, ◌<◌, ◌^◌, true, List, [], ◌∷◌, ◌++◌, length, map, refl, sym, ap, ◌∙◌, subst, arith, length-append}
+use Rattle.std.proofs.Common.{◌≡◌, ℕ, suc, ◌+◌, ◌-◌, ◌<◌, ◌^◌, true, List, [], ◌∷◌, ◌++◌, length, map, refl, sym, ap, ◌∙◌, subst, arith, length-append}
 use Rattle.std.specs.List.{list_all, flat_map}
+use Rattle.vs_design.specs.Expressions.{Expression}
+use Rattle.vs_design.specs.Statements as T
 use Rattle.vs_design.specs.Designs as D
 use Rattle.vs_design.specs.Elaborated.{is_formed, is_formed_statement, IsLawfulDesign}
 use Rattle.vs_flat.specs.declared.placed.Placed.{Placed}
@@ -9,11 +11,13 @@ use Rattle.vs_flat.specs.declared.processes.Process.{Process}
 use Rattle.vs_flat.specs.declared.processes.Scope.{Scope}
 use Rattle.vs_flat.specs.declared.processes.Signal.{Signal}
 use Rattle.vs_flat.specs.declared.statements.Statement.{Statement}
+use Rattle.vs_flat.specs.declared.functions.Declared.{Declared}
 use Rattle.vs_flat.specs.Arena.{Arena, empty_arena, with_process, with_scope, with_signal}
 use Rattle.vs_flat.specs.Named.{statement_expressions, statement_statements, kind_expressions, kind_statements, covers_process}
 use Rattle.vs_flat.specs.Trees.{tree_at, signal_at, statement_at, signal_of}
 use Rattle.vs_flat.specs.DesignOf.{scope_of, process_of, arena_signals, arena_trees, arena_statements, design_of}
-use Rattle.vs_flat.specs.Lawful.{node_names, named_expressions, named_statements, has_target, assigns_target, IsLawful}
+use Rattle.vs_flat.specs.Lawful.{node_names, named_expressions, named_statements, has_target, assigns_target, node_home, statement_home, at_home, node_design, statement_design, trees_formed, statements_formed, has_locals, IsLawful}
+use Rattle.vs_flat.proofs.Agreeing.{and_both, and_true}
 use Rattle.vs_flat.proofs.Different.{once_different}
 use Rattle.vs_flat.proofs.Earlier.{names_empty, names_with_process, names_with_scope, names_with_signal}
 use Rattle.vs_flat.proofs.Growing.{process_added, scope_added, signal_added, trees_with_signal, statements_with_signal}
@@ -30,6 +34,8 @@ empty_growing = record {
   few_nodes = omega arith;
   few_statements = omega arith;
   names = names_empty;
+  no_functions = refl;
+  no_bodies = refl;
   expressions = refl;
   statements = refl;
   copies = refl;
@@ -77,6 +83,8 @@ process_kept a rs bs p g covers target =
       few_nodes = g.few_nodes;
       few_statements = g.few_statements;
       names = names_with_process a p g.names covers;
+      no_functions = g.no_functions;
+      no_bodies = g.no_bodies;
       expressions = all_wider (is_formed (design_of a)) (is_formed (design_of b)) (arena_trees a) (expression_wider (design_of a) (design_of b) (wider_process a p)) g.expressions;
       statements = all_wider (is_formed_statement (design_of a)) (is_formed_statement (design_of b)) (arena_statements a) (statement_wider (design_of a) (design_of b) (wider_process a p)) g.statements;
       copies = g.copies;
@@ -105,6 +113,8 @@ scope_kept a rs bs s g room =
       few_nodes = g.few_nodes;
       few_statements = g.few_statements;
       names = names_with_scope a s g.names;
+      no_functions = g.no_functions;
+      no_bodies = g.no_bodies;
       expressions = all_wider (is_formed (design_of a)) (is_formed (design_of b)) (arena_trees a) (expression_wider (design_of a) (design_of b) wider) g.expressions;
       statements = all_wider (is_formed_statement (design_of a)) (is_formed_statement (design_of b)) (arena_statements a) (statement_wider (design_of a) (design_of b) wider) g.statements;
       copies = g.copies;
@@ -131,6 +141,8 @@ signal_kept a rs bs s g =
       few_nodes = g.few_nodes;
       few_statements = g.few_statements;
       names = names_with_signal a s g.names;
+      no_functions = g.no_functions;
+      no_bodies = g.no_bodies;
       expressions =
           subst (λ ts. list_all (is_formed (design_of b)) ts ≡ true) (sym trees)
           (all_wider (is_formed (design_of a)) (is_formed (design_of b)) (arena_trees a) (expression_wider (design_of a) (design_of b) wider) g.expressions);
@@ -157,6 +169,20 @@ signal_draft a rs bs s g =
 
 -- ---- the end
 
+-- with no function all is formed as in the plain design
+trees_at_home : (a : Arena) (first : ℕ) (es : List Expression) → a.functions ≡ [] → list_all (is_formed (design_of a)) es ≡ true → trees_formed a first es ≡ true
+trees_at_home a first [] none h = refl
+trees_at_home a first (e ∷ es) none h =
+    let b = and_both (is_formed (design_of a) e) (list_all (is_formed (design_of a)) es) h in
+    and_true (is_formed (node_design a first) e) (trees_formed a (suc first) es) (ap (λ fs. is_formed (at_home a (node_home 0 fs a.bodies first)) e) none ∙ b.0) (trees_at_home a (suc first) es none b.1)
+
+statements_at_home : (a : Arena) (first : ℕ) (ss : List T.Statement) → a.functions ≡ [] → list_all (is_formed_statement (design_of a)) ss ≡ true → statements_formed a first ss ≡ true
+statements_at_home a first [] none h = refl
+statements_at_home a first (s ∷ ss) none h =
+    let b = and_both (is_formed_statement (design_of a) s) (list_all (is_formed_statement (design_of a)) ss) h in
+    and_true (is_formed_statement (statement_design a first) s) (statements_formed a (suc first) ss) (ap (λ fs. is_formed_statement (at_home a (statement_home 0 fs a.bodies first)) s) none ∙ b.0)
+    (statements_at_home a (suc first) ss none b.1)
+
 pub lawful : (a : Arena) (rs bs : List ℕ) → IsGrowing a rs bs → IsLawfulDesign (design_of a) → IsLawful a
 lawful a rs bs g d = record {
   design = d;
@@ -164,8 +190,11 @@ lawful a rs bs g d = record {
   few_nodes = g.few_nodes;
   few_statements = g.few_statements;
   names = g.names;
-  expressions = g.expressions;
-  statements = g.statements;
+  expressions = trees_at_home a 0 (arena_trees a) g.no_functions g.expressions;
+  statements = statements_at_home a 0 (arena_statements a) g.no_functions g.statements;
+  few_functions = omega (arith, ap length g.no_functions);
+  complete = ap length g.no_bodies ∙ sym (ap length g.no_functions);
+  locals = ap (list_all (λ (f : Declared). has_locals f.function)) g.no_functions;
   copies = g.copies;
   assign_targets = g.assign_targets;
   statement_targets = g.statement_targets;

@@ -13,18 +13,18 @@ use Rattle.vs_flat.specs.Arena.{Arena, placed, with_statement}
 use Rattle.vs_flat.specs.Named.{all_below, statement_expressions, statement_statements, kind_expressions, kind_statements, covers_statement}
 use Rattle.vs_flat.specs.Trees.{tree_at, statement_at, statement_tree}
 use Rattle.vs_flat.specs.DesignOf.{arena_trees, arena_statements, design_of}
-use Rattle.vs_flat.specs.Lawful.{NamesEarlier, assigns_target, node_names, named_expressions, named_statements, deepest, node_depths, statement_depths, are_chains}
+use Rattle.vs_flat.specs.Lawful.{NamesEarlier, has_target, assigns_target, node_names, named_expressions, named_statements, deepest, node_depths, statement_depths, are_chains}
 use Rattle.vs_flat.proofs.Agreeing.{EqualBelow, map_agrees}
 use Rattle.vs_flat.proofs.Building.{built-append, length-built}
 use Rattle.vs_flat.proofs.Earlier.{names_with_statement}
-use Rattle.vs_flat.proofs.Growing.{length-arena_statements, statements_with_statement, statement_added}
-use Rattle.vs_build.specs.Drafts.{Body, and_body}
-use Rattle.vs_build.specs.Growth.{times, IsGrowing, statement_levels, body_at, draft_of}
+use Rattle.vs_flat.proofs.Growing.{length-arena_statements, trees_with_statement, statements_with_statement, statement_added}
+use Rattle.vs_build.specs.Drafts.{Root, Body, and_body}
+use Rattle.vs_build.specs.Growth.{times, IsGrowing, node_levels, statement_levels, body_at, draft_of}
 use Rattle.vs_build.proofs.Counting.{times-append, times-flat, once_more, there_more, once_less, there_less, none_below, all_pushed, last_at, kept_at}
 
-statement_more : (a : Arena) (s : Statement) (at : ℕ) → EqualBelow (length a.statements) (statement_at (arena_statements (with_statement a s at))) (statement_at (arena_statements a))
-statement_more a s at k h =
-    kept_at (arena_statements a) (arena_statements (with_statement a s at)) (statement_tree (tree_at (arena_trees a)) (statement_at (arena_statements a)) at s) T.Empty (length a.statements) k (statements_with_statement a s at) (length-arena_statements a) h
+statement_more : (a : Arena) (s : Statement) (at : ℕ) → NamesEarlier a → EqualBelow (length a.statements) (statement_at (arena_statements (with_statement a s at))) (statement_at (arena_statements a))
+statement_more a s at e k h =
+    kept_at (arena_statements a) (arena_statements (with_statement a s at)) (statement_tree (tree_at (arena_trees a)) (statement_at (arena_statements a)) at s) T.Empty (length a.statements) k (statements_with_statement a s at e) (length-arena_statements a) h
 
 -- the levels of one more
 abbrev pub levels_of : Arena → Statement → ℕ
@@ -70,18 +70,23 @@ statement_kept a rs bs s at g covers room target formed few =
     let t : T.Statement = statement_tree (tree_at (arena_trees a)) (statement_at (arena_statements a)) at s in
     let more : length b.statements ≡ suc (length a.statements) = omega (arith, length-append a.statements (placed s at ∷ [])) in
     let design : design_of b ≡ design_of a = statement_added a s at g.names in
+    let trees : arena_trees b ≡ arena_trees a = trees_with_statement a s at g.names in
     record {
       few_scopes = g.few_scopes;
       few_nodes = g.few_nodes;
       few_statements = omega (arith, more, room);
       names = names_with_statement a s at g.names covers;
-      expressions = subst (λ d. list_all (is_formed d) (arena_trees a) ≡ true) (sym design) g.expressions;
+      no_functions = g.no_functions;
+      no_bodies = g.no_bodies;
+      expressions = subst (λ d. list_all (is_formed d) (arena_trees b) ≡ true) (sym design) (subst (λ ts. list_all (is_formed (design_of a)) ts ≡ true) (sym trees) g.expressions);
       statements =
           subst (λ d. list_all (is_formed_statement d) (arena_statements b) ≡ true) (sym design)
-          (subst (λ ss. list_all (is_formed_statement (design_of a)) ss ≡ true) (sym (statements_with_statement a s at)) (all_pushed (is_formed_statement (design_of a)) (arena_statements a) t g.statements formed));
+          (subst (λ ss. list_all (is_formed_statement (design_of a)) ss ≡ true) (sym (statements_with_statement a s at g.names)) (all_pushed (is_formed_statement (design_of a)) (arena_statements a) t g.statements formed));
       copies = g.copies;
-      assign_targets = g.assign_targets;
-      statement_targets = all_pushed (λ (m : Placed Statement). assigns_target (tree_at (arena_trees a)) m.item) a.statements (placed s at) g.statement_targets target;
+      assign_targets = subst (λ ts. list_all (λ (p : Process). has_target (tree_at ts) p.kind) a.processes ≡ true) (sym trees) g.assign_targets;
+      statement_targets =
+          subst (λ ts. list_all (λ (m : Placed Statement). assigns_target (tree_at ts) m.item) b.statements ≡ true) (sym trees)
+          (all_pushed (λ (m : Placed Statement). assigns_target (tree_at (arena_trees a)) m.item) a.statements (placed s at) g.statement_targets target);
       expressions_once = once_less rs (statement_expressions s) (λ k. times k (named_expressions a)) (λ k. times k (named_expressions b)) g.expressions_once (expressions_named a s at);
       expressions_there = there_less (length a.nodes) rs (statement_expressions s) (λ k. times k (named_expressions a)) (λ k. times k (named_expressions b)) g.expressions_there (expressions_named a s at);
       statements_once = once_more (length a.statements) bs (statement_statements s) (λ k. times k (named_statements a)) (λ k. times k (named_statements b)) g.statements_once g.statements_there (statements_named a s at);
@@ -96,16 +101,16 @@ statement_kept a rs bs s at g covers room target formed few =
 pub bodies_below : (a : Arena) (rs bs : List ℕ) → IsGrowing a rs bs → all_below (length a.statements) bs ≡ true
 bodies_below a rs bs g = none_below (length a.statements) bs (λ n h. omega (arith, g.statements_there n h))
 
-body_agrees : (a : Arena) (s : Statement) (at : ℕ) → EqualBelow (length a.statements) (body_at (with_statement a s at)) (body_at a)
-body_agrees a s at k h =
-    ap (λ z. (let r : Body = record { statement = z; levels = statement_levels (with_statement a s at) k } in r)) (statement_more a s at k h)
+body_agrees : (a : Arena) (s : Statement) (at : ℕ) → NamesEarlier a → EqualBelow (length a.statements) (body_at (with_statement a s at)) (body_at a)
+body_agrees a s at e k h =
+    ap (λ z. (let r : Body = record { statement = z; levels = statement_levels (with_statement a s at) k } in r)) (statement_more a s at e k h)
     ∙ ap (λ z. (let r : Body = record { statement = statement_at (arena_statements a) k; levels = z } in r)) (depth_more a s at k h)
 
-body_new : (a : Arena) (s : Statement) (at : ℕ)
+body_new : (a : Arena) (s : Statement) (at : ℕ) → NamesEarlier a
     → body_at (with_statement a s at) (length a.statements) ≡ (let r : Body = record { statement = statement_tree (tree_at (arena_trees a)) (statement_at (arena_statements a)) at s; levels = levels_of a s } in r)
-body_new a s at =
+body_new a s at e =
     let t = statement_tree (tree_at (arena_trees a)) (statement_at (arena_statements a)) at s in
-    ap (λ ss. (let r : Body = record { statement = statement_at ss (length a.statements); levels = statement_levels (with_statement a s at) (length a.statements) } in r)) (statements_with_statement a s at)
+    ap (λ ss. (let r : Body = record { statement = statement_at ss (length a.statements); levels = statement_levels (with_statement a s at) (length a.statements) } in r)) (statements_with_statement a s at e)
     ∙ ap (λ z. (let r : Body = record { statement = z; levels = statement_levels (with_statement a s at) (length a.statements) } in r)) (last_at (arena_statements a) t T.Empty (length a.statements) (length-arena_statements a))
     ∙ ap (λ ds. (let r : Body = record { statement = t; levels = get_or ds (length a.statements) 0 } in r)) (depths_with_statement a s at)
     ∙ ap (λ z. (let r : Body = record { statement = t; levels = z } in r)) (last_at (statement_depths (node_depths a.nodes) a.statements) (levels_of a s) 0 (length a.statements) (length-depths a))
@@ -118,8 +123,9 @@ statement_draft a rs bs s at e below =
     let new : Body = record { statement = statement_tree (tree_at (arena_trees a)) (statement_at (arena_statements a)) at s; levels = levels_of a s } in
     let design : design_of b ≡ design_of a = statement_added a s at e in
     let statements : map (body_at b) (bs ++ length a.statements ∷ []) ≡ map (body_at a) bs ++ new ∷ [] =
-    map-append (body_at b) bs (length a.statements ∷ []) ∙ ap (λ xs. xs ++ body_at b (length a.statements) ∷ []) (map_agrees (length a.statements) (body_at b) (body_at a) bs (body_agrees a s at) below)
-    ∙ ap (λ x. map (body_at a) bs ++ x ∷ []) (body_new a s at)
+    map-append (body_at b) bs (length a.statements ∷ []) ∙ ap (λ xs. xs ++ body_at b (length a.statements) ∷ []) (map_agrees (length a.statements) (body_at b) (body_at a) bs (body_agrees a s at e) below)
+    ∙ ap (λ x. map (body_at a) bs ++ x ∷ []) (body_new a s at e)
     in
     ap (λ d. record (draft_of b rs (bs ++ length a.statements ∷ [])) { design = d }) design
+    ∙ ap (λ ts. record (draft_of b rs (bs ++ length a.statements ∷ [])) { design = design_of a; expressions = map (λ n. (let r : Root = record { tree = tree_at ts n; levels = node_levels a n } in r)) rs }) (trees_with_statement a s at e)
     ∙ ap (λ xs. record (draft_of a rs bs) { statements = xs }) statements

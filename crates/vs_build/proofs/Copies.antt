@@ -16,8 +16,8 @@ use Rattle.vs_design.specs.Elaborated.{is_nil, is_formed}
 use Rattle.vs_flat.specs.declared.expressions.Node.TheVariants as N
 use Rattle.vs_flat.specs.Arena.{Arena, placed}
 use Rattle.vs_flat.specs.Named.{all_below}
-use Rattle.vs_flat.specs.Trees.{first_copy, copy_count, joined, signal_at, tree_at, placed_tree}
-use Rattle.vs_flat.specs.DesignOf.{arena_signals, arena_trees, design_of}
+use Rattle.vs_flat.specs.Trees.{first_copy, copy_count, joined, tree_at, placed_tree}
+use Rattle.vs_flat.specs.DesignOf.{arena_names, arena_trees, design_of}
 use Rattle.vs_flat.specs.Lawful.{are_different, are_copies, deepest, node_depths}
 use Rattle.vs_flat.proofs.Agreeing.{and_both, and_true, first_below, rest_below}
 use Rattle.vs_flat.proofs.Different.{once_different}
@@ -25,7 +25,7 @@ use Rattle.vs_build.specs.Drafts.{Root, Draft, most_levels, EndsWith, AddsExpres
 use Rattle.vs_build.specs.Growth.{times, Growing, IsGrowing, root_at, draft_of, draft}
 use Rattle.vs_build.proofs.Counting.{by_test, times-append, times_here, times_elsewhere}
 use Rattle.vs_build.proofs.Steps.{ends_enough, parts_are, levels_are, formed_at, used_below, IsStep, IsAdded, step_adds}
-use Rattle.vs_build.proofs.NodeKinds.{ends_in, few_used}
+use Rattle.vs_build.proofs.NodeKinds.{covered, ends_in, few_used}
 
 pub nil_end : {A : Type 0} (ys : List A) → ys ≡ ys ++ []
 nil_end [] = refl
@@ -131,7 +131,7 @@ trees_of a [] = refl
 trees_of a (x ∷ xs) = ap (λ ts. tree_at (arena_trees a) x ∷ ts) (trees_of a xs)
 
 join_tree : (a : Arena) (used : List ℕ) (n at : ℕ) → 1 ≤ length used → are_different used ≡ true
-    → placed_tree (signal_at (arena_signals a)) (tree_at (arena_trees a)) (placed (N.Join (repeat (suc n) used)) at) ≡ E.At at (E.Repeat (suc n) (joined (map (tree_at (arena_trees a)) used)))
+    → placed_tree (arena_names a) (tree_at (arena_trees a)) (placed (N.Join (repeat (suc n) used)) at) ≡ E.At at (E.Repeat (suc n) (joined (map (tree_at (arena_trees a)) used)))
 join_tree a used n at some h =
     ap (λ k. E.At at (E.Repeat k (joined (map (tree_at (arena_trees a)) (first_copy (repeat (suc n) used)))))) (count_of_copies n used some h)
     ∙ ap (λ ys. E.At at (E.Repeat (suc n) (joined (map (tree_at (arena_trees a)) ys)))) (first_of_copies n used h)
@@ -149,7 +149,7 @@ join_step a rs rest (x ∷ xs) bs n at g e some most ends =
       growing = g;
       is = e;
       names = λ k. ap (times k) (sym (first_of_copies n used different));
-      covers = below_copies (length a.nodes) (suc n) used below;
+      covers = covered (all_below (length a.nodes) (repeat (suc n) used)) (below_copies (length a.nodes) (suc n) used below);
       copies = copies_are n used some different;
       formed = ap (is_formed (design_of a)) (join_tree a used n at some different) ∙ and_true (fits_64 (suc n)) (is_formed (design_of a) (joined (map (tree_at (arena_trees a)) used))) fits (joined_formed a rs bs x xs g below);
       few = omega (arith, deepest_copies (node_depths a.nodes) (suc n) used, few_used (length used) a rs rest used bs e refl ends);

@@ -13,7 +13,7 @@ use Rattle.vs_flat.specs.Arena.{Arena, placed}
 use Rattle.vs_flat.specs.Named.{all_below, node_expressions, covers_node}
 use Rattle.vs_flat.specs.Targets.{source_of}
 use Rattle.vs_flat.specs.Trees.{signal_at, tree_at, placed_tree, node_tree}
-use Rattle.vs_flat.specs.DesignOf.{arena_signals, arena_trees, design_of}
+use Rattle.vs_flat.specs.DesignOf.{arena_names, arena_signals, arena_trees, design_of}
 use Rattle.vs_flat.specs.Lawful.{deepest, node_depths, node_names, has_copies}
 use Rattle.vs_flat.proofs.Agreeing.{and_both, and_true, first_below, rest_below}
 use Rattle.vs_build.specs.Drafts.{Root, Draft, most_levels, EndsWith, EndsInSelect, AddsExpression}
@@ -26,10 +26,14 @@ pub nil_right : (xs : List ℕ) → xs ≡ xs ++ []
 nil_right [] = refl
 nil_right (x ∷ xs) = ap (λ ys. x ∷ ys) (nil_right xs)
 
+-- a node over these that calls nothing
+pub covered : (below : Bool) → below ≡ true → (below && true) ≡ true
+covered below h = and_true below true h refl
+
 -- ---- leaves
 
 pub leaf_step : (a : Arena) (rs bs : List ℕ) (n : Node) (at : ℕ) → IsGrowing a rs bs → node_names n ≡ [] → node_expressions n ≡ [] → covers_node a n ≡ true → has_copies n ≡ true
-    → is_formed (design_of a) (placed_tree (signal_at (arena_signals a)) (tree_at (arena_trees a)) (placed n at)) ≡ true → IsStep a rs bs rs [] n at
+    → is_formed (design_of a) (placed_tree (arena_names a) (tree_at (arena_trees a)) (placed n at)) ≡ true → IsStep a rs bs rs [] n at
 leaf_step a rs bs n at g names parts covers copies formed = record {
   growing = g;
   is = nil_right rs;
@@ -41,11 +45,11 @@ leaf_step a rs bs n at g names parts covers copies formed = record {
 }
 
 pub leaf_adds : {U F : Type 0} (r : Result U F) (a b : Arena) (rs after bs : List ℕ) (n : Node) (at : ℕ) (tree : E.Expression) → IsStep a rs bs rs [] n at → IsAdded r a b rs after rs n at
-    → placed_tree (signal_at (arena_signals a)) (tree_at (arena_trees a)) (placed n at) ≡ tree → node_expressions n ≡ [] → OnOk r (AddsExpression (draft_of a rs bs) (draft_of b after bs) tree 1)
+    → placed_tree (arena_names a) (tree_at (arena_trees a)) (placed n at) ≡ tree → node_expressions n ≡ [] → OnOk r (AddsExpression (draft_of a rs bs) (draft_of b after bs) tree 1)
 leaf_adds r a b rs after bs n at tree s d is parts = step_adds r a b rs after bs rs [] n at (draft_of a rs bs) tree 0 s d refl is (omega (arith, ap (deepest (node_depths a.nodes)) parts))
 
 pub covers_name : (a : Arena) (n : ℕ) → n < length a.signals → covers_node a (N.Name n) ≡ true
-covers_name a n h = and_true (nat_lt n (length a.signals) && true) true (and_true (nat_lt n (length a.signals)) true (lt-ltb n (length a.signals) h) refl) refl
+covers_name a n h = covered ((nat_lt n (length a.signals) && true) && true) (covered (nat_lt n (length a.signals) && true) (covered (nat_lt n (length a.signals)) (lt-ltb n (length a.signals) h)))
 
 -- ---- over the last ones
 
@@ -70,7 +74,7 @@ unary_step a rs rest bs op x at g e ends =
       growing = g;
       is = e;
       names = λ k. refl;
-      covers = below;
+      covers = covered (all_below (length a.nodes) (x ∷ [])) below;
       copies = refl;
       formed = first_formed a rs bs x [] g below;
       few = omega (arith, few_used 1 a rs rest (x ∷ []) bs e refl ends);
@@ -94,7 +98,9 @@ word_step a rs rest bs n x at g e there words ends =
       growing = g;
       is = e;
       names = λ k. refl;
-      covers = and_true (nat_lt n (length a.signals) && true) (all_below (length a.nodes) (x ∷ [])) (and_true (nat_lt n (length a.signals)) true (lt-ltb n (length a.signals) there) refl) below;
+      covers =
+          covered ((nat_lt n (length a.signals) && true) && all_below (length a.nodes) (x ∷ []))
+          (and_true (nat_lt n (length a.signals) && true) (all_below (length a.nodes) (x ∷ [])) (covered (nat_lt n (length a.signals)) (lt-ltb n (length a.signals) there)) below);
       copies = refl;
       formed = and_true (has_words (design_of a) (signal_at (arena_signals a) n)) (is_formed (design_of a) (tree_at (arena_trees a) x)) words (first_formed a rs bs x [] g below);
       few = omega (arith, few_used 1 a rs rest (x ∷ []) bs e refl ends);
@@ -117,7 +123,7 @@ binary_step a rs rest bs op x y at g e ends =
       growing = g;
       is = e;
       names = λ k. refl;
-      covers = below;
+      covers = covered (all_below (length a.nodes) (x ∷ y ∷ [])) below;
       copies = refl;
       formed = and_true (is_formed (design_of a) (tree_at (arena_trees a) x)) (is_formed (design_of a) (tree_at (arena_trees a) y)) (first_formed a rs bs x (y ∷ []) g below) (first_formed a rs bs y [] g (rest_below (length a.nodes) x (y ∷ []) below));
       few = omega (arith, few_used 2 a rs rest (x ∷ y ∷ []) bs e refl ends);
@@ -158,9 +164,9 @@ binary_adds r a b rs after rest bs op x y at s q t u m n p d h k =
 pub record IsSelect (a : Arena) (n : Node) (part : Part) (index of : ℕ) : Type 0 where
   pub names : node_names n ≡ of ∷ index ∷ []
   pub expressions : node_expressions n ≡ of ∷ index ∷ []
-  pub covers : covers_node a n ≡ all_below (length a.nodes) (of ∷ index ∷ [])
+  pub covers : covers_node a n ≡ (all_below (length a.nodes) (of ∷ index ∷ []) && true)
   pub copies : has_copies n ≡ true
-  pub tree : node_tree (signal_at (arena_signals a)) (tree_at (arena_trees a)) n ≡ E.Select (source_of (tree_at (arena_trees a) of)) part (tree_at (arena_trees a) index)
+  pub tree : node_tree (arena_names a) (tree_at (arena_trees a)) n ≡ E.Select (source_of (tree_at (arena_trees a) of)) part (tree_at (arena_trees a) index)
 
 turned : (k x y : ℕ) → times k (x ∷ y ∷ []) ≡ times k (y ∷ x ∷ [])
 turned k x y = omega (arith, times-append k (x ∷ []) (y ∷ []), times-append k (y ∷ []) (x ∷ []))
@@ -184,7 +190,7 @@ select_step a rs rest bs n part index of at g e is ends =
       growing = g;
       is = e;
       names = λ k. turned k index of ∙ ap (times k) (sym is.names);
-      covers = is.covers ∙ turned_below (length a.nodes) index of below;
+      covers = is.covers ∙ covered (all_below (length a.nodes) (of ∷ index ∷ [])) (turned_below (length a.nodes) index of below);
       copies = is.copies;
       formed = ap (is_formed (design_of a)) is.tree ∙ formed;
       few = omega (arith, ap (deepest (node_depths a.nodes)) is.expressions, levels_are a (index ∷ of ∷ []), ap most_levels q.0, ends.few);
@@ -216,7 +222,7 @@ choice_step a rs rest bs x y z at g e ends =
       growing = g;
       is = e;
       names = λ k. refl;
-      covers = below;
+      covers = covered (all_below (length a.nodes) (x ∷ y ∷ z ∷ [])) below;
       copies = refl;
       formed = and_true (f x && f y) (f z) (and_true (f x) (f y) (first_formed a rs bs x (y ∷ z ∷ []) g below) (first_formed a rs bs y (z ∷ []) g tail)) (first_formed a rs bs z [] g (rest_below (length a.nodes) y (z ∷ []) tail));
       few = omega (arith, few_used 3 a rs rest (x ∷ y ∷ z ∷ []) bs e refl ends);

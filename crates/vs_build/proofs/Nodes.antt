@@ -14,8 +14,8 @@ use Rattle.vs_flat.specs.declared.statements.Statement.{Statement}
 use Rattle.vs_flat.specs.declared.statements.Statement.TheVariants as S
 use Rattle.vs_flat.specs.Arena.{Arena, placed, with_node}
 use Rattle.vs_flat.specs.Named.{all_below, node_expressions, statement_expressions, statement_statements, kind_expressions, kind_names_below, statement_names_below, covers_node}
-use Rattle.vs_flat.specs.Trees.{no_expression, signal_at, tree_at, statement_at, placed_tree}
-use Rattle.vs_flat.specs.DesignOf.{arena_signals, arena_trees, arena_statements, design_of}
+use Rattle.vs_flat.specs.Trees.{no_expression, tree_at, statement_at, placed_tree}
+use Rattle.vs_flat.specs.DesignOf.{arena_names, arena_trees, arena_statements, design_of}
 use Rattle.vs_flat.specs.Lawful.{NamesEarlier, statements_name_earlier, has_copies, is_target, has_target, assigns_target, node_names, named_expressions, deepest, node_depths, statement_depths, are_chains}
 use Rattle.vs_flat.proofs.Agreeing.{EqualBelow, and_both, and_true, first_below, rest_below, map_agrees, statement_parts, kind_parts}
 use Rattle.vs_flat.proofs.Building.{built-append, built_agrees, length-built}
@@ -66,7 +66,7 @@ deepest_agrees n d c (e ∷ es) same h =
 -- ---- trees and depths
 
 tree_more : (a : Arena) (n : Node) (at : ℕ) → EqualBelow (length a.nodes) (tree_at (arena_trees (with_node a n at))) (tree_at (arena_trees a))
-tree_more a n at k h = kept_at (arena_trees a) (arena_trees (with_node a n at)) (placed_tree (signal_at (arena_signals a)) (tree_at (arena_trees a)) (placed n at)) no_expression (length a.nodes) k (trees_with_node a n at) (length-arena_trees a) h
+tree_more a n at k h = kept_at (arena_trees a) (arena_trees (with_node a n at)) (placed_tree (arena_names a) (tree_at (arena_trees a)) (placed n at)) no_expression (length a.nodes) k (trees_with_node a n at) (length-arena_trees a) h
 
 pub depths_with_node : (a : Arena) (n : Node) (at : ℕ) → node_depths (with_node a n at).nodes ≡ node_depths a.nodes ++ suc (deepest (node_depths a.nodes) (node_expressions n)) ∷ []
 depths_with_node a n at = built-append (λ depths (m : Placed Node). suc (deepest depths (node_expressions m.item))) [] a.nodes (placed n at)
@@ -97,11 +97,11 @@ pub chain_of : (d : ℕ) → d ≤ 255 → are_chains (suc d ∷ []) ≡ true
 chain_of d h = and_true _ true (le-leb (suc d) 256 (omega (arith, h))) refl
 
 pub node_kept : (a : Arena) (rs bs : List ℕ) (n : Node) (at : ℕ) → IsGrowing a (rs ++ node_names n) bs → covers_node a n ≡ true → length a.nodes < 2 ^ 32 - 1 → has_copies n ≡ true
-    → is_formed (design_of a) (placed_tree (signal_at (arena_signals a)) (tree_at (arena_trees a)) (placed n at)) ≡ true → deepest (node_depths a.nodes) (node_expressions n) ≤ 255
+    → is_formed (design_of a) (placed_tree (arena_names a) (tree_at (arena_trees a)) (placed n at)) ≡ true → deepest (node_depths a.nodes) (node_expressions n) ≤ 255
     → IsGrowing (with_node a n at) (rs ++ length a.nodes ∷ []) bs
 node_kept a rs bs n at g covers room copies formed few =
     let b : Arena = with_node a n at in
-    let t : E.Expression = placed_tree (signal_at (arena_signals a)) (tree_at (arena_trees a)) (placed n at) in
+    let t : E.Expression = placed_tree (arena_names a) (tree_at (arena_trees a)) (placed n at) in
     let more : length b.nodes ≡ suc (length a.nodes) = omega (arith, length-append a.nodes (placed n at ∷ [])) in
     let design : design_of b ≡ design_of a = node_added a n at g.names in
     record {
@@ -109,6 +109,8 @@ node_kept a rs bs n at g covers room copies formed few =
       few_nodes = omega (arith, more, room);
       few_statements = g.few_statements;
       names = names_with_node a n at g.names covers;
+      no_functions = g.no_functions;
+      no_bodies = g.no_bodies;
       expressions =
           subst (λ d. list_all (is_formed d) (arena_trees b) ≡ true) (sym design)
           (subst (λ ts. list_all (is_formed (design_of a)) ts ≡ true) (sym (trees_with_node a n at)) (all_pushed (is_formed (design_of a)) (arena_trees a) t g.expressions formed));
@@ -143,9 +145,9 @@ root_agrees a n at k h =
     same x y i j p q = ap (λ z. (let r : Root = record { tree = z; levels = i } in r)) p ∙ ap (λ z. (let r : Root = record { tree = y; levels = z } in r)) q
 
 root_new : (a : Arena) (n : Node) (at : ℕ)
-    → root_at (with_node a n at) (length a.nodes) ≡ (let r : Root = record { tree = placed_tree (signal_at (arena_signals a)) (tree_at (arena_trees a)) (placed n at); levels = suc (deepest (node_depths a.nodes) (node_expressions n)) } in r)
+    → root_at (with_node a n at) (length a.nodes) ≡ (let r : Root = record { tree = placed_tree (arena_names a) (tree_at (arena_trees a)) (placed n at); levels = suc (deepest (node_depths a.nodes) (node_expressions n)) } in r)
 root_new a n at =
-    let t = placed_tree (signal_at (arena_signals a)) (tree_at (arena_trees a)) (placed n at) in
+    let t = placed_tree (arena_names a) (tree_at (arena_trees a)) (placed n at) in
     let l = suc (deepest (node_depths a.nodes) (node_expressions n)) in
     ap (λ ts. (let r : Root = record { tree = tree_at ts (length a.nodes); levels = node_levels (with_node a n at) (length a.nodes) } in r)) (trees_with_node a n at)
     ∙ ap (λ z. (let r : Root = record { tree = z; levels = node_levels (with_node a n at) (length a.nodes) } in r)) (last_at (arena_trees a) t no_expression (length a.nodes) (length-arena_trees a))
@@ -160,10 +162,10 @@ bodies_same a n at bs e =
 -- what the flat design stands for then
 pub node_draft : (a : Arena) (rs bs : List ℕ) (n : Node) (at : ℕ) → NamesEarlier a → all_below (length a.nodes) rs ≡ true
     → draft_of (with_node a n at) (rs ++ length a.nodes ∷ []) bs
-    ≡ and_root (draft_of a rs bs) (record { tree = placed_tree (signal_at (arena_signals a)) (tree_at (arena_trees a)) (placed n at); levels = suc (deepest (node_depths a.nodes) (node_expressions n)) })
+    ≡ and_root (draft_of a rs bs) (record { tree = placed_tree (arena_names a) (tree_at (arena_trees a)) (placed n at); levels = suc (deepest (node_depths a.nodes) (node_expressions n)) })
 node_draft a rs bs n at e below =
     let b : Arena = with_node a n at in
-    let new : Root = record { tree = placed_tree (signal_at (arena_signals a)) (tree_at (arena_trees a)) (placed n at); levels = suc (deepest (node_depths a.nodes) (node_expressions n)) } in
+    let new : Root = record { tree = placed_tree (arena_names a) (tree_at (arena_trees a)) (placed n at); levels = suc (deepest (node_depths a.nodes) (node_expressions n)) } in
     let design : design_of b ≡ design_of a = node_added a n at e in
     let expressions : map (root_at b) (rs ++ length a.nodes ∷ []) ≡ map (root_at a) rs ++ new ∷ [] =
     map-append (root_at b) rs (length a.nodes ∷ []) ∙ ap (λ xs. xs ++ root_at b (length a.nodes) ∷ []) (map_agrees (length a.nodes) (root_at b) (root_at a) rs (root_agrees a n at) below)

@@ -7,8 +7,8 @@ use Rattle.vs_design.specs.Elaborated.{is_formed}
 use Rattle.vs_flat.specs.declared.expressions.Node.{Node}
 use Rattle.vs_flat.specs.Arena.{Arena, placed, with_node}
 use Rattle.vs_flat.specs.Named.{all_below, node_expressions, covers_node}
-use Rattle.vs_flat.specs.Trees.{no_expression, signal_at, tree_at, placed_tree}
-use Rattle.vs_flat.specs.DesignOf.{arena_signals, arena_trees, design_of}
+use Rattle.vs_flat.specs.Trees.{no_expression, tree_at, placed_tree}
+use Rattle.vs_flat.specs.DesignOf.{arena_names, arena_trees, design_of}
 use Rattle.vs_flat.specs.Lawful.{has_copies, node_names, deepest, node_depths}
 use Rattle.vs_flat.proofs.Agreeing.{below_append}
 use Rattle.vs_flat.proofs.Earlier.{all_at}
@@ -94,7 +94,7 @@ pub record IsStep (a : Arena) (rs bs rest used : List ℕ) (n : Node) (at : ℕ)
   pub names : (k : ℕ) → times k used ≡ times k (node_names n)
   pub covers : covers_node a n ≡ true
   pub copies : has_copies n ≡ true
-  pub formed : is_formed (design_of a) (placed_tree (signal_at (arena_signals a)) (tree_at (arena_trees a)) (placed n at)) ≡ true
+  pub formed : is_formed (design_of a) (placed_tree (arena_names a) (tree_at (arena_trees a)) (placed n at)) ≡ true
   pub few : deepest (node_depths a.nodes) (node_expressions n) ≤ 255
 
 -- what adding it does
@@ -113,6 +113,8 @@ regrouped a rs bs rest used names g e h =
       few_nodes = g.few_nodes;
       few_statements = g.few_statements;
       names = g.names;
+      no_functions = g.no_functions;
+      no_bodies = g.no_bodies;
       expressions = g.expressions;
       statements = g.statements;
       copies = g.copies;
@@ -135,7 +137,7 @@ step_kept (Err e) a b rs after bs rest used n at s d = subst (λ c. IsGrowing c 
 -- the tree of the new node, over what stood before the last ones
 pub step_adds : {U F : Type 0} (r : Result U F) (a b : Arena) (rs after bs rest used : List ℕ) (n : Node) (at : ℕ) (s : Draft) (tree : E.Expression) (most : ℕ)
     → IsStep a rs bs rest used n at → IsAdded r a b rs after rest n at → draft_of a rest bs ≡ s
-    → placed_tree (signal_at (arena_signals a)) (tree_at (arena_trees a)) (placed n at) ≡ tree → deepest (node_depths a.nodes) (node_expressions n) ≤ most
+    → placed_tree (arena_names a) (tree_at (arena_trees a)) (placed n at) ≡ tree → deepest (node_depths a.nodes) (node_expressions n) ≤ most
     → OnOk r (AddsExpression s (draft_of b after bs) tree (1 + most))
 step_adds (Ok u) a b rs after bs rest used n at s tree most p d before is few =
     record {
@@ -144,7 +146,7 @@ step_adds (Ok u) a b rs after bs rest used n at s tree most p d before is few =
       is =
           ap (λ c. draft_of c after bs) d.flat ∙ ap (λ xs. draft_of (with_node a n at) xs bs) d.roots
           ∙ node_draft a rest bs n at p.growing.names (rest_below p.growing p.is)
-          ∙ ap (λ c. and_root c (record { tree = placed_tree (signal_at (arena_signals a)) (tree_at (arena_trees a)) (placed n at); levels = suc (deepest (node_depths a.nodes) (node_expressions n)) })) before
+          ∙ ap (λ c. and_root c (record { tree = placed_tree (arena_names a) (tree_at (arena_trees a)) (placed n at); levels = suc (deepest (node_depths a.nodes) (node_expressions n)) })) before
           ∙ ap (λ t. and_root s (record { tree = t; levels = suc (deepest (node_depths a.nodes) (node_expressions n)) })) is;
     }
   where

@@ -1,5 +1,5 @@
 -- A flat design to which more is added: what makes it lawful holds all the time (IEEE 1364-2005, clause 12, as far as it can be told without the text).
-use Rattle.std.specs.Prelude.{◌≡◌, ◌+◌, ◌≤◌, ◌<◌, ◌^◌, ◌==◌, ℕ, true, List, map, length, count_by, slice_index_or}
+use Rattle.std.specs.Prelude.{◌≡◌, ◌+◌, ◌≤◌, ◌<◌, ◌^◌, ◌==◌, ℕ, true, List, [], map, length, count_by, slice_index_or}
 use Rattle.std.specs.List.{list_all}
 use Rattle.vs_design.specs.Elaborated.{is_formed, is_formed_statement}
 use Rattle.vs_flat.specs.declared.placed.Placed.{Placed}
@@ -21,6 +21,9 @@ pub record IsGrowing (a : Arena) (roots bodies : List ℕ) : Type 0 where
   pub few_nodes : length a.nodes < 2 ^ 32
   pub few_statements : length a.statements < 2 ^ 32
   pub names : NamesEarlier a
+  -- no function is added yet, so each expression and statement is formed as in the plain design
+  pub no_functions : a.functions ≡ []
+  pub no_bodies : a.bodies ≡ []
   pub expressions : list_all (is_formed (design_of a)) (arena_trees a) ≡ true
   pub statements : list_all (is_formed_statement (design_of a)) (arena_statements a) ≡ true
   pub copies : list_all (λ (n : Placed Node). has_copies n.item) a.nodes ≡ true

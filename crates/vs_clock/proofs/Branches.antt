@@ -44,6 +44,13 @@ tree_is each a n s i p = each a n s (record { item = i; at = p.at }) p.is
 below_all : StatementNames → (a : Arena) → NamesEarlier a → (s : ℕ) (i : Statement) → A.statement_at a s ≡ Some i → all_below s (statement_statements i) ≡ true
 below_all law a n s i h = let p = placed_as a s i h in (and_both (all_below (length a.nodes) (statement_expressions i)) (all_below s (statement_statements i)) (law a n s (record { item = i; at = p.at }) p.is)).1
 
+pub condition_below : StatementNames → (a : Arena) → NamesEarlier a → (s : ℕ) (i : Statement) (c taken : ℕ) (other : Option ℕ) → A.statement_at a s ≡ Some i → i ≡ S.If c taken other → c < length a.nodes
+condition_below law a n s i c taken other h k =
+    let p = placed_as a s i h in
+    let all = (and_both (all_below (length a.nodes) (statement_expressions i)) (all_below s (statement_statements i)) (law a n s (record { item = i; at = p.at }) p.is)).0 in
+    let b : all_below (length a.nodes) (statement_expressions (S.If c taken other)) ≡ true = subst (λ i. all_below (length a.nodes) (statement_expressions i) ≡ true) k all in
+    ltb-true c (length a.nodes) (and_both (nat_lt c (length a.nodes)) _ b).0
+
 pub if_below : StatementNames → (a : Arena) → NamesEarlier a → (s : ℕ) (i : Statement) (c taken : ℕ) (other : Option ℕ) → A.statement_at a s ≡ Some i → i ≡ S.If c taken other → taken < s
 if_below law a n s i c taken other h k =
     let b : all_below s (statement_statements (S.If c taken other)) ≡ true = subst (λ i. all_below s (statement_statements i) ≡ true) k (below_all law a n s i h) in

@@ -1,5 +1,5 @@
 -- Input ports that copy a bit.
-use Rattle.std.proofs.Common.{◌≡◌, ℕ, ◌+◌, ◌<◌, Bool, true, false, List, [], ◌∷◌, ◌++◌, ◌||◌, ◌&&◌, ◌==◌, refl, sym, ap, ◌∙◌, subst, eqb-true, eq-eqb, get_or, set, take, length, Some, None, Option, is_some, option_map, ◌≢◌, cond, get_or-set_same, get_or-set_other}
+use Rattle.std.proofs.Common.{◌≡◌, ℕ, ◌+◌, ◌<◌, Bool, true, false, List, [], ◌∷◌, ◌++◌, ◌||◌, ◌&&◌, ◌==◌, refl, sym, ap, ◌∙◌, subst, eqb-true, eq-eqb, get_or, set, take, length, Some, None, Option, is_some, ◌≢◌, cond, get_or-set_same, get_or-set_other}
 use Rattle.std.specs.Prelude.{slice_get, unwrap_or}
 use Rattle.std.proofs.Math.ListN.{length-set}
 use Rattle.std.proofs.lemmas.List.{take_more}
@@ -14,11 +14,8 @@ use Rattle.vs_design.specs.Footprints.{contains, all_reads, read_bits, writes_of
 use Rattle.vs_design.specs.Clocks.{name_of}
 use Rattle.vs_design.specs.Elaborated.{IsLawfulDesign}
 use Rattle.vs_design.specs.Laws.{BitsOfDesign}
-use Rattle.vs_flat.specs.declared.placed.Placed.{Placed}
-use Rattle.vs_flat.specs.declared.expressions.Node.{Node}
-use Rattle.vs_flat.specs.declared.expressions.Node.TheVariants as N
 use Rattle.vs_flat.specs.Targets.{target_of}
-use Rattle.vs_flat.specs.Trees.{no_signal, placed_tree, target_tree}
+use Rattle.vs_flat.specs.Trees.{no_signal, target_tree}
 use Rattle.vs_clock.specs.Spread.{targets_at}
 use Rattle.vs_clock.specs.Ports.{one_bit, bit_of, both_bits, port_bits, is_copy, copies, AreTargets}
 use Rattle.vs_reads.proofs.Tests.{by_test, either_way, or_left, or_right, contains-append, contains_head}
@@ -29,27 +26,6 @@ same_other q p h e = either_way (q == p) (subst (λ m. (q == m) ≡ true) e (eq-
 or_nothing : (a : Bool) → (a || false) ≡ a
 or_nothing true = refl
 or_nothing false = refl
-
--- ---- names
-
--- the signal that a node names
-abbrev pub name_in : Node → Option ℕ
-name_in (N.Name signal) = Some signal
-name_in _ = None
-
-pub name_is : (signal : ℕ → Signal) (tree : ℕ → Expression) (n : Placed Node) → name_of (placed_tree signal tree n) ≡ option_map signal (name_in n.item)
-name_is signal tree n = go n.item
-  where
-    go : (i : Node) → name_of (placed_tree signal tree (record { item = i; at = n.at })) ≡ option_map signal (name_in i)
-    go (N.Literal bits signed sized) = refl
-    go (N.Name signal) = refl
-    go (N.Bit of range index) = refl
-    go (N.Part of range base up width) = refl
-    go (N.Word signal index) = refl
-    go (N.Unary op a) = refl
-    go (N.Binary op a b) = refl
-    go (N.Choice c p q) = refl
-    go (N.Join parts) = refl
 
 -- a name as a target
 named_target : (e : Expression) (s : Signal) → name_of e ≡ Some s → target_of e ≡ Some (Whole s)

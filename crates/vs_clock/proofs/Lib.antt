@@ -5,8 +5,8 @@ pub mod ByKind
 pub mod Least
 pub mod Finding
 pub mod Ruled
-pub mod NoCalls
 pub mod Fixed
 pub mod Branches
 pub mod Refusing
 pub mod Resetting
+pub mod StillSteps

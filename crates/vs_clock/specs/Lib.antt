@@ -10,3 +10,4 @@ pub mod Resets
 pub mod Roots
 pub mod Spread
 pub mod Tests
+pub mod Still

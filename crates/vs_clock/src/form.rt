@@ -1,7 +1,6 @@
 //! The form of a block with a reset (IEEE 1364-2005, 9.4 and 9.7.2).
 
-ghost use Rattle.std.specs.Prelude.{◌≡◌, ◌<◌, length, option_map, IfOk, IfSome, true};
-ghost use Rattle.vs_design.specs.Fits.{fits_statement};
+ghost use Rattle.std.specs.Prelude.{◌≡◌, ◌<◌, length, option_map, IfSome};
 ghost use Rattle.vs_design.specs.Resets.{inverted, is_condition, is_fixed, reset_branch};
 ghost use Rattle.vs_flat.specs.DesignOf.{arena_statements, arena_trees};
 ghost use Rattle.vs_flat.specs.Lawful.{IsLawful};
@@ -9,11 +8,11 @@ ghost use Rattle.vs_flat.specs.Trees.{statement_at, tree_at};
 ghost use Rattle.vs_clock.specs.Forms.{if_branch};
 ghost use Rattle.vs_clock.specs.Ports.{bit_of};
 
+use crate::constant::is_still;
 use crate::ports::named_bit;
-use std::alloc::{AllocError, Global};
 use vs_base::{Edge, UnaryOp};
 use vs_flat::{Flat, Node, Statement, names_law, trees_law};
-use vs_shape::Walk;
+use vs_shape::node_of;
 use vs_typed::Typed;
 
 /// The bit whose name stands behind `!` or `~`.
@@ -22,9 +21,7 @@ fn inverted_bit(flat: &Flat, e: u32) -> Option<u32>
     requires there { e < length flat.now.nodes }
     ensures { result ≡ bit_of (inverted (tree_at (arena_trees flat.now) e)) }
 {
-    trees_law();
-    names_law();
-    match flat.expr(e) {
+    match node_of(flat, e) {
         Node::Unary { op, a } => match op {
             UnaryOp::BitNot => named_bit(flat, *a),
             UnaryOp::LogicalNot => named_bit(flat, *a),
@@ -47,15 +44,12 @@ fn is_reset_condition(flat: &Flat, edge: Edge, bit: u32, c: u32) -> bool
     }
 }
 
-/// Whether a branch names no signal but as a target, by constant selects.
-fn is_fixed_branch(alloc: Global, typed: &Typed, s: u32) -> Result<bool, AllocError>
-    requires there { s < length typed.now.statements }
-    requires fits { fits_statement (statement_at (arena_statements typed.now) s) ≡ true }
-    ensures { IfOk result (λ r. r ≡ is_fixed (statement_at (arena_statements typed.now) s)) }
+/// Whether a branch names no signal but as a target, by constant selects, and calls no function.
+fn is_fixed_branch(typed: &Typed, s: u32) -> bool
+    requires { s < length typed.now.statements }
+    ensures { result ≡ is_fixed (statement_at (arena_statements typed.now) s) }
 {
-    let mut named = Vec::new(alloc);
-    typed.shapes().push_statement(s, Walk::Signals, &mut named)?;
-    Ok(named.as_slice().is_empty())
+    is_still(typed.shapes(), s)
 }
 
 /// The first branch of a block's `if`, where its condition is that of a reset by this edge of this bit. `begin` and `end` round one statement alone are no matter.
@@ -87,26 +81,19 @@ fn branch_of(flat: &Flat, edge: Edge, bit: u32, s: u32) -> Option<u32>
 }
 
 /// The branch of a reset by this edge of this bit, where the statement has the form of a block with that reset.
-pub(crate) fn reset_branch(
-    alloc: Global,
-    typed: &Typed,
-    edge: Edge,
-    bit: u32,
-    s: u32,
-) -> Result<Option<u32>, AllocError>
-    requires there { s < length typed.now.statements }
-    requires fits { fits_statement (statement_at (arena_statements typed.now) s) ≡ true }
-    ensures branch { IfOk result (λ r. option_map (statement_at (arena_statements typed.now)) r ≡ reset_branch edge bit (statement_at (arena_statements typed.now) s)) }
-    ensures there { IfOk result (λ r. IfSome r (λ b. b < length typed.now.statements)) }
+pub(crate) fn reset_branch(typed: &Typed, edge: Edge, bit: u32, s: u32) -> Option<u32>
+    requires { s < length typed.now.statements }
+    ensures branch { option_map (statement_at (arena_statements typed.now)) result ≡ reset_branch edge bit (statement_at (arena_statements typed.now) s) }
+    ensures there { IfSome result (λ b. b < length typed.now.statements) }
 {
     match branch_of(typed.flat(), edge, bit, s) {
         Some(branch) => {
-            if is_fixed_branch(alloc, typed, branch)? {
-                Ok(Some(branch))
+            if is_fixed_branch(typed, branch) {
+                Some(branch)
             } else {
-                Ok(None)
+                None
             }
         }
-        None => Ok(None),
+        None => None,
     }
 }

@@ -3,6 +3,7 @@
 
 mod clocked;
 mod clocks;
+mod constant;
 mod error;
 mod events;
 mod first;

@@ -1,31 +1,28 @@
 //! Input ports that copy a bit (IEEE 1364-2005, 12.3.9).
 
-ghost use Rattle.std.specs.Prelude.{◌≡◌, ◌<◌, length, slice_get, option_map, IfOk, IfSome, Some};
+ghost use Rattle.std.specs.Prelude.{◌≡◌, ◌<◌, ℕ, length, slice_get, IfOk, Some};
 ghost use Rattle.vs_design.specs.Clocks.{name_of};
 ghost use Rattle.vs_design.specs.Designs as D;
 ghost use Rattle.vs_flat.specs.DesignOf.{arena_signals, arena_trees, design_of};
 ghost use Rattle.vs_flat.specs.Lawful.{IsLawful};
-ghost use Rattle.vs_flat.specs.Trees.{signal_at, tree_at};
+ghost use Rattle.vs_flat.specs.Trees.{signal_at, signal_of, tree_at};
 ghost use Rattle.vs_clock.specs.Roots.{AreAllTargets};
 ghost use Rattle.vs_clock.specs.Ports.{assign_bits, bit_of, one_bit, port_bits};
 
 use crate::targets::Targets;
 use std::alloc::{AllocError, Global};
 use vs_design::footprint_law;
-use vs_flat::{Flat, Kind, Node, Port, count_bits, names_law, range_bits, trees_law};
+use vs_flat::{Flat, Kind, Node, Port, Signal, count_bits, names_law, range_bits, trees_law};
+use vs_shape::{local_of, node_of};
 
-/// The signal that an expression is the name of.
-pub(crate) fn named_signal(flat: &Flat, e: u32) -> Option<u32>
-    requires lawful { IsLawful flat.now }
-    requires there { e < length flat.now.nodes }
-    ensures name { option_map (signal_at (arena_signals flat.now)) result ≡ name_of (tree_at (arena_trees flat.now) e) }
-    ensures there { IfSome result (λ s. s < length flat.now.signals) }
+/// The bit of this signal, if it has one.
+fn bit_in(signal: &Signal) -> Option<u32>
+    ensures { (n : ℕ) → result ≡ one_bit (signal_of n signal.now) }
 {
-    trees_law();
-    names_law();
-    match flat.expr(e) {
-        Node::Name { signal } => Some(*signal),
-        _ => None,
+    if range_bits(signal.words) == 1 && range_bits(signal.range) == 1 {
+        Some(signal.first_bit)
+    } else {
+        None
     }
 }
 
@@ -35,12 +32,7 @@ pub(crate) fn only_bit(flat: &Flat, signal: u32) -> Option<u32>
     ensures { result ≡ one_bit (signal_at (arena_signals flat.now) signal) }
 {
     trees_law();
-    let signal = flat.signal(signal);
-    if range_bits(signal.words) == 1 && range_bits(signal.range) == 1 {
-        Some(signal.first_bit)
-    } else {
-        None
-    }
+    bit_in(flat.signal(signal))
 }
 
 /// The bit that an expression is the name of, where it is the name of a signal with one.
@@ -49,7 +41,11 @@ pub(crate) fn named_bit(flat: &Flat, e: u32) -> Option<u32>
     requires there { e < length flat.now.nodes }
     ensures { result ≡ bit_of (name_of (tree_at (arena_trees flat.now) e)) }
 {
-    only_bit(flat, named_signal(flat, e)?)
+    match node_of(flat, e) {
+        Node::Name { signal } => only_bit(flat, *signal),
+        Node::Local { function, signal } => bit_in(local_of(flat, *function, *signal)),
+        _ => None,
+    }
 }
 
 /// The bit that an assign copies, and the bit that it copies it to, where it is an input port's between nets of one bit.

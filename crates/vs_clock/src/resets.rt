@@ -1,8 +1,7 @@
 //! The asynchronous resets of clocked blocks (IEEE 1364-2005, 9.7.2).
 
-ghost use Rattle.std.specs.Prelude.{◌≡◌, ℕ, ◌<◌, length, slice_get, true, IfOk};
+ghost use Rattle.std.specs.Prelude.{◌≡◌, ℕ, ◌<◌, length, slice_get, IfOk};
 ghost use Rattle.vs_design.specs.Designs as D;
-ghost use Rattle.vs_design.specs.Fits.{fits_statement};
 ghost use Rattle.vs_flat.specs.DesignOf.{arena_signals, arena_statements, design_of, event_of};
 ghost use Rattle.vs_flat.specs.Trees.{signal_at, statement_at};
 ghost use Rattle.vs_clock.specs.Nets.{AreNets};
@@ -14,7 +13,7 @@ use crate::nets::Nets;
 use std::alloc::{AllocError, Global};
 use vs_base::Edge;
 use vs_flat::{Event, Kind, names_law, trees_law};
-use vs_typed::{Typed, fits_law};
+use vs_typed::Typed;
 
 /// The asynchronous reset of a clocked block: the edge of a net, at which a branch runs that reads no signal.
 #[derive(Clone, Copy, PartialEq, Eq, Debug)]
@@ -50,53 +49,45 @@ pub(crate) enum Forms {
 }
 
 /// The reset of a block with this statement by this edge of a reset net among its events.
-fn event_reset(
-    alloc: Global,
-    typed: &Typed,
-    nets: &Nets,
-    event: Event,
-    statement: u32,
-) -> Result<BlockReset, AllocError>
+fn event_reset(typed: &Typed, nets: &Nets, event: Event, statement: u32) -> BlockReset
     requires event { event.signal < length typed.now.signals }
     requires there { statement < length typed.now.statements }
-    requires fits { fits_statement (statement_at (arena_statements typed.now) statement) ≡ true }
-    ensures { IfOk result (λ r. (c : ℕ) → AreNets (design_of typed.now) c nets.now → IsEventReset typed.now c (event_of (signal_at (arena_signals typed.now)) event) (statement_at (arena_statements typed.now) statement) r) }
+    ensures { (c : ℕ) → AreNets (design_of typed.now) c nets.now → IsEventReset typed.now c (event_of (signal_at (arena_signals typed.now)) event) (statement_at (arena_statements typed.now) statement) result }
 {
     trees_law();
     let net = typed.flat().signal(event.signal).first_bit;
-    match reset_branch(alloc, typed, event.edge, net, statement)? {
-        None => Ok(BlockReset::Formless),
+    match reset_branch(typed, event.edge, net, statement) {
+        None => BlockReset::Formless,
         Some(branch) => match nets.root(net) {
-            None => Ok(BlockReset::Absent),
-            Some(input) => Ok(BlockReset::Present(Reset {
+            None => BlockReset::Absent,
+            Some(input) => BlockReset::Present(Reset {
                 net,
                 edge: event.edge,
                 input,
                 branch,
-            })),
+            }),
         },
     }
 }
 
 /// What process p has of a reset.
-fn block_reset(alloc: Global, typed: &Typed, nets: &Nets, p: u32) -> Result<BlockReset, AllocError>
+fn block_reset(typed: &Typed, nets: &Nets, p: u32) -> BlockReset
     requires { p < length typed.now.processes }
-    ensures { IfOk result (λ r. (c : ℕ) → AreNets (design_of typed.now) c nets.now → (x : D.Process) → slice_get (design_of typed.now).processes p ≡ Some x → IsBlockReset typed.now c x r) }
+    ensures { (c : ℕ) → AreNets (design_of typed.now) c nets.now → (x : D.Process) → slice_get (design_of typed.now).processes p ≡ Some x → IsBlockReset typed.now c x result }
 {
     trees_law();
     names_law();
-    fits_law();
     let flat = typed.flat();
     match &flat.process(p).kind {
-        Kind::Assign { .. } => Ok(BlockReset::Absent),
+        Kind::Assign { .. } => BlockReset::Absent,
         Kind::Block {
             events,
             statement,
             ..
         } => match events_of(flat, nets, events.as_slice()) {
-            BlockEvents::Reset(reset) => event_reset(alloc, typed, nets, reset, *statement),
-            BlockEvents::Clock => Ok(BlockReset::Absent),
-            BlockEvents::Other => Ok(BlockReset::Absent),
+            BlockEvents::Reset(reset) => event_reset(typed, nets, reset, *statement),
+            BlockEvents::Clock => BlockReset::Absent,
+            BlockEvents::Other => BlockReset::Absent,
         },
     }
 }
@@ -108,7 +99,7 @@ pub(crate) fn resets_of(alloc: Global, typed: &Typed, nets: &Nets) -> Result<For
     trees_law();
     let mut resets = Vec::new(alloc);
     for p in 0..typed.flat().process_count() {
-        match block_reset(alloc, typed, nets, p)? {
+        match block_reset(typed, nets, p) {
             BlockReset::Formless => return Ok(Forms::Formless(p)),
             BlockReset::Absent => resets.push(None)?,
             BlockReset::Present(reset) => resets.push(Some(reset))?,

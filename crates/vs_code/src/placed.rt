@@ -9,7 +9,7 @@ ghost use Rattle.vs_code.specs.Placed.{IsLonger, IsWithin, call_at, cost_at, len
 
 use crate::kernels::{AnyKernel, cost, run_one, run_three, run_two};
 use crate::ops::Op;
-use std::alloc::AllocError;
+use std::alloc::{AllocError, Global};
 use std::sync::ledger::Ledger;
 use vs_base::List;
 use vs_plane::{PlaneFile, Steps, Word};
@@ -88,6 +88,52 @@ impl Placed {
         }
     }
 
+    /// The call. The only error is that there is no memory.
+    pub(crate) fn op(&self, alloc: Global, arena: &[u32]) -> Result<Op, AllocError>
+        requires { IsWithin arena.now self.now }
+        ensures { IfOk result (λ op. op ≡ call_at arena.now self.now) }
+    {
+        let (_, slots) = arena.split_at(self.first);
+        let mut args = Vec::new(alloc);
+        match self.args {
+            Lengths::One(a) => {
+                let (a, rest) = slots.split_at(a as usize);
+                args.push(list_of(alloc, a)?)?;
+                self.op_of(alloc, args, rest)
+            }
+            Lengths::Two(a, b) => {
+                let (a, rest) = slots.split_at(a as usize);
+                let (b, rest) = rest.split_at(b as usize);
+                args.push(list_of(alloc, a)?)?;
+                args.push(list_of(alloc, b)?)?;
+                self.op_of(alloc, args, rest)
+            }
+            Lengths::Three(a, b, c) => {
+                let (a, rest) = slots.split_at(a as usize);
+                let (b, rest) = rest.split_at(b as usize);
+                let (c, rest) = rest.split_at(c as usize);
+                args.push(list_of(alloc, a)?)?;
+                args.push(list_of(alloc, b)?)?;
+                args.push(list_of(alloc, c)?)?;
+                self.op_of(alloc, args, rest)
+            }
+        }
+    }
+
+    /// The call with these arguments, by the slots behind them.
+    fn op_of(&self, alloc: Global, args: Vec<List<u32>>, rest: &[u32]) -> Result<Op, AllocError>
+        requires { self.now.to + self.now.scratch ≤ length rest.now }
+        ensures { IfOk result (λ op. op ≡ record { kernel = self.now.kernel; args = args.items; to = take self.now.to rest.now; scratch = take self.now.scratch (drop self.now.to rest.now) }) }
+    {
+        let (to, scratch) = self.written(rest);
+        Ok(Op {
+            kernel: self.kernel,
+            args: List::of(args),
+            to: list_of(alloc, to)?,
+            scratch: list_of(alloc, scratch)?,
+        })
+    }
+
     /// Runs the kernel in a file that has the call's slots.
     pub(crate) fn run<W: Word, L: Ledger>(
         &self,
@@ -135,6 +181,15 @@ impl Placed {
         let (to, rest) = slots.split_at(self.to as usize);
         (to, &rest[..self.scratch])
     }
+}
+
+/// A list of these slots.
+fn list_of(alloc: Global, slots: &[u32]) -> Result<List<u32>, AllocError>
+    ensures { IfOk result (λ list. list ≡ slots.now) }
+{
+    let mut list = Vec::with_capacity(alloc, slots.len())?;
+    list.extend_from_slice(slots)?;
+    Ok(List::of(list))
 }
 
 /// Appends a call's lists of slots, one behind the other.

@@ -1,6 +1,6 @@
 //! The program.
 
-ghost use Rattle.std.specs.Prelude.{◌≡◌, ◌≢◌, ℕ, ◌+◌, ◌<◌, ◌≤◌, ◌^◌, true, [], ◌∷◌, ◌++◌, length, slice_get, slice_range, sum_by, All, Any, Contains, OnOk, OnErr, IsTrue, ◌↔◌};
+ghost use Rattle.std.specs.Prelude.{◌≡◌, ◌≢◌, ℕ, ◌+◌, ◌<◌, ◌≤◌, ◌^◌, true, [], ◌∷◌, ◌++◌, length, slice_get, slice_range, sum_by, All, Any, Contains, OnOk, OnErr, IfOk, IsTrue, ◌↔◌, Some};
 ghost use Rattle.vs_plane.specs.Lanes.{slot_lane};
 ghost use Rattle.vs_code.specs.Kernels.{takes};
 ghost use Rattle.vs_code.specs.Calls.{AreCalled, IsCall, call_cost, count_for, length_of, slots_of, targets_of};
@@ -81,6 +81,14 @@ impl Program {
         ensures { IsTrue result ↔ (self.now ≡ []) }
     {
         self.calls.is_empty()
+    }
+
+    /// Call number n. The only error is that there is no memory.
+    pub fn op(&self, alloc: Global, n: usize) -> Result<Op, AllocError>
+        requires { n < length self.now }
+        ensures { IfOk result (λ op. slice_get self.now n ≡ Some op) }
+    {
+        self.calls[n].op(alloc, self.arena.as_slice())
     }
 
     /// How many stores an execution makes, at most 2^32.

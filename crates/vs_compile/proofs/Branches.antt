@@ -1,5 +1,5 @@
 -- What the reset of an accepted design's block is, and what its lowering needs.
-use Rattle.std.proofs.Common.{◌≡◌, ℕ, ◌+◌, ◌<◌, ◌≤◌, ◌^◌, Bool, true, ◌&&◌, List, [], ◌∷◌, ◌++◌, if◌then◌else◌, length, Option, Some, slice_get, refl, sym, ap, ◌∙◌, subst, arith}
+use Rattle.std.proofs.Common.{◌≡◌, ℕ, ◌+◌, ◌<◌, ◌≤◌, ◌^◌, Bool, true, ◌&&◌, List, [], ◌∷◌, ◌++◌, if◌then◌else◌, length, Option, Some, slice_get, refl, sym, ap, ◌∙◌, subst, arith, zero, suc, sum_by}
 use Rattle.vs_net.specs.Network as N
 use Rattle.vs_design.specs.Accepted.{is_empty}
 use Rattle.vs_design.specs.Designs.{Edge, Any, Posedge, Negedge, Process, Always, is_clocked, Design, bit_count}
@@ -24,7 +24,7 @@ use Rattle.vs_program.specs.Lowered.{Layout, IsLoweredReset}
 use Rattle.vs_program.specs.Made.{IsResetAt, RegistersInOrder}
 use Rattle.vs_assemble.specs.Plans.{may_store}
 use Rattle.vs_values.specs.Coded.{Coding}
-use Rattle.vs_lower.specs.Resetting.{AddsReset, HasResetRoom, IsResetOf, IsResetReady}
+use Rattle.vs_lower.specs.Resetting.{AddsReset, HasResetRoom, IsResetOf, IsResetReady, reset_statement}
 use Rattle.vs_lower.specs.Stated.{AreInside}
 use Rattle.vs_compile.specs.Known.{Known}
 use Rattle.vs_compile.specs.Laid.{IsTable, Laid, laid_layout, table_layout}
@@ -34,6 +34,10 @@ use Rattle.vs_compile.proofs.Blocks.{HasBranch, has_branch, has_room, left_has}
 use Rattle.vs_compile.proofs.Fixed.{fixed_writes, fixed_updates}
 use Rattle.vs_compile.proofs.Laying.{registers_below, temps_fit}
 use Rattle.vs_compile.proofs.Lists.{and_true, at_process, is_none}
+use Rattle.vs_design.specs.Within.{StatementIsWithin, names_within, statement_within}
+use Rattle.vs_design.specs.Elaborated.{are_formed_events, is_formed_process, is_formed_statement}
+use Rattle.vs_design.specs.Sizes.{process_weight, size, statement_weight}
+use Rattle.std.proofs.lemmas.List.Sums.{sum_by-cons}
 use Rattle.vs_compile.proofs.Lowering.{stores_left, writes_in}
 
 -- ---- the branch
@@ -66,6 +70,18 @@ branch_is d clock at p x e r taken is branch =
       within = λ b m. subst (λ z. contains (writes_of z) b ≡ true) (sym h.is) (left_has (statement_bits taken) (statement_bits h.other) b m);
     }
 
+-- it names bits of the design alone
+branch_named : StatementIsWithin → (d : Design) (clock : ℕ) → IsAcceptedAt d clock → (p : ℕ) (x : Process) → slice_get d.processes p ≡ Some x → (r : N.Reset) (taken : Statement) → reset_of d clock x ≡ Some r → branch_of d clock x ≡ Some taken
+    → statement_within (bit_count d) taken ≡ true
+branch_named law d clock at p x e r taken is branch =
+    let h = has_branch d clock x r taken is branch in
+    let s = If h.c taken h.other in
+    let n = bit_count d in
+    let formed : is_formed_process d (Always h.place h.star h.events s) ≡ true = subst (λ z. is_formed_process d z ≡ true) h.is (at_process (is_formed_process d) d.processes p x at.accepted.lawful.formed e) in
+    let parts = and_true (are_formed_events d h.star h.events) (is_formed_statement d s) formed in
+    let named = and_true (names_within n h.c && statement_within n taken) (statement_within n h.other) (law d at.accepted.lawful.bits_numbered s parts.1) in
+    (and_true (names_within n h.c) (statement_within n taken) named.0).1
+
 -- ---- what its lowering needs
 
 pub record CanReset (d : Design) (x : Process) (low : Bool) (r : N.Reset) (taken : Statement) : Type 0 where
@@ -74,19 +90,34 @@ pub record CanReset (d : Design) (x : Process) (low : Bool) (r : N.Reset) (taken
   pub inside : AreInside (bit_count d) (statement_bits taken)
   pub is : IsResetOf r low r.input taken
   pub room : HasResetRoom x low r.input taken
+  pub names : statement_within (bit_count d) taken ≡ true
+  pub light : statement_weight (reset_statement low r.input taken) ≤ 16777216
 
-can_reset : BodyReads → AscendingIsOnce → FewAreApart → SourcesOfDesign → (d : Design) (clock : ℕ) → IsAcceptedAt d clock → (p : ℕ) (x : Process) → slice_get d.processes p ≡ Some x
+-- none weighs more than all
+in_sum : (f : Process → ℕ) (ps : List Process) (p : ℕ) (x : Process) → slice_get ps p ≡ Some x → f x ≤ sum_by f ps
+in_sum f [] p x e = absurd (let z : ⊥ = cc in z)
+in_sum f (y ∷ ps) zero x e = let same : y ≡ x = some_is y x e in omega (arith, ap f same, sum_by-cons f y ps)
+  where
+    some_is : (a b : Process) → Some a ≡ Some b → a ≡ b
+    some_is a b q = cc
+in_sum f (y ∷ ps) (suc p) x e = omega (arith, in_sum f ps p x e, sum_by-cons f y ps)
+
+can_reset : StatementIsWithin → BodyReads → AscendingIsOnce → FewAreApart → SourcesOfDesign → (d : Design) (clock : ℕ) → IsAcceptedAt d clock → (p : ℕ) (x : Process) → slice_get d.processes p ≡ Some x
     → (r : N.Reset) (taken : Statement) (low : Bool) → reset_of d clock x ≡ Some r → branch_of d clock x ≡ Some taken → r.edge ≡ (if low then N.Negedge else N.Posedge) → r.writes ≡ branch_writes taken → r.updates ≡ branch_updates taken → CanReset d x low r taken
-can_reset reads once few sources d clock at p x e r taken low is branch edge writes updates =
+can_reset law reads once few sources d clock at p x e r taken low is branch edge writes updates =
     let h = branch_is d clock at p x e r taken is branch in
     let source : SourcesAre d clock = subst (λ c. SourcesAre d c) at.clock_is (sources d at.name at.accepted) in
     let inside : AreInside (bit_count d) (statement_bits taken) = λ b m. registers_below sources d clock at b (writes_in d.processes p x e h.block.clocked b (h.within b m)) in
+    let room = has_room once few (bit_count d) x low r.input taken (subst (λ (g : N.Edge). HasBranch x g taken) edge h.block) inside in
+    let all = in_sum process_weight d.processes p x e in
     record {
       fixed = h.fixed;
       there = source.data_below r.input (source.reset_input x r is);
       inside = inside;
       is = record { input_is = refl; edge_is = edge; writes_are = λ s. fixed_writes reads taken h.fixed.fixed s ∙ sym writes; updates_are = λ s. fixed_updates reads taken h.fixed.fixed s ∙ sym updates };
-      room = has_room once few (bit_count d) x low r.input taken (subst (λ (g : N.Edge). HasBranch x g taken) edge h.block) inside;
+      room = room;
+      names = branch_named law d clock at p x e r taken is branch;
+      light = omega (arith, room.weight, all, at.accepted.small);
     }
 
 edge_falls : (e : Edge) → net_edge e ≡ (if falls e then N.Negedge else N.Posedge)
@@ -94,10 +125,10 @@ edge_falls Negedge = refl
 edge_falls Posedge = refl
 edge_falls Any = refl
 
-pub resets : BodyReads → AscendingIsOnce → FewAreApart → SourcesOfDesign → (a : Arena) (clock : ℕ) → IsAcceptedAt (design_of a) clock → (p : ℕ) (x : Process) → slice_get (design_of a).processes p ≡ Some x
+pub resets : StatementIsWithin → BodyReads → AscendingIsOnce → FewAreApart → SourcesOfDesign → (a : Arena) (clock : ℕ) → IsAcceptedAt (design_of a) clock → (p : ℕ) (x : Process) → slice_get (design_of a).processes p ≡ Some x
     → (r : Reset) → C.IsResetOf a clock x r → CanReset (design_of a) x (falls r.edge) (plain_reset a r) (plain_branch a r)
-resets reads once few sources a clock at p x e r i =
-    can_reset reads once few sources (design_of a) clock at p x e (plain_reset a r) (plain_branch a r) (falls r.edge) i.is i.branch (edge_falls r.edge) refl refl
+resets law reads once few sources a clock at p x e r i =
+    can_reset law reads once few sources (design_of a) clock at p x e (plain_reset a r) (plain_branch a r) (falls r.edge) i.is i.branch (edge_falls r.edge) refl refl
 
 ready : (d : Design) (x : Process) (low : Bool) (r : N.Reset) (taken : Statement) (count first : ℕ) (calls : List Call) → CanReset d x low r taken → count ≡ bit_count d → 4 + count ≤ first
     → first + Rattle.vs_program.specs.Lowered.process_stores x < 2 ^ 32 → length_of calls + Rattle.vs_program.specs.Lowered.process_stores x ≤ 2 ^ 32 → IsResetReady count (record { calls = calls; next = first }) low r.input taken
@@ -105,8 +136,10 @@ ready d x low r taken count first calls can counted temps slots few = record {
   temps = temps;
   there = omega (arith, can.there, counted);
   inside = λ b m. let under = can.inside b m in omega (arith, under, counted);
+  names = subst (λ (n : ℕ). statement_within n taken ≡ true) (sym counted) can.names;
   fit = can.fixed.fits;
   unmixed = can.fixed.unmixed;
+  light = can.light;
   slots = omega (arith, slots, can.room.stores);
   few = omega (arith, few, can.room.stores);
 }
@@ -118,19 +151,21 @@ ready_as n code calls next low asked input taken same at is h = subst (λ (b : B
   temps = omega (arith, h.temps, at);
   there = h.there;
   inside = h.inside;
+  names = h.names;
   fit = h.fit;
   unmixed = h.unmixed;
+  light = h.light;
   slots = omega (arith, h.slots, at);
   few = let long = ap length_of same in omega (arith, h.few, long);
 })
 
-pub ready_by : BodyReads → AscendingIsOnce → FewAreApart → SourcesOfDesign → RegistersInOrder → (k : Known) → IsAcceptedAt (design_of k.arena) k.clock
+pub ready_by : StatementIsWithin → BodyReads → AscendingIsOnce → FewAreApart → SourcesOfDesign → RegistersInOrder → (k : Known) → IsAcceptedAt (design_of k.arena) k.clock
     → (count : ℕ) (shadows : List ℕ) (first : ℕ) → IsTable (design_of k.arena) count shadows first → (p : ℕ) (x : Process) → slice_get (design_of k.arena).processes p ≡ Some x
     → (r : Reset) → C.IsResetOf k.arena k.clock x r → (calls : List Call) → length_of calls + may_store (design_of k.arena) p ≤ 2 ^ 32
     → (a : Arena) → a ≡ k.arena → count ≡ A.bit_count a.signals → IsResetReady (A.bit_count a.signals) (record { calls = calls; next = first }) (falls r.edge) r.input (plain_branch a r)
-ready_by reads once few sources ordered k at count shadows first table p x e r i calls left a same counted =
+ready_by law reads once few sources ordered k at count shadows first table p x e r i calls left a same counted =
     let d = design_of k.arena in
-    let can = resets reads once few sources k.arena k.clock at p x e r i in
+    let can = resets law reads once few sources k.arena k.clock at p x e r i in
     subst (λ n. IsResetReady n (record { calls = calls; next = first }) (falls r.edge) r.input (plain_branch a r)) counted
     (subst (λ (z : Arena). IsResetReady count (record { calls = calls; next = first }) (falls r.edge) r.input (plain_branch z r)) (sym same)
     (ready d x (falls r.edge) (plain_reset k.arena r) (plain_branch k.arena r) count first calls can table.count_is table.layout.layout.layout.temps_above
@@ -143,12 +178,12 @@ Adds a r first old new =
     (l : Layout) (x : Process) → l.bits ≡ A.bit_count a.signals → l.first_temp ≡ first → IsResetOf (plain_reset a r) (falls r.edge) r.input (plain_branch a r)
     → HasResetRoom x (falls r.edge) r.input (plain_branch a r) → AddsReset l (Some (plain_reset a r)) x old new
 
-pub added_by : BodyReads → AscendingIsOnce → FewAreApart → SourcesOfDesign → (k : Known) → IsAcceptedAt (design_of k.arena) k.clock → (count : ℕ) (shadows : List ℕ) (first : ℕ)
+pub added_by : StatementIsWithin → BodyReads → AscendingIsOnce → FewAreApart → SourcesOfDesign → (k : Known) → IsAcceptedAt (design_of k.arena) k.clock → (count : ℕ) (shadows : List ℕ) (first : ℕ)
     → (l : Laid) → record { known = k; count = count; shadows = shadows; first = first } ≡ l → (p : ℕ) → p < length (design_of l.known.arena).processes → (at : ℕ) → at ≡ l.known.clock
     → (r : Reset) → ((x : Process) → slice_get (design_of k.arena).processes p ≡ Some x → C.IsResetOf k.arena k.clock x r)
     → (old new : List Call) (a : Arena) → a ≡ k.arena → count ≡ A.bit_count a.signals → Adds a r first old new
     → (calls : List Call) × (new ≡ old ++ calls) × IsResetAt (design_of l.known.arena) at (laid_layout l) p calls
-added_by reads once few sources k accepted count shadows first l is p low at this r each old new a same counted done =
+added_by law reads once few sources k accepted count shadows first l is p low at this r each old new a same counted done =
     subst (λ (z : Laid). p < length (design_of z.known.arena).processes → at ≡ z.known.clock → (calls : List Call) × (new ≡ old ++ calls) × IsResetAt (design_of z.known.arena) at (laid_layout z) p calls) is here low this
   where
     here : p < length (design_of k.arena).processes → at ≡ k.clock → (calls : List Call) × (new ≡ old ++ calls) × IsResetAt (design_of k.arena) at (table_layout count shadows first) p calls
@@ -156,7 +191,7 @@ added_by reads once few sources k accepted count shadows first l is p low at thi
         let d = design_of k.arena in
         let x = there d.processes p least in
         let i = each x.0 x.1 in
-        let can = resets reads once few sources k.arena k.clock accepted p x.0 x.1 r i in
+        let can = resets law reads once few sources k.arena k.clock accepted p x.0 x.1 r i in
         let so : Adds k.arena r first old new = subst (λ (z : Arena). Adds z r first old new) same done in
         let adds = so (table_layout count shadows first) x.0 (counted ∙ ap (λ (z : Arena). A.bit_count z.signals) same) refl can.is can.room in
         let own : reset_of d at x.0 ≡ Some (plain_reset k.arena r) = ap (λ c. reset_of d c x.0) clock ∙ i.is in

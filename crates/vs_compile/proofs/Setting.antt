@@ -30,6 +30,7 @@ use Rattle.vs_compile.specs.Known.{AreFacts, Known}
 use Rattle.vs_compile.specs.Resets.{AreSet, HasFacts}
 use Rattle.vs_compile.proofs.Accepted.{there}
 use Rattle.vs_compile.proofs.Lists.{all_from, by_test, contains_filter}
+use Rattle.vs_values.specs.Templates.{Templated}
 use Rattle.vs_compile.proofs.Branches.{IsBranch, branch_is}
 
 -- ---- one process
@@ -145,13 +146,13 @@ one_more d clock n old new list are is has = subst (AreSet d clock (n + 1)) (sym
 
 -- ---- by the value that clauses see
 
-pub set_known : (a : Arena) (fs : List Footprint) (c : Clocked) (lists : List (List ℕ)) (k : Known) → record { arena = a; clock = c.bit } ≡ k → HasFacts a fs c lists
+pub set_known : (t : Templated) (fs : List Footprint) (c : Clocked) (lists : List (List ℕ)) (k : Known) → record { arena = t.arena; clock = c.bit } ≡ k → HasFacts t fs c lists
     → (p : ℕ) → p < length (design_of k.arena).processes → (clock : ℕ) → clock ≡ k.clock → (list : List ℕ) → list ≡ slice_index_or lists p []
     → HasBitsOf (bit_count (design_of k.arena)) list (reset_bits_or (design_of k.arena) clock (slice_get (design_of k.arena).processes p))
-set_known a fs c lists k is has p low clock this list at =
+set_known t fs c lists k is has p low clock this list at =
     subst (λ (z : Known). p < length (design_of z.arena).processes → clock ≡ z.clock → HasBitsOf (bit_count (design_of z.arena)) list (reset_bits_or (design_of z.arena) clock (slice_get (design_of z.arena).processes p))) is here low this
   where
-    here : p < length (design_of a).processes → clock ≡ c.bit → HasBitsOf (bit_count (design_of a)) list (reset_bits_or (design_of a) clock (slice_get (design_of a).processes p))
+    here : p < length (design_of t.arena).processes → clock ≡ c.bit → HasBitsOf (bit_count (design_of t.arena)) list (reset_bits_or (design_of t.arena) clock (slice_get (design_of t.arena).processes p))
     here least same =
-        subst (λ (n : ℕ). HasBitsOf (bit_count (design_of a)) list (reset_bits_or (design_of a) n (slice_get (design_of a).processes p))) (sym same)
-        (subst (λ (bs : List ℕ). HasBitsOf (bit_count (design_of a)) bs (reset_bits_or (design_of a) c.bit (slice_get (design_of a).processes p))) (sym at) (has.set.each p least))
+        subst (λ (n : ℕ). HasBitsOf (bit_count (design_of t.arena)) list (reset_bits_or (design_of t.arena) n (slice_get (design_of t.arena).processes p))) (sym same)
+        (subst (λ (bs : List ℕ). HasBitsOf (bit_count (design_of t.arena)) bs (reset_bits_or (design_of t.arena) c.bit (slice_get (design_of t.arena).processes p))) (sym at) (has.set.each p least))

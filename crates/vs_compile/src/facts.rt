@@ -11,13 +11,15 @@ use vs_assemble::{Processes, registers};
 use vs_clock::{Clocks, Reset};
 use vs_cone::{list_law, sources_law};
 use vs_flat::{count_bits, trees_law};
+use vs_lower::templates;
 use vs_reads::{Footprints, footprint_law};
 use vs_typed::Typed;
+use vs_values::Templates;
 
-/// What is known of the processes of an accepted design, and of its clock.
+/// What is known of the processes of an accepted design, whose functions have been lowered, and of its clock.
 #[derive(Drop)]
 pub(crate) struct Facts<'a> {
-    typed: &'a Typed,
+    templates: Templates<'a>,
     footprints: &'a Footprints,
     clocks: &'a Clocks,
     reset_bits: ResetBits,
@@ -30,9 +32,9 @@ impl<'a> Model for Facts<'a> {
 
     ghost Value = { Known };
 
-    ghost view = { λ f. record { arena = f.typed.now; clock = f.clocks.now.bit } };
+    ghost view = { λ f. record { arena = f.templates.arena; clock = f.clocks.now.bit } };
 
-    ghost invariant = { λ f. HasFacts f.typed.now f.footprints.now f.clocks.now f.reset_bits };
+    ghost invariant = { λ f. HasFacts f.templates f.footprints.now f.clocks.now f.reset_bits };
 }
 
 impl<'a> Facts<'a> {
@@ -54,8 +56,9 @@ impl<'a> Facts<'a> {
         ensures { IfOk result (λ f. f ≡ record { arena = typed.now; clock = clocks.now.bit }) }
     {
         let reset_bits = ResetBits::of_design(alloc, typed, footprints, clocks)?;
+        let templates = templates(alloc, typed)?;
         Ok(Facts {
-            typed,
+            templates,
             footprints,
             clocks,
             reset_bits,
@@ -68,14 +71,23 @@ impl<'a> Facts<'a> {
         ensures accepted { IsAcceptedAt (design_of self.now.arena) self.now.clock }
     {
         let _clocks = self.clocks;
-        self.typed
+        self.templates.typed()
+    }
+
+    /// The design with the templates of its functions.
+    pub(crate) fn templates(&self) -> &Templates<'a>
+        ensures same { result.now.arena ≡ self.now.arena }
+        ensures whole { result.now.functions ≡ length result.now.arena.bodies }
+        ensures accepted { IsAcceptedAt (design_of self.now.arena) self.now.clock }
+    {
+        let _clocks = self.clocks;
+        &self.templates
     }
 
     /// The reset of a process, where it has one.
     pub(crate) fn reset(&self, process: u32) -> Option<Reset>
         ensures { (x : Process) → slice_get (design_of self.now.arena).processes process ≡ Some x → IsReset self.now.arena self.now.clock x result }
     {
-        let _typed = self.typed;
         self.clocks.reset(process)
     }
 
@@ -120,12 +132,12 @@ impl<'a> Processes for Facts<'a> {
 
     fn process_count(&self) -> u32 {
         trees_law();
-        self.typed.flat().process_count()
+        self.templates.flat().process_count()
     }
 
     fn is_clocked(&self, process: u32) -> bool {
         trees_law();
-        is_clocked(self.typed, process)
+        is_clocked(self.templates.typed(), process)
     }
 
     fn copies_clock(&self, _clock: u32, process: u32) -> bool {
@@ -139,7 +151,6 @@ impl<'a> Processes for Facts<'a> {
         process: u32,
         bits: &mut Vec<u32>,
     ) -> Result<(), AllocError> {
-        let _typed = self.typed;
         bits.extend_from_slice(self.reset_bits.of(process))?;
         Ok(())
     }

@@ -12,7 +12,7 @@ use std::marker::Model;
 use vs_assemble::{Lowering, Processes};
 use vs_code::Program;
 use vs_cone::{list_law, sources_law};
-use vs_design::reads_law;
+use vs_design::{reads_law, within_law};
 use vs_flat::trees_law;
 use vs_program::{home, program_law};
 use vs_reset::reset_law;
@@ -113,12 +113,13 @@ impl<'a> Lowering for Lowerer<'a> {
         trees_law();
         program_law();
         list_law();
-        let typed = self.facts.typed();
+        let templates = self.facts.templates();
+        let typed = templates.typed();
         if typed.sleeps(process) {
             let waits = self.facts.waits(process);
             return lower_sleeper(
                 alloc,
-                typed,
+                templates,
                 process,
                 self.count,
                 waits,
@@ -128,7 +129,7 @@ impl<'a> Lowering for Lowerer<'a> {
         }
         lower_awake(
             alloc,
-            typed,
+            templates,
             process,
             self.count,
             self.shadows.as_slice(),
@@ -150,9 +151,17 @@ impl<'a> Lowering for Lowerer<'a> {
         sources_law();
         reads_law();
         reset_law();
-        let typed = self.facts.typed();
+        within_law();
+        let templates = self.facts.templates();
         match self.facts.reset(process) {
-            Some(reset) => lower_branch(alloc, typed, reset, self.count, self.first_temp, program),
+            Some(reset) => lower_branch(
+                alloc,
+                templates,
+                reset,
+                self.count,
+                self.first_temp,
+                program,
+            ),
             None => Ok(()),
         }
     }

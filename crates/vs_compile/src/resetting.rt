@@ -13,7 +13,7 @@ use vs_base::Edge;
 use vs_clock::Reset;
 use vs_code::Program;
 use vs_lower::Code;
-use vs_typed::Typed;
+use vs_values::{Templates, bounds_law};
 
 /// Whether a reset by this edge is active at 0.
 fn falls(edge: Edge) -> bool
@@ -28,24 +28,26 @@ fn falls(edge: Edge) -> bool
 /// Adds the calls of a reset, in a design of `count` bits; the temporaries begin at `first_temp`. The only error is that there is no memory; the program then has some of the calls.
 pub(crate) fn lower_branch(
     alloc: Global,
-    typed: &Typed,
+    templates: &Templates,
     reset: Reset,
     count: u32,
     first_temp: u32,
     program: &mut Program,
 ) -> Result<(), AllocError>
-    requires count { count ≡ bit_count typed.now.signals }
-    requires there { reset.branch < length typed.now.statements }
-    requires ready { IsResetReady (bit_count typed.now.signals) (record { calls = program.old; next = first_temp }) (falls reset.edge) reset.input (plain_branch typed.now reset) }
-    ensures { OnOk result ((l : Layout) (x : D.Process) → l.bits ≡ bit_count typed.now.signals → l.first_temp ≡ first_temp
-        → IsResetOf (plain_reset typed.now reset) (falls reset.edge) reset.input (plain_branch typed.now reset)
-        → HasResetRoom x (falls reset.edge) reset.input (plain_branch typed.now reset) → AddsReset l (Some (plain_reset typed.now reset)) x program.old program.new) }
+    requires whole { templates.now.functions ≡ length templates.now.arena.bodies }
+    requires count { count ≡ bit_count templates.now.arena.signals }
+    requires there { reset.branch < length templates.now.arena.statements }
+    requires ready { IsResetReady (bit_count templates.now.arena.signals) (record { calls = program.old; next = first_temp }) (falls reset.edge) reset.input (plain_branch templates.now.arena reset) }
+    ensures { OnOk result ((l : Layout) (x : D.Process) → l.bits ≡ bit_count templates.now.arena.signals → l.first_temp ≡ first_temp
+        → IsResetOf (plain_reset templates.now.arena reset) (falls reset.edge) reset.input (plain_branch templates.now.arena reset)
+        → HasResetRoom x (falls reset.edge) reset.input (plain_branch templates.now.arena reset) → AddsReset l (Some (plain_reset templates.now.arena reset)) x program.old program.new) }
 {
+    bounds_law();
     let calls = std::mem::replace(program, Program::new(alloc));
     let mut code = Code::from(calls, first_temp);
     let done = vs_lower::reset(
         alloc,
-        typed,
+        templates,
         reset.branch,
         reset.input,
         falls(reset.edge),

@@ -15,13 +15,13 @@ use Rattle.vs_design.specs.Clocks.{clock_input, clock_nets, root_of, reads_clock
 use Rattle.vs_design.specs.Resets.{has_other_form}
 use Rattle.vs_design.specs.Levels.{level_order}
 use Rattle.vs_design.specs.TimeZero.{families, is_uncertain}
-use Rattle.vs_design.specs.Refusals.{least_with, least, otherwise, first_found, where_true, WidthRefusal, TooWide, Division, TooLarge, wide_in, divisions_in, earlier, too_large, BlockRefusal, FunctionLatch, MixedAssign, Sensitivity, Latch, signal_of, block_refusal_of, ClockRefusal, NoClock, ClockRead, NotTheClock, ResetForm, clock_refusal_by, ZeroRefusal, TimeZero, zero_refusal_by}
+use Rattle.vs_design.specs.Refusals.{least_with, least, otherwise, first_found, where_true, WidthRefusal, TooWide, Division, TooLarge, wide_in, divisions_in, earlier, judged_size, told_size, too_large, BlockRefusal, FunctionLatch, MixedAssign, Sensitivity, Latch, signal_of, block_refusal_of, ClockRefusal, NoClock, ClockRead, NotTheClock, ResetForm, clock_refusal_by, ZeroRefusal, TimeZero, zero_refusal_by}
 use Rattle.vs_design.specs.RefusalLaws.{IsLeastOf, IsFirstOf, is_unfit, IsWidthRefusal, WidthRefusalIs, is_some_of, breaks_block, IsBlockRefusal, BlockRefusalIs, IsClockRefusal, ClockRefusalIs, IsZeroRefusal, ZeroRefusalIs}
 use Rattle.vs_design.proofs.Lists.{by_test, and_both, or_left, or_right, or_neither, or_false, contains-append, contains-left, contains_head, contains_filter}
 use Rattle.vs_design.proofs.Writes.{either_way}
 use Rattle.vs_design.proofs.Parts.{all_at}
 use Rattle.vs_design.proofs.Signals.{count_low, count_high}
-use Rattle.vs_design.proofs.Exactly.{least_none, earlier_none, any_none, true_where, block_clear, all_fit}
+use Rattle.vs_design.proofs.Exactly.{least_none, earlier_none, any_none, true_where, block_clear, all_fit, small_judged}
 use Rattle.vs_design.proofs.Drivers.{empty_is}
 use Rattle.vs_design.proofs.Named.{process_bits}
 use Rattle.vs_design.proofs.WidthExact.{process_clear, wide_none, divisions_none}
@@ -204,19 +204,26 @@ width_refusal_is d l r h = go r (otherwise_some (first_found find 0 d.processes)
     large_is : (x y : ℕ) → Some (TooLarge x) ≡ Some (TooLarge y) → x ≡ y
     large_is x y e = cc
 
-    over : nat_lt 16777216 (size d) ≡ true → 16777216 < size d
-    over t = grind arith
+    over : nat_lt 16777216 (judged_size d) ≡ true → 16777216 < size d
+    over t = at (cases_lt 16777216 (size d))
+      where
+        judged : (n : ℕ) → nat_lt 16777216 n ≡ true → n ≤ 16777216 → ⊥
+        judged n t h = grind arith
+
+        at : (16777216 < size d) ⊎ (size d ≤ 16777216) → 16777216 < size d
+        at (inl h) = h
+        at (inr h) = absurd (judged (judged_size d) t (small_judged d h))
 
     by_size : (r : WidthRefusal) → first_found find 0 d.processes ≡ None → too_large d ≡ Some r → IsWidthRefusal d r
-    by_size r e f = by_test (nat_lt 16777216 (size d)) (λ t. large r t (subst (λ (c : Bool). where_true c (TooLarge (size d)) ≡ Some r) t f)) (λ t. absurd (small r (subst (λ (c : Bool). where_true c (TooLarge (size d)) ≡ Some r) t f)))
+    by_size r e f = by_test (nat_lt 16777216 (judged_size d)) (λ t. large r t (subst (λ (c : Bool). where_true c (TooLarge (told_size d)) ≡ Some r) t f)) (λ t. absurd (small r (subst (λ (c : Bool). where_true c (TooLarge (told_size d)) ≡ Some r) t f)))
       where
-        small : (r : WidthRefusal) → where_true false (TooLarge (size d)) ≡ Some r → ⊥
+        small : (r : WidthRefusal) → where_true false (TooLarge (told_size d)) ≡ Some r → ⊥
         small r h = cc
 
-        large : (r : WidthRefusal) → nat_lt 16777216 (size d) ≡ true → Some (TooLarge (size d)) ≡ Some r → IsWidthRefusal d r
+        large : (r : WidthRefusal) → nat_lt 16777216 (judged_size d) ≡ true → Some (TooLarge (told_size d)) ≡ Some r → IsWidthRefusal d r
         large (TooWide at) t h = cc
         large (Division at) t h = cc
-        large (TooLarge n) t h = let q = large_is (size d) n h in (all_fit d 0 d.processes l.formed e, sym q, subst (λ m. 16777216 < m) q (over t))
+        large (TooLarge n) t h = (all_fit d 0 d.processes l.formed e, sym (large_is (told_size d) n h), over t)
 
     go : (r : WidthRefusal) → (first_found find 0 d.processes ≡ Some r) ⊎ ((first_found find 0 d.processes ≡ None) × (too_large d ≡ Some r)) → IsWidthRefusal d r
     go r (inl e) = by_process r (found_first d find is_unfit r none some e)

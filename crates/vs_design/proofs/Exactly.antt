@@ -1,19 +1,19 @@
 -- A design is accepted exactly where nothing refuses it.
 use Rattle.std.proofs.Common.{◌≡◌, ℕ, suc, ◌≤◌, Bool, true, false, List, [], ◌∷◌, ◌&&◌, if◌then◌else◌, refl, sym, subst, arith, nat_lt, Option, Some, None}
-use Rattle.std.specs.Prelude.{nat_le, option_map}
+use Rattle.std.specs.Prelude.{◌+◌, ◌<◌, nat_le, option_map, sum_by}
 use Rattle.std.specs.List.{list_any, list_all}
 use Rattle.vs_design.specs.Expressions.{Signal}
 use Rattle.vs_design.specs.Designs.{Process, process_place, Design}
 use Rattle.vs_design.specs.Fits.{fits_process}
 use Rattle.vs_design.specs.Elaborated.{is_formed_process}
-use Rattle.vs_design.specs.Sizes.{size}
+use Rattle.vs_design.specs.Sizes.{awake_size, sleeper_weight, size}
 use Rattle.vs_design.specs.Rules.{function_latches, mixed_assigns, missing_bits, latches, shared_bits}
 use Rattle.vs_design.specs.Clocks.{clock_input, clock_nets, root_of, reads_clock, has_other_clock}
 use Rattle.vs_design.specs.Resets.{has_other_form}
 use Rattle.vs_design.specs.Levels.{level_order}
 use Rattle.vs_design.specs.TimeZero.{families, is_uncertain}
 use Rattle.vs_design.specs.Accepted.{is_empty, IsAcceptedDesign}
-use Rattle.vs_design.specs.Refusals.{least, otherwise, first_found, where_true, TooWide, Division, TooLarge, wide_in, divisions_in, earlier, too_large, FunctionLatch, MixedAssign, Sensitivity, Latch, signal_of, block_refusal_of, ClockRead, NotTheClock, ResetForm, clock_refusal_by, TimeZero, zero_refusal_by, IsUnrefused}
+use Rattle.vs_design.specs.Refusals.{least, otherwise, first_found, where_true, TooWide, Division, TooLarge, wide_in, divisions_in, earlier, judged_size, told_size, too_large, FunctionLatch, MixedAssign, Sensitivity, Latch, signal_of, block_refusal_of, ClockRead, NotTheClock, ResetForm, clock_refusal_by, TimeZero, zero_refusal_by, IsUnrefused}
 use Rattle.vs_design.specs.Laws.{AcceptedExactly}
 use Rattle.vs_design.proofs.Lists.{and_both, or_false, or_neither}
 use Rattle.vs_design.proofs.RaceLaws.{unmixed_has_no_race}
@@ -122,6 +122,23 @@ small_is n most h = grind arith
 is_small : (n most : ℕ) → n ≤ most → nat_lt most n ≡ false
 is_small n most h = grind arith
 
+over : (n most : ℕ) → nat_lt most n ≡ true → most < n
+over n most h = grind arith
+
+judged : (n k most : ℕ) → ((if nat_lt most n then n else (n + k)) ≤ most → n + k ≤ most) × (n + k ≤ most → (if nat_lt most n then n else (n + k)) ≤ most)
+judged n k most = at (nat_lt most n) refl
+  where
+    at : (t : Bool) → nat_lt most n ≡ t → ((if t then n else (n + k)) ≤ most → n + k ≤ most) × (n + k ≤ most → (if t then n else (n + k)) ≤ most)
+    at true e = let l = over n most e in (λ h. absurd (omega (arith, l, h)), λ h. omega (arith, h))
+    at false e = (λ h. h, λ h. h)
+
+-- the judged size is over the limit exactly where the whole is
+pub judged_small : (d : Design) → judged_size d ≤ 16777216 → size d ≤ 16777216
+judged_small d h = (judged (awake_size d) (sum_by (sleeper_weight d) d.processes) 16777216).0 h
+
+pub small_judged : (d : Design) → size d ≤ 16777216 → judged_size d ≤ 16777216
+small_judged d h = (judged (awake_size d) (sum_by (sleeper_weight d) d.processes) 16777216).1 h
+
 -- ---- blocks
 
 pub block_clear : (d : Design) (p : ℕ) (x : Process) → block_refusal_of d p x ≡ None → (is_empty (mixed_assigns x) ≡ true) × (is_empty (missing_bits x) ≡ true) × (is_empty (latches x) ≡ true)
@@ -192,7 +209,7 @@ accepted_exactly d name lawful = (there, back)
     there a =
         let c = clear_clock d (clock_input d name) a.clock a.clock_found (record { unread = a.clock_unread; one = a.one_clock; forms = a.reset_forms; awake = a.awake }) in
         record {
-          widths = none_otherwise _ _ (fit_all d.processes a.fit) (where_false (nat_lt 16777216 (size d)) (TooLarge (size d)) (is_small (size d) 16777216 a.small));
+          widths = none_otherwise _ _ (fit_all d.processes a.fit) (where_false (nat_lt 16777216 (judged_size d)) (TooLarge (told_size d)) (is_small (judged_size d) 16777216 (small_judged d a.small)));
           blocks = none_otherwise _ _ (mapped_least FunctionLatch (function_latches d.functions) a.no_function_latch) (blocks_clear d d.processes a.unmixed a.sensitive a.no_latch);
           drivers = mapped_least _ (shared_bits d) a.one_driver;
           clocks = c.0;
@@ -209,7 +226,7 @@ accepted_exactly d name lawful = (there, back)
         record {
           lawful = lawful;
           fit = all_fit d 0 d.processes lawful.formed w.0;
-          small = small_is (size d) 16777216 (true_where (nat_lt 16777216 (size d)) (TooLarge (size d)) w.1);
+          small = judged_small d (small_is (judged_size d) 16777216 (true_where (nat_lt 16777216 (judged_size d)) (TooLarge (told_size d)) w.1));
           no_function_latch = least_mapped FunctionLatch (function_latches d.functions) b.0;
           unmixed = unmixed;
           sensitive = found_none (block_refusal_of d) (λ x. is_empty (missing_bits x)) 0 d.processes (λ p x f. (block_clear d p x f).1) b.1;

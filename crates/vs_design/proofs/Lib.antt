@@ -58,3 +58,4 @@ pub mod ExampleLaws
 pub mod ExampleBlocking
 pub mod ExampleMemoryLaws
 pub mod ExampleTogether
+pub mod Within

@@ -254,7 +254,7 @@ mutual
       let one = target_positive d allowed high p.0 in
       and_true _ _ (and_true _ _ (is_fits (target_width high + target_width low) (omega arith) n) (target_clear d allowed high at p.0 (omega arith) a.0 b.0)) (target_clear d allowed low at p.1 (omega arith) a.1 b.1)
 
-  statement_clear : (d : Design) (st : Statement) (at : ℕ) → is_formed_statement d st ≡ true → wide_in_statement at st ≡ [] → divisions_in_statement at st ≡ [] → fits_statement st ≡ true
+  pub statement_clear : (d : Design) (st : Statement) (at : ℕ) → is_formed_statement d st ≡ true → wide_in_statement at st ≡ [] → divisions_in_statement at st ≡ [] → fits_statement st ≡ true
   statement_clear d Empty at f h k = refl
   statement_clear d (Assignment place target e blocking) at f h k =
       let p = and_both (is_formed_target d is_variable target) (is_formed d e) f in
@@ -373,7 +373,7 @@ mutual
       let p = and_both (fits_64 (target_width high + target_width low) && fits_target high) (fits_target low) h in
       empty_append _ _ (indices_narrow high at (and_both (fits_64 (target_width high + target_width low)) (fits_target high) p.0).1) (indices_narrow low at p.1)
 
-  statement_narrow : (st : Statement) (at : ℕ) → fits_statement st ≡ true → wide_in_statement at st ≡ []
+  pub statement_narrow : (st : Statement) (at : ℕ) → fits_statement st ≡ true → wide_in_statement at st ≡ []
   statement_narrow Empty at h = refl
   statement_narrow (Assignment place target e blocking) at h =
       let p = and_both (fits_target target) (is_fit e) h in
@@ -439,7 +439,7 @@ mutual
       let p = and_both (fits_64 (target_width high + target_width low) && fits_target high) (fits_target low) h in
       empty_append _ _ (indices_undivided high at (and_both (fits_64 (target_width high + target_width low)) (fits_target high) p.0).1) (indices_undivided low at p.1)
 
-  statement_undivided : (st : Statement) (at : ℕ) → fits_statement st ≡ true → divisions_in_statement at st ≡ []
+  pub statement_undivided : (st : Statement) (at : ℕ) → fits_statement st ≡ true → divisions_in_statement at st ≡ []
   statement_undivided Empty at h = refl
   statement_undivided (Assignment place target e blocking) at h =
       let p = and_both (fits_target target) (is_fit e) h in
@@ -470,7 +470,7 @@ wide_indices (PartOf signal part index) at = refl
 wide_indices (WordOf signal index) at = refl
 wide_indices (Both high low) at = ap {B = List ℕ} (λ ns. ns ++ in_indices wide_places at low) (wide_indices high at) ∙ ap {B = List ℕ} (λ ns. wide_in_indices at high ++ ns) (wide_indices low at)
 
-wide_items : (es : Items) (at : ℕ) → in_items wide_places at es ≡ wide_in_items at es
+pub wide_items : (es : Items) (at : ℕ) → in_items wide_places at es ≡ wide_in_items at es
 wide_items NoItem at = refl
 wide_items (Item e es) at = ap {B = List ℕ} (λ ns. wide_places at e ++ ns) (wide_items es at)
 
@@ -497,7 +497,7 @@ divided_indices (PartOf signal part index) at = refl
 divided_indices (WordOf signal index) at = refl
 divided_indices (Both high low) at = ap {B = List ℕ} (λ ns. ns ++ in_indices division_places at low) (divided_indices high at) ∙ ap {B = List ℕ} (λ ns. divisions_in_indices at high ++ ns) (divided_indices low at)
 
-divided_items : (es : Items) (at : ℕ) → in_items division_places at es ≡ divisions_in_items at es
+pub divided_items : (es : Items) (at : ℕ) → in_items division_places at es ≡ divisions_in_items at es
 divided_items NoItem at = refl
 divided_items (Item e es) at = ap {B = List ℕ} (λ ns. division_places at e ++ ns) (divided_items es at)
 

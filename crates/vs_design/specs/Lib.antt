@@ -20,6 +20,7 @@ pub mod LiftedBodies
 pub mod TimeZero
 pub mod Fits
 pub mod Elaborated
+pub mod Within
 pub mod Accepted
 pub mod Refusals
 pub mod Cycles
@@ -47,3 +48,4 @@ pub mod ExampleBlocking
 pub mod ExampleRefusals
 pub mod ExampleMemories
 pub mod ExampleTogether
+pub mod PlaceLaws

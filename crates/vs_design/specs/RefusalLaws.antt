@@ -13,7 +13,7 @@ use Rattle.vs_design.specs.Clocks.{clock_input, clock_nets, root_of, reads_clock
 use Rattle.vs_design.specs.Resets.{has_other_form}
 use Rattle.vs_design.specs.Levels.{level_order}
 use Rattle.vs_design.specs.TimeZero.{families, is_uncertain}
-use Rattle.vs_design.specs.Refusals.{WidthRefusal, TooWide, Division, TooLarge, wide_in, divisions_in, width_refusal, BlockRefusal, FunctionLatch, MixedAssign, Sensitivity, Latch, block_refusal, DriverRefusal, TwoDrivers, driver_refusal, ClockRefusal, NoClock, ClockRead, NotTheClock, ResetForm, clock_refusal, ZeroRefusal, TimeZero, zero_refusal}
+use Rattle.vs_design.specs.Refusals.{WidthRefusal, TooWide, Division, TooLarge, wide_in, divisions_in, told_size, width_refusal, BlockRefusal, FunctionLatch, MixedAssign, Sensitivity, Latch, block_refusal, DriverRefusal, TwoDrivers, driver_refusal, ClockRefusal, NoClock, ClockRead, NotTheClock, ResetForm, clock_refusal, ZeroRefusal, TimeZero, zero_refusal}
 
 -- n is the least of these numbers
 pub record IsLeastOf (ns : List ℕ) (n : ℕ) : Type 0 where
@@ -31,11 +31,11 @@ pub record IsFirstOf (d : Design) (breaks : Process → Bool) (p : ℕ) (process
 abbrev pub is_unfit : Process → Bool
 is_unfit process = not (fits_process process)
 
--- the first process that has something too wide or a division; of its places the least, and at one place TooWide
+-- the first process that has something too wide or a division; of its places the least, and at one place TooWide. TooLarge exactly where the size is over the limit
 abbrev pub IsWidthRefusal : Design → WidthRefusal → Type 0
 IsWidthRefusal d (TooWide at) = (p : ℕ) × (process : Process) × IsFirstOf d is_unfit p process × IsLeastOf (wide_in process) at × ((n : ℕ) → contains (divisions_in process) n ≡ true → at ≤ n)
 IsWidthRefusal d (Division at) = (p : ℕ) × (process : Process) × IsFirstOf d is_unfit p process × IsLeastOf (divisions_in process) at × ((n : ℕ) → contains (wide_in process) n ≡ true → at < n)
-IsWidthRefusal d (TooLarge n) = (list_all fits_process d.processes ≡ true) × (n ≡ size d) × (16777216 < n)
+IsWidthRefusal d (TooLarge n) = (list_all fits_process d.processes ≡ true) × (n ≡ told_size d) × (16777216 < size d)
 
 abbrev pub WidthRefusalIs : Type 0
 WidthRefusalIs = (d : Design) → IsLawfulDesign d → (r : WidthRefusal) → width_refusal d ≡ Some r → IsWidthRefusal d r

@@ -6,7 +6,7 @@ use Rattle.vs_design.specs.Designs.{Process, Continuous, Always, process_place, 
 use Rattle.vs_design.specs.Values.{bits_of_signal}
 use Rattle.vs_design.specs.Footprints.{contains}
 use Rattle.vs_design.specs.Fits.{is_division}
-use Rattle.vs_design.specs.Sizes.{size}
+use Rattle.vs_design.specs.Sizes.{awake_size, size}
 use Rattle.vs_design.specs.Rules.{function_latches, mixed_assigns, missing_bits, latches, drivers, shared_bits}
 use Rattle.vs_design.specs.Clocks.{clock_input, clock_nets, root_of, reads_clock, has_other_clock}
 use Rattle.vs_design.specs.Resets.{has_other_form}
@@ -169,8 +169,16 @@ earlier (Some wide) None = Some (TooWide wide)
 earlier None (Some division) = Some (Division division)
 earlier (Some wide) (Some division) = if nat_le wide division then Some (TooWide wide) else Some (Division division)
 
+-- the size that is held against the limit: already without what sleeping blocks add where that is over it, and else the whole
+abbrev pub judged_size : Design → ℕ
+judged_size d = if nat_lt 16777216 (awake_size d) then awake_size d else size d
+
+-- one of 2^64 or more is told as 2^64 - 1
+abbrev pub told_size : Design → ℕ
+told_size d = min (judged_size d) 18446744073709551615
+
 abbrev pub too_large : Design → Option WidthRefusal
-too_large d = where_true (nat_lt 16777216 (size d)) (TooLarge (size d))
+too_large d = where_true (nat_lt 16777216 (judged_size d)) (TooLarge (told_size d))
 
 -- TooWide and Division by process and then by place, and after them TooLarge
 abbrev pub width_refusal : Design → Option WidthRefusal

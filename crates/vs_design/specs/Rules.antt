@@ -3,6 +3,7 @@ use Rattle.std.specs.Prelude.{ℕ, suc, Bool, not, ◌&&◌, ◌||◌, List, [],
 use Rattle.vs_design.specs.Statements.{Statement, Empty, Assignment, Then, If, Case, Arms, Arm, Default, Function}
 use Rattle.vs_design.specs.Designs.{Process, Continuous, Always, is_clocked, is_combinational, Design}
 use Rattle.vs_design.specs.Footprints.{contains, target_bits, statement_bits, writes_of, reads_of, wait_signals, signals_bits, without}
+use Rattle.vs_design.specs.Fits.{fits_statement}
 use Rattle.vs_design.specs.Latches.{latch_bits}
 
 -- the places of the blocking assignments in a clocked block, and of the nonblocking ones in any other
@@ -36,10 +37,14 @@ abbrev pub place_where : ℕ → List ℕ → List ℕ
 place_where place [] = []
 place_where place (b ∷ bs) = place ∷ []
 
--- the rule FunctionLatch: the places of the functions in which a variable of its own, or the result, that it writes somewhere reaches a read of it, or the end, unassigned on some path
+-- the place of a function in which a variable of its own, or the result, that it writes somewhere reaches a read of it, or the end, unassigned on some path. One in which something is over 64 bits or divides at run time is asked nothing more: no process calls it, or the design would have been refused
+abbrev pub latching : Function → List ℕ
+latching f = if fits_statement f.statement then place_where f.header.place (latch_bits f.statement) else []
+
+-- the rule FunctionLatch
 abbrev pub function_latches : List Function → List ℕ
 function_latches [] = []
-function_latches (f ∷ fs) = place_where f.header.place (latch_bits f.statement) ++ function_latches fs
+function_latches (f ∷ fs) = latching f ++ function_latches fs
 
 -- how often the bit is in the list
 abbrev pub times : ℕ → List ℕ → ℕ

@@ -119,6 +119,9 @@ register_bits (p ∷ ps) = (if is_clocked p then writes_of p else []) ++ registe
 abbrev pub sleeper_weight : Design → Process → ℕ
 sleeper_weight d p = if is_sleeping d p then distinct (waits_of p) + 1 + distinct (writes_of p) else 0
 
--- each register bit and each bit of a memory costs 2, one that its block writes by `=` and by `<=` 3, and each input bit of the top 1, the clock too
+-- each register bit and each bit of a memory costs 2, one that its block writes by `=` and by `<=` 3, and each input bit of the top 1, the clock too. This is the size but for what sleeping blocks add
+abbrev pub awake_size : Design → ℕ
+awake_size d = sum_by process_weight d.processes + 2 * distinct (register_bits d.processes ++ memory_bits d) + distinct (doubled_bits d.processes) + sum_by signal_length (top_inputs d)
+
 abbrev pub size : Design → ℕ
-size d = sum_by process_weight d.processes + 2 * distinct (register_bits d.processes ++ memory_bits d) + distinct (doubled_bits d.processes) + sum_by signal_length (top_inputs d) + sum_by (sleeper_weight d) d.processes
+size d = awake_size d + sum_by (sleeper_weight d) d.processes

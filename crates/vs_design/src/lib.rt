@@ -18,8 +18,10 @@ ghost use Rattle.vs_design.specs.ExampleValues.{ValuesComputed};
 ghost use Rattle.vs_design.specs.Laws.{AcceptedExactly, AcceptedIsLawful, AscendingHas, AscendingRises, BitsOfDesign, BoundOfDesign, ClockNetsAre, EveryOrderOfDesign, LevelOrderIs, LevelRunOfDesign, OneFamilies, OnePassOfDesign, OneSolutionOfDesign, OrderOrCycle, RunsEndOfDesign, SleepersOfDesign, SleepingIs, StarMissesNone, UnmixedHasNoRace};
 ghost use Rattle.vs_design.specs.Memories.{WordsAre};
 ghost use Rattle.vs_design.specs.Paths.{LatchBitsAre};
+ghost use Rattle.vs_design.specs.PlaceLaws.{ItemPlacesAgree, StatementFits, StatementPlacesAgree};
 ghost use Rattle.vs_design.specs.RefusalLaws.{BlockRefusalIs, ClockRefusalIs, DriverRefusalIs, DriversAre, WidthRefusalIs, ZeroRefusalIs};
 ghost use Rattle.vs_design.specs.SlotValues.{SlotValuesAre};
+ghost use Rattle.vs_design.specs.Within.{FormedIsWithin, FunctionIsWithin, StatementIsWithin, TargetIsWithin};
 ghost use Rattle.vs_design.specs.TreeLaws.{AssignWritesExactly, AssignedLength, BlockReads, BlockWritesExactly, BodyAssigns, BodyInSets, BodyReads, BodySetsRead, BodyWritesWithin, ConstantValue, NoUpdates, NoWrites, ValueInSets, ValueLength, ValueReads, ValueSetsRead};
 
 /// A value has the length of its context, and a constant expression has one value (IEEE 1364-2005, 5.4 and 5.5).
@@ -92,6 +94,14 @@ pub fn footprint_law()
     ensures rises { AscendingRises }
 {}
 
+/// What is formed in a design names bits of the design alone, and a function's statement its local bits (IEEE 1364-2005, 10.4).
+pub fn within_law()
+    ensures expressions { FormedIsWithin }
+    ensures targets { TargetIsWithin }
+    ensures statements { StatementIsWithin }
+    ensures functions { FunctionIsWithin }
+{}
+
 /// A bit may latch exactly where the block writes it somewhere, and on some path through its `if` and `case` statements it reaches a read of it, or the end, unassigned.
 pub fn latch_law()
     ensures { LatchBitsAre }
@@ -112,6 +122,13 @@ pub fn refusal_law()
     ensures driver { DriverRefusalIs }
     ensures clock { ClockRefusalIs }
     ensures zero { ZeroRefusalIs }
+{}
+
+/// The places of what is over 64 bits or divides at run time are the same of a block's statement and of a function's, and in a formed statement all fits exactly where there are none.
+pub fn places_law()
+    ensures items { ItemPlacesAgree }
+    ensures statements { StatementPlacesAgree }
+    ensures fits { StatementFits }
 {}
 
 /// Where no clocked block writes by a blocking assignment, no clocked block reads what another one writes at once.

@@ -9,7 +9,7 @@ use Rattle.vs_design.specs.Expressions as E
 use Rattle.vs_design.specs.Statements as T
 use Rattle.vs_design.specs.Designs as D
 use Rattle.vs_flat.specs.declared.expressions.Node.{Node}
-use Rattle.vs_flat.specs.declared.expressions.Node.TheVariants.{Literal, Name, Bit, Part as PartSelect, Word, Unary, Binary, Choice, Join}
+use Rattle.vs_flat.specs.declared.expressions.Node.TheVariants.{Literal, Name, Bit, Part as PartSelect, Word, Unary, Binary, Choice, Join, Local, Call}
 use Rattle.vs_flat.specs.declared.processes.Event.{Event}
 use Rattle.vs_flat.specs.declared.processes.Kind.{Kind}
 use Rattle.vs_flat.specs.declared.processes.Kind.TheVariants as K
@@ -19,7 +19,7 @@ use Rattle.vs_flat.specs.declared.statements.Statement.TheVariants as S
 use Rattle.vs_flat.specs.Named.{all_below, node_signals, node_expressions, statement_expressions, statement_statements, kind_signals, kind_expressions, kind_statements, node_names_below, statement_names_below, kind_names_below}
 use Rattle.vs_flat.specs.Ports.{port_of}
 use Rattle.vs_flat.specs.Targets.{source_of, place_of}
-use Rattle.vs_flat.specs.Trees.{first_copy, copy_count, joined, node_tree, branch, sequence, arms_tree, statement_tree, target_tree}
+use Rattle.vs_flat.specs.Trees.{Names, first_copy, copy_count, joined, node_tree, branch, sequence, arms_tree, statement_tree, target_tree}
 use Rattle.vs_flat.specs.DesignOf.{event_of, kind_of}
 
 pub and_both : (a b : Bool) → (a && b) ≡ true → (a ≡ true) × (b ≡ true)
@@ -77,38 +77,61 @@ kind_parts signals nodes statements k h =
     let c = and_both (all_below signals (kind_signals k)) (all_below nodes (kind_expressions k)) b.0 in
     (c.0, c.1, b.1)
 
-pub node_agrees : (signals nodes : ℕ) (s t : ℕ → E.Signal) (f g : ℕ → E.Expression) (n : Node) → EqualBelow signals s t → EqualBelow nodes f g → node_names_below signals nodes n ≡ true → node_tree s f n ≡ node_tree t g n
-node_agrees signals nodes s t f g (Literal bits signed sized) ss ff h = refl
-node_agrees signals nodes s t f g (Name m) ss ff h = ap E.Name (ss m (first_below signals m [] (node_parts signals nodes (Name m) h).0))
-node_agrees signals nodes s t f g (Bit of range index) ss ff h =
+-- local signals and functions that a node names are the same
+abbrev pub Agreed : Names → Names → (ℕ → E.Expression) → (ℕ → E.Expression) → Node → Type 0
+Agreed s t f g (Local function signal) = s.own function signal ≡ t.own function signal
+Agreed s t f g (Call function arguments) = s.callee f function ≡ t.callee g function
+Agreed s t f g _ = Unit {0}
+
+pub agreed_by : (s t : Names) (f g : ℕ → E.Expression) (n : Node) → ((k m : ℕ) → n ≡ Local k m → s.own k m ≡ t.own k m) → ((k : ℕ) (arguments : List ℕ) → n ≡ Call k arguments → s.callee f k ≡ t.callee g k) → Agreed s t f g n
+agreed_by s t f g (Local k m) h i = h k m refl
+agreed_by s t f g (Call k arguments) h i = i k arguments refl
+agreed_by s t f g (Literal bits signed sized) h i = tt
+agreed_by s t f g (Name m) h i = tt
+agreed_by s t f g (Bit of range index) h i = tt
+agreed_by s t f g (PartSelect of range base up width) h i = tt
+agreed_by s t f g (Word m index) h i = tt
+agreed_by s t f g (Unary op a) h i = tt
+agreed_by s t f g (Binary op a b) h i = tt
+agreed_by s t f g (Choice c p q) h i = tt
+agreed_by s t f g (Join parts) h i = tt
+
+pub node_agrees : (signals nodes : ℕ) (s t : Names) (f g : ℕ → E.Expression) (n : Node) → EqualBelow signals s.signal t.signal → EqualBelow nodes f g → Agreed s t f g n → node_names_below signals nodes n ≡ true → node_tree s f n ≡ node_tree t g n
+node_agrees signals nodes s t f g (Literal bits signed sized) ss ff c h = refl
+node_agrees signals nodes s t f g (Name m) ss ff c h = ap E.Name (ss m (first_below signals m [] (node_parts signals nodes (Name m) h).0))
+node_agrees signals nodes s t f g (Bit of range index) ss ff c h =
     let b : all_below nodes (of ∷ index ∷ []) ≡ true = h in
     let e = ff of (first_below nodes of (index ∷ []) b) in
     let i = ff index (first_below nodes index [] (rest_below nodes of (index ∷ []) b)) in
     ap (λ x. E.Select (source_of x) (one_bit range) (f index)) e ∙ ap (λ x. E.Select (source_of (g of)) (one_bit range) x) i
-node_agrees signals nodes s t f g (PartSelect of range base up width) ss ff h =
+node_agrees signals nodes s t f g (PartSelect of range base up width) ss ff c h =
     let b : all_below nodes (of ∷ base ∷ []) ≡ true = h in
     let part : Part = record { range = range; up = up; width = width } in
     let e = ff of (first_below nodes of (base ∷ []) b) in
     let i = ff base (first_below nodes base [] (rest_below nodes of (base ∷ []) b)) in
     ap (λ x. E.Select (source_of x) part (f base)) e ∙ ap (λ x. E.Select (source_of (g of)) part x) i
-node_agrees signals nodes s t f g (Word m index) ss ff h =
+node_agrees signals nodes s t f g (Word m index) ss ff c h =
     let b = node_parts signals nodes (Word m index) h in
     let e = ss m (first_below signals m [] b.0) in
     let i = ff index (first_below nodes index [] b.1) in
-    ap (λ x. E.Word x (f index)) e ∙ ap (λ x. E.Word (t m) x) i
-node_agrees signals nodes s t f g (Unary op a) ss ff h = ap (E.Unary op) (ff a (first_below nodes a [] h))
-node_agrees signals nodes s t f g (Binary op a b) ss ff h =
+    ap (λ x. E.Word x (f index)) e ∙ ap (λ x. E.Word (t.signal m) x) i
+node_agrees signals nodes s t f g (Unary op a) ss ff c h = ap (E.Unary op) (ff a (first_below nodes a [] h))
+node_agrees signals nodes s t f g (Binary op a b) ss ff c h =
     let left : f a ≡ g a = ff a (first_below nodes a (b ∷ []) h) in
     let right : f b ≡ g b = ff b (first_below nodes b [] (rest_below nodes a (b ∷ []) h)) in
     cc
-node_agrees signals nodes s t f g (Choice c p q) ss ff h =
+node_agrees signals nodes s t f g (Choice c p q) ss ff w h =
     let c' : f c ≡ g c = ff c (first_below nodes c (p ∷ q ∷ []) h) in
     let r = rest_below nodes c (p ∷ q ∷ []) h in
     let p' : f p ≡ g p = ff p (first_below nodes p (q ∷ []) r) in
     let q' : f q ≡ g q = ff q (first_below nodes q [] (rest_below nodes p (q ∷ []) r)) in
     cc
-node_agrees signals nodes s t f g (Join parts) ss ff h =
+node_agrees signals nodes s t f g (Join parts) ss ff c h =
     ap (λ es. E.Repeat (copy_count parts) (joined es)) (map_agrees nodes f g (first_copy parts) ff (below_first_copy nodes parts h))
+node_agrees signals nodes s t f g (Local k m) ss ff c h = ap E.Name c
+node_agrees signals nodes s t f g (Call k arguments) ss ff c h =
+    ap (λ (x : T.Function). E.Call x.header x.statement (E.items_of (map f arguments))) c
+    ∙ ap (λ es. E.Call (t.callee g k).header (t.callee g k).statement (E.items_of es)) (map_agrees nodes f g arguments ff (node_parts signals nodes (Call k arguments) h).1)
 
 pub branch_agrees : (n : ℕ) (f g : ℕ → T.Statement) (o : Option ℕ) → EqualBelow n f g → all_below n (option_to_list o) ≡ true → branch f o ≡ branch g o
 branch_agrees n f g None same h = refl

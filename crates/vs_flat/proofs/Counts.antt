@@ -1,14 +1,15 @@
 -- The plain design has as many of each kind, and the same inputs.
-use Rattle.std.proofs.Common.{◌≡◌, ℕ, suc, ◌+◌, Bool, true, false, cond, if◌then◌else◌, List, [], ◌∷◌, map, refl, sym, ap, ◌∙◌, subst, arith}
+use Rattle.std.proofs.Common.{◌≡◌, ℕ, zero, suc, ◌+◌, length, Bool, true, false, cond, if◌then◌else◌, List, [], ◌∷◌, map, refl, sym, ap, ◌∙◌, subst, arith}
 use Rattle.std.specs.Prelude.{Some, slice_get, sum_by, filter}
 use Rattle.std.proofs.lemmas.List.{length-map}
 use Rattle.std.proofs.lemmas.List.Sums.{sum_by-cons}
 use Rattle.vs_design.specs.Expressions as E
 use Rattle.vs_design.specs.Designs as D
+use Rattle.vs_design.specs.Values.{count_from}
 use Rattle.vs_flat.specs.declared.processes.Signal.{Signal}
 use Rattle.vs_flat.specs.Arena.{Arena, signal_length, bit_count, inputs_from, top_inputs}
 use Rattle.vs_flat.specs.Trees.{signal_of, signals_from, signal_at, tree_at, statement_at}
-use Rattle.vs_flat.specs.DesignOf.{scope_of, process_of, arena_signals, arena_trees, arena_statements, design_of}
+use Rattle.vs_flat.specs.DesignOf.{callee_of, scope_of, process_of, arena_signals, arena_trees, arena_statements, design_of}
 use Rattle.vs_flat.specs.Laws.{HasCounts}
 use Rattle.vs_flat.proofs.Growing.{each_signal, length-signals, length-arena_trees, length-arena_statements}
 
@@ -19,6 +20,10 @@ signal_bits n (s ∷ ss) =
     ∙ ap (λ k. signal_length s + k) (signal_bits (suc n) ss)
     ∙ sym (sum_by-cons signal_length s ss)
 
+length_count : (first n : ℕ) → length (count_from first n) ≡ n
+length_count first zero = refl
+length_count first (suc n) = ap suc (length_count (suc first) n)
+
 pub counts : (a : Arena) → HasCounts a
 counts a = record {
   scopes = length-map a.scopes scope_of;
@@ -27,6 +32,7 @@ counts a = record {
   processes = length-map a.processes (process_of (signal_at (arena_signals a)) (tree_at (arena_trees a)) (statement_at (arena_statements a)));
   expressions = length-arena_trees a;
   statements = length-arena_statements a;
+  functions = length-map (count_from 0 (length a.bodies)) (callee_of a (tree_at (arena_trees a))) ∙ length_count 0 (length a.bodies);
 }
 
 -- one more input, or none

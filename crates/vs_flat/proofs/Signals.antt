@@ -62,6 +62,8 @@ within_with_signal a s signals w room e = record {
   scopes = w.scopes;
   nodes = w.nodes;
   statements = w.statements;
+  functions = w.functions;
+  bodies = w.bodies;
   bits = omega (arith, room, bit_count-append a.signals s, ap bit_count e);
   processes = w.processes;
 }

@@ -7,6 +7,9 @@ use Rattle.vs_flat.specs.declared.processes.Scope.{Scope}
 use Rattle.vs_flat.specs.declared.processes.Signal.{Signal}
 use Rattle.vs_flat.specs.declared.processes.Process.{Process}
 use Rattle.vs_flat.specs.declared.statements.Statement.{Statement}
+use Rattle.vs_flat.specs.declared.functions.Function.{Function}
+use Rattle.vs_flat.specs.declared.functions.Declared.{Declared}
+use Rattle.vs_flat.specs.declared.functions.Body.{Body}
 
 pub record Arena : Type 0 where
   pub scopes : List Scope
@@ -14,10 +17,13 @@ pub record Arena : Type 0 where
   pub processes : List Process
   pub nodes : List (Placed Node)
   pub statements : List (Placed Statement)
+  -- the functions, and the statements of those that have them
+  pub functions : List Declared
+  pub bodies : List Body
 
 -- nothing was added
 abbrev pub empty_arena : Arena
-empty_arena = record { scopes = []; signals = []; processes = []; nodes = []; statements = [] }
+empty_arena = record { scopes = []; signals = []; processes = []; nodes = []; statements = []; functions = []; bodies = [] }
 
 abbrev pub placed : {T : Type 0} → T → ℕ → Placed T
 placed item at = record { item = item; at = at }
@@ -37,6 +43,18 @@ with_node a n at = record a { nodes = a.nodes ++ placed n at ∷ [] }
 
 abbrev pub with_statement : Arena → Statement → ℕ → Arena
 with_statement a s at = record a { statements = a.statements ++ placed s at ∷ [] }
+
+abbrev pub with_function : Arena → Function → Arena
+with_function a f = record a { functions = a.functions ++ record { function = f; nodes = length a.nodes; statements = length a.statements } ∷ [] }
+
+abbrev pub with_body : Arena → ℕ → Arena
+with_body a s = record a { bodies = a.bodies ++ record { statement = s; nodes = length a.nodes; statements = length a.statements } ∷ [] }
+
+abbrev pub declared_at : Arena → ℕ → Option Declared
+declared_at a f = slice_get a.functions f
+
+abbrev pub body_at : Arena → ℕ → Option Body
+body_at a f = slice_get a.bodies f
 
 abbrev pub node_at : Arena → ℕ → Option Node
 node_at a e = option_map (λ (n : Placed Node). n.item) (slice_get a.nodes e)
@@ -72,5 +90,7 @@ pub record IsWithinLimits (a : Arena) : Type 0 where
   pub scopes : length a.scopes < 2 ^ 32
   pub nodes : length a.nodes < 2 ^ 32
   pub statements : length a.statements < 2 ^ 32
+  pub functions : length a.functions < 2 ^ 32
+  pub bodies : length a.bodies ≤ length a.functions
   pub bits : bit_count a.signals ≤ 2 ^ 20
   pub processes : length a.processes ≤ 2 ^ 16

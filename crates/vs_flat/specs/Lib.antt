@@ -9,6 +9,7 @@ pub mod DesignOf
 pub mod Lawful
 pub mod Example
 pub mod BlockExample
+pub mod FunctionExample
 pub mod WordExample
 pub mod Rows
 pub mod Laws

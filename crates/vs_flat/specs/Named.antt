@@ -1,8 +1,8 @@
 -- What each part of a flat design names, by number.
-use Rattle.std.specs.Prelude.{ℕ, Bool, ◌&&◌, List, [], ◌∷◌, ◌++◌, map, length, nat_lt, option_to_list}
+use Rattle.std.specs.Prelude.{ℕ, Bool, true, Option, None, Some, ◌&&◌, List, [], ◌∷◌, ◌++◌, map, length, nat_lt, option_to_list}
 use Rattle.std.specs.List.{list_all, flat_map}
 use Rattle.vs_flat.specs.declared.expressions.Node.{Node}
-use Rattle.vs_flat.specs.declared.expressions.Node.TheVariants.{Literal, Name, Bit, Part, Word, Unary, Binary, Choice, Join}
+use Rattle.vs_flat.specs.declared.expressions.Node.TheVariants.{Literal, Name, Bit, Part, Word, Unary, Binary, Choice, Join, Local, Call}
 use Rattle.vs_flat.specs.declared.processes.Scope.{Scope}
 use Rattle.vs_flat.specs.declared.processes.Signal.{Signal}
 use Rattle.vs_flat.specs.declared.processes.Process.{Process}
@@ -12,7 +12,8 @@ use Rattle.vs_flat.specs.declared.processes.Kind.TheVariants as K
 use Rattle.vs_flat.specs.declared.statements.Arm.{Arm}
 use Rattle.vs_flat.specs.declared.statements.Statement.{Statement}
 use Rattle.vs_flat.specs.declared.statements.Statement.TheVariants as S
-use Rattle.vs_flat.specs.Arena.{Arena}
+use Rattle.vs_flat.specs.declared.functions.Declared.{Declared}
+use Rattle.vs_flat.specs.Arena.{Arena, declared_at}
 
 -- the expressions that a node names; a concatenation may name one several times
 abbrev pub node_expressions : Node → List ℕ
@@ -25,6 +26,8 @@ node_expressions (Unary op a) = a ∷ []
 node_expressions (Binary op a b) = a ∷ b ∷ []
 node_expressions (Choice c p q) = c ∷ p ∷ q ∷ []
 node_expressions (Join parts) = parts
+node_expressions (Local function signal) = []
+node_expressions (Call function arguments) = arguments
 
 abbrev pub node_signals : Node → List ℕ
 node_signals (Name signal) = signal ∷ []
@@ -80,8 +83,18 @@ covers_signal a s = nat_lt s.scope (length a.scopes)
 abbrev pub covers_process : Arena → Process → Bool
 covers_process a p = kind_names_below (length a.signals) (length a.nodes) (length a.statements) p.kind
 
+-- the local signals of a function
+abbrev pub locals_in : Option Declared → List Signal
+locals_in None = []
+locals_in (Some d) = d.function.signals
+
+abbrev pub covers_calls : Arena → Node → Bool
+covers_calls a (Local function signal) = nat_lt signal (length (locals_in (declared_at a function)))
+covers_calls a (Call function arguments) = nat_lt function (length a.bodies)
+covers_calls a _ = true
+
 abbrev pub covers_node : Arena → Node → Bool
-covers_node a n = node_names_below (length a.signals) (length a.nodes) n
+covers_node a n = node_names_below (length a.signals) (length a.nodes) n && covers_calls a n
 
 abbrev pub covers_statement : Arena → Statement → Bool
 covers_statement a s = statement_names_below (length a.nodes) (length a.statements) s

@@ -5,7 +5,7 @@ use Rattle.vs_design.specs.Expressions as E
 use Rattle.vs_design.specs.Statements as T
 use Rattle.vs_flat.specs.declared.placed.Placed.{Placed}
 use Rattle.vs_flat.specs.declared.expressions.Node.{Node}
-use Rattle.vs_flat.specs.declared.expressions.Node.TheVariants.{Literal, Name, Bit, Part, Word, Unary, Binary, Choice, Join}
+use Rattle.vs_flat.specs.declared.expressions.Node.TheVariants.{Literal, Name, Bit, Part, Word, Unary, Binary, Choice, Join, Local, Call}
 use Rattle.vs_flat.specs.declared.processes.Signal.{Signal}
 use Rattle.vs_flat.specs.declared.statements.Arm.{Arm}
 use Rattle.vs_flat.specs.declared.statements.Statement.{Statement}
@@ -42,20 +42,28 @@ joined [] = no_expression
 joined (e ∷ []) = e
 joined (e ∷ next ∷ es) = E.Join e (joined (next ∷ es))
 
--- the tree of a node, by the signals and trees that it names; a concatenation is a replication of one copy
-abbrev pub node_tree : (ℕ → E.Signal) → (ℕ → E.Expression) → Node → E.Expression
-node_tree signal tree (Literal bits signed sized) = E.Literal bits signed sized
-node_tree signal tree (Name n) = E.Name (signal n)
-node_tree signal tree (Bit of range index) = E.Select (source_of (tree of)) (one_bit range) (tree index)
-node_tree signal tree (Part of range base up width) = E.Select (source_of (tree of)) (record { range = range; up = up; width = width }) (tree base)
-node_tree signal tree (Word n index) = E.Word (signal n) (tree index)
-node_tree signal tree (Unary op a) = E.Unary op (tree a)
-node_tree signal tree (Binary op a b) = E.Binary op (tree a) (tree b)
-node_tree signal tree (Choice c p q) = E.Choice (tree c) (tree p) (tree q)
-node_tree signal tree (Join parts) = E.Repeat (copy_count parts) (joined (map tree (first_copy parts)))
+-- what a node's numbers stand for: a signal, a function's local signal, and a function, by the trees of the expressions before the call
+pub record Names : Type 0 where
+  pub signal : ℕ → E.Signal
+  pub own : (function : ℕ) → ℕ → E.Signal
+  pub callee : (ℕ → E.Expression) → ℕ → T.Function
 
-abbrev pub placed_tree : (ℕ → E.Signal) → (ℕ → E.Expression) → Placed Node → E.Expression
-placed_tree signal tree n = E.At n.at (node_tree signal tree n.item)
+-- the tree of a node, by what it names and by the trees before it; a concatenation is a replication of one copy
+abbrev pub node_tree : Names → (ℕ → E.Expression) → Node → E.Expression
+node_tree names tree (Literal bits signed sized) = E.Literal bits signed sized
+node_tree names tree (Name n) = E.Name (names.signal n)
+node_tree names tree (Bit of range index) = E.Select (source_of (tree of)) (one_bit range) (tree index)
+node_tree names tree (Part of range base up width) = E.Select (source_of (tree of)) (record { range = range; up = up; width = width }) (tree base)
+node_tree names tree (Word n index) = E.Word (names.signal n) (tree index)
+node_tree names tree (Unary op a) = E.Unary op (tree a)
+node_tree names tree (Binary op a b) = E.Binary op (tree a) (tree b)
+node_tree names tree (Choice c p q) = E.Choice (tree c) (tree p) (tree q)
+node_tree names tree (Join parts) = E.Repeat (copy_count parts) (joined (map tree (first_copy parts)))
+node_tree names tree (Local function n) = E.Name (names.own function n)
+node_tree names tree (Call function arguments) = E.Call (names.callee tree function).header (names.callee tree function).statement (E.items_of (map tree arguments))
+
+abbrev pub placed_tree : Names → (ℕ → E.Expression) → Placed Node → E.Expression
+placed_tree names tree n = E.At n.at (node_tree names tree n.item)
 
 abbrev pub signal_at : List E.Signal → ℕ → E.Signal
 signal_at signals n = slice_index_or signals n no_signal
@@ -67,11 +75,11 @@ abbrev pub statement_at : List T.Statement → ℕ → T.Statement
 statement_at statements s = slice_index_or statements s T.Empty
 
 -- one after the other: a node names earlier ones alone
-abbrev pub with_tree : (ℕ → E.Signal) → List E.Expression → Placed Node → List E.Expression
-with_tree signal trees n = trees ++ placed_tree signal (tree_at trees) n ∷ []
+abbrev pub with_tree : Names → List E.Expression → Placed Node → List E.Expression
+with_tree names trees n = trees ++ placed_tree names (tree_at trees) n ∷ []
 
-abbrev pub node_trees : (ℕ → E.Signal) → List (Placed Node) → List E.Expression
-node_trees signal nodes = fold (with_tree signal) [] nodes
+abbrev pub node_trees : Names → List (Placed Node) → List E.Expression
+node_trees names nodes = fold (with_tree names) [] nodes
 
 abbrev pub target_tree : E.Expression → T.Target
 target_tree e = unwrap_or (target_of e) (T.Whole no_signal)

@@ -16,6 +16,11 @@ pub enum Node {
     Name {
         signal: u32,
     },
+    /// A local signal by its number within its function (IEEE 1364-2005, 10.4.1).
+    Local {
+        function: u32,
+        signal: u32,
+    },
     /// A bit select (IEEE 1364-2005, 5.2.1): `of` is a signal's name or a parameter's value, and `range` its declared bounds.
     Bit {
         of: u32,
@@ -55,5 +60,10 @@ pub enum Node {
     /// A concatenation, the most significant part first, or a replication, whose parts are named once for each copy (IEEE 1364-2005, 5.1.14).
     Join {
         parts: List<u32>,
+    },
+    /// A call of a function, with its arguments in order (IEEE 1364-2005, 10.4.3).
+    Call {
+        function: u32,
+        arguments: List<u32>,
     },
 }

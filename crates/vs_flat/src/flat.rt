@@ -2,11 +2,11 @@
 
 ghost use Rattle.std.specs.Prelude.{◌≡◌, ◌+◌, ◌<◌, ◌≤◌, ◌^◌, ◌-◌, [], ◌∷◌, ◌++◌, length, slice_get, option_map, IsTrue, IfOk, OnOk, OnErr, vec_len, vec_capacity};
 
-use crate::{Node, Placed, Process, Scope, Signal, Statement};
+use crate::{Body, Declared, Function, Node, Placed, Process, Scope, Signal, Statement};
 use std::alloc::{AllocError, Global};
 use std::marker::Model;
 
-/// An elaborated design: its scopes, signals, processes, expressions and statements, each kind numbered from 0 in the order in which they were added.
+/// An elaborated design: its scopes, signals, processes, functions, expressions and statements, each kind numbered from 0 in the order in which they were added.
 #[derive(Drop)]
 pub struct Flat {
     scopes: Vec<Scope>,
@@ -14,6 +14,8 @@ pub struct Flat {
     processes: Vec<Process>,
     nodes: Vec<Placed<Node>>,
     statements: Vec<Placed<Statement>>,
+    functions: Vec<Declared>,
+    bodies: Vec<Body>,
     inputs: Vec<u32>,
 }
 
@@ -30,7 +32,7 @@ impl Model for Flat {
 }
 
 impl Flat {
-    ghost use Rattle.vs_flat.specs.Arena.{empty_arena, with_scope, with_signal, with_process, with_node, with_statement, signal_length, bit_count, top_inputs, node_at, statement_at, node_place, statement_place};
+    ghost use Rattle.vs_flat.specs.Arena.{empty_arena, with_scope, with_signal, with_process, with_node, with_statement, with_function, with_body, declared_at, body_at, signal_length, bit_count, top_inputs, node_at, statement_at, node_place, statement_place};
     ghost use Rattle.vs_flat.specs.Named.{covers_scope, covers_signal, covers_process, covers_node, covers_statement};
 
     /// A design with nothing in it. It takes no memory.
@@ -43,6 +45,8 @@ impl Flat {
             processes: Vec::new(alloc),
             nodes: Vec::new(alloc),
             statements: Vec::new(alloc),
+            functions: Vec::new(alloc),
+            bodies: Vec::new(alloc),
             inputs: Vec::new(alloc),
         }
     }
@@ -203,6 +207,65 @@ impl Flat {
         ensures { statement_at self.now s ≡ Some result.now }
     {
         &self.statements[s as usize].item
+    }
+
+    /// Adds a function, which has no statement yet, and answers its number. All functions before it have their statements. No memory is also answered where 2^32 - 1 functions were added already.
+    pub fn add_function(&mut self, function: Function) -> Result<u32, AllocError>
+        requires { length self.old.functions ≡ length self.old.bodies }
+        ensures number { IfOk result (λ n. n ≡ length self.old.functions) }
+        ensures ok { OnOk result (self.new ≡ with_function self.old function) }
+        ensures room { OnOk result (length self.old.functions < 2 ^ 32 - 1) }
+        ensures err { OnErr result (self.new ≡ self.old) }
+    {
+        let number = next_number(self.functions.len())?;
+        let nodes = self.nodes.len() as u32;
+        let statements = self.statements.len() as u32;
+        self.functions.push(Declared {
+            function,
+            nodes,
+            statements,
+        })?;
+        Ok(number)
+    }
+
+    /// Gives the function that was added last its statement. From then on it may be called.
+    pub fn add_body(&mut self, statement: u32) -> Result<(), AllocError>
+        requires last { length self.old.functions ≡ length self.old.bodies + 1 }
+        requires names { statement < length self.old.statements }
+        ensures ok { OnOk result (self.new ≡ with_body self.old statement) }
+        ensures err { OnErr result (self.new ≡ self.old) }
+    {
+        let nodes = self.nodes.len() as u32;
+        let statements = self.statements.len() as u32;
+        self.bodies.push(Body {
+            statement,
+            nodes,
+            statements,
+        })?;
+        Ok(())
+    }
+
+    /// How many functions have their statements.
+    pub fn function_count(&self) -> u32
+        ensures { result ≡ length self.now.bodies }
+    {
+        self.bodies.len() as u32
+    }
+
+    /// Function f as it was declared.
+    pub fn function(&self, f: u32) -> &Declared
+        requires { f < length self.now.functions }
+        ensures { declared_at self.now f ≡ Some result.now }
+    {
+        &self.functions[f as usize]
+    }
+
+    /// What function f does.
+    pub fn body(&self, f: u32) -> Body
+        requires { f < length self.now.bodies }
+        ensures { body_at self.now f ≡ Some result }
+    {
+        self.bodies[f as usize]
     }
 
     /// The number of the first token of statement n.

@@ -1,13 +1,22 @@
 //! What holds of every flat design.
 
-ghost use Rattle.vs_flat.specs.Laws.{NodeNames, StatementNames, ProcessNames, CountsStay, InputsStay, EachSignal, EachTree, EachStatement, EachProcess, NamesStay, TreesKept, ScopeAdded, SignalAdded, ProcessAdded, NodeAdded, StatementAdded, LawfulIsDesign, LawfulIsWithinLimits, EachIsFormed, EachStatementIsFormed, AssignTargets, StatementTargets, DifferentIsOnce, ExamplesAreDesigns, ExamplesAreLawful};
+ghost use Rattle.vs_flat.specs.Laws.{NodeNames, NodeCalls, CallsEarlier, CallsBefore, BodiesThere, BodyNames, StatementNames, EachLocal, HeaderLocals, FunctionResults, LocalBits, ProcessNames, CountsStay, InputsStay, EachSignal, EachTree, EachStatement, EachProcess, EachFunction, NamesStay, TreesKept, ScopeAdded, SignalAdded, ProcessAdded, NodeAdded, StatementAdded, FunctionAdded, BodyAdded, LawfulIsDesign, LawfulIsWithinLimits, EachIsFormed, EachStatementIsFormed, AssignTargets, StatementTargets, DifferentIsOnce, ExamplesAreDesigns, ExamplesAreLawful};
 ghost use Rattle.vs_flat.specs.Rows.{CopyRows, TargetRows, NameRows, ChainRows};
 
 /// What each expression, statement and process names is there, and what an expression or a statement names of its own kind is earlier.
 pub fn names_law()
     ensures expressions { NodeNames }
+    ensures calls { NodeCalls }
     ensures statements { StatementNames }
     ensures processes { ProcessNames }
+{}
+
+/// A call comes after its function's statement, and all that the statement names before that. So a walk that goes from calls into statements comes to an end.
+pub fn calls_law()
+    ensures calls { CallsEarlier }
+    ensures before { CallsBefore }
+    ensures bodies { BodiesThere }
+    ensures names { BodyNames }
 {}
 
 /// Each signal, expression, statement and process of the plain design is made of what it names, and there are as many of each kind.
@@ -16,6 +25,9 @@ pub fn trees_law()
     ensures expressions { EachTree }
     ensures statements { EachStatement }
     ensures processes { EachProcess }
+    ensures functions { EachFunction }
+    ensures locals { EachLocal }
+    ensures headers { HeaderLocals }
     ensures counts { CountsStay }
     ensures inputs { InputsStay }
 {}
@@ -29,6 +41,8 @@ pub fn adding_law()
     ensures process { ProcessAdded }
     ensures expression { NodeAdded }
     ensures statement { StatementAdded }
+    ensures function { FunctionAdded }
+    ensures body { BodyAdded }
 {}
 
 /// What a lawful flat design gives: a plain design as elaboration gives it (IEEE 1364-2005, clause 12), each of its expressions and statements formed, and targets that are ones (table 6-1).
@@ -39,6 +53,8 @@ pub fn lawful_law()
     ensures statements { EachStatementIsFormed }
     ensures assign_targets { AssignTargets }
     ensures statement_targets { StatementTargets }
+    ensures results { FunctionResults }
+    ensures local_bits { LocalBits }
 {}
 
 /// Numbers are different where none of them stands twice.
@@ -46,7 +62,7 @@ pub fn different_law()
     ensures { DifferentIsOnce }
 {}
 
-/// The flat designs of three small texts stand for their plain designs, and are lawful.
+/// The flat designs of four small texts stand for their plain designs, and are lawful.
 pub fn example_law()
     ensures designs { ExamplesAreDesigns }
     ensures lawful { ExamplesAreLawful }

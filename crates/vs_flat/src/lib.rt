@@ -1,9 +1,10 @@
-//! An elaborated design as an arena (IEEE 1364-2005, clause 12): scopes, signals, processes, expressions and statements, each kind numbered from 0 in the order in which they were added.
+//! An elaborated design as an arena (IEEE 1364-2005, clause 12): scopes, signals, processes, functions, expressions and statements, each kind numbered from 0 in the order in which they were added.
 #![tactic(auto)]
 
 mod bits;
 mod expressions;
 mod flat;
+mod functions;
 mod laws;
 mod placed;
 mod processes;
@@ -12,8 +13,9 @@ mod statements;
 pub use bits::{bits_of, count_bits, length_of, range_bits};
 pub use expressions::Node;
 pub use flat::Flat;
+pub use functions::{Body, Declared, Function};
 pub use laws::{
-    adding_law, different_law, example_law, lawful_law, names_law, rows_law, trees_law,
+    adding_law, calls_law, different_law, example_law, lawful_law, names_law, rows_law, trees_law,
 };
 pub use placed::Placed;
 pub use processes::{Event, Kind, Port, Process, Scope, Signal, has_edge};

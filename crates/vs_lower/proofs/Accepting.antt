@@ -1,11 +1,11 @@
 -- What an accepted design gives the lowering of its processes.
-use Rattle.std.proofs.Common.{◌≡◌, ℕ, zero, suc, ◌+◌, ◌<◌, ◌≤◌, ◌^◌, Bool, true, false, not, ◌&&◌, ◌||◌, ◌==◌, if◌then◌else◌, List, [], ◌∷◌, ◌++◌, map, length, Option, Some, None, refl, sym, ap, ◌∙◌, subst, arith, eqb-true, true≢false}
+use Rattle.std.proofs.Common.{◌≡◌, ℕ, zero, suc, ◌+◌, ◌<◌, ◌≤◌, ◌^◌, Bool, true, false, not, ◌&&◌, ◌||◌, ◌==◌, if◌then◌else◌, List, [], ◌∷◌, ◌++◌, map, length, Option, Some, None, refl, sym, ap, ◌∙◌, subst, arith, eqb-true, true≢false, sum_by}
 use Rattle.std.specs.Prelude.{slice_get, is_some, nat_lt}
 use Rattle.std.specs.List.{list_all, list_any}
 use Rattle.std.proofs.lemmas.List.Folds.{list_any-append}
 use Rattle.vs_design.specs.Accepted.{is_empty}
 use Rattle.vs_design.specs.Designs.{Always, Continuous, Design, Event, Port, Process, bit_count, has_edge, is_clocked, is_edge}
-use Rattle.vs_design.specs.Elaborated.{IsLawfulDesign, has_constant_selects, is_formed, is_formed_port, is_formed_process, is_formed_target}
+use Rattle.vs_design.specs.Elaborated.{IsLawfulDesign, has_constant_selects, is_formed, is_formed_port, is_formed_process, is_formed_target, are_formed_events, is_formed_statement}
 use Rattle.vs_design.specs.Expressions as E
 use Rattle.vs_design.specs.Expressions.{Expression}
 use Rattle.vs_design.specs.Fits.{fits_process, fits_target, is_fit}
@@ -13,7 +13,7 @@ use Rattle.vs_design.specs.Footprints.{all_reads, contains, is_net, read_bits, s
 use Rattle.vs_design.specs.Laws.{BitsOfDesign}
 use Rattle.vs_design.specs.Levels.{at_number, feeds, has_all, has_no_cycle, is_order_after, is_ready, level_order}
 use Rattle.vs_design.specs.Rules.{mixed_assigns, mixed_in}
-use Rattle.vs_design.specs.Sizes.{distinct, register_bits, statement_weight}
+use Rattle.vs_design.specs.Sizes.{distinct, register_bits, statement_weight, size, process_weight}
 use Rattle.vs_design.specs.Statements.{Statement, Target}
 use Rattle.vs_flat.specs.declared.processes.Event as F
 use Rattle.vs_flat.specs.declared.processes.Kind as G
@@ -35,6 +35,8 @@ use Rattle.vs_lower.proofs.Placing.{by_test}
 use Rattle.vs_lower.proofs.Restoring.{left_among, right_among}
 use Rattle.vs_values.proofs.Unary.{not_true}
 use Rattle.vs_values.proofs.Values.{both_true}
+use Rattle.vs_design.specs.Within.{FormedIsWithin, TargetIsWithin, StatementIsWithin, names_within, target_within, statement_within}
+use Rattle.std.proofs.lemmas.List.Sums.{sum_by-cons}
 
 -- ---- what holds of each process
 
@@ -239,44 +241,65 @@ writes_inside law d lawful p x at b h =
     (right_among (all_reads x) (writes_of x ++ waits_of x) (all_reads x ++ (writes_of x ++ waits_of x)) (λ c k. k) b
     (left_among (writes_of x) (waits_of x) (writes_of x ++ waits_of x) (λ c k. k) b h))
 
-pub block_is_ready : (d : Design) → BitsOfDesign → list_all fits_process d.processes ≡ true → IsLawfulDesign d → (count : ℕ) → bit_count d ≡ count → list_all (λ x. is_empty (mixed_assigns x)) d.processes ≡ true
+-- none weighs more than all
+in_sum : (f : Process → ℕ) (ps : List Process) (p : ℕ) (x : Process) → slice_get ps p ≡ Some x → f x ≤ sum_by f ps
+in_sum f [] p x e = cc
+in_sum f (y ∷ ps) zero x e = let same : y ≡ x = some_is y x e in omega (arith, ap f same, sum_by-cons f y ps)
+  where
+    some_is : (a b : Process) → Some a ≡ Some b → a ≡ b
+    some_is a b q = cc
+in_sum f (y ∷ ps) (suc p) x e = omega (arith, in_sum f ps p x e, sum_by-cons f y ps)
+
+process_light : (d : Design) (p : ℕ) (x : Process) → size d ≤ 16777216 → slice_get d.processes p ≡ Some x → process_weight x ≤ 16777216
+process_light d p x small at = let l = in_sum process_weight d.processes p x at in omega (arith, l, small)
+
+pub block_is_ready : (d : Design) → BitsOfDesign → StatementIsWithin → size d ≤ 16777216 → list_all fits_process d.processes ≡ true → IsLawfulDesign d → (count : ℕ) → bit_count d ≡ count → list_all (λ x. is_empty (mixed_assigns x)) d.processes ≡ true
     → (code : Coding) (clocked : Bool) (p place : ℕ) (star : Bool) (events : List Event) (st : Statement) → slice_get d.processes p ≡ Some (Always place star events st) → is_clocked (Always place star events st) ≡ clocked
     → home count ≤ code.next
     → ((x : Process) → slice_get d.processes p ≡ Some x → code.next + process_stores x < 2 ^ 32)
     → ((x : Process) → slice_get d.processes p ≡ Some x → length_of code.calls + process_stores x ≤ 2 ^ 32)
     → IsBlockReady count code clocked st
-block_is_ready d law fit lawful count counted unmixed code clocked p place star events st at edge temps slots few =
+block_is_ready d law within small fit lawful count counted unmixed code clocked p place star events st at edge temps slots few =
     let x = Always place star events st in
     let stores = stores_are place star events st in
     let room = slots x at in
-    let small = few x at in
+    let most = few x at in
+    let formed = both_true (are_formed_events d star events) (is_formed_statement d st) (at_process (is_formed_process d) d.processes p x lawful.formed at) in
     record {
       temps = temps;
       inside = λ b h. let q = writes_inside law d lawful p x at b h in omega (arith, q, counted);
+      names = subst (λ (n : ℕ). statement_within n st ≡ true) counted (within d lawful.bits_numbered st formed.1);
       fit = at_process fits_process d.processes p x fit at;
       unmixed = subst (λ (k : Bool). mixed_in k st ≡ []) edge (none_of (mixed_assigns x) (at_process (λ y. is_empty (mixed_assigns y)) d.processes p x unmixed at));
+      light = omega (arith, process_light d p x small at);
       slots = omega (arith, room, stores);
-      few = omega (arith, small, stores);
+      few = omega (arith, most, stores);
     }
 
-pub assign_is_ready : (d : Design) → BitsOfDesign → list_all fits_process d.processes ≡ true → IsLawfulDesign d → (count : ℕ) → bit_count d ≡ count → has_no_cycle d ≡ true
+pub assign_is_ready : (d : Design) → BitsOfDesign → FormedIsWithin → TargetIsWithin → size d ≤ 16777216 → list_all fits_process d.processes ≡ true → IsLawfulDesign d → (count : ℕ) → bit_count d ≡ count → has_no_cycle d ≡ true
     → (code : Coding) (p place : ℕ) (port : Port) (target_place : ℕ) (t : Target) (e : Expression) → slice_get d.processes p ≡ Some (Continuous place port target_place t e)
     → home count ≤ code.next
     → ((x : Process) → slice_get d.processes p ≡ Some x → code.next + process_stores x < 2 ^ 32)
     → ((x : Process) → slice_get d.processes p ≡ Some x → length_of code.calls + process_stores x ≤ 2 ^ 32)
     → IsContinuousReady count code t e
-assign_is_ready d law fit lawful count counted acyclic code p place port target_place t e at temps slots few =
+assign_is_ready d law within target small fit lawful count counted acyclic code p place port target_place t e at temps slots few =
     let x = Continuous place port target_place t e in
     let f = assign_fits t e (at_process fits_process d.processes p x fit at) in
     let room = slots x at in
-    let small = few x at in
+    let most = few x at in
+    let formed = at_process (is_formed_process d) d.processes p x lawful.formed at in
+    let g = both_true (is_formed_target d is_net t && has_constant_selects t && is_formed d e) (is_formed_port port t e) formed in
+    let h = both_true (is_formed_target d is_net t && has_constant_selects t) (is_formed d e) g.0 in
     record {
       temps = temps;
       inside = λ b h. let q = writes_inside law d lawful p x at b h in omega (arith, q, counted);
       apart = assign_apart d p place port target_place t e at acyclic;
       fixed = assign_fixed d place port target_place t e (at_process (is_formed_process d) d.processes p x lawful.formed at);
+      target_names = subst (λ (n : ℕ). target_within n t ≡ true) counted (target d lawful.bits_numbered is_net t (both_true (is_formed_target d is_net t) (has_constant_selects t) h.0).0);
+      names = subst (λ (n : ℕ). names_within n e ≡ true) counted (within d lawful.bits_numbered e h.1);
       target_fits = f.0;
       fit = f.1;
+      light = omega (arith, process_light d p x small at);
       slots = omega (arith, room);
-      few = omega (arith, small);
+      few = omega (arith, most);
     }

@@ -28,7 +28,7 @@ use Rattle.vs_values.specs.Environments.{placed}
 use Rattle.vs_lower.specs.Joined.{IsJoined, differing_bits, join_args}
 use Rattle.vs_values.specs.Made.{IsCallable}
 use Rattle.vs_lower.specs.Stated.{IsStatementReady, AddsArm, AddsArms, AddsBranch, AddsCases, AddsStatement, AreAmong, AreArmsReady, AreInOrder, IsArmReady, listed}
-use Rattle.vs_lower.specs.Tested.{AddsTests}
+use Rattle.vs_lower.specs.Tested.{AddsTests, AreTestsReady}
 use Rattle.vs_values.proofs.Adding.{env_more}
 use Rattle.vs_lower.proofs.Branched.{statement_kept, written_long}
 use Rattle.vs_lower.proofs.Branching.{CanJoin, put_back}
@@ -40,6 +40,7 @@ use Rattle.vs_lower.proofs.Placing.{placed_all, placed_other}
 use Rattle.vs_values.proofs.Environments.{placed_length}
 use Rattle.vs_lower.proofs.Restoring.{IsKept, fork, join_callable, joins, left_among, right_among, outside}
 use Rattle.vs_values.proofs.Values.{both_true}
+use Rattle.vs_design.specs.Within.{names_within, items_within, statement_within, arms_within}
 
 -- ---- lists
 
@@ -54,6 +55,10 @@ rest_none (x ∷ xs) ys h = cc
 pub all_fit : (es : List Expression) → fit_items (items_of es) ≡ true → All (λ e. is_fit e ≡ true) es
 all_fit [] h = All-nil (λ e. is_fit e ≡ true)
 all_fit (e ∷ es) h = let q = both_true (is_fit e) (fit_items (items_of es)) h in All-cons (λ e. is_fit e ≡ true) e es q.0 (all_fit es q.1)
+
+pub all_within : (n : ℕ) (es : List Expression) → items_within n (items_of es) ≡ true → All (λ e. names_within n e ≡ true) es
+all_within n [] h = All-nil (λ e. names_within n e ≡ true)
+all_within n (e ∷ es) h = let q = both_true (names_within n e) (items_within n (items_of es)) h in All-cons (λ e. names_within n e ≡ true) e es q.0 (all_within n es q.1)
 
 all_listed : (w : ℕ) (es : List Expression) → All (λ e. width e ≤ w) (listed (items_of es)) → All (λ e. width e ≤ w) es
 all_listed w es h = subst (All (λ e. width e ≤ w)) (same es) h
@@ -119,8 +124,10 @@ ready_behind count now later subject code clocked w many items st rest r = recor
   some = r.some;
   at_most_64 = r.at_most_64;
   wide = r.wide.1;
+  names = (both_true (items_within count (items_of items) && statement_within count st) (arms_within count rest) r.names).1;
   fit = (both_true (fit_items (items_of items) && fits_statement st) (fits_arms rest) r.fit).1;
   unmixed = rest_none (mixed_in clocked st) (mixed_in_arms clocked rest) r.unmixed;
+  light = omega (arith, r.light);
   slots = omega (arith, r.slots);
   few = omega (arith, r.few);
 }
@@ -139,8 +146,10 @@ ready_default count now later subject code clocked w many st r = record {
   later_env = r.later_env;
   now_bits = r.now_bits;
   later_bits = r.later_bits;
+  names = r.names;
   fit = r.fit;
   unmixed = r.unmixed;
+  light = r.light;
   slots = r.slots;
   few = r.few;
 }
@@ -167,6 +176,8 @@ ready_arm count now later subject c0 c1 clocked kind w s writes items st rest bi
     let long : length env ≡ count = k.long ∙ written_long clocked count now later r.now_bits r.later_bits in
     let x = both_true (fit_items (items_of items) && fits_statement st) (fits_arms rest) r.fit in
     let y = both_true (fit_items (items_of items)) (fits_statement st) x.0 in
+    let n = both_true (items_within count (items_of items) && statement_within count st) (arms_within count rest) r.names in
+    let m = both_true (items_within count (items_of items)) (statement_within count st) n.0 in
     let most = distinct_most writes bits (rising_once bits i.rising) i.alone in
     record {
       now_env = env_more now c0.next c1.next g.grown r.now_env;
@@ -180,11 +191,14 @@ ready_arm count now later subject c0 c1 clocked kind w s writes items st rest bi
       items_some = some;
       items_fit = all_fit items y.0;
       items_wide = all_listed w items r.wide.0;
+      items_names = all_within count items m.0;
+      names = m.1;
       fit = y.1;
       unmixed = first_none (mixed_in clocked st) (mixed_in_arms clocked rest) r.unmixed;
       behind_long = sym (ap (λ (xs : List ℕ). length xs) o.are ∙ length-map bits (slice_index env));
       behind_below = subst (All (λ slot. slot < c1.next)) (sym o.are)
           (picked_below env c1.next bits (All-weaker (λ b. b < count) (λ b. b < length env) (λ b l. omega (arith, long, l)) bits i.inside) k.below);
+      light = omega (arith, r.light, most);
       slots = omega (arith, r.slots, g.slots, most);
       few = omega (arith, r.few, g.stores, most);
     }
@@ -200,11 +214,29 @@ arm_statement count now later subject code one clocked kind w s items st bits be
       later_env = env_more later code.next one.next g.grown r.later_env;
       now_bits = r.now_bits;
       later_bits = r.later_bits;
+      names = r.names;
       fit = r.fit;
       unmixed = r.unmixed;
+      light = omega (arith, r.light);
       slots = omega (arith, r.slots, g.slots);
       few = omega (arith, r.few, g.stores);
     }
+
+pub arm_tests : (count : ℕ) (now later subject : List ℕ) (code : Coding) (clocked : Bool) (w : ℕ) (items : List Expression) (st : Statement) (bits behind : List ℕ)
+    → IsArmReady count now later subject code clocked w items st bits behind → AreTestsReady now subject code items w
+arm_tests count now later subject code clocked w items st bits behind r = record {
+  is_env = r.now_env;
+  long = r.long;
+  below = r.below;
+  some = r.some;
+  at_most_64 = r.at_most_64;
+  fit = r.items_fit;
+  wide = r.items_wide;
+  names = subst (λ (n : ℕ). All (λ e. names_within n e ≡ true) items) (sym r.now_bits) r.items_names;
+  light = omega (arith, r.light);
+  slots = omega (arith, r.slots);
+  few = omega (arith, r.few);
+}
 
 -- ---- the arm with what stands behind it
 
@@ -347,17 +379,17 @@ each_all : (n : ℕ) (ms : List ℕ) → EachBelow n ms → All (λ m. m < n) ms
 each_all n [] h = All-nil (λ m. m < n)
 each_all n (m ∷ ms) h = All-cons (λ m. m < n) m ms (h 0 (omega arith)) (each_all n ms (λ k l. h (suc k) (omega arith)))
 
-pub record ArmAt (a : Arena) (s : ℕ) (other : Option ℕ) (arms : List F.Arm) (n : ℕ) (arm : F.Arm) : Type 0 where
-  pub items : All (λ e. e < length a.nodes) arm.items
+pub record ArmAt (nodes : ℕ) (a : Arena) (s : ℕ) (other : Option ℕ) (arms : List F.Arm) (n : ℕ) (arm : F.Arm) : Type 0 where
+  pub items : All (λ e. e < nodes) arm.items
   pub statement : arm.statement < s
   pub some : 1 ≤ length arm.items
   pub tree : arms_tree (tree_of a) (body_of a) other (drop n arms) ≡ Arm (items_of (map (tree_of a) arm.items)) (body_of a arm.statement) (arms_tree (tree_of a) (body_of a) other (drop (n + 1) arms))
 
-pub arm_there : (a : Arena) (s : ℕ) (other : Option ℕ) (arms : List F.Arm) (n : ℕ) (d : F.Arm) → n < length arms → EachArmNames (length a.nodes) s arms → All (λ (arm : F.Arm). 1 ≤ length arm.items) arms → ArmAt a s other arms n (get_or arms n d)
-arm_there a s other arms n d l names some =
+pub arm_there : (nodes : ℕ) (a : Arena) (s : ℕ) (other : Option ℕ) (arms : List F.Arm) (n : ℕ) (d : F.Arm) → n < length arms → EachArmNames nodes s arms → All (λ (arm : F.Arm). 1 ≤ length arm.items) arms → ArmAt nodes a s other arms n (get_or arms n d)
+arm_there nodes a s other arms n d l names some =
     let here = names n (get_or arms n d) (at_get arms n d l) in
     record {
-      items = each_all (length a.nodes) (get_or arms n d).items here.items;
+      items = each_all nodes (get_or arms n d).items here.items;
       statement = here.statement;
       some = some n d l;
       tree = ap (arms_tree (tree_of a) (body_of a) other) (drop_more arms n d l);
@@ -370,28 +402,28 @@ after_among tree st other (a ∷ arms) (suc n) b h =
     right_among (statement_bits (st a.statement)) (arms_bits (arms_tree tree st other arms)) (arms_bits (arms_tree tree st other (a ∷ arms))) (λ c k. k) b (after_among tree st other arms n b h)
 
 -- what is needed and what is given at the arm before the last k
-pub record AtArm (count : ℕ) (a : Arena) (s : ℕ) (clocked : Bool) (v ah now later subject : List ℕ) (c0 c1 : Coding) (kind : CaseKind) (w : ℕ) (signed : Bool) (other : Option ℕ) (arms : List F.Arm) (k n : ℕ) (items : List ℕ) (part : ℕ) (bits behind : List ℕ) : Type 0 where
-  pub items_there : All (λ e. e < length a.nodes) items
+pub record AtArm (nodes count : ℕ) (a : Arena) (s : ℕ) (clocked : Bool) (v ah now later subject : List ℕ) (c0 c1 : Coding) (kind : CaseKind) (w : ℕ) (signed : Bool) (other : Option ℕ) (arms : List F.Arm) (k n : ℕ) (items : List ℕ) (part : ℕ) (bits behind : List ℕ) : Type 0 where
+  pub items_there : All (λ e. e < nodes) items
   pub part_below : part < s
   pub ready : IsArmReady count v ah subject c1 clocked w (map (tree_of a) items) (body_of a part) bits behind
   pub among : AreAmong (statement_bits (body_of a part)) bits
   pub next : (c4 : Coding) (slots : List ℕ) → AddsArm clocked v ah subject c1 c4 kind w signed (map (tree_of a) items) (body_of a part) bits behind slots
       → AddsCases clocked now later subject c0 c4 kind w signed (distinct (arms_bits (arms_tree (tree_of a) (body_of a) other arms))) (arms_tree (tree_of a) (body_of a) other (drop (length arms - (k + 1)) arms)) bits slots
 
-pub at_arm : (count : ℕ) (a : Arena) (s : ℕ) (clocked : Bool) (v ah now later subject : List ℕ) (c0 c1 : Coding) (kind : CaseKind) (w : ℕ) (signed : Bool) (other : Option ℕ) (arms : List F.Arm) (k n : ℕ) (d e : F.Arm) (items : List ℕ) (part : ℕ) (bits behind : List ℕ)
+pub at_arm : (nodes count : ℕ) (a : Arena) (s : ℕ) (clocked : Bool) (v ah now later subject : List ℕ) (c0 c1 : Coding) (kind : CaseKind) (w : ℕ) (signed : Bool) (other : Option ℕ) (arms : List F.Arm) (k n : ℕ) (d e : F.Arm) (items : List ℕ) (part : ℕ) (bits behind : List ℕ)
     → k < length arms → n ≡ length arms - 1 - k → items ≡ (get_or arms n d).items → part ≡ (get_or arms n e).statement → v ≡ now → ah ≡ later
-    → EachArmNames (length a.nodes) s arms → All (λ (arm : F.Arm). 1 ≤ length arm.items) arms
+    → EachArmNames nodes s arms → All (λ (arm : F.Arm). 1 ≤ length arm.items) arms
     → AreArmsReady count now later subject c0 clocked w (distinct (arms_bits (arms_tree (tree_of a) (body_of a) other arms))) (arms_tree (tree_of a) (body_of a) other arms)
     → AreInOrder count bits (arms_bits (arms_tree (tree_of a) (body_of a) other arms))
     → AddsCases clocked now later subject c0 c1 kind w signed (distinct (arms_bits (arms_tree (tree_of a) (body_of a) other arms))) (arms_tree (tree_of a) (body_of a) other (drop (length arms - k) arms)) bits behind
-    → AtArm count a s clocked v ah now later subject c0 c1 kind w signed other arms k n items part bits behind
-at_arm count a s clocked v ah now later subject c0 c1 kind w signed other arms k n d e items part bits behind l is ei ep ev ea names some r i o =
+    → AtArm nodes count a s clocked v ah now later subject c0 c1 kind w signed other arms k n items part bits behind
+at_arm nodes count a s clocked v ah now later subject c0 c1 kind w signed other arms k n d e items part bits behind l is ei ep ev ea names some r i o =
     let T = tree_of a in
     let B = body_of a in
     let arm = get_or arms n d in
     let writes = arms_bits (arms_tree T B other arms) in
     let m : n < length arms = omega (arith, l, is) in
-    let here = arm_there a s other arms n d m names some in
+    let here = arm_there nodes a s other arms n d m names some in
     let part_is : part ≡ arm.statement = ep ∙ ap (λ (x : F.Arm). x.statement) (any_default arms n e d m) in
     let past : length arms - k ≡ n + 1 = omega (arith, l, is) in
     let left : length arms - (k + 1) ≡ n = omega (arith, l, is) in
@@ -402,7 +434,7 @@ at_arm count a s clocked v ah now later subject c0 c1 kind w signed other arms k
     let some_items : 1 ≤ length (map T arm.items) = omega (arith, here.some, length-map arm.items T) in
     let ready = ready_arm count now later subject c0 c1 clocked kind w signed writes (map T arm.items) (B arm.statement) rest bits behind all_ready some_items i behind_is in
     record {
-      items_there = subst (All (λ x. x < length a.nodes)) (sym ei) here.items;
+      items_there = subst (All (λ x. x < nodes)) (sym ei) here.items;
       part_below = omega (arith, part_is, here.statement);
       ready = subst (λ (x : List ℕ). IsArmReady count x ah subject c1 clocked w (map T items) (B part) bits behind) (sym ev)
           (subst (λ (x : List ℕ). IsArmReady count now x subject c1 clocked w (map T items) (B part) bits behind) (sym ea)

@@ -43,8 +43,10 @@ block_ready count code clocked st r = record {
   later_env = homes_env count code.next r.temps;
   now_bits = length-range_with_len 4 count;
   later_bits = length-range_with_len 4 count;
+  names = r.names;
   fit = r.fit;
   unmixed = r.unmixed;
+  light = r.light;
   slots = omega (arith, r.slots);
   few = omega (arith, r.few);
 }

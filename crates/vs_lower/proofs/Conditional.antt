@@ -28,6 +28,7 @@ use Rattle.vs_lower.proofs.Placing.{by_test}
 use Rattle.vs_values.proofs.Readying.{fits_length}
 use Rattle.vs_values.proofs.Unary.{not_true}
 use Rattle.vs_values.proofs.Values.{both_true}
+use Rattle.vs_design.specs.Within.{names_within, statement_within}
 
 -- ---- what its parts need
 
@@ -39,12 +40,22 @@ rest_none : (xs ys : List ℕ) → (xs ++ ys) ≡ [] → ys ≡ []
 rest_none [] ys h = h
 rest_none (x ∷ xs) ys h = cc
 
-pub ready_if : (bits : ℕ) (now ahead : List ℕ) (code : Coding) (clocked : Bool) (c : Expression) (taken other : Statement) → IsStatementReady bits now ahead code clocked (If c taken other) → IsReady bits now code c (width c)
+pub ready_if : (bits : ℕ) (now ahead : List ℕ) (code : Coding) (clocked : Bool) (c : Expression) (taken other : Statement) → IsStatementReady bits now ahead code clocked (If c taken other) → IsReady now code c (width c)
 ready_if bits now ahead code clocked c taken other r =
     let x = both_true (is_fit c && fits_statement taken) (fits_statement other) r.fit in
     let y = both_true (is_fit c) (fits_statement taken) x.0 in
     let l = fits_length c (both_true (fits c) (divides_constants c) y.0).0 in
-    record { is_env = r.now_env; has_bits = r.now_bits; fit = y.0; wide = omega arith; at_most_64 = l.1; slots = omega (arith, r.slots); few = omega (arith, r.few) }
+    let n = both_true (names_within bits c && statement_within bits taken) (statement_within bits other) r.names in
+    record {
+      is_env = r.now_env;
+      has_bits = subst (λ (k : ℕ). names_within k c ≡ true) (sym r.now_bits) (both_true (names_within bits c) (statement_within bits taken) n.0).0;
+      fit = y.0;
+      wide = omega arith;
+      at_most_64 = l.1;
+      light = omega (arith, r.light);
+      slots = omega (arith, r.slots);
+      few = omega (arith, r.few);
+    }
 
 pub ready_yes : (bits : ℕ) (now ahead : List ℕ) (c0 c1 : Coding) (clocked : Bool) (c : Expression) (taken other : Statement) (tc : List ℕ)
     → IsStatementReady bits now ahead c0 clocked (If c taken other) → AddsValue now c0.calls c0.next c1.calls c1.next c (width c) (sign c) tc → IsStatementReady bits now ahead c1 clocked taken
@@ -57,8 +68,10 @@ ready_yes bits now ahead c0 c1 clocked c taken other tc r v =
       later_env = env_more ahead c0.next c1.next a.grown r.later_env;
       now_bits = r.now_bits;
       later_bits = r.later_bits;
+      names = (both_true (names_within bits c) (statement_within bits taken) (both_true (names_within bits c && statement_within bits taken) (statement_within bits other) r.names).0).1;
       fit = (both_true (is_fit c) (fits_statement taken) x.0).1;
       unmixed = first_none (mixed_in clocked taken) (mixed_in clocked other) r.unmixed;
+      light = omega (arith, r.light);
       slots = omega (arith, r.slots, a.paid, a.stores);
       few = omega (arith, r.few, total, a.stores);
     }
@@ -76,8 +89,10 @@ ready_no bits now ahead c0 c1 c2 clocked c taken other tc now1 ahead1 r v t =
       later_env = env_more ahead c0.next c2.next (omega (arith, a.grown, b.grown)) r.later_env;
       now_bits = r.now_bits;
       later_bits = r.later_bits;
+      names = (both_true (names_within bits c && statement_within bits taken) (statement_within bits other) r.names).1;
       fit = (both_true (is_fit c && fits_statement taken) (fits_statement other) r.fit).1;
       unmixed = rest_none (mixed_in clocked taken) (mixed_in clocked other) r.unmixed;
+      light = omega (arith, r.light);
       slots = omega (arith, r.slots, a.paid, a.stores, b.paid, b.stores);
       few = omega (arith, r.few, total1, total2, a.stores, b.stores);
     }

@@ -156,8 +156,11 @@ assign_ready count code t e r = record {
   later_env = homes_env count code.next r.temps;
   now_bits = length-range_with_len 4 count;
   later_bits = length-range_with_len 4 count;
+  target_names = r.target_names;
+  names = r.names;
   target_fits = r.target_fits;
   fit = r.fit;
+  light = omega (arith, r.light);
   slots = omega (arith, r.slots);
   few = omega (arith, r.few);
 }

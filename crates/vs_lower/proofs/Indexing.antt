@@ -23,16 +23,17 @@ use Rattle.vs_lower.specs.Written.{HasRoom, IsIndex, IsIndexed, AreIndexed, inde
 use Rattle.vs_values.proofs.Adding.{values_none, values_more, values_as, env_more}
 use Rattle.vs_values.proofs.Readying.{stores_of, two_added}
 use Rattle.vs_values.proofs.Taking.{index_is}
+use Rattle.vs_design.specs.Within.{names_within}
 
 -- ---- of one part
 
-pub ready_index_of : (bits : ℕ) (env : List ℕ) (code : Coding) (target : Target) (index : Expression) (w : ℕ) → w ≡ width index → is_fit index ≡ true → width index ≤ 64 → index_weight target ≡ weight index (width index)
-    → HasRoom bits env code (index_weight target) → IsReady bits env code index w
-ready_index_of bits env code target index w e f most weighs r =
-    subst (IsReady bits env code index) (sym e) (record { is_env = r.is_env; has_bits = r.has_bits; fit = f; wide = omega arith; at_most_64 = most; slots = omega (arith, r.slots, weighs); few = omega (arith, r.few, weighs) })
+pub ready_index_of : (env : List ℕ) (code : Coding) (target : Target) (index : Expression) (w : ℕ) → w ≡ width index → is_fit index ≡ true → width index ≤ 64 → index_weight target ≡ weight index (width index)
+    → names_within (length env) index ≡ true → HasRoom env code (index_weight target) → IsReady env code index w
+ready_index_of env code target index w e f most weighs n r =
+    subst (IsReady env code index) (sym e) (record { is_env = r.is_env; has_bits = n; fit = f; wide = omega arith; at_most_64 = most; light = omega (arith, r.light, weighs); slots = omega (arith, r.slots, weighs); few = omega (arith, r.few, weighs) })
 
-pub adds_whole_index : (bits : ℕ) (env : List ℕ) (code : Coding) (signal : Signal) (ti : List ℕ) (w : ℕ) → HasRoom bits env code w → ti ≡ [] → AddsIndex env code code (Whole signal) ti
-adds_whole_index bits env code signal ti w r e =
+pub adds_whole_index : (env : List ℕ) (code : Coding) (signal : Signal) (ti : List ℕ) (w : ℕ) → HasRoom env code w → ti ≡ [] → AddsIndex env code code (Whole signal) ti
+adds_whole_index env code signal ti w r e =
     subst (AddsIndex env code code (Whole signal)) (sym e) (record {
       calls = [];
       is = sym (append-nil code.calls);
@@ -93,14 +94,14 @@ taken_leaf g ls n d l = ap (λ (t : Target). take n (map g ls) ++ t ∷ []) (sym
     at g (x ∷ ls) zero d l = refl
     at g (x ∷ ls) (suc n) d l = at g ls n d (omega arith)
 
-pub room_for_next : (bits : ℕ) (env : List ℕ) (code one : Coding) (g : Leaf → Target) (ls : List Leaf) (tis : List (List ℕ)) (n : ℕ) (d : Leaf) → n < length ls
-    → HasRoom bits env code (sum_by index_weight (map g ls)) → AddsIndices env code one (take n (map g ls)) tis → HasRoom bits env one (index_weight (g (get_or ls n d)))
-room_for_next bits env code one g ls tis n d l r p =
+pub room_for_next : (env : List ℕ) (code one : Coding) (g : Leaf → Target) (ls : List Leaf) (tis : List (List ℕ)) (n : ℕ) (d : Leaf) → n < length ls
+    → HasRoom env code (sum_by index_weight (map g ls)) → AddsIndices env code one (take n (map g ls)) tis → HasRoom env one (index_weight (g (get_or ls n d)))
+room_for_next env code one g ls tis n d l r p =
     let more = sums_more index_weight g ls n d l in
     let added = p.values.added in
     record {
       is_env = env_more env code.next one.next added.grown r.is_env;
-      has_bits = r.has_bits;
+      light = omega (arith, r.light, more);
       slots = omega (arith, r.slots, more, added.paid, added.stores);
       few = omega (arith, r.few, more, added.stores, stores_of code.calls p.calls one.calls p.is);
     }

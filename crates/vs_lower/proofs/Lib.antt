@@ -36,3 +36,5 @@ pub mod Blocking
 pub mod Accepting
 pub mod Resetting
 pub mod Sleeping
+pub mod Reaching
+pub mod Templating

@@ -1,21 +1,19 @@
 -- The parts that targets are made of.
-use Rattle.std.proofs.Common.{◌≡◌, ℕ, zero, suc, ◌+◌, ◌<◌, Bool, true, false, ◌==◌, if◌then◌else◌, List, [], ◌∷◌, ◌++◌, map, length, take, slice_index, nat_lt, Option, Some, None, IsSome, sym, ap, ◌∙◌, subst, refl, arith, append-nil, append_assoc}
+use Rattle.std.proofs.Common.{◌≡◌, ℕ, zero, suc, ◌+◌, ◌<◌, Bool, true, false, ◌==◌, if◌then◌else◌, List, [], ◌∷◌, ◌++◌, map, length, take, slice_index, nat_lt, Option, Some, None, IsSome, sym, ap, ◌∙◌, subst, refl, arith, append-nil, append_assoc, ◌≤◌}
 use Rattle.std.specs.Prelude.{unwrap_or}
 use Rattle.std.specs.List.{All, flat_map}
 use Rattle.std.proofs.lemmas.List.{map-append, take_more}
 use Rattle.std.proofs.lemmas.List.Concat.{flat_map-append}
 use Rattle.std.proofs.lemmas.List.Elements.{All-nil, All-cons, All-append, All-head, All-tail, All-take}
-use Rattle.std.proofs.lemmas.Bool.{and_parts}
 use Rattle.vs_design.specs.Expressions as E
 use Rattle.vs_design.specs.Statements.{Target, Whole}
 use Rattle.vs_flat.specs.Arena.{Arena}
 use Rattle.vs_flat.specs.Targets.{target_of, both_of}
-use Rattle.vs_flat.specs.declared.expressions.Node.TheVariants as N
 use Rattle.vs_flat.specs.DesignOf.{arena_trees}
-use Rattle.vs_flat.specs.Named.{all_below}
 use Rattle.vs_flat.specs.Trees.{joined, no_signal, target_tree, tree_at, first_copy, copy_count}
 use Rattle.vs_lower.specs.declared.leaves.Leaf.{Leaf}
-use Rattle.vs_values.proofs.Trees.{Tree}
+use Rattle.vs_shape.specs.Nodes.{EachBelow}
+use Rattle.vs_values.specs.Templates.{Templated}
 use Rattle.vs_lower.specs.Leaves.{leaves_of, leaf_target, IsInside, AddsLeaves}
 
 -- ---- a concatenation that is a target
@@ -55,19 +53,22 @@ one_copy count e s = by (count == 1) refl s
 
 -- ---- parts behind parts
 
-pub adds_none : (a : Arena) (old : List Leaf) → AddsLeaves a old old []
-adds_none a old = record { leaves = []; is = sym (append-nil old); are = refl; inside = All-nil (IsInside a) }
+pub adds_none : (known : Templated) (old : List Leaf) → AddsLeaves known old old []
+adds_none known old = record { leaves = []; is = sym (append-nil old); are = refl; inside = All-nil (IsInside known) }
 
-pub adds_leaves : (a : Arena) (old one two : List Leaf) (xs ys : List Target) → AddsLeaves a old one xs → AddsLeaves a one two ys → AddsLeaves a old two (xs ++ ys)
-adds_leaves a old one two xs ys p q = record {
-  leaves = p.leaves ++ q.leaves;
-  is = q.is ∙ ap (λ (ls : List Leaf). ls ++ q.leaves) p.is ∙ append_assoc old p.leaves q.leaves;
-  are = map-append (leaf_target a) p.leaves q.leaves ∙ ap (λ (ts : List Target). ts ++ map (leaf_target a) q.leaves) p.are ∙ ap (λ (ts : List Target). xs ++ ts) q.are;
-  inside = All-append (IsInside a) p.leaves q.leaves p.inside q.inside;
-}
+pub adds_leaves : (known : Templated) (old one two : List Leaf) (xs ys : List Target) → AddsLeaves known old one xs → AddsLeaves known one two ys → AddsLeaves known old two (xs ++ ys)
+adds_leaves known old one two xs ys p q =
+    let g = leaf_target known.arena in
+    record {
+      leaves = p.leaves ++ q.leaves;
+      is = q.is ∙ ap (λ (ls : List Leaf). ls ++ q.leaves) p.is ∙ append_assoc old p.leaves q.leaves;
+      are = map-append g p.leaves q.leaves ∙ ap (λ (ts : List Target). ts ++ map g q.leaves) p.are ∙ ap (λ (ts : List Target). xs ++ ts) q.are;
+      inside = All-append (IsInside known) p.leaves q.leaves p.inside q.inside;
+    }
 
-pub adds_leaf : (a : Arena) (old new : List Leaf) (leaf : Leaf) (target : Target) → new ≡ old ++ leaf ∷ [] → leaf_target a leaf ≡ target → IsInside a leaf → AddsLeaves a old new (target ∷ [])
-adds_leaf a old new leaf target is are inside = record { leaves = leaf ∷ []; is = is; are = ap (λ (t : Target). t ∷ []) are; inside = All-cons (IsInside a) leaf [] inside (All-nil (IsInside a)) }
+pub adds_leaf : (known : Templated) (old new : List Leaf) (leaf : Leaf) (target : Target) → new ≡ old ++ leaf ∷ [] → leaf_target known.arena leaf ≡ target → IsInside known leaf → AddsLeaves known old new (target ∷ [])
+adds_leaf known old new leaf target is are inside =
+    record { leaves = leaf ∷ []; is = is; are = ap (λ (t : Target). t ∷ []) are; inside = All-cons (IsInside known) leaf [] inside (All-nil (IsInside known)) }
 
 -- one part more of a list of them
 pub parts_more : (f : ℕ → List Target) (parts : List ℕ) (n : ℕ) → n < length parts → flat_map f (take n parts) ++ f (slice_index parts n) ≡ flat_map f (take (n + 1) parts)
@@ -82,33 +83,32 @@ flat_map-map g f (p ∷ ps) = ap (λ ts. f (g p) ++ ts) (flat_map-map g f ps)
 
 -- ---- the parts of a concatenation
 
-below_all : (e : ℕ) (parts : List ℕ) → all_below e parts ≡ true → All (λ p. p < e) parts
-below_all e [] h = All-nil (λ p. p < e)
-below_all e (p ∷ ps) h = let x = and_parts (nat_lt p e) (all_below e ps) h in All-cons (λ p. p < e) p ps (lt_is p e x.0) (below_all e ps x.1)
-  where
-    lt_is : (m n : ℕ) → nat_lt m n ≡ true → m < n
-    lt_is m n h = grind arith
-
 -- a concatenation that is a target: its first copy's parts are earlier nodes, and are targets
 pub record IsPartedTarget (a : Arena) (e : ℕ) (parts first : List ℕ) : Type 0 where
   pub each : (n : ℕ) → n < length first → (slice_index first n < e) × IsSome (target_of (tree_at (arena_trees a) (slice_index first n)))
   pub are : leaves_of (target_tree (tree_at (arena_trees a) e)) ≡ flat_map (λ p. leaves_of (target_tree (tree_at (arena_trees a) p))) first
 
-pub parted : (a : Arena) (e : ℕ) (parts : List ℕ) → Tree a e (N.Join parts) → IsSome (target_of (tree_at (arena_trees a) e)) → (first : List ℕ) → first ≡ first_copy parts → first ≡ take (length first) parts → IsPartedTarget a e parts first
-parted a e parts tr some first copy prefix =
+pub parted : (a : Arena) (e place : ℕ) (parts : List ℕ) → tree_at (arena_trees a) e ≡ E.At place (E.Repeat (copy_count parts) (joined (map (tree_at (arena_trees a)) (first_copy parts)))) → EachBelow e parts
+    → IsSome (target_of (tree_at (arena_trees a) e)) → (first : List ℕ) → first ≡ first_copy parts → first ≡ take (length first) parts → length first ≤ length parts → IsPartedTarget a e parts first
+parted a e place parts is below some first copy prefix short =
     let t = tree_at (arena_trees a) in
     let one : E.Expression = joined (map t (first_copy parts)) in
-    let here : IsSome (target_of (E.At tr.place (E.Repeat (copy_count parts) one))) = subst (λ (x : E.Expression). IsSome (target_of x)) tr.is some in
+    let here : IsSome (target_of (E.At place (E.Repeat (copy_count parts) one))) = subst (λ (x : E.Expression). IsSome (target_of x)) is some in
     let c = one_copy (copy_count parts) one here in
     let each = some_each (map t (first_copy parts)) c.0 in
-    let below = below_all e parts (and_parts true (all_below e parts) tr.earlier).1 in
-    let firsts = subst (All (λ p. p < e)) (sym prefix ∙ copy) (All-take (λ p. p < e) (length first) parts below) in
-    subst (IsPartedTarget a e parts) (sym copy) (record {
-      each = λ k l. (firsts k 0 l, some_at (first_copy parts) k l each);
-      are = ap (λ (x : E.Expression). leaves_of (target_tree x)) tr.is ∙ ap leaves_of c.1 ∙ leaves_joined (map t (first_copy parts)) c.0 ∙ flat_map-map t (λ e. leaves_of (target_tree e)) (first_copy parts);
-    })
+    let targets = subst (λ (ps : List ℕ). (k : ℕ) → k < length ps → IsSome (target_of (tree_at (arena_trees a) (slice_index ps k)))) (sym copy) (λ k l. some_at (first_copy parts) k l each) in
+    record {
+      each = λ k l. (subst (λ (n : ℕ). n < e) (sym (ap (λ (ps : List ℕ). slice_index ps k) prefix ∙ taken (length first) k parts l)) (below k (omega (arith, l, short))), targets k l);
+      are = ap (λ (x : E.Expression). leaves_of (target_tree x)) is ∙ ap leaves_of c.1 ∙ leaves_joined (map t (first_copy parts)) c.0 ∙ flat_map-map t (λ e. leaves_of (target_tree e)) (first_copy parts) ∙ ap (λ (ps : List ℕ). flat_map (λ p. leaves_of (target_tree (t p))) ps) (sym copy);
+    }
   where
     some_at : (ps : List ℕ) (k : ℕ) → k < length ps → All (λ e. IsSome (target_of e)) (map (tree_at (arena_trees a)) ps) → IsSome (target_of (tree_at (arena_trees a) (slice_index ps k)))
     some_at [] k l h = absurd (omega arith)
     some_at (p ∷ ps) zero l h = All-head (λ e. IsSome (target_of e)) (tree_at (arena_trees a) p) (map (tree_at (arena_trees a)) ps) h
     some_at (p ∷ ps) (suc k) l h = some_at ps k (omega arith) (All-tail (λ e. IsSome (target_of e)) (tree_at (arena_trees a) p) (map (tree_at (arena_trees a)) ps) h)
+
+    taken : (n k : ℕ) (xs : List ℕ) → k < n → slice_index (take n xs) k ≡ slice_index xs k
+    taken zero k xs l = absurd (omega arith)
+    taken (suc n) k [] l = refl
+    taken (suc n) zero (x ∷ xs) l = refl
+    taken (suc n) (suc k) (x ∷ xs) l = taken n k xs (omega arith)

@@ -73,7 +73,7 @@ not_or true b h e = cc
 not_or false b h e = h
 
 -- places of a signal are bits of it
-somes_within : (signal : Signal) (ps : List (Option ℕ)) (b : ℕ) → All (IsWithin (signal_length signal)) ps → contains (somes (bits_at signal ps)) b ≡ true → contains (bits_of_signal signal) b ≡ true
+pub somes_within : (signal : Signal) (ps : List (Option ℕ)) (b : ℕ) → All (IsWithin (signal_length signal)) ps → contains (somes (bits_at signal ps)) b ≡ true → contains (bits_of_signal signal) b ≡ true
 somes_within signal [] b h c = absurd (true≢false (sym c))
 somes_within signal (None ∷ ps) b h c = somes_within signal ps b (All-tail (IsWithin (signal_length signal)) None ps h) c
 somes_within signal (Some q ∷ ps) b h c =
@@ -140,18 +140,18 @@ written_more env mark target tis tv most more calls env_after next l w = record 
   values = w.values;
 }
 
-pub whole_adds : (bits : ℕ) (env env_after : List ℕ) (code : Coding) (signal : Signal) (ti tv : List ℕ) (w : ℕ) → HasRoom bits env code w → All (λ slot. slot < code.next) tv
+pub whole_adds : (env env_after : List ℕ) (code : Coding) (signal : Signal) (ti tv : List ℕ) (w : ℕ) → HasRoom env code w → All (λ slot. slot < code.next) tv
     → env_after ≡ placed env (map Some (bits_of_signal signal)) tv → AddsWrites env env_after code code (Whole signal) (ti ∷ []) tv 0
-whole_adds bits env env_after code signal ti tv w r below is = record {
+whole_adds env env_after code signal ti tv w r below is = record {
   calls = [];
   is = sym (append-nil code.calls);
   written = subst (λ (x : List ℕ). IsWritten env code.next (Whole signal) (ti ∷ []) tv 0 [] x code.next) (sym is) (whole_written env code.next signal ti tv r.is_env below);
 }
 
-pub fixed_adds : (bits : ℕ) (env env_after : List ℕ) (code : Coding) (target : Target) (signal : Signal) (index : Expression) (at : BitList → List (Option ℕ)) (ti tv : List ℕ) → IsSelecting target signal index at
-    → HasRoom bits env code (write_weight target) → All (λ slot. slot < code.next) tv → AreConstant ti → IsIndex index ti
+pub fixed_adds : (env env_after : List ℕ) (code : Coding) (target : Target) (signal : Signal) (index : Expression) (at : BitList → List (Option ℕ)) (ti tv : List ℕ) → IsSelecting target signal index at
+    → HasRoom env code (write_weight target) → All (λ slot. slot < code.next) tv → AreConstant ti → IsIndex index ti
     → env_after ≡ placed env (bits_at signal (at (constant_bits ti))) tv → AddsWrites env env_after code code target (ti ∷ []) tv (write_weight target)
-fixed_adds bits env env_after code target signal index at ti tv s r below c i is = record {
+fixed_adds env env_after code target signal index at ti tv s r below c i is = record {
   calls = [];
   is = sym (append-nil code.calls);
   written = subst (λ (x : List ℕ). IsWritten env code.next target (ti ∷ []) tv (write_weight target) [] x code.next) (sym is)
@@ -217,17 +217,17 @@ pub record CanWrite (env : List ℕ) (code : Coding) (kernel : Kernel) (target :
   pub inside : All (λ b. b < length env) (bits_of_signal signal)
   pub varies : is_constant index ≡ false
 
-pub can_write : (bits : ℕ) (env : List ℕ) (code : Coding) (kernel : Kernel) (target : Target) (signal : Signal) (index : Expression) (at : BitList → List (Option ℕ)) (long : ℕ) (ti tv : List ℕ)
-    → IsWriter kernel target signal index at long → HasRoom bits env code (write_weight target)
-    → signal.first + signal_length signal ≤ bits → All (λ slot. slot < code.next) ti → All (λ slot. slot < code.next) tv → length tv ≡ long
+pub can_write : (env : List ℕ) (code : Coding) (kernel : Kernel) (target : Target) (signal : Signal) (index : Expression) (at : BitList → List (Option ℕ)) (long : ℕ) (ti tv : List ℕ)
+    → IsWriter kernel target signal index at long → HasRoom env code (write_weight target)
+    → signal.first + signal_length signal ≤ length env → All (λ slot. slot < code.next) ti → All (λ slot. slot < code.next) tv → length tv ≡ long
     → (AreConstant ti → ⊥) → IsIndex index ti → CanWrite env code kernel target signal index ti tv
-can_write bits env code kernel target signal index at long ti tv p r in_bits below_i below_v e variable i =
+can_write env code kernel target signal index at long ti tv p r in_bits below_i below_v e variable i =
     let n = signal_length signal in
     let args = picked env (bits_of_signal signal) ∷ ti ∷ tv ∷ [] in
     let varies = not_true (is_constant index) (λ h. variable (i.constant h)) in
     let weighs = p.weighs varies in
     let wide : length (picked env (bits_of_signal signal)) ≡ n = length-map (bits_of_signal signal) (slice_index env) ∙ length_count signal.first n in
-    let inside : All (λ b. b < length env) (bits_of_signal signal) = all_run signal.first n (length env) (omega (arith, r.has_bits)) in
+    let inside : All (λ b. b < length env) (bits_of_signal signal) = all_run signal.first n (length env) in_bits in
     let below : List ℕ → Type 0 = λ to. All (λ slot. slot < code.next) to in
     let under : below (picked env (bits_of_signal signal)) = All-map (λ slot. slot < code.next) (slice_index env) (bits_of_signal signal) (All-weaker (λ b. b < length env) (λ b. slice_index env b < code.next) (λ b l. r.is_env.below b 0 l) (bits_of_signal signal) inside) in
     let same : (n ∷ width index ∷ long ∷ n ∷ []) ≡ (length (picked env (bits_of_signal signal)) ∷ length ti ∷ length tv ∷ n ∷ []) =
@@ -249,14 +249,14 @@ can_write bits env code kernel target signal index at long ti tv p r in_bits bel
       varies = varies;
     }
 
-pub called_adds : (bits : ℕ) (env env_after : List ℕ) (code after : Coding) (kernel : Kernel) (target : Target) (signal : Signal) (index : Expression) (at : BitList → List (Option ℕ)) (long : ℕ) (ti tv : List ℕ)
-    → IsWriter kernel target signal index at long → HasRoom bits env code (write_weight target)
+pub called_adds : (env env_after : List ℕ) (code after : Coding) (kernel : Kernel) (target : Target) (signal : Signal) (index : Expression) (at : BitList → List (Option ℕ)) (long : ℕ) (ti tv : List ℕ)
+    → IsWriter kernel target signal index at long → HasRoom env code (write_weight target)
     → All (λ slot. slot < code.next) ti → All (λ slot. slot < code.next) tv → length tv ≡ long
     → CanWrite env code kernel target signal index ti tv
     → after ≡ with_call code (K.Select kernel) (picked env (bits_of_signal signal) ∷ ti ∷ tv ∷ []) (signal_length signal)
     → env_after ≡ placed env (map Some (bits_of_signal signal)) (range_with_len code.next (signal_length signal))
     → AddsWrites env env_after code after target (ti ∷ []) tv (write_weight target)
-called_adds bits env env_after code after kernel target signal index at long ti tv p r below_i below_v e can call is =
+called_adds env env_after code after kernel target signal index at long ti tv p r below_i below_v e can call is =
     let one = write_call (K.Select kernel) signal env ti tv code.next in
     let cost = p.cost env ti tv code.next in
     let out = λ (b : ℕ) (h : contains (target_bits target) b ≡ false). ap (λ (bs : List ℕ). contains bs b) (sym (p.selecting.varied can.varies)) ∙ h in

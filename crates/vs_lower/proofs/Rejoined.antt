@@ -17,6 +17,8 @@ use Rattle.vs_lower.specs.Written.{HasRoom, AreIndexed, AddsWrites, write_weight
 use Rattle.vs_values.proofs.Adding.{below_more}
 use Rattle.vs_values.proofs.Readying.{stores_of, two_added}
 use Rattle.vs_lower.proofs.Targets.{both_written}
+use Rattle.vs_design.specs.Within.{target_within}
+use Rattle.vs_values.specs.Templates.{Templated}
 
 pub width_joined : (t : Target) (ts : List Target) → target_width (joined_target (t ∷ ts)) ≡ sum_by target_width (t ∷ ts)
 width_joined t [] = sym (sum_by-cons target_width t [] ∙ omega arith)
@@ -64,16 +66,17 @@ writes_more a env env1 env2 code code1 code2 (x ∷ y ∷ ls) (ti ∷ tis) value
     }
 
 -- what the others need, for these lists
-pub record RestReady (a : Arena) (bits : ℕ) (env1 : List ℕ) (code1 : Coding) (top : ℕ) (leaves : List Leaf) (indices : List (List ℕ)) (value : List ℕ) : Type 0 where
+pub record RestReady (known : Templated) (env1 : List ℕ) (code1 : Coding) (top : ℕ) (leaves : List Leaf) (indices : List (List ℕ)) (value : List ℕ) : Type 0 where
   pub some : 1 ≤ length leaves
   pub fewer : length leaves < top
-  pub inside : All (IsInside a) leaves
-  pub fit : All (λ leaf. fits_target (leaf_target a leaf) ≡ true) leaves
-  pub room : HasRoom bits env1 code1 (sum_by write_weight (map (leaf_target a) leaves))
-  pub long : length value ≡ sum_by target_width (map (leaf_target a) leaves)
+  pub inside : All (IsInside known) leaves
+  pub names : All (λ leaf. target_within (length env1) (leaf_target known.arena leaf) ≡ true) leaves
+  pub fit : All (λ leaf. fits_target (leaf_target known.arena leaf) ≡ true) leaves
+  pub room : HasRoom env1 code1 (sum_by write_weight (map (leaf_target known.arena) leaves))
+  pub long : length value ≡ sum_by target_width (map (leaf_target known.arena) leaves)
   pub value_below : All (λ slot. slot < code1.next) value
   pub indices_below : All (λ ti. All (λ slot. slot < code1.next) ti) indices
-  pub indexed : AreIndexed (map (leaf_target a) leaves) indices
+  pub indexed : AreIndexed (map (leaf_target known.arena) leaves) indices
 
 pub suffix_is : {X : Type 0} (n : ℕ) (xs : List X) → take (length xs - n) (drop n xs) ≡ drop n xs
 suffix_is zero xs = let z : length xs - 0 ≡ length xs = omega arith in ap (λ k. take k xs) z ∙ whole xs
@@ -88,26 +91,27 @@ suffix_is (suc n) [] = none (0 - suc n)
     none (suc k) = refl
 suffix_is (suc n) (x ∷ xs) = let z : suc (length xs) - suc n ≡ length xs - n = omega arith in ap (λ k. take k (drop n xs)) z ∙ suffix_is n xs
 
-pub rest_ready : (a : Arena) (bits : ℕ) (env env1 : List ℕ) (code code1 : Coding) (leaves : List Leaf) (indices : List (List ℕ)) (value : List ℕ) (low : ℕ) (d : Leaf) (ti tv : List ℕ)
-    → 1 < length leaves → All (IsInside a) leaves → All (λ leaf. fits_target (leaf_target a leaf) ≡ true) leaves → HasRoom bits env code (sum_by write_weight (map (leaf_target a) leaves))
-    → length value ≡ sum_by target_width (map (leaf_target a) leaves) → low + target_width (leaf_target a (get_or leaves 0 d)) ≡ length value
-    → All (λ slot. slot < code.next) value → All (λ ti. All (λ slot. slot < code.next) ti) indices → AreIndexed (map (leaf_target a) leaves) indices
-    → AddsWrites env env1 code code1 (leaf_target a (get_or leaves 0 d)) (ti ∷ []) tv (write_weight (leaf_target a (get_or leaves 0 d)))
-    → RestReady a bits env1 code1 (length leaves) (drop 1 leaves) (drop 1 indices) (take low value)
-rest_ready a bits env env1 code code1 [] indices value low d ti tv some inside fit room long is bv bi i p = absurd (omega arith)
-rest_ready a bits env env1 code code1 (x ∷ ls) [] value low d ti tv some inside fit room long is bv bi i p = absurd i
-rest_ready a bits env env1 code code1 (x ∷ ls) (ti0 ∷ tis) value low d ti tv some inside fit room long is bv bi i p =
-    let g = leaf_target a in
+pub rest_ready : (known : Templated) (env env1 : List ℕ) (code code1 : Coding) (leaves : List Leaf) (indices : List (List ℕ)) (value : List ℕ) (low : ℕ) (d : Leaf) (ti tv : List ℕ)
+    → 1 < length leaves → All (IsInside known) leaves → All (λ leaf. target_within (length env) (leaf_target known.arena leaf) ≡ true) leaves → All (λ leaf. fits_target (leaf_target known.arena leaf) ≡ true) leaves → HasRoom env code (sum_by write_weight (map (leaf_target known.arena) leaves))
+    → length value ≡ sum_by target_width (map (leaf_target known.arena) leaves) → low + target_width (leaf_target known.arena (get_or leaves 0 d)) ≡ length value
+    → All (λ slot. slot < code.next) value → All (λ ti. All (λ slot. slot < code.next) ti) indices → AreIndexed (map (leaf_target known.arena) leaves) indices
+    → AddsWrites env env1 code code1 (leaf_target known.arena (get_or leaves 0 d)) (ti ∷ []) tv (write_weight (leaf_target known.arena (get_or leaves 0 d)))
+    → RestReady known env1 code1 (length leaves) (drop 1 leaves) (drop 1 indices) (take low value)
+rest_ready known env env1 code code1 [] indices value low d ti tv some inside names fit room long is bv bi i p = absurd (omega arith)
+rest_ready known env env1 code code1 (x ∷ ls) [] value low d ti tv some inside names fit room long is bv bi i p = absurd i
+rest_ready known env env1 code code1 (x ∷ ls) (ti0 ∷ tis) value low d ti tv some inside names fit room long is bv bi i p =
+    let g = leaf_target known.arena in
     let total = sum_by-cons write_weight (g x) (map g ls) in
     let added = p.written.added in
     record {
       some = omega arith;
       fewer = omega arith;
-      inside = All-tail (IsInside a) x ls inside;
-      fit = All-tail (λ leaf. fits_target (leaf_target a leaf) ≡ true) x ls fit;
+      inside = All-tail (IsInside known) x ls inside;
+      names = All-tail (λ leaf. target_within (length env1) (g leaf) ≡ true) x ls (subst (λ (n : ℕ). All (λ leaf. target_within n (g leaf) ≡ true) (x ∷ ls)) (sym p.written.same_length) names);
+      fit = All-tail (λ leaf. fits_target (g leaf) ≡ true) x ls fit;
       room = record {
         is_env = p.written.is_env;
-        has_bits = p.written.same_length ∙ room.has_bits;
+        light = omega (arith, room.light, total);
         slots = omega (arith, room.slots, total, added.paid, added.stores);
         few = omega (arith, room.few, total, added.stores, stores_of code.calls p.calls code1.calls p.is);
       };
@@ -117,5 +121,5 @@ rest_ready a bits env env1 code code1 (x ∷ ls) (ti0 ∷ tis) value low d ti tv
       indexed = i.1;
     }
 
-pub rest_as : (a : Arena) (bits : ℕ) (env1 : List ℕ) (code1 : Coding) (top : ℕ) (ls ms : List Leaf) (is js : List (List ℕ)) (value : List ℕ) → ls ≡ ms → is ≡ js → RestReady a bits env1 code1 top ms js value → RestReady a bits env1 code1 top ls is value
-rest_as a bits env1 code1 top ls ms is js value p q h = subst (λ (x : List Leaf). RestReady a bits env1 code1 top x is value) (sym p) (subst (λ (x : List (List ℕ)). RestReady a bits env1 code1 top ms x value) (sym q) h)
+pub rest_as : (known : Templated) (env1 : List ℕ) (code1 : Coding) (top : ℕ) (ls ms : List Leaf) (is js : List (List ℕ)) (value : List ℕ) → ls ≡ ms → is ≡ js → RestReady known env1 code1 top ms js value → RestReady known env1 code1 top ls is value
+rest_as known env1 code1 top ls ms is js value p q h = subst (λ (x : List Leaf). RestReady known env1 code1 top x is value) (sym p) (subst (λ (x : List (List ℕ)). RestReady known env1 code1 top ms x value) (sym q) h)

@@ -1,5 +1,5 @@
 -- Resets lowered: a reset does what an `if` without other branch does whose branch reads nothing.
-use Rattle.std.proofs.Common.{◌≡◌, ℕ, ◌+◌, ◌<◌, ◌≤◌, ◌^◌, Bool, true, false, ◌&&◌, if◌then◌else◌, List, [], ◌∷◌, ◌++◌, map, length, slice_index, Some, sym, ap, ◌∙◌, subst, refl, arith, append-nil, append_assoc, ◌⊎◌, inl, inr}
+use Rattle.std.proofs.Common.{◌≡◌, ℕ, ◌+◌, ◌<◌, ◌≤◌, ◌^◌, Bool, true, false, ◌&&◌, if◌then◌else◌, List, [], ◌∷◌, ◌++◌, map, length, slice_index, Some, sym, ap, ◌∙◌, subst, refl, arith, append-nil, append_assoc, ◌⊎◌, inl, inr, nat_le}
 use Rattle.std.specs.List.{All, Contains, range_with_len}
 use Rattle.std.specs.List.Sorted.{IsStrictlyIncreasing}
 use Rattle.std.proofs.lemmas.List.{length-map}
@@ -54,6 +54,7 @@ use Rattle.vs_lower.proofs.Processes.{all_slots, copies_cost, copies_slots, home
 use Rattle.vs_lower.proofs.Restoring.{join_callable}
 use Rattle.vs_lower.proofs.Sequencing.{adds_empty}
 use Rattle.vs_values.proofs.Unary.{Operand, operand_of, ready_operand, returns_unary}
+use Rattle.vs_design.specs.Within.{statement_within}
 
 -- ---- the statement that it is
 
@@ -67,8 +68,10 @@ reset_ready count code falls input st r = record {
   later_env = homes_env count code.next r.temps;
   now_bits = length-range_with_len 4 count;
   later_bits = length-range_with_len 4 count;
+  names = within falls;
   fit = fits falls;
   unmixed = append-nil _ ∙ r.unmixed;
+  light = r.light;
   slots = omega (arith, r.slots);
   few = omega (arith, r.few);
 }
@@ -76,6 +79,17 @@ reset_ready count code falls input st r = record {
     fits : (f : Bool) → fits_statement (reset_statement f input st) ≡ true
     fits false = fit_of (fits_statement st) r.fit
     fits true = fit_of (fits_statement st) r.fit
+
+    here : nat_le (input + 1) count ≡ true
+    here = let l : input + 1 ≤ count = omega (arith, r.there) in grind arith
+
+    names_of : (a b : Bool) → a ≡ true → b ≡ true → ((a && b) && true) ≡ true
+    names_of true b h k = fit_of b k
+    names_of false b h k = cc
+
+    within : (f : Bool) → statement_within count (reset_statement f input st) ≡ true
+    within false = names_of (nat_le (input + 1) count) (statement_within count st) here r.names
+    within true = names_of (nat_le (input + 1) count) (statement_within count st) here r.names
 
 one_wide : (falls : Bool) (input : ℕ) → width (reset_condition falls input) ≡ 1
 one_wide false input = refl
@@ -90,36 +104,36 @@ pub reset_value : (falls : Bool) (env : List ℕ) (c0 c1 : Coding) (input : ℕ)
 reset_value false env c0 c1 input tc v = v
 reset_value true env c0 c1 input tc v = v
 
-pub condition_ready : (count : ℕ) (code : Coding) (falls : Bool) (input : ℕ) (st : Statement) → IsResetReady count code falls input st → IsReady count (homes count) code (reset_condition falls input) 1
+pub condition_ready : (count : ℕ) (code : Coding) (falls : Bool) (input : ℕ) (st : Statement) → IsResetReady count code falls input st → IsReady (homes count) code (reset_condition falls input) 1
 condition_ready count code falls input st r =
-    subst (IsReady count (homes count) code (reset_condition falls input)) (one_wide falls input)
+    subst (IsReady (homes count) code (reset_condition falls input)) (one_wide falls input)
     (ready_if count (homes count) (homes count) code true (reset_condition falls input) st Empty (reset_ready count code falls input st r))
 
-name_value : (count : ℕ) (code : Coding) (input : ℕ) (slot : List ℕ) → input < count → slot ≡ (4 + input) ∷ [] → IsReady count (homes count) code (Name (reset_signal input)) 1
+name_value : (count : ℕ) (code : Coding) (input : ℕ) (slot : List ℕ) → input < count → slot ≡ (4 + input) ∷ [] → IsReady (homes count) code (Name (reset_signal input)) 1
     → AddsValue (homes count) code.calls code.next code.calls code.next (Name (reset_signal input)) 1 false slot
 name_value count code input slot l e r =
-    adds_name count (homes count) code (reset_signal input) 1 false slot r (omega (arith, l)) (e ∙ ap (λ (x : ℕ). x ∷ []) (sym (home_at count input l)))
+    adds_name (homes count) code (reset_signal input) 1 false slot r (e ∙ ap (λ (x : ℕ). x ∷ []) (sym (home_at count input l)))
 
-name_ready : (count : ℕ) (code : Coding) (input : ℕ) → IsReady count (homes count) code (Unary LogicalNot (Name (reset_signal input))) 1 → IsReady count (homes count) code (Name (reset_signal input)) 1
-name_ready count code input r = ready_operand count (homes count) code LogicalNot (Name (reset_signal input)) 1 1 1 refl refl r
+name_ready : (count : ℕ) (code : Coding) (input : ℕ) → IsReady (homes count) code (Unary LogicalNot (Name (reset_signal input))) 1 → IsReady (homes count) code (Name (reset_signal input)) 1
+name_ready count code input r = ready_operand (homes count) code LogicalNot (Name (reset_signal input)) 1 1 1 refl refl r
 
-pub input_operand : (count : ℕ) (code : Coding) (falls : Bool) (input : ℕ) (slot : List ℕ) → falls ≡ true → input < count → slot ≡ (4 + input) ∷ [] → IsReady count (homes count) code (reset_condition falls input) 1
-    → Operand count (homes count) code code LogicalNot (Name (reset_signal input)) 1 false slot
+pub input_operand : (count : ℕ) (code : Coding) (falls : Bool) (input : ℕ) (slot : List ℕ) → falls ≡ true → input < count → slot ≡ (4 + input) ∷ [] → IsReady (homes count) code (reset_condition falls input) 1
+    → Operand (homes count) code code LogicalNot (Name (reset_signal input)) 1 false slot
 input_operand count code falls input slot f l e r =
-    let q = subst (λ (b : Bool). IsReady count (homes count) code (reset_condition b input) 1) f r in
-    operand_of count (homes count) code code LogicalNot (Name (reset_signal input)) 1 false 1 1 false false slot refl refl refl refl q (name_value count code input slot l e (name_ready count code input q))
+    let q = subst (λ (b : Bool). IsReady (homes count) code (reset_condition b input) 1) f r in
+    operand_of (homes count) code code LogicalNot (Name (reset_signal input)) 1 false 1 1 false false slot refl refl refl refl q (name_value count code input slot l e (name_ready count code input q))
 
-pub active_high : (count : ℕ) (code : Coding) (falls : Bool) (input : ℕ) (slot : List ℕ) → falls ≡ false → input < count → slot ≡ (4 + input) ∷ [] → IsReady count (homes count) code (reset_condition falls input) 1
+pub active_high : (count : ℕ) (code : Coding) (falls : Bool) (input : ℕ) (slot : List ℕ) → falls ≡ false → input < count → slot ≡ (4 + input) ∷ [] → IsReady (homes count) code (reset_condition falls input) 1
     → AddsValue (homes count) code.calls code.next code.calls code.next (reset_condition falls input) 1 false slot
 active_high count code falls input slot f l e r =
     subst (λ (b : Bool). AddsValue (homes count) code.calls code.next code.calls code.next (reset_condition b input) 1 false slot) (sym f)
-    (name_value count code input slot l e (subst (λ (b : Bool). IsReady count (homes count) code (reset_condition b input) 1) f r))
+    (name_value count code input slot l e (subst (λ (b : Bool). IsReady (homes count) code (reset_condition b input) 1) f r))
 
-pub active_low : ValueLength → (count : ℕ) (code new : Coding) (falls : Bool) (input : ℕ) (slot to : List ℕ) → falls ≡ true → input < count → slot ≡ (4 + input) ∷ [] → IsReady count (homes count) code (reset_condition falls input) 1
+pub active_low : ValueLength → (count : ℕ) (code new : Coding) (falls : Bool) (input : ℕ) (slot to : List ℕ) → falls ≡ true → input < count → slot ≡ (4 + input) ∷ [] → IsReady (homes count) code (reset_condition falls input) 1
     → IsUnary LogicalNot 1 false slot code new to → AddsValue (homes count) code.calls code.next new.calls new.next (reset_condition falls input) 1 false to
 active_low law count code new falls input slot to f l e r h =
     subst (λ (b : Bool). AddsValue (homes count) code.calls code.next new.calls new.next (reset_condition b input) 1 false to) (sym f)
-    (returns_unary law count (homes count) code code new LogicalNot (Name (reset_signal input)) 1 false slot to (input_operand count code falls input slot f l e r) h)
+    (returns_unary law (homes count) code code new LogicalNot (Name (reset_signal input)) 1 false slot to (input_operand count code falls input slot f l e r) h)
 
 -- ---- when it is active
 

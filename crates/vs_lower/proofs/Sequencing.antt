@@ -17,6 +17,7 @@ use Rattle.vs_lower.specs.Stated.{IsStatementReady, AddsStatement}
 use Rattle.vs_lower.proofs.Bodies.{empty_done, then_done}
 use Rattle.vs_lower.proofs.Matching.{done_as}
 use Rattle.vs_values.proofs.Values.{both_true}
+use Rattle.vs_design.specs.Within.{statement_within}
 
 -- ---- the flag of an assignment
 
@@ -42,8 +43,10 @@ ready_head bits now ahead code clocked a b r = record {
   later_env = r.later_env;
   now_bits = r.now_bits;
   later_bits = r.later_bits;
+  names = (both_true (statement_within bits a) (statement_within bits b) r.names).0;
   fit = (both_true (fits_statement a) (fits_statement b) r.fit).0;
   unmixed = first_none (mixed_in clocked a) (mixed_in clocked b) r.unmixed;
+  light = omega (arith, r.light);
   slots = omega (arith, r.slots);
   few = omega (arith, r.few);
 }
@@ -57,8 +60,10 @@ ready_rest bits now ahead old new clocked a b now1 ahead1 r d =
       later_env = d.done.later_env;
       now_bits = d.done.now_length ∙ r.now_bits;
       later_bits = d.done.later_length ∙ r.later_bits;
+      names = (both_true (statement_within bits a) (statement_within bits b) r.names).1;
       fit = (both_true (fits_statement a) (fits_statement b) r.fit).1;
       unmixed = rest_none (mixed_in clocked a) (mixed_in clocked b) r.unmixed;
+      light = omega (arith, r.light);
       slots = omega (arith, r.slots, d.done.added.paid, d.done.added.stores);
       few = omega (arith, r.few, total, d.done.added.stores);
     }
@@ -112,14 +117,21 @@ chain_fits [] = refl
 chain_fits (x ∷ []) = with_true (fits_statement x)
 chain_fits (x ∷ y ∷ ys) = ap (λ b. fits_statement x && b) (chain_fits (y ∷ ys))
 
+chain_within : (n : ℕ) (xs : List Statement) → statement_within n (chain xs) ≡ statement_within n (sequence xs)
+chain_within n [] = refl
+chain_within n (x ∷ []) = with_true (statement_within n x)
+chain_within n (x ∷ y ∷ ys) = ap (λ b. statement_within n x && b) (chain_within n (y ∷ ys))
+
 pub ready_chain : (bits : ℕ) (now ahead : List ℕ) (code : Coding) (clocked : Bool) (xs : List Statement) → IsStatementReady bits now ahead code clocked (sequence xs) → IsStatementReady bits now ahead code clocked (chain xs)
 ready_chain bits now ahead code clocked xs r = record {
   now_env = r.now_env;
   later_env = r.later_env;
   now_bits = r.now_bits;
   later_bits = r.later_bits;
+  names = chain_within bits xs ∙ r.names;
   fit = chain_fits xs ∙ r.fit;
   unmixed = chain_mixed clocked xs ∙ r.unmixed;
+  light = omega (arith, r.light, chain_weight xs);
   slots = omega (arith, r.slots, chain_weight xs);
   few = omega (arith, r.few, chain_weight xs);
 }

@@ -27,6 +27,7 @@ use Rattle.vs_lower.proofs.Matching.{done_as}
 use Rattle.vs_values.proofs.Readying.{fits_length, stores_of, two_added}
 use Rattle.vs_lower.proofs.Restoring.{both_same}
 use Rattle.vs_values.proofs.Values.{both_true}
+use Rattle.vs_design.specs.Within.{names_within, arms_within}
 
 -- ---- an assignment
 
@@ -109,10 +110,19 @@ case_lengths kind subject arms h =
     record { fit = p.0; wide = arms_wider arms (width subject); some = omega (arith, l.0, arms_wider arms (width subject)); at_most_64 = arms_64 arms (width subject) p.1 l.1 }
 
 pub ready_subject : (bits : ℕ) (now ahead : List ℕ) (code : Coding) (clocked : Bool) (kind : CaseKind) (subject : Expression) (arms : Arms)
-    → IsStatementReady bits now ahead code clocked (Case kind subject arms) → IsReady bits now code subject (case_width subject arms)
+    → IsStatementReady bits now ahead code clocked (Case kind subject arms) → IsReady now code subject (case_width subject arms)
 ready_subject bits now ahead code clocked kind subject arms r =
     let l = case_lengths kind subject arms r.fit in
-    record { is_env = r.now_env; has_bits = r.now_bits; fit = l.fit; wide = l.wide; at_most_64 = l.at_most_64; slots = omega (arith, r.slots); few = omega (arith, r.few) }
+    record {
+      is_env = r.now_env;
+      has_bits = subst (λ (k : ℕ). names_within k subject ≡ true) (sym r.now_bits) (both_true (names_within bits subject) (arms_within bits arms) r.names).0;
+      fit = l.fit;
+      wide = l.wide;
+      at_most_64 = l.at_most_64;
+      light = omega (arith, r.light);
+      slots = omega (arith, r.slots);
+      few = omega (arith, r.few);
+    }
 
 pub ready_arms : (bits : ℕ) (now ahead : List ℕ) (c0 c1 : Coding) (clocked : Bool) (kind : CaseKind) (subject : Expression) (arms : Arms) (tv : List ℕ)
     → IsStatementReady bits now ahead c0 clocked (Case kind subject arms) → AddsValue now c0.calls c0.next c1.calls c1.next subject (case_width subject arms) (case_sign subject arms) tv
@@ -131,8 +141,10 @@ ready_arms bits now ahead c0 c1 clocked kind subject arms tv r v =
       some = l.some;
       at_most_64 = l.at_most_64;
       wide = within arms (width subject) (case_width subject arms) (omega arith);
+      names = (both_true (names_within bits subject) (arms_within bits arms) r.names).1;
       fit = (both_true (is_fit subject) (fits_arms arms) r.fit).1;
       unmixed = r.unmixed;
+      light = omega (arith, r.light);
       slots = omega (arith, r.slots, a.paid, a.stores);
       few = omega (arith, r.few, total, a.stores);
     }

@@ -2,7 +2,7 @@
 use Rattle.std.proofs.Common.{◌≡◌, ℕ, zero, suc, ◌+◌, ◌<◌, ◌≤◌, ◌^◌, max, Bool, true, false, ◌&&◌, ◌==◌, nat_le, nat_lt, List, [], ◌∷◌, ◌++◌, map, length, take, slice_index, sum_by, sym, ap, ◌∙◌, subst, refl, arith, ◌⊎◌, inl, inr, min, IsSome}
 use Rattle.std.specs.List.{All, Contains, flat_map, range_with_len}
 use Rattle.std.proofs.lemmas.List.{length-map, length-take}
-use Rattle.std.proofs.lemmas.List.Elements.{All-nil, All-cons, All-contains, All-head, All-tail, All-take, All-weaker}
+use Rattle.std.proofs.lemmas.List.Elements.{All-nil, All-cons, All-append, All-contains, All-head, All-tail, All-take, All-weaker}
 use Rattle.std.proofs.lemmas.List.FromFn.{length-range_with_len}
 use Rattle.vs_four.specs.Logic.{BitList}
 use Rattle.vs_net.specs.Network as N
@@ -13,7 +13,7 @@ use Rattle.vs_design.specs.Statements.{Target, Whole, PartOf, WordOf, Both, targ
 use Rattle.vs_design.specs.Bodies.{assignment_writes, effect_of}
 use Rattle.vs_design.specs.Footprints.{read_bits, target_bits}
 use Rattle.vs_design.specs.Sizes.{weight}
-use Rattle.vs_flat.specs.Arena.{Arena, bit_count}
+use Rattle.vs_flat.specs.Arena.{Arena}
 use Rattle.vs_flat.specs.Targets.{target_of}
 use Rattle.vs_flat.specs.Trees.{target_tree}
 use Rattle.vs_kern_logic.specs.declared.costs.Kernel.TheVariants as L
@@ -37,6 +37,8 @@ use Rattle.vs_lower.proofs.Placing.{by_test}
 use Rattle.vs_values.proofs.Readying.{fits_64_is, fits_length, stores_of, two_added}
 use Rattle.vs_lower.proofs.Settling.{some_leaf, leaf_widths, leaf_weights, leaf_fits, leaf_indices, written_whole, width_of_target}
 use Rattle.vs_values.proofs.Values.{both_true}
+use Rattle.vs_design.specs.Within.{names_within, target_within}
+use Rattle.vs_values.specs.Templates.{Templated}
 
 -- ---- a right side
 
@@ -62,31 +64,33 @@ assigned_of env old new e long w s to tv ie hw hs ht v =
       sources = All-take (IsSource env old.next (read_bits e)) long to V.value.sources;
     })
 
-pub right_ready : (bits : ℕ) (env : List ℕ) (code : Coding) (t : Target) (e : Expression) (w : ℕ) → w ≡ target_width t → fits_target t ≡ true → is_fit e ≡ true → HasRoom bits env code (operands_weight t e) → IsReady bits env code e (max (width e) w)
-right_ready bits env code t e w h f fe r =
+pub right_ready : (env : List ℕ) (code : Coding) (t : Target) (e : Expression) (w : ℕ) → w ≡ target_width t → fits_target t ≡ true → is_fit e ≡ true → names_within (length env) e ≡ true → HasRoom env code (operands_weight t e)
+    → IsReady env code e (max (width e) w)
+right_ready env code t e w h f fe n r =
     let l = fits_length e (both_true (fits e) (divides_constants e) fe).0 in
     let k = target_length t f in
-    subst (λ (x : ℕ). IsReady bits env code e (max (width e) x)) (sym h) (record {
+    subst (λ (x : ℕ). IsReady env code e (max (width e) x)) (sym h) (record {
       is_env = r.is_env;
-      has_bits = r.has_bits;
+      has_bits = n;
       fit = fe;
       wide = omega arith;
       at_most_64 = omega (arith, l.1, k.1);
+      light = omega (arith, r.light);
       slots = omega (arith, r.slots);
       few = omega (arith, r.few);
     })
 
 -- ---- the operands
 
-pub indices_room : (a : Arena) (bits : ℕ) (env : List ℕ) (code one : Coding) (t : Target) (e : Expression) (long : ℕ) (leaves : List Leaf) (tv : List ℕ) → long ≡ target_width t → map (leaf_target a) leaves ≡ leaves_of t
-    → HasRoom bits env code (operands_weight t e) → AddsAssigned env code one e long tv → HasRoom bits env one (sum_by index_weight (map (leaf_target a) leaves))
-indices_room a bits env code one t e long leaves tv hl are r v =
+pub indices_room : (a : Arena) (env : List ℕ) (code one : Coding) (t : Target) (e : Expression) (long : ℕ) (leaves : List Leaf) (tv : List ℕ) → long ≡ target_width t → map (leaf_target a) leaves ≡ leaves_of t
+    → HasRoom env code (operands_weight t e) → AddsAssigned env code one e long tv → HasRoom env one (sum_by index_weight (map (leaf_target a) leaves))
+indices_room a env code one t e long leaves tv hl are r v =
     let same : sum_by index_weight (map (leaf_target a) leaves) ≡ sum_by index_weight (leaves_of t) = ap (sum_by index_weight) are in
     let w : weight e (max (width e) long) ≡ weight e (max (width e) (target_width t)) = ap (λ (n : ℕ). weight e (max (width e) n)) hl in
     let added = v.values.added in
     record {
       is_env = env_more env code.next one.next added.grown r.is_env;
-      has_bits = r.has_bits;
+      light = omega (arith, r.light, same, w);
       slots = omega (arith, r.slots, same, w, added.paid, added.stores);
       few = omega (arith, r.few, same, w, added.stores, stores_of code.calls v.calls one.calls v.is);
     }
@@ -98,6 +102,24 @@ fits_each a (x ∷ ls) h =
 
 pub leaves_fit : (a : Arena) (t : Target) (leaves : List Leaf) → fits_target t ≡ true → map (leaf_target a) leaves ≡ leaves_of t → All (λ leaf. fits_target (leaf_target a leaf) ≡ true) leaves
 leaves_fit a t leaves f are = fits_each a leaves (subst (All (λ x. fits_target x ≡ true)) (sym are) (leaf_fits t f))
+
+-- the bits of a target's parts are among those of the target
+leaf_within : (n : ℕ) (t : Target) → target_within n t ≡ true → All (λ x. target_within n x ≡ true) (leaves_of t)
+leaf_within n (Whole signal) h = All-cons (λ x. target_within n x ≡ true) (Whole signal) [] h (All-nil (λ x. target_within n x ≡ true))
+leaf_within n (PartOf signal part index) h = All-cons (λ x. target_within n x ≡ true) (PartOf signal part index) [] h (All-nil (λ x. target_within n x ≡ true))
+leaf_within n (WordOf signal index) h = All-cons (λ x. target_within n x ≡ true) (WordOf signal index) [] h (All-nil (λ x. target_within n x ≡ true))
+leaf_within n (Both high low) h =
+    let p = both_true (target_within n high) (target_within n low) h in
+    All-append (λ x. target_within n x ≡ true) (leaves_of high) (leaves_of low) (leaf_within n high p.0) (leaf_within n low p.1)
+
+within_each : (n : ℕ) (a : Arena) (leaves : List Leaf) → All (λ x. target_within n x ≡ true) (map (leaf_target a) leaves) → All (λ leaf. target_within n (leaf_target a leaf) ≡ true) leaves
+within_each n a [] h = All-nil (λ leaf. target_within n (leaf_target a leaf) ≡ true)
+within_each n a (x ∷ ls) h =
+    All-cons (λ leaf. target_within n (leaf_target a leaf) ≡ true) x ls (All-head (λ y. target_within n y ≡ true) (leaf_target a x) (map (leaf_target a) ls) h)
+    (within_each n a ls (All-tail (λ y. target_within n y ≡ true) (leaf_target a x) (map (leaf_target a) ls) h))
+
+pub leaves_within : (n : ℕ) (a : Arena) (t : Target) (leaves : List Leaf) → target_within n t ≡ true → map (leaf_target a) leaves ≡ leaves_of t → All (λ leaf. target_within n (leaf_target a leaf) ≡ true) leaves
+leaves_within n a t leaves f are = within_each n a leaves (subst (All (λ x. target_within n x ≡ true)) (sym are) (leaf_within n t f))
 
 pub adds_operands : (a : Arena) (env : List ℕ) (code one two : Coding) (t : Target) (e : Expression) (long : ℕ) (leaves : List Leaf) (tis : List (List ℕ)) (tv : List ℕ) → IsEnv env code.next → long ≡ target_width t → map (leaf_target a) leaves ≡ leaves_of t
     → AddsAssigned env code one e long tv → AddsIndices env one two (map (leaf_target a) leaves) tis → AddsOperands env code two t e (operands_weight t e) tis tv
@@ -119,20 +141,22 @@ adds_operands a env code one two t e long leaves tis tv ie hl are v0 i0 =
 
 -- ---- what the write needs
 
-pub ready_to_write : (a : Arena) (now env : List ℕ) (code one : Coding) (t : Target) (e : Expression) (most : ℕ) (leaves : List Leaf) (tis : List (List ℕ)) (tv : List ℕ) → map (leaf_target a) leaves ≡ leaves_of t → All (IsInside a) leaves → fits_target t ≡ true
-    → IsEnv env code.next → length env ≡ bit_count a.signals → code.next + (most + sum_by write_weight (leaves_of t)) < 2 ^ 32 → length_of code.calls + (most + sum_by write_weight (leaves_of t)) ≤ 2 ^ 32
-    → AddsOperands now code one t e most tis tv → IsWriteReady a env one leaves tis tv
-ready_to_write a now env code one t e most leaves tis tv are inside f ie long slots few o =
+pub ready_to_write : (known : Templated) (now env : List ℕ) (code one : Coding) (t : Target) (e : Expression) (most : ℕ) (leaves : List Leaf) (tis : List (List ℕ)) (tv : List ℕ) → map (leaf_target known.arena) leaves ≡ leaves_of t → All (IsInside known) leaves → fits_target t ≡ true
+    → IsEnv env code.next → target_within (length env) t ≡ true → most + sum_by write_weight (leaves_of t) ≤ 16777216 → code.next + (most + sum_by write_weight (leaves_of t)) < 2 ^ 32 → length_of code.calls + (most + sum_by write_weight (leaves_of t)) ≤ 2 ^ 32
+    → AddsOperands now code one t e most tis tv → IsWriteReady known env one leaves tis tv
+ready_to_write known now env code one t e most leaves tis tv are inside f ie names light slots few o =
+    let a = known.arena in
     let added = o.values.added in
     let same : sum_by write_weight (map (leaf_target a) leaves) ≡ sum_by write_weight (leaves_of t) = ap (sum_by write_weight) are in
     let P : List ℕ → Type 0 = λ to. All (λ slot. slot < one.next) to in
     record {
       some = omega (arith, length-map leaves (leaf_target a), ap length are, some_leaf t);
       inside = inside;
+      names = leaves_within (length env) a t leaves names are;
       fit = leaves_fit a t leaves f are;
       room = record {
         is_env = env_more env code.next one.next added.grown ie;
-        has_bits = long;
+        light = omega (arith, light, same);
         slots = omega (arith, slots, same, added.paid, added.stores);
         few = omega (arith, few, same, added.stores, stores_of code.calls o.calls one.calls o.is);
       };

@@ -40,25 +40,26 @@ pub no_tests : (env subject : List ℕ) (code : Coding) (kind : CaseKind) (w : �
 no_tests env subject code kind w s ms e =
     subst (AddsTests env subject code code kind w s []) (sym e) (record { calls = []; is = sym (append-nil code.calls); condition = λ sv. tests_none env subject sv code.next kind w s })
 
-pub ready_item : (bits : ℕ) (env subject : List ℕ) (code one : Coding) (kind : CaseKind) (w : ℕ) (s : Bool) (items : List Expression) (ms : List ℕ) (n : ℕ) (d : Expression) → n < length items
-    → AreTestsReady bits env subject code items w → AddsTests env subject code one kind w s (take n items) ms → IsReady bits env one (get_or items n d) w
-ready_item bits env subject code one kind w s items ms n d l r a =
+pub ready_item : (env subject : List ℕ) (code one : Coding) (kind : CaseKind) (w : ℕ) (s : Bool) (items : List Expression) (ms : List ℕ) (n : ℕ) (d : Expression) → n < length items
+    → AreTestsReady env subject code items w → AddsTests env subject code one kind w s (take n items) ms → IsReady env one (get_or items n d) w
+ready_item env subject code one kind w s items ms n d l r a =
     let f = so_far env subject code one kind w s (take n items) ms a in
     let at = items_at items w n d l in
     record {
       is_env = env_more env code.next one.next f.2 r.is_env;
-      has_bits = r.has_bits;
+      has_bits = r.names n d l;
       fit = r.fit n d l;
       wide = r.wide n d l;
       at_most_64 = r.at_most_64;
+      light = omega (arith, r.light, at);
       slots = omega (arith, r.slots, f.0, at);
       few = omega (arith, r.few, f.1, at);
     }
 
-pub callable_match : (bits : ℕ) (env subject : List ℕ) (code one two : Coding) (kind : CaseKind) (w : ℕ) (s : Bool) (items : List Expression) (ms te : List ℕ) (n : ℕ) (d : Expression) → n < length items
-    → AreTestsReady bits env subject code items w → AddsTests env subject code one kind w s (take n items) ms → AddsValue env one.calls one.next two.calls two.next (get_or items n d) w s te
+pub callable_match : (env subject : List ℕ) (code one two : Coding) (kind : CaseKind) (w : ℕ) (s : Bool) (items : List Expression) (ms te : List ℕ) (n : ℕ) (d : Expression) → n < length items
+    → AreTestsReady env subject code items w → AddsTests env subject code one kind w s (take n items) ms → AddsValue env one.calls one.next two.calls two.next (get_or items n d) w s te
     → IsCallable two (match_kernel kind) (subject ∷ te ∷ []) 1
-callable_match bits env subject code one two kind w s items ms te n d l r a v =
+callable_match env subject code one two kind w s items ms te n d l r a v =
     let f = so_far env subject code one kind w s (take n items) ms a in
     let at = items_at items w n d l in
     let added = v.value.values.added in
@@ -75,11 +76,11 @@ callable_match bits env subject code one two kind w s items ms te n d l r a v =
       few = omega (arith, r.few, f.1, at, added.stores, stores_of one.calls v.calls two.calls v.is, match_cost kind subject te two.next);
     }
 
-pub adds_test : (bits : ℕ) (env subject : List ℕ) (code one two three : Coding) (kind : CaseKind) (w : ℕ) (s : Bool) (items : List Expression) (ms te to : List ℕ) (n : ℕ) (d : Expression) → n < length items
-    → AreTestsReady bits env subject code items w → AddsTests env subject code one kind w s (take n items) ms → AddsValue env one.calls one.next two.calls two.next (get_or items n d) w s te
+pub adds_test : (env subject : List ℕ) (code one two three : Coding) (kind : CaseKind) (w : ℕ) (s : Bool) (items : List Expression) (ms te to : List ℕ) (n : ℕ) (d : Expression) → n < length items
+    → AreTestsReady env subject code items w → AddsTests env subject code one kind w s (take n items) ms → AddsValue env one.calls one.next two.calls two.next (get_or items n d) w s te
     → three ≡ with_call two (match_kernel kind) (subject ∷ te ∷ []) 1 → to ≡ ms ++ range_with_len two.next 1
     → AddsTests env subject code three kind w s (take (n + 1) items) to
-adds_test bits env subject code one two three kind w s items ms te to n d l r a v call is =
+adds_test env subject code one two three kind w s items ms te to n d l r a v call is =
     let e = get_or items n d in
     let f = so_far env subject code one kind w s (take n items) ms a in
     let at = items_at items w n d l in

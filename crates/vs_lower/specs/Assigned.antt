@@ -7,6 +7,7 @@ use Rattle.vs_design.specs.Values.{assigned_value}
 use Rattle.vs_design.specs.Statements.{Target, target_width}
 use Rattle.vs_design.specs.Fits.{fits_target, is_fit}
 use Rattle.vs_design.specs.Footprints.{read_bits}
+use Rattle.vs_design.specs.Within.{names_within, target_within}
 use Rattle.vs_design.specs.Sizes.{weight, target_weight}
 use Rattle.vs_kern_logic.specs.declared.costs.Kernel.TheVariants as L
 use Rattle.vs_code.specs.declared.kernels.AnyKernel.TheVariants.{Logic}
@@ -55,14 +56,17 @@ pub record AddsOperands (env : List ℕ) (old new : Coding) (target : Target) (e
   pub indexed : AreIndexed (leaves_of target) tis
   pub wide : length tv ≡ target_width target
 
--- what a call of the lowering of an assignment needs
+-- what a call of the lowering of an assignment needs, where there are so many bits
 pub record IsAssignReady (bits : ℕ) (now ahead : List ℕ) (code : Coding) (later : Bool) (target : Target) (e : Expression) : Type 0 where
   pub now_env : IsEnv now code.next
   pub later_env : IsEnv ahead code.next
   pub now_bits : length now ≡ bits
   pub later_bits : length ahead ≡ bits
+  pub target_names : target_within bits target ≡ true
+  pub names : names_within bits e ≡ true
   pub target_fits : fits_target target ≡ true
   pub fit : is_fit e ≡ true
+  pub light : assign_most later target e ≤ 16777216
   pub slots : code.next + assign_most later target e < 2 ^ 32
   pub few : length_of code.calls + assign_most later target e ≤ 2 ^ 32
 

@@ -8,6 +8,7 @@ use Rattle.vs_design.specs.Footprints.{contains, read_bits, statement_bits, targ
 use Rattle.vs_design.specs.Rules.{mixed_in}
 use Rattle.vs_design.specs.Sizes.{assignment_weight, distinct, statement_weight}
 use Rattle.vs_design.specs.Statements.{Statement, Target}
+use Rattle.vs_design.specs.Within.{names_within, statement_within, target_within}
 use Rattle.vs_flat.specs.declared.processes.Kind.{Kind}
 use Rattle.vs_flat.specs.declared.processes.Kind.TheVariants as K
 use Rattle.vs_flat.specs.Arena.{Arena}
@@ -25,25 +26,30 @@ pub record AddsProcess (l : Layout) (p : Process) (old new : List Call) : Type 0
   pub is : new ≡ old ++ calls
   pub lowered : IsLoweredProcess l p calls
 
--- What the lowering of an assign needs, in a design of as many bits: what it writes are bits of the design and none that it reads, by constant selects alone, all of it fits, and there is room
+-- What the lowering of an assign needs, in a design of as many bits: what it writes are bits of the design and none that it reads, by constant selects alone, all that it names is of the design, all of it fits, and there is room
 pub record IsContinuousReady (bits : ℕ) (code : Coding) (target : Target) (e : Expression) : Type 0 where
   pub temps : home bits ≤ code.next
   pub inside : (b : ℕ) → contains (target_bits target) b ≡ true → b < bits
   pub apart : (b : ℕ) → contains (target_bits target) b ≡ true → contains (read_bits e) b ≡ false
   pub fixed : has_constant_selects target ≡ true
+  pub target_names : target_within bits target ≡ true
+  pub names : names_within bits e ≡ true
   pub target_fits : fits_target target ≡ true
   pub fit : is_fit e ≡ true
+  pub light : assignment_weight target e ≤ 16777216
   pub slots : code.next + assignment_weight target e < 2 ^ 32
   pub few : length_of code.calls + assignment_weight target e ≤ 2 ^ 32
 
 -- ---- blocks
 
--- What the lowering of a block needs, in a design of as many bits: what it writes are bits of the design, its assignments are of its kind (9.2.2), all of it fits, and there is room
+-- What the lowering of a block needs, in a design of as many bits: what it names are bits of the design, its assignments are of its kind (9.2.2), all of it fits, and there is room
 pub record IsBlockReady (count : ℕ) (code : Coding) (clocked : Bool) (st : Statement) : Type 0 where
   pub temps : home count ≤ code.next
   pub inside : AreInside count (statement_bits st)
+  pub names : statement_within count st ≡ true
   pub fit : fits_statement st ≡ true
   pub unmixed : mixed_in clocked st ≡ []
+  pub light : statement_weight st ≤ 16777216
   pub slots : code.next + (statement_weight st + distinct (statement_bits st)) < 2 ^ 32
   pub few : length_of code.calls + (statement_weight st + distinct (statement_bits st)) ≤ 2 ^ 32
 

@@ -9,6 +9,7 @@ use Rattle.vs_design.specs.Footprints.{statement_bits}
 use Rattle.vs_design.specs.Rules.{mixed_in}
 use Rattle.vs_design.specs.Sizes.{distinct, process_weight, statement_weight}
 use Rattle.vs_design.specs.Statements.{Statement, Empty, If}
+use Rattle.vs_design.specs.Within.{statement_within}
 use Rattle.vs_program.specs.Lowered.{IsLoweredReset, Layout, home, process_stores}
 use Rattle.vs_code.specs.Calls.{Call, length_of}
 use Rattle.vs_values.specs.Coded.{Coding}
@@ -32,8 +33,10 @@ pub record IsResetReady (count : ℕ) (code : Coding) (falls : Bool) (input : �
   pub temps : home count ≤ code.next
   pub there : input < count
   pub inside : AreInside count (statement_bits st)
+  pub names : statement_within count st ≡ true
   pub fit : fits_statement st ≡ true
   pub unmixed : mixed_in true st ≡ []
+  pub light : statement_weight (reset_statement falls input st) ≤ 16777216
   pub slots : code.next + (statement_weight (reset_statement falls input st) + distinct (statement_bits st)) < 2 ^ 32
   pub few : length_of code.calls + (statement_weight (reset_statement falls input st) + distinct (statement_bits st)) ≤ 2 ^ 32
 

@@ -9,6 +9,7 @@ use Rattle.vs_design.specs.Bodies.{body, arms_body}
 use Rattle.vs_design.specs.Fits.{is_fit, fits_statement, fits_arms}
 use Rattle.vs_design.specs.Footprints.{contains, statement_bits, arms_bits}
 use Rattle.vs_design.specs.Rules.{mixed_in, mixed_in_arms}
+use Rattle.vs_design.specs.Within.{names_within, statement_within, arms_within}
 use Rattle.vs_design.specs.Sizes.{statement_weight, arms_weight, items_weight}
 use Rattle.vs_flat.specs.declared.statements.Arm as F
 use Rattle.vs_flat.specs.declared.statements.Statement as S
@@ -23,15 +24,17 @@ use Rattle.vs_values.specs.Environments.{placed}
 use Rattle.vs_lower.specs.Joined.{IsJoined}
 use Rattle.vs_lower.specs.Tested.{AddsTests}
 
--- what a call of the lowering of a statement needs: the slots of the bits, now and after the updates so far, are known, the statement fits,
--- a clocked block has no blocking assignment and any other no nonblocking one (9.2.2), and there is room
+-- what a call of the lowering of a statement needs, where there are so many bits: those of the design, or a function's local ones. The slots of the bits, now and after the updates so far, are known,
+-- the statement names these bits alone and fits, a clocked block has no blocking assignment and any other no nonblocking one (9.2.2), and there is room
 pub record IsStatementReady (bits : ℕ) (now later : List ℕ) (code : Coding) (clocked : Bool) (st : Statement) : Type 0 where
   pub now_env : IsEnv now code.next
   pub later_env : IsEnv later code.next
   pub now_bits : length now ≡ bits
   pub later_bits : length later ≡ bits
+  pub names : statement_within bits st ≡ true
   pub fit : fits_statement st ≡ true
   pub unmixed : mixed_in clocked st ≡ []
+  pub light : statement_weight st ≤ 16777216
   pub slots : code.next + statement_weight st < 2 ^ 32
   pub few : length_of code.calls + statement_weight st ≤ 2 ^ 32
 
@@ -46,7 +49,7 @@ HasItems s = Unit {0}
 
 -- ---- bits
 
--- bits of the design, which has as many
+-- bits of a design or of a function, which has as many
 abbrev pub AreInside : ℕ → List ℕ → Type 0
 AreInside count bits = (b : ℕ) → contains bits b ≡ true → b < count
 
@@ -54,7 +57,7 @@ AreInside count bits = (b : ℕ) → contains bits b ≡ true → b < count
 abbrev pub AreAmong : List ℕ → List ℕ → Type 0
 AreAmong these those = (b : ℕ) → contains these b ≡ true → contains those b ≡ true
 
--- these bits in ascending order and each once, all of the design
+-- these bits in ascending order and each once, of as many
 pub record AreInOrder (count : ℕ) (bits these : List ℕ) : Type 0 where
   pub rising : IsStrictlyIncreasing bits
   pub inside : All (λ b. b < count) bits
@@ -114,8 +117,10 @@ pub record AreArmsReady (count : ℕ) (now later subject : List ℕ) (code : Cod
   pub some : 1 ≤ w
   pub at_most_64 : w ≤ 64
   pub wide : ItemsWithin w arms
+  pub names : arms_within count arms ≡ true
   pub fit : fits_arms arms ≡ true
   pub unmixed : mixed_in_arms clocked arms ≡ []
+  pub light : arms_weight arms w many ≤ 16777216
   pub slots : code.next + arms_weight arms w many < 2 ^ 32
   pub few : length_of code.calls + arms_weight arms w many ≤ 2 ^ 32
 
@@ -132,10 +137,13 @@ pub record IsArmReady (count : ℕ) (now later subject : List ℕ) (code : Codin
   pub items_some : 1 ≤ length items
   pub items_fit : All (λ e. is_fit e ≡ true) items
   pub items_wide : All (λ e. width e ≤ w) items
+  pub items_names : All (λ e. names_within count e ≡ true) items
+  pub names : statement_within count st ≡ true
   pub fit : fits_statement st ≡ true
   pub unmixed : mixed_in clocked st ≡ []
   pub behind_long : length bits ≡ length behind
   pub behind_below : All (λ slot. slot < code.next) behind
+  pub light : items_weight (items_of items) w + statement_weight st + length bits ≤ 16777216
   pub slots : code.next + (items_weight (items_of items) w + statement_weight st + length bits) < 2 ^ 32
   pub few : length_of code.calls + (items_weight (items_of items) w + statement_weight st + length bits) ≤ 2 ^ 32
 

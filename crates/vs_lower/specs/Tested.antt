@@ -6,22 +6,24 @@ use Rattle.vs_design.specs.Expressions.{Expression, items_of, width}
 use Rattle.vs_design.specs.Fits.{is_fit}
 use Rattle.vs_design.specs.Sizes.{items_weight}
 use Rattle.vs_design.specs.Statements.{CaseKind}
+use Rattle.vs_design.specs.Within.{names_within}
 use Rattle.vs_code.specs.Calls.{Call, length_of}
 use Rattle.vs_values.specs.Added.{IsEnv}
 use Rattle.vs_values.specs.Coded.{Coding}
 use Rattle.vs_lower.specs.Done.{IsCondition}
 use Rattle.vs_lower.specs.Cases.{matches_of}
 
--- the items fit into the context that they share with the case's expression, whose slots these are, and there is room
-pub record AreTestsReady (bits : ℕ) (env subject : List ℕ) (code : Coding) (items : List Expression) (w : ℕ) : Type 0 where
+-- the items name bits that are there, they fit into the context that they share with the case's expression, whose slots these are, and there is room
+pub record AreTestsReady (env subject : List ℕ) (code : Coding) (items : List Expression) (w : ℕ) : Type 0 where
   pub is_env : IsEnv env code.next
-  pub has_bits : length env ≡ bits
   pub long : length subject ≡ w
   pub below : All (λ slot. slot < code.next) subject
   pub some : 1 ≤ w
   pub at_most_64 : w ≤ 64
   pub fit : All (λ e. is_fit e ≡ true) items
   pub wide : All (λ e. width e ≤ w) items
+  pub names : All (λ e. names_within (length env) e ≡ true) items
+  pub light : items_weight (items_of items) w ≤ 16777216
   pub slots : code.next + items_weight (items_of items) w < 2 ^ 32
   pub few : length_of code.calls + items_weight (items_of items) w ≤ 2 ^ 32
 

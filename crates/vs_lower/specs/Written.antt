@@ -7,19 +7,20 @@ use Rattle.vs_design.specs.Values.{constant_value}
 use Rattle.vs_design.specs.Statements.{Target, PartOf, WordOf, target_width}
 use Rattle.vs_design.specs.Fits.{fits_target}
 use Rattle.vs_design.specs.Sizes.{weight, address_weight}
-use Rattle.vs_flat.specs.Arena.{Arena, bit_count}
+use Rattle.vs_design.specs.Within.{target_within}
 use Rattle.vs_code.specs.Calls.{Call, length_of}
 use Rattle.vs_values.specs.Added.{IsEnv, AreValues}
 use Rattle.vs_values.specs.Coded.{Coding}
 use Rattle.vs_values.specs.Constants.{AreConstant, constant_bits}
+use Rattle.vs_values.specs.Templates.{Templated}
 use Rattle.vs_lower.specs.Done.{index_values, IsWritten}
 use Rattle.vs_lower.specs.declared.leaves.Leaf.{Leaf}
 use Rattle.vs_lower.specs.Leaves.{leaf_target, IsInside}
 
--- the slots of the design's bits are known, and there is room for calls of this weight
-pub record HasRoom (bits : ℕ) (env : List ℕ) (code : Coding) (w : ℕ) : Type 0 where
+-- the slots of the bits are known, and there is room for calls of this weight
+pub record HasRoom (env : List ℕ) (code : Coding) (w : ℕ) : Type 0 where
   pub is_env : IsEnv env code.next
-  pub has_bits : length env ≡ bits
+  pub light : w ≤ 16777216
   pub slots : code.next + w < 2 ^ 32
   pub few : length_of code.calls + w ≤ 2 ^ 32
 
@@ -70,15 +71,16 @@ write_weight (WordOf signal index) = if is_constant index then 0 else address_we
 write_weight target = 0
 
 -- what a call of the write of a value, in the slots `value`, to the parts of a target needs
-pub record IsWriteReady (a : Arena) (env : List ℕ) (code : Coding) (leaves : List Leaf) (indices : List (List ℕ)) (value : List ℕ) : Type 0 where
+pub record IsWriteReady (t : Templated) (env : List ℕ) (code : Coding) (leaves : List Leaf) (indices : List (List ℕ)) (value : List ℕ) : Type 0 where
   pub some : 1 ≤ length leaves
-  pub inside : All (IsInside a) leaves
-  pub fit : All (λ leaf. fits_target (leaf_target a leaf) ≡ true) leaves
-  pub room : HasRoom (bit_count a.signals) env code (sum_by write_weight (map (leaf_target a) leaves))
-  pub long : length value ≡ sum_by target_width (map (leaf_target a) leaves)
+  pub inside : All (IsInside t) leaves
+  pub names : All (λ leaf. target_within (length env) (leaf_target t.arena leaf) ≡ true) leaves
+  pub fit : All (λ leaf. fits_target (leaf_target t.arena leaf) ≡ true) leaves
+  pub room : HasRoom env code (sum_by write_weight (map (leaf_target t.arena) leaves))
+  pub long : length value ≡ sum_by target_width (map (leaf_target t.arena) leaves)
   pub value_below : All (λ slot. slot < code.next) value
   pub indices_below : All (λ ti. All (λ slot. slot < code.next) ti) indices
-  pub indexed : AreIndexed (map (leaf_target a) leaves) indices
+  pub indexed : AreIndexed (map (leaf_target t.arena) leaves) indices
 
 -- what is added for the write of a value, in the slots `tv`, to a target whose indices are in the slots `tis`
 pub record AddsWrites (env env_after : List ℕ) (old new : Coding) (target : Target) (tis : List (List ℕ)) (tv : List ℕ) (most : ℕ) : Type 0 where

@@ -6,34 +6,36 @@ ghost use Rattle.vs_design.specs.Footprints.{statement_bits};
 ghost use Rattle.vs_flat.specs.Arena.{bit_count};
 ghost use Rattle.vs_shape.specs.Bodies.{body_of};
 ghost use Rattle.vs_program.specs.Lowered.{IsLayout, Layout};
+ghost use Rattle.vs_values.specs.Templates.{statement_bound};
 ghost use Rattle.vs_lower.specs.Processed.{AddsProcess, HasShadows, IsBlockReady};
 
 use crate::copies::{copy_all, copy_home};
 use crate::environments::Environments;
+use crate::reach::reach;
 use crate::statements::{statement, written_bits};
 use std::alloc::{AllocError, Global};
-use vs_typed::Typed;
-use vs_values::{Code, Environment};
+use vs_values::{Code, Environment, Templates};
 
 /// Adds the calls of a combinational block with this statement, in a design of `count` bits: its bits have their values at home once it is done.
 pub(crate) fn combinational(
     alloc: Global,
-    typed: &Typed,
+    templates: &Templates,
     s: u32,
     count: u32,
     code: &mut Code,
 ) -> Result<(), AllocError>
-    requires count { count ≡ bit_count typed.now.signals }
-    requires there { s < length typed.now.statements }
-    requires ready { IsBlockReady (bit_count typed.now.signals) code.old false (body_of typed.now s) }
-    ensures { OnOk result ((l : Layout) (place : ℕ) (star : Bool) (events : List Event) → l.bits ≡ bit_count typed.now.signals → l.first_temp ≡ code.old.next → is_clocked (Always place star events (body_of typed.now s)) ≡ false → AddsProcess l (Always place star events (body_of typed.now s)) code.old.calls code.new.calls) }
+    requires count { count ≡ bit_count templates.now.arena.signals }
+    requires there { s < statement_bound templates.now }
+    requires ready { IsBlockReady (bit_count templates.now.arena.signals) code.old false (body_of templates.now.arena s) }
+    ensures { OnOk result ((l : Layout) (place : ℕ) (star : Bool) (events : List Event) → l.bits ≡ bit_count templates.now.arena.signals → l.first_temp ≡ code.old.next → is_clocked (Always place star events (body_of templates.now.arena s)) ≡ false → AddsProcess l (Always place star events (body_of templates.now.arena s)) code.old.calls code.new.calls) }
 {
+    reach(templates);
     let mut env = Environments {
         values: Environment::at_home(alloc, count),
         ahead: Environment::at_home(alloc, count),
     };
-    statement(alloc, typed, s, false, &mut env, code)?;
-    let bits = written_bits(alloc, typed, s)?;
+    statement(alloc, templates, s, false, &mut env, code)?;
+    let bits = written_bits(alloc, templates, s)?;
     copy_home(alloc, &env.values, count, bits.as_slice(), code)?;
     Ok(())
 }
@@ -41,25 +43,26 @@ pub(crate) fn combinational(
 /// Adds the calls of a clocked block with this statement, in a design of `count` bits: the slots `shadows` of the bits that it writes have their next values once it is done.
 pub(crate) fn clocked(
     alloc: Global,
-    typed: &Typed,
+    templates: &Templates,
     s: u32,
     count: u32,
     shadows: &[u32],
     code: &mut Code,
 ) -> Result<(), AllocError>
-    requires count { count ≡ bit_count typed.now.signals }
-    requires there { s < length typed.now.statements }
-    requires ready { IsBlockReady (bit_count typed.now.signals) code.old true (body_of typed.now s) }
+    requires count { count ≡ bit_count templates.now.arena.signals }
+    requires there { s < statement_bound templates.now }
+    requires ready { IsBlockReady (bit_count templates.now.arena.signals) code.old true (body_of templates.now.arena s) }
     requires long { length shadows.now ≡ count }
-    requires layout { IsLayout (record { bits = bit_count typed.now.signals; shadow = slice_index shadows.now; first_temp = code.old.next }) (statement_bits (body_of typed.now s)) }
-    ensures { OnOk result ((l : Layout) (place : ℕ) (star : Bool) (events : List Event) → HasShadows (bit_count typed.now.signals) code.old.next shadows.now (statement_bits (body_of typed.now s)) l → is_clocked (Always place star events (body_of typed.now s)) ≡ true → AddsProcess l (Always place star events (body_of typed.now s)) code.old.calls code.new.calls) }
+    requires layout { IsLayout (record { bits = bit_count templates.now.arena.signals; shadow = slice_index shadows.now; first_temp = code.old.next }) (statement_bits (body_of templates.now.arena s)) }
+    ensures { OnOk result ((l : Layout) (place : ℕ) (star : Bool) (events : List Event) → HasShadows (bit_count templates.now.arena.signals) code.old.next shadows.now (statement_bits (body_of templates.now.arena s)) l → is_clocked (Always place star events (body_of templates.now.arena s)) ≡ true → AddsProcess l (Always place star events (body_of templates.now.arena s)) code.old.calls code.new.calls) }
 {
+    reach(templates);
     let mut env = Environments {
         values: Environment::at_home(alloc, count),
         ahead: Environment::at_home(alloc, count),
     };
-    statement(alloc, typed, s, true, &mut env, code)?;
-    let bits = written_bits(alloc, typed, s)?;
+    statement(alloc, templates, s, true, &mut env, code)?;
+    let bits = written_bits(alloc, templates, s)?;
     copy_all(alloc, &env.ahead, bits.as_slice(), shadows, code)?;
     Ok(())
 }

@@ -2,19 +2,18 @@
 
 ghost use Rattle.std.specs.Prelude.{◌≡◌, ◌<◌, [], ◌∷◌, map, length, All, IfOk, OnOk};
 ghost use Rattle.std.specs.List.{range_with_len};
-ghost use Rattle.vs_flat.specs.Arena.{bit_count};
 ghost use Rattle.vs_flat.specs.DesignOf.{arena_trees};
 ghost use Rattle.vs_flat.specs.Trees.{tree_at};
 ghost use Rattle.vs_lower.specs.Cases.{match_kernel};
 ghost use Rattle.vs_values.specs.Coded.{with_call};
 ghost use Rattle.vs_values.specs.Made.{IsCallable};
+ghost use Rattle.vs_values.specs.Templates.{node_bound};
 ghost use Rattle.vs_lower.specs.Tested.{AddsTests, AreTestsReady};
 
 use std::alloc::{AllocError, Global};
 use vs_base::{CaseKind, Context};
 use vs_code::AnyKernel;
-use vs_typed::Typed;
-use vs_values::{Code, Environment, appended, lower, pair};
+use vs_values::{Code, Environment, Templates, appended, lower, pair};
 
 /// The kernel by which a case compares (IEEE 1364-2005, 9.5).
 fn match_kernel(kind: CaseKind) -> AnyKernel
@@ -47,7 +46,7 @@ fn matched(
 /// Adds the calls of the tests of an arm's items, and answers the slots of the matches, a bit for each item. The expression is in the slots `subject`, in the context that it shares with all items.
 pub(crate) fn tests(
     alloc: Global,
-    typed: &Typed,
+    templates: &Templates,
     kind: CaseKind,
     subject: &[u32],
     items: &[u32],
@@ -55,14 +54,14 @@ pub(crate) fn tests(
     env: &Environment,
     code: &mut Code,
 ) -> Result<Vec<u32>, AllocError>
-    requires items { All (λ e. e < length typed.now.nodes) items.now }
-    requires ready { AreTestsReady (bit_count typed.now.signals) env.now subject.now code.old (map (tree_at (arena_trees typed.now)) items.now) context.width }
+    requires items { All (λ e. e < node_bound templates.now) items.now }
+    requires ready { AreTestsReady env.now subject.now code.old (map (tree_at (arena_trees templates.now.arena)) items.now) context.width }
     ensures alike { IfOk result (λ ms. length ms.items ≡ length items.now) }
-    ensures adds { IfOk result (λ ms. AddsTests env.now subject.now code.old code.new kind context.width context.signed (map (tree_at (arena_trees typed.now)) items.now) ms.items) }
+    ensures adds { IfOk result (λ ms. AddsTests env.now subject.now code.old code.new kind context.width context.signed (map (tree_at (arena_trees templates.now.arena)) items.now) ms.items) }
 {
     let mut matches = Vec::new(alloc);
     for n in 0..items.len() {
-        let item = lower(alloc, typed, env, items[n], context, code)?;
+        let item = lower(alloc, templates, env, items[n], context, code)?;
         let copy = Vec::from_slice(alloc, subject)?;
         let to = matched(alloc, kind, copy, item, code)?;
         matches = appended(matches, to)?;

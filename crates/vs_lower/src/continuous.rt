@@ -10,25 +10,26 @@ ghost use Rattle.vs_flat.specs.Targets.{target_of};
 ghost use Rattle.vs_flat.specs.Trees.{target_tree, tree_at};
 ghost use Rattle.vs_program.specs.Lowered.{Layout};
 ghost use Rattle.vs_shape.specs.Walked.{IsTarget};
+ghost use Rattle.vs_values.specs.Templates.{node_bound};
 ghost use Rattle.vs_lower.specs.Processed.{AddsProcess, IsContinuousReady};
 
 use crate::assigns::assign;
 use crate::copies::copy_home;
 use crate::environments::Environments;
+use crate::reach::reach;
 use std::alloc::{AllocError, Global};
 use vs_shape::ascend;
-use vs_typed::Typed;
-use vs_values::{Code, Environment};
+use vs_values::{Code, Environment, Templates};
 
 /// The bits that a target writes, in ascending order and each once.
-fn target_written(alloc: Global, typed: &Typed, target: u32) -> Result<Vec<u32>, AllocError>
-    requires there { target < length typed.now.nodes }
-    requires target { IsTarget (tree_at (arena_trees typed.now) target) }
+fn target_written(alloc: Global, templates: &Templates, target: u32) -> Result<Vec<u32>, AllocError>
+    requires there { target < length templates.now.arena.nodes }
+    requires target { IsTarget (tree_at (arena_trees templates.now.arena) target) }
     ensures rising { IfOk result (λ v. IsStrictlyIncreasing v.items) }
-    ensures same { IfOk result (λ v. (b : ℕ) → contains v.items b ≡ contains (target_bits (target_tree (tree_at (arena_trees typed.now) target))) b) }
+    ensures same { IfOk result (λ v. (b : ℕ) → contains v.items b ≡ contains (target_bits (target_tree (tree_at (arena_trees templates.now.arena) target))) b) }
 {
     let mut bits = Vec::new(alloc);
-    typed.shapes().push_target(target, &mut bits)?;
+    templates.shapes().push_target(target, &mut bits)?;
     ascend(&mut bits);
     Ok(bits)
 }
@@ -36,25 +37,26 @@ fn target_written(alloc: Global, typed: &Typed, target: u32) -> Result<Vec<u32>,
 /// Adds the calls of an assign (IEEE 1364-2005, 6.1), in a design of `count` bits.
 pub(crate) fn continuous(
     alloc: Global,
-    typed: &Typed,
+    templates: &Templates,
     target: u32,
     e: u32,
     count: u32,
     code: &mut Code,
 ) -> Result<(), AllocError>
-    requires count { count ≡ bit_count typed.now.signals }
-    requires target { target < length typed.now.nodes }
-    requires e { e < length typed.now.nodes }
-    requires is_target { IsSome (target_of (tree_at (arena_trees typed.now) target)) }
-    requires ready { IsContinuousReady (bit_count typed.now.signals) code.old (target_tree (tree_at (arena_trees typed.now) target)) (tree_at (arena_trees typed.now) e) }
-    ensures { OnOk result ((l : Layout) (place target_place : ℕ) (port : Port) → l.bits ≡ bit_count typed.now.signals → l.first_temp ≡ code.old.next → AddsProcess l (Continuous place port target_place (target_tree (tree_at (arena_trees typed.now) target)) (tree_at (arena_trees typed.now) e)) code.old.calls code.new.calls) }
+    requires count { count ≡ bit_count templates.now.arena.signals }
+    requires target { target < node_bound templates.now }
+    requires e { e < node_bound templates.now }
+    requires is_target { IsSome (target_of (tree_at (arena_trees templates.now.arena) target)) }
+    requires ready { IsContinuousReady (bit_count templates.now.arena.signals) code.old (target_tree (tree_at (arena_trees templates.now.arena) target)) (tree_at (arena_trees templates.now.arena) e) }
+    ensures { OnOk result ((l : Layout) (place target_place : ℕ) (port : Port) → l.bits ≡ bit_count templates.now.arena.signals → l.first_temp ≡ code.old.next → AddsProcess l (Continuous place port target_place (target_tree (tree_at (arena_trees templates.now.arena) target)) (tree_at (arena_trees templates.now.arena) e)) code.old.calls code.new.calls) }
 {
+    reach(templates);
     let mut env = Environments {
         values: Environment::at_home(alloc, count),
         ahead: Environment::at_home(alloc, count),
     };
-    assign(alloc, typed, target, e, true, &mut env, code)?;
-    let bits = target_written(alloc, typed, target)?;
+    assign(alloc, templates, target, e, true, &mut env, code)?;
+    let bits = target_written(alloc, templates, target)?;
     copy_home(alloc, &env.ahead, count, bits.as_slice(), code)?;
     Ok(())
 }

@@ -5,22 +5,25 @@ ghost use Rattle.vs_design.specs.Expressions as E;
 ghost use Rattle.vs_flat.specs.DesignOf.{arena_trees};
 ghost use Rattle.vs_flat.specs.Targets.{source_of, target_of};
 ghost use Rattle.vs_flat.specs.Trees.{target_tree, tree_at};
+ghost use Rattle.vs_values.specs.Templates.{node_bound};
 ghost use Rattle.vs_lower.specs.Leaves.{AddsLeaves, IsInside, leaf_target, leaves_of};
 
+use crate::named::Named;
+use crate::reach::reach;
 use std::alloc::{AllocError, Global};
-use vs_flat::{Node, trees_law};
+use vs_flat::Node;
 use vs_four::Range;
 use vs_shape::first_copy;
-use vs_typed::Typed;
+use vs_values::Templates;
 
-/// A part of a target that is no concatenation (IEEE 1364-2005, table 6-1): a whole signal, a bit or part select of one, or a word of a memory. Signals and indices are named by their numbers.
+/// A part of a target that is no concatenation (IEEE 1364-2005, table 6-1): a whole signal, a bit or part select of one, or a word of a memory. Indices are named by their numbers.
 #[derive(Clone, Copy)]
 pub(crate) enum Leaf {
     Whole {
-        signal: u32,
+        signal: Named,
     },
     Select {
-        signal: u32,
+        signal: Named,
         range: Range,
         up: bool,
         width: u32,
@@ -35,33 +38,44 @@ pub(crate) enum Leaf {
 /// The parts of a target, in the order of the text.
 pub(crate) fn target_leaves(
     alloc: Global,
-    typed: &Typed,
+    templates: &Templates,
     target: u32,
 ) -> Result<Vec<Leaf>, AllocError>
-    requires node { target < length typed.now.nodes }
-    requires is_target { IsSome (target_of (tree_at (arena_trees typed.now) target)) }
-    ensures are { IfOk result (λ v. map (leaf_target typed.now) v.items ≡ leaves_of (target_tree (tree_at (arena_trees typed.now) target))) }
-    ensures inside { IfOk result (λ v. All (IsInside typed.now) v.items) }
+    requires node { target < node_bound templates.now }
+    requires is_target { IsSome (target_of (tree_at (arena_trees templates.now.arena) target)) }
+    ensures are { IfOk result (λ v. map (leaf_target templates.now.arena) v.items ≡ leaves_of (target_tree (tree_at (arena_trees templates.now.arena) target))) }
+    ensures inside { IfOk result (λ v. All (IsInside templates.now) v.items) }
 {
     let mut leaves = Vec::new(alloc);
-    add_leaves(typed, target, &mut leaves)?;
+    add_leaves(templates, target, &mut leaves)?;
     Ok(leaves)
 }
 
 /// Adds the parts of a target.
-fn add_leaves(typed: &Typed, target: u32, leaves: &mut Vec<Leaf>) -> Result<(), AllocError>
-    requires node { target < length typed.now.nodes }
-    requires is_target { IsSome (target_of (tree_at (arena_trees typed.now) target)) }
-    ensures { OnOk result (AddsLeaves typed.now leaves.old.items leaves.new.items (leaves_of (target_tree (tree_at (arena_trees typed.now) target)))) }
+fn add_leaves(templates: &Templates, target: u32, leaves: &mut Vec<Leaf>) -> Result<(), AllocError>
+    requires node { target < node_bound templates.now }
+    requires is_target { IsSome (target_of (tree_at (arena_trees templates.now.arena) target)) }
+    ensures { OnOk result (AddsLeaves templates.now leaves.old.items leaves.new.items (leaves_of (target_tree (tree_at (arena_trees templates.now.arena) target)))) }
 {
-    trees_law();
-    match typed.flat().expr(target) {
+    reach(templates);
+    match templates.shapes().node(target) {
         Node::Name { signal } => {
-            leaves.push(Leaf::Whole { signal: *signal })?;
+            leaves.push(Leaf::Whole {
+                signal: Named::Global { signal: *signal },
+            })?;
+            Ok(())
+        }
+        Node::Local { function, signal } => {
+            leaves.push(Leaf::Whole {
+                signal: Named::Local {
+                    function: *function,
+                    signal: *signal,
+                },
+            })?;
             Ok(())
         }
         Node::Bit { of, range, index } => {
-            add_select(typed, *of, *range, true, 1, *index, leaves)
+            add_select(templates, *of, *range, true, 1, *index, leaves)
         }
         Node::Part {
             of,
@@ -69,7 +83,7 @@ fn add_leaves(typed: &Typed, target: u32, leaves: &mut Vec<Leaf>) -> Result<(), 
             base,
             up,
             width,
-        } => add_select(typed, *of, *range, *up, *width, *base, leaves),
+        } => add_select(templates, *of, *range, *up, *width, *base, leaves),
         Node::Word { signal, index } => {
             leaves.push(Leaf::Word {
                 signal: *signal,
@@ -80,7 +94,7 @@ fn add_leaves(typed: &Typed, target: u32, leaves: &mut Vec<Leaf>) -> Result<(), 
         Node::Join { parts } => {
             let parts = first_copy(parts.as_slice());
             for part in parts {
-                add_leaves(typed, *part, leaves)?;
+                add_leaves(templates, *part, leaves)?;
             }
             Ok(())
         }
@@ -90,7 +104,7 @@ fn add_leaves(typed: &Typed, target: u32, leaves: &mut Vec<Leaf>) -> Result<(), 
 
 /// Adds a select of the signal that node `of` names.
 fn add_select(
-    typed: &Typed,
+    templates: &Templates,
     of: u32,
     range: Range,
     up: bool,
@@ -98,23 +112,25 @@ fn add_select(
     index: u32,
     leaves: &mut Vec<Leaf>,
 ) -> Result<(), AllocError>
-    requires of { of < length typed.now.nodes }
-    requires index { index < length typed.now.nodes }
-    requires is_target { IsSome (target_of (E.Select (source_of (tree_at (arena_trees typed.now) of)) (record { range = range; up = up; width = width }) (tree_at (arena_trees typed.now) index))) }
-    ensures { OnOk result (AddsLeaves typed.now leaves.old.items leaves.new.items (leaves_of (target_tree (E.Select (source_of (tree_at (arena_trees typed.now) of)) (record { range = range; up = up; width = width }) (tree_at (arena_trees typed.now) index))))) }
+    requires of { of < length templates.now.arena.nodes }
+    requires index { index < node_bound templates.now }
+    requires is_target { IsSome (target_of (E.Select (source_of (tree_at (arena_trees templates.now.arena) of)) (record { range = range; up = up; width = width }) (tree_at (arena_trees templates.now.arena) index))) }
+    ensures { OnOk result (AddsLeaves templates.now leaves.old.items leaves.new.items (leaves_of (target_tree (E.Select (source_of (tree_at (arena_trees templates.now.arena) of)) (record { range = range; up = up; width = width }) (tree_at (arena_trees templates.now.arena) index))))) }
 {
-    trees_law();
-    match typed.flat().expr(of) {
-        Node::Name { signal } => {
-            leaves.push(Leaf::Select {
-                signal: *signal,
-                range,
-                up,
-                width,
-                index,
-            })?;
-            Ok(())
-        }
-        _ => Ok(()),
-    }
+    let signal = match templates.shapes().node(of) {
+        Node::Name { signal } => Named::Global { signal: *signal },
+        Node::Local { function, signal } => Named::Local {
+            function: *function,
+            signal: *signal,
+        },
+        _ => return Ok(()),
+    };
+    leaves.push(Leaf::Select {
+        signal,
+        range,
+        up,
+        width,
+        index,
+    })?;
+    Ok(())
 }

@@ -9,14 +9,18 @@ mod contexts;
 mod continuous;
 mod copies;
 mod environments;
+mod functions;
 mod indices;
 mod leaves;
 mod lowered;
+mod named;
+mod reach;
 mod resets;
 mod sleepers;
 mod statements;
 mod writes;
 
+pub use functions::templates;
 pub use lowered::process;
 pub use resets::reset;
 pub use sleepers::sleeper;

@@ -18,59 +18,64 @@ ghost use Rattle.vs_lower.specs.Processed.{AddsProcess, HasKindNames, HasShadows
 use crate::blocks::{clocked, combinational};
 use crate::continuous::continuous;
 use std::alloc::{AllocError, Global};
-use vs_design::footprint_law;
+use vs_design::{footprint_law, within_law};
 use vs_flat::{Kind, has_edge, lawful_law, names_law, trees_law};
-use vs_typed::{Typed, fits_law};
-use vs_values::Code;
+use vs_typed::fits_law;
+use vs_values::{Code, Templates, bounds_law};
 
 /// What process p is: it names expressions and statements of the design.
-pub(crate) fn kind_at(typed: &Typed, p: u32) -> &Kind
-    requires there { p < length typed.now.processes }
-    ensures names { HasKindNames typed.now result.now }
-    ensures is { (place : ℕ) × (slice_get (design_of typed.now).processes p ≡ Some (kind_of (signal_at (arena_signals typed.now)) (tree_at (arena_trees typed.now)) (body_of typed.now) place result.now)) }
+pub(crate) fn kind_at<'a>(templates: &'a Templates, p: u32) -> &'a Kind
+    requires there { p < length templates.now.arena.processes }
+    ensures names { HasKindNames templates.now.arena result.now }
+    ensures is { (place : ℕ) × (slice_get (design_of templates.now.arena).processes p ≡ Some (kind_of (signal_at (arena_signals templates.now.arena)) (tree_at (arena_trees templates.now.arena)) (body_of templates.now.arena) place result.now)) }
 {
     names_law();
     trees_law();
     lawful_law();
-    &typed.flat().process(p).kind
+    &templates.flat().process(p).kind
 }
 
 /// Adds the calls of process p, in a design of `count` bits that mixes no assignments in a block and has no combinational cycle. `shadows` has a slot for each bit, which is asked for where the bit is one of a register; the temporaries begin at the least slot that is new. The only error is that there is no memory; the program then has some of the calls.
 pub fn process(
     alloc: Global,
-    typed: &Typed,
+    templates: &Templates,
     p: u32,
     count: u32,
     shadows: &[u32],
     code: &mut Code,
 ) -> Result<(), AllocError>
-    requires there { p < length typed.now.processes }
-    requires count { count ≡ bit_count typed.now.signals }
-    requires unmixed { list_all (λ x. is_empty (mixed_assigns x)) (design_of typed.now).processes ≡ true }
-    requires no_cycle { has_no_cycle (design_of typed.now) ≡ true }
-    requires temps { home (bit_count typed.now.signals) ≤ code.old.next }
-    requires slots { (x : D.Process) → slice_get (design_of typed.now).processes p ≡ Some x → code.old.next + process_stores x < 2 ^ 32 }
-    requires few { (x : D.Process) → slice_get (design_of typed.now).processes p ≡ Some x → length_of code.old.calls + process_stores x ≤ 2 ^ 32 }
+    requires whole { templates.now.functions ≡ length templates.now.arena.bodies }
+    requires there { p < length templates.now.arena.processes }
+    requires count { count ≡ bit_count templates.now.arena.signals }
+    requires unmixed { list_all (λ x. is_empty (mixed_assigns x)) (design_of templates.now.arena).processes ≡ true }
+    requires no_cycle { has_no_cycle (design_of templates.now.arena) ≡ true }
+    requires temps { home (bit_count templates.now.arena.signals) ≤ code.old.next }
+    requires slots { (x : D.Process) → slice_get (design_of templates.now.arena).processes p ≡ Some x → code.old.next + process_stores x < 2 ^ 32 }
+    requires few { (x : D.Process) → slice_get (design_of templates.now.arena).processes p ≡ Some x → length_of code.old.calls + process_stores x ≤ 2 ^ 32 }
     requires long { length shadows.now ≡ count }
-    requires layout { IsLayout (record { bits = bit_count typed.now.signals; shadow = slice_index shadows.now; first_temp = code.old.next }) (register_bits (design_of typed.now).processes) }
-    ensures { OnOk result ((l : Layout) (x : D.Process) → slice_get (design_of typed.now).processes p ≡ Some x → HasShadows (bit_count typed.now.signals) code.old.next shadows.now (register_bits (design_of typed.now).processes) l → AddsProcess l x code.old.calls code.new.calls) }
+    requires layout { IsLayout (record { bits = bit_count templates.now.arena.signals; shadow = slice_index shadows.now; first_temp = code.old.next }) (register_bits (design_of templates.now.arena).processes) }
+    ensures { OnOk result ((l : Layout) (x : D.Process) → slice_get (design_of templates.now.arena).processes p ≡ Some x → HasShadows (bit_count templates.now.arena.signals) code.old.next shadows.now (register_bits (design_of templates.now.arena).processes) l → AddsProcess l x code.old.calls code.new.calls) }
 {
     footprint_law();
+    within_law();
+    bounds_law();
     fits_law();
     trees_law();
     lawful_law();
-    let _flat = typed.flat();
-    match kind_at(typed, p) {
-        Kind::Assign { target, expr, .. } => continuous(alloc, typed, *target, *expr, count, code),
+    let _flat = templates.flat();
+    match kind_at(templates, p) {
+        Kind::Assign { target, expr, .. } => continuous(
+            alloc, templates, *target, *expr, count, code,
+        ),
         Kind::Block {
             events,
             statement,
             ..
         } => {
             if has_edge(events.as_slice()) {
-                clocked(alloc, typed, *statement, count, shadows, code)
+                clocked(alloc, templates, *statement, count, shadows, code)
             } else {
-                combinational(alloc, typed, *statement, count, code)
+                combinational(alloc, templates, *statement, count, code)
             }
         }
     }

@@ -8,19 +8,20 @@ ghost use Rattle.vs_shape.specs.Bodies.{body_of};
 ghost use Rattle.vs_program.specs.Lowered.{Layout};
 ghost use Rattle.vs_values.specs.Environments.{homes};
 ghost use Rattle.vs_values.specs.Ready.{IsReady};
+ghost use Rattle.vs_values.specs.Templates.{statement_bound};
 ghost use Rattle.vs_lower.specs.Resetting.{AddsReset, HasResetRoom, IsResetOf, IsResetReady, reset_condition};
 ghost use Rattle.vs_values.specs.Valued.{AddsValue};
 
 use crate::branches::join_written;
 use crate::copies::copy_home;
 use crate::environments::Environments;
+use crate::reach::reach;
 use crate::statements::{statement, written_bits};
 use std::alloc::{AllocError, Global};
 use vs_base::{Context, UnaryOp};
 use vs_design::value_law;
 use vs_program::home;
-use vs_typed::Typed;
-use vs_values::{Code, Environment, applied};
+use vs_values::{Code, Environment, Templates, applied};
 
 /// The slot of a reset's condition: that of its input, or of its `!` where the reset is active at 0.
 fn active(
@@ -31,7 +32,7 @@ fn active(
     code: &mut Code,
 ) -> Result<Vec<u32>, AllocError>
     requires there { input < count }
-    requires ready { IsReady count (homes count) code.old (reset_condition falls input) 1 }
+    requires ready { IsReady (homes count) code.old (reset_condition falls input) 1 }
     requires home { 4 + count ≤ code.old.next }
     requires slots { code.old.next < 2 ^ 32 }
     ensures { IfOk result (λ tc. AddsValue (homes count) code.old.calls code.old.next code.new.calls code.new.next (reset_condition falls input) 1 false tc.items) }
@@ -53,25 +54,26 @@ fn active(
 /// Adds the calls of a reset by this input, active at 1 or, where `falls`, at 0, whose branch is statement s, in a design of `count` bits. The branch reads nothing, as that of every accepted design. The only error is that there is no memory; the program then has some of the calls.
 pub fn reset(
     alloc: Global,
-    typed: &Typed,
+    templates: &Templates,
     s: u32,
     input: u32,
     falls: bool,
     count: u32,
     code: &mut Code,
 ) -> Result<(), AllocError>
-    requires count { count ≡ bit_count typed.now.signals }
-    requires there { s < length typed.now.statements }
-    requires ready { IsResetReady (bit_count typed.now.signals) code.old falls input (body_of typed.now s) }
-    ensures { OnOk result ((l : Layout) (r : N.Reset) (p : D.Process) → l.bits ≡ bit_count typed.now.signals → l.first_temp ≡ code.old.next → IsResetOf r falls input (body_of typed.now s) → HasResetRoom p falls input (body_of typed.now s) → AddsReset l (Some r) p code.old.calls code.new.calls) }
+    requires count { count ≡ bit_count templates.now.arena.signals }
+    requires there { s < statement_bound templates.now }
+    requires ready { IsResetReady (bit_count templates.now.arena.signals) code.old falls input (body_of templates.now.arena s) }
+    ensures { OnOk result ((l : Layout) (r : N.Reset) (p : D.Process) → l.bits ≡ bit_count templates.now.arena.signals → l.first_temp ≡ code.old.next → IsResetOf r falls input (body_of templates.now.arena s) → HasResetRoom p falls input (body_of templates.now.arena s) → AddsReset l (Some r) p code.old.calls code.new.calls) }
 {
     let condition = active(alloc, input, falls, count, code)?;
+    reach(templates);
     let mut env = Environments {
         values: Environment::at_home(alloc, count),
         ahead: Environment::at_home(alloc, count),
     };
-    statement(alloc, typed, s, true, &mut env, code)?;
-    let bits = written_bits(alloc, typed, s)?;
+    statement(alloc, templates, s, true, &mut env, code)?;
+    let bits = written_bits(alloc, templates, s)?;
     let first = env.picked(alloc, true, bits.as_slice())?;
     let mut after = Environments {
         values: Environment::at_home(alloc, count),

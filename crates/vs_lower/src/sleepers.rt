@@ -14,21 +14,23 @@ ghost use Rattle.vs_shape.specs.Bodies.{body_of};
 ghost use Rattle.vs_code.specs.Calls.{IsCall, call_cost, length_of};
 ghost use Rattle.vs_program.specs.Lowered.{Layout, home, process_stores};
 ghost use Rattle.vs_reset.specs.Sleepers.{AreBits, IsMask, compare_call, finish_call, wake_calls, x_slots};
+ghost use Rattle.vs_values.specs.Templates.{statement_bound};
 ghost use Rattle.vs_lower.specs.Asleep.{AddsBody, AddsSleeper, IsSleeperReady};
 ghost use Rattle.vs_lower.specs.Processed.{IsBlockReady};
 
 use crate::assigns::owned;
 use crate::environments::Environments;
 use crate::lowered::kind_at;
+use crate::reach::reach;
 use crate::statements::{statement, written_bits};
 use std::alloc::{AllocError, Global};
 use vs_code::AnyKernel;
-use vs_design::footprint_law;
+use vs_design::{footprint_law, within_law};
 use vs_flat::{Kind, lawful_law, trees_law};
 use vs_program::home;
 use vs_reset::sleeper_law;
-use vs_typed::{Typed, fits_law};
-use vs_values::{Code, Environment, appended, pair, picked, triple};
+use vs_typed::fits_law;
+use vs_values::{Code, Environment, Templates, appended, bounds_law, pair, picked, triple};
 
 /// The list of one slot.
 fn one(alloc: Global, slot: u32) -> Result<Vec<u32>, AllocError>
@@ -110,26 +112,27 @@ fn wake(alloc: Global, waits: &[u32], mask: u32, code: &mut Code) -> Result<(), 
 /// Adds the calls of a block's statement, in a design of `count` bits, and answers slots that have what these bits have after it. None of them is a bit's: where the statement leaves one of them at home, all are copied.
 fn settled(
     alloc: Global,
-    typed: &Typed,
+    templates: &Templates,
     s: u32,
     count: u32,
     bits: &[u32],
     code: &mut Code,
 ) -> Result<Vec<u32>, AllocError>
-    requires count { count ≡ bit_count typed.now.signals }
-    requires there { s < length typed.now.statements }
-    requires ready { IsBlockReady (bit_count typed.now.signals) code.old false (body_of typed.now s) }
-    requires inside { All (λ b. b < bit_count typed.now.signals) bits.now }
+    requires count { count ≡ bit_count templates.now.arena.signals }
+    requires there { s < statement_bound templates.now }
+    requires ready { IsBlockReady (bit_count templates.now.arena.signals) code.old false (body_of templates.now.arena s) }
+    requires inside { All (λ b. b < bit_count templates.now.arena.signals) bits.now }
     requires some { 1 ≤ length bits.now }
-    requires few { length bits.now ≤ distinct (statement_bits (body_of typed.now s)) }
-    ensures { IfOk result (λ now. AddsBody (bit_count typed.now.signals) code.old code.new (body_of typed.now s) bits.now now.items) }
+    requires few { length bits.now ≤ distinct (statement_bits (body_of templates.now.arena s)) }
+    ensures { IfOk result (λ now. AddsBody (bit_count templates.now.arena.signals) code.old code.new (body_of templates.now.arena s) bits.now now.items) }
 {
     let first = code.next();
+    reach(templates);
     let mut env = Environments {
         values: Environment::at_home(alloc, count),
         ahead: Environment::at_home(alloc, count),
     };
-    statement(alloc, typed, s, false, &mut env, code)?;
+    statement(alloc, templates, s, false, &mut env, code)?;
     let slots = picked(alloc, &env.values, bits)?;
     owned(alloc, slots, bits.len() as u32, first, code)
 }
@@ -162,53 +165,59 @@ fn finish(
 /// Adds the calls of a sleeping block with this statement, in a design of `count` bits: the mask, the statement, and then its values or x to its bits.
 fn asleep(
     alloc: Global,
-    typed: &Typed,
+    templates: &Templates,
     s: u32,
     count: u32,
     waits: &[u32],
     mask: u32,
     code: &mut Code,
 ) -> Result<(), AllocError>
-    requires count { count ≡ bit_count typed.now.signals }
-    requires there { s < length typed.now.statements }
-    requires ready { IsSleeperReady (bit_count typed.now.signals) code.old waits.now mask (body_of typed.now s) }
-    ensures { OnOk result ((l : Layout) (place : ℕ) (star : Bool) (events : List D.Event) → l.bits ≡ bit_count typed.now.signals → l.first_temp ≡ code.old.next → D.is_clocked (D.Always place star events (body_of typed.now s)) ≡ false → AddsSleeper l (D.Always place star events (body_of typed.now s)) waits.now mask code.old.calls code.new.calls) }
+    requires count { count ≡ bit_count templates.now.arena.signals }
+    requires there { s < statement_bound templates.now }
+    requires ready { IsSleeperReady (bit_count templates.now.arena.signals) code.old waits.now mask (body_of templates.now.arena s) }
+    ensures { OnOk result ((l : Layout) (place : ℕ) (star : Bool) (events : List D.Event) → l.bits ≡ bit_count templates.now.arena.signals → l.first_temp ≡ code.old.next → D.is_clocked (D.Always place star events (body_of templates.now.arena s)) ≡ false → AddsSleeper l (D.Always place star events (body_of templates.now.arena s)) waits.now mask code.old.calls code.new.calls) }
 {
     sleeper_law();
+    reach(templates);
     wake(alloc, waits, mask, code)?;
-    let bits = written_bits(alloc, typed, s)?;
-    let now = settled(alloc, typed, s, count, bits.as_slice(), code)?;
+    let bits = written_bits(alloc, templates, s)?;
+    let now = settled(alloc, templates, s, count, bits.as_slice(), code)?;
     finish(alloc, mask, bits.as_slice(), now, code)
 }
 
 /// Adds the calls of process p as a block that sleeps, in a design of `count` bits that mixes no assignments in a block: as long as its mask is 0, and the bits `waits` that it waits on are x, so are its bits. The slot `mask` holds the mask, and the temporaries begin at the least slot that is new. The only error is that there is no memory; the program then has some of the calls.
 pub fn sleeper(
     alloc: Global,
-    typed: &Typed,
+    templates: &Templates,
     p: u32,
     count: u32,
     waits: &[u32],
     mask: u32,
     code: &mut Code,
 ) -> Result<(), AllocError>
-    requires there { p < length typed.now.processes }
-    requires count { count ≡ bit_count typed.now.signals }
-    requires sleeps { (x : D.Process) → slice_get (design_of typed.now).processes p ≡ Some x → is_sleeping (design_of typed.now) x ≡ true }
-    requires unmixed { list_all (λ x. is_empty (mixed_assigns x)) (design_of typed.now).processes ≡ true }
-    requires mask { IsMask (bit_count typed.now.signals) code.old.next mask }
-    requires waits { AreBits (bit_count typed.now.signals) waits.now }
-    requires slots { (x : D.Process) → slice_get (design_of typed.now).processes p ≡ Some x → code.old.next + process_stores x < 2 ^ 32 }
-    requires few { (x : D.Process) → slice_get (design_of typed.now).processes p ≡ Some x → length_of code.old.calls + (process_stores x + (length waits.now + 1 + distinct (writes_of x))) ≤ 2 ^ 32 }
-    ensures { OnOk result ((l : Layout) (x : D.Process) → slice_get (design_of typed.now).processes p ≡ Some x → l.bits ≡ bit_count typed.now.signals → l.first_temp ≡ code.old.next → AddsSleeper l x waits.now mask code.old.calls code.new.calls) }
+    requires whole { templates.now.functions ≡ length templates.now.arena.bodies }
+    requires there { p < length templates.now.arena.processes }
+    requires count { count ≡ bit_count templates.now.arena.signals }
+    requires sleeps { (x : D.Process) → slice_get (design_of templates.now.arena).processes p ≡ Some x → is_sleeping (design_of templates.now.arena) x ≡ true }
+    requires unmixed { list_all (λ x. is_empty (mixed_assigns x)) (design_of templates.now.arena).processes ≡ true }
+    requires mask { IsMask (bit_count templates.now.arena.signals) code.old.next mask }
+    requires waits { AreBits (bit_count templates.now.arena.signals) waits.now }
+    requires slots { (x : D.Process) → slice_get (design_of templates.now.arena).processes p ≡ Some x → code.old.next + process_stores x < 2 ^ 32 }
+    requires few { (x : D.Process) → slice_get (design_of templates.now.arena).processes p ≡ Some x → length_of code.old.calls + (process_stores x + (length waits.now + 1 + distinct (writes_of x))) ≤ 2 ^ 32 }
+    ensures { OnOk result ((l : Layout) (x : D.Process) → slice_get (design_of templates.now.arena).processes p ≡ Some x → l.bits ≡ bit_count templates.now.arena.signals → l.first_temp ≡ code.old.next → AddsSleeper l x waits.now mask code.old.calls code.new.calls) }
 {
     footprint_law();
+    within_law();
+    bounds_law();
     fits_law();
     trees_law();
     lawful_law();
     sleeper_law();
-    let _flat = typed.flat();
-    match kind_at(typed, p) {
+    let _flat = templates.flat();
+    match kind_at(templates, p) {
         Kind::Assign { .. } => Ok(()),
-        Kind::Block { statement, .. } => asleep(alloc, typed, *statement, count, waits, mask, code),
+        Kind::Block { statement, .. } => asleep(
+            alloc, templates, *statement, count, waits, mask, code,
+        ),
     }
 }

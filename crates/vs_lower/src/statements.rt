@@ -6,11 +6,11 @@ ghost use Rattle.vs_design.specs.Statements as T;
 ghost use Rattle.vs_design.specs.Fits.{fits_statement};
 ghost use Rattle.vs_design.specs.Footprints.{contains, arms_bits, statement_bits};
 ghost use Rattle.vs_design.specs.Sizes.{distinct};
-ghost use Rattle.vs_flat.specs.Arena.{bit_count};
 ghost use Rattle.vs_flat.specs.DesignOf.{arena_trees};
 ghost use Rattle.vs_flat.specs.Trees.{arms_tree, branch, sequence, tree_at};
 ghost use Rattle.vs_shape.specs.Bodies.{EachArmNames, HasBodyNames, HasTarget, OtherBelow, body_of, body_of_statement, body_place};
 ghost use Rattle.vs_shape.specs.Nodes.{EachBelow};
+ghost use Rattle.vs_values.specs.Templates.{node_bound, statement_bound};
 ghost use Rattle.vs_lower.specs.Branched.{unwritten};
 ghost use Rattle.vs_lower.specs.Stated.{IsStatementReady, AddsArm, AddsBranch, AddsCases, AddsStatement, AreAmong, AreArmsReady, AreInOrder, AreInside, HasItems, IsArmReady};
 
@@ -19,69 +19,78 @@ use crate::branches::{join_apart, join_written};
 use crate::cases::tests;
 use crate::contexts::case_context;
 use crate::environments::Environments;
+use crate::reach::reach;
 use std::alloc::{AllocError, Global};
 use vs_base::{CaseKind, Context};
 use vs_flat::{Arm, Statement, lawful_law};
 use vs_shape::{Walk, ascend};
-use vs_typed::Typed;
-use vs_values::{Code, lower, own};
+use vs_values::{Code, Templates, bounds_law, lower, own};
 
 /// The bits that a statement may write, in ascending order and each once.
-pub(crate) fn written_bits(alloc: Global, typed: &Typed, s: u32) -> Result<Vec<u32>, AllocError>
-    requires there { s < length typed.now.statements }
-    requires fits { fits_statement (body_of typed.now s) ≡ true }
+pub(crate) fn written_bits(
+    alloc: Global,
+    templates: &Templates,
+    s: u32,
+) -> Result<Vec<u32>, AllocError>
+    requires there { s < length templates.now.arena.statements }
+    requires fits { fits_statement (body_of templates.now.arena s) ≡ true }
     ensures rising { IfOk result (λ v. IsStrictlyIncreasing v.items) }
-    ensures same { IfOk result (λ v. (b : ℕ) → contains v.items b ≡ contains (statement_bits (body_of typed.now s)) b) }
+    ensures same { IfOk result (λ v. (b : ℕ) → contains v.items b ≡ contains (statement_bits (body_of templates.now.arena s)) b) }
 {
     let mut bits = Vec::new(alloc);
-    typed.shapes().push_statement(s, Walk::Writes, &mut bits)?;
+    templates
+        .shapes()
+        .push_statement(s, Walk::Writes, &mut bits)?;
     ascend(&mut bits);
     Ok(bits)
 }
 
 /// Statement s of a lawful design: it names expressions and earlier statements, its tree is made of theirs, and each arm of a case has an item.
-fn statement_of(typed: &Typed, s: u32) -> &Statement
-    requires there { s < length typed.now.statements }
-    ensures names { HasBodyNames (length typed.now.nodes) s result.now }
-    ensures target { HasTarget typed.now result.now }
+fn statement_of<'a>(templates: &'a Templates, s: u32) -> &'a Statement
+    requires there { s < statement_bound templates.now }
+    ensures names { HasBodyNames (node_bound templates.now) s result.now }
+    ensures target { HasTarget templates.now.arena result.now }
     ensures items { HasItems result.now }
-    ensures tree { body_of typed.now s ≡ body_of_statement typed.now (body_place typed.now s) result.now }
+    ensures tree { body_of templates.now.arena s ≡ body_of_statement templates.now.arena (body_place templates.now.arena s) result.now }
 {
     lawful_law();
-    vs_shape::statement_of(typed.flat(), s)
+    bounds_law();
+    reach(templates);
+    templates.shapes().statement(s)
 }
 
 /// Adds the calls of statement s, in a block of which it is told whether it is clocked.
 #[cycle(statements)]
 pub(crate) fn statement(
     alloc: Global,
-    typed: &Typed,
+    templates: &Templates,
     s: u32,
     clocked: bool,
     env: &mut Environments,
     code: &mut Code,
 ) -> Result<(), AllocError>
-    requires there { s < length typed.now.statements }
-    requires ready { IsStatementReady (bit_count typed.now.signals) env.old.values env.old.ahead code.old clocked (body_of typed.now s) }
-    requires inside { AreInside (bit_count typed.now.signals) (statement_bits (body_of typed.now s)) }
-    ensures adds { OnOk result (AddsStatement env.old.values env.old.ahead code.old code.new (body_of typed.now s) env.new.values env.new.ahead) }
+    requires there { s < statement_bound templates.now }
+    requires ready { IsStatementReady (length env.old.values) env.old.values env.old.ahead code.old clocked (body_of templates.now.arena s) }
+    requires inside { AreInside (length env.old.values) (statement_bits (body_of templates.now.arena s)) }
+    ensures adds { OnOk result (AddsStatement env.old.values env.old.ahead code.old code.new (body_of templates.now.arena s) env.new.values env.new.ahead) }
     ensures other { OnOk result (unwritten clocked env.new.values env.new.ahead ≡ unwritten clocked env.old.values env.old.ahead) }
 {
-    match statement_of(typed, s) {
+    reach(templates);
+    match statement_of(templates, s) {
         Statement::Empty => Ok(()),
         Statement::Assign {
             target,
             expr,
             blocking,
         } => {
-            assign(alloc, typed, *target, *expr, !*blocking, env, code)?;
+            assign(alloc, templates, *target, *expr, !*blocking, env, code)?;
             Ok(())
         }
         Statement::If { c, yes, no } => {
-            let bits = written_bits(alloc, typed, s)?;
+            let bits = written_bits(alloc, templates, s)?;
             conditional(
                 alloc,
-                typed,
+                templates,
                 s,
                 *c,
                 *yes,
@@ -99,10 +108,10 @@ pub(crate) fn statement(
             arms,
             other,
         } => {
-            let bits = written_bits(alloc, typed, s)?;
+            let bits = written_bits(alloc, templates, s)?;
             case(
                 alloc,
-                typed,
+                templates,
                 s,
                 *kind,
                 *of,
@@ -116,7 +125,7 @@ pub(crate) fn statement(
             Ok(())
         }
         Statement::Seq { parts } => {
-            in_order(alloc, typed, s, parts.as_slice(), clocked, env, code)?;
+            in_order(alloc, templates, s, parts.as_slice(), clocked, env, code)?;
             Ok(())
         }
     }
@@ -126,22 +135,22 @@ pub(crate) fn statement(
 #[cycle(statements)]
 fn in_order(
     alloc: Global,
-    typed: &Typed,
+    templates: &Templates,
     s: u32,
     parts: &[u32],
     clocked: bool,
     env: &mut Environments,
     code: &mut Code,
 ) -> Result<(), AllocError>
-    requires there { s ≤ length typed.now.statements }
+    requires there { s ≤ statement_bound templates.now }
     requires parts { EachBelow s parts.now }
-    requires ready { IsStatementReady (bit_count typed.now.signals) env.old.values env.old.ahead code.old clocked (sequence (map (body_of typed.now) parts.now)) }
-    requires inside { AreInside (bit_count typed.now.signals) (statement_bits (sequence (map (body_of typed.now) parts.now))) }
-    ensures adds { OnOk result (AddsStatement env.old.values env.old.ahead code.old code.new (sequence (map (body_of typed.now) parts.now)) env.new.values env.new.ahead) }
+    requires ready { IsStatementReady (length env.old.values) env.old.values env.old.ahead code.old clocked (sequence (map (body_of templates.now.arena) parts.now)) }
+    requires inside { AreInside (length env.old.values) (statement_bits (sequence (map (body_of templates.now.arena) parts.now))) }
+    ensures adds { OnOk result (AddsStatement env.old.values env.old.ahead code.old code.new (sequence (map (body_of templates.now.arena) parts.now)) env.new.values env.new.ahead) }
     ensures other { OnOk result (unwritten clocked env.new.values env.new.ahead ≡ unwritten clocked env.old.values env.old.ahead) }
 {
     for n in 0..parts.len() {
-        statement(alloc, typed, parts[n], clocked, env, code)?;
+        statement(alloc, templates, parts[n], clocked, env, code)?;
     }
     Ok(())
 }
@@ -150,23 +159,23 @@ fn in_order(
 #[cycle(statements)]
 fn optional(
     alloc: Global,
-    typed: &Typed,
+    templates: &Templates,
     s: u32,
     part: Option<u32>,
     clocked: bool,
     env: &mut Environments,
     code: &mut Code,
 ) -> Result<(), AllocError>
-    requires there { s ≤ length typed.now.statements }
+    requires there { s ≤ statement_bound templates.now }
     requires part { OtherBelow s part }
-    requires ready { IsStatementReady (bit_count typed.now.signals) env.old.values env.old.ahead code.old clocked (branch (body_of typed.now) part) }
-    requires inside { AreInside (bit_count typed.now.signals) (statement_bits (branch (body_of typed.now) part)) }
-    ensures adds { OnOk result (AddsStatement env.old.values env.old.ahead code.old code.new (branch (body_of typed.now) part) env.new.values env.new.ahead) }
+    requires ready { IsStatementReady (length env.old.values) env.old.values env.old.ahead code.old clocked (branch (body_of templates.now.arena) part) }
+    requires inside { AreInside (length env.old.values) (statement_bits (branch (body_of templates.now.arena) part)) }
+    ensures adds { OnOk result (AddsStatement env.old.values env.old.ahead code.old code.new (branch (body_of templates.now.arena) part) env.new.values env.new.ahead) }
     ensures other { OnOk result (unwritten clocked env.new.values env.new.ahead ≡ unwritten clocked env.old.values env.old.ahead) }
 {
     match part {
         Some(n) => {
-            statement(alloc, typed, n, clocked, env, code)?;
+            statement(alloc, templates, n, clocked, env, code)?;
             Ok(())
         }
         None => Ok(()),
@@ -177,7 +186,7 @@ fn optional(
 #[cycle(statements)]
 fn apart(
     alloc: Global,
-    typed: &Typed,
+    templates: &Templates,
     s: u32,
     part: Option<u32>,
     bits: &[u32],
@@ -185,17 +194,17 @@ fn apart(
     env: &mut Environments,
     code: &mut Code,
 ) -> Result<Vec<u32>, AllocError>
-    requires there { s ≤ length typed.now.statements }
+    requires there { s ≤ statement_bound templates.now }
     requires part { OtherBelow s part }
-    requires ready { IsStatementReady (bit_count typed.now.signals) env.old.values env.old.ahead code.old clocked (branch (body_of typed.now) part) }
-    requires inside { All (λ b. b < bit_count typed.now.signals) bits.now }
-    requires among { AreAmong (statement_bits (branch (body_of typed.now) part)) bits.now }
-    ensures adds { IfOk result (λ slots. AddsBranch clocked env.old.values env.old.ahead code.old code.new (branch (body_of typed.now) part) bits.now slots.items) }
+    requires ready { IsStatementReady (length env.old.values) env.old.values env.old.ahead code.old clocked (branch (body_of templates.now.arena) part) }
+    requires inside { All (λ b. b < length env.old.values) bits.now }
+    requires among { AreAmong (statement_bits (branch (body_of templates.now.arena) part)) bits.now }
+    ensures adds { IfOk result (λ slots. AddsBranch clocked env.old.values env.old.ahead code.old code.new (branch (body_of templates.now.arena) part) bits.now slots.items) }
     ensures values { OnOk result (env.new.values ≡ env.old.values) }
     ensures ahead { OnOk result (env.new.ahead ≡ env.old.ahead) }
 {
     let before = env.picked(alloc, clocked, bits)?;
-    optional(alloc, typed, s, part, clocked, env, code)?;
+    optional(alloc, templates, s, part, clocked, env, code)?;
     let slots = env.exchange(alloc, clocked, bits, before.as_slice())?;
     Ok(slots)
 }
@@ -204,7 +213,7 @@ fn apart(
 #[cycle(statements)]
 fn conditional(
     alloc: Global,
-    typed: &Typed,
+    templates: &Templates,
     s: u32,
     c: u32,
     yes: u32,
@@ -214,18 +223,19 @@ fn conditional(
     env: &mut Environments,
     code: &mut Code,
 ) -> Result<(), AllocError>
-    requires there { s ≤ length typed.now.statements }
-    requires c { c < length typed.now.nodes }
+    requires there { s ≤ statement_bound templates.now }
+    requires c { c < node_bound templates.now }
     requires yes { yes < s }
     requires no { OtherBelow s no }
-    requires ready { IsStatementReady (bit_count typed.now.signals) env.old.values env.old.ahead code.old clocked (T.If (tree_at (arena_trees typed.now) c) (body_of typed.now yes) (branch (body_of typed.now) no)) }
-    requires bits { AreInOrder (bit_count typed.now.signals) bits.now (statement_bits (T.If (tree_at (arena_trees typed.now) c) (body_of typed.now yes) (branch (body_of typed.now) no))) }
-    ensures adds { OnOk result (AddsStatement env.old.values env.old.ahead code.old code.new (T.If (tree_at (arena_trees typed.now) c) (body_of typed.now yes) (branch (body_of typed.now) no)) env.new.values env.new.ahead) }
+    requires ready { IsStatementReady (length env.old.values) env.old.values env.old.ahead code.old clocked (T.If (tree_at (arena_trees templates.now.arena) c) (body_of templates.now.arena yes) (branch (body_of templates.now.arena) no)) }
+    requires bits { AreInOrder (length env.old.values) bits.now (statement_bits (T.If (tree_at (arena_trees templates.now.arena) c) (body_of templates.now.arena yes) (branch (body_of templates.now.arena) no))) }
+    ensures adds { OnOk result (AddsStatement env.old.values env.old.ahead code.old code.new (T.If (tree_at (arena_trees templates.now.arena) c) (body_of templates.now.arena yes) (branch (body_of templates.now.arena) no)) env.new.values env.new.ahead) }
     ensures other { OnOk result (unwritten clocked env.new.values env.new.ahead ≡ unwritten clocked env.old.values env.old.ahead) }
 {
-    let condition = lower(alloc, typed, &env.values, c, own(typed, c), code)?;
-    let first = apart(alloc, typed, s, Some(yes), bits, clocked, env, code)?;
-    optional(alloc, typed, s, no, clocked, env, code)?;
+    reach(templates);
+    let condition = lower(alloc, templates, &env.values, c, own(templates, c), code)?;
+    let first = apart(alloc, templates, s, Some(yes), bits, clocked, env, code)?;
+    optional(alloc, templates, s, no, clocked, env, code)?;
     join_written(alloc, condition, bits, first.as_slice(), clocked, env, code)?;
     Ok(())
 }
@@ -234,7 +244,7 @@ fn conditional(
 #[cycle(statements)]
 fn case(
     alloc: Global,
-    typed: &Typed,
+    templates: &Templates,
     s: u32,
     kind: CaseKind,
     of: u32,
@@ -245,21 +255,22 @@ fn case(
     env: &mut Environments,
     code: &mut Code,
 ) -> Result<(), AllocError>
-    requires there { s ≤ length typed.now.statements }
-    requires of { of < length typed.now.nodes }
-    requires arms { EachArmNames (length typed.now.nodes) s arms.now }
+    requires there { s ≤ statement_bound templates.now }
+    requires of { of < node_bound templates.now }
+    requires arms { EachArmNames (node_bound templates.now) s arms.now }
     requires items { All (λ arm. 1 ≤ length arm.items) arms.now }
     requires other { OtherBelow s other }
-    requires ready { IsStatementReady (bit_count typed.now.signals) env.old.values env.old.ahead code.old clocked (T.Case kind (tree_at (arena_trees typed.now) of) (arms_tree (tree_at (arena_trees typed.now)) (body_of typed.now) other arms.now)) }
-    requires bits { AreInOrder (bit_count typed.now.signals) bits.now (arms_bits (arms_tree (tree_at (arena_trees typed.now)) (body_of typed.now) other arms.now)) }
-    ensures adds { OnOk result (AddsStatement env.old.values env.old.ahead code.old code.new (T.Case kind (tree_at (arena_trees typed.now) of) (arms_tree (tree_at (arena_trees typed.now)) (body_of typed.now) other arms.now)) env.new.values env.new.ahead) }
+    requires ready { IsStatementReady (length env.old.values) env.old.values env.old.ahead code.old clocked (T.Case kind (tree_at (arena_trees templates.now.arena) of) (arms_tree (tree_at (arena_trees templates.now.arena)) (body_of templates.now.arena) other arms.now)) }
+    requires bits { AreInOrder (length env.old.values) bits.now (arms_bits (arms_tree (tree_at (arena_trees templates.now.arena)) (body_of templates.now.arena) other arms.now)) }
+    ensures adds { OnOk result (AddsStatement env.old.values env.old.ahead code.old code.new (T.Case kind (tree_at (arena_trees templates.now.arena) of) (arms_tree (tree_at (arena_trees templates.now.arena)) (body_of templates.now.arena) other arms.now)) env.new.values env.new.ahead) }
     ensures unchanged { OnOk result (unwritten clocked env.new.values env.new.ahead ≡ unwritten clocked env.old.values env.old.ahead) }
 {
-    let context = case_context(typed, of, arms);
-    let subject = lower(alloc, typed, &env.values, of, context, code)?;
+    reach(templates);
+    let context = case_context(templates, of, arms);
+    let subject = lower(alloc, templates, &env.values, of, context, code)?;
     let slots = branches(
         alloc,
-        typed,
+        templates,
         s,
         kind,
         subject.as_slice(),
@@ -279,7 +290,7 @@ fn case(
 #[cycle(statements)]
 fn branches(
     alloc: Global,
-    typed: &Typed,
+    templates: &Templates,
     s: u32,
     kind: CaseKind,
     subject: &[u32],
@@ -291,23 +302,24 @@ fn branches(
     env: &mut Environments,
     code: &mut Code,
 ) -> Result<Vec<u32>, AllocError>
-    requires there { s ≤ length typed.now.statements }
-    requires arms { EachArmNames (length typed.now.nodes) s arms.now }
+    requires there { s ≤ statement_bound templates.now }
+    requires arms { EachArmNames (node_bound templates.now) s arms.now }
     requires items { All (λ arm. 1 ≤ length arm.items) arms.now }
     requires other { OtherBelow s other }
-    requires ready { AreArmsReady (bit_count typed.now.signals) env.old.values env.old.ahead subject.now code.old clocked context.width (distinct (arms_bits (arms_tree (tree_at (arena_trees typed.now)) (body_of typed.now) other arms.now))) (arms_tree (tree_at (arena_trees typed.now)) (body_of typed.now) other arms.now) }
-    requires bits { AreInOrder (bit_count typed.now.signals) bits.now (arms_bits (arms_tree (tree_at (arena_trees typed.now)) (body_of typed.now) other arms.now)) }
-    ensures adds { IfOk result (λ slots. AddsCases clocked env.old.values env.old.ahead subject.now code.old code.new kind context.width context.signed (distinct (arms_bits (arms_tree (tree_at (arena_trees typed.now)) (body_of typed.now) other arms.now))) (arms_tree (tree_at (arena_trees typed.now)) (body_of typed.now) other arms.now) bits.now slots.items) }
+    requires ready { AreArmsReady (length env.old.values) env.old.values env.old.ahead subject.now code.old clocked context.width (distinct (arms_bits (arms_tree (tree_at (arena_trees templates.now.arena)) (body_of templates.now.arena) other arms.now))) (arms_tree (tree_at (arena_trees templates.now.arena)) (body_of templates.now.arena) other arms.now) }
+    requires bits { AreInOrder (length env.old.values) bits.now (arms_bits (arms_tree (tree_at (arena_trees templates.now.arena)) (body_of templates.now.arena) other arms.now)) }
+    ensures adds { IfOk result (λ slots. AddsCases clocked env.old.values env.old.ahead subject.now code.old code.new kind context.width context.signed (distinct (arms_bits (arms_tree (tree_at (arena_trees templates.now.arena)) (body_of templates.now.arena) other arms.now))) (arms_tree (tree_at (arena_trees templates.now.arena)) (body_of templates.now.arena) other arms.now) bits.now slots.items) }
     ensures values { OnOk result (env.new.values ≡ env.old.values) }
     ensures ahead { OnOk result (env.new.ahead ≡ env.old.ahead) }
 {
-    let mut behind = apart(alloc, typed, s, other, bits, clocked, env, code)?;
+    let mut behind = apart(alloc, templates, s, other, bits, clocked, env, code)?;
     for k in 0..arms.len() {
         let n = arms.len() - 1 - k;
         let items = arms[n].items.as_slice();
         let part = arms[n].statement;
         behind = arm(
-            alloc, typed, s, kind, subject, context, items, part, bits, behind, clocked, env, code,
+            alloc, templates, s, kind, subject, context, items, part, bits, behind, clocked, env,
+            code,
         )?;
     }
     Ok(behind)
@@ -317,7 +329,7 @@ fn branches(
 #[cycle(statements)]
 fn arm(
     alloc: Global,
-    typed: &Typed,
+    templates: &Templates,
     s: u32,
     kind: CaseKind,
     subject: &[u32],
@@ -330,20 +342,20 @@ fn arm(
     env: &mut Environments,
     code: &mut Code,
 ) -> Result<Vec<u32>, AllocError>
-    requires there { s ≤ length typed.now.statements }
-    requires items { All (λ e. e < length typed.now.nodes) items.now }
+    requires there { s ≤ statement_bound templates.now }
+    requires items { All (λ e. e < node_bound templates.now) items.now }
     requires part { part < s }
-    requires ready { IsArmReady (bit_count typed.now.signals) env.old.values env.old.ahead subject.now code.old clocked context.width (map (tree_at (arena_trees typed.now)) items.now) (body_of typed.now part) bits.now behind.items }
+    requires ready { IsArmReady (length env.old.values) env.old.values env.old.ahead subject.now code.old clocked context.width (map (tree_at (arena_trees templates.now.arena)) items.now) (body_of templates.now.arena part) bits.now behind.items }
     requires rising { IsStrictlyIncreasing bits.now }
-    requires inside { All (λ b. b < bit_count typed.now.signals) bits.now }
-    requires among { AreAmong (statement_bits (body_of typed.now part)) bits.now }
-    ensures adds { IfOk result (λ slots. AddsArm clocked env.old.values env.old.ahead subject.now code.old code.new kind context.width context.signed (map (tree_at (arena_trees typed.now)) items.now) (body_of typed.now part) bits.now behind.items slots.items) }
+    requires inside { All (λ b. b < length env.old.values) bits.now }
+    requires among { AreAmong (statement_bits (body_of templates.now.arena part)) bits.now }
+    ensures adds { IfOk result (λ slots. AddsArm clocked env.old.values env.old.ahead subject.now code.old code.new kind context.width context.signed (map (tree_at (arena_trees templates.now.arena)) items.now) (body_of templates.now.arena part) bits.now behind.items slots.items) }
     ensures values { OnOk result (env.new.values ≡ env.old.values) }
     ensures ahead { OnOk result (env.new.ahead ≡ env.old.ahead) }
 {
     let matches = tests(
         alloc,
-        typed,
+        templates,
         kind,
         subject,
         items,
@@ -351,7 +363,7 @@ fn arm(
         &env.values,
         code,
     )?;
-    let first = apart(alloc, typed, s, Some(part), bits, clocked, env, code)?;
+    let first = apart(alloc, templates, s, Some(part), bits, clocked, env, code)?;
     let slots = join_apart(
         alloc,
         matches,

@@ -8,27 +8,29 @@ ghost use Rattle.vs_design.specs.Bodies.{bits_at};
 ghost use Rattle.vs_design.specs.Fits.{fits_target};
 ghost use Rattle.vs_design.specs.Statements.{WordOf, target_width};
 ghost use Rattle.vs_design.specs.Values.{bits_of_signal, word_places};
-ghost use Rattle.vs_flat.specs.Arena.{bit_count};
+ghost use Rattle.vs_design.specs.Within.{signal_within, target_within};
 ghost use Rattle.vs_flat.specs.DesignOf.{arena_signals, arena_trees};
 ghost use Rattle.vs_flat.specs.Trees.{signal_at, tree_at};
 ghost use Rattle.vs_values.specs.Coded.{with_call};
 ghost use Rattle.vs_values.specs.Constants.{constant_bits};
 ghost use Rattle.vs_values.specs.Environments.{placed, put_at};
-ghost use Rattle.vs_lower.specs.Leaves.{IsInside, joined_target, leaf_target};
+ghost use Rattle.vs_values.specs.Templates.{node_bound};
+ghost use Rattle.vs_lower.specs.Leaves.{IsInside, IsNamed, joined_target, leaf_target, named_signal};
 ghost use Rattle.vs_values.specs.Made.{IsCallable};
 ghost use Rattle.vs_lower.specs.Written.{AddsWrites, AreIndexed, HasRoom, IsIndex, IsIndexed, write_weight};
 
 use crate::leaves::Leaf;
+use crate::named::{Named, declared, named_bits};
+use crate::reach::reach;
 use std::alloc::{AllocError, Global};
 use vs_base::List;
 use vs_code::AnyKernel;
-use vs_flat::{bits_of, lawful_law, trees_law};
+use vs_flat::bits_of;
 use vs_kern_select::{Addresses, Selection};
 use vs_shape::{Part, Places, places_of};
-use vs_typed::Typed;
 use vs_values::{
-    Code, Environment, are_constant, constant_bits, first_of_word, memory_addresses, numbers,
-    place, signal_bits, signal_slots, triple, word_width,
+    Code, Environment, Templates, are_constant, constant_bits, first_of_word, memory_addresses,
+    numbers, picked, place, triple, word_width,
 };
 
 /// Gives the bit at a place of the signal that begins with bit `first` another slot, where there is that place.
@@ -39,7 +41,7 @@ fn set_at(
     slot: u32,
 ) -> Result<(), AllocError>
     requires inside { (n : ℕ) → place ≡ Some n → first + n < length env.old }
-    requires few { length env.old < 2 ^ 32 }
+    requires few { (n : ℕ) → place ≡ Some n → first + n < 2 ^ 32 }
     ensures { OnOk result (env.new ≡ put_at env.old (option_map (λ n. first + n) place) slot) }
 {
     match place {
@@ -57,7 +59,7 @@ fn place_at(
 ) -> Result<(), AllocError>
     requires alike { length places.now ≡ length value.now }
     requires inside { (k n : ℕ) → slice_index_or places.now k None ≡ Some n → first + n < length env.old }
-    requires few { length env.old < 2 ^ 32 }
+    requires few { (k n : ℕ) → slice_index_or places.now k None ≡ Some n → first + n < 2 ^ 32 }
     ensures { OnOk result (env.new ≡ placed env.old (map (λ p. option_map (λ n. first + n) p) places.now) value.now) }
 {
     for k in 0..places.len() {
@@ -69,24 +71,22 @@ fn place_at(
 /// Gives the bits of a select by a constant index these slots.
 fn place_select(
     alloc: Global,
-    typed: &Typed,
+    templates: &Templates,
     env: &mut Environment,
-    signal: u32,
+    signal: Named,
     selection: Selection,
     index: &[u32],
     value: &[u32],
 ) -> Result<(), AllocError>
-    requires signal { signal < length typed.now.signals }
-    requires bits { length env.old ≡ bit_count typed.now.signals }
-    requires of_range { selects.range_length selection.range ≡ signal_length (signal_at (arena_signals typed.now) signal) }
+    requires signal { IsNamed templates.now.arena signal }
+    requires within { signal_within (length env.old) (named_signal templates.now.arena signal) ≡ true }
+    requires of_range { selects.range_length selection.range ≡ signal_length (named_signal templates.now.arena signal) }
     requires some { 1 ≤ length value.now }
     requires most { length value.now ≤ 64 }
     requires some_index { 1 ≤ length index.now }
     requires index { length index.now ≤ 64 }
-    ensures { OnOk result (env.new ≡ placed env.old (bits_at (signal_at (arena_signals typed.now) signal) (selects.places (record { range = selection.range; up = selection.up; width = length value.now }) selection.signed (constant_bits index.now))) value.now) }
+    ensures { OnOk result (env.new ≡ placed env.old (bits_at (named_signal templates.now.arena signal) (selects.places (record { range = selection.range; up = selection.up; width = length value.now }) selection.signed (constant_bits index.now))) value.now) }
 {
-    trees_law();
-    lawful_law();
     let bits = constant_bits(alloc, index)?;
     let part = Part {
         range: selection.range,
@@ -94,49 +94,46 @@ fn place_select(
         width: value.len() as u32,
     };
     let places = places_of(part, selection.signed, bits);
-    let first = typed.flat().signal(signal).first_bit;
+    let first = declared(templates, signal).first_bit;
     place_at(env, first, &places, value)
 }
 
 /// Gives a whole signal these slots.
 fn place_signal(
     alloc: Global,
-    typed: &Typed,
+    templates: &Templates,
     env: &mut Environment,
-    signal: u32,
+    signal: Named,
     value: &[u32],
 ) -> Result<(), AllocError>
-    requires signal { signal < length typed.now.signals }
-    requires bits { length env.old ≡ bit_count typed.now.signals }
-    requires alike { length value.now ≡ signal_length (signal_at (arena_signals typed.now) signal) }
-    ensures { OnOk result (env.new ≡ placed env.old (map Some (bits_of_signal (signal_at (arena_signals typed.now) signal))) value.now) }
+    requires signal { IsNamed templates.now.arena signal }
+    requires within { signal_within (length env.old) (named_signal templates.now.arena signal) ≡ true }
+    requires alike { length value.now ≡ signal_length (named_signal templates.now.arena signal) }
+    ensures { OnOk result (env.new ≡ placed env.old (map Some (bits_of_signal (named_signal templates.now.arena signal))) value.now) }
 {
-    typed.flat();
-    let bits = signal_bits(alloc, typed, signal)?;
+    let bits = named_bits(alloc, templates, signal)?;
     place(env, bits.as_slice(), value)
 }
 
 /// Gives the bits of a word by a constant address these slots; none where no word has it.
 fn place_word(
     alloc: Global,
-    typed: &Typed,
+    templates: &Templates,
     env: &mut Environment,
     signal: u32,
     signed: bool,
     address: &[u32],
     value: &[u32],
 ) -> Result<(), AllocError>
-    requires signal { signal < length typed.now.signals }
-    requires bits { length env.old ≡ bit_count typed.now.signals }
-    requires alike { length value.now ≡ word_length (signal_at (arena_signals typed.now) signal) }
+    requires signal { signal < length templates.now.arena.signals }
+    requires within { signal_within (length env.old) (signal_at (arena_signals templates.now.arena) signal) ≡ true }
+    requires alike { length value.now ≡ word_length (signal_at (arena_signals templates.now.arena) signal) }
     requires some_address { 1 ≤ length address.now }
     requires address { length address.now ≤ 64 }
-    ensures { OnOk result (env.new ≡ placed env.old (bits_at (signal_at (arena_signals typed.now) signal) (word_places (signal_at (arena_signals typed.now) signal) signed (constant_bits address.now))) value.now) }
+    ensures { OnOk result (env.new ≡ placed env.old (bits_at (signal_at (arena_signals templates.now.arena) signal) (word_places (signal_at (arena_signals templates.now.arena) signal) signed (constant_bits address.now))) value.now) }
 {
-    trees_law();
-    lawful_law();
-    typed.flat();
-    let first = first_of_word(alloc, typed, signal, signed, address)?;
+    declared(templates, Named::Global { signal });
+    let first = first_of_word(alloc, templates, signal, signed, address)?;
     match first {
         Some(bit) => {
             let bits = numbers(alloc, bit, value.len() as u32)?;
@@ -167,34 +164,33 @@ fn written_slots(
 /// Writes by a variable index: each bit of the signal gets a new slot.
 fn call_write(
     alloc: Global,
-    typed: &Typed,
+    templates: &Templates,
     env: &mut Environment,
-    signal: u32,
+    signal: Named,
     kernel: AnyKernel,
     index: &[u32],
     value: &[u32],
     code: &mut Code,
 ) -> Result<(), AllocError>
-    requires signal { signal < length typed.now.signals }
-    requires bits { length env.old ≡ bit_count typed.now.signals }
-    requires few { signal_length (signal_at (arena_signals typed.now) signal) < 2 ^ 32 }
-    requires call { IsCallable code.old kernel (map (slice_index env.old) (bits_of_signal (signal_at (arena_signals typed.now) signal)) ∷ index.now ∷ value.now ∷ []) (signal_length (signal_at (arena_signals typed.now) signal)) }
-    ensures code { OnOk result (code.new ≡ with_call code.old kernel (map (slice_index env.old) (bits_of_signal (signal_at (arena_signals typed.now) signal)) ∷ index.now ∷ value.now ∷ []) (signal_length (signal_at (arena_signals typed.now) signal))) }
-    ensures env { OnOk result (env.new ≡ placed env.old (map Some (bits_of_signal (signal_at (arena_signals typed.now) signal))) (range_with_len code.old.next (signal_length (signal_at (arena_signals typed.now) signal)))) }
+    requires signal { IsNamed templates.now.arena signal }
+    requires within { signal_within (length env.old) (named_signal templates.now.arena signal) ≡ true }
+    requires call { IsCallable code.old kernel (map (slice_index env.old) (bits_of_signal (named_signal templates.now.arena signal)) ∷ index.now ∷ value.now ∷ []) (signal_length (named_signal templates.now.arena signal)) }
+    ensures code { OnOk result (code.new ≡ with_call code.old kernel (map (slice_index env.old) (bits_of_signal (named_signal templates.now.arena signal)) ∷ index.now ∷ value.now ∷ []) (signal_length (named_signal templates.now.arena signal))) }
+    ensures env { OnOk result (env.new ≡ placed env.old (map Some (bits_of_signal (named_signal templates.now.arena signal))) (range_with_len code.old.next (signal_length (named_signal templates.now.arena signal)))) }
 {
-    let under = signal_slots(alloc, typed, env, signal)?;
-    let width = under.as_slice().len() as u32;
+    let bits = named_bits(alloc, templates, signal)?;
+    let under = picked(alloc, env, bits.as_slice())?;
+    let width = bits_of(declared(templates, signal));
     let at = Vec::from_slice(alloc, index)?;
     let with = Vec::from_slice(alloc, value)?;
     let to = written_slots(alloc, kernel, under, at, with, width, code)?;
-    place_signal(alloc, typed, env, signal, to.as_slice())?;
-    Ok(())
+    place(env, bits.as_slice(), to.as_slice())
 }
 
 /// Adds the calls of a write to a word of a memory, whose address is in these slots.
 fn write_word(
     alloc: Global,
-    typed: &Typed,
+    templates: &Templates,
     env: &mut Environment,
     signal: u32,
     at: u32,
@@ -202,65 +198,66 @@ fn write_word(
     value: &[u32],
     code: &mut Code,
 ) -> Result<(), AllocError>
-    requires signal { signal < length typed.now.signals }
-    requires at { at < length typed.now.nodes }
-    requires room { HasRoom (bit_count typed.now.signals) env.old code.old (write_weight (WordOf (signal_at (arena_signals typed.now) signal) (tree_at (arena_trees typed.now) at))) }
-    requires fit { fits_target (WordOf (signal_at (arena_signals typed.now) signal) (tree_at (arena_trees typed.now) at)) ≡ true }
-    requires long { length value.now ≡ word_length (signal_at (arena_signals typed.now) signal) }
+    requires signal { signal < length templates.now.arena.signals }
+    requires at { at < node_bound templates.now }
+    requires within { signal_within (length env.old) (signal_at (arena_signals templates.now.arena) signal) ≡ true }
+    requires room { HasRoom env.old code.old (write_weight (WordOf (signal_at (arena_signals templates.now.arena) signal) (tree_at (arena_trees templates.now.arena) at))) }
+    requires fit { fits_target (WordOf (signal_at (arena_signals templates.now.arena) signal) (tree_at (arena_trees templates.now.arena) at)) ≡ true }
+    requires long { length value.now ≡ word_length (signal_at (arena_signals templates.now.arena) signal) }
     requires value { All (λ slot. slot < code.old.next) value.now }
     requires address { All (λ slot. slot < code.old.next) address.now }
-    requires indexed { IsIndex (tree_at (arena_trees typed.now) at) address.now }
-    ensures { OnOk result (AddsWrites env.old env.new code.old code.new (WordOf (signal_at (arena_signals typed.now) signal) (tree_at (arena_trees typed.now) at)) (address.now ∷ []) value.now (write_weight (WordOf (signal_at (arena_signals typed.now) signal) (tree_at (arena_trees typed.now) at)))) }
+    requires indexed { IsIndex (tree_at (arena_trees templates.now.arena) at) address.now }
+    ensures { OnOk result (AddsWrites env.old env.new code.old code.new (WordOf (signal_at (arena_signals templates.now.arena) signal) (tree_at (arena_trees templates.now.arena) at)) (address.now ∷ []) value.now (write_weight (WordOf (signal_at (arena_signals templates.now.arena) signal) (tree_at (arena_trees templates.now.arena) at)))) }
 {
-    typed.flat();
-    let signed = typed.signed(at);
+    reach(templates);
+    let signed = templates.signed(at);
     if are_constant(address) {
-        place_word(alloc, typed, env, signal, signed, address, value)?;
+        place_word(alloc, templates, env, signal, signed, address, value)?;
         return Ok(());
     }
-    let range = memory_addresses(typed, signal);
+    let range = memory_addresses(templates, signal);
     let kernel = AnyKernel::Select(vs_kern_select::Kernel::WriteWord(Addresses { range, signed }));
-    call_write(alloc, typed, env, signal, kernel, address, value, code)?;
+    let signal = Named::Global { signal };
+    call_write(alloc, templates, env, signal, kernel, address, value, code)?;
     Ok(())
 }
 
 /// How many bits a part of a target has.
-fn leaf_width(typed: &Typed, leaf: Leaf) -> u32
-    requires { IsInside typed.now leaf }
-    ensures { result ≡ target_width (leaf_target typed.now leaf) }
+fn leaf_width(templates: &Templates, leaf: Leaf) -> u32
+    requires { IsInside templates.now leaf }
+    ensures { result ≡ target_width (leaf_target templates.now.arena leaf) }
 {
-    trees_law();
-    lawful_law();
     match leaf {
-        Leaf::Whole { signal } => bits_of(typed.flat().signal(signal)),
+        Leaf::Whole { signal } => bits_of(declared(templates, signal)),
         Leaf::Select { width, .. } => width,
-        Leaf::Word { signal, .. } => word_width(typed, signal),
+        Leaf::Word { signal, .. } => word_width(templates, signal),
     }
 }
 
 /// Adds the calls of a write to a part of a target, whose index is in these slots.
 fn write_leaf(
     alloc: Global,
-    typed: &Typed,
+    templates: &Templates,
     env: &mut Environment,
     leaf: Leaf,
     index: &[u32],
     value: &[u32],
     code: &mut Code,
 ) -> Result<(), AllocError>
-    requires inside { IsInside typed.now leaf }
-    requires room { HasRoom (bit_count typed.now.signals) env.old code.old (write_weight (leaf_target typed.now leaf)) }
-    requires fit { fits_target (leaf_target typed.now leaf) ≡ true }
-    requires long { length value.now ≡ target_width (leaf_target typed.now leaf) }
+    requires inside { IsInside templates.now leaf }
+    requires names { target_within (length env.old) (leaf_target templates.now.arena leaf) ≡ true }
+    requires room { HasRoom env.old code.old (write_weight (leaf_target templates.now.arena leaf)) }
+    requires fit { fits_target (leaf_target templates.now.arena leaf) ≡ true }
+    requires long { length value.now ≡ target_width (leaf_target templates.now.arena leaf) }
     requires value { All (λ slot. slot < code.old.next) value.now }
     requires index { All (λ slot. slot < code.old.next) index.now }
-    requires indexed { IsIndexed (leaf_target typed.now leaf) index.now }
-    ensures { OnOk result (AddsWrites env.old env.new code.old code.new (leaf_target typed.now leaf) (index.now ∷ []) value.now (write_weight (leaf_target typed.now leaf))) }
+    requires indexed { IsIndexed (leaf_target templates.now.arena leaf) index.now }
+    ensures { OnOk result (AddsWrites env.old env.new code.old code.new (leaf_target templates.now.arena leaf) (index.now ∷ []) value.now (write_weight (leaf_target templates.now.arena leaf))) }
 {
-    typed.flat();
+    reach(templates);
     match leaf {
         Leaf::Whole { signal } => {
-            place_signal(alloc, typed, env, signal, value)?;
+            place_signal(alloc, templates, env, signal, value)?;
             Ok(())
         }
         Leaf::Select {
@@ -272,19 +269,19 @@ fn write_leaf(
         } => {
             let selection = Selection {
                 range,
-                signed: typed.signed(at),
+                signed: templates.signed(at),
                 up,
             };
             if are_constant(index) {
-                place_select(alloc, typed, env, signal, selection, index, value)?;
+                place_select(alloc, templates, env, signal, selection, index, value)?;
                 return Ok(());
             }
             let kernel = AnyKernel::Select(vs_kern_select::Kernel::Write(selection));
-            call_write(alloc, typed, env, signal, kernel, index, value, code)?;
+            call_write(alloc, templates, env, signal, kernel, index, value, code)?;
             Ok(())
         }
         Leaf::Word { signal, index: at } => {
-            write_word(alloc, typed, env, signal, at, index, value, code)
+            write_word(alloc, templates, env, signal, at, index, value, code)
         }
     }
 }
@@ -292,7 +289,7 @@ fn write_leaf(
 /// Adds the calls of a write to the parts of a target, whose indices are in these slots. All of them were lowered before, so an index has its value from before the write.
 pub(crate) fn write_leaves(
     alloc: Global,
-    typed: &Typed,
+    templates: &Templates,
     env: &mut Environment,
     leaves: &[Leaf],
     indices: &[List<u32>],
@@ -300,19 +297,20 @@ pub(crate) fn write_leaves(
     code: &mut Code,
 ) -> Result<(), AllocError>
     requires some { 1 ≤ length leaves.now }
-    requires inside { All (IsInside typed.now) leaves.now }
-    requires fit { All (λ leaf. fits_target (leaf_target typed.now leaf) ≡ true) leaves.now }
-    requires room { HasRoom (bit_count typed.now.signals) env.old code.old (sum_by write_weight (map (leaf_target typed.now) leaves.now)) }
-    requires long { length value.now ≡ sum_by target_width (map (leaf_target typed.now) leaves.now) }
+    requires inside { All (IsInside templates.now) leaves.now }
+    requires names { All (λ leaf. target_within (length env.old) (leaf_target templates.now.arena leaf) ≡ true) leaves.now }
+    requires fit { All (λ leaf. fits_target (leaf_target templates.now.arena leaf) ≡ true) leaves.now }
+    requires room { HasRoom env.old code.old (sum_by write_weight (map (leaf_target templates.now.arena) leaves.now)) }
+    requires long { length value.now ≡ sum_by target_width (map (leaf_target templates.now.arena) leaves.now) }
     requires value { All (λ slot. slot < code.old.next) value.now }
     requires indices { All (λ ti. All (λ slot. slot < code.old.next) ti) indices.now }
-    requires indexed { AreIndexed (map (leaf_target typed.now) leaves.now) indices.now }
-    ensures { OnOk result (AddsWrites env.old env.new code.old code.new (joined_target (map (leaf_target typed.now) leaves.now)) indices.now value.now (sum_by write_weight (map (leaf_target typed.now) leaves.now))) }
+    requires indexed { AreIndexed (map (leaf_target templates.now.arena) leaves.now) indices.now }
+    ensures { OnOk result (AddsWrites env.old env.new code.old code.new (joined_target (map (leaf_target templates.now.arena) leaves.now)) indices.now value.now (sum_by write_weight (map (leaf_target templates.now.arena) leaves.now))) }
 {
-    let low = value.len() - leaf_width(typed, leaves[0]) as usize;
+    let low = value.len() - leaf_width(templates, leaves[0]) as usize;
     write_leaf(
         alloc,
-        typed,
+        templates,
         env,
         leaves[0],
         indices[0].as_slice(),
@@ -322,7 +320,7 @@ pub(crate) fn write_leaves(
     if leaves.len() > 1 {
         write_leaves(
             alloc,
-            typed,
+            templates,
             env,
             &leaves[1..],
             &indices[1..],

@@ -8,6 +8,7 @@ use Rattle.vs_design.specs.Expressions.{Expression, Items, NoItem, Item, items_o
 use Rattle.vs_design.specs.Statements.{Statement, Arms, Arm, Default, widest, all_signed, arms_width, arms_sign}
 use Rattle.vs_design.specs.Fits.{is_fit, fit_items, fits_statement, fits_arms}
 use Rattle.vs_flat.specs.declared.statements.Arm as F
+use Rattle.vs_design.specs.Within.{items_within, statement_within, arms_within}
 use Rattle.vs_flat.specs.Trees as R
 use Rattle.std.specs.Prelude.{if◌then◌else◌}
 use Rattle.std.proofs.lemmas.Bool.{cond-true, cond-false}
@@ -41,6 +42,12 @@ pub each_within : (w : ℕ) (tree : ℕ → Expression) (ns : List ℕ) (k : ℕ
 each_within w tree ns k h inside = let e = each_true (λ e. nat_le (width e) w) tree ns k h inside in grind (arith, nat_tests, e)
 
 -- ---- arms
+
+pub arm_items_within : (count : ℕ) (tree : ℕ → Expression) (statement : ℕ → Statement) (other : Option ℕ) (arms : List F.Arm) (k : ℕ) (d : F.Arm) → arms_within count (R.arms_tree tree statement other arms) ≡ true → k < length arms
+    → items_within count (items_of (map tree ((get_or arms k d).items))) ≡ true
+arm_items_within count tree statement other [] k d h inside = absurd (omega arith)
+arm_items_within count tree statement other (x ∷ arms) zero d h inside = and_left _ _ (and_left (items_within count (items_of (map tree x.items)) && statement_within count (statement x.statement)) _ h)
+arm_items_within count tree statement other (x ∷ arms) (suc k) d h inside = arm_items_within count tree statement other arms k d (and_right (items_within count (items_of (map tree x.items)) && statement_within count (statement x.statement)) _ h) (omega arith)
 
 pub arm_fit : (tree : ℕ → Expression) (statement : ℕ → Statement) (other : Option ℕ) (arms : List F.Arm) (k : ℕ) (d : F.Arm) → fits_arms (R.arms_tree tree statement other arms) ≡ true → k < length arms
     → fit_items (items_of (map tree ((get_or arms k d).items))) ≡ true
@@ -92,17 +99,17 @@ arms_grow (Default s) w = omega arith
 within_test : (m n : ℕ) → m ≤ n → nat_le m n ≡ true
 within_test m n h = grind (arith, nat_tests, h)
 
-items_within : (w : ℕ) (es : List Expression) (top : ℕ) → widest w (items_of es) ≤ top → are_within top es ≡ true
-items_within w [] top h = refl
-items_within w (e ∷ es) top h =
-    and_both (nat_le (width e) top) (are_within top es) (within_test (width e) top (omega (arith, widest_grows (max w (width e)) (items_of es), h))) (items_within (max w (width e)) es top h)
+each_item : (w : ℕ) (es : List Expression) (top : ℕ) → widest w (items_of es) ≤ top → are_within top es ≡ true
+each_item w [] top h = refl
+each_item w (e ∷ es) top h =
+    and_both (nat_le (width e) top) (are_within top es) (within_test (width e) top (omega (arith, widest_grows (max w (width e)) (items_of es), h))) (each_item (max w (width e)) es top h)
 
 -- each arm's items are no longer than the case
 pub arm_within : (tree : ℕ → Expression) (statement : ℕ → Statement) (other : Option ℕ) (arms : List F.Arm) (w top k : ℕ) → arms_width (R.arms_tree tree statement other arms) w ≤ top → k < length arms
     → are_within top (map tree (items_at arms k)) ≡ true
 arm_within tree statement other [] w top k h inside = absurd (omega arith)
 arm_within tree statement other (arm ∷ arms) w top zero h inside =
-    items_within w (map tree arm.items) top (omega (arith, arms_grow (R.arms_tree tree statement other arms) (widest w (items_of (map tree arm.items))), h))
+    each_item w (map tree arm.items) top (omega (arith, arms_grow (R.arms_tree tree statement other arms) (widest w (items_of (map tree arm.items))), h))
 arm_within tree statement other (arm ∷ arms) w top (suc k) h inside = arm_within tree statement other arms (widest w (items_of (map tree arm.items))) top k h (omega arith)
 
 pub width_at_once : (arms : Arms) (w : ℕ) → arms_width (arms_at_once arms) w ≡ arms_width arms w

@@ -60,7 +60,7 @@ member (x ∷ xs) (suc k) d h = ap (λ q. (get_or xs k d == x) || q) (member xs 
 pub all_below : (bits : List ℕ) (n : ℕ) → ((b : ℕ) → contains bits b ≡ true → b < n) → All (λ b. b < n) bits
 all_below bits n h k d inside = h (get_or bits k d) (member bits k d inside)
 
-count_member : (first n b : ℕ) → contains (count_from first n) b ≡ true → b < first + n
+pub count_member : (first n b : ℕ) → contains (count_from first n) b ≡ true → b < first + n
 count_member first zero b h = absurd (let z : ⊥ = cc in z)
 count_member first (suc n) b h = at (same_or_other b first) h (count_member (suc first) n b) where
   at : (((b == first) ≡ true) × (b ≡ first)) ⊎ (((b == first) ≡ false) × (b ≢ first)) → ((b == first) || contains (count_from (suc first) n) b) ≡ true → (contains (count_from (suc first) n) b ≡ true → b < suc first + n) → b < first + suc n

@@ -1,9 +1,11 @@
 pub mod Steps
 pub mod Fit
+pub mod Measures
 pub mod Widths
 pub mod WordSteps
 pub mod ExtremeSteps
 pub mod Names
+pub mod Limits
 pub mod Joins
 pub mod Families
 pub mod TargetFacts
@@ -15,3 +17,6 @@ pub mod Running
 pub mod AtOnce
 pub mod TwiceSteps
 pub mod FlagSteps
+pub mod WrittenBits
+pub mod Callees
+pub mod Arguments

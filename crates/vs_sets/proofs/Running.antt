@@ -10,7 +10,8 @@ use Rattle.std.proofs.lemmas.List.Folds.{list_any-append}
 use Rattle.std.proofs.lemmas.Bool.{cond-true, cond-false}
 use Rattle.vs_design.specs.Footprints.{contains, statement_bits, arms_bits}
 use Rattle.vs_design.specs.Expressions.{Expression}
-use Rattle.vs_design.specs.Statements.{Statement, Empty, If}
+use Rattle.vs_design.specs.Statements.{Statement, Empty, If, Arms}
+use Rattle.vs_design.specs.Within.{items_within, statement_within, arms_within}
 use Rattle.vs_design.specs.Fits.{fits_statement, fits_arms}
 use Rattle.vs_four.specs.declared.Bit4.TheVariants.{X}
 use Rattle.vs_design.specs.Sets.{union, only, is_only_x}
@@ -49,58 +50,82 @@ right_covers bits xs ys h b k = h b (list_any-append (λ c. b == c) xs ys ∙ ap
 nothing_covered : (bits : List ℕ) → Covers bits Empty
 nothing_covered bits b h = absurd (let z : ⊥ = cc in z)
 
-sequence_facts : (st : ℕ → Statement) (bits parts : List ℕ) (k : ℕ) → fits_statement (R.sequence (map st parts)) ≡ true → Covers bits (R.sequence (map st parts)) → k < length parts
-    → (fits_statement (st (get_or parts k 0)) ≡ true) × Covers bits (st (get_or parts k 0))
-sequence_facts st bits [] k h c inside = absurd (omega arith)
-sequence_facts st bits (p ∷ []) zero h c inside = (h, c)
-sequence_facts st bits (p ∷ []) (suc k) h c inside = absurd (omega arith)
-sequence_facts st bits (p ∷ q ∷ parts) zero h c inside = (and_left _ _ h, left_covers bits (statement_bits (st p)) (statement_bits (R.sequence (map st (q ∷ parts)))) c)
-sequence_facts st bits (p ∷ q ∷ parts) (suc k) h c inside =
-    sequence_facts st bits (q ∷ parts) k (and_right (fits_statement (st p)) _ h) (right_covers bits (statement_bits (st p)) (statement_bits (R.sequence (map st (q ∷ parts)))) c) (omega arith)
+record IsRun (bits : List ℕ) (count : ℕ) (s : Statement) : Type 0 where
+  fits : fits_statement s ≡ true
+  within : statement_within count s ≡ true
+  covers : Covers bits s
 
-pub parts_run : (a : Arena) (n : ℕ) (bits parts : List ℕ) → ((k : ℕ) → k < length parts → slice_index parts k < n) → fits_statement (R.sequence (map (statement_of a) parts)) ≡ true
-    → Covers bits (R.sequence (map (statement_of a) parts)) → EachRuns a n bits parts
-parts_run a n bits parts below fit covers k inside =
-    let facts = sequence_facts (statement_of a) bits parts k fit covers inside in
-    record { earlier = below k inside; fits = facts.0; covers = facts.1 }
+sequence_facts : (st : ℕ → Statement) (bits : List ℕ) (count : ℕ) (parts : List ℕ) (k : ℕ) → IsRun bits count (R.sequence (map st parts)) → k < length parts → IsRun bits count (st (get_or parts k 0))
+sequence_facts st bits count [] k h inside = absurd (omega arith)
+sequence_facts st bits count (p ∷ []) zero h inside = h
+sequence_facts st bits count (p ∷ []) (suc k) h inside = absurd (omega arith)
+sequence_facts st bits count (p ∷ q ∷ parts) zero h inside = record {
+  fits = and_left _ _ h.fits;
+  within = and_left _ _ h.within;
+  covers = left_covers bits (statement_bits (st p)) (statement_bits (R.sequence (map st (q ∷ parts)))) h.covers;
+}
+sequence_facts st bits count (p ∷ q ∷ parts) (suc k) h inside =
+    let rest : IsRun bits count (R.sequence (map st (q ∷ parts))) = record {
+      fits = and_right (fits_statement (st p)) _ h.fits;
+      within = and_right (statement_within count (st p)) _ h.within;
+      covers = right_covers bits (statement_bits (st p)) (statement_bits (R.sequence (map st (q ∷ parts)))) h.covers;
+    } in
+    sequence_facts st bits count (q ∷ parts) k rest (omega arith)
+
+pub parts_run : (a : Arena) (count n : ℕ) (bits parts : List ℕ) → ((k : ℕ) → k < length parts → slice_index parts k < n) → fits_statement (R.sequence (map (statement_of a) parts)) ≡ true
+    → statement_within count (R.sequence (map (statement_of a) parts)) ≡ true → Covers bits (R.sequence (map (statement_of a) parts)) → EachRuns a count n bits parts
+parts_run a count n bits parts below fit within covers k inside =
+    let facts = sequence_facts (statement_of a) bits count parts k (record { fits = fit; within = within; covers = covers }) inside in
+    record { earlier = below k inside; fits = facts.fits; within = facts.within; covers = facts.covers }
 
 -- ---- branches of an `if`
 
-pub either_facts : (a : Arena) (n : ℕ) (bits : List ℕ) (taken : ℕ) (other : Option ℕ) (c : Expression) → taken < n → BranchBelow n other → fits_statement (statement_of a taken) ≡ true
-    → fits_statement (R.branch (statement_of a) other) ≡ true → Covers bits (If c (statement_of a taken) (R.branch (statement_of a) other)) → (b : Option ℕ) → IsEither taken other b → BranchFacts a n bits b
-either_facts a n bits taken other c below otherwise fit fits covers b (inl e) =
-    subst (BranchFacts a n bits) (sym e) (record { earlier = below; fits = fit; covers = left_covers bits (statement_bits (statement_of a taken)) (statement_bits (R.branch (statement_of a) other)) covers })
-either_facts a n bits taken other c below otherwise fit fits covers b (inr e) =
-    subst (BranchFacts a n bits) (sym e) (record { earlier = otherwise; fits = fits; covers = right_covers bits (statement_bits (statement_of a taken)) (statement_bits (R.branch (statement_of a) other)) covers })
+pub either_facts : (a : Arena) (count n : ℕ) (bits : List ℕ) (taken : ℕ) (other : Option ℕ) (c : Expression) → taken < n → BranchBelow n other → fits_statement (statement_of a taken) ≡ true
+    → fits_statement (R.branch (statement_of a) other) ≡ true → statement_within count (statement_of a taken) ≡ true → statement_within count (R.branch (statement_of a) other) ≡ true
+    → Covers bits (If c (statement_of a taken) (R.branch (statement_of a) other)) → (b : Option ℕ) → IsEither taken other b → BranchFacts a count n bits b
+either_facts a count n bits taken other c below otherwise fit fits within others covers b (inl e) =
+    subst (BranchFacts a count n bits) (sym e) (record { earlier = below; fits = fit; within = within; covers = left_covers bits (statement_bits (statement_of a taken)) (statement_bits (R.branch (statement_of a) other)) covers })
+either_facts a count n bits taken other c below otherwise fit fits within others covers b (inr e) =
+    subst (BranchFacts a count n bits) (sym e) (record { earlier = otherwise; fits = fits; within = others; covers = right_covers bits (statement_bits (statement_of a taken)) (statement_bits (R.branch (statement_of a) other)) covers })
 
 -- ---- arms of a case
 
-arm_facts : (tree : ℕ → Expression) (st : ℕ → Statement) (other : Option ℕ) (bits : List ℕ) (arms : List F.Arm) → fits_arms (R.arms_tree tree st other arms) ≡ true
-    → ((b : ℕ) → contains (arms_bits (R.arms_tree tree st other arms)) b ≡ true → contains bits b ≡ true) → (k : ℕ) (arm : F.Arm) → slice_get arms k ≡ Some arm
-    → (fits_statement (st arm.statement) ≡ true) × Covers bits (st arm.statement)
-arm_facts tree st other bits [] h c k arm e = absurd (let z : ⊥ = cc in z)
-arm_facts tree st other bits (x ∷ arms) h c zero arm e =
+record AreRun (bits : List ℕ) (count : ℕ) (arms : Arms) : Type 0 where
+  fits : fits_arms arms ≡ true
+  within : arms_within count arms ≡ true
+  covers : (b : ℕ) → contains (arms_bits arms) b ≡ true → contains bits b ≡ true
+
+rest_run : (tree : ℕ → Expression) (st : ℕ → Statement) (other : Option ℕ) (bits : List ℕ) (count : ℕ) (x : F.Arm) (arms : List F.Arm) → AreRun bits count (R.arms_tree tree st other (x ∷ arms)) → AreRun bits count (R.arms_tree tree st other arms)
+rest_run tree st other bits count x arms h = record {
+  fits = and_right (fit_items (items_of (map tree x.items)) && fits_statement (st x.statement)) _ h.fits;
+  within = and_right (items_within count (items_of (map tree x.items)) && statement_within count (st x.statement)) _ h.within;
+  covers = right_covers bits (statement_bits (st x.statement)) (arms_bits (R.arms_tree tree st other arms)) h.covers;
+}
+
+arm_facts : (tree : ℕ → Expression) (st : ℕ → Statement) (other : Option ℕ) (bits : List ℕ) (count : ℕ) (arms : List F.Arm) → AreRun bits count (R.arms_tree tree st other arms) → (k : ℕ) (arm : F.Arm) → slice_get arms k ≡ Some arm
+    → IsRun bits count (st arm.statement)
+arm_facts tree st other bits count [] h k arm e = absurd (let z : ⊥ = cc in z)
+arm_facts tree st other bits count (x ∷ arms) h zero arm e =
     let same : x ≡ arm = cc in
-    subst (λ (y : F.Arm). (fits_statement (st y.statement) ≡ true) × Covers bits (st y.statement)) same
-    (and_right (fit_items (items_of (map tree x.items))) _ (and_left _ _ h), left_covers bits (statement_bits (st x.statement)) (arms_bits (R.arms_tree tree st other arms)) c)
-arm_facts tree st other bits (x ∷ arms) h c (suc k) arm e =
-    arm_facts tree st other bits arms (and_right (fit_items (items_of (map tree x.items)) && fits_statement (st x.statement)) _ h) (right_covers bits (statement_bits (st x.statement)) (arms_bits (R.arms_tree tree st other arms)) c) k arm e
+    subst (λ (y : F.Arm). IsRun bits count (st y.statement)) same (record {
+      fits = and_right (fit_items (items_of (map tree x.items))) _ (and_left _ _ h.fits);
+      within = and_right (items_within count (items_of (map tree x.items))) _ (and_left _ _ h.within);
+      covers = left_covers bits (statement_bits (st x.statement)) (arms_bits (R.arms_tree tree st other arms)) h.covers;
+    })
+arm_facts tree st other bits count (x ∷ arms) h (suc k) arm e = arm_facts tree st other bits count arms (rest_run tree st other bits count x arms h) k arm e
 
-other_facts : (tree : ℕ → Expression) (st : ℕ → Statement) (other : Option ℕ) (bits : List ℕ) (arms : List F.Arm) → fits_arms (R.arms_tree tree st other arms) ≡ true
-    → ((b : ℕ) → contains (arms_bits (R.arms_tree tree st other arms)) b ≡ true → contains bits b ≡ true)
-    → (fits_statement (R.branch st other) ≡ true) × Covers bits (R.branch st other)
-other_facts tree st other bits [] h c = (h, c)
-other_facts tree st other bits (x ∷ arms) h c =
-    other_facts tree st other bits arms (and_right (fit_items (items_of (map tree x.items)) && fits_statement (st x.statement)) _ h) (right_covers bits (statement_bits (st x.statement)) (arms_bits (R.arms_tree tree st other arms)) c)
+other_facts : (tree : ℕ → Expression) (st : ℕ → Statement) (other : Option ℕ) (bits : List ℕ) (count : ℕ) (arms : List F.Arm) → AreRun bits count (R.arms_tree tree st other arms) → IsRun bits count (R.branch st other)
+other_facts tree st other bits count [] h = record { fits = h.fits; within = h.within; covers = h.covers }
+other_facts tree st other bits count (x ∷ arms) h = other_facts tree st other bits count arms (rest_run tree st other bits count x arms h)
 
-pub case_facts : (a : Arena) (nodes n : ℕ) (bits : List ℕ) (arms : List F.Arm) (other : Option ℕ) → ArmsBelow nodes n arms → BranchBelow n other → fits_arms (arms_of a other arms) ≡ true
-    → ((b : ℕ) → contains (arms_bits (arms_of a other arms)) b ≡ true → contains bits b ≡ true) → (b : Option ℕ) → IsOneOf arms other b → BranchFacts a n bits b
-case_facts a nodes n bits arms other below otherwise fit covers b (inl e) =
-    let facts = other_facts (tree_of a) (statement_of a) other bits arms fit covers in
-    subst (BranchFacts a n bits) (sym e) (record { earlier = otherwise; fits = facts.0; covers = facts.1 })
-case_facts a nodes n bits arms other below otherwise fit covers b (inr i) =
-    let facts = arm_facts (tree_of a) (statement_of a) other bits arms fit covers i.0 i.1 i.2 in
-    subst (BranchFacts a n bits) (sym i.3) (record { earlier = (below i.0 i.1 i.2).1; fits = facts.0; covers = facts.1 })
+pub case_facts : (a : Arena) (count nodes n : ℕ) (bits : List ℕ) (arms : List F.Arm) (other : Option ℕ) → ArmsBelow nodes n arms → BranchBelow n other → fits_arms (arms_of a other arms) ≡ true → arms_within count (arms_of a other arms) ≡ true
+    → ((b : ℕ) → contains (arms_bits (arms_of a other arms)) b ≡ true → contains bits b ≡ true) → (b : Option ℕ) → IsOneOf arms other b → BranchFacts a count n bits b
+case_facts a count nodes n bits arms other below otherwise fit within covers b (inl e) =
+    let facts = other_facts (tree_of a) (statement_of a) other bits count arms (record { fits = fit; within = within; covers = covers }) in
+    subst (BranchFacts a count n bits) (sym e) (record { earlier = otherwise; fits = facts.fits; within = facts.within; covers = facts.covers })
+case_facts a count nodes n bits arms other below otherwise fit within covers b (inr i) =
+    let facts = arm_facts (tree_of a) (statement_of a) other bits count arms (record { fits = fit; within = within; covers = covers }) i.0 i.1 i.2 in
+    subst (BranchFacts a count n bits) (sym i.3) (record { earlier = (below i.0 i.1 i.2).1; fits = facts.fits; within = facts.within; covers = facts.covers })
 
 -- what holds of each that passes
 pub all_facts : {A : Type 0} (P Q : A → Type 0) (xs : List A) → ((x : A) → P x → Q x) → All P xs → All Q xs
@@ -115,44 +140,44 @@ covered_or_not bits b s c h = at (contains (statement_bits s) b) refl where
   at false e = e
 
 -- a bit that no branch writes keeps its set, where there is a branch
-branches_other : (a : Arena) (n : ℕ) (bits : List ℕ) (bs : List (Option ℕ)) (f : Family) (b : ℕ) → All (BranchFacts a n bits) bs → 1 ≤ length bs → contains bits b ≡ false → branch_sets (branches_of a bs) f b ≡ f b
-branches_other a n bits [] f b h some absent = absurd (omega arith)
-branches_other a n bits (x ∷ []) f b h some absent =
+branches_other : (a : Arena) (count n : ℕ) (bits : List ℕ) (bs : List (Option ℕ)) (f : Family) (b : ℕ) → All (BranchFacts a count n bits) bs → 1 ≤ length bs → contains bits b ≡ false → branch_sets (branches_of a bs) f b ≡ f b
+branches_other a count n bits [] f b h some absent = absurd (omega arith)
+branches_other a count n bits (x ∷ []) f b h some absent =
     let here = body_other (R.branch (statement_of a) x) f b (covered_or_not bits b (R.branch (statement_of a) x) (h 0 x (omega arith)).covers absent) in
     Rattle.vs_sets.proofs.BranchSteps.union_none (lifted_body (at_once (R.branch (statement_of a) x)) f b) ∙ here
-branches_other a n bits (x ∷ y ∷ bs) f b h some absent =
+branches_other a count n bits (x ∷ y ∷ bs) f b h some absent =
     let here = body_other (R.branch (statement_of a) x) f b (covered_or_not bits b (R.branch (statement_of a) x) (h 0 x (omega arith)).covers absent) in
-    ap₂ union here (branches_other a n bits (y ∷ bs) f b (λ k d i. h (suc k) d (omega (arith, i))) (omega arith) absent) ∙ union_same (f b)
+    ap₂ union here (branches_other a count n bits (y ∷ bs) f b (λ k d i. h (suc k) d (omega (arith, i))) (omega arith) absent) ∙ union_same (f b)
 
 -- what is put back is as before
-pub back : (a : Arena) (n : ℕ) (bits : List ℕ) (bs : List (Option ℕ)) (f : Family) → All (BranchFacts a n bits) bs → 1 ≤ length bs → replaced bits f (branch_sets (branches_of a bs) f) ≡ f
-back a n bits bs f h some = fun_ext (λ b. at b (contains bits b) refl) where
+pub back : (a : Arena) (count n : ℕ) (bits : List ℕ) (bs : List (Option ℕ)) (f : Family) → All (BranchFacts a count n bits) bs → 1 ≤ length bs → replaced bits f (branch_sets (branches_of a bs) f) ≡ f
+back a count n bits bs f h some = fun_ext (λ b. at b (contains bits b) refl) where
   at : (b : ℕ) (k : Bool) → contains bits b ≡ k → (if contains bits b then f b else branch_sets (branches_of a bs) f b) ≡ f b
   at b true e = cond-true (contains bits b) _ _ e
-  at b false e = cond-false (contains bits b) _ _ e ∙ branches_other a n bits bs f b h some e
+  at b false e = cond-false (contains bits b) _ _ e ∙ branches_other a count n bits bs f b h some e
 
 -- and what is united is the union
-pub both : (a : Arena) (n : ℕ) (bits : List ℕ) (bs cs : List (Option ℕ)) (f : Family) → All (BranchFacts a n bits) bs → 1 ≤ length bs → All (BranchFacts a n bits) cs → 1 ≤ length cs
+pub both : (a : Arena) (count n : ℕ) (bits : List ℕ) (bs cs : List (Option ℕ)) (f : Family) → All (BranchFacts a count n bits) bs → 1 ≤ length bs → All (BranchFacts a count n bits) cs → 1 ≤ length cs
     → replaced bits (either (branch_sets (branches_of a bs) f) (branch_sets (branches_of a cs) f)) (branch_sets (branches_of a cs) f) ≡ either (branch_sets (branches_of a bs) f) (branch_sets (branches_of a cs) f)
-both a n bits bs cs f h some i others = fun_ext (λ b. at b (contains bits b) refl) where
+both a count n bits bs cs f h some i others = fun_ext (λ b. at b (contains bits b) refl) where
   at : (b : ℕ) (k : Bool) → contains bits b ≡ k
       → (if contains bits b then either (branch_sets (branches_of a bs) f) (branch_sets (branches_of a cs) f) b else branch_sets (branches_of a cs) f b) ≡ either (branch_sets (branches_of a bs) f) (branch_sets (branches_of a cs) f) b
   at b true e = cond-true (contains bits b) _ _ e
   at b false e =
-      let x = branches_other a n bits bs f b h some e in
-      let y = branches_other a n bits cs f b i others e in
+      let x = branches_other a count n bits bs f b h some e in
+      let y = branches_other a count n bits cs f b i others e in
       cond-false (contains bits b) _ _ e ∙ y ∙ sym (union_same (f b)) ∙ ap₂ union (sym x) (sym y)
 
 pub branches_append : (a : Arena) (bs cs : List (Option ℕ)) → branches_of a (bs ++ cs) ≡ branches_of a bs ++ branches_of a cs
 branches_append a [] cs = refl
 branches_append a (b ∷ bs) cs = ap (λ xs. at_once (R.branch (statement_of a) b) ∷ xs) (branches_append a bs cs)
 
-pub join_is : (a : Arena) (n : ℕ) (bits : List ℕ) (all left right : List (Option ℕ)) (f t1 t2 t3 t4 : Family) → left ++ right ≡ all → All (BranchFacts a n bits) left → 1 ≤ length left → All (BranchFacts a n bits) right → 1 ≤ length right
+pub join_is : (a : Arena) (count n : ℕ) (bits : List ℕ) (all left right : List (Option ℕ)) (f t1 t2 t3 t4 : Family) → left ++ right ≡ all → All (BranchFacts a count n bits) left → 1 ≤ length left → All (BranchFacts a count n bits) right → 1 ≤ length right
     → t1 ≡ branch_sets (branches_of a left) f → t2 ≡ replaced bits f t1 → t3 ≡ branch_sets (branches_of a right) t2 → t4 ≡ replaced bits (either t1 t3) t3 → t4 ≡ branch_sets (branches_of a all) f
-join_is a n bits all left right f t1 t2 t3 t4 e h some i others p q r s =
-    let back_is : t2 ≡ f = q ∙ ap (replaced bits f) p ∙ back a n bits left f h some in
+join_is a count n bits all left right f t1 t2 t3 t4 e h some i others p q r s =
+    let back_is : t2 ≡ f = q ∙ ap (replaced bits f) p ∙ back a count n bits left f h some in
     let second : t3 ≡ branch_sets (branches_of a right) f = r ∙ ap (branch_sets (branches_of a right)) back_is in
-    s ∙ ap₂ (λ x y. replaced bits (either x y) y) p second ∙ both a n bits left right f h some i others
+    s ∙ ap₂ (λ x y. replaced bits (either x y) y) p second ∙ both a count n bits left right f h some i others
     ∙ sym (branch_sets-append (branches_of a left) (branches_of a right) f) ∙ ap (λ bs. branch_sets bs f) (sym (branches_append a left right)) ∙ ap (λ bs. branch_sets (branches_of a bs) f) e
 
 pub All_same : {A : Type 0} (P : A → Type 0) (xs ys : List A) → xs ≡ ys → All P xs → All P ys

@@ -14,6 +14,7 @@ use Rattle.vs_flat.specs.Named.{statement_names_below, all_below}
 use Rattle.vs_flat.specs.Lawful.{IsLawful}
 use Rattle.vs_flat.specs.Laws.{StatementNames, EachStatement, StatementTargets}
 use Rattle.vs_flat.specs.Trees as R
+use Rattle.vs_sets.specs.Calls.{NamesBelow}
 use Rattle.vs_sets.specs.Nodes.{EachBelow, tree_of}
 use Rattle.vs_sets.specs.StatementParts.{BranchBelow, ArmsBelow, HasStatementNames, FitStatement, HasTargets, statement_of, place_of_statement, statement_of_node}
 use Rattle.vs_sets.proofs.Fit.{and_left, and_right, left3, middle3}
@@ -66,6 +67,11 @@ pub statement_names : StatementNames → (a : A.Arena) (s : ℕ) (x : Statement)
 statement_names law a s x lawful h =
     let f = found_statement a s x h in
     subst (λ (y : Statement). HasStatementNames (length a.nodes) s y) f.is (names (length a.nodes) s f.placed.item (law a lawful.names s f.placed f.at))
+
+pub names_below : (a : A.Arena) (nodes s : ℕ) (x : Statement) → NamesBelow a nodes (suc s) → A.statement_at a s ≡ Some x → HasStatementNames nodes s x
+names_below a nodes s x below h =
+    let f = found_statement a s x h in
+    subst (λ (y : Statement). HasStatementNames nodes s y) f.is (names nodes s f.placed.item (below s f.placed (omega arith) f.at))
 
 pub statement_tree_is : EachStatement → (a : A.Arena) (s : ℕ) (x : Statement) → IsLawful a → A.statement_at a s ≡ Some x → statement_of a s ≡ statement_of_node a (place_of_statement a s) x
 statement_tree_is law a s x lawful h =

@@ -8,7 +8,15 @@ use Rattle.std.proofs.lemmas.List.{length-take, length-drop}
 use Rattle.std.proofs.Math.Seq.{take-length}
 use Rattle.vs_design.specs.Sets.{Set4}
 use Rattle.vs_design.specs.Lifted.{Family}
-use Rattle.vs_design.specs.LiftedBodies.{write_sets}
+use Rattle.std.proofs.lemmas.Bool.{cond-true, cond-false}
+use Rattle.vs_four.specs.Selects.{places}
+use Rattle.vs_design.specs.Expressions.{is_constant, sign}
+use Rattle.vs_design.specs.LiftedBodies.{put_each, widen, write_sets}
+use Rattle.vs_design.specs.Sets.{all_of}
+use Rattle.vs_design.specs.Values.{bits_of_signal, constant_value, count_from}
+use Rattle.vs_design.specs.Within.{names_within, signal_within, target_within}
+use Rattle.vs_sets.specs.Tables.{bits_from}
+use Rattle.vs_sets.proofs.Limits.{signal_ends}
 use Rattle.std.specs.Prelude.{unwrap_or}
 use Rattle.vs_design.specs.Expressions.{Expression, Source, OfSignal, OfConstant, Signal, signal_length, word_length, Literal, Name, Select, Word, Unary, Binary, Choice, Join, Repeat, At, Call, width}
 use Rattle.vs_design.specs.Statements.{Target, Whole, PartOf, WordOf, Both, target_width}
@@ -152,3 +160,39 @@ first_below e parts f rest h same = let k : EachBelow e (f ∷ rest) = subst (Ea
 
 pub rest_below : (e : ℕ) (parts : List ℕ) (f : ℕ) (rest : List ℕ) → EachBelow e parts → parts ≡ f ∷ rest → EachBelow e rest
 rest_below e parts f rest h same = let k : EachBelow e (f ∷ rest) = subst (EachBelow e) same h in λ n i. k (suc n) (omega (arith, i))
+
+-- ---- where the bits of targets are
+
+-- what a select that is a target is taken of
+pub part_signal : (src : Source) (p : Part) (index : Expression) → IsTarget (Select src p index) → (s : Signal) × (src ≡ OfSignal s)
+part_signal (OfSignal s) p index h = (s, refl)
+part_signal (OfConstant bits) p index h = absurd (let i = h.is in let z : ⊥ = cc in z)
+
+pub part_ends : (n : ℕ) (src : Source) (s : Signal) (p : Part) (index : Expression) → src ≡ OfSignal s → target_within n (target_tree (Select src p index)) ≡ true → s.first + signal_length s ≤ n
+part_ends n src s p index e h =
+    let part : (signal_within n s && names_within n index) ≡ true = subst (λ (x : Source). target_within n (target_tree (Select x p index)) ≡ true) e h in
+    signal_ends n s (and_left (signal_within n s) _ part)
+
+pub word_ends_at : (n : ℕ) (s : Signal) (index : Expression) → target_within n (target_tree (Word s index)) ≡ true → s.first + signal_length s ≤ n
+word_ends_at n s index h = signal_ends n s (and_left (signal_within n s) (names_within n index) h)
+
+pub both_within : (tree : ℕ → Expression) (parts : List ℕ) (f : ℕ) (rest : List ℕ) (n : ℕ) → parts ≡ f ∷ rest → 0 < length rest → IsTarget (joined (map tree parts)) → target_within n (target_tree (joined (map tree parts))) ≡ true
+    → (target_within n (target_tree (tree f)) ≡ true) × (target_within n (target_tree (joined (map tree rest))) ≡ true)
+both_within tree parts f rest n e some target h =
+    let whole = ap (λ (ps : List ℕ). joined (map tree ps)) e ∙ joined_more tree f rest some in
+    let facts = both_facts (tree f) (joined (map tree rest)) (subst IsTarget whole target) in
+    let both : (target_within n (target_tree (tree f)) && target_within n (target_tree (joined (map tree rest)))) ≡ true = ap (target_within n) (sym facts.is) ∙ ap (λ x. target_within n (target_tree x)) (sym whole) ∙ h in
+    (and_left (target_within n (target_tree (tree f))) _ both, and_right (target_within n (target_tree (tree f))) _ both)
+
+-- a write to a select by a constant index, and by any other
+pub part_put : (src : Source) (s : Signal) (p : Part) (index : Expression) (first : ℕ) (ps : List (Option ℕ)) (constant : Bool) (sets : List Set4) (f g : Family) → src ≡ OfSignal s → first ≡ s.first → constant ≡ true → constant ≡ is_constant index
+    → ps ≡ places p (sign index) (constant_value index) → g ≡ put_each (bits_from first ps) sets f → g ≡ write_sets (target_tree (Select src p index)) sets f
+part_put src s p index first ps constant sets f g e begins known is places_are written =
+    written ∙ ap₂ (λ m qs. put_each (bits_from m qs) sets f) begins places_are
+    ∙ sym (cond-true (is_constant index) _ _ (sym is ∙ known)) ∙ ap (λ x. write_sets (target_tree (Select x p index)) sets f) (sym e)
+
+pub part_widened : (src : Source) (s : Signal) (p : Part) (index : Expression) (first len : ℕ) (constant : Bool) (set : Set4) (sets : List Set4) (f g : Family) → src ≡ OfSignal s → first ≡ s.first → len ≡ signal_length s → constant ≡ false → constant ≡ is_constant index
+    → set ≡ all_of sets → g ≡ widen (count_from first len) set f → g ≡ write_sets (target_tree (Select src p index)) sets f
+part_widened src s p index first len constant set sets f g e begins long unknown is all written =
+    written ∙ ap₂ (λ m n. widen (count_from m n) set f) begins long ∙ ap (λ x. widen (bits_of_signal s) x f) all
+    ∙ sym (cond-false (is_constant index) _ _ (sym is ∙ unknown)) ∙ ap (λ x. write_sets (target_tree (Select x p index)) sets f) (sym e)

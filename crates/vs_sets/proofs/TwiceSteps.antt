@@ -4,18 +4,19 @@ use Rattle.std.specs.Prelude.{◌&&◌, ◌||◌, ◌==◌, nat_le, if◌then◌
 use Rattle.std.proofs.lemmas.List.{drop_more}
 use Rattle.std.proofs.lemmas.List.Folds.{list_any-append}
 use Rattle.std.proofs.lemmas.Bool.Decides.{nat_tests}
-use Rattle.vs_design.specs.Expressions.{Expression}
+use Rattle.vs_design.specs.Expressions.{Expression, items_of}
 use Rattle.vs_design.specs.Statements.{Statement, Empty, Assignment, Then, If, Case, Arms, Arm, Default}
 use Rattle.vs_design.specs.Footprints.{contains, target_bits, statement_bits, arms_bits}
 use Rattle.vs_design.specs.Sleepers.{most_writes, arms_most}
 use Rattle.vs_flat.specs.declared.statements.Arm as F
 use Rattle.vs_flat.specs.Trees as R
 use Rattle.vs_flat.specs.Arena.{Arena}
-use Rattle.vs_design.specs.Fits.{fits_statement, fits_arms}
+use Rattle.vs_design.specs.Fits.{fit_items, fits_statement, fits_arms}
 use Rattle.vs_sets.specs.Nodes.{EachBelow}
+use Rattle.vs_sets.specs.Nodes.{tree_of}
 use Rattle.vs_sets.specs.StatementParts.{ArmsBelow, BranchBelow, statement_of, arms_of}
 use Rattle.vs_sets.specs.Twice.{Adds, PartsFit, BranchFits, ArmsFit, is_twice, is_twice_in}
-use Rattle.vs_sets.proofs.Running.{case_facts, parts_run}
+use Rattle.vs_sets.proofs.Fit.{and_left, and_right}
 
 -- ---- numbers
 
@@ -208,10 +209,25 @@ one_part st [] h b = absurd (omega arith)
 one_part st (x ∷ []) h b = refl
 one_part st (x ∷ y ∷ parts) h b = absurd (omega arith)
 
+part_fits : (st : ℕ → Statement) (parts : List ℕ) (k : ℕ) → fits_statement (R.sequence (map st parts)) ≡ true → k < length parts → fits_statement (st (get_or parts k 0)) ≡ true
+part_fits st [] k h inside = absurd (omega arith)
+part_fits st (p ∷ []) zero h inside = h
+part_fits st (p ∷ []) (suc k) h inside = absurd (omega arith)
+part_fits st (p ∷ q ∷ parts) zero h inside = and_left _ _ h
+part_fits st (p ∷ q ∷ parts) (suc k) h inside = part_fits st (q ∷ parts) k (and_right (fits_statement (st p)) _ h) (omega arith)
+
+arm_fits : (tree : ℕ → Expression) (st : ℕ → Statement) (other : Rattle.std.proofs.Common.Option ℕ) (arms : List F.Arm) → fits_arms (R.arms_tree tree st other arms) ≡ true → (k : ℕ) (arm : F.Arm) → slice_get arms k ≡ Some arm → fits_statement (st arm.statement) ≡ true
+arm_fits tree st other [] h k arm e = absurd (let z : ⊥ = cc in z)
+arm_fits tree st other (x ∷ arms) h zero arm e = let same : x ≡ arm = cc in subst (λ (y : F.Arm). fits_statement (st y.statement) ≡ true) same (and_right (fit_items (items_of (map tree x.items))) _ (and_left _ _ h))
+arm_fits tree st other (x ∷ arms) h (suc k) arm e = arm_fits tree st other arms (and_right (fit_items (items_of (map tree x.items)) && fits_statement (st x.statement)) _ h) k arm e
+
+other_fits : (tree : ℕ → Expression) (st : ℕ → Statement) (other : Rattle.std.proofs.Common.Option ℕ) (arms : List F.Arm) → fits_arms (R.arms_tree tree st other arms) ≡ true → fits_statement (R.branch st other) ≡ true
+other_fits tree st other [] h = h
+other_fits tree st other (x ∷ arms) h = other_fits tree st other arms (and_right (fit_items (items_of (map tree x.items)) && fits_statement (st x.statement)) _ h)
+
 pub case_fit : (a : Arena) (nodes n : ℕ) (arms : List F.Arm) (other : Rattle.std.proofs.Common.Option ℕ) → ArmsBelow nodes n arms → BranchBelow n other → fits_arms (arms_of a other arms) ≡ true → ArmsFit a n arms × BranchFits a n other
 case_fit a nodes n arms other below otherwise fit =
-    let facts = case_facts a nodes n (arms_bits (arms_of a other arms)) arms other below otherwise fit (λ b h. h) in
-    (λ k arm e. let f = facts (Some arm.statement) (inr (k, arm, e, refl)) in (f.earlier, f.fits), let f = facts other (inl refl) in (f.earlier, f.fits))
+    (λ k arm e. ((below k arm e).1, arm_fits (tree_of a) (statement_of a) other arms fit k arm e), (otherwise, other_fits (tree_of a) (statement_of a) other arms fit))
 
 pub parts_fit : (a : Arena) (n : ℕ) (parts : List ℕ) → EachBelow n parts → fits_statement (R.sequence (map (statement_of a) parts)) ≡ true → PartsFit a n parts
-parts_fit a n parts below fit k inside = let f = parts_run a n (statement_bits (R.sequence (map (statement_of a) parts))) parts below fit (λ b h. h) k inside in (f.earlier, f.fits)
+parts_fit a n parts below fit k inside = (below k inside, part_fits (statement_of a) parts k fit inside)

@@ -16,3 +16,5 @@ pub mod Matches
 pub mod Laws
 pub mod Twice
 pub mod Flags
+pub mod WithinParts
+pub mod Calls

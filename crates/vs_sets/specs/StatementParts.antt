@@ -6,6 +6,7 @@ use Rattle.vs_flat.specs.declared.statements.Arm.{Arm}
 use Rattle.vs_flat.specs.declared.statements.Statement.{Statement}
 use Rattle.vs_flat.specs.declared.statements.Statement.TheVariants.{Empty, Assign, If, Case, Seq}
 use Rattle.vs_design.specs.Footprints.{contains, statement_bits}
+use Rattle.vs_design.specs.Within.{names_within, target_within, statement_within, arms_within}
 use Rattle.vs_flat.specs.Targets.{target_of}
 use Rattle.vs_flat.specs.Arena as A
 use Rattle.vs_flat.specs.Trees as R
@@ -50,14 +51,23 @@ arms_of a other arms = R.arms_tree (tree_of a) (statement_of a) other arms
 abbrev pub Covers : List ℕ → T.Statement → Type 0
 Covers bits s = (b : ℕ) → contains (statement_bits s) b ≡ true → contains bits b ≡ true
 
--- the branch is an earlier statement of which nothing is over 64 bits, and writes these bits alone
-pub record BranchFacts (a : A.Arena) (n : ℕ) (bits : List ℕ) (b : Option ℕ) : Type 0 where
+-- the branch is an earlier statement of which nothing is over 64 bits; it names bits among the first of this many alone, and writes these
+pub record BranchFacts (a : A.Arena) (count n : ℕ) (bits : List ℕ) (b : Option ℕ) : Type 0 where
   pub earlier : BranchBelow n b
   pub fits : fits_statement (R.branch (statement_of a) b) ≡ true
+  pub within : statement_within count (R.branch (statement_of a) b) ≡ true
   pub covers : Covers bits (R.branch (statement_of a) b)
 
-abbrev pub EachRuns : A.Arena → ℕ → List ℕ → List ℕ → Type 0
-EachRuns a n bits parts = (k : ℕ) → k < length parts → BranchFacts a n bits (Some (slice_index parts k))
+abbrev pub EachRuns : A.Arena → (count n : ℕ) → List ℕ → List ℕ → Type 0
+EachRuns a count n bits parts = (k : ℕ) → k < length parts → BranchFacts a count n bits (Some (slice_index parts k))
+
+-- the parts of a statement that names bits among the first n alone name such bits too
+abbrev pub WithinStatement : ℕ → T.Statement → Type 0
+WithinStatement n T.Empty = Unit {0}
+WithinStatement n (T.Assignment place target e blocking) = (target_within n target ≡ true) × (names_within n e ≡ true)
+WithinStatement n (T.Then first rest) = (statement_within n first ≡ true) × (statement_within n rest ≡ true)
+WithinStatement n (T.If c taken other) = (names_within n c ≡ true) × (statement_within n taken ≡ true) × (statement_within n other ≡ true)
+WithinStatement n (T.Case kind subject arms) = (names_within n subject ≡ true) × (arms_within n arms ≡ true)
 
 -- what an assignment writes is a target
 abbrev pub HasTargets : A.Arena → Statement → Type 0

@@ -1,32 +1,31 @@
 //! The sets of bits after a statement (IEEE 1364-2005, clause 9).
 
-ghost use Rattle.std.specs.Prelude.{◌≡◌, ◌≤◌, ◌<◌, ◌+◌, ℕ, length, map, true, IfOk, OnOk, All};
-ghost use Rattle.vs_design.specs.Designs.{bit_count};
+ghost use Rattle.std.specs.Prelude.{◌≡◌, ◌≤◌, ◌<◌, ◌+◌, ℕ, suc, length, map, true, Some, IfOk, OnOk, All};
 ghost use Rattle.vs_design.specs.Expressions as E;
 ghost use Rattle.vs_design.specs.Statements as T;
-ghost use Rattle.vs_design.specs.Fits.{is_fit, fits_statement, fits_arms};
+ghost use Rattle.vs_design.specs.Fits.{fits_statement};
 ghost use Rattle.vs_design.specs.Lifted as L;
 ghost use Rattle.vs_design.specs.LiftedBodies.{lifted_body};
-ghost use Rattle.vs_design.specs.Sets.{set_or};
-ghost use Rattle.vs_design.specs.Sleepers.{at_once, arms_at_once};
-ghost use Rattle.vs_flat.specs.DesignOf.{design_of};
+ghost use Rattle.vs_design.specs.Sets.{Set4 as SetOf, set_or};
+ghost use Rattle.vs_design.specs.Sleepers.{at_once};
+ghost use Rattle.vs_design.specs.Within.{statement_within};
+ghost use Rattle.vs_flat.specs.Arena.{Arena, statement_at};
 ghost use Rattle.vs_flat.specs.Trees.{branch, sequence};
-ghost use Rattle.vs_sets.specs.Branches.{branch_sets, taken_arms, taken_branches};
-ghost use Rattle.vs_sets.specs.Matches.{IsOneOf, IsEither, branches_of};
-ghost use Rattle.vs_sets.specs.Nodes.{tree_of};
-ghost use Rattle.vs_sets.specs.StatementParts.{FitStatement, HasStatementNames, ArmsBelow, BranchBelow, BranchFacts, Covers, EachRuns, HasTargets, arms_of, place_of_statement, statement_of, statement_of_node};
+ghost use Rattle.vs_sets.specs.Branches.{branch_sets, taken_branches};
+ghost use Rattle.vs_sets.specs.Calls.{NamesBelow};
+ghost use Rattle.vs_sets.specs.Matches.{IsEither, branches_of};
+ghost use Rattle.vs_sets.specs.StatementParts.{FitStatement, HasStatementNames, BranchBelow, BranchFacts, Covers, EachRuns, HasTargets, WithinStatement, place_of_statement, statement_of, statement_of_node};
 ghost use Rattle.vs_sets.specs.Tables.{family_of};
 
 use crate::Set4;
 use crate::branches::{put_back, sets_of, unite};
-use crate::cases::taken_arms;
-use crate::contexts::{case_context, own_context};
+use crate::cases::case_branches;
+use crate::contexts::own_context;
 use crate::folds::set_or;
 use crate::lifter::Lifter;
 use crate::targets::assign;
 use std::alloc::{AllocError, Global};
-use vs_base::CaseKind;
-use vs_flat::{Arm, Statement, lawful_law, names_law, trees_law};
+use vs_flat::{Statement, lawful_law, names_law, trees_law};
 use vs_four::Bit4;
 use vs_shape::Shapes;
 
@@ -34,6 +33,7 @@ use vs_shape::Shapes;
 pub fn statement_node(shapes: &Shapes, s: u32) -> &Statement
     requires there { s < length shapes.now.statements }
     requires fit { fits_statement (statement_of shapes.now s) ≡ true }
+    ensures is { statement_at shapes.now s ≡ Some result.now }
     ensures names { HasStatementNames (length shapes.now.nodes) s result.now }
     ensures tree { statement_of shapes.now s ≡ statement_of_node shapes.now (place_of_statement shapes.now s) result.now }
     ensures parts { FitStatement (statement_of_node shapes.now (place_of_statement shapes.now s) result.now) }
@@ -45,20 +45,16 @@ pub fn statement_node(shapes: &Shapes, s: u32) -> &Statement
     shapes.flat().statement(s)
 }
 
-/// The branches of an `if` (IEEE 1364-2005, 9.4) that its condition may take.
+/// The branches of an `if` (IEEE 1364-2005, 9.4) that a condition with this truth set may take.
 fn if_branches(
     alloc: Global,
-    lifter: &Lifter,
-    c: u32,
+    condition: Set4,
     taken: u32,
     other: Option<u32>,
 ) -> Result<Vec<Option<u32>>, AllocError>
-    requires there { c < length lifter.now.shapes.now.nodes }
-    requires fit { is_fit (tree_of lifter.now.shapes.now c) ≡ true }
     ensures from { IfOk result (λ v. All (IsEither taken other) v.items) }
-    ensures taken { IfOk result (λ v. branches_of lifter.now.shapes.now v.items ≡ taken_branches (set_or (L.own_sets (tree_of lifter.now.shapes.now c) (family_of lifter.now.table.now))) (at_once (statement_of lifter.now.shapes.now taken)) (at_once (branch (statement_of lifter.now.shapes.now) other))) }
+    ensures taken { (a : Arena) → IfOk result (λ v. branches_of a v.items ≡ taken_branches condition (at_once (statement_of a taken)) (at_once (branch (statement_of a) other))) }
 {
-    let condition = set_or(lifter.own(c).as_slice());
     let mut branches = Vec::new(alloc);
     if condition.has(Bit4::One) {
         branches.push(Some(taken))?;
@@ -71,30 +67,138 @@ fn if_branches(
     Ok(branches)
 }
 
-/// The branches of a case (IEEE 1364-2005, 9.5) that its expression may take.
-fn case_branches(
-    alloc: Global,
-    lifter: &Lifter,
-    kind: CaseKind,
-    of: u32,
-    arms: &[Arm],
-    other: Option<u32>,
-) -> Result<Vec<Option<u32>>, AllocError>
-    requires of_there { of < length lifter.now.shapes.now.nodes }
-    requires there { ArmsBelow (length lifter.now.shapes.now.nodes) (length lifter.now.shapes.now.statements) arms.now }
-    requires of_fit { is_fit (tree_of lifter.now.shapes.now of) ≡ true }
-    requires fit { fits_arms (arms_of lifter.now.shapes.now other arms.now) ≡ true }
-    ensures some { IfOk result (λ v. 1 ≤ length v.items) }
-    ensures from { IfOk result (λ v. All (IsOneOf arms.now other) v.items) }
-    ensures taken { IfOk result (λ v. branch_sets (branches_of lifter.now.shapes.now v.items) (family_of lifter.now.table.now) ≡ lifted_body (T.Case kind (tree_of lifter.now.shapes.now of) (arms_at_once (arms_of lifter.now.shapes.now other arms.now))) (family_of lifter.now.table.now)) }
-{
-    let context = case_context(lifter.shapes, own_context(lifter.shapes, of), arms, other);
-    let subject = lifter.lifted(of, context);
-    taken_arms(alloc, lifter, kind, context, &subject, arms, other)
+/// What statements of a design run with: memory, a number of expressions that have all that they name among them, and the bits that they write, or more.
+#[derive(Drop)]
+pub(crate) struct Runner<'a> {
+    pub(crate) alloc: Global,
+    pub(crate) shapes: &'a Shapes,
+    pub(crate) nodes: u32,
+    pub(crate) bits: &'a [u32],
+    ghost few: { nodes ≤ length shapes.now.nodes },
 }
 
-/// Lets a statement run on a table of sets, of which these bits alone change; each `<=` is taken as a `=`. Where memory is wanting the table is left between.
-#[cycle(running)]
+impl Runner<'_> {
+    /// Statement s, which names bits among the first of a table alone.
+    fn statement(&self, s: u32) -> &Statement
+        requires there { s < length self.now.shapes.now.statements }
+        requires fit { fits_statement (statement_of self.now.shapes.now s) ≡ true }
+        requires below { NamesBelow self.now.shapes.now self.now.nodes (suc s) }
+        ensures names { HasStatementNames self.now.nodes s result.now }
+        ensures tree { statement_of self.now.shapes.now s ≡ statement_of_node self.now.shapes.now (place_of_statement self.now.shapes.now s) result.now }
+        ensures parts { FitStatement (statement_of_node self.now.shapes.now (place_of_statement self.now.shapes.now s) result.now) }
+        ensures targets { HasTargets self.now.shapes.now result.now }
+        ensures within { (n : ℕ) → statement_within n (statement_of self.now.shapes.now s) ≡ true → WithinStatement n (statement_of_node self.now.shapes.now (place_of_statement self.now.shapes.now s) result.now) }
+    {
+        statement_node(self.shapes, s)
+    }
+
+    /// Lets a statement run on a table of sets, of which the bits alone change; each `<=` is taken as a `=`. Where memory is wanting the table is left between.
+    #[cycle(lifting)]
+    pub(crate) fn run(&self, s: u32, table: &mut [Set4]) -> Result<(), AllocError>
+        requires there { s < length self.now.shapes.now.statements }
+        requires fit { fits_statement (statement_of self.now.shapes.now s) ≡ true }
+        requires below { NamesBelow self.now.shapes.now self.now.nodes (suc s) }
+        requires names { statement_within (length table.old) (statement_of self.now.shapes.now s) ≡ true }
+        requires within { All (λ b. b < length table.old) self.now.bits.now }
+        requires covers { Covers self.now.bits.now (statement_of self.now.shapes.now s) }
+        ensures { OnOk result (family_of table.new ≡ lifted_body (at_once (statement_of self.now.shapes.now s)) (family_of table.old)) }
+    {
+        match self.statement(s) {
+            Statement::Empty => Ok(()),
+            Statement::Assign { target, expr, .. } => {
+                assign(self.alloc, self.shapes, *target, *expr, table)
+            }
+            Statement::If { c, yes, no } => {
+                let lifter = Lifter {
+                    alloc: self.alloc,
+                    shapes: self.shapes,
+                    table,
+                };
+                let condition = lifter.lifted(*c, own_context(self.shapes, *c))?;
+                let truth = set_or(condition.as_slice());
+                let branches = if_branches(self.alloc, truth, *yes, *no)?;
+                self.join(s, branches.as_slice(), table)
+            }
+            Statement::Case {
+                kind,
+                of,
+                arms,
+                other,
+            } => {
+                let lifter = Lifter {
+                    alloc: self.alloc,
+                    shapes: self.shapes,
+                    table,
+                };
+                let branches = case_branches(
+                    &lifter,
+                    self.nodes,
+                    *kind,
+                    *of,
+                    arms.as_slice(),
+                    *other,
+                )?;
+                self.join(s, branches.as_slice(), table)
+            }
+            Statement::Seq { parts } => self.run_all(s, parts.as_slice(), table),
+        }
+    }
+
+    /// Lets statements before s run one after the other.
+    #[cycle(lifting)]
+    fn run_all(&self, s: u32, parts: &[u32], table: &mut [Set4]) -> Result<(), AllocError>
+        requires there { s ≤ length self.now.shapes.now.statements }
+        requires below { NamesBelow self.now.shapes.now self.now.nodes s }
+        requires each { EachRuns self.now.shapes.now (length table.old) s self.now.bits.now parts.now }
+        requires within { All (λ b. b < length table.old) self.now.bits.now }
+        ensures { OnOk result (family_of table.new ≡ lifted_body (at_once (sequence (map (statement_of self.now.shapes.now) parts.now))) (family_of table.old)) }
+    {
+        for part in parts {
+            self.run(*part, table)?;
+        }
+        Ok(())
+    }
+
+    /// Lets a branch before s run. One that isn't there does nothing.
+    #[cycle(lifting)]
+    fn run_branch(&self, s: u32, part: Option<u32>, table: &mut [Set4]) -> Result<(), AllocError>
+        requires there { s ≤ length self.now.shapes.now.statements }
+        requires below { NamesBelow self.now.shapes.now self.now.nodes s }
+        requires runs { BranchFacts self.now.shapes.now (length table.old) s self.now.bits.now part }
+        requires within { All (λ b. b < length table.old) self.now.bits.now }
+        ensures { OnOk result (family_of table.new ≡ lifted_body (at_once (branch (statement_of self.now.shapes.now) part)) (family_of table.old)) }
+    {
+        match part {
+            Some(n) => self.run(n, table),
+            None => Ok(()),
+        }
+    }
+
+    /// Lets branches before s run that start from the same sets, and joins what they leave bit by bit.
+    #[cycle(lifting)]
+    fn join(&self, s: u32, branches: &[Option<u32>], table: &mut [Set4]) -> Result<(), AllocError>
+        requires there { s ≤ length self.now.shapes.now.statements }
+        requires below { NamesBelow self.now.shapes.now self.now.nodes s }
+        requires some { 1 ≤ length branches.now }
+        requires runs { All (BranchFacts self.now.shapes.now (length table.old) s self.now.bits.now) branches.now }
+        requires within { All (λ b. b < length table.old) self.now.bits.now }
+        ensures { OnOk result (family_of table.new ≡ branch_sets (branches_of self.now.shapes.now branches.now) (family_of table.old)) }
+    {
+        if branches.len() == 1 {
+            return self.run_branch(s, branches[0], table);
+        }
+        let (left, right) = branches.split_at(branches.len() / 2);
+        let start = sets_of(self.alloc, table, self.bits)?;
+        self.join(s, left, table)?;
+        let first = sets_of(self.alloc, table, self.bits)?;
+        put_back(table, self.bits, start.as_slice());
+        self.join(s, right, table)?;
+        unite(table, self.bits, first.as_slice());
+        Ok(())
+    }
+}
+
+/// Lets a statement run on a table of sets, which has a set for each bit that it names; of them these bits alone change. Each `<=` is taken as a `=`. Where memory is wanting the table is left between.
 pub fn run(
     alloc: Global,
     shapes: &Shapes,
@@ -102,108 +206,20 @@ pub fn run(
     bits: &[u32],
     table: &mut [Set4],
 ) -> Result<(), AllocError>
-    requires table { length table.old ≡ bit_count (design_of shapes.now) }
-    requires within { All (λ b. b < length table.old) bits.now }
     requires there { s < length shapes.now.statements }
     requires fit { fits_statement (statement_of shapes.now s) ≡ true }
+    requires names { statement_within (length table.old) (statement_of shapes.now s) ≡ true }
+    requires within { All (λ b. b < length table.old) bits.now }
     requires covers { Covers bits.now (statement_of shapes.now s) }
     ensures { OnOk result (family_of table.new ≡ lifted_body (at_once (statement_of shapes.now s)) (family_of table.old)) }
 {
-    match statement_node(shapes, s) {
-        Statement::Empty => Ok(()),
-        Statement::Assign { target, expr, .. } => {
-            assign(shapes, *target, *expr, table);
-            Ok(())
-        }
-        Statement::If { c, yes, no } => {
-            let lifter = Lifter { shapes, table };
-            let branches = if_branches(alloc, &lifter, *c, *yes, *no)?;
-            join(alloc, shapes, s, branches.as_slice(), bits, table)
-        }
-        Statement::Case {
-            kind,
-            of,
-            arms,
-            other,
-        } => {
-            let lifter = Lifter { shapes, table };
-            let branches = case_branches(alloc, &lifter, *kind, *of, arms.as_slice(), *other)?;
-            join(alloc, shapes, s, branches.as_slice(), bits, table)
-        }
-        Statement::Seq { parts } => run_all(alloc, shapes, s, parts.as_slice(), bits, table),
-    }
-}
-
-/// Lets statements run one after the other.
-#[cycle(running)]
-fn run_all(
-    alloc: Global,
-    shapes: &Shapes,
-    s: u32,
-    parts: &[u32],
-    bits: &[u32],
-    table: &mut [Set4],
-) -> Result<(), AllocError>
-    requires table { length table.old ≡ bit_count (design_of shapes.now) }
-    requires within { All (λ b. b < length table.old) bits.now }
-    requires there { s ≤ length shapes.now.statements }
-    requires each { EachRuns shapes.now s bits.now parts.now }
-    ensures { OnOk result (family_of table.new ≡ lifted_body (at_once (sequence (map (statement_of shapes.now) parts.now))) (family_of table.old)) }
-{
-    for part in parts {
-        run(alloc, shapes, *part, bits, table)?;
-    }
-    Ok(())
-}
-
-/// Lets a branch run. One that isn't there does nothing.
-#[cycle(running)]
-fn run_branch(
-    alloc: Global,
-    shapes: &Shapes,
-    s: u32,
-    part: Option<u32>,
-    bits: &[u32],
-    table: &mut [Set4],
-) -> Result<(), AllocError>
-    requires table { length table.old ≡ bit_count (design_of shapes.now) }
-    requires within { All (λ b. b < length table.old) bits.now }
-    requires there { s ≤ length shapes.now.statements }
-    requires runs { BranchFacts shapes.now s bits.now part }
-    ensures { OnOk result (family_of table.new ≡ lifted_body (at_once (branch (statement_of shapes.now) part)) (family_of table.old)) }
-{
-    match part {
-        Some(n) => run(alloc, shapes, n, bits, table),
-        None => Ok(()),
-    }
-}
-
-/// Lets branches run that start from the same sets, and joins what they leave bit by bit.
-#[cycle(running)]
-fn join(
-    alloc: Global,
-    shapes: &Shapes,
-    s: u32,
-    branches: &[Option<u32>],
-    bits: &[u32],
-    table: &mut [Set4],
-) -> Result<(), AllocError>
-    requires table { length table.old ≡ bit_count (design_of shapes.now) }
-    requires within { All (λ b. b < length table.old) bits.now }
-    requires there { s ≤ length shapes.now.statements }
-    requires some { 1 ≤ length branches.now }
-    requires runs { All (BranchFacts shapes.now s bits.now) branches.now }
-    ensures { OnOk result (family_of table.new ≡ branch_sets (branches_of shapes.now branches.now) (family_of table.old)) }
-{
-    if branches.len() == 1 {
-        return run_branch(alloc, shapes, s, branches[0], bits, table);
-    }
-    let (left, right) = branches.split_at(branches.len() / 2);
-    let start = sets_of(alloc, table, bits)?;
-    join(alloc, shapes, s, left, bits, table)?;
-    let first = sets_of(alloc, table, bits)?;
-    put_back(table, bits, start.as_slice());
-    join(alloc, shapes, s, right, bits, table)?;
-    unite(table, bits, first.as_slice());
-    Ok(())
+    names_law();
+    let nodes = shapes.flat().expr_count();
+    let runner = Runner {
+        alloc,
+        shapes,
+        nodes,
+        bits,
+    };
+    runner.run(s, table)
 }

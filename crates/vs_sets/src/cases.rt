@@ -2,18 +2,17 @@
 
 ghost use Rattle.std.specs.Prelude.{◌≡◌, ◌≤◌, ◌<◌, ◌+◌, ℕ, length, map, true, false, max, IfOk, All};
 ghost use Rattle.std.specs.List.{list_any};
-ghost use Rattle.vs_design.specs.Designs.{bit_count};
 ghost use Rattle.vs_design.specs.Expressions as E;
 ghost use Rattle.vs_design.specs.Statements as T;
-ghost use Rattle.vs_design.specs.Fits.{fit_items, fits_arms};
+ghost use Rattle.vs_design.specs.Fits.{fit_items, fits_arms, is_fit};
 ghost use Rattle.vs_design.specs.Lifted as L;
 ghost use Rattle.vs_design.specs.Expressions.{items_of};
-ghost use Rattle.vs_design.specs.LiftedBodies.{match_bit, item_sets};
+ghost use Rattle.vs_design.specs.LiftedBodies.{match_bit, item_sets, lifted_body};
 ghost use Rattle.vs_design.specs.Sets.{Set4 as SetOf, is_only_one};
 ghost use Rattle.vs_design.specs.Sleepers.{arms_at_once};
-ghost use Rattle.vs_flat.specs.DesignOf.{design_of};
+ghost use Rattle.vs_design.specs.Within.{items_within, arms_within, names_within};
 ghost use Rattle.vs_sets.specs.BitOperators.{operator_of};
-ghost use Rattle.vs_sets.specs.Branches.{taken_arms};
+ghost use Rattle.vs_sets.specs.Branches.{branch_sets, taken_arms};
 ghost use Rattle.vs_sets.specs.Matches.{IsOneOf, are_within, branches_of, items_at};
 ghost use Rattle.vs_sets.specs.Nodes.{EachBelow, tree_of};
 ghost use Rattle.vs_sets.specs.StatementParts.{ArmsBelow, arms_of};
@@ -22,8 +21,9 @@ ghost use Rattle.vs_sets.specs.Tables.{family_of};
 use crate::SetList;
 use crate::bits::BitOperator;
 use crate::bitwise::set_match;
+use crate::contexts::{case_context, own_context};
 use crate::lifter::Lifter;
-use std::alloc::{AllocError, Global};
+use std::alloc::AllocError;
 use vs_base::{CaseKind, Context};
 use vs_flat::Arm;
 use vs_four::Bit4;
@@ -46,48 +46,55 @@ fn match_operator(kind: CaseKind) -> BitOperator
     }
 }
 
-/// Whether items match these sets of the case's expression.
+/// Whether items match these sets of the case's expression. The items are below a number of expressions.
+#[cycle(lifting)]
 fn match_items(
     lifter: &Lifter,
+    nodes: u32,
     kind: CaseKind,
     context: Context,
     subject: &SetList,
     items: &[u32],
-) -> Match
-    requires there { EachBelow (length lifter.now.shapes.now.nodes) items.now }
+) -> Result<Match, AllocError>
+    requires nodes { nodes ≤ length lifter.now.shapes.now.nodes }
+    requires there { EachBelow nodes items.now }
+    requires names { items_within (length lifter.now.table.now) (items_of (map (tree_of lifter.now.shapes.now) items.now)) ≡ true }
     requires fit { fit_items (items_of (map (tree_of lifter.now.shapes.now) items.now)) ≡ true }
     requires within { are_within context.width (map (tree_of lifter.now.shapes.now) items.now) ≡ true }
     requires few { context.width ≤ 64 }
     requires many { length subject.now ≡ context.width }
-    ensures sure { result.sure ≡ list_any is_only_one (item_sets kind context.width context.signed subject.now (items_of (map (tree_of lifter.now.shapes.now) items.now)) (family_of lifter.now.table.now)) }
-    ensures may { result.may ≡ list_any (λ m. m.one?) (item_sets kind context.width context.signed subject.now (items_of (map (tree_of lifter.now.shapes.now) items.now)) (family_of lifter.now.table.now)) }
+    ensures sure { IfOk result (λ r. r.sure ≡ list_any is_only_one (item_sets kind context.width context.signed subject.now (items_of (map (tree_of lifter.now.shapes.now) items.now)) (family_of lifter.now.table.now))) }
+    ensures may { IfOk result (λ r. r.may ≡ list_any (λ m. m.one?) (item_sets kind context.width context.signed subject.now (items_of (map (tree_of lifter.now.shapes.now) items.now)) (family_of lifter.now.table.now))) }
 {
     let mut found = Match {
         sure: false,
         may: false,
     };
     for item in items {
-        let sets = lifter.lifted(*item, context);
+        let sets = lifter.lifted(*item, context)?;
         let set = set_match(match_operator(kind), subject.as_slice(), sets.as_slice());
         found = Match {
             sure: found.sure || set.is_only_one(),
             may: found.may || set.has(Bit4::One),
         };
     }
-    found
+    Ok(found)
 }
 
 /// The branches of a case that may be taken, up to the first that surely is; a default that isn't there does nothing.
-pub(crate) fn taken_arms(
-    alloc: Global,
+#[cycle(lifting)]
+fn taken_arms(
     lifter: &Lifter,
+    nodes: u32,
     kind: CaseKind,
     context: Context,
     subject: &SetList,
     arms: &[Arm],
     other: Option<u32>,
 ) -> Result<Vec<Option<u32>>, AllocError>
-    requires there { ArmsBelow (length lifter.now.shapes.now.nodes) (length lifter.now.shapes.now.statements) arms.now }
+    requires nodes { nodes ≤ length lifter.now.shapes.now.nodes }
+    requires there { ArmsBelow nodes (length lifter.now.shapes.now.statements) arms.now }
+    requires names { arms_within (length lifter.now.table.now) (arms_of lifter.now.shapes.now other arms.now) ≡ true }
     requires fit { fits_arms (arms_of lifter.now.shapes.now other arms.now) ≡ true }
     requires within { (k : ℕ) → k < length arms.now → are_within context.width (map (tree_of lifter.now.shapes.now) (items_at arms.now k)) ≡ true }
     requires few { context.width ≤ 64 }
@@ -96,9 +103,9 @@ pub(crate) fn taken_arms(
     ensures from { IfOk result (λ v. All (IsOneOf arms.now other) v.items) }
     ensures taken { IfOk result (λ v. branches_of lifter.now.shapes.now v.items ≡ taken_arms (arms_at_once (arms_of lifter.now.shapes.now other arms.now)) kind context.width context.signed subject.now (family_of lifter.now.table.now)) }
 {
-    let mut taken = Vec::new(alloc);
+    let mut taken = Vec::new(lifter.alloc);
     for arm in arms {
-        let found = match_items(lifter, kind, context, subject, arm.items.as_slice());
+        let found = match_items(lifter, nodes, kind, context, subject, arm.items.as_slice())?;
         if found.sure {
             taken.push(Some(arm.statement))?;
             return Ok(taken);
@@ -109,4 +116,30 @@ pub(crate) fn taken_arms(
     }
     taken.push(other)?;
     Ok(taken)
+}
+
+/// The branches of a case (IEEE 1364-2005, 9.5) that its expression may take.
+#[cycle(lifting)]
+pub(crate) fn case_branches(
+    lifter: &Lifter,
+    nodes: u32,
+    kind: CaseKind,
+    of: u32,
+    arms: &[Arm],
+    other: Option<u32>,
+) -> Result<Vec<Option<u32>>, AllocError>
+    requires nodes { nodes ≤ length lifter.now.shapes.now.nodes }
+    requires of_there { of < nodes }
+    requires there { ArmsBelow nodes (length lifter.now.shapes.now.statements) arms.now }
+    requires of_within { names_within (length lifter.now.table.now) (tree_of lifter.now.shapes.now of) ≡ true }
+    requires names { arms_within (length lifter.now.table.now) (arms_of lifter.now.shapes.now other arms.now) ≡ true }
+    requires of_fit { is_fit (tree_of lifter.now.shapes.now of) ≡ true }
+    requires fit { fits_arms (arms_of lifter.now.shapes.now other arms.now) ≡ true }
+    ensures some { IfOk result (λ v. 1 ≤ length v.items) }
+    ensures from { IfOk result (λ v. All (IsOneOf arms.now other) v.items) }
+    ensures taken { IfOk result (λ v. branch_sets (branches_of lifter.now.shapes.now v.items) (family_of lifter.now.table.now) ≡ lifted_body (T.Case kind (tree_of lifter.now.shapes.now of) (arms_at_once (arms_of lifter.now.shapes.now other arms.now))) (family_of lifter.now.table.now)) }
+{
+    let context = case_context(lifter.shapes, own_context(lifter.shapes, of), arms, other);
+    let subject = lifter.lifted(of, context)?;
+    taken_arms(lifter, nodes, kind, context, &subject, arms, other)
 }

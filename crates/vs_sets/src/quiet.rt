@@ -2,11 +2,10 @@
 
 ghost use Rattle.std.specs.Prelude.{◌≡◌, ◌≤◌, ◌<◌, length, true, IfOk, OnOk, All};
 ghost use Rattle.vs_four.specs.declared.Bit4.TheVariants.{X};
-ghost use Rattle.vs_design.specs.Designs.{bit_count};
 ghost use Rattle.vs_design.specs.Fits.{fits_statement};
 ghost use Rattle.vs_design.specs.Sets.{only};
 ghost use Rattle.vs_design.specs.Sleepers.{stays_x};
-ghost use Rattle.vs_flat.specs.DesignOf.{design_of};
+ghost use Rattle.vs_design.specs.Within.{statement_within};
 ghost use Rattle.vs_sets.specs.StatementParts.{Covers, statement_of};
 ghost use Rattle.vs_sets.specs.Tables.{family_of};
 
@@ -25,7 +24,7 @@ pub fn leaves_x(
     bits: &[u32],
     table: &mut [Set4],
 ) -> Result<bool, AllocError>
-    requires table { length table.old ≡ bit_count (design_of shapes.now) }
+    requires names { statement_within (length table.old) (statement_of shapes.now s) ≡ true }
     requires unknown { family_of table.old ≡ (λ c. only X) }
     requires within { All (λ b. b < length table.old) bits.now }
     requires there { s < length shapes.now.statements }

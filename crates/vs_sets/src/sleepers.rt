@@ -16,6 +16,7 @@ use crate::Set4;
 use crate::flags::{are_set, still_flags};
 use crate::quiet::leaves_x;
 use std::alloc::{AllocError, Global};
+use vs_design::within_law;
 use vs_flat::{Kind, has_edge, trees_law};
 use vs_four::Bit4;
 use vs_reads::{Footprints, fit_process, footprint_law};
@@ -42,6 +43,7 @@ fn sleeps(
 {
     trees_law();
     footprint_law();
+    within_law();
     let _ = shapes.flat();
     match &fit_process(shapes, p).kind {
         Kind::Assign { .. } => Ok(false),

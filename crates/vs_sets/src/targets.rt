@@ -1,53 +1,40 @@
 //! Writing the sets of a value to a target (IEEE 1364-2005, clause 6 and 9.2).
 
-ghost use Rattle.std.specs.Prelude.{◌≡◌, ◌≤◌, ◌<◌, ◌+◌, ◌-◌, ℕ, length, map, max, true, Some};
-ghost use Rattle.vs_design.specs.Designs.{bit_count};
+ghost use Rattle.std.specs.Prelude.{◌≡◌, ◌≤◌, ◌<◌, ◌+◌, ◌-◌, ℕ, length, map, max, true, Some, OnOk};
 ghost use Rattle.vs_design.specs.Expressions as E;
 ghost use Rattle.vs_design.specs.Statements as T;
 ghost use Rattle.vs_design.specs.Fits.{is_fit, fits_target};
 ghost use Rattle.vs_design.specs.Lifted as L;
 ghost use Rattle.vs_design.specs.LiftedBodies.{write_sets, assign_sets};
-ghost use Rattle.vs_flat.specs.DesignOf.{design_of};
+ghost use Rattle.vs_design.specs.Within.{names_within, signal_within, target_within};
 ghost use Rattle.vs_flat.specs.Targets.{source_of, target_of};
 ghost use Rattle.vs_flat.specs.Trees.{joined};
 ghost use Rattle.vs_sets.specs.Nodes.{EachBelow, tree_of, signal_of};
-ghost use Rattle.vs_sets.specs.TargetsOf.{IsSignal, IsTarget, target_tree};
+ghost use Rattle.vs_sets.specs.TargetsOf.{IsTarget, target_tree};
 ghost use Rattle.vs_sets.specs.Tables.{family_of};
 
-use crate::contexts::own_context;
+use crate::Set4;
 use crate::folds::all_of;
-use crate::lifter::{Lifter, span_of};
+use crate::lifter::{Lifter, named_span, span_of};
 use crate::table::{put_places, put_run, widen_run};
 use crate::words::{memory_of, put_word};
-use crate::{Set4, SetList};
-use vs_base::Context;
+use std::alloc::{AllocError, Global};
 use vs_flat::Node;
 use vs_shape::{Part, Shapes, first_copy, places_of, word_place};
-
-/// The number of the signal that expression e is the name of.
-pub fn named_signal(shapes: &Shapes, name: u32) -> u32
-    requires there { name < length shapes.now.nodes }
-    requires is_name { IsSignal (source_of (tree_of shapes.now name)) }
-    ensures there { result < length shapes.now.signals }
-    ensures is { source_of (tree_of shapes.now name) ≡ E.OfSignal (signal_of shapes.now result) }
-{
-    match shapes.node(name) {
-        Node::Name { signal } => *signal,
-        _ => unreachable!(),
-    }
-}
 
 /// Writes sets to the target that expression e is, least significant first.
 #[cycle(writing)]
 fn write(shapes: &Shapes, e: u32, sets: &[Set4], table: &mut [Set4])
-    requires covers { length table.old ≡ bit_count (design_of shapes.now) }
+    requires within { target_within (length table.old) (target_tree (tree_of shapes.now e)) ≡ true }
     requires there { e < length shapes.now.nodes }
     requires target { IsTarget (tree_of shapes.now e) }
     requires many { length sets.now ≡ E.width (tree_of shapes.now e) }
     ensures { family_of table.new ≡ write_sets (target_tree (tree_of shapes.now e)) sets.now (family_of table.old) }
 {
     match shapes.node(e) {
-        Node::Name { signal } => put_run(table, span_of(shapes, *signal).first, sets),
+        Node::Name { .. } | Node::Local { .. } => {
+            put_run(table, named_span(shapes, e).first, sets);
+        }
         Node::Bit { of, range, index } => {
             let part = Part {
                 range: *range,
@@ -78,14 +65,14 @@ fn write(shapes: &Shapes, e: u32, sets: &[Set4], table: &mut [Set4])
 
 /// Writes sets to a select (IEEE 1364-2005, 5.2.1): by a constant index to its bits, by any other each bit of the signal may have any of them.
 fn write_part(shapes: &Shapes, of: u32, part: Part, index: u32, sets: &[Set4], table: &mut [Set4])
-    requires covers { length table.old ≡ bit_count (design_of shapes.now) }
+    requires within { target_within (length table.old) (target_tree (E.Select (source_of (tree_of shapes.now of)) part (tree_of shapes.now index))) ≡ true }
     requires of_there { of < length shapes.now.nodes }
     requires index_there { index < length shapes.now.nodes }
     requires target { IsTarget (E.Select (source_of (tree_of shapes.now of)) part (tree_of shapes.now index)) }
     requires many { length sets.now ≡ part.width }
     ensures { family_of table.new ≡ write_sets (target_tree (E.Select (source_of (tree_of shapes.now of)) part (tree_of shapes.now index))) sets.now (family_of table.old) }
 {
-    let span = span_of(shapes, named_signal(shapes, of));
+    let span = named_span(shapes, of);
     let shape = shapes.shape(index);
     if shape.constant {
         let places = places_of(part, shape.signed, shapes.constant_value(index));
@@ -97,7 +84,7 @@ fn write_part(shapes: &Shapes, of: u32, part: Part, index: u32, sets: &[Set4], t
 
 /// Writes sets to a word of a memory (IEEE 1364-2005, 4.9.3): by a constant address to its bits, by any other each bit of the memory may have any of them.
 fn write_word(shapes: &Shapes, signal: u32, index: u32, sets: &[Set4], table: &mut [Set4])
-    requires covers { length table.old ≡ bit_count (design_of shapes.now) }
+    requires within { target_within (length table.old) (target_tree (E.Word (signal_of shapes.now signal) (tree_of shapes.now index))) ≡ true }
     requires memory { signal < length shapes.now.signals }
     requires index_there { index < length shapes.now.nodes }
     requires target { IsTarget (E.Word (signal_of shapes.now signal) (tree_of shapes.now index)) }
@@ -119,7 +106,7 @@ fn write_word(shapes: &Shapes, signal: u32, index: u32, sets: &[Set4], table: &m
 /// Writes sets to the parts of a concatenation, of which the first takes the most significant ones.
 #[cycle(writing)]
 fn write_parts(shapes: &Shapes, e: u32, parts: &[u32], sets: &[Set4], table: &mut [Set4])
-    requires covers { length table.old ≡ bit_count (design_of shapes.now) }
+    requires within { target_within (length table.old) (target_tree (joined (map (tree_of shapes.now) parts.now))) ≡ true }
     requires there { e < length shapes.now.nodes }
     requires before { EachBelow e parts.now }
     requires target { IsTarget (joined (map (tree_of shapes.now) parts.now)) }
@@ -138,34 +125,29 @@ fn write_parts(shapes: &Shapes, e: u32, parts: &[u32], sets: &[Set4], table: &mu
     write_parts(shapes, e, rest, &sets[..low], table);
 }
 
-/// The sets of a right side for a target of this length (IEEE 1364-2005, 5.5.3): in the larger of both lengths and its own sign, and then cut.
-fn assigned_sets(lifter: &Lifter, e: u32, len: u32) -> SetList
-    requires there { e < length lifter.now.shapes.now.nodes }
-    requires fit { is_fit (tree_of lifter.now.shapes.now e) ≡ true }
-    requires few { len ≤ 64 }
-    ensures value { result ≡ L.assigned_sets (tree_of lifter.now.shapes.now e) len (family_of lifter.now.table.now) }
-    ensures length { length result ≡ len }
-{
-    let own = own_context(lifter.shapes, e);
-    let context = Context {
-        width: own.width.max(len),
-        signed: own.signed,
-    };
-    let mut list = lifter.lifted(e, context);
-    list.cut(len as usize);
-    list
-}
-
-/// The sets after an assignment of expression e to a target, whose bits alone change.
-pub fn assign(shapes: &Shapes, target: u32, e: u32, table: &mut [Set4])
-    requires covers { length table.old ≡ bit_count (design_of shapes.now) }
+/// The sets after an assignment of expression e to a target, whose bits alone change, in a table that has a set for each bit that either names. Want of memory is the only error.
+#[cycle(lifting)]
+pub fn assign(
+    alloc: Global,
+    shapes: &Shapes,
+    target: u32,
+    e: u32,
+    table: &mut [Set4],
+) -> Result<(), AllocError>
     requires target_there { target < length shapes.now.nodes }
     requires there { e < length shapes.now.nodes }
     requires target { IsTarget (tree_of shapes.now target) }
     requires fit { is_fit (tree_of shapes.now e) ≡ true }
-    ensures { family_of table.new ≡ assign_sets (target_tree (tree_of shapes.now target)) (tree_of shapes.now e) (family_of table.old) }
+    requires target_within { target_within (length table.old) (target_tree (tree_of shapes.now target)) ≡ true }
+    requires within { names_within (length table.old) (tree_of shapes.now e) ≡ true }
+    ensures { OnOk result (family_of table.new ≡ assign_sets (target_tree (tree_of shapes.now target)) (tree_of shapes.now e) (family_of table.old)) }
 {
-    let lifter = Lifter { shapes, table };
-    let sets = assigned_sets(&lifter, e, u32::from(shapes.shape(target).width));
+    let lifter = Lifter {
+        alloc,
+        shapes,
+        table,
+    };
+    let sets = lifter.assigned(e, u32::from(shapes.shape(target).width))?;
     write(shapes, target, sets.as_slice(), table);
+    Ok(())
 }

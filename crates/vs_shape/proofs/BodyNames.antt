@@ -37,7 +37,7 @@ other_below : (s : ℕ) (other : Option ℕ) → all_below s (option_to_list oth
 other_below s None h = tt
 other_below s (Some n) h = first_below s n [] h
 
-has_body_names : (nodes s : ℕ) (b : Statement) → statement_names_below nodes s b ≡ true → HasBodyNames nodes s b
+pub has_body_names : (nodes s : ℕ) (b : Statement) → statement_names_below nodes s b ≡ true → HasBodyNames nodes s b
 has_body_names nodes s S.Empty h = tt
 has_body_names nodes s (S.Assign target e blocking) h =
     let p = (and_both (all_below nodes (target ∷ e ∷ [])) true h).0 in

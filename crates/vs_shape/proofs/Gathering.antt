@@ -4,9 +4,12 @@ use Rattle.std.specs.Prelude.{OnOk, Result, Ok, Err, not}
 use Rattle.vs_four.specs.Logic.{BitList}
 use Rattle.vs_four.specs.Selects.{Part, places}
 use Rattle.vs_design.specs.Expressions as E
-use Rattle.vs_design.specs.Fits.{fits, fits_64}
+use Rattle.vs_design.specs.Fits.{fits, fits_64, fits_signal, fit_items, is_fit, divides_constants, fits_statement}
+use Rattle.std.specs.List.{list_all}
+use Rattle.vs_design.specs.Statements as T
+use Rattle.vs_flat.specs.DesignOf.{callee_of}
 use Rattle.vs_design.specs.Values.{constant_value, bits_of_signal}
-use Rattle.vs_design.specs.Footprints.{somes, signals_bits, read_signals, source_signals, read_bits}
+use Rattle.vs_design.specs.Footprints.{somes, signals_bits, read_signals, items_signals, source_signals, read_bits}
 use Rattle.vs_flat.specs.Arena.{Arena}
 use Rattle.vs_flat.specs.declared.expressions.Node.{Node}
 use Rattle.vs_flat.specs.declared.expressions.Node.TheVariants as N
@@ -14,7 +17,7 @@ use Rattle.vs_flat.specs.Trees.{joined, first_copy, copy_count}
 use Rattle.vs_shape.specs.Nodes.{tree_of, place_of, tree_of_node}
 use Rattle.vs_design.specs.Statements.{Target, Both}
 use Rattle.vs_design.specs.Footprints.{target_signals}
-use Rattle.vs_shape.specs.Gathered.{bits_from, gathered, gathered_source, gathered_target}
+use Rattle.vs_shape.specs.Gathered.{bits_from, gathered_items, gathered, gathered_source, gathered_target}
 use Rattle.vs_shape.proofs.Names.{and_both}
 
 pub tree_is : (a kept : Arena) (e : ℕ) (n m : Node) → kept ≡ a → tree_of kept e ≡ E.At (place_of kept e) (tree_of_node kept n) → n ≡ m → tree_of a e ≡ E.At (place_of a e) (tree_of_node a m)
@@ -124,3 +127,42 @@ choice_gathered w c p q = gathered_choice w c p q
 pub both_gathered : (w : Bool) (s t : Target) → gathered_target w (Both s t) ≡ gathered_target w s ++ gathered_target w t
 both_gathered true s t = signals_bits-append (target_signals s) (target_signals t)
 both_gathered false s t = refl
+
+-- ---- the arguments of a call
+
+gathered_item : (w : Bool) (e : E.Expression) (es : E.Items) → gathered_items w (E.Item e es) ≡ gathered w e ++ gathered_items w es
+gathered_item true e es = signals_bits-append (read_signals e) (items_signals es)
+gathered_item false e es = refl
+
+items_from : (w : Bool) (tree : ℕ → E.Expression) (ps : List ℕ) (n : ℕ) → n < length ps → gathered_items w (E.items_of (map tree (drop n ps))) ≡ gathered w (tree (get_or ps n 0)) ++ gathered_items w (E.items_of (map tree (drop (suc n) ps)))
+items_from w tree [] n h = absurd (omega arith)
+items_from w tree (p ∷ ps) zero h = gathered_item w (tree p) (E.items_of (map tree ps))
+items_from w tree (p ∷ ps) (suc n) h = items_from w tree ps n (omega arith)
+
+-- one more argument is gathered
+pub with_argument : (w : Bool) (tree : ℕ → E.Expression) (ps : List ℕ) (n : ℕ) (before after all : List ℕ) → n < length ps → before ++ gathered_items w (E.items_of (map tree (drop n ps))) ≡ all → after ≡ before ++ gathered w (tree (get_or ps n 0))
+    → after ++ gathered_items w (E.items_of (map tree (drop (n + 1) ps))) ≡ all
+with_argument w tree ps n before after all h is pushed =
+    let next : n + 1 ≡ suc n = omega arith in
+    ap (λ k. after ++ gathered_items w (E.items_of (map tree (drop k ps)))) next
+    ∙ ap (λ bs. bs ++ gathered_items w (E.items_of (map tree (drop (suc n) ps)))) pushed
+    ∙ append_assoc before (gathered w (tree (get_or ps n 0))) (gathered_items w (E.items_of (map tree (drop (suc n) ps))))
+    ∙ ap (λ bs. before ++ bs) (sym (items_from w tree ps n h)) ∙ is
+
+fits_item : (tree : ℕ → E.Expression) (ps : List ℕ) (k : ℕ) → fit_items (E.items_of (map tree ps)) ≡ true → k < length ps → fits (tree (get_or ps k 0)) ≡ true
+fits_item tree [] k f h = absurd (omega arith)
+fits_item tree (p ∷ ps) zero f h = (and_both (fits (tree p)) (divides_constants (tree p)) (and_both (is_fit (tree p)) (fit_items (E.items_of (map tree ps))) f).0).0
+fits_item tree (p ∷ ps) (suc k) f h = fits_item tree ps k (and_both (is_fit (tree p)) (fit_items (E.items_of (map tree ps))) f).1 (omega arith)
+
+-- the arguments of a call fit
+call_items : (h : E.Header) (st : T.Statement) (es : E.Items) → fits (E.Call h st es) ≡ true → fit_items es ≡ true
+call_items h st es f =
+    let p = and_both (fits_64 (E.signal_length h.result) && list_all fits_signal h.inputs && fit_items es) (fits_statement st) f in
+    (and_both (fits_64 (E.signal_length h.result) && list_all fits_signal h.inputs) (fit_items es) p.0).1
+
+pub argument_fits : (a kept : Arena) (e k f : ℕ) (n : Node) (arguments slice : List ℕ) → kept ≡ a → tree_of kept e ≡ E.At (place_of kept e) (tree_of_node kept n) → n ≡ N.Call f arguments → slice ≡ arguments → fits (tree_of a e) ≡ true → k < length slice
+    → fits (tree_of a (get_or slice k 0)) ≡ true
+argument_fits a kept e k f n arguments slice same tree is sliced fit h =
+    let c = callee_of a (tree_of a) f in
+    let whole : fits (E.Call c.header c.statement (E.items_of (map (tree_of a) arguments))) ≡ true = ap fits (sym (tree_is a kept e n (N.Call f arguments) same tree is)) ∙ fit in
+    fits_item (tree_of a) slice k (subst (λ xs. fit_items (E.items_of (map (tree_of a) xs)) ≡ true) (sym sliced) (call_items c.header c.statement (E.items_of (map (tree_of a) arguments)) whole)) h

@@ -9,6 +9,7 @@ pub mod Runs
 pub mod BodyNames
 pub mod SignalBits
 pub mod Gathering
+pub mod Results
 pub mod Sources
 pub mod TargetParts
 pub mod Walking

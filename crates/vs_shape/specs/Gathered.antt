@@ -25,6 +25,10 @@ abbrev pub gathered : Bool → Expression → List ℕ
 gathered true e = signals_bits (read_signals e)
 gathered false e = read_bits e
 
+abbrev pub gathered_items : Bool → Items → List ℕ
+gathered_items true es = signals_bits (items_signals es)
+gathered_items false es = items_reads es
+
 abbrev pub gathered_target : Bool → Target → List ℕ
 gathered_target true target = signals_bits (target_signals target)
 gathered_target false target = target_reads target

@@ -2,10 +2,11 @@
 use Rattle.std.specs.Prelude.{◌<◌, ℕ, List, length, slice_index, unwrap_or}
 use Rattle.vs_design.specs.Expressions as E
 use Rattle.vs_flat.specs.declared.expressions.Node.{Node}
-use Rattle.vs_flat.specs.declared.expressions.Node.TheVariants.{Literal, Name, Bit, Part, Word, Unary, Binary, Choice, Join}
-use Rattle.vs_flat.specs.Arena.{Arena, node_place}
-use Rattle.vs_flat.specs.Trees.{signal_at, tree_at, node_tree}
-use Rattle.vs_flat.specs.DesignOf.{arena_signals, arena_trees}
+use Rattle.vs_flat.specs.declared.expressions.Node.TheVariants.{Literal, Name, Bit, Part, Word, Unary, Binary, Choice, Join, Local, Call}
+use Rattle.vs_flat.specs.Arena.{Arena, node_place, declared_at}
+use Rattle.vs_flat.specs.Named.{locals_in}
+use Rattle.vs_flat.specs.Trees.{tree_at, node_tree}
+use Rattle.vs_flat.specs.DesignOf.{arena_names, arena_trees}
 
 abbrev pub EachBelow : ℕ → List ℕ → Type 0
 EachBelow n ms = (k : ℕ) → k < length ms → slice_index ms k < n
@@ -21,6 +22,14 @@ HasNames signals e (Unary op a) = a < e
 HasNames signals e (Binary op a b) = (a < e) × (b < e)
 HasNames signals e (Choice c p q) = (c < e) × (p < e) × (q < e)
 HasNames signals e (Join parts) = EachBelow e parts
+HasNames signals e (Local function signal) = Unit {0}
+HasNames signals e (Call function arguments) = EachBelow e arguments
+
+-- a local signal that is named is there, and so is a function that is called
+abbrev pub HasCalls : Arena → Node → Type 0
+HasCalls a (Local function signal) = (function < length a.functions) × (signal < length (locals_in (declared_at a function)))
+HasCalls a (Call function arguments) = function < length a.functions
+HasCalls a _ = Unit {0}
 
 -- the tree of an expression, and that of a node of the design
 abbrev pub tree_of : Arena → ℕ → E.Expression
@@ -30,4 +39,4 @@ abbrev pub place_of : Arena → ℕ → ℕ
 place_of a e = unwrap_or (node_place a e) 0
 
 abbrev pub tree_of_node : Arena → Node → E.Expression
-tree_of_node a n = node_tree (signal_at (arena_signals a)) (tree_of a) n
+tree_of_node a n = node_tree (arena_names a) (tree_of a) n

@@ -14,7 +14,7 @@ mod words;
 
 pub use ascending::{ascend, is_among};
 pub use bodies::Walk;
-pub use nodes::{copy_count, first_copy, node_of, statement_of};
+pub use nodes::{copy_count, first_copy, local_of, node_of, statement_of};
 pub use places::{Part, Places, places_of};
 pub use shape::Shape;
 pub use shapes::Shapes;

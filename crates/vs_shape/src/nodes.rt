@@ -2,14 +2,16 @@
 
 ghost use Rattle.std.specs.Prelude.{◌≡◌, ◌<◌, ◌≤◌, ◌+◌, ℕ, length, slice_index, take, take_while, not, ◌==◌};
 ghost use Rattle.vs_design.specs.Expressions.{At};
-ghost use Rattle.vs_flat.specs.Arena.{node_at, statement_at};
+ghost use Rattle.vs_flat.specs.Arena.{node_at, statement_at, signal_length, declared_at};
+ghost use Rattle.vs_flat.specs.Named.{locals_in};
+ghost use Rattle.vs_flat.specs.DesignOf.{local_of};
 ghost use Rattle.vs_flat.specs.Lawful.{IsLawful};
-ghost use Rattle.vs_flat.specs.Trees.{first_copy, copy_count};
+ghost use Rattle.vs_flat.specs.Trees.{first_copy, copy_count, signal_of};
 ghost use Rattle.vs_shape.specs.Bodies.{HasBodyNames, HasTarget, body_of, body_of_statement, body_place};
-ghost use Rattle.vs_shape.specs.Nodes.{HasNames, tree_of, place_of, tree_of_node};
+ghost use Rattle.vs_shape.specs.Nodes.{HasNames, HasCalls, tree_of, place_of, tree_of_node};
 
 use crate::shapes::Shapes;
-use vs_flat::{Flat, Node, Statement, lawful_law, names_law, trees_law};
+use vs_flat::{Flat, Node, Signal, Statement, lawful_law, names_law, trees_law};
 
 /// Expression e of a lawful design: it names earlier ones, and its tree is made of theirs.
 pub fn node_of(flat: &Flat, e: u32) -> &Node
@@ -17,11 +19,26 @@ pub fn node_of(flat: &Flat, e: u32) -> &Node
     requires there { e < length flat.now.nodes }
     ensures is { node_at flat.now e ≡ Some result.now }
     ensures names { HasNames (length flat.now.signals) e result.now }
+    ensures calls { HasCalls flat.now result.now }
     ensures tree { tree_of flat.now e ≡ At (place_of flat.now e) (tree_of_node flat.now result.now) }
 {
     names_law();
     trees_law();
     flat.expr(e)
+}
+
+/// A function's local signal, by its number in it.
+pub fn local_of(flat: &Flat, function: u32, signal: u32) -> &Signal
+    requires lawful { IsLawful flat.now }
+    requires function { function < length flat.now.functions }
+    requires there { signal < length (locals_in (declared_at flat.now function)) }
+    ensures is { local_of flat.now function signal ≡ signal_of signal result.now }
+    ensures room { result.now.first_bit + signal_length result.now ≤ 67108864 }
+{
+    trees_law();
+    lawful_law();
+    let declared = flat.function(function);
+    declared.function.signals.get(signal as usize)
 }
 
 /// Statement s of a lawful design: it names expressions and earlier statements, and its tree is made of theirs.
@@ -45,6 +62,7 @@ impl Shapes {
         requires { e < length self.now.nodes }
         ensures is { node_at self.now e ≡ Some result.now }
         ensures names { HasNames (length self.now.signals) e result.now }
+        ensures calls { HasCalls self.now result.now }
         ensures tree { tree_of self.now e ≡ At (place_of self.now e) (tree_of_node self.now result.now) }
     {
         node_of(self.flat(), e)

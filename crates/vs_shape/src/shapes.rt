@@ -2,22 +2,25 @@
 
 ghost use Rattle.std.specs.Prelude.{◌≡◌, ◌<◌, ◌≤◌, ◌&&◌, not, min, length};
 ghost use Rattle.vs_four.specs.Selects.{Part};
-ghost use Rattle.vs_design.specs.Expressions.{Expression, Name, Select, Word, is_constant};
+ghost use Rattle.vs_design.specs.Expressions.{Expression, Name, Select, Word, Call, Items, is_constant};
+ghost use Rattle.vs_design.specs.Statements.{Statement};
+ghost use Rattle.vs_flat.specs.Arena.{declared_at};
+ghost use Rattle.vs_flat.specs.Named.{locals_in};
 ghost use Rattle.vs_flat.specs.Lawful.{IsLawful};
 ghost use Rattle.vs_flat.specs.Targets.{source_of};
 ghost use Rattle.vs_flat.specs.Trees.{signal_at};
-ghost use Rattle.vs_flat.specs.DesignOf.{arena_signals};
+ghost use Rattle.vs_flat.specs.DesignOf.{arena_signals, local_of, header_in};
 ghost use Rattle.vs_shape.specs.Nodes.{tree_of};
 ghost use Rattle.vs_shape.specs.Shapes.{shape_of};
 
-use crate::nodes::{copy_count, first_copy, node_of};
+use crate::nodes::{copy_count, first_copy, local_of, node_of};
 use crate::shape::{
     Shape, binary_shape, choice_shape, join_shape, repeat_shape, signal_width, unary_shape,
     word_width,
 };
 use std::alloc::{AllocError, Global};
 use std::marker::Model;
-use vs_flat::{Flat, Node, trees_law};
+use vs_flat::{Flat, Node, lawful_law, trees_law};
 
 /// A lawful flat design with the lengths and signs of its expressions. Those of the first ones are noted; of any other they are found where they are asked for.
 #[derive(Drop)]
@@ -101,6 +104,8 @@ impl Shapes {
                 constant: true,
             },
             Node::Name { signal } => signal_shape(&self.flat, *signal),
+            Node::Local { function, signal } => local_shape(&self.flat, *function, *signal),
+            Node::Call { function, .. } => result_shape(&self.flat, *function),
             Node::Bit {
                 of,
                 range: _,
@@ -162,13 +167,45 @@ fn word_shape(flat: &Flat, signal: u32) -> Shape
     }
 }
 
+/// The shape of a local signal's name.
+fn local_shape(flat: &Flat, function: u32, signal: u32) -> Shape
+    requires lawful { IsLawful flat.now }
+    requires function { function < length flat.now.functions }
+    requires there { signal < length (locals_in (declared_at flat.now function)) }
+    ensures { result ≡ shape_of (Name (local_of flat.now function signal)) }
+{
+    let s = local_of(flat, function, signal);
+    Shape {
+        width: signal_width(s.words, s.range),
+        signed: s.signed,
+        constant: false,
+    }
+}
+
+/// The shape of a call of a function: its result's length and sign.
+fn result_shape(flat: &Flat, function: u32) -> Shape
+    requires lawful { IsLawful flat.now }
+    requires there { function < length flat.now.functions }
+    ensures { (s : Statement) (es : Items) → result ≡ shape_of (Call (header_in (declared_at flat.now function)) s es) }
+{
+    trees_law();
+    lawful_law();
+    let declared = &flat.function(function).function;
+    let s = declared.signals.get(declared.inputs as usize);
+    Shape {
+        width: signal_width(s.words, s.range),
+        signed: s.signed,
+        constant: false,
+    }
+}
+
 /// Whether expression e is the name of a signal, so that a select of it is no constant.
 fn is_name(flat: &Flat, e: u32) -> bool
     requires lawful { IsLawful flat.now }
     requires there { e < length flat.now.nodes }
     ensures { (part : Part) (index : Expression) → is_constant (Select (source_of (tree_of flat.now e)) part index) ≡ (not result && is_constant index) }
 {
-    matches!(node_of(flat, e), Node::Name { .. })
+    matches!(node_of(flat, e), Node::Name { .. } | Node::Local { .. })
 }
 
 /// The shape of a select of this many bits, by that of its index (IEEE 1364-2005, 5.2.1).

@@ -1,25 +1,28 @@
 //! Walks over expressions and targets that gather bits (IEEE 1364-2005, 9.7.5 and 11.6.1).
 
-ghost use Rattle.std.specs.Prelude.{◌≡◌, ◌<◌, ◌≤◌, ◌++◌, ◌+◌, ◌^◌, true, length, map, is_some, OnOk};
+ghost use Rattle.std.specs.Prelude.{ℕ, ◌≡◌, ◌<◌, ◌≤◌, ◌++◌, ◌+◌, ◌^◌, true, length, map, is_some, OnOk};
 ghost use Rattle.vs_four.specs.Selects.{range_length};
+ghost use Rattle.vs_design.specs.Expressions.{OfSignal};
 ghost use Rattle.vs_design.specs.Fits.{fits, fits_64};
 ghost use Rattle.vs_design.specs.Values.{bits_of_signal};
 ghost use Rattle.vs_design.specs.Footprints.{target_bits};
+ghost use Rattle.vs_flat.specs.Arena.{signal_length, declared_at};
+ghost use Rattle.vs_flat.specs.Named.{locals_in};
 ghost use Rattle.vs_flat.specs.Lawful.{IsLawful};
 ghost use Rattle.vs_flat.specs.Targets.{source_of};
-ghost use Rattle.vs_flat.specs.Trees.{signal_at, target_tree};
-ghost use Rattle.vs_flat.specs.DesignOf.{arena_signals};
+ghost use Rattle.vs_flat.specs.Trees.{signal_of, signal_at, target_tree};
+ghost use Rattle.vs_flat.specs.DesignOf.{arena_signals, local_of};
 ghost use Rattle.vs_shape.specs.Nodes.{EachBelow, tree_of};
 ghost use Rattle.vs_shape.specs.Walked.{IsSourceFit, IsTarget};
 ghost use Rattle.vs_shape.specs.Gathered.{gathered, gathered_source, gathered_word, gathered_target};
 
 use crate::bits::{push_places, push_run};
-use crate::nodes::{first_copy, node_of};
+use crate::nodes::{first_copy, local_of, node_of};
 use crate::places::{Part, places_of};
 use crate::shapes::Shapes;
 use crate::words::{addresses_of, push_word, word_place};
 use std::alloc::AllocError;
-use vs_flat::{Flat, Node, bits_of, length_of, trees_law};
+use vs_flat::{Flat, Node, Signal, bits_of, length_of, trees_law};
 use vs_four::Range;
 
 /// Adds the bits of a signal, the least significant one first.
@@ -33,6 +36,17 @@ fn push_signal(flat: &Flat, signal: u32, out: &mut Vec<u32>) -> Result<(), Alloc
     push_run(out, s.first_bit, bits_of(s))
 }
 
+/// Adds the bits of a function's local signal, the least significant one first.
+fn push_local(flat: &Flat, function: u32, signal: u32, out: &mut Vec<u32>) -> Result<(), AllocError>
+    requires lawful { IsLawful flat.now }
+    requires function { function < length flat.now.functions }
+    requires there { signal < length (locals_in (declared_at flat.now function)) }
+    ensures { OnOk result (out.new.items ≡ out.old.items ++ bits_of_signal (local_of flat.now function signal)) }
+{
+    let s = local_of(flat, function, signal);
+    push_run(out, s.first_bit, bits_of(s))
+}
+
 impl Shapes {
     /// Adds the bits of a signal, the least significant one first.
     pub fn push_signal(&self, signal: u32, out: &mut Vec<u32>) -> Result<(), AllocError>
@@ -40,6 +54,33 @@ impl Shapes {
         ensures { OnOk result (out.new.items ≡ out.old.items ++ bits_of_signal (signal_at (arena_signals self.now) signal)) }
     {
         push_signal(self.flat(), signal, out)
+    }
+
+    /// Adds the bits of a select of this signal; `whole` adds all bits of the signal whatever the index.
+    fn push_selected(
+        &self,
+        s: &Signal,
+        index: u32,
+        range: Range,
+        up: bool,
+        width: u32,
+        whole: bool,
+        out: &mut Vec<u32>,
+    ) -> Result<(), AllocError>
+        requires there { index < length self.now.nodes }
+        requires room { s.now.first_bit + signal_length s.now ≤ 67108864 }
+        requires range { range_length range ≡ signal_length s.now }
+        requires width { fits_64 width ≡ true }
+        requires fit { fits (tree_of self.now index) ≡ true }
+        ensures { (n : ℕ) → OnOk result (out.new.items ≡ out.old.items ++ gathered_source whole (OfSignal (signal_of n s.now)) (record { range = range; up = up; width = width }) (tree_of self.now index)) }
+    {
+        let shape = self.shape(index);
+        if whole || !shape.constant {
+            return push_run(out, s.first_bit, bits_of(s));
+        }
+        let part = Part { range, up, width };
+        let places = places_of(part, shape.signed, self.constant_value(index));
+        push_places(out, s.first_bit, &places)
     }
 
     /// Adds the bits of a select that its source has; `whole` adds all bits of the signal whatever the index.
@@ -59,18 +100,18 @@ impl Shapes {
         ensures { OnOk result (out.new.items ≡ out.old.items ++ gathered_source whole (source_of (tree_of self.now of)) (record { range = range; up = up; width = width }) (tree_of self.now index)) }
     {
         let flat = self.flat();
-        let Node::Name { signal } = node_of(flat, of) else {
-            return Ok(());
-        };
-        let shape = self.shape(index);
-        if whole || !shape.constant {
-            return push_signal(flat, *signal, out);
-        }
         trees_law();
-        let first = flat.signal(*signal).first_bit;
-        let part = Part { range, up, width };
-        let places = places_of(part, shape.signed, self.constant_value(index));
-        push_places(out, first, &places)
+        match node_of(flat, of) {
+            Node::Name { signal } => {
+                let s = flat.signal(*signal);
+                self.push_selected(s, index, range, up, width, whole, out)
+            }
+            Node::Local { function, signal } => {
+                let s = local_of(flat, *function, *signal);
+                self.push_selected(s, index, range, up, width, whole, out)
+            }
+            _ => Ok(()),
+        }
     }
 
     /// Adds the bits of a word that its memory has; `whole` adds all bits of the memory whatever the address.
@@ -107,6 +148,7 @@ impl Shapes {
         match node_of(flat, e) {
             Node::Literal { .. } => Ok(()),
             Node::Name { signal } => push_signal(flat, *signal, out),
+            Node::Local { function, signal } => push_local(flat, *function, *signal, out),
             Node::Bit { of, range, index } => {
                 self.push_source(*of, *index, *range, true, 1, whole, out)?;
                 self.push_reads(*index, whole, out)
@@ -141,6 +183,12 @@ impl Shapes {
                 }
                 Ok(())
             }
+            Node::Call { arguments, .. } => {
+                for argument in arguments.as_slice() {
+                    self.push_reads(*argument, whole, out)?;
+                }
+                Ok(())
+            }
         }
     }
 
@@ -153,6 +201,7 @@ impl Shapes {
         let flat = self.flat();
         match node_of(flat, e) {
             Node::Name { signal } => push_signal(flat, *signal, out),
+            Node::Local { function, signal } => push_local(flat, *function, *signal, out),
             Node::Bit { of, range, index } => {
                 self.push_source(*of, *index, *range, true, 1, false, out)
             }

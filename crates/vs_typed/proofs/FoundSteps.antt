@@ -44,12 +44,12 @@ abbrev pub part_targets : Rule → ℕ → List Expression → List ℕ
 part_targets rule at [] = []
 part_targets rule at (e ∷ es) = target_places rule at (target_tree e) ++ part_targets rule at es
 
-record AreTargets (high low : Expression) : Type 0 where
+pub record AreTargets (high low : Expression) : Type 0 where
   pub high_is : HasTargetTree high
   pub low_is : HasTargetTree low
   pub both : target_tree (Join high low) ≡ Both (target_tree high) (target_tree low)
 
-two_targets : (high low : Expression) → HasTargetTree (Join high low) → AreTargets high low
+pub two_targets : (high low : Expression) → HasTargetTree (Join high low) → AreTargets high low
 two_targets high low h = at (target_of high) (target_of low) refl refl h where
   at : (x y : Option Target) → target_of high ≡ x → target_of low ≡ y → both_of x y ≡ Some (target_tree (Join high low)) → AreTargets high low
   at None y e f i = absurd (let z : ⊥ = cc in z)

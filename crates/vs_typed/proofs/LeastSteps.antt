@@ -26,7 +26,7 @@ from_append (Some n) xs ys = ap Some (with_append n xs ys)
 from_append None [] ys = refl
 from_append None (x ∷ xs) ys = ap Some (with_append x xs ys)
 
-with_min : (n m : ℕ) (ms : List ℕ) → least_with (min n m) ms ≡ min (least_with n ms) m
+pub with_min : (n m : ℕ) (ms : List ℕ) → least_with (min n m) ms ≡ min (least_with n ms) m
 with_min n m [] = refl
 with_min n m (k ∷ ms) =
     let e : min (min n m) k ≡ min (min n k) m = omega arith in

@@ -6,3 +6,8 @@ pub mod WeightSteps
 pub mod FoundSteps
 pub mod SizeSteps
 pub mod BothWays
+pub mod ReachSteps
+pub mod CalleeSteps
+pub mod CallSteps
+pub mod Capped
+pub mod FunctionSteps

@@ -16,6 +16,7 @@ use Rattle.vs_design.specs.Sizes.{distinct, statement_weight, process_weight, sl
 use Rattle.vs_design.specs.Sleepers.{is_sleeping}
 use Rattle.vs_reads.specs.Footprint.{footprints_of, waits_at, writes_at}
 use Rattle.vs_reads.specs.Laws.{HasBitsOf, EachIsOfItsProcess, EachHasItsBits}
+use Rattle.vs_typed.specs.Weights.{capped}
 use Rattle.vs_typed.proofs.Distinct.{ascending_count}
 use Rattle.vs_design.specs.Refusals.{WidthRefusal, first_found, otherwise}
 use Rattle.vs_flat.specs.Trees.{signal_at, no_signal}
@@ -32,7 +33,7 @@ sum_more f (y ∷ ys) x =
     omega (arith, e, g, k)
 
 -- one process more
-pub sum_step : (f : Process → ℕ) (ps : List Process) (p start sum after : ℕ) → p < length ps → sum ≡ start + sum_by f (take p ps) → ((x : Process) → slice_get ps p ≡ Some x → after ≡ sum + f x) → after ≡ start + sum_by f (take (p + 1) ps)
+pub sum_step : (f : Process → ℕ) (ps : List Process) (p start sum after : ℕ) → p < length ps → sum ≡ capped (start + sum_by f (take p ps)) → ((x : Process) → slice_get ps p ≡ Some x → after ≡ capped (sum + f x)) → after ≡ capped (start + sum_by f (take (p + 1) ps))
 sum_step f [] p start sum after inside e h = absurd (omega arith)
 sum_step f (y ∷ ys) p start sum after inside e h =
     let ps = y ∷ ys in
@@ -41,8 +42,8 @@ sum_step f (y ∷ ys) p start sum after inside e h =
     let whole : sum_by f (take (p + 1) ps) ≡ sum_by f (take p ps) + f x = ap (sum_by f) (next_item ps p x at) ∙ sum_more f (take p ps) x in
     omega (arith, e, h x at, whole)
 
-pub sum_all : (f : Process → ℕ) (ps : List Process) (p start sum : ℕ) → length ps ≤ p → sum ≡ start + sum_by f (take p ps) → sum ≡ start + sum_by f ps
-sum_all f ps p start sum h e = e ∙ ap (λ qs. start + sum_by f qs) (take_all p ps h)
+pub sum_all : (f : Process → ℕ) (ps : List Process) (p start sum : ℕ) → length ps ≤ p → sum ≡ capped (start + sum_by f (take p ps)) → sum ≡ capped (start + sum_by f ps)
+sum_all f ps p start sum h e = e ∙ ap (λ qs. capped (start + sum_by f qs)) (take_all p ps h)
 
 -- ---- bits of processes and of signals, one more
 
@@ -90,14 +91,14 @@ inputs_more (x ∷ ss) s = at x.input (inputs_more ss s) where
       omega (arith, e, g, rest)
   at false rest = rest
 
-pub input_step : (ss : List Signal) (n start sum after : ℕ) (s : Signal) → n < length ss → signal_at ss n ≡ s → sum ≡ start + sum_by signal_length (filter (λ (t : Signal). t.input) (take n ss)) → after ≡ sum + (if s.input then signal_length s else 0)
-    → after ≡ start + sum_by signal_length (filter (λ (t : Signal). t.input) (take (n + 1) ss))
+pub input_step : (ss : List Signal) (n start sum after : ℕ) (s : Signal) → n < length ss → signal_at ss n ≡ s → sum ≡ capped (start + sum_by signal_length (filter (λ (t : Signal). t.input) (take n ss))) → after ≡ capped (sum + (if s.input then signal_length s else 0))
+    → after ≡ capped (start + sum_by signal_length (filter (λ (t : Signal). t.input) (take (n + 1) ss)))
 input_step ss n start sum after s inside at e h =
     let whole = ap (λ ts. sum_by signal_length (filter (λ (t : Signal). t.input) ts)) (take_more ss n no_signal inside ∙ ap (λ t. take n ss ++ t ∷ []) at) ∙ inputs_more (take n ss) s in
     omega (arith, e, h, whole)
 
-pub inputs_all : (ss : List Signal) (n start sum : ℕ) → length ss ≤ n → sum ≡ start + sum_by signal_length (filter (λ (t : Signal). t.input) (take n ss)) → sum ≡ start + sum_by signal_length (filter (λ (t : Signal). t.input) ss)
-inputs_all ss n start sum h e = e ∙ ap (λ ts. start + sum_by signal_length (filter (λ (t : Signal). t.input) ts)) (take_all n ss h)
+pub inputs_all : (ss : List Signal) (n start sum : ℕ) → length ss ≤ n → sum ≡ capped (start + sum_by signal_length (filter (λ (t : Signal). t.input) (take n ss))) → sum ≡ capped (start + sum_by signal_length (filter (λ (t : Signal). t.input) ss))
+inputs_all ss n start sum h e = e ∙ ap (λ ts. capped (start + sum_by signal_length (filter (λ (t : Signal). t.input) ts))) (take_all n ss h)
 
 -- ---- the first process that is refused
 

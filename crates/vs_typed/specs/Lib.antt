@@ -3,3 +3,5 @@ pub mod Laws
 pub mod Places
 pub mod Weights
 pub mod Refused
+pub mod Reach
+pub mod Functions

@@ -1,10 +1,12 @@
 -- The places of what is refused, by rule, and the least of them.
-use Rattle.std.specs.Prelude.{◌≡◌, ◌<◌, ℕ, length, not, ◌&&◌, List, [], ◌∷◌, ◌++◌, if◌then◌else◌, Option, Some, None}
+use Rattle.std.specs.Prelude.{◌≡◌, ◌<◌, ◌≤◌, ℕ, length, not, ◌&&◌, List, [], ◌∷◌, ◌++◌, if◌then◌else◌, Option, Some, None, slice_index_or}
 use Rattle.vs_design.specs.Expressions.{Expression, Literal, Name, Select, Word, Unary, Binary, Choice, Join, Repeat, At, Call, Items, BinaryOp, width, is_constant}
 use Rattle.vs_design.specs.Statements.{Target, target_width, Statement, Arms}
 use Rattle.vs_flat.specs.declared.processes.Kind.{Kind}
 use Rattle.vs_flat.specs.declared.processes.Kind.TheVariants as K
-use Rattle.vs_flat.specs.Arena.{Arena}
+use Rattle.vs_flat.specs.Arena.{Arena, body_at}
+use Rattle.vs_flat.specs.declared.functions.Body.{Body}
+use Rattle.vs_shape.specs.Bodies.{body_of}
 use Rattle.vs_shape.specs.Nodes.{tree_of}
 use Rattle.vs_flat.specs.Targets.{target_of}
 use Rattle.vs_flat.specs.Trees.{target_tree}
@@ -27,6 +29,11 @@ own_places Division at n = []
 abbrev pub least_from : Option ℕ → List ℕ → Option ℕ
 least_from None ns = least ns
 least_from (Some n) ns = Some (least_with n ns)
+
+-- the lesser of both
+abbrev pub lesser_of : Option ℕ → Option ℕ → Option ℕ
+lesser_of best None = best
+lesser_of best (Some at) = least_from best (at ∷ [])
 
 -- what an operator itself adds, and what its operands add
 abbrev pub divided_at : ℕ → BinaryOp → Expression → Expression → List ℕ
@@ -92,3 +99,8 @@ HasTargetTree e = target_of e ≡ Some (target_tree e)
 abbrev pub HasKindNames : Arena → Kind → Type 0
 HasKindNames a (K.Assign target e port) = (target < length a.nodes) × (e < length a.nodes) × HasTargetTree (tree_of a target)
 HasKindNames a (K.Block star events statement) = statement < length a.statements
+
+-- of each of the first functions the least place in its statement, those of what it calls included
+pub record AreLeast (a : Arena) (rule : Rule) (table : List (Option ℕ)) : Type 0 where
+  pub few : length table ≤ length a.bodies
+  pub each : (f : ℕ) (b : Body) → f < length table → body_at a f ≡ Some b → (at : ℕ) → slice_index_or table f None ≡ least (statement_places rule at (body_of a b.statement))

@@ -1,17 +1,22 @@
 -- Weights of several expressions, and of arms, one after the other.
-use Rattle.std.specs.Prelude.{◌≡◌, ◌<◌, ◌+◌, ◌*◌, ◌&&◌, ℕ, Bool, true, List, [], ◌∷◌, length, if◌then◌else◌, Option, Some, slice_get, slice_index}
+use Rattle.std.specs.Prelude.{◌≡◌, ◌<◌, ◌≤◌, ◌+◌, ◌*◌, ◌&&◌, ℕ, Bool, true, false, min, List, [], ◌∷◌, length, if◌then◌else◌, Option, Some, None, slice_get, slice_index, slice_index_or, sum_by}
 use Rattle.vs_four.specs.Selects.{range_length}
 use Rattle.vs_four.specs.declared.Range.{Range}
-use Rattle.vs_design.specs.Expressions.{Signal, Expression, BinaryOp, way, width, is_constant}
+use Rattle.vs_design.specs.Expressions.{Signal, signal_length, Expression, items_of, BinaryOp, way, width, is_constant}
 use Rattle.vs_design.specs.Fits.{is_fit}
-use Rattle.vs_design.specs.Sizes.{address_weight, weight, binary_weight, is_shift}
+use Rattle.vs_design.specs.Sizes.{address_weight, arguments_weight, weight, binary_weight, is_shift, statement_weight}
 use Rattle.vs_design.specs.Fits.{fits_statement}
-use Rattle.vs_design.specs.Statements.{Arms}
+use Rattle.vs_design.specs.Statements.{Statement, Arms}
+use Rattle.vs_flat.specs.declared.functions.Body.{Body}
 use Rattle.vs_flat.specs.declared.statements.Arm.{Arm}
-use Rattle.vs_flat.specs.Arena.{Arena}
+use Rattle.vs_flat.specs.Arena.{Arena, body_at}
 use Rattle.vs_flat.specs.Trees.{arms_tree}
 use Rattle.vs_shape.specs.Bodies.{body_of}
 use Rattle.vs_shape.specs.Nodes.{tree_of}
+
+-- as far as a sum is told: 2^64 - 1 and all above it are one
+abbrev pub capped : ℕ → ℕ
+capped n = min n 18446744073709551615
 
 -- by itself
 abbrev pub own_weight : Expression → ℕ
@@ -20,6 +25,10 @@ own_weight e = weight e (width e)
 abbrev pub own_weights : List Expression → ℕ
 own_weights [] = 0
 own_weights (e ∷ es) = own_weight e + own_weights es
+
+-- what the arguments of a call cost, and the bits of its function's inputs
+abbrev pub call_inputs : List Expression → List Signal → ℕ
+call_inputs es inputs = arguments_weight (items_of es) inputs + sum_by signal_length inputs
 
 -- of a select of so many bits
 abbrev pub select_weight : ℕ → Range → Expression → ℕ
@@ -41,10 +50,20 @@ EachFits a e parts = (k : ℕ) → k < length parts → (slice_index parts k < e
 abbrev pub index_weight : ℕ → Range → Expression → ℕ
 index_weight n range index = if is_constant index then 0 else (n * (range_length range * (width index + 1)) + weight index (width index))
 
--- of arms with earlier statements, all of which fit
-abbrev pub EachArmFits : Arena → ℕ → List Arm → Type 0
-EachArmFits a s arms = (k : ℕ) (arm : Arm) → slice_get arms k ≡ Some arm → EachFits a (length a.nodes) arm.items × (arm.statement < s) × (fits_statement (body_of a arm.statement) ≡ true)
+-- of arms with earlier statements, all of which fit, and whose items are below e
+abbrev pub EachArmFits : Arena → (e s : ℕ) → List Arm → Type 0
+EachArmFits a e s arms = (k : ℕ) (arm : Arm) → slice_get arms k ≡ Some arm → EachFits a e arm.items × (arm.statement < s) × (fits_statement (body_of a arm.statement) ≡ true)
 
 -- the arms of a case with its default
 abbrev pub arms_of : Arena → Option ℕ → List Arm → Arms
 arms_of a other arms = arms_tree (tree_of a) (body_of a) other arms
+
+-- the weight of a statement that fits
+abbrev pub IsWeight : Statement → Option ℕ → Type 0
+IsWeight s None = fits_statement s ≡ false
+IsWeight s (Some w) = (fits_statement s ≡ true) × (w ≡ capped (statement_weight s))
+
+-- of each of the first functions what its statement weighs, those of what it calls included
+pub record AreWeights (a : Arena) (table : List (Option ℕ)) : Type 0 where
+  pub few : length table ≤ length a.bodies
+  pub each : (f : ℕ) (b : Body) → f < length table → body_at a f ≡ Some b → IsWeight (body_of a b.statement) (slice_index_or table f None)

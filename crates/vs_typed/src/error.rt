@@ -12,7 +12,7 @@ pub enum WidthError {
     /// A `/` or `%` has an operand that names a signal (IEEE 1364-2005, 5.1.5). Its first operand begins at token `at`.
     #[error("a division at run time")]
     Division { at: u32 },
-    /// The size of the design is over 16,777,216.
+    /// The size of the design is over 16,777,216. It is the size without what sleeping blocks add, where that is over the limit already; one of 2^64 or more is told as 2^64 - 1.
     #[error("a size of {size}")]
     TooLarge { size: u64 },
     /// There was not enough memory.

@@ -3,6 +3,7 @@
 
 mod design;
 mod error;
+mod functions;
 mod laws;
 mod least;
 mod nodes;

@@ -1,23 +1,23 @@
 //! What operators cost, and how they take their operands (IEEE 1364-2005, table 5-22).
 
-ghost use Rattle.std.specs.Prelude.{◌≡◌, ◌+◌, ◌*◌, IfOk};
+ghost use Rattle.std.specs.Prelude.{◌≡◌, ◌+◌, ◌*◌};
 ghost use Rattle.vs_design.specs.Expressions as E;
 ghost use Rattle.vs_design.specs.Sizes as S;
 ghost use Rattle.vs_design.specs.Values as V;
+ghost use Rattle.vs_typed.specs.Weights.{capped};
 
 use crate::sums::{plus, times};
-use std::alloc::AllocError;
 use vs_base::{BinaryOp, UnaryOp, Way};
 
 /// What an operator of one operand costs in a context of w bits, on an operand of n.
-pub(crate) fn unary_weight(op: UnaryOp, w: u64, n: u64) -> Result<u64, AllocError>
-    ensures { IfOk result (λ t. t ≡ S.unary_weight op w n) }
+pub(crate) fn unary_weight(op: UnaryOp, w: u64, n: u64) -> u64
+    ensures { result ≡ capped (S.unary_weight op w n) }
 {
     match op {
-        UnaryOp::Plus | UnaryOp::Signed | UnaryOp::Unsigned => Ok(0),
+        UnaryOp::Plus | UnaryOp::Signed | UnaryOp::Unsigned => 0,
         UnaryOp::Minus => times(4, w),
-        UnaryOp::BitNot => Ok(w),
-        UnaryOp::LogicalNot => Ok(n),
+        UnaryOp::BitNot => w,
+        UnaryOp::LogicalNot => n,
         UnaryOp::ReduceAnd
         | UnaryOp::ReduceNand
         | UnaryOp::ReduceOr
@@ -28,26 +28,26 @@ pub(crate) fn unary_weight(op: UnaryOp, w: u64, n: u64) -> Result<u64, AllocErro
 }
 
 /// A shift of w bits by an amount of n: a choice of w bits for each of these, and one for each where it is too far.
-fn shift_weight(w: u64, n: u64) -> Result<u64, AllocError>
-    ensures { IfOk result (λ t. t ≡ w * (n + 1) + n) }
+fn shift_weight(w: u64, n: u64) -> u64
+    ensures { result ≡ capped (w * (n + 1) + n) }
 {
-    plus(times(w, plus(n, 1)?)?, n)
+    plus(times(w, plus(n, 1)), n)
 }
 
 /// What an operator of two operands costs in a context of w bits, on operands of m and n.
-pub(crate) fn binary_weight(op: BinaryOp, w: u64, m: u64, n: u64) -> Result<u64, AllocError>
-    ensures { IfOk result (λ t. t ≡ S.binary_weight op w m n) }
+pub(crate) fn binary_weight(op: BinaryOp, w: u64, m: u64, n: u64) -> u64
+    ensures { result ≡ capped (S.binary_weight op w m n) }
 {
     match op {
         BinaryOp::Add | BinaryOp::Subtract => times(4, w),
-        BinaryOp::Multiply => times(4, times(w, w)?),
+        BinaryOp::Multiply => times(4, times(w, w)),
         BinaryOp::Less | BinaryOp::LessEqual | BinaryOp::Greater | BinaryOp::GreaterEqual => {
             times(3, m.max(n))
         }
         BinaryOp::Equal | BinaryOp::NotEqual | BinaryOp::CaseEqual | BinaryOp::CaseNotEqual => {
             times(2, m.max(n))
         }
-        BinaryOp::LogicalAnd | BinaryOp::LogicalOr => plus(plus(m, n)?, 1),
+        BinaryOp::LogicalAnd | BinaryOp::LogicalOr => plus(plus(m, n), 1),
         BinaryOp::ShiftLeft
         | BinaryOp::ShiftRight
         | BinaryOp::ShiftLeftArith
@@ -57,7 +57,7 @@ pub(crate) fn binary_weight(op: BinaryOp, w: u64, m: u64, n: u64) -> Result<u64,
         | BinaryOp::BitAnd
         | BinaryOp::BitOr
         | BinaryOp::BitXor
-        | BinaryOp::BitXnor => Ok(w),
+        | BinaryOp::BitXnor => w,
     }
 }
 

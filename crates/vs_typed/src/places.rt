@@ -1,16 +1,16 @@
 //! The least place at which a length or a division is refused (IEEE 1364-2005, 5.1.5 and 5.4).
 
-ghost use Rattle.std.specs.Prelude.{◌≡◌, ◌≤◌, ◌<◌, ◌∷◌, [], ℕ, length, map, true, is_some};
+ghost use Rattle.std.specs.Prelude.{◌≡◌, ◌≤◌, ◌<◌, ◌∷◌, [], ℕ, None, length, map, true, is_some, slice_index_or};
 ghost use Rattle.vs_design.specs.Expressions as E;
 ghost use Rattle.vs_design.specs.Fits as F;
 ghost use Rattle.vs_design.specs.Refusals.{over_64};
-ghost use Rattle.vs_flat.specs.Targets.{target_of};
-ghost use Rattle.vs_flat.specs.Trees.{target_tree};
+ghost use Rattle.vs_typed.specs.Reach.{node_reach};
 ghost use Rattle.vs_shape.specs.Nodes.{tree_of, place_of};
-ghost use Rattle.vs_typed.specs.Places.{divided_at, head_places, least_from, places_of, target_places};
+ghost use Rattle.vs_typed.specs.Places.{AreLeast, divided_at, head_places, least_from, lesser_of, places_of};
 
-use crate::nodes::expression_place;
+use crate::nodes::{expression_place, node_in};
 use vs_base::BinaryOp;
+use vs_design::places_law;
 use vs_flat::Node;
 use vs_shape::{Shapes, first_copy};
 
@@ -80,43 +80,73 @@ fn least_head(shapes: &Shapes, rule: Rule, e: u32, best: Option<u32>) -> Option<
     }
 }
 
-/// The least place so far, and those of expression e.
-pub(crate) fn least_in(shapes: &Shapes, rule: Rule, e: u32, best: Option<u32>) -> Option<u32>
-    requires { e < length shapes.now.nodes }
+/// The least place so far, and those in the statement of function f.
+fn least_callee(table: &[Option<u32>], f: u32, best: Option<u32>) -> Option<u32>
+    requires { f < length table.now }
+    ensures { result ≡ lesser_of best (slice_index_or table.now f None) }
+{
+    match table[f as usize] {
+        Some(at) => lesser(best, at),
+        None => best,
+    }
+}
+
+/// The least place so far, and those of expression e. What it calls has its least place in the table.
+pub(crate) fn least_in(
+    shapes: &Shapes,
+    rule: Rule,
+    table: &[Option<u32>],
+    e: u32,
+    best: Option<u32>,
+) -> Option<u32>
+    requires table { AreLeast shapes.now rule table.now }
+    requires there { e < node_reach shapes.now (length table.now) }
     ensures { (at : ℕ) → result ≡ least_from best (places_of rule at (tree_of shapes.now e)) }
 {
+    places_law();
+    let node = node_in(shapes, table.len(), e);
     let mut least = least_head(shapes, rule, e, best);
-    match shapes.node(e) {
+    match node {
         Node::Literal { .. } => least,
         Node::Name { .. } => least,
+        Node::Local { .. } => least,
         Node::Bit {
             of: _,
             range: _,
             index,
-        } => least_in(shapes, rule, *index, least),
+        } => least_in(shapes, rule, table, *index, least),
         Node::Part {
             of: _,
             range: _,
             base,
             up: _,
             width: _,
-        } => least_in(shapes, rule, *base, least),
-        Node::Word { signal: _, index } => least_in(shapes, rule, *index, least),
-        Node::Unary { op: _, a } => least_in(shapes, rule, *a, least),
+        } => least_in(shapes, rule, table, *base, least),
+        Node::Word { signal: _, index } => least_in(shapes, rule, table, *index, least),
+        Node::Unary { op: _, a } => least_in(shapes, rule, table, *a, least),
         Node::Binary { op: _, a, b } => {
-            least = least_in(shapes, rule, *a, least);
-            least_in(shapes, rule, *b, least)
+            least = least_in(shapes, rule, table, *a, least);
+            least_in(shapes, rule, table, *b, least)
         }
         Node::Choice { c, p, q } => {
-            least = least_in(shapes, rule, *c, least);
-            least = least_in(shapes, rule, *p, least);
-            least_in(shapes, rule, *q, least)
+            least = least_in(shapes, rule, table, *c, least);
+            least = least_in(shapes, rule, table, *p, least);
+            least_in(shapes, rule, table, *q, least)
         }
         Node::Join { parts } => {
             for part in first_copy(parts.as_slice()) {
-                least = least_in(shapes, rule, *part, least);
+                least = least_in(shapes, rule, table, *part, least);
             }
             least
+        }
+        Node::Call {
+            function,
+            arguments,
+        } => {
+            for argument in arguments.as_slice() {
+                least = least_in(shapes, rule, table, *argument, least);
+            }
+            least_callee(table, *function, least)
         }
     }
 }

@@ -6,9 +6,11 @@ ghost use Rattle.vs_design.specs.Fits.{fits_process};
 ghost use Rattle.vs_design.specs.Designs as D;
 ghost use Rattle.vs_design.specs.Refusals.{least, earlier, first_found};
 ghost use Rattle.vs_flat.specs.DesignOf.{design_of};
-ghost use Rattle.vs_typed.specs.Places.{process_places};
+ghost use Rattle.vs_typed.specs.Functions.{ArePlaces};
+ghost use Rattle.vs_typed.specs.Places.{AreLeast, process_places};
 ghost use Rattle.vs_typed.specs.Refused.{IsFound, IsWidthError, first_refused, refused_in};
 
+use crate::functions::Places;
 use crate::least::{least_assignment, least_statement};
 use crate::nodes::{expression_place, process};
 use crate::places::Rule;
@@ -17,8 +19,10 @@ use vs_flat::{Kind, trees_law};
 use vs_shape::Shapes;
 
 /// The least place of process p.
-fn least_process(shapes: &Shapes, rule: Rule, p: u32) -> Option<u32>
-    requires { p < length shapes.now.processes }
+fn least_process(shapes: &Shapes, rule: Rule, table: &[Option<u32>], p: u32) -> Option<u32>
+    requires table { AreLeast shapes.now rule table.now }
+    requires all { length table.now ≡ length shapes.now.bodies }
+    requires there { p < length shapes.now.processes }
     ensures { (x : D.Process) → slice_get (design_of shapes.now).processes p ≡ Some x → result ≡ least (process_places rule x) }
 {
     trees_law();
@@ -30,13 +34,13 @@ fn least_process(shapes: &Shapes, rule: Rule, p: u32) -> Option<u32>
         } => {
             let _ = shapes.node(*target);
             let at = expression_place(shapes, *target);
-            least_assignment(shapes, rule, *target, *expr, at, None)
+            least_assignment(shapes, rule, table, *target, *expr, at, None)
         }
         Kind::Block {
             star: _,
             events: _,
             statement,
-        } => least_statement(shapes, rule, *statement, None),
+        } => least_statement(shapes, rule, table, *statement, None),
     }
 }
 
@@ -60,30 +64,33 @@ fn earlier(wide: Option<u32>, division: Option<u32>) -> Result<(), WidthError>
 }
 
 /// Whether no length and no division of process p is refused.
-fn check_process(shapes: &Shapes, p: u32) -> Result<(), WidthError>
-    requires { p < length shapes.now.processes }
+fn check_process(shapes: &Shapes, places: &Places, p: u32) -> Result<(), WidthError>
+    requires places { ArePlaces shapes.now places.now }
+    requires there { p < length shapes.now.processes }
     ensures passes { OnOk result ((x : D.Process) → slice_get (design_of shapes.now).processes p ≡ Some x → refused_in p x ≡ None) }
     ensures refused { IfErr result (λ e. (x : D.Process) → slice_get (design_of shapes.now).processes p ≡ Some x → IsFound (refused_in p x) e) }
 {
     earlier(
-        least_process(shapes, Rule::Wide, p),
-        least_process(shapes, Rule::Division, p),
+        least_process(shapes, Rule::Wide, places.wide.as_slice(), p),
+        least_process(shapes, Rule::Division, places.division.as_slice(), p),
     )
 }
 
 /// Whether process p, before which none is refused, isn't either.
-fn check_next(shapes: &Shapes, p: u32) -> Result<(), WidthError>
+fn check_next(shapes: &Shapes, places: &Places, p: u32) -> Result<(), WidthError>
+    requires places { ArePlaces shapes.now places.now }
     requires there { p < length shapes.now.processes }
     requires so_far { first_found refused_in p (drop p (design_of shapes.now).processes) ≡ first_refused (design_of shapes.now) }
     ensures passes { OnOk result (first_found refused_in (p + 1) (drop (p + 1) (design_of shapes.now).processes) ≡ first_refused (design_of shapes.now)) }
     ensures refused { IfErr result (IsWidthError (design_of shapes.now)) }
 {
     trees_law();
-    check_process(shapes, p)
+    check_process(shapes, places, p)
 }
 
 /// Whether no length and no division of a process is refused: then all fits.
-pub(crate) fn check_processes(shapes: &Shapes) -> Result<(), WidthError>
+pub(crate) fn check_processes(shapes: &Shapes, places: &Places) -> Result<(), WidthError>
+    requires { ArePlaces shapes.now places.now }
     ensures passes { OnOk result (first_refused (design_of shapes.now) ≡ None) }
     ensures fits { OnOk result (list_all fits_process (design_of shapes.now).processes ≡ true) }
     ensures refused { IfErr result (IsWidthError (design_of shapes.now)) }
@@ -91,7 +98,7 @@ pub(crate) fn check_processes(shapes: &Shapes) -> Result<(), WidthError>
     trees_law();
     unrefused_law();
     for p in 0..shapes.flat().process_count() {
-        match check_next(shapes, p) {
+        match check_next(shapes, places, p) {
             Ok(()) => {}
             Err(error) => return Err(error),
         }

@@ -12,6 +12,7 @@ ghost use Rattle.vs_design.specs.Sleepers.{is_sleeping};
 ghost use Rattle.vs_flat.specs.Arena.{signal_length};
 ghost use Rattle.vs_flat.specs.DesignOf.{design_of};
 ghost use Rattle.vs_reads.specs.Footprint.{footprints_of, waits_at, writes_at};
+ghost use Rattle.vs_typed.specs.Weights.{AreWeights, capped};
 
 use crate::statements::add_statement;
 use crate::sums::{plus, times};
@@ -24,10 +25,18 @@ use vs_reads::{Footprints, fit_process, footprint_law};
 use vs_shape::{Shapes, Walk};
 
 /// The total with what process p costs.
-fn add_process(alloc: Global, shapes: &Shapes, p: u32, total: u64) -> Result<u64, AllocError>
+fn add_process(
+    alloc: Global,
+    shapes: &Shapes,
+    table: &[Option<u64>],
+    p: u32,
+    total: u64,
+) -> Result<u64, AllocError>
+    requires table { AreWeights shapes.now table.now }
+    requires all { length table.now ≡ length shapes.now.bodies }
     requires there { p < length shapes.now.processes }
     requires fits { list_all fits_process (design_of shapes.now).processes ≡ true }
-    ensures { IfOk result (λ t. (x : D.Process) → slice_get (design_of shapes.now).processes p ≡ Some x → t ≡ total + S.process_weight x) }
+    ensures { IfOk result (λ t. (x : D.Process) → slice_get (design_of shapes.now).processes p ≡ Some x → t ≡ capped (total + S.process_weight x)) }
 {
     trees_law();
     match &fit_process(shapes, p).kind {
@@ -35,30 +44,32 @@ fn add_process(alloc: Global, shapes: &Shapes, p: u32, total: u64) -> Result<u64
             target,
             expr,
             port: _,
-        } => add_assignment(shapes, *target, *expr, total),
+        } => Ok(add_assignment(shapes, table, *target, *expr, total)),
         Kind::Block {
             star: _,
             events,
             statement,
         } => {
             if has_edge(events.as_slice()) {
-                return add_statement(alloc, shapes, *statement, total);
+                return add_statement(alloc, shapes, table, *statement, total);
             }
             let written = written_count(alloc, shapes, *statement)?;
-            add_statement(alloc, shapes, *statement, plus(total, written)?)
+            add_statement(alloc, shapes, table, *statement, plus(total, written))
         }
     }
 }
 
-/// The total with what all processes cost.
-fn add_processes(alloc: Global, shapes: &Shapes, total: u64) -> Result<u64, AllocError>
+/// What all processes cost.
+fn add_processes(alloc: Global, shapes: &Shapes, table: &[Option<u64>]) -> Result<u64, AllocError>
+    requires table { AreWeights shapes.now table.now }
+    requires all { length table.now ≡ length shapes.now.bodies }
     requires fits { list_all fits_process (design_of shapes.now).processes ≡ true }
-    ensures { IfOk result (λ t. t ≡ total + sum_by S.process_weight (design_of shapes.now).processes) }
+    ensures { IfOk result (λ t. t ≡ capped (sum_by S.process_weight (design_of shapes.now).processes)) }
 {
     trees_law();
-    let mut sum = total;
+    let mut sum = 0;
     for p in 0..shapes.flat().process_count() {
-        sum = add_process(alloc, shapes, p, sum)?;
+        sum = add_process(alloc, shapes, table, p, sum)?;
     }
     Ok(sum)
 }
@@ -156,74 +167,67 @@ fn input_bits(signal: &Signal) -> u64
 }
 
 /// The total with the bits of the top's inputs.
-fn add_inputs(shapes: &Shapes, total: u64) -> Result<u64, AllocError>
-    ensures { IfOk result (λ t. t ≡ total + sum_by E.signal_length (D.top_inputs (design_of shapes.now))) }
+fn add_inputs(shapes: &Shapes, total: u64) -> u64
+    ensures { result ≡ capped (total + sum_by E.signal_length (D.top_inputs (design_of shapes.now))) }
 {
     trees_law();
     let flat = shapes.flat();
     let mut sum = total;
     for n in 0..flat.signal_count() {
-        sum = plus(sum, input_bits(flat.signal(n)))?;
+        sum = plus(sum, input_bits(flat.signal(n)));
     }
-    Ok(sum)
+    sum
 }
 
 /// The total with what process p costs if it sleeps: the bits that it waits on, 1, and the bits that it writes.
-fn add_sleeper(
-    footprints: &Footprints,
-    p: u32,
-    sleeping: &[bool],
-    total: u64,
-) -> Result<u64, AllocError>
+fn add_sleeper(footprints: &Footprints, p: u32, sleeping: &[bool], total: u64) -> u64
     requires there { p < length footprints.now }
     requires flags { p < length sleeping.now }
-    ensures { IfOk result (λ t. t ≡ total + (if slice_index_or sleeping.now p false then (length (waits_at footprints.now p) + 1 + length (writes_at footprints.now p)) else 0)) }
+    ensures { result ≡ capped (total + (if slice_index_or sleeping.now p false then (length (waits_at footprints.now p) + 1 + length (writes_at footprints.now p)) else 0)) }
 {
     if !sleeping[p as usize] {
-        return Ok(total);
+        return total;
     }
     let waits = footprints.waits(p);
     let writes = footprints.writes(p);
-    let own = plus(plus(waits.len() as u64, 1)?, writes.len() as u64)?;
+    let own = plus(plus(waits.len() as u64, 1), writes.len() as u64);
     plus(total, own)
 }
 
 /// The total with what sleeping blocks cost.
-fn add_sleepers(
+pub(crate) fn add_sleepers(
     shapes: &Shapes,
     footprints: &Footprints,
     sleeping: &[bool],
     total: u64,
-) -> Result<u64, AllocError>
+) -> u64
     requires footprints { footprints.now ≡ footprints_of (design_of shapes.now) }
     requires sleeping { sleeping.now ≡ map (is_sleeping (design_of shapes.now)) (design_of shapes.now).processes }
-    ensures { IfOk result (λ t. t ≡ total + sum_by (S.sleeper_weight (design_of shapes.now)) (design_of shapes.now).processes) }
+    ensures { result ≡ capped (total + sum_by (S.sleeper_weight (design_of shapes.now)) (design_of shapes.now).processes) }
 {
     trees_law();
     footprint_law();
     let _ = shapes.flat();
     let mut sum = total;
     for p in 0..footprints.count() {
-        sum = add_sleeper(footprints, p, sleeping, sum)?;
+        sum = add_sleeper(footprints, p, sleeping, sum);
     }
-    Ok(sum)
+    sum
 }
 
-/// The size of the design: what the stores into a plane in one clock half-period are measured by. Want of memory is the only error; a sum that no `u64` holds would be answered so too.
-pub(crate) fn size(
+/// The size of the design but for what sleeping blocks add, as far as 2^64 - 1. Want of memory is the only error.
+pub(crate) fn awake_size(
     alloc: Global,
     shapes: &Shapes,
-    footprints: &Footprints,
-    sleeping: &[bool],
+    table: &[Option<u64>],
 ) -> Result<u64, AllocError>
+    requires table { AreWeights shapes.now table.now }
+    requires all { length table.now ≡ length shapes.now.bodies }
     requires fits { list_all fits_process (design_of shapes.now).processes ≡ true }
-    requires footprints { footprints.now ≡ footprints_of (design_of shapes.now) }
-    requires sleeping { sleeping.now ≡ map (is_sleeping (design_of shapes.now)) (design_of shapes.now).processes }
-    ensures { IfOk result (λ n. n ≡ S.size (design_of shapes.now)) }
+    ensures { IfOk result (λ n. n ≡ capped (S.awake_size (design_of shapes.now))) }
 {
-    let processes = add_processes(alloc, shapes, 0)?;
-    let registers = times(2, register_count(alloc, shapes)?)?;
+    let processes = add_processes(alloc, shapes, table)?;
+    let registers = times(2, register_count(alloc, shapes)?);
     let doubled = doubled_count(alloc, shapes)?;
-    let inputs = add_inputs(shapes, plus(plus(processes, registers)?, doubled)?)?;
-    add_sleepers(shapes, footprints, sleeping, inputs)
+    Ok(add_inputs(shapes, plus(plus(processes, registers), doubled)))
 }

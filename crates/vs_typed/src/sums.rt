@@ -1,19 +1,18 @@
 //! Sums of weights.
 
-ghost use Rattle.std.specs.Prelude.{◌≡◌, ◌+◌, ◌*◌, IfOk};
+ghost use Rattle.std.specs.Prelude.{◌≡◌, ◌+◌, ◌*◌};
+ghost use Rattle.vs_typed.specs.Weights.{capped};
 
-use std::alloc::AllocError;
-
-/// A sum. One that no `u64` holds is answered as want of memory; a design's weights don't come to it.
-pub(crate) fn plus(total: u64, more: u64) -> Result<u64, AllocError>
-    ensures { IfOk result (λ n. n ≡ total + more) }
+/// A sum, as far as 2^64 - 1. Weights of calls grow with each function that calls others twice, so a short text may come to it.
+pub(crate) fn plus(total: u64, more: u64) -> u64
+    ensures { result ≡ capped (total + more) }
 {
-    total.checked_add(more).ok_or(AllocError)
+    total.saturating_add(more)
 }
 
 /// A product, likewise.
-pub(crate) fn times(a: u64, b: u64) -> Result<u64, AllocError>
-    ensures { IfOk result (λ n. n ≡ a * b) }
+pub(crate) fn times(a: u64, b: u64) -> u64
+    ensures { result ≡ capped (a * b) }
 {
-    a.checked_mul(b).ok_or(AllocError)
+    a.saturating_mul(b)
 }

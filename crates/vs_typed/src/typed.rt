@@ -1,18 +1,19 @@
 //! The typed design.
 
-ghost use Rattle.std.specs.Prelude.{◌≡◌, ◌<◌, ◌≤◌, length, map, min, None, Some, slice_get, IfOk, IfErr};
+ghost use Rattle.std.specs.Prelude.{◌≡◌, ◌<◌, ◌≤◌, length, map, min, true, None, Some, slice_get, IfOk, IfErr};
 
 use crate::{WidthError, fits_law};
 use std::marker::Model;
 use vs_flat::{Flat, trees_law};
 use vs_shape::Shapes;
 
-/// A lawful flat design of which no length is refused, with the length and the sign of each expression, the size of the whole, and for each process whether it sleeps.
+/// A lawful flat design of which no length is refused, with the length and the sign of each expression, the size of the whole, and for each process whether it sleeps, and for each function whether it fits and what it weighs.
 #[derive(Drop)]
 pub struct Typed {
     shapes: Shapes,
     size: u64,
     sleeping: Vec<bool>,
+    weights: Vec<Option<u64>>,
 }
 
 impl Model for Typed {
@@ -23,28 +24,40 @@ impl Model for Typed {
 
     ghost view = { λ t. t.shapes };
 
-    ghost invariant = { λ t. IsTyped t.shapes t.size t.sleeping.items };
+    ghost invariant = { λ t. IsTyped t.shapes t.size t.sleeping.items t.weights.items };
 }
 
 impl Typed {
     ghost use Rattle.vs_design.specs.Designs as D;
     ghost use Rattle.vs_design.specs.Expressions.{width, sign};
     ghost use Rattle.vs_design.specs.Refusals.{width_refusal};
-    ghost use Rattle.vs_design.specs.Sizes.{size};
+    ghost use Rattle.vs_design.specs.Fits.{fits_statement};
+    ghost use Rattle.vs_design.specs.Sizes.{awake_size, size, statement_weight};
+    ghost use Rattle.vs_design.specs.Statements as T;
     ghost use Rattle.vs_design.specs.Sleepers.{is_sleeping};
     ghost use Rattle.vs_flat.specs.DesignOf.{arena_trees, design_of};
     ghost use Rattle.vs_flat.specs.Lawful.{IsLawful};
     ghost use Rattle.vs_flat.specs.Trees.{tree_at};
     ghost use Rattle.vs_typed.specs.Refused.{IsWidthError, first_refused};
+    ghost use Rattle.vs_typed.specs.Weights.{AreWeights, capped};
 
-    /// A design of which no process is refused, with its size and for each process whether it sleeps. TooLarge: the size is over 16,777,216.
-    pub(crate) fn of(shapes: Shapes, size: u64, sleeping: Vec<bool>) -> Result<Typed, WidthError>
+    /// A design of which no process is refused, with its size, for each process whether it sleeps, and the weights of its functions. TooLarge: the size is over 16,777,216.
+    pub(crate) fn of(
+        shapes: Shapes,
+        size: u64,
+        sleeping: Vec<bool>,
+        weights: Vec<Option<u64>>,
+    ) -> Result<Typed, WidthError>
         requires unrefused { first_refused (design_of shapes) ≡ None }
-        requires size { size ≡ Rattle.vs_design.specs.Sizes.size (design_of shapes) }
+        requires awake { awake_size (design_of shapes) ≤ 16777216 }
+        requires size { size ≡ capped (Rattle.vs_design.specs.Sizes.size (design_of shapes)) }
+        requires weights { AreWeights shapes weights.items }
+        requires all { length weights.items ≡ length shapes.bodies }
         requires sleeping { sleeping.items ≡ map (is_sleeping (design_of shapes)) (design_of shapes).processes }
         ensures same { IfOk result (λ t. t ≡ shapes) }
         ensures refused { IfErr result (IsWidthError (design_of shapes)) }
     {
+        trees_law();
         if size > 16_777_216 {
             return Err(WidthError::TooLarge { size });
         }
@@ -52,6 +65,7 @@ impl Typed {
             shapes,
             size,
             sleeping,
+            weights,
         })
     }
 
@@ -103,5 +117,23 @@ impl Typed {
     {
         trees_law();
         self.sleeping[p as usize]
+    }
+
+    /// Whether all in the statement of function f fits: every expression and target in it, and in the functions that it calls, has 1 to 64 bits, and nothing divides at run time (IEEE 1364-2005, 10.4). That of a function that a process calls does.
+    pub fn fits_function(&self, f: u32) -> bool
+        requires { f < length self.now.bodies }
+        ensures { (x : T.Function) → slice_get (design_of self.now).functions f ≡ Some x → result ≡ fits_statement x.statement }
+    {
+        trees_law();
+        self.weights[f as usize].is_some()
+    }
+
+    /// What the statement of function f weighs if it fits, as far as 2^64 - 1.
+    pub fn function_weight(&self, f: u32) -> u64
+        requires { f < length self.now.bodies }
+        ensures { (x : T.Function) → slice_get (design_of self.now).functions f ≡ Some x → fits_statement x.statement ≡ true → result ≡ min (statement_weight x.statement) 18446744073709551615 }
+    {
+        trees_law();
+        self.weights[f as usize].unwrap_or(0)
     }
 }

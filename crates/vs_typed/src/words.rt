@@ -1,11 +1,12 @@
 //! Memories (IEEE 1364-2005, 4.9): what an address costs, and their bits.
 
-ghost use Rattle.std.specs.Prelude.{◌≡◌, ◌<◌, ◌++◌, [], length, if◌then◌else◌, IfOk, OnOk};
+ghost use Rattle.std.specs.Prelude.{◌≡◌, ◌<◌, ◌++◌, [], length, if◌then◌else◌, OnOk};
 ghost use Rattle.vs_design.specs.Footprints.{is_memory, memory_bits};
 ghost use Rattle.vs_design.specs.Sizes as S;
 ghost use Rattle.vs_design.specs.Values.{bits_of_signal};
 ghost use Rattle.vs_flat.specs.DesignOf.{arena_signals, design_of};
 ghost use Rattle.vs_flat.specs.Trees.{signal_at};
+ghost use Rattle.vs_typed.specs.Weights.{capped};
 
 use crate::sums::{plus, times};
 use std::alloc::AllocError;
@@ -13,14 +14,14 @@ use vs_flat::{range_bits, trees_law};
 use vs_shape::Shapes;
 
 /// What an address of m bits costs in a memory: twice the address and the word for each of its words.
-pub(crate) fn address_weight(shapes: &Shapes, memory: u32, m: u64) -> Result<u64, AllocError>
+pub(crate) fn address_weight(shapes: &Shapes, memory: u32, m: u64) -> u64
     requires { memory < length shapes.now.signals }
-    ensures { IfOk result (λ t. t ≡ S.address_weight (signal_at (arena_signals shapes.now) memory) m) }
+    ensures { result ≡ capped (S.address_weight (signal_at (arena_signals shapes.now) memory) m) }
 {
     trees_law();
     let signal = shapes.flat().signal(memory);
-    let each = plus(m, range_bits(signal.range))?;
-    times(2, times(range_bits(signal.words), each)?)
+    let each = plus(m, range_bits(signal.range));
+    times(2, times(range_bits(signal.words), each))
 }
 
 /// Adds the bits of signal n if it is a memory.

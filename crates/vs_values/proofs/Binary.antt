@@ -76,8 +76,8 @@ apply_length law op s w m n x y l h k =
 
 -- ---- both operands
 
-pub record Operands (bits : ℕ) (env : List ℕ) (code code1 code2 : Coding) (op : BinaryOp) (a b : Expression) (w : ℕ) (s ls : Bool) (ta tb : List ℕ) : Type 0 where
-  pub ready : IsReady bits env code (Binary op a b) w
+pub record Operands (env : List ℕ) (code code1 code2 : Coding) (op : BinaryOp) (a b : Expression) (w : ℕ) (s ls : Bool) (ta tb : List ℕ) : Type 0 where
+  pub ready : IsReady env code (Binary op a b) w
   pub left : AddsValue env code.calls code.next code1.calls code1.next a (left_width (way op) w (width a) (width b)) (left_sign (way op) s (sign a) (sign b)) ta
   pub right : AddsValue env code1.calls code1.next code2.calls code2.next b (right_width (way op) w (width a) (width b)) (right_sign (way op) s (sign a) (sign b)) tb
   pub sign_is : ls ≡ left_sign (way op) s (sign a) (sign b)
@@ -93,8 +93,8 @@ pub adds_at : (env : List ℕ) (old : List Call) (mark : ℕ) (new : List Call) 
     → AddsValue env old mark new next e w s to → AddsValue env old mark new next e w' s' to
 adds_at env old mark new next e w w' s s' to h k v = subst₂ (λ x y. AddsValue env old mark new next e x y to) h k v
 
-pub ready_at : (bits : ℕ) (env : List ℕ) (code : Coding) (e : Expression) (w w' : ℕ) → w' ≡ w → IsReady bits env code e w → IsReady bits env code e w'
-ready_at bits env code e w w' h r = subst (λ x. IsReady bits env code e x) (sym h) r
+pub ready_at : (env : List ℕ) (code : Coding) (e : Expression) (w w' : ℕ) → w' ≡ w → IsReady env code e w → IsReady env code e w'
+ready_at env code e w w' h r = subst (λ x. IsReady env code e x) (sym h) r
 
 -- ---- what comes of them
 
@@ -104,8 +104,8 @@ pub record AreShort (a b : List ℕ) : Type 0 where
   pub some_b : 1 ≤ length b
   pub most_b : length b ≤ 64
 
-pub short_is : (bits : ℕ) (env : List ℕ) (code code1 code2 : Coding) (op : BinaryOp) (a b : Expression) (w : ℕ) (s ls : Bool) (ta tb : List ℕ) → Operands bits env code code1 code2 op a b w s ls ta tb → AreShort ta tb
-short_is bits env code code1 code2 op a b w s ls ta tb o =
+pub short_is : (env : List ℕ) (code code1 code2 : Coding) (op : BinaryOp) (a b : Expression) (w : ℕ) (s ls : Bool) (ta tb : List ℕ) → Operands env code code1 code2 op a b w s ls ta tb → AreShort ta tb
+short_is env code code1 code2 op a b w s ls ta tb o =
     let f = fit_binary op a b o.ready.fit in
     let l = left_within (way op) w (width a) (width b) o.ready.wide o.ready.at_most_64 f.left_long.1 f.right_long.1 in
     let r = right_within (way op) w (width a) (width b) o.ready.wide o.ready.at_most_64 f.left_long.1 f.right_long.1 in
@@ -116,37 +116,37 @@ short_is bits env code code1 code2 op a b w s ls ta tb o =
       most_b = omega (arith, r.1, o.right.value.length);
     }
 
-pub returns_folded : ValueLength → (bits : ℕ) (env : List ℕ) (code code1 code2 : Coding) (op : BinaryOp) (a b : Expression) (w : ℕ) (s ls : Bool) (ta tb to : List ℕ) → Operands bits env code code1 code2 op a b w s ls ta tb
+pub returns_folded : ValueLength → (env : List ℕ) (code code1 code2 : Coding) (op : BinaryOp) (a b : Expression) (w : ℕ) (s ls : Bool) (ta tb to : List ℕ) → Operands env code code1 code2 op a b w s ls ta tb
     → AreConstant ta → AreConstant tb → to ≡ extended_slots w s (constant_slots (apply_binary op ls (constant_bits ta) (constant_bits tb)))
     → AddsValue env code.calls code.next code2.calls code2.next (Binary op a b) w s to
-returns_folded law bits env code code1 code2 op a b w s ls ta tb to o ca cb is =
+returns_folded law env code code1 code2 op a b w s ls ta tb to o ca cb is =
     let g = left_sign (way op) s (sign a) (sign b) in
-    adds_folded bits env code code1 code2 op a b w s ta tb to o.ready o.left o.right ca cb
+    adds_folded env code code1 code2 op a b w s ta tb to o.ready o.left o.right ca cb
     (apply_length law op g w (width a) (width b) (constant_bits ta) (constant_bits tb) o.ready.wide (length-map ta constant_bit ∙ o.left.value.length) (length-map tb constant_bit ∙ o.right.value.length))
     (is ∙ ap (λ (x : Bool). extended_slots w s (constant_slots (apply_binary op x (constant_bits ta) (constant_bits tb)))) o.sign_is)
 
-pub call_is : (bits : ℕ) (env : List ℕ) (code code1 code2 : Coding) (op : BinaryOp) (a b : Expression) (w : ℕ) (s ls : Bool) (ta tb : List ℕ) → Operands bits env code code1 code2 op a b w s ls ta tb
+pub call_is : (env : List ℕ) (code code1 code2 : Coding) (op : BinaryOp) (a b : Expression) (w : ℕ) (s ls : Bool) (ta tb : List ℕ) → Operands env code code1 code2 op a b w s ls ta tb
     → (AreConstant ta → AreConstant tb → ⊥) → (is_shift (way op) ≡ true → AreConstant tb → ⊥) → CanCall code2 op w ls ta tb
-call_is bits env code code1 code2 op a b w s ls ta tb o f g =
-    subst (λ (x : Bool). CanCall code2 op w x ta tb) (sym o.sign_is) (called_fits bits env code code1 code2 op a b w s ta tb o.ready o.left o.right f g)
+call_is env code code1 code2 op a b w s ls ta tb o f g =
+    subst (λ (x : Bool). CanCall code2 op w x ta tb) (sym o.sign_is) (called_fits env code code1 code2 op a b w s ta tb o.ready o.left o.right f g)
 
-pub returns_called : (bits : ℕ) (env : List ℕ) (code code1 code2 code3 : Coding) (op : BinaryOp) (a b : Expression) (w : ℕ) (s ls : Bool) (ta tb to : List ℕ) → Operands bits env code code1 code2 op a b w s ls ta tb
+pub returns_called : (env : List ℕ) (code code1 code2 code3 : Coding) (op : BinaryOp) (a b : Expression) (w : ℕ) (s ls : Bool) (ta tb to : List ℕ) → Operands env code code1 code2 op a b w s ls ta tb
     → (AreConstant ta → AreConstant tb → ⊥) → (is_shift (way op) ≡ true → AreConstant tb → ⊥)
     → code3 ≡ with_call code2 (binary_kernel op ls) (ta ∷ tb ∷ []) (result_of_way (way op) w)
     → to ≡ extended_slots w s (range_with_len code2.next (result_of_way (way op) w))
     → AddsValue env code.calls code.next code3.calls code3.next (Binary op a b) w s to
-returns_called bits env code code1 code2 code3 op a b w s ls ta tb to o f g is to_is =
-    adds_called bits env code code1 code2 code3 op a b w s ta tb to o.ready o.left o.right f g
+returns_called env code code1 code2 code3 op a b w s ls ta tb to o f g is to_is =
+    adds_called env code code1 code2 code3 op a b w s ta tb to o.ready o.left o.right f g
     (is ∙ ap (λ (x : Bool). with_call code2 (binary_kernel op x) (ta ∷ tb ∷ []) (result_of_way (way op) w)) o.sign_is) to_is
 
-pub operands_of : (bits : ℕ) (env : List ℕ) (code code1 code2 : Coding) (op : BinaryOp) (a b : Expression) (w : ℕ) (s : Bool) (lw : ℕ) (ls : Bool) (rw' : ℕ) (rs : Bool) (m n : ℕ) (t u : Bool) (ta tb : List ℕ)
+pub operands_of : (env : List ℕ) (code code1 code2 : Coding) (op : BinaryOp) (a b : Expression) (w : ℕ) (s : Bool) (lw : ℕ) (ls : Bool) (rw' : ℕ) (rs : Bool) (m n : ℕ) (t u : Bool) (ta tb : List ℕ)
     → lw ≡ left_width (way op) w m n → ls ≡ left_sign (way op) s t u → rw' ≡ right_width (way op) w m n → rs ≡ right_sign (way op) s t u
     → m ≡ width a → n ≡ width b → t ≡ sign a → u ≡ sign b
-    → IsReady bits env code (Binary op a b) w
+    → IsReady env code (Binary op a b) w
     → AddsValue env code.calls code.next code1.calls code1.next a lw ls ta
     → AddsValue env code1.calls code1.next code2.calls code2.next b rw' rs tb
-    → Operands bits env code code1 code2 op a b w s ls ta tb
-operands_of bits env code code1 code2 op a b w s lw ls rw' rs m n t u ta tb e f g h i j k l ready va vb =
+    → Operands env code code1 code2 op a b w s ls ta tb
+operands_of env code code1 code2 op a b w s lw ls rw' rs m n t u ta tb e f g h i j k l ready va vb =
     let sign_left = sign_context (left_sign (way op) s) ls t u (sign a) (sign b) f k l in
     record {
       ready = ready;
@@ -201,16 +201,16 @@ shift_width Own w m n h = absurd (true≢false (sym h))
 shift_width Compared w m n h = absurd (true≢false (sym h))
 shift_width Shifted w m n h = refl
 
-pub returns_moved : (bits : ℕ) (env : List ℕ) (code code1 code2 : Coding) (op : BinaryOp) (a b : Expression) (w : ℕ) (s ls : Bool) (ta tb to : List ℕ) → Operands bits env code code1 code2 op a b w s ls ta tb
+pub returns_moved : (env : List ℕ) (code code1 code2 : Coding) (op : BinaryOp) (a b : Expression) (w : ℕ) (s ls : Bool) (ta tb to : List ℕ) → Operands env code code1 code2 op a b w s ls ta tb
     → is_shift (way op) ≡ true → AreConstant tb → to ≡ extended_slots w s (shifted_slots op ls ta (constant_bits tb))
     → AddsValue env code.calls code.next code2.calls code2.next (Binary op a b) w s to
-returns_moved bits env code code1 code2 op a b w s ls ta tb to o shift cb is =
+returns_moved env code code1 code2 op a b w s ls ta tb to o shift cb is =
     let g = left_sign (way op) s (sign a) (sign b) in
     let amount = constant_bits tb in
     let r = shifted_slots op g ta amount in
     let least : 4 ≤ code2.next = omega (arith, o.ready.is_env.constants, o.left.value.values.added.grown, o.right.value.values.added.grown) in
     let source = IsSource env code.next (read_bits a ++ read_bits b) in
-    adds_moved bits env code code1 code2 op a b w s ta tb r to o.ready o.left o.right
+    adds_moved env code code1 code2 op a b w s ta tb r to o.ready o.left o.right
     (omega (arith, shifted_long op g ta amount shift, o.left.value.length, shift_width (way op) w (width a) (width b) shift))
     (λ slots h. shifted_are op g slots ta amount shift h ∙ ap (apply_binary op g (map slots ta)) (sym (bits_are slots tb h cb)))
     (shifted_all (λ slot. slot < code2.next) op g ta amount shift (omega arith) (omega arith)

@@ -12,6 +12,7 @@ use Rattle.vs_design.specs.Sizes.{weight}
 use Rattle.vs_design.specs.Fits.{fits, divides_constants, is_fit}
 use Rattle.vs_design.specs.Values.{value}
 use Rattle.vs_design.specs.TreeLaws.{ValueLength}
+use Rattle.vs_design.specs.Within.{names_within}
 use Rattle.vs_kern_select.specs.declared.costs.Kernel.TheVariants as S
 use Rattle.vs_code.specs.declared.kernels.AnyKernel.TheVariants.{Select}
 use Rattle.vs_code.specs.Kernels.{takes}
@@ -62,16 +63,17 @@ fit_choice c p q w h wide =
 parts_weigh : (c p q : Expression) (w : ℕ) → weight c (width c) + weight p w + weight q w ≤ weight (Choice c p q) w
 parts_weigh c p q w = omega arith
 
-pub ready_condition : (bits : ℕ) (env : List ℕ) (code : Coding) (c p q : Expression) (w k : ℕ) → k ≡ width c → IsReady bits env code (Choice c p q) w → IsReady bits env code c k
-ready_condition bits env code c p q w k h r =
+pub ready_condition : (env : List ℕ) (code : Coding) (c p q : Expression) (w k : ℕ) → k ≡ width c → IsReady env code (Choice c p q) w → IsReady env code c k
+ready_condition env code c p q w k h r =
     let f = fit_choice c p q w r.fit r.wide in
     let weighs = parts_weigh c p q w in
-    subst (IsReady bits env code c) (sym h) (record {
+    subst (IsReady env code c) (sym h) (record {
       is_env = r.is_env;
-      has_bits = r.has_bits;
+      has_bits = (both_true (names_within (length env) c) (names_within (length env) p) (both_true (names_within (length env) c && names_within (length env) p) (names_within (length env) q) r.has_bits).0).0;
       fit = f.fit_c;
       wide = omega arith;
       at_most_64 = f.long.1;
+      light = omega (arith, r.light, weighs);
       slots = omega (arith, r.slots, weighs);
       few = omega (arith, r.few, weighs);
     })
@@ -81,42 +83,44 @@ pub own_value_of : (env : List ℕ) (code code1 : Coding) (c : Expression) (k : 
 own_value_of env code code1 c k t tc h i v =
     subst (λ (x : ℕ). AddsValue env code.calls code.next code1.calls code1.next c x (sign c) tc) h (subst (λ (x : Bool). AddsValue env code.calls code.next code1.calls code1.next c k x tc) i v)
 
-pub ready_first : (bits : ℕ) (env : List ℕ) (code code1 : Coding) (c p q : Expression) (w : ℕ) (tc : List ℕ) → IsReady bits env code (Choice c p q) w
-    → AddsValue env code.calls code.next code1.calls code1.next c (width c) (sign c) tc → IsReady bits env code1 p w
-ready_first bits env code code1 c p q w tc r v =
+pub ready_first : (env : List ℕ) (code code1 : Coding) (c p q : Expression) (w : ℕ) (tc : List ℕ) → IsReady env code (Choice c p q) w
+    → AddsValue env code.calls code.next code1.calls code1.next c (width c) (sign c) tc → IsReady env code1 p w
+ready_first env code code1 c p q w tc r v =
     let f = fit_choice c p q w r.fit r.wide in
     let weighs = parts_weigh c p q w in
     let added = v.value.values.added in
     record {
       is_env = env_more env code.next code1.next added.grown r.is_env;
-      has_bits = r.has_bits;
+      has_bits = (both_true (names_within (length env) c) (names_within (length env) p) (both_true (names_within (length env) c && names_within (length env) p) (names_within (length env) q) r.has_bits).0).1;
       fit = f.fit_p;
       wide = f.wide_p;
       at_most_64 = r.at_most_64;
+      light = omega (arith, r.light, weighs);
       slots = omega (arith, r.slots, weighs, added.paid, added.stores);
       few = omega (arith, r.few, weighs, added.stores, stores_of code.calls v.calls code1.calls v.is);
     }
 
-pub ready_second : (bits : ℕ) (env : List ℕ) (code code1 code2 : Coding) (c p q : Expression) (w : ℕ) (s : Bool) (tc tp : List ℕ) → IsReady bits env code (Choice c p q) w
-    → AddsValue env code.calls code.next code1.calls code1.next c (width c) (sign c) tc → AddsValue env code1.calls code1.next code2.calls code2.next p w s tp → IsReady bits env code2 q w
-ready_second bits env code code1 code2 c p q w s tc tp r v u =
+pub ready_second : (env : List ℕ) (code code1 code2 : Coding) (c p q : Expression) (w : ℕ) (s : Bool) (tc tp : List ℕ) → IsReady env code (Choice c p q) w
+    → AddsValue env code.calls code.next code1.calls code1.next c (width c) (sign c) tc → AddsValue env code1.calls code1.next code2.calls code2.next p w s tp → IsReady env code2 q w
+ready_second env code code1 code2 c p q w s tc tp r v u =
     let f = fit_choice c p q w r.fit r.wide in
     let weighs = parts_weigh c p q w in
     let added = v.value.values.added in
     let more = u.value.values.added in
     record {
       is_env = env_more env code.next code2.next (omega (arith, added.grown, more.grown)) r.is_env;
-      has_bits = r.has_bits;
+      has_bits = (both_true (names_within (length env) c && names_within (length env) p) (names_within (length env) q) r.has_bits).1;
       fit = f.fit_q;
       wide = f.wide_q;
       at_most_64 = r.at_most_64;
+      light = omega (arith, r.light, weighs);
       slots = omega (arith, r.slots, weighs, added.paid, added.stores, more.paid, more.stores);
       few = omega (arith, r.few, weighs, added.stores, more.stores, stores_of code.calls v.calls code1.calls v.is, stores_of code1.calls u.calls code2.calls u.is);
     }
 
 -- what the code knows of its parts
-pub record Parts (bits : ℕ) (env : List ℕ) (code code1 code2 code3 : Coding) (c p q : Expression) (w : ℕ) (s : Bool) (tc tp tq : List ℕ) : Type 0 where
-  pub ready : IsReady bits env code (Choice c p q) w
+pub record Parts (env : List ℕ) (code code1 code2 code3 : Coding) (c p q : Expression) (w : ℕ) (s : Bool) (tc tp tq : List ℕ) : Type 0 where
+  pub ready : IsReady env code (Choice c p q) w
   pub condition : AddsValue env code.calls code.next code1.calls code1.next c (width c) (sign c) tc
   pub first : AddsValue env code1.calls code1.next code2.calls code2.next p w s tp
   pub second : AddsValue env code2.calls code2.next code3.calls code3.next q w s tq
@@ -128,8 +132,8 @@ pub record AreLong (tc tp tq : List ℕ) : Type 0 where
   pub most : length tp ≤ 64
   pub alike : length tp ≡ length tq
 
-pub parts_long : (bits : ℕ) (env : List ℕ) (code code1 code2 code3 : Coding) (c p q : Expression) (w : ℕ) (s : Bool) (tc tp tq : List ℕ) → Parts bits env code code1 code2 code3 c p q w s tc tp tq → AreLong tc tp tq
-parts_long bits env code code1 code2 code3 c p q w s tc tp tq o =
+pub parts_long : (env : List ℕ) (code code1 code2 code3 : Coding) (c p q : Expression) (w : ℕ) (s : Bool) (tc tp tq : List ℕ) → Parts env code code1 code2 code3 c p q w s tc tp tq → AreLong tc tp tq
+parts_long env code code1 code2 code3 c p q w s tc tp tq o =
     let f = fit_choice c p q w o.ready.fit o.ready.wide in
     record {
       some_c = omega (arith, f.long.0, o.condition.value.length);
@@ -145,9 +149,9 @@ not_all true true false f = refl
 not_all true false c f = refl
 not_all false b c f = refl
 
-pub callable_choice : (bits : ℕ) (env : List ℕ) (code code1 code2 code3 : Coding) (c p q : Expression) (w : ℕ) (s : Bool) (tc tp tq : List ℕ) → Parts bits env code code1 code2 code3 c p q w s tc tp tq
+pub callable_choice : (env : List ℕ) (code code1 code2 code3 : Coding) (c p q : Expression) (w : ℕ) (s : Bool) (tc tp tq : List ℕ) → Parts env code code1 code2 code3 c p q w s tc tp tq
     → (AllConstant tc tp tq → ⊥) → IsCallable code3 (Select S.Choose) (tc ∷ tp ∷ tq ∷ []) w
-callable_choice bits env code code1 code2 code3 c p q w s tc tp tq o variable =
+callable_choice env code code1 code2 code3 c p q w s tc tp tq o variable =
     let r = o.ready in
     let f = fit_choice c p q w r.fit r.wide in
     let vc = o.condition.value in
@@ -198,10 +202,10 @@ choice_length law w x y z h k =
 three_added : (old c p q one two three : List Call) → one ≡ old ++ c → two ≡ one ++ p → three ≡ two ++ q → three ≡ old ++ (c ++ (p ++ q))
 three_added old c p q one two three e f g = two_added old c (p ++ q) one three e (two_added one p q two three f g)
 
-pub returns_choice : ValueLength → (bits : ℕ) (env : List ℕ) (code code1 code2 code3 code4 : Coding) (c p q : Expression) (w : ℕ) (s : Bool) (tc tp tq to : List ℕ) → Parts bits env code code1 code2 code3 c p q w s tc tp tq
+pub returns_choice : ValueLength → (env : List ℕ) (code code1 code2 code3 code4 : Coding) (c p q : Expression) (w : ℕ) (s : Bool) (tc tp tq to : List ℕ) → Parts env code code1 code2 code3 c p q w s tc tp tq
     → IsChoice w tc tp tq code3 code4 to
     → AddsValue env code.calls code.next code4.calls code4.next (Choice c p q) w s to
-returns_choice law bits env code code1 code2 code3 code4 c p q w s tc tp tq to o (inl h) =
+returns_choice law env code code1 code2 code3 code4 c p q w s tc tp tq to o (inl h) =
     let vc = o.condition in
     let vp = o.first in
     let vq = o.second in
@@ -212,7 +216,7 @@ returns_choice law bits env code code1 code2 code3 code4 c p q w s tc tp tq to o
       value = choice_without env code.next c p q w s vc.calls tc code1.next vp.calls tp code2.next vq.calls tq code3.next o.ready.is_env h.0.0 h.0.1.0 h.0.1.1 vc.value vp.value vq.value
           (choice_length law w (constant_bits tc) (constant_bits tp) (constant_bits tq) (length-map tp constant_bit ∙ vp.value.length) (length-map tq constant_bit ∙ vq.value.length));
     }))
-returns_choice law bits env code code1 code2 code3 code4 c p q w s tc tp tq to o (inr h) =
+returns_choice law env code code1 code2 code3 code4 c p q w s tc tp tq to o (inr h) =
     let r = o.ready in
     let f = fit_choice c p q w r.fit r.wide in
     let vc = o.condition in
@@ -220,7 +224,7 @@ returns_choice law bits env code code1 code2 code3 code4 c p q w s tc tp tq to o
     let vq = o.second in
     let constant = not_all (is_constant c) (is_constant p) (is_constant q) (λ a b d. h.variable (vc.value.constant a, (vp.value.constant b, vq.value.constant d))) in
     let call = fresh_call (Select S.Choose) (tc ∷ tp ∷ tq ∷ []) code3.next w in
-    let can = callable_choice bits env code code1 code2 code3 c p q w s tc tp tq o h.variable in
+    let can = callable_choice env code code1 code2 code3 c p q w s tc tp tq o h.variable in
     let all = vc.calls ++ (vp.calls ++ vq.calls) in
     let value = choice_is env code.next c p q w s vc.calls tc code1.next vp.calls tp code2.next vq.calls tq code3.next r.is_env f.some f.long.0 (omega (arith, r.at_most_64)) (omega (arith, f.long.1)) constant (omega (arith, can.slots)) vc.value vp.value vq.value in
     record {

@@ -1,13 +1,13 @@
 -- Concatenations and replications whose parts were lowered.
-use Rattle.std.proofs.Common.{◌≡◌, ℕ, ◌+◌, ◌*◌, ◌<◌, ◌≤◌, Bool, true, false, ◌&&◌, List, [], ◌∷◌, ◌++◌, map, length, slice_index, drop, take, nat_lt, sym, ap, ◌∙◌, subst, refl, arith, true≢false, length-append, append-nil, replicate, ◌-◌}
+use Rattle.std.proofs.Common.{◌≡◌, ℕ, suc, ◌+◌, ◌*◌, ◌<◌, ◌≤◌, Bool, true, false, ◌&&◌, List, [], ◌∷◌, ◌++◌, map, length, slice_index, drop, take, sym, ap, ◌∙◌, subst, refl, arith, true≢false, length-append, append-nil, replicate, ◌-◌}
 use Rattle.std.specs.List.{All}
-use Rattle.std.proofs.lemmas.Bool.{and_parts}
 use Rattle.std.proofs.lemmas.List.Elements.{All-nil, All-cons, All-take, All-drop}
 use Rattle.vs_four.specs.Lengths.{repeat, extend_with}
 use Rattle.vs_design.specs.Expressions.{Expression, Join, Repeat, width, sign}
 use Rattle.vs_design.specs.Fits.{fits, fits_64, divides_constants, is_fit}
+use Rattle.vs_design.specs.Within.{names_within}
 use Rattle.vs_flat.specs.Trees.{joined, copy_count, first_copy}
-use Rattle.vs_flat.specs.Named.{all_below}
+use Rattle.vs_shape.specs.Nodes.{EachBelow}
 use Rattle.vs_values.specs.Constants.{extended_slots}
 use Rattle.vs_values.specs.Coded.{Coding}
 use Rattle.vs_values.specs.Ready.{IsReady}
@@ -63,8 +63,8 @@ parts_short t (x ∷ y ∷ ys) h =
     let here = (fits_length (t x) q.1).0 in
     (omega arith, omega (arith, rest.1, here))
 
-pub parts_most : (bits : ℕ) (env : List ℕ) (code : Coding) (t : ℕ → Expression) (parts : List ℕ) (w : ℕ) → IsReady bits env code (joined (map t parts)) w → (1 ≤ length parts) × (length parts ≤ 64)
-parts_most bits env code t parts w r =
+pub parts_most : (env : List ℕ) (code : Coding) (t : ℕ → Expression) (parts : List ℕ) (w : ℕ) → IsReady env code (joined (map t parts)) w → (1 ≤ length parts) × (length parts ≤ 64)
+parts_most env code t parts w r =
     let p = both_true (fits (joined (map t parts))) (divides_constants (joined (map t parts))) r.fit in
     let l = parts_short t parts p.0 in
     let m = fits_length (joined (map t parts)) p.0 in
@@ -80,40 +80,42 @@ fit_join high low h =
     let d = both_true (divides_constants high) (divides_constants low) x.1 in
     (both (fits high) (divides_constants high) g.1 d.0, both (fits low) (divides_constants low) f.1 d.1)
 
-pub ready_low : (bits : ℕ) (env : List ℕ) (code : Coding) (high low : Expression) → IsReady bits env code (Join high low) (width (Join high low)) → IsReady bits env code low (width low)
-ready_low bits env code high low r =
+pub ready_low : (env : List ℕ) (code : Coding) (high low : Expression) → IsReady env code (Join high low) (width (Join high low)) → IsReady env code low (width low)
+ready_low env code high low r =
     let f = fit_join high low r.fit in
     record {
       is_env = r.is_env;
-      has_bits = r.has_bits;
+      has_bits = (both_true (names_within (length env) high) (names_within (length env) low) r.has_bits).1;
       fit = f.1;
       wide = omega arith;
       at_most_64 = omega (arith, r.at_most_64);
+      light = omega (arith, r.light);
       slots = omega (arith, r.slots);
       few = omega (arith, r.few);
     }
 
-pub ready_high : (bits : ℕ) (env : List ℕ) (code code1 : Coding) (high low : Expression) (k : ℕ) (tl : List ℕ) → k ≡ width high → IsReady bits env code (Join high low) (width (Join high low))
-    → AddsValue env code.calls code.next code1.calls code1.next low (width low) (sign low) tl → IsReady bits env code1 high k
-ready_high bits env code code1 high low k tl h r v =
+pub ready_high : (env : List ℕ) (code code1 : Coding) (high low : Expression) (k : ℕ) (tl : List ℕ) → k ≡ width high → IsReady env code (Join high low) (width (Join high low))
+    → AddsValue env code.calls code.next code1.calls code1.next low (width low) (sign low) tl → IsReady env code1 high k
+ready_high env code code1 high low k tl h r v =
     let f = fit_join high low r.fit in
     let added = v.value.values.added in
     let stored = stores_of code.calls v.calls code1.calls v.is in
-    subst (IsReady bits env code1 high) (sym h) (record {
+    subst (IsReady env code1 high) (sym h) (record {
       is_env = env_more env code.next code1.next added.grown r.is_env;
-      has_bits = r.has_bits;
+      has_bits = (both_true (names_within (length env) high) (names_within (length env) low) r.has_bits).0;
       fit = f.0;
       wide = omega arith;
       at_most_64 = omega (arith, r.at_most_64);
+      light = omega (arith, r.light);
       slots = omega (arith, r.slots, added.paid, added.stores);
       few = omega (arith, r.few, added.stores, stored);
     })
 
-pub ready_one : (bits : ℕ) (env : List ℕ) (code : Coding) (e one : Expression) (k : ℕ) → e ≡ one → k ≡ width one → IsReady bits env code e (width e) → IsReady bits env code one k
-ready_one bits env code e one k h i r = subst (IsReady bits env code one) (sym i) (subst (λ (x : Expression). IsReady bits env code x (width x)) h r)
+pub ready_one : (env : List ℕ) (code : Coding) (e one : Expression) (k : ℕ) → e ≡ one → k ≡ width one → IsReady env code e (width e) → IsReady env code one k
+ready_one env code e one k h i r = subst (IsReady env code one) (sym i) (subst (λ (x : Expression). IsReady env code x (width x)) h r)
 
-pub ready_part : (bits : ℕ) (env : List ℕ) (code : Coding) (e both : Expression) → e ≡ both → IsReady bits env code e (width e) → IsReady bits env code both (width both)
-ready_part bits env code e both h r = subst (λ (x : Expression). IsReady bits env code x (width x)) h r
+pub ready_part : (env : List ℕ) (code : Coding) (e both : Expression) → e ≡ both → IsReady env code e (width e) → IsReady env code both (width both)
+ready_part env code e both h r = subst (λ (x : Expression). IsReady env code x (width x)) h r
 
 -- ---- what comes of them
 
@@ -126,13 +128,13 @@ adds_one env code code1 e one k t to h i j v =
 pub no_more : (fill w : ℕ) (to : List ℕ) → length to ≡ w → extend_with fill w to ≡ to
 no_more fill w to h = let z : w - length to ≡ 0 = omega arith in ap (λ n. to ++ replicate n fill) z ∙ append-nil to
 
-pub adds_join : (bits : ℕ) (env : List ℕ) (code code1 code2 : Coding) (e high low : Expression) (k : ℕ) (t : Bool) (tl th to : List ℕ) → e ≡ Join high low → k ≡ width high → t ≡ sign high
-    → IsReady bits env code (Join high low) (width (Join high low))
+pub adds_join : (env : List ℕ) (code code1 code2 : Coding) (e high low : Expression) (k : ℕ) (t : Bool) (tl th to : List ℕ) → e ≡ Join high low → k ≡ width high → t ≡ sign high
+    → IsReady env code (Join high low) (width (Join high low))
     → AddsValue env code.calls code.next code1.calls code1.next low (width low) (sign low) tl
     → AddsValue env code1.calls code1.next code2.calls code2.next high k t th
     → to ≡ tl ++ th
     → AddsValue env code.calls code.next code2.calls code2.next e (width e) (sign e) to
-adds_join bits env code code1 code2 e high low k t tl th to h i j r vl v is =
+adds_join env code code1 code2 e high low k t tl th to h i j r vl v is =
     let vh : AddsValue env code1.calls code1.next code2.calls code2.next high (width high) (sign high) th = adds_one env code1 code2 high high k t th refl i j v in
     let w = width (Join high low) in
     let s = sign (Join high low) in
@@ -155,8 +157,8 @@ pub some_first : (parts : List ℕ) → 1 ≤ length (first_copy parts) → 1 �
 some_first [] h = h
 some_first (e ∷ es) h = omega arith
 
-pub ready_copy : (bits : ℕ) (env : List ℕ) (code : Coding) (count : ℕ) (a : Expression) (w : ℕ) → IsReady bits env code (Repeat count a) w → IsReady bits env code a (width a)
-ready_copy bits env code count a w r =
+pub ready_copy : (env : List ℕ) (code : Coding) (count : ℕ) (a : Expression) (w : ℕ) → IsReady env code (Repeat count a) w → IsReady env code a (width a)
+ready_copy env code count a w r =
     let x = both_true (fits (Repeat count a)) (divides_constants a) r.fit in
     let f = both_true (fits_64 (count * width a)) (fits a) x.0 in
     record {
@@ -165,19 +167,20 @@ ready_copy bits env code count a w r =
       fit = both (fits a) (divides_constants a) f.1 x.1;
       wide = omega arith;
       at_most_64 = (fits_length a f.1).1;
+      light = r.light;
       slots = r.slots;
       few = r.few;
     }
 
-pub parts_some : (bits : ℕ) (env : List ℕ) (code : Coding) (t : ℕ → Expression) (parts : List ℕ) (w : ℕ) → IsReady bits env code (Repeat (copy_count parts) (joined (map t (first_copy parts)))) w → 1 ≤ length parts
-parts_some bits env code t parts w r =
-    some_first parts (parts_most bits env code t (first_copy parts) (width (joined (map t (first_copy parts)))) (ready_copy bits env code (copy_count parts) (joined (map t (first_copy parts))) w r)).0
+pub parts_some : (env : List ℕ) (code : Coding) (t : ℕ → Expression) (parts : List ℕ) (w : ℕ) → IsReady env code (Repeat (copy_count parts) (joined (map t (first_copy parts)))) w → 1 ≤ length parts
+parts_some env code t parts w r =
+    some_first parts (parts_most env code t (first_copy parts) (width (joined (map t (first_copy parts)))) (ready_copy env code (copy_count parts) (joined (map t (first_copy parts))) w r)).0
 
-pub adds_copies : (bits : ℕ) (env : List ℕ) (code code1 : Coding) (count : ℕ) (a b : Expression) (w : ℕ) (s : Bool) (ta to : List ℕ) → b ≡ a → IsReady bits env code (Repeat count a) w
+pub adds_copies : (env : List ℕ) (code code1 : Coding) (count : ℕ) (a b : Expression) (w : ℕ) (s : Bool) (ta to : List ℕ) → b ≡ a → IsReady env code (Repeat count a) w
     → AddsValue env code.calls code.next code1.calls code1.next b (width b) (sign b) ta
     → to ≡ extended_slots w s (repeat count ta)
     → AddsValue env code.calls code.next code1.calls code1.next (Repeat count a) w s to
-adds_copies bits env code code1 count a b w s ta to h r u is =
+adds_copies env code code1 count a b w s ta to h r u is =
     let v = subst (λ (x : Expression). AddsValue env code.calls code.next code1.calls code1.next x (width x) (sign x) ta) h u in
     subst (λ (x : List ℕ). AddsValue env code.calls code.next code1.calls code1.next (Repeat count a) w s x) (sym is) (record {
       calls = v.calls;
@@ -187,9 +190,7 @@ adds_copies bits env code code1 count a b w s ta to h r u is =
 
 -- ---- parts come before their node
 
-lt_is : (m n : ℕ) → nat_lt m n ≡ true → m < n
-lt_is m n h = grind arith
-
-pub parts_below : (e : ℕ) (parts : List ℕ) → all_below e parts ≡ true → All (λ p. p < e) parts
-parts_below e [] h = All-nil (λ p. p < e)
-parts_below e (p ∷ ps) h = let x = and_parts (nat_lt p e) (all_below e ps) h in All-cons (λ p. p < e) p ps (lt_is p e x.0) (parts_below e ps x.1)
+-- the k-th of them is below e
+pub each_below : (e : ℕ) (parts : List ℕ) → EachBelow e parts → All (λ p. p < e) parts
+each_below e [] h = All-nil (λ p. p < e)
+each_below e (p ∷ ps) h = All-cons (λ q. q < e) p ps (h 0 (omega arith)) (each_below e ps (λ k l. h (suc k) (omega arith)))

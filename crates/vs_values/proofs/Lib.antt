@@ -8,6 +8,12 @@ mod Parts
 pub mod Selecting
 mod Constants
 pub mod Readying
+pub mod Renaming
+mod Inlined
+mod Called
+mod Tables
+mod Passing
+mod Headers
 pub mod Binary
 pub mod Trees
 pub mod Named

@@ -14,6 +14,7 @@ use Rattle.vs_design.specs.Expressions as E
 use Rattle.vs_design.specs.Expressions.{signal_length}
 use Rattle.vs_design.specs.Elaborated.{have_bits_from}
 use Rattle.vs_design.specs.Values.{count_from, bits_of_signal}
+use Rattle.vs_design.specs.Within as W
 use Rattle.vs_flat.specs.declared.processes.Signal.{Signal}
 use Rattle.vs_flat.specs.Arena as A
 use Rattle.vs_flat.specs.Arena.{Arena, bit_count}
@@ -56,13 +57,17 @@ pub length_count : (first n : ℕ) → length (count_from first n) ≡ n
 length_count first zero = refl
 length_count first (suc n) = ap suc (length_count (suc first) n)
 
-pub adds_name : (bits : ℕ) (env : List ℕ) (code : Coding) (signal : E.Signal) (w : ℕ) (s : Bool) (to : List ℕ) → IsReady bits env code (E.Name signal) w → signal.first + signal_length signal ≤ bits
+-- what is within these many bits
+pub within_is : (n : ℕ) (signal : E.Signal) → W.signal_within n signal ≡ true → signal.first + signal_length signal ≤ n
+within_is n signal h = grind arith
+
+pub adds_name : (env : List ℕ) (code : Coding) (signal : E.Signal) (w : ℕ) (s : Bool) (to : List ℕ) → IsReady env code (E.Name signal) w
     → to ≡ extended_slots w s (map (slice_index env) (bits_of_signal signal)) → AddsValue env code.calls code.next code.calls code.next (E.Name signal) w s to
-adds_name bits env code signal w s to r fits is = record {
+adds_name env code signal w s to r is = record {
   calls = [];
   is = sym (append-nil code.calls);
   value = subst (λ t. IsValue env code.next (E.Name signal) w s [] t code.next) (sym is)
-      (name_is env code.next signal w s r.is_env (all_run signal.first (signal_length signal) (length env) (omega (arith, fits, r.has_bits))) (omega (arith, length_count signal.first (signal_length signal), r.wide)));
+      (name_is env code.next signal w s r.is_env (all_run signal.first (signal_length signal) (length env) (within_is (length env) signal r.has_bits)) (omega (arith, length_count signal.first (signal_length signal), r.wide)));
 }
 
 -- ---- literals
@@ -78,10 +83,10 @@ fill_slot bits false = refl
 literal_slots : (w : ℕ) (g : Bool) (bits : BitList) → constant_slots (extend_with (if g then last_or Zero bits else Zero) w bits) ≡ extended_slots w g (constant_slots bits)
 literal_slots w g bits = map_extend_with constant_slot (if g then last_or Zero bits else Zero) w bits ∙ ap (λ k. extend_with k w (constant_slots bits)) (fill_slot bits g)
 
-pub adds_literal : (bits : ℕ) (env : List ℕ) (code : Coding) (value : BitList) (signed sized : Bool) (w : ℕ) (s : Bool) (to : List ℕ) → IsReady bits env code (E.Literal value signed sized) w
+pub adds_literal : (env : List ℕ) (code : Coding) (value : BitList) (signed sized : Bool) (w : ℕ) (s : Bool) (to : List ℕ) → IsReady env code (E.Literal value signed sized) w
     → length (extend_literal w s sized value) ≡ w
     → to ≡ extended_slots w (s || (not sized && not (is_known (last_or Zero value)))) (constant_slots value) → AddsValue env code.calls code.next code.calls code.next (E.Literal value signed sized) w s to
-adds_literal bits env code value signed sized w s to r long is = record {
+adds_literal env code value signed sized w s to r long is = record {
   calls = [];
   is = sym (append-nil code.calls);
   value = subst (λ t. IsValue env code.next (E.Literal value signed sized) w s [] t code.next) (literal_slots w (s || (not sized && not (is_known (last_or Zero value)))) value ∙ sym is)

@@ -11,6 +11,7 @@ use Rattle.vs_design.specs.Fits.{fits_64, fits_signal, fits, fit_items, fits_sta
 use Rattle.vs_design.specs.Sizes.{weight, is_shift}
 use Rattle.vs_design.specs.Values.{left_width, right_width, left_sign, right_sign, apply_binary}
 use Rattle.vs_design.specs.Footprints.{read_bits}
+use Rattle.vs_design.specs.Within.{names_within}
 use Rattle.vs_code.specs.Kernels.{takes, cost_of, room_of}
 use Rattle.vs_code.specs.Calls.{Call, State, call_cost, length_of, lengths_of, IsCall}
 use Rattle.vs_program.specs.Lowered.{HasConstants}
@@ -113,16 +114,17 @@ right_within Shifted w m n h i j k = (omega arith, omega arith)
 operands_weigh : (op : BinaryOp) (a b : Expression) (w : ℕ) → weight a (left_width (way op) w (width a) (width b)) + weight b (right_width (way op) w (width a) (width b)) ≤ weight (Binary op a b) w
 operands_weigh op a b w = omega arith
 
-pub ready_left : (bits : ℕ) (env : List ℕ) (code : Coding) (op : BinaryOp) (a b : Expression) (w : ℕ) → IsReady bits env code (Binary op a b) w → IsReady bits env code a (left_width (way op) w (width a) (width b))
-ready_left bits env code op a b w r =
+pub ready_left : (env : List ℕ) (code : Coding) (op : BinaryOp) (a b : Expression) (w : ℕ) → IsReady env code (Binary op a b) w → IsReady env code a (left_width (way op) w (width a) (width b))
+ready_left env code op a b w r =
     let f = fit_binary op a b r.fit in
     let l = left_within (way op) w (width a) (width b) r.wide r.at_most_64 f.left_long.1 f.right_long.1 in
     record {
       is_env = r.is_env;
-      has_bits = r.has_bits;
+      has_bits = (both_true (names_within (length env) a) (names_within (length env) b) r.has_bits).0;
       fit = f.left_fit;
       wide = l.0;
       at_most_64 = l.1;
+      light = omega (arith, r.light, operands_weigh op a b w);
       slots = omega (arith, r.slots, operands_weigh op a b w);
       few = omega (arith, r.few, operands_weigh op a b w);
     }
@@ -131,19 +133,20 @@ ready_left bits env code op a b w r =
 pub stores_of : (old c new : List Call) → new ≡ old ++ c → length_of new ≡ length_of old + length_of c
 stores_of old c new e = ap length_of e ∙ sum_by-append call_cost old c
 
-pub ready_right : (bits : ℕ) (env : List ℕ) (code code1 : Coding) (op : BinaryOp) (a b : Expression) (w : ℕ) (s : Bool) (ta : List ℕ) → IsReady bits env code (Binary op a b) w
+pub ready_right : (env : List ℕ) (code code1 : Coding) (op : BinaryOp) (a b : Expression) (w : ℕ) (s : Bool) (ta : List ℕ) → IsReady env code (Binary op a b) w
     → AddsValue env code.calls code.next code1.calls code1.next a (left_width (way op) w (width a) (width b)) s ta
-    → IsReady bits env code1 b (right_width (way op) w (width a) (width b))
-ready_right bits env code code1 op a b w s ta r va =
+    → IsReady env code1 b (right_width (way op) w (width a) (width b))
+ready_right env code code1 op a b w s ta r va =
     let f = fit_binary op a b r.fit in
     let l = right_within (way op) w (width a) (width b) r.wide r.at_most_64 f.left_long.1 f.right_long.1 in
     let added = va.value.values.added in
     record {
       is_env = env_more env code.next code1.next added.grown r.is_env;
-      has_bits = r.has_bits;
+      has_bits = (both_true (names_within (length env) a) (names_within (length env) b) r.has_bits).1;
       fit = f.right_fit;
       wide = l.0;
       at_most_64 = l.1;
+      light = omega (arith, r.light, operands_weigh op a b w);
       slots = omega (arith, r.slots, operands_weigh op a b w, added.paid, added.stores);
       few = omega (arith, r.few, operands_weigh op a b w, added.stores, stores_of code.calls va.calls code1.calls va.is);
     }
@@ -185,13 +188,13 @@ pub record CanCall (code2 : Coding) (op : BinaryOp) (w : ℕ) (s : Bool) (ta tb 
   pub room : code2.next + result_of_way (way op) w < 2 ^ 32
   pub few : length_of code2.calls + call_cost (fresh_call (binary_kernel op s) (ta ∷ tb ∷ []) code2.next (result_of_way (way op) w)) ≤ 2 ^ 32
 
-pub called_fits : (bits : ℕ) (env : List ℕ) (code code1 code2 : Coding) (op : BinaryOp) (a b : Expression) (w : ℕ) (s : Bool) (ta tb : List ℕ)
-    → IsReady bits env code (Binary op a b) w
+pub called_fits : (env : List ℕ) (code code1 code2 : Coding) (op : BinaryOp) (a b : Expression) (w : ℕ) (s : Bool) (ta tb : List ℕ)
+    → IsReady env code (Binary op a b) w
     → AddsValue env code.calls code.next code1.calls code1.next a (left_width (way op) w (width a) (width b)) (left_sign (way op) s (sign a) (sign b)) ta
     → AddsValue env code1.calls code1.next code2.calls code2.next b (right_width (way op) w (width a) (width b)) (right_sign (way op) s (sign a) (sign b)) tb
     → (AreConstant ta → AreConstant tb → ⊥) → (is_shift (way op) ≡ true → AreConstant tb → ⊥)
     → CanCall code2 op w (left_sign (way op) s (sign a) (sign b)) ta tb
-called_fits bits env code code1 code2 op a b w s ta tb r va vb not_constants not_shift =
+called_fits env code code1 code2 op a b w s ta tb r va vb not_constants not_shift =
     let f = fit_binary op a b r.fit in
     let some = some_width op a b w f r.wide in
     let l = left_within (way op) w (width a) (width b) r.wide r.at_most_64 f.left_long.1 f.right_long.1 in
@@ -231,15 +234,15 @@ called_fits bits env code code1 code2 op a b w s ta tb r va vb not_constants not
     }
 
 -- by its kernel, where the operands aren't both constants' slots, nor is it a shift by constants' slots
-pub adds_called : (bits : ℕ) (env : List ℕ) (code code1 code2 code3 : Coding) (op : BinaryOp) (a b : Expression) (w : ℕ) (s : Bool) (ta tb to : List ℕ)
-    → IsReady bits env code (Binary op a b) w
+pub adds_called : (env : List ℕ) (code code1 code2 code3 : Coding) (op : BinaryOp) (a b : Expression) (w : ℕ) (s : Bool) (ta tb to : List ℕ)
+    → IsReady env code (Binary op a b) w
     → AddsValue env code.calls code.next code1.calls code1.next a (left_width (way op) w (width a) (width b)) (left_sign (way op) s (sign a) (sign b)) ta
     → AddsValue env code1.calls code1.next code2.calls code2.next b (right_width (way op) w (width a) (width b)) (right_sign (way op) s (sign a) (sign b)) tb
     → (AreConstant ta → AreConstant tb → ⊥) → (is_shift (way op) ≡ true → AreConstant tb → ⊥)
     → code3 ≡ with_call code2 (binary_kernel op (left_sign (way op) s (sign a) (sign b))) (ta ∷ tb ∷ []) (result_of_way (way op) w)
     → to ≡ extended_slots w s (range_with_len code2.next (result_of_way (way op) w))
     → AddsValue env code.calls code.next code3.calls code3.next (Binary op a b) w s to
-adds_called bits env code code1 code2 code3 op a b w s ta tb to r va vb not_constants not_shift is to_is =
+adds_called env code code1 code2 code3 op a b w s ta tb to r va vb not_constants not_shift is to_is =
     let kept = scratch_is op (left_sign (way op) s (sign a) (sign b)) w (width a) (width b) in
     let f = fit_binary op a b r.fit in
     let some = some_width op a b w f r.wide in
@@ -248,7 +251,7 @@ adds_called bits env code code1 code2 code3 op a b w s ta tb to r va vb not_cons
     let ls = left_sign (way op) s (sign a) (sign b) in
     let call = fresh_call (binary_kernel op ls) (ta ∷ tb ∷ []) code2.next (result_of_way (way op) w) in
     let not_division : is_division op ≡ false = no_division (is_division op) (is_constant a && is_constant b) f.division (not_both (is_constant a) (is_constant b) (λ h k. not_constants (va.value.constant h) (vb.value.constant k))) in
-    let fits = called_fits bits env code code1 code2 op a b w s ta tb r va vb not_constants not_shift in
+    let fits = called_fits env code code1 code2 op a b w s ta tb r va vb not_constants not_shift in
     let value = binary_is env code.next op a b w s va.calls ta code1.next vb.calls tb code2.next r.is_env not_division some f.left_long.0 f.right_long.0
     (not_both (is_constant a) (is_constant b) (λ h k. not_constants (va.value.constant h) (vb.value.constant k)))
     (not_both (is_shift (way op)) (is_constant b) (λ h k. not_shift h (vb.value.constant k)))
@@ -263,8 +266,8 @@ adds_called bits env code code1 code2 code3 op a b w s ta tb to r va vb not_cons
     }
 
 -- with no call: `r` are the slots of the operator's value, of constants or moved
-pub adds_moved : (bits : ℕ) (env : List ℕ) (code code1 code2 : Coding) (op : BinaryOp) (a b : Expression) (w : ℕ) (s : Bool) (ta tb r to : List ℕ)
-    → IsReady bits env code (Binary op a b) w
+pub adds_moved : (env : List ℕ) (code code1 code2 : Coding) (op : BinaryOp) (a b : Expression) (w : ℕ) (s : Bool) (ta tb r to : List ℕ)
+    → IsReady env code (Binary op a b) w
     → AddsValue env code.calls code.next code1.calls code1.next a (left_width (way op) w (width a) (width b)) (left_sign (way op) s (sign a) (sign b)) ta
     → AddsValue env code1.calls code1.next code2.calls code2.next b (right_width (way op) w (width a) (width b)) (right_sign (way op) s (sign a) (sign b)) tb
     → length r ≤ w
@@ -272,7 +275,7 @@ pub adds_moved : (bits : ℕ) (env : List ℕ) (code code1 code2 : Coding) (op :
     → All (λ slot. slot < code2.next) r → ((is_constant a && is_constant b) ≡ true → AreConstant r) → All (IsSource env code.next (read_bits a ++ read_bits b)) r
     → to ≡ extended_slots w s r
     → AddsValue env code.calls code.next code2.calls code2.next (Binary op a b) w s to
-adds_moved bits env code code1 code2 op a b w s ta tb r to ready va vb long is below constant sources to_is =
+adds_moved env code code1 code2 op a b w s ta tb r to ready va vb long is below constant sources to_is =
     record {
       calls = va.calls ++ vb.calls;
       is = two_added code.calls va.calls vb.calls code1.calls code2.calls va.is vb.is;
@@ -281,20 +284,20 @@ adds_moved bits env code code1 code2 op a b w s ta tb r to ready va vb long is b
     }
 
 -- both constants
-pub adds_folded : (bits : ℕ) (env : List ℕ) (code code1 code2 : Coding) (op : BinaryOp) (a b : Expression) (w : ℕ) (s : Bool) (ta tb to : List ℕ)
-    → IsReady bits env code (Binary op a b) w
+pub adds_folded : (env : List ℕ) (code code1 code2 : Coding) (op : BinaryOp) (a b : Expression) (w : ℕ) (s : Bool) (ta tb to : List ℕ)
+    → IsReady env code (Binary op a b) w
     → AddsValue env code.calls code.next code1.calls code1.next a (left_width (way op) w (width a) (width b)) (left_sign (way op) s (sign a) (sign b)) ta
     → AddsValue env code1.calls code1.next code2.calls code2.next b (right_width (way op) w (width a) (width b)) (right_sign (way op) s (sign a) (sign b)) tb
     → AreConstant ta → AreConstant tb
     → length (apply_binary op (left_sign (way op) s (sign a) (sign b)) (constant_bits ta) (constant_bits tb)) ≤ w
     → to ≡ extended_slots w s (constant_slots (apply_binary op (left_sign (way op) s (sign a) (sign b)) (constant_bits ta) (constant_bits tb)))
     → AddsValue env code.calls code.next code2.calls code2.next (Binary op a b) w s to
-adds_folded bits env code code1 code2 op a b w s ta tb to ready va vb ca cb long to_is =
+adds_folded env code code1 code2 op a b w s ta tb to ready va vb ca cb long to_is =
     let ls = left_sign (way op) s (sign a) (sign b) in
     let v = apply_binary op ls (constant_bits ta) (constant_bits tb) in
     let r = constant_slots v in
     let least : 4 ≤ code2.next = omega (arith, ready.is_env.constants, va.value.values.added.grown, vb.value.values.added.grown) in
-    adds_moved bits env code code1 code2 op a b w s ta tb r to ready va vb (omega (arith, length-map v constant_slot, long))
+    adds_moved env code code1 code2 op a b w s ta tb r to ready va vb (omega (arith, length-map v constant_slot, long))
     (λ slots h. constants_are slots v h ∙ ap (λ (x : BitList). apply_binary op ls x (constant_bits tb)) (sym (bits_are slots ta h ca)) ∙ ap (apply_binary op ls (map slots ta)) (sym (bits_are slots tb h cb)))
     (All-weaker (λ slot. slot < 4) (λ slot. slot < code2.next) (λ slot l. omega arith) r (all_constant v))
     (λ h. all_constant v)

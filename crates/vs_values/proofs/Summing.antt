@@ -59,27 +59,27 @@ record Weighed (a b : Expression) (w : ℕ) : Type 0 where
   pub total : weight (Binary Multiply a b) w ≡ 4 * (w * w) + weight a w + weight b w
   pub cost : product_cost w ≤ 4 * (w * w)
 
-weighed : (bits : ℕ) (env : List ℕ) (code code1 code2 : Coding) (a b : Expression) (w : ℕ) (s ls : Bool) (ta tb : List ℕ) → Operands bits env code code1 code2 Multiply a b w s ls ta tb
+weighed : (env : List ℕ) (code code1 code2 : Coding) (a b : Expression) (w : ℕ) (s ls : Bool) (ta tb : List ℕ) → Operands env code code1 code2 Multiply a b w s ls ta tb
     → (is_constant a && is_constant b) ≡ false → Weighed a b w
-weighed bits env code code1 code2 a b w s ls ta tb o both =
+weighed env code code1 code2 a b w s ls ta tb o both =
     let f = fit_binary Multiply a b o.ready.fit in
     record {
       total = weight_of_binary Multiply a b w both refl;
       cost = binary_cost Multiply s w (width a) (width b) refl (some_width Multiply a b w f o.ready.wide) f.left_long.0 f.right_long.0;
     }
 
-variable : (bits : ℕ) (env : List ℕ) (code code1 code2 : Coding) (a b : Expression) (w : ℕ) (s ls : Bool) (ta tb : List ℕ) → Operands bits env code code1 code2 Multiply a b w s ls ta tb
+variable : (env : List ℕ) (code code1 code2 : Coding) (a b : Expression) (w : ℕ) (s ls : Bool) (ta tb : List ℕ) → Operands env code code1 code2 Multiply a b w s ls ta tb
     → (AreConstant ta → AreConstant tb → ⊥) → (is_constant a && is_constant b) ≡ false
-variable bits env code code1 code2 a b w s ls ta tb o f = not_both (is_constant a) (is_constant b) (λ h k. f (o.left.value.constant h) (o.right.value.constant k))
+variable env code code1 code2 a b w s ls ta tb o f = not_both (is_constant a) (is_constant b) (λ h k. f (o.left.value.constant h) (o.right.value.constant k))
 
-returns_product : (bits : ℕ) (env : List ℕ) (code code1 code2 code3 : Coding) (a b : Expression) (w : ℕ) (s ls : Bool) (ta tb to : List ℕ) → Operands bits env code code1 code2 Multiply a b w s ls ta tb
+returns_product : (env : List ℕ) (code code1 code2 code3 : Coding) (a b : Expression) (w : ℕ) (s ls : Bool) (ta tb to : List ℕ) → Operands env code code1 code2 Multiply a b w s ls ta tb
     → (AreConstant ta → AreConstant tb → ⊥) → AddsProduct code2 code3 ta tb (product_cost (length ta)) to
     → AddsValue env code.calls code.next code3.calls code3.next (Binary Multiply a b) w s to
-returns_product bits env code code1 code2 code3 a b w s ls ta tb to o f x =
+returns_product env code code1 code2 code3 a b w s ls ta tb to o f x =
     let va = o.left.value in
     let vb = o.right.value in
-    let both = variable bits env code code1 code2 a b w s ls ta tb o f in
-    let k = weighed bits env code code1 code2 a b w s ls ta tb o both in
+    let both = variable env code code1 code2 a b w s ls ta tb o f in
+    let k = weighed env code code1 code2 a b w s ls ta tb o both in
     let fits : product_cost (length ta) ≡ product_cost w = ap (λ (n : ℕ). product_cost n) va.length in
     let long : length to ≡ w = x.long ∙ va.length in
     let parts = values_more env code.next o.left.calls (ta ∷ []) code1.next (weight a w) (λ state. value a w s state ∷ []) o.right.calls (tb ∷ []) code2.next (weight b w) (λ state. value b w s state ∷ []) o.ready.is_env va.values vb.values in
@@ -99,12 +99,12 @@ returns_product bits env code code1 code2 code3 a b w s ls ta tb to o f x =
       };
     }
 
-pub returns_summed : (bits : ℕ) (env : List ℕ) (code code1 code2 code3 : Coding) (op : BinaryOp) (a b : Expression) (w : ℕ) (s ls : Bool) (ta tb to : List ℕ) → op ≡ Multiply
-    → Operands bits env code code1 code2 op a b w s ls ta tb → (AreConstant ta → AreConstant tb → ⊥) → AddsProduct code2 code3 ta tb (product_cost (length ta)) to
+pub returns_summed : (env : List ℕ) (code code1 code2 code3 : Coding) (op : BinaryOp) (a b : Expression) (w : ℕ) (s ls : Bool) (ta tb to : List ℕ) → op ≡ Multiply
+    → Operands env code code1 code2 op a b w s ls ta tb → (AreConstant ta → AreConstant tb → ⊥) → AddsProduct code2 code3 ta tb (product_cost (length ta)) to
     → AddsValue env code.calls code.next code3.calls code3.next (Binary op a b) w s to
-returns_summed bits env code code1 code2 code3 op a b w s ls ta tb to e =
-    subst (λ (op : BinaryOp). Operands bits env code code1 code2 op a b w s ls ta tb → (AreConstant ta → AreConstant tb → ⊥) → AddsProduct code2 code3 ta tb (product_cost (length ta)) to
-    → AddsValue env code.calls code.next code3.calls code3.next (Binary op a b) w s to) (sym e) (returns_product bits env code code1 code2 code3 a b w s ls ta tb to)
+returns_summed env code code1 code2 code3 op a b w s ls ta tb to e =
+    subst (λ (op : BinaryOp). Operands env code code1 code2 op a b w s ls ta tb → (AreConstant ta → AreConstant tb → ⊥) → AddsProduct code2 code3 ta tb (product_cost (length ta)) to
+    → AddsValue env code.calls code.next code3.calls code3.next (Binary op a b) w s to) (sym e) (returns_product env code code1 code2 code3 a b w s ls ta tb to)
 
 -- ---- room
 
@@ -113,11 +113,11 @@ pub record Summable (code : Coding) (ta tb : List ℕ) : Type 0 where
   pub room_a : HasRoom code ta (product_cost (length ta))
   pub room_b : HasRoom code tb (product_cost (length ta))
 
-summable_product : (bits : ℕ) (env : List ℕ) (code code1 code2 : Coding) (a b : Expression) (w : ℕ) (s ls : Bool) (ta tb : List ℕ) → Operands bits env code code1 code2 Multiply a b w s ls ta tb
+summable_product : (env : List ℕ) (code code1 code2 : Coding) (a b : Expression) (w : ℕ) (s ls : Bool) (ta tb : List ℕ) → Operands env code code1 code2 Multiply a b w s ls ta tb
     → (AreConstant ta → AreConstant tb → ⊥) → Summable code2 ta tb
-summable_product bits env code code1 code2 a b w s ls ta tb o f =
-    let short = short_is bits env code code1 code2 Multiply a b w s ls ta tb o in
-    let k = weighed bits env code code1 code2 a b w s ls ta tb o (variable bits env code code1 code2 a b w s ls ta tb o f) in
+summable_product env code code1 code2 a b w s ls ta tb o f =
+    let short = short_is env code code1 code2 Multiply a b w s ls ta tb o in
+    let k = weighed env code code1 code2 a b w s ls ta tb o (variable env code code1 code2 a b w s ls ta tb o f) in
     let fits : product_cost (length ta) ≡ product_cost w = ap (λ (n : ℕ). product_cost n) o.left.value.length in
     let added_a = o.left.value.values.added in
     let added_b = o.right.value.values.added in
@@ -146,7 +146,7 @@ summable_product bits env code code1 code2 a b w s ls ta tb o f =
       };
     }
 
-pub summable : (bits : ℕ) (env : List ℕ) (code code1 code2 : Coding) (op : BinaryOp) (a b : Expression) (w : ℕ) (s ls : Bool) (ta tb : List ℕ) → op ≡ Multiply
-    → Operands bits env code code1 code2 op a b w s ls ta tb → (AreConstant ta → AreConstant tb → ⊥) → Summable code2 ta tb
-summable bits env code code1 code2 op a b w s ls ta tb e =
-    subst (λ (op : BinaryOp). Operands bits env code code1 code2 op a b w s ls ta tb → (AreConstant ta → AreConstant tb → ⊥) → Summable code2 ta tb) (sym e) (summable_product bits env code code1 code2 a b w s ls ta tb)
+pub summable : (env : List ℕ) (code code1 code2 : Coding) (op : BinaryOp) (a b : Expression) (w : ℕ) (s ls : Bool) (ta tb : List ℕ) → op ≡ Multiply
+    → Operands env code code1 code2 op a b w s ls ta tb → (AreConstant ta → AreConstant tb → ⊥) → Summable code2 ta tb
+summable env code code1 code2 op a b w s ls ta tb e =
+    subst (λ (op : BinaryOp). Operands env code code1 code2 op a b w s ls ta tb → (AreConstant ta → AreConstant tb → ⊥) → Summable code2 ta tb) (sym e) (summable_product env code code1 code2 a b w s ls ta tb)

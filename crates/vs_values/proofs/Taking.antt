@@ -15,6 +15,7 @@ use Rattle.vs_design.specs.Values.{value, count_from, bits_of_signal, read, sour
 use Rattle.vs_design.specs.Footprints.{contains, somes, read_bits, selected_bits}
 use Rattle.vs_design.specs.Bodies.{bits_at}
 use Rattle.vs_design.specs.TreeLaws.{ConstantValue}
+use Rattle.vs_design.specs.Within.{source_within, names_within}
 use Rattle.vs_code.specs.Kernels.{takes}
 use Rattle.vs_code.specs.Calls.{Call, State, AreCalled, call_cost}
 use Rattle.vs_values.specs.Added.{IsEnv, Holds, AreValues, fresh_call}
@@ -27,7 +28,7 @@ use Rattle.vs_values.proofs.Adding.{values_as, is_fresh_call}
 use Rattle.vs_values.proofs.Moved.{all_constant}
 use Rattle.vs_values.proofs.Folding.{constant_weight}
 use Rattle.vs_values.proofs.Paying.{no_calls}
-use Rattle.vs_values.proofs.Named.{length_count, all_run}
+use Rattle.vs_values.proofs.Named.{length_count, all_run, within_is}
 use Rattle.vs_values.proofs.Values.{both_true, constant_value_is, name_is, one_more, in_left, wider}
 use Rattle.vs_values.proofs.Selecting.{select_is, select_without, select_takes, range_is_some, pays}
 use Rattle.vs_values.proofs.Binary.{same_length}
@@ -64,16 +65,17 @@ index_weighs : (source : Source) (part : Part) (index : Expression) (w : ℕ) (b
 index_weighs source part index w true h = let z = constant_weight index (width index) h in omega (arith, z)
 index_weighs source part index w false h = let z = weight_of_select source part index w h in omega (arith, z)
 
-pub ready_index : (bits : ℕ) (env : List ℕ) (code : Coding) (source : Source) (part : Part) (index : Expression) (w k : ℕ) → k ≡ width index → IsReady bits env code (Select source part index) w → IsReady bits env code index k
-ready_index bits env code source part index w k h r =
+pub ready_index : (env : List ℕ) (code : Coding) (source : Source) (part : Part) (index : Expression) (w k : ℕ) → k ≡ width index → IsReady env code (Select source part index) w → IsReady env code index k
+ready_index env code source part index w k h r =
     let f = fit_select source part index r.fit in
     let weighs = index_weighs source part index w (is_constant index) refl in
-    subst (IsReady bits env code index) (sym h) (record {
+    subst (IsReady env code index) (sym h) (record {
       is_env = r.is_env;
-      has_bits = r.has_bits;
+      has_bits = (both_true (source_within (length env) source) (names_within (length env) index) r.has_bits).1;
       fit = f.fit;
       wide = omega arith;
       at_most_64 = f.long.1;
+      light = omega (arith, r.light, weighs);
       slots = omega (arith, r.slots, weighs);
       few = omega (arith, r.few, weighs);
     })
@@ -107,8 +109,8 @@ source_is env m (OfConstant v) e h =
     c.values.below (λ slots state constants is. is ∙ ap (λ (x : BitList). x ∷ []) (same state))
 
 -- what the code knows of its index
-pub record Index (bits : ℕ) (env : List ℕ) (code code1 : Coding) (source : Source) (part : Part) (index : Expression) (w : ℕ) (ti : List ℕ) : Type 0 where
-  pub ready : IsReady bits env code (Select source part index) w
+pub record Index (env : List ℕ) (code code1 : Coding) (source : Source) (part : Part) (index : Expression) (w : ℕ) (ti : List ℕ) : Type 0 where
+  pub ready : IsReady env code (Select source part index) w
   pub inside : SourceInside (length env) source
   pub value : AddsValue env code.calls code.next code1.calls code1.next index (width index) (sign index) ti
 
@@ -119,17 +121,17 @@ pub record IsSelectable (part : Part) (from ti : List ℕ) : Type 0 where
   pub some_index : 1 ≤ length ti
   pub index : length ti ≤ 64
 
-pub selectable : (bits : ℕ) (env : List ℕ) (code code1 : Coding) (source : Source) (part : Part) (index : Expression) (w : ℕ) (ti : List ℕ) → Index bits env code code1 source part index w ti → IsSelectable part (source_slots env source) ti
-selectable bits env code code1 source part index w ti o =
+pub selectable : (env : List ℕ) (code code1 : Coding) (source : Source) (part : Part) (index : Expression) (w : ℕ) (ti : List ℕ) → Index env code code1 source part index w ti → IsSelectable part (source_slots env source) ti
+selectable env code code1 source part index w ti o =
     let f = fit_select source part index o.ready.fit in
     record { of_range = f.range ∙ sym (source_long env source); some = f.part_long.0; most = f.part_long.1; some_index = omega (arith, o.value.value.length, f.long.0); index = omega (arith, o.value.value.length, f.long.1) }
 
 range_pays : (k n i : ℕ) → 1 ≤ k → 1 ≤ i → n ≤ k * (n * i)
 range_pays k n i h j = grind arith
 
-pub callable_select : (bits : ℕ) (env : List ℕ) (code code1 : Coding) (source : Source) (part : Part) (index : Expression) (w : ℕ) (ti : List ℕ) → Index bits env code code1 source part index w ti
+pub callable_select : (env : List ℕ) (code code1 : Coding) (source : Source) (part : Part) (index : Expression) (w : ℕ) (ti : List ℕ) → Index env code code1 source part index w ti
     → (AreConstant ti → ⊥) → IsCallable code1 (select_kernel part (sign index)) (source_slots env source ∷ ti ∷ []) part.width
-callable_select bits env code code1 source part index w ti o variable =
+callable_select env code code1 source part index w ti o variable =
     let r = o.ready in
     let f = fit_select source part index r.fit in
     let vi = o.value.value in
@@ -272,10 +274,10 @@ never : (source : Source) (part : Part) (index : Expression) → is_constant ind
 never (OfSignal signal) part index h k = true≢false (sym k)
 never (OfConstant v) part index h k = true≢false (sym k ∙ h)
 
-pub returns_select : ConstantValue → (bits : ℕ) (env : List ℕ) (code code1 code2 : Coding) (source : Source) (part : Part) (index : Expression) (w : ℕ) (s : Bool) (ti to : List ℕ) → Index bits env code code1 source part index w ti
+pub returns_select : ConstantValue → (env : List ℕ) (code code1 code2 : Coding) (source : Source) (part : Part) (index : Expression) (w : ℕ) (s : Bool) (ti to : List ℕ) → Index env code code1 source part index w ti
     → IsSelect part (sign index) w s (source_slots env source) ti code1 code2 to
     → AddsValue env code.calls code.next code2.calls code2.next (Select source part index) w s to
-returns_select law bits env code code1 code2 source part index w s ti to o (inl h) =
+returns_select law env code code1 code2 source part index w s ti to o (inl h) =
     let v = o.value in
     let from = source_slots env source in
     let e = o.ready.is_env in
@@ -290,7 +292,7 @@ returns_select law bits env code code1 code2 source part index w s ti to o (inl 
           (All-weaker (λ slot. slot < code.next) (λ slot. slot < code1.next) (λ slot l. omega (arith, v.value.values.added.grown)) from (below_signal env code.next source e o.inside)))
           (constants_of env source part index ti) (sources_of law env code.next source part index w v.calls ti code1.next e o.inside v.value h.0);
     }))
-returns_select law bits env code code1 code2 source part index w s ti to o (inr h) =
+returns_select law env code code1 code2 source part index w s ti to o (inr h) =
     let r = o.ready in
     let v = o.value in
     let f = fit_select source part index r.fit in
@@ -298,7 +300,7 @@ returns_select law bits env code code1 code2 source part index w s ti to o (inr 
     let n = range_length part.range in
     let constant = not_true (is_constant index) (λ k. h.variable (v.value.constant k)) in
     let call = fresh_call (select_kernel part (sign index)) (from ∷ ti ∷ []) code1.next part.width in
-    let can = callable_select bits env code code1 source part index w ti o h.variable in
+    let can = callable_select env code code1 source part index w ti o h.variable in
     let total = weight_of_select source part index w constant in
     let pays2 = range_pays part.width n (width index) f.part_long.0 f.long.0 in
     let value = select_is env code.next source part index w s from v.calls ti code1.next r.is_env f.part_long.0 r.wide f.long.0 constant (omega (arith, f.part_long.1)) (omega (arith, f.long.1)) (omega (arith, r.slots, total, pays2)) (omega (arith, can.slots))
@@ -312,9 +314,14 @@ returns_select law bits env code code1 code2 source part index w s ti to o (inr 
 
 -- ---- in the code's words
 
-pub index_of : (bits : ℕ) (env : List ℕ) (code code1 : Coding) (source : Source) (part : Part) (index : Expression) (w : ℕ) (ti : List ℕ) → IsReady bits env code (Select source part index) w → SourceInside bits source
-    → AddsValue env code.calls code.next code1.calls code1.next index (width index) (sign index) ti → Index bits env code code1 source part index w ti
-index_of bits env code code1 source part index w ti r h v = record { ready = r; inside = subst (λ (n : ℕ). SourceInside n source) (sym r.has_bits) h; value = v }
+-- the bits that it is taken of are within the environment
+inside_is : (n : ℕ) (source : Source) → source_within n source ≡ true → SourceInside n source
+inside_is n (OfSignal signal) h = within_is n signal h
+inside_is n (OfConstant bits) h = omega arith
+
+pub index_of : (env : List ℕ) (code code1 : Coding) (source : Source) (part : Part) (index : Expression) (w : ℕ) (ti : List ℕ) → IsReady env code (Select source part index) w
+    → AddsValue env code.calls code.next code1.calls code1.next index (width index) (sign index) ti → Index env code code1 source part index w ti
+index_of env code code1 source part index w ti r v = record { ready = r; inside = inside_is (length env) source (both_true (source_within (length env) source) (names_within (length env) index) r.has_bits).0; value = v }
 
 pub selectable_from : (part : Part) (env : List ℕ) (source : Source) (from ti : List ℕ) → from ≡ source_slots env source → IsSelectable part (source_slots env source) ti → IsSelectable part from ti
 selectable_from part env source from ti h s = subst (λ (x : List ℕ). IsSelectable part x ti) (sym h) s

@@ -61,29 +61,30 @@ fit_unary op a w h wide most =
     }
 
 -- what the code knows of its operand
-pub record Operand (bits : ℕ) (env : List ℕ) (code code1 : Coding) (op : UnaryOp) (a : Expression) (w : ℕ) (s : Bool) (ta : List ℕ) : Type 0 where
-  pub ready : IsReady bits env code (Unary op a) w
+pub record Operand (env : List ℕ) (code code1 : Coding) (op : UnaryOp) (a : Expression) (w : ℕ) (s : Bool) (ta : List ℕ) : Type 0 where
+  pub ready : IsReady env code (Unary op a) w
   pub value : AddsValue env code.calls code.next code1.calls code1.next a (left_width (unary_way op) w (width a) 0) (left_sign (unary_way op) s (sign a) false) ta
 
-pub ready_operand : (bits : ℕ) (env : List ℕ) (code : Coding) (op : UnaryOp) (a : Expression) (w k n : ℕ) → k ≡ left_width (unary_way op) w n 0 → n ≡ width a → IsReady bits env code (Unary op a) w → IsReady bits env code a k
-ready_operand bits env code op a w k n e h r =
+pub ready_operand : (env : List ℕ) (code : Coding) (op : UnaryOp) (a : Expression) (w k n : ℕ) → k ≡ left_width (unary_way op) w n 0 → n ≡ width a → IsReady env code (Unary op a) w → IsReady env code a k
+ready_operand env code op a w k n e h r =
     let f = fit_unary op a w r.fit r.wide r.at_most_64 in
     let weighs = operand_weighs op a w (is_constant a) refl in
     let is : left_width (unary_way op) w (width a) 0 ≡ k = sym (e ∙ ap (λ (x : ℕ). left_width (unary_way op) w x 0) h) in
-    subst (IsReady bits env code a) is (record {
+    subst (IsReady env code a) is (record {
       is_env = r.is_env;
       has_bits = r.has_bits;
       fit = f.fit;
       wide = f.within.0;
       at_most_64 = f.within.1;
+      light = omega (arith, r.light, weighs);
       slots = omega (arith, r.slots, weighs);
       few = omega (arith, r.few, weighs);
     })
 
-pub operand_of : (bits : ℕ) (env : List ℕ) (code code1 : Coding) (op : UnaryOp) (a : Expression) (w : ℕ) (s : Bool) (k n : ℕ) (t u : Bool) (ta : List ℕ)
+pub operand_of : (env : List ℕ) (code code1 : Coding) (op : UnaryOp) (a : Expression) (w : ℕ) (s : Bool) (k n : ℕ) (t u : Bool) (ta : List ℕ)
     → k ≡ left_width (unary_way op) w n 0 → t ≡ left_sign (unary_way op) s u false → n ≡ width a → u ≡ sign a
-    → IsReady bits env code (Unary op a) w → AddsValue env code.calls code.next code1.calls code1.next a k t ta → Operand bits env code code1 op a w s ta
-operand_of bits env code code1 op a w s k n t u ta e f h i r v =
+    → IsReady env code (Unary op a) w → AddsValue env code.calls code.next code1.calls code1.next a k t ta → Operand env code code1 op a w s ta
+operand_of env code code1 op a w s k n t u ta e f h i r v =
     let width_is : k ≡ left_width (unary_way op) w (width a) 0 = e ∙ ap (λ (x : ℕ). left_width (unary_way op) w x 0) h in
     let sign_is : t ≡ left_sign (unary_way op) s (sign a) false = f ∙ ap (λ (x : Bool). left_sign (unary_way op) s x false) i in
     record {
@@ -92,8 +93,8 @@ operand_of bits env code code1 op a w s k n t u ta e f h i r v =
           (subst (λ (x : Bool). AddsValue env code.calls code.next code1.calls code1.next a k x ta) sign_is v);
     }
 
-pub operand_long : (bits : ℕ) (env : List ℕ) (code code1 : Coding) (op : UnaryOp) (a : Expression) (w : ℕ) (s : Bool) (ta : List ℕ) → Operand bits env code code1 op a w s ta → (1 ≤ length ta) × (length ta ≤ 64)
-operand_long bits env code code1 op a w s ta o =
+pub operand_long : (env : List ℕ) (code code1 : Coding) (op : UnaryOp) (a : Expression) (w : ℕ) (s : Bool) (ta : List ℕ) → Operand env code code1 op a w s ta → (1 ≤ length ta) × (length ta ≤ 64)
+operand_long env code code1 op a w s ta o =
     let f = fit_unary op a w o.ready.fit o.ready.wide o.ready.at_most_64 in
     (omega (arith, f.long.0, f.within.0, o.value.value.length), omega (arith, f.within.1, o.value.value.length))
 
@@ -111,9 +112,9 @@ short_lengths : (op : UnaryOp) (w n : ℕ) → left_width (unary_way op) w n 0 �
 short_lengths op w n h i =
     All-cons (λ k. k < 2 ^ 32) (left_width (unary_way op) w n 0) (unary_result op w ∷ []) (omega arith) (All-cons (λ k. k < 2 ^ 32) (unary_result op w) [] (omega arith) (All-nil (λ k. k < 2 ^ 32)))
 
-pub callable_unary : (bits : ℕ) (env : List ℕ) (code code1 : Coding) (op : UnaryOp) (a : Expression) (w : ℕ) (s : Bool) (ta : List ℕ) → Operand bits env code code1 op a w s ta
+pub callable_unary : (env : List ℕ) (code code1 : Coding) (op : UnaryOp) (a : Expression) (w : ℕ) (s : Bool) (ta : List ℕ) → Operand env code code1 op a w s ta
     → is_kept op ≡ false → (AreConstant ta → ⊥) → IsCallable code1 (unary_kernel op) (ta ∷ []) (unary_result op w)
-callable_unary bits env code code1 op a w s ta o own variable =
+callable_unary env code code1 op a w s ta o own variable =
     let r = o.ready in
     let va = o.value in
     let f = fit_unary op a w r.fit r.wide r.at_most_64 in
@@ -184,15 +185,15 @@ kept_width op w n h l = grind arith
 kept_value : (op : UnaryOp) (a : BitList) → is_kept op ≡ true → apply_unary op a ≡ a
 kept_value op a h = grind arith
 
-pub returns_unary : ValueLength → (bits : ℕ) (env : List ℕ) (code code1 code2 : Coding) (op : UnaryOp) (a : Expression) (w : ℕ) (s : Bool) (ta to : List ℕ) → Operand bits env code code1 op a w s ta
+pub returns_unary : ValueLength → (env : List ℕ) (code code1 code2 : Coding) (op : UnaryOp) (a : Expression) (w : ℕ) (s : Bool) (ta to : List ℕ) → Operand env code code1 op a w s ta
     → IsUnary op w s ta code1 code2 to
     → AddsValue env code.calls code.next code2.calls code2.next (Unary op a) w s to
-returns_unary law bits env code code1 code2 op a w s ta to o (inl h) =
+returns_unary law env code code1 code2 op a w s ta to o (inl h) =
     let va = o.value in
     let f = fit_unary op a w o.ready.fit o.ready.wide o.ready.at_most_64 in
     without_unary env code code1 code2 op a w s ta ta to o.ready.is_env va (omega (arith, va.value.length, kept_width op w (width a) h.0 o.ready.wide))
     (λ slots c. sym (kept_value op (map slots ta) h.0)) (All-head (λ t. All (λ slot. slot < code1.next) t) ta [] va.value.values.below) va.value.constant va.value.sources h.1
-returns_unary law bits env code code1 code2 op a w s ta to o (inr (inl h)) =
+returns_unary law env code code1 code2 op a w s ta to o (inr (inl h)) =
     let va = o.value in
     let v = apply_unary op (constant_bits ta) in
     let r = constant_slots v in
@@ -204,12 +205,12 @@ returns_unary law bits env code code1 code2 op a w s ta to o (inr (inl h)) =
     (λ c. all_constant v)
     (All-weaker (λ slot. slot < 4) (IsSource env code.next (read_bits a)) (λ slot l. inl l) r (all_constant v))
     h.1
-returns_unary law bits env code code1 code2 op a w s ta to o (inr (inr h)) =
+returns_unary law env code code1 code2 op a w s ta to o (inr (inr h)) =
     let va = o.value in
     let f = fit_unary op a w o.ready.fit o.ready.wide o.ready.at_most_64 in
     let k = unary_result op w in
     let call = fresh_call (unary_kernel op) (ta ∷ []) code1.next k in
-    let can = callable_unary bits env code code1 op a w s ta o h.kept h.variable in
+    let can = callable_unary env code code1 op a w s ta o h.kept h.variable in
     let value = unary_is env code.next op a w s va.calls ta code1.next o.ready.is_env h.kept f.some f.long.0 (not_true (is_constant a) (λ c. h.variable (va.value.constant c))) va.value (no_room op w (width a))
     (short_lengths op w (width a) f.within.1 (result_short op w f.some o.ready.at_most_64)) (omega (arith, can.slots)) in
     record {

@@ -20,6 +20,7 @@ use Rattle.vs_design.specs.Values as D
 use Rattle.vs_design.specs.Footprints.{contains, somes, read_bits, addressed_bits}
 use Rattle.vs_design.specs.Bodies.{bits_at}
 use Rattle.vs_design.specs.TreeLaws.{ConstantValue}
+use Rattle.vs_design.specs.Within.{signal_within, names_within}
 use Rattle.vs_code.specs.Kernels.{operator_of, takes}
 use Rattle.vs_code.specs.Calls.{Call, IsCall, call_cost}
 use Rattle.vs_values.specs.Added.{IsEnv, AreValues, fresh_call}
@@ -31,7 +32,7 @@ use Rattle.vs_values.specs.Valued.{IsSource, IsValue, AddsValue}
 use Rattle.vs_values.proofs.Adding.{values_more, values_as, values_call, is_fresh_call}
 use Rattle.vs_values.proofs.Moved.{extended_all, length-extended}
 use Rattle.vs_values.proofs.Folding.{bits_are, constant_weight, places_are}
-use Rattle.vs_values.proofs.Named.{all_run, length_count}
+use Rattle.vs_values.proofs.Named.{all_run, length_count, within_is}
 use Rattle.vs_values.proofs.Values.{both_true, name_is, one_more, in_left, wider, extended_values, fresh_sources}
 use Rattle.vs_values.proofs.Selecting.{range_is_some}
 use Rattle.vs_values.proofs.Concatenating.{no_more}
@@ -161,32 +162,33 @@ index_weighs : (signal : Signal) (index : Expression) (w : ℕ) (b : Bool) → i
 index_weighs signal index w true h = let z = constant_weight index (width index) h in omega (arith, z)
 index_weighs signal index w false h = let z = weight_of_word signal index w h in omega (arith, z)
 
-pub ready_address : (bits : ℕ) (env : List ℕ) (code : Coding) (signal : Signal) (index : Expression) (w k : ℕ) → k ≡ width index → IsReady bits env code (Word signal index) w → IsReady bits env code index k
-ready_address bits env code signal index w k h r =
+pub ready_address : (env : List ℕ) (code : Coding) (signal : Signal) (index : Expression) (w k : ℕ) → k ≡ width index → IsReady env code (Word signal index) w → IsReady env code index k
+ready_address env code signal index w k h r =
     let f = fit_word signal index r.fit in
     let weighs = index_weighs signal index w (is_constant index) refl in
-    subst (IsReady bits env code index) (sym h) (record {
+    subst (IsReady env code index) (sym h) (record {
       is_env = r.is_env;
-      has_bits = r.has_bits;
+      has_bits = (both_true (signal_within (length env) signal) (names_within (length env) index) r.has_bits).1;
       fit = f.fit;
       wide = omega arith;
       at_most_64 = f.long.1;
+      light = omega (arith, r.light, weighs);
       slots = omega (arith, r.slots, weighs);
       few = omega (arith, r.few, weighs);
     })
 
 -- what the code knows of the address
-pub record Address (bits : ℕ) (env : List ℕ) (code code1 : Coding) (signal : Signal) (index : Expression) (w : ℕ) (ti : List ℕ) : Type 0 where
-  pub ready : IsReady bits env code (Word signal index) w
+pub record Address (env : List ℕ) (code code1 : Coding) (signal : Signal) (index : Expression) (w : ℕ) (ti : List ℕ) : Type 0 where
+  pub ready : IsReady env code (Word signal index) w
   pub inside : signal.first + signal_length signal ≤ length env
   pub value : AddsValue env code.calls code.next code1.calls code1.next index (width index) (sign index) ti
 
-pub address_of : (bits : ℕ) (env : List ℕ) (code code1 : Coding) (signal : Signal) (index : Expression) (w : ℕ) (ti : List ℕ) → IsReady bits env code (Word signal index) w → signal.first + signal_length signal ≤ bits
-    → AddsValue env code.calls code.next code1.calls code1.next index (width index) (sign index) ti → Address bits env code code1 signal index w ti
-address_of bits env code code1 signal index w ti r h v = record { ready = r; inside = omega (arith, h, r.has_bits); value = v }
+pub address_of : (env : List ℕ) (code code1 : Coding) (signal : Signal) (index : Expression) (w : ℕ) (ti : List ℕ) → IsReady env code (Word signal index) w
+    → AddsValue env code.calls code.next code1.calls code1.next index (width index) (sign index) ti → Address env code code1 signal index w ti
+address_of env code code1 signal index w ti r v = record { ready = r; inside = within_is (length env) signal (both_true (signal_within (length env) signal) (names_within (length env) index) r.has_bits).0; value = v }
 
-pub address_long : (bits : ℕ) (env : List ℕ) (code code1 : Coding) (signal : Signal) (index : Expression) (w : ℕ) (ti : List ℕ) → Address bits env code code1 signal index w ti → (1 ≤ length ti) × (length ti ≤ 64)
-address_long bits env code code1 signal index w ti o =
+pub address_long : (env : List ℕ) (code code1 : Coding) (signal : Signal) (index : Expression) (w : ℕ) (ti : List ℕ) → Address env code code1 signal index w ti → (1 ≤ length ti) × (length ti ≤ 64)
+address_long env code code1 signal index w ti o =
     let f = fit_word signal index o.ready.fit in
     (omega (arith, o.value.value.length, f.long.0), omega (arith, o.value.value.length, f.long.1))
 
@@ -209,9 +211,9 @@ word_cost env signal s ti mark =
 pub word_pays : (signal : Signal) (i : ℕ) → 1 ≤ i → word_length signal + signal_length signal ≤ address_weight signal i
 word_pays signal i h = omega (arith, memory_long signal, pays (range_length (addresses signal)) i (word_length signal) (range_is_some (addresses signal)) h)
 
-pub callable_word : (bits : ℕ) (env : List ℕ) (code code1 : Coding) (signal : Signal) (index : Expression) (w : ℕ) (ti : List ℕ) → Address bits env code code1 signal index w ti
+pub callable_word : (env : List ℕ) (code code1 : Coding) (signal : Signal) (index : Expression) (w : ℕ) (ti : List ℕ) → Address env code code1 signal index w ti
     → (AreConstant ti → ⊥) → IsCallable code1 (word_kernel signal (sign index)) (source_slots env (OfSignal signal) ∷ ti ∷ []) (word_length signal)
-callable_word bits env code code1 signal index w ti o variable =
+callable_word env code code1 signal index w ti o variable =
     let r = o.ready in
     let f = fit_word signal index r.fit in
     let vi = o.value.value in
@@ -344,10 +346,10 @@ word_without law env m signal index w s c ti p e long inside vi fixed =
 
 -- ---- either way
 
-pub returns_word : ConstantValue → (bits : ℕ) (env : List ℕ) (code code1 code2 : Coding) (signal : Signal) (index : Expression) (w : ℕ) (s : Bool) (ti to : List ℕ) → Address bits env code code1 signal index w ti
+pub returns_word : ConstantValue → (env : List ℕ) (code code1 code2 : Coding) (signal : Signal) (index : Expression) (w : ℕ) (s : Bool) (ti to : List ℕ) → Address env code code1 signal index w ti
     → IsWord signal (sign index) w s (source_slots env (OfSignal signal)) ti code1 code2 to
     → AddsValue env code.calls code.next code2.calls code2.next (Word signal index) w s to
-returns_word law bits env code code1 code2 signal index w s ti to o (inl h) =
+returns_word law env code code1 code2 signal index w s ti to o (inl h) =
     let v = o.value in
     let from = source_slots env (OfSignal signal) in
     subst (λ (x : Coding). AddsValue env code.calls code.next x.calls x.next (Word signal index) w s to) (sym h.1.same)
@@ -356,13 +358,13 @@ returns_word law bits env code code1 code2 signal index w s ti to o (inl h) =
       is = v.is;
       value = word_without law env code.next signal index w s v.calls ti code1.next o.ready.is_env o.ready.wide o.inside v.value h.0;
     }))
-returns_word law bits env code code1 code2 signal index w s ti to o (inr h) =
+returns_word law env code code1 code2 signal index w s ti to o (inr h) =
     let r = o.ready in
     let v = o.value in
     let f = fit_word signal index r.fit in
     let constant = not_true (is_constant index) (λ k. h.variable (v.value.constant k)) in
     let call = word_call env signal (sign index) ti code1.next in
-    let can = callable_word bits env code code1 signal index w ti o h.variable in
+    let can = callable_word env code code1 signal index w ti o h.variable in
     let value = word_is env code.next signal index w s v.calls ti code1.next r.is_env r.wide f.long.0 constant o.inside can.is v.value in
     record {
       calls = v.calls ++ call ∷ [];

@@ -1,4 +1,5 @@
 pub mod Added
+pub mod Calling
 pub mod Choices
 pub mod Coded
 pub mod Constants
@@ -6,4 +7,5 @@ pub mod Environments
 pub mod Made
 pub mod Products
 pub mod Ready
+pub mod Templates
 pub mod Valued

@@ -118,6 +118,25 @@ impl Code {
         })?;
         Ok(())
     }
+
+    /// Adds a call that may write any slots. On an error the calls are as they were.
+    pub(crate) fn add(&mut self, op: Op) -> Result<(), AllocError>
+        requires is { IsCall op }
+        requires few { length_of self.old.calls + call_cost op ≤ 2 ^ 32 }
+        ensures ok { OnOk result (self.new ≡ record { calls = self.old.calls ++ op ∷ []; next = self.old.next }) }
+        ensures err { OnErr result (self.new ≡ self.old) }
+    {
+        self.program.push(op)?;
+        Ok(())
+    }
+
+    /// Takes as many slots, which are new no more.
+    pub(crate) fn take(&mut self, count: u32)
+        requires { self.old.next + count < 2 ^ 32 }
+        ensures { self.new ≡ record { calls = self.old.calls; next = self.old.next + count } }
+    {
+        self.next += count;
+    }
 }
 
 /// As many slots, one after the other.

@@ -1,17 +1,18 @@
 //! Which slots hold the values of the bits.
 
 ghost use Rattle.std.specs.Prelude.{◌≡◌, ◌+◌, ◌<◌, ◌≤◌, ◌^◌, map, length, set, slice_index, All, IfOk, OnOk, Some};
-ghost use Rattle.vs_values.specs.Environments.{homes, placed};
+ghost use Rattle.vs_values.specs.Environments.{first_slot, homes, local_slots, placed};
 
 use std::alloc::{AllocError, Global};
 use std::collections::BTreeMap;
 use std::marker::Model;
 use vs_program::home;
 
-/// Which slot holds the value of each bit: its home, or the one that it was given last.
+/// Which slot holds the value of each bit: the one that it was given last, or that which it had first. The first bits began at home, and all others in the slot of x.
 #[derive(Drop)]
 pub struct Environment {
     bits: u32,
+    housed: u32,
     moved: BTreeMap<u32, u32>,
 }
 
@@ -22,7 +23,7 @@ impl Model for Environment {
 
     ghost Value = { List ℕ };
 
-    ghost view = { λ e. slots_in e.bits e.moved };
+    ghost view = { λ e. slots_in e.bits e.housed e.moved };
 
     ghost invariant = { λ e. 4 + e.bits ≤ 2 ^ 32 };
 }
@@ -35,6 +36,19 @@ impl Environment {
     {
         Environment {
             bits,
+            housed: bits,
+            moved: BTreeMap::new(alloc),
+        }
+    }
+
+    /// That of a function's local bits before its statement (IEEE 1364-2005, 10.4): this many bits of inputs, each at home, and then others, each in the slot of x. It takes no memory.
+    pub fn at_call(alloc: Global, inputs: u32, others: u32) -> Environment
+        requires { 4 + (inputs + others) ≤ 2 ^ 32 }
+        ensures { result ≡ local_slots inputs others }
+    {
+        Environment {
+            bits: inputs + others,
+            housed: inputs,
             moved: BTreeMap::new(alloc),
         }
     }
@@ -46,7 +60,7 @@ impl Environment {
     {
         match self.moved.get(&bit) {
             Some(slot) => *slot,
-            None => home(bit),
+            None => first_slot(self.housed, self.bits, bit),
         }
     }
 
@@ -58,6 +72,15 @@ impl Environment {
         self.moved.insert(bit, slot)?;
         Ok(())
     }
+}
+
+/// The slot that a bit of so many had first: its home, or that of x.
+fn first_slot(housed: u32, bits: u32, bit: u32) -> u32
+    requires few { 4 + bits ≤ 2 ^ 32 }
+    requires bit { bit < bits }
+    ensures { result ≡ first_slot housed bit }
+{
+    if bit < housed { home(bit) } else { 2 }
 }
 
 /// The slots of these bits.

@@ -1,12 +1,11 @@
 //! The lowering of expressions.
 
-ghost use Rattle.std.specs.Prelude.{◌≡◌, ◌⊎◌, ◌+◌, ◌<◌, ◌≤◌, ◌^◌, map, [], ◌∷◌, ◌&&◌, All, length, IfOk, OnOk, true};
+ghost use Rattle.std.specs.Prelude.{◌≡◌, ◌⊎◌, ◌+◌, ◌<◌, ◌≤◌, ◌^◌, map, max, [], ◌∷◌, ◌&&◌, All, length, IfOk, OnOk, true};
 ghost use Rattle.std.specs.List.{range_with_len};
 ghost use Rattle.vs_design.specs.Expressions as E;
 ghost use Rattle.vs_design.specs.Sizes.{is_shift};
 ghost use Rattle.vs_design.specs.Values.{apply_binary, left_sign, left_width, right_sign, right_width};
 ghost use Rattle.vs_code.specs.Calls.{IsCall, call_cost, length_of};
-ghost use Rattle.vs_flat.specs.Arena.{bit_count};
 ghost use Rattle.vs_flat.specs.DesignOf.{arena_signals, arena_trees};
 ghost use Rattle.vs_flat.specs.Targets.{source_of};
 ghost use Rattle.vs_flat.specs.Trees.{copy_count, first_copy, joined, signal_at, tree_at};
@@ -16,6 +15,8 @@ ghost use Rattle.vs_values.specs.Constants.{AreConstant, constant_bits, constant
 ghost use Rattle.vs_values.specs.Ready.{IsReady};
 ghost use Rattle.vs_values.specs.Choices.{binary_kernel, result_of_way};
 ghost use Rattle.vs_values.specs.Products.{IsCheap};
+ghost use Rattle.vs_values.specs.Calling.{AddsArgument, AddsArguments, AreReady, IsFormedCall};
+ghost use Rattle.vs_values.specs.Templates.{function_at, node_bound};
 ghost use Rattle.vs_values.specs.Valued.{AddsValue};
 ghost use Rattle.vs_values.specs.declared.expressions.Route.TheVariants as Routes;
 
@@ -24,21 +25,22 @@ use crate::arguments::pair;
 use crate::code::Code;
 use crate::environment::Environment;
 use crate::joins::{appended, copied};
+use crate::locals::{input_width, local};
 use crate::names::{literal, name};
 use crate::products::{is_cheap, summed};
 use crate::shifts::moved;
 use crate::slots::{are_constant, constant_bits, constant_slots, extended};
-use crate::sources::{chosen_bits, source, source_fits};
-use crate::typed::own;
+use crate::sources::{chosen_bits, source};
+use crate::templates::Templates;
+use crate::typed::own_of;
 use crate::words::chosen_word;
 use std::alloc::{AllocError, Global};
 use vs_base::{BinaryOp, Context, UnaryOp, Way};
 use vs_code::AnyKernel;
 use vs_design::value_law;
-use vs_flat::{Node, lawful_law, names_law, trees_law};
+use vs_flat::Node;
 use vs_four::Range;
 use vs_shape::first_copy;
-use vs_typed::Typed;
 
 /// The kernel of an operator of two operands; division has none.
 pub(crate) fn binary_kernel(op: BinaryOp, signed: bool) -> AnyKernel
@@ -172,7 +174,7 @@ fn is_product(op: BinaryOp) -> bool
 #[cycle(expressions)]
 fn binary(
     alloc: Global,
-    typed: &Typed,
+    templates: &Templates,
     env: &Environment,
     op: BinaryOp,
     a: u32,
@@ -180,17 +182,17 @@ fn binary(
     context: Context,
     code: &mut Code,
 ) -> Result<Vec<u32>, AllocError>
-    requires a { a < length typed.now.nodes }
-    requires b { b < length typed.now.nodes }
-    requires ready { IsReady (bit_count typed.now.signals) env.now code.old (E.Binary op (tree_at (arena_trees typed.now) a) (tree_at (arena_trees typed.now) b)) context.width }
-    ensures { IfOk result (λ to. AddsValue env.now code.old.calls code.old.next code.new.calls code.new.next (E.Binary op (tree_at (arena_trees typed.now) a) (tree_at (arena_trees typed.now) b)) context.width context.signed to.items) }
+    requires a { a < node_bound templates.now }
+    requires b { b < node_bound templates.now }
+    requires ready { IsReady env.now code.old (E.Binary op (tree_at (arena_trees templates.now.arena) a) (tree_at (arena_trees templates.now.arena) b)) context.width }
+    ensures { IfOk result (λ to. AddsValue env.now code.old.calls code.old.next code.new.calls code.new.next (E.Binary op (tree_at (arena_trees templates.now.arena) a) (tree_at (arena_trees templates.now.arena) b)) context.width context.signed to.items) }
 {
-    let own_a = own(typed, a);
-    let own_b = own(typed, b);
+    let own_a = own_of(templates, a);
+    let own_b = own_of(templates, b);
     let l = left(op, context, own_a, own_b);
     let r = right(op, context, own_a, own_b);
-    let p = lower(alloc, typed, env, a, l, code)?;
-    let q = lower(alloc, typed, env, b, r, code)?;
+    let p = lower(alloc, templates, env, a, l, code)?;
+    let q = lower(alloc, templates, env, b, r, code)?;
     value_law();
     match route_of(op, p.as_slice(), q.as_slice()) {
         Route::Folded => folded(alloc, op, l.signed, p.as_slice(), q.as_slice(), context),
@@ -256,20 +258,20 @@ fn shifted(
 #[cycle(expressions)]
 fn unary(
     alloc: Global,
-    typed: &Typed,
+    templates: &Templates,
     env: &Environment,
     op: UnaryOp,
     a: u32,
     context: Context,
     code: &mut Code,
 ) -> Result<Vec<u32>, AllocError>
-    requires a { a < length typed.now.nodes }
-    requires ready { IsReady (bit_count typed.now.signals) env.now code.old (E.Unary op (tree_at (arena_trees typed.now) a)) context.width }
-    ensures { IfOk result (λ to. AddsValue env.now code.old.calls code.old.next code.new.calls code.new.next (E.Unary op (tree_at (arena_trees typed.now) a)) context.width context.signed to.items) }
+    requires a { a < node_bound templates.now }
+    requires ready { IsReady env.now code.old (E.Unary op (tree_at (arena_trees templates.now.arena) a)) context.width }
+    ensures { IfOk result (λ to. AddsValue env.now code.old.calls code.old.next code.new.calls code.new.next (E.Unary op (tree_at (arena_trees templates.now.arena) a)) context.width context.signed to.items) }
 {
-    let own = own(typed, a);
+    let own = own_of(templates, a);
     let l = op.operand(context, own);
-    let p = lower(alloc, typed, env, a, l, code)?;
+    let p = lower(alloc, templates, env, a, l, code)?;
     value_law();
     applied(alloc, op, p, context, code)
 }
@@ -278,7 +280,7 @@ fn unary(
 #[cycle(expressions)]
 fn choice(
     alloc: Global,
-    typed: &Typed,
+    templates: &Templates,
     env: &Environment,
     c: u32,
     p: u32,
@@ -286,16 +288,16 @@ fn choice(
     context: Context,
     code: &mut Code,
 ) -> Result<Vec<u32>, AllocError>
-    requires c { c < length typed.now.nodes }
-    requires p { p < length typed.now.nodes }
-    requires q { q < length typed.now.nodes }
-    requires ready { IsReady (bit_count typed.now.signals) env.now code.old (E.Choice (tree_at (arena_trees typed.now) c) (tree_at (arena_trees typed.now) p) (tree_at (arena_trees typed.now) q)) context.width }
-    ensures { IfOk result (λ to. AddsValue env.now code.old.calls code.old.next code.new.calls code.new.next (E.Choice (tree_at (arena_trees typed.now) c) (tree_at (arena_trees typed.now) p) (tree_at (arena_trees typed.now) q)) context.width context.signed to.items) }
+    requires c { c < node_bound templates.now }
+    requires p { p < node_bound templates.now }
+    requires q { q < node_bound templates.now }
+    requires ready { IsReady env.now code.old (E.Choice (tree_at (arena_trees templates.now.arena) c) (tree_at (arena_trees templates.now.arena) p) (tree_at (arena_trees templates.now.arena) q)) context.width }
+    ensures { IfOk result (λ to. AddsValue env.now code.old.calls code.old.next code.new.calls code.new.next (E.Choice (tree_at (arena_trees templates.now.arena) c) (tree_at (arena_trees templates.now.arena) p) (tree_at (arena_trees templates.now.arena) q)) context.width context.signed to.items) }
 {
-    let own = own(typed, c);
-    let t = lower(alloc, typed, env, c, own, code)?;
-    let x = lower(alloc, typed, env, p, context, code)?;
-    let y = lower(alloc, typed, env, q, context, code)?;
+    let own = own_of(templates, c);
+    let t = lower(alloc, templates, env, c, own, code)?;
+    let x = lower(alloc, templates, env, p, context, code)?;
+    let y = lower(alloc, templates, env, q, context, code)?;
     value_law();
     chosen(alloc, t, x, y, context.width, code)
 }
@@ -304,7 +306,7 @@ fn choice(
 #[cycle(expressions)]
 fn select(
     alloc: Global,
-    typed: &Typed,
+    templates: &Templates,
     env: &Environment,
     of: u32,
     index: u32,
@@ -314,15 +316,14 @@ fn select(
     context: Context,
     code: &mut Code,
 ) -> Result<Vec<u32>, AllocError>
-    requires of { of < length typed.now.nodes }
-    requires index { index < length typed.now.nodes }
-    requires ready { IsReady (bit_count typed.now.signals) env.now code.old (E.Select (source_of (tree_at (arena_trees typed.now) of)) (record { range = range; up = up; width = width }) (tree_at (arena_trees typed.now) index)) context.width }
-    ensures { IfOk result (λ to. AddsValue env.now code.old.calls code.old.next code.new.calls code.new.next (E.Select (source_of (tree_at (arena_trees typed.now) of)) (record { range = range; up = up; width = width }) (tree_at (arena_trees typed.now) index)) context.width context.signed to.items) }
+    requires of { of < node_bound templates.now }
+    requires index { index < node_bound templates.now }
+    requires ready { IsReady env.now code.old (E.Select (source_of (tree_at (arena_trees templates.now.arena) of)) (record { range = range; up = up; width = width }) (tree_at (arena_trees templates.now.arena) index)) context.width }
+    ensures { IfOk result (λ to. AddsValue env.now code.old.calls code.old.next code.new.calls code.new.next (E.Select (source_of (tree_at (arena_trees templates.now.arena) of)) (record { range = range; up = up; width = width }) (tree_at (arena_trees templates.now.arena) index)) context.width context.signed to.items) }
 {
-    let own = own(typed, index);
-    source_fits(typed, of);
-    let i = lower(alloc, typed, env, index, own, code)?;
-    let from = source(alloc, typed, env, of)?;
+    let own = own_of(templates, index);
+    let i = lower(alloc, templates, env, index, own, code)?;
+    let from = source(alloc, templates, env, of)?;
     value_law();
     chosen_bits(alloc, from, i, own.signed, range, up, width, context, code)
 }
@@ -331,30 +332,30 @@ fn select(
 #[cycle(expressions)]
 fn word(
     alloc: Global,
-    typed: &Typed,
+    templates: &Templates,
     env: &Environment,
     signal: u32,
     index: u32,
     context: Context,
     code: &mut Code,
 ) -> Result<Vec<u32>, AllocError>
-    requires signal { signal < length typed.now.signals }
-    requires index { index < length typed.now.nodes }
-    requires ready { IsReady (bit_count typed.now.signals) env.now code.old (E.Word (signal_at (arena_signals typed.now) signal) (tree_at (arena_trees typed.now) index)) context.width }
-    ensures { IfOk result (λ to. AddsValue env.now code.old.calls code.old.next code.new.calls code.new.next (E.Word (signal_at (arena_signals typed.now) signal) (tree_at (arena_trees typed.now) index)) context.width context.signed to.items) }
+    requires signal { signal < length templates.now.arena.signals }
+    requires index { index < node_bound templates.now }
+    requires ready { IsReady env.now code.old (E.Word (signal_at (arena_signals templates.now.arena) signal) (tree_at (arena_trees templates.now.arena) index)) context.width }
+    ensures { IfOk result (λ to. AddsValue env.now code.old.calls code.old.next code.new.calls code.new.next (E.Word (signal_at (arena_signals templates.now.arena) signal) (tree_at (arena_trees templates.now.arena) index)) context.width context.signed to.items) }
 {
-    typed.flat();
-    let own = own(typed, index);
-    let i = lower(alloc, typed, env, index, own, code)?;
+    templates.flat();
+    let own = own_of(templates, index);
+    let i = lower(alloc, templates, env, index, own, code)?;
     value_law();
-    chosen_word(alloc, typed, env, signal, i, own.signed, context, code)
+    chosen_word(alloc, templates, env, signal, i, own.signed, context, code)
 }
 
 /// Adds the calls of a concatenation of one copy, and answers the slots of its value. Its parts come before node e.
 #[cycle(expressions)]
 fn concatenated(
     alloc: Global,
-    typed: &Typed,
+    templates: &Templates,
     env: &Environment,
     e: u32,
     parts: &[u32],
@@ -362,17 +363,17 @@ fn concatenated(
 ) -> Result<Vec<u32>, AllocError>
     requires some { 1 ≤ length parts.now }
     requires parts { All (λ p. p < e) parts.now }
-    requires e { e < length typed.now.nodes }
-    requires ready { IsReady (bit_count typed.now.signals) env.now code.old (joined (map (tree_at (arena_trees typed.now)) parts.now)) (E.width (joined (map (tree_at (arena_trees typed.now)) parts.now))) }
-    ensures { IfOk result (λ to. AddsValue env.now code.old.calls code.old.next code.new.calls code.new.next (joined (map (tree_at (arena_trees typed.now)) parts.now)) (E.width (joined (map (tree_at (arena_trees typed.now)) parts.now))) (E.sign (joined (map (tree_at (arena_trees typed.now)) parts.now))) to.items) }
+    requires e { e < node_bound templates.now }
+    requires ready { IsReady env.now code.old (joined (map (tree_at (arena_trees templates.now.arena)) parts.now)) (E.width (joined (map (tree_at (arena_trees templates.now.arena)) parts.now))) }
+    ensures { IfOk result (λ to. AddsValue env.now code.old.calls code.old.next code.new.calls code.new.next (joined (map (tree_at (arena_trees templates.now.arena)) parts.now)) (E.width (joined (map (tree_at (arena_trees templates.now.arena)) parts.now))) (E.sign (joined (map (tree_at (arena_trees templates.now.arena)) parts.now))) to.items) }
 {
     let first = parts[0];
-    let own = own(typed, first);
+    let own = own_of(templates, first);
     if parts.len() == 1 {
-        return lower(alloc, typed, env, first, own, code);
+        return lower(alloc, templates, env, first, own, code);
     }
-    let low = concatenated(alloc, typed, env, e, &parts[1..], code)?;
-    let high = lower(alloc, typed, env, first, own, code)?;
+    let low = concatenated(alloc, templates, env, e, &parts[1..], code)?;
+    let high = lower(alloc, templates, env, first, own, code)?;
     appended(low, high)
 }
 
@@ -380,7 +381,7 @@ fn concatenated(
 #[cycle(expressions)]
 fn replication(
     alloc: Global,
-    typed: &Typed,
+    templates: &Templates,
     env: &Environment,
     e: u32,
     parts: &[u32],
@@ -388,45 +389,134 @@ fn replication(
     code: &mut Code,
 ) -> Result<Vec<u32>, AllocError>
     requires parts { All (λ p. p < e) parts.now }
-    requires e { e < length typed.now.nodes }
-    requires ready { IsReady (bit_count typed.now.signals) env.now code.old (E.Repeat (copy_count parts.now) (joined (map (tree_at (arena_trees typed.now)) (first_copy parts.now)))) context.width }
-    ensures { IfOk result (λ to. AddsValue env.now code.old.calls code.old.next code.new.calls code.new.next (E.Repeat (copy_count parts.now) (joined (map (tree_at (arena_trees typed.now)) (first_copy parts.now)))) context.width context.signed to.items) }
+    requires e { e < node_bound templates.now }
+    requires ready { IsReady env.now code.old (E.Repeat (copy_count parts.now) (joined (map (tree_at (arena_trees templates.now.arena)) (first_copy parts.now)))) context.width }
+    ensures { IfOk result (λ to. AddsValue env.now code.old.calls code.old.next code.new.calls code.new.next (E.Repeat (copy_count parts.now) (joined (map (tree_at (arena_trees templates.now.arena)) (first_copy parts.now)))) context.width context.signed to.items) }
 {
     let first = first_copy(parts);
-    let one = concatenated(alloc, typed, env, e, first, code)?;
+    let one = concatenated(alloc, templates, env, e, first, code)?;
     copied(alloc, parts, one, context)
+}
+
+/// Adds the calls of an argument, and answers the slots of its value for an input of this length, to which it is assigned (IEEE 1364-2005, 10.4.3).
+#[cycle(expressions)]
+fn argument(
+    alloc: Global,
+    templates: &Templates,
+    env: &Environment,
+    e: u32,
+    width: u32,
+    code: &mut Code,
+) -> Result<Vec<u32>, AllocError>
+    requires node { e < node_bound templates.now }
+    requires ready { IsReady env.now code.old (tree_at (arena_trees templates.now.arena) e) (max (E.width (tree_at (arena_trees templates.now.arena) e)) width) }
+    ensures { IfOk result (λ to. AddsArgument env.now code.old code.new (tree_at (arena_trees templates.now.arena) e) width to.items) }
+{
+    let own = own_of(templates, e);
+    let context = Context {
+        width: own.width.max(width),
+        signed: own.signed,
+    };
+    let mut to = lower(alloc, templates, env, e, context, code)?;
+    to.truncate(width as usize);
+    Ok(to)
+}
+
+/// Adds the calls of a call's arguments, and answers the slots of the bits of all inputs. The arguments come before node e.
+#[cycle(expressions)]
+fn inputs(
+    alloc: Global,
+    templates: &Templates,
+    env: &Environment,
+    e: u32,
+    function: u32,
+    arguments: &[u32],
+    code: &mut Code,
+) -> Result<Vec<u32>, AllocError>
+    requires function { function < templates.now.functions }
+    requires e { e < node_bound templates.now }
+    requires arguments { All (λ n. n < e) arguments.now }
+    requires formed { IsFormedCall (function_at templates.now.arena function).header (length arguments.now) }
+    requires ready { AreReady env.now code.old (E.items_of (map (tree_at (arena_trees templates.now.arena)) arguments.now)) (function_at templates.now.arena function).header.inputs }
+    ensures { IfOk result (λ to. AddsArguments env.now code.old code.new (E.items_of (map (tree_at (arena_trees templates.now.arena)) arguments.now)) (function_at templates.now.arena function).header.inputs to.items) }
+{
+    let mut to = Vec::new(alloc);
+    for n in 0..arguments.len() {
+        let width = input_width(templates, function, n);
+        let one = argument(alloc, templates, env, arguments[n], width, code)?;
+        to = appended(to, one)?;
+    }
+    Ok(to)
+}
+
+/// Adds the calls of a function's call, and answers the slots of its value. Its arguments come before node e.
+#[cycle(expressions)]
+fn call(
+    alloc: Global,
+    templates: &Templates,
+    env: &Environment,
+    e: u32,
+    function: u32,
+    arguments: &[u32],
+    context: Context,
+    code: &mut Code,
+) -> Result<Vec<u32>, AllocError>
+    requires function { function < templates.now.functions }
+    requires e { e < node_bound templates.now }
+    requires arguments { All (λ n. n < e) arguments.now }
+    requires formed { IsFormedCall (function_at templates.now.arena function).header (length arguments.now) }
+    requires ready { IsReady env.now code.old (E.Call (function_at templates.now.arena function).header (function_at templates.now.arena function).statement (E.items_of (map (tree_at (arena_trees templates.now.arena)) arguments.now))) context.width }
+    ensures { IfOk result (λ to. AddsValue env.now code.old.calls code.old.next code.new.calls code.new.next (E.Call (function_at templates.now.arena function).header (function_at templates.now.arena function).statement (E.items_of (map (tree_at (arena_trees templates.now.arena)) arguments.now))) context.width context.signed to.items) }
+{
+    let slots = inputs(alloc, templates, env, e, function, arguments, code)?;
+    value_law();
+    let to = templates.inlined(alloc, function, slots.as_slice(), code)?;
+    extended(to, context.width, context.signed)
 }
 
 /// Adds the calls of expression e in a context, and answers the slots of its value.
 #[cycle(expressions)]
 pub fn lower(
     alloc: Global,
-    typed: &Typed,
+    templates: &Templates,
     env: &Environment,
     e: u32,
     context: Context,
     code: &mut Code,
 ) -> Result<Vec<u32>, AllocError>
-    requires node { e < length typed.now.nodes }
-    requires ready { IsReady (bit_count typed.now.signals) env.now code.old (tree_at (arena_trees typed.now) e) context.width }
-    ensures { IfOk result (λ to. AddsValue env.now code.old.calls code.old.next code.new.calls code.new.next (tree_at (arena_trees typed.now) e) context.width context.signed to.items) }
+    requires node { e < node_bound templates.now }
+    requires ready { IsReady env.now code.old (tree_at (arena_trees templates.now.arena) e) context.width }
+    ensures { IfOk result (λ to. AddsValue env.now code.old.calls code.old.next code.new.calls code.new.next (tree_at (arena_trees templates.now.arena) e) context.width context.signed to.items) }
 {
-    trees_law();
-    names_law();
-    lawful_law();
     value_law();
-    match typed.flat().expr(e) {
+    match templates.expr(e) {
         Node::Literal { bits, sized, .. } => literal(alloc, *bits, *sized, context),
-        Node::Name { signal } => name(alloc, typed, env, *signal, context),
-        Node::Word { signal, index } => word(alloc, typed, env, *signal, *index, context, code),
-        Node::Binary { op, a, b } => binary(alloc, typed, env, *op, *a, *b, context, code),
-        Node::Unary { op, a } => unary(alloc, typed, env, *op, *a, context, code),
-        Node::Choice { c, p, q } => choice(alloc, typed, env, *c, *p, *q, context, code),
+        Node::Name { signal } => name(alloc, templates, env, *signal, context),
+        Node::Local { function, signal } => {
+            local(alloc, templates, env, *function, *signal, context)
+        }
+        Node::Word { signal, index } => word(alloc, templates, env, *signal, *index, context, code),
+        Node::Binary { op, a, b } => binary(alloc, templates, env, *op, *a, *b, context, code),
+        Node::Unary { op, a } => unary(alloc, templates, env, *op, *a, context, code),
+        Node::Choice { c, p, q } => choice(alloc, templates, env, *c, *p, *q, context, code),
         Node::Join { parts } => {
-            replication(alloc, typed, env, e, parts.as_slice(), context, code)
+            replication(alloc, templates, env, e, parts.as_slice(), context, code)
         }
         Node::Bit { of, range, index } => select(
-            alloc, typed, env, *of, *index, *range, true, 1, context, code,
+            alloc, templates, env, *of, *index, *range, true, 1, context, code,
+        ),
+        Node::Call {
+            function,
+            arguments,
+        } => call(
+            alloc,
+            templates,
+            env,
+            e,
+            *function,
+            arguments.as_slice(),
+            context,
+            code,
         ),
         Node::Part {
             of,
@@ -435,7 +525,7 @@ pub fn lower(
             up,
             width,
         } => select(
-            alloc, typed, env, *of, *base, *range, *up, *width, context, code,
+            alloc, templates, env, *of, *base, *range, *up, *width, context, code,
         ),
     }
 }

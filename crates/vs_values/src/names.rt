@@ -1,22 +1,22 @@
 //! The slots of signals, and of literals.
 
-ghost use Rattle.std.specs.Prelude.{◌≡◌, ◌+◌, ◌<◌, ◌≤◌, ◌^◌, ◌||◌, ◌&&◌, not, map, length, slice_index, IfOk};
+ghost use Rattle.std.specs.Prelude.{◌≡◌, ◌+◌, ◌<◌, ◌≤◌, ◌^◌, ◌||◌, ◌&&◌, not, map, length, slice_index, IfOk, true};
 ghost use Rattle.vs_design.specs.Values.{bits_of_signal, count_from};
+ghost use Rattle.vs_design.specs.Within.{signal_within};
 ghost use Rattle.vs_four.specs.Lengths.{last_or};
 ghost use Rattle.vs_four.specs.Tables.{is_known};
 ghost use Rattle.vs_four.specs.declared.Bit4.TheVariants.{Zero};
-ghost use Rattle.vs_flat.specs.Arena.{bit_count};
 ghost use Rattle.vs_flat.specs.DesignOf.{arena_signals};
 ghost use Rattle.vs_flat.specs.Trees.{signal_at};
 ghost use Rattle.vs_values.specs.Constants.{constant_slots, extended_slots};
 
 use crate::environment::Environment;
 use crate::slots::{constant_slots, extended};
+use crate::templates::Templates;
 use std::alloc::{AllocError, Global};
 use vs_base::Context;
 use vs_flat::{bits_of, lawful_law, trees_law};
 use vs_four::{Bit4, Bits, top};
-use vs_typed::Typed;
 
 /// The slots of bits one after the other.
 pub(crate) fn run(
@@ -39,29 +39,33 @@ pub(crate) fn run(
 /// The slots of a signal's bits.
 pub fn signal_slots(
     alloc: Global,
-    typed: &Typed,
+    templates: &Templates,
     env: &Environment,
     signal: u32,
 ) -> Result<Vec<u32>, AllocError>
-    requires signal { signal < length typed.now.signals }
-    requires bits { length env.now ≡ bit_count typed.now.signals }
-    ensures { IfOk result (λ to. to.items ≡ map (slice_index env.now) (bits_of_signal (signal_at (arena_signals typed.now) signal))) }
+    requires signal { signal < length templates.now.arena.signals }
+    requires within { signal_within (length env.now) (signal_at (arena_signals templates.now.arena) signal) ≡ true }
+    ensures { IfOk result (λ to. to.items ≡ map (slice_index env.now) (bits_of_signal (signal_at (arena_signals templates.now.arena) signal))) }
 {
     trees_law();
     lawful_law();
-    let flat = typed.flat();
+    let flat = templates.flat();
     let signal = flat.signal(signal);
     run(alloc, env, signal.first_bit, bits_of(signal))
 }
 
 /// A signal's bits, by their numbers, the least significant one first.
-pub fn signal_bits(alloc: Global, typed: &Typed, signal: u32) -> Result<Vec<u32>, AllocError>
-    requires signal { signal < length typed.now.signals }
-    ensures { IfOk result (λ bits. bits.items ≡ bits_of_signal (signal_at (arena_signals typed.now) signal)) }
+pub fn signal_bits(
+    alloc: Global,
+    templates: &Templates,
+    signal: u32,
+) -> Result<Vec<u32>, AllocError>
+    requires signal { signal < length templates.now.arena.signals }
+    ensures { IfOk result (λ bits. bits.items ≡ bits_of_signal (signal_at (arena_signals templates.now.arena) signal)) }
 {
     trees_law();
     lawful_law();
-    let flat = typed.flat();
+    let flat = templates.flat();
     let signal = flat.signal(signal);
     numbers(alloc, signal.first_bit, bits_of(signal))
 }
@@ -81,16 +85,16 @@ pub fn numbers(alloc: Global, first: u32, count: u32) -> Result<Vec<u32>, AllocE
 /// The slots of a signal's value, extended.
 pub(crate) fn name(
     alloc: Global,
-    typed: &Typed,
+    templates: &Templates,
     env: &Environment,
     signal: u32,
     context: Context,
 ) -> Result<Vec<u32>, AllocError>
-    requires signal { signal < length typed.now.signals }
-    requires bits { length env.now ≡ bit_count typed.now.signals }
-    ensures { IfOk result (λ to. to.items ≡ extended_slots context.width context.signed (map (slice_index env.now) (bits_of_signal (signal_at (arena_signals typed.now) signal)))) }
+    requires signal { signal < length templates.now.arena.signals }
+    requires within { signal_within (length env.now) (signal_at (arena_signals templates.now.arena) signal) ≡ true }
+    ensures { IfOk result (λ to. to.items ≡ extended_slots context.width context.signed (map (slice_index env.now) (bits_of_signal (signal_at (arena_signals templates.now.arena) signal)))) }
 {
-    let from = signal_slots(alloc, typed, env, signal)?;
+    let from = signal_slots(alloc, templates, env, signal)?;
     extended(from, context.width, context.signed)
 }
 

@@ -1,57 +1,51 @@
 //! Selects, by those of what their bits are taken of and of their index.
 
-ghost use Rattle.std.specs.Prelude.{◌≡◌, ◌≤◌, ◌<◌, [], ◌∷◌, length, IfOk, OnOk};
+ghost use Rattle.std.specs.Prelude.{◌≡◌, ◌≤◌, ◌<◌, [], ◌∷◌, length, IfOk, OnOk, true};
 ghost use Rattle.std.specs.List.{range_with_len};
 ghost use Rattle.vs_four.specs.Selects.{range_length};
-ghost use Rattle.vs_flat.specs.Arena.{bit_count};
+ghost use Rattle.vs_design.specs.Within.{source_within};
 ghost use Rattle.vs_flat.specs.DesignOf.{arena_trees};
 ghost use Rattle.vs_flat.specs.Targets.{source_of};
 ghost use Rattle.vs_flat.specs.Trees.{tree_at};
 ghost use Rattle.vs_values.specs.Coded.{with_call};
 ghost use Rattle.vs_values.specs.Constants.{AreConstant, constant_bits, extended_slots, selected_slots};
-ghost use Rattle.vs_values.specs.Made.{SourceInside, IsCallable, IsSelect, select_kernel, source_slots};
+ghost use Rattle.vs_values.specs.Templates.{node_bound};
+ghost use Rattle.vs_values.specs.Made.{IsCallable, IsSelect, select_kernel, source_slots};
 
 use crate::arguments::pair;
 use crate::code::Code;
 use crate::environment::Environment;
+use crate::locals::local_slots;
 use crate::names::signal_slots;
 use crate::selects::selected;
 use crate::slots::{are_constant, constant_slots, extended};
+use crate::templates::Templates;
 use std::alloc::{AllocError, Global};
 use vs_base::Context;
 use vs_code::AnyKernel;
-use vs_flat::{Node, names_law, trees_law};
+use vs_flat::Node;
 use vs_four::Range;
 use vs_kern_select::Selection;
-use vs_typed::Typed;
 
 /// The slots of what a select takes its bits of: of a signal, or of a constant.
 pub(crate) fn source(
     alloc: Global,
-    typed: &Typed,
+    templates: &Templates,
     env: &Environment,
     of: u32,
 ) -> Result<Vec<u32>, AllocError>
-    requires of { of < length typed.now.nodes }
-    requires bits { length env.now ≡ bit_count typed.now.signals }
-    ensures { IfOk result (λ to. to.items ≡ source_slots env.now (source_of (tree_at (arena_trees typed.now) of))) }
+    requires of { of < node_bound templates.now }
+    requires within { source_within (length env.now) (source_of (tree_at (arena_trees templates.now.arena) of)) ≡ true }
+    ensures { IfOk result (λ to. to.items ≡ source_slots env.now (source_of (tree_at (arena_trees templates.now.arena) of))) }
 {
-    trees_law();
-    names_law();
-    match typed.flat().expr(of) {
-        Node::Name { signal } => signal_slots(alloc, typed, env, *signal),
+    match templates.expr(of) {
+        Node::Name { signal } => signal_slots(alloc, templates, env, *signal),
+        Node::Local { function, signal } => {
+            local_slots(alloc, templates, env, *function, *signal)
+        }
         Node::Literal { bits, .. } => constant_slots(alloc, *bits),
         _ => Ok(Vec::new(alloc)),
     }
-}
-
-/// Its bits are among the design's.
-pub(crate) fn source_fits(typed: &Typed, of: u32)
-    requires of { of < length typed.now.nodes }
-    ensures { SourceInside (bit_count typed.now.signals) (source_of (tree_at (arena_trees typed.now) of)) }
-{
-    trees_law();
-    typed.flat();
 }
 
 /// Calls the kernel of a select by a variable index.

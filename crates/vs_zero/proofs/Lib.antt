@@ -1,6 +1,7 @@
 pub mod Writing
 pub mod TargetFacts
 pub mod CaseSteps
+pub mod Below
 pub mod Fixing
 pub mod Valued
 pub mod Updating

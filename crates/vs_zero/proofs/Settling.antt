@@ -28,7 +28,8 @@ use Rattle.vs_sets.specs.StatementParts.{statement_of}
 use Rattle.vs_typed.specs.Laws.{EachProcessFits}
 use Rattle.vs_flat.specs.Events.{is_edge_event}
 use Rattle.vs_zero.specs.Blocks.{IsBlockOf, may_wake}
-use Rattle.vs_zero.proofs.ByKind.{statement_there, process_fits}
+use Rattle.vs_design.specs.Within.{StatementIsWithin}
+use Rattle.vs_zero.proofs.ByKind.{block_within, statement_there, process_fits}
 use Rattle.vs_reads.proofs.ByKind.{kind_in, kind_is, process_same}
 use Rattle.vs_sets.proofs.Families.{same_or_other}
 use Rattle.vs_zero.proofs.Unrefused.{clean}
@@ -68,10 +69,10 @@ assigned_late each a p r target e port i h asleep f g x k s =
 -- ---- blocks
 
 -- a block that isn't clocked
-pub block_is : EachProcess → ProcessNames → EachProcessFits → EachHasItsBits → (a : Arena) → IsLawful a → width_refusal (design_of a) ≡ None → block_refusal (design_of a) ≡ None
+pub block_is : StatementIsWithin → EachProcess → ProcessNames → EachProcessFits → EachHasItsBits → (a : Arena) → IsLawful a → width_refusal (design_of a) ≡ None → block_refusal (design_of a) ≡ None
     → (p : ℕ) (r : Process) (star : Bool) (events : List Event) (statement : ℕ) → slice_get a.processes p ≡ Some r → r.kind ≡ K.Block star events statement → is_clocked (kind_in a r.at (K.Block star events statement)) ≡ false
     → (bits : List ℕ) → bits ≡ writes_at (footprints_of (design_of a)) p → IsBlockOf a statement bits
-block_is each names fits has a l w b p r star events statement i h clocked bits e =
+block_is within each names fits has a l w b p r star events statement i h clocked bits e =
     let x = kind_in a r.at (K.Block star events statement) in
     let is = kind_is each a p r (K.Block star events statement) i h in
     let own = (has (design_of a) l.design p x is).writes in
@@ -80,6 +81,7 @@ block_is each names fits has a l w b p r star events statement i h clocked bits 
       there = statement_there names a l.names p r star events statement i h;
       fits = process_fits fits each a l w p r (K.Block star events statement) i h;
       unmixed = ap (λ c. mixed_in c (statement_of a statement)) (sym clocked) ∙ (clean (design_of a) b p x is).unmixed;
+      names = block_within within each a l p r star events statement i h;
       within = all_below (bit_count (design_of a)) bits (writes_of x) mine;
       own = λ b. mine.same b;
     }

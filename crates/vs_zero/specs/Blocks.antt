@@ -6,6 +6,7 @@ use Rattle.vs_design.specs.Footprints.{contains, statement_bits}
 use Rattle.vs_design.specs.Lifted.{Family}
 use Rattle.vs_design.specs.Rules.{mixed_in}
 use Rattle.vs_design.specs.Sets.{is_unknown_set, is_known_set}
+use Rattle.vs_design.specs.Within.{statement_within}
 use Rattle.vs_flat.specs.Arena.{Arena}
 use Rattle.vs_flat.specs.DesignOf.{design_of}
 use Rattle.vs_sets.specs.StatementParts.{statement_of}
@@ -15,6 +16,7 @@ pub record IsBlockOf (a : Arena) (s : ℕ) (bits : List ℕ) : Type 0 where
   pub there : s < length a.statements
   pub fits : fits_statement (statement_of a s) ≡ true
   pub unmixed : mixed_in false (statement_of a s) ≡ []
+  pub names : statement_within (bit_count (design_of a)) (statement_of a s) ≡ true
   pub within : All (λ b. b < bit_count (design_of a)) bits
   pub own : (b : ℕ) → contains bits b ≡ contains (statement_bits (statement_of a s)) b
 

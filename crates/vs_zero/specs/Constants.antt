@@ -3,7 +3,8 @@ use Rattle.std.specs.Prelude.{◌≡◌, ◌<◌, ℕ, Bool, true, ◌&&◌, Lis
 use Rattle.vs_four.specs.Logic.{BitList}
 use Rattle.vs_design.specs.Expressions.{Expression, Items, NoItem, Item, items_of, is_constant}
 use Rattle.vs_net.specs.Network.{State, Update, flatten, write_all}
-use Rattle.vs_design.specs.Statements.{CaseKind, Statement, Arms, Arm, Default}
+use Rattle.vs_design.specs.Footprints.{contains, statement_bits, target_bits}
+use Rattle.vs_design.specs.Statements.{CaseKind, Target, Statement, Arms, Arm, Default}
 use Rattle.vs_design.specs.Bodies.{body, is_taken}
 use Rattle.vs_design.specs.Fits.{fits_statement}
 use Rattle.vs_design.specs.Resets.{is_fixed, branch_writes, branch_updates}
@@ -43,6 +44,13 @@ updated s state = write_all state (flatten (body s unknown).updates)
 -- all that it gives as the branch of a reset, in the order in which it takes effect: its blocking writes, and then its updates
 abbrev pub branch_effects : Statement → List Update
 branch_effects s = branch_writes s ∷ branch_updates s
+
+-- all bits that it writes are among the first n
+abbrev pub WritesBelow : ℕ → Statement → Type 0
+WritesBelow n s = (b : ℕ) → contains (statement_bits s) b ≡ true → b < n
+
+abbrev pub TargetBelow : ℕ → Target → Type 0
+TargetBelow n t = (b : ℕ) → contains (target_bits t) b ≡ true → b < n
 
 -- such a statement before number n, or none
 pub record IsFixedBranch (a : Arena) (n : ℕ) (b : Option ℕ) : Type 0 where

@@ -3,15 +3,14 @@
 ghost use Rattle.std.specs.Prelude.{◌≡◌, ◌<◌, length, take, true};
 ghost use Rattle.vs_net.specs.Network.{write_all};
 ghost use Rattle.vs_design.specs.Bodies.{assignment_writes};
-ghost use Rattle.vs_design.specs.Designs.{bit_count};
 ghost use Rattle.vs_design.specs.Elaborated.{has_constant_selects};
 ghost use Rattle.vs_design.specs.Expressions as E;
 ghost use Rattle.vs_design.specs.Fits.{is_fit};
 ghost use Rattle.vs_design.specs.Values.{assigned_value};
-ghost use Rattle.vs_flat.specs.DesignOf.{design_of};
 ghost use Rattle.vs_sets.specs.FitParts.{Is64};
 ghost use Rattle.vs_sets.specs.Nodes.{tree_of};
 ghost use Rattle.vs_sets.specs.TargetsOf.{IsTarget, target_tree};
+ghost use Rattle.vs_zero.specs.Constants.{TargetBelow};
 ghost use Rattle.vs_zero.specs.States.{state_of, unknown};
 
 use crate::targets::put;
@@ -45,7 +44,7 @@ fn assigned_value(shapes: &Shapes, e: u32, len: u32) -> Bits
 
 /// Assigns a constant to a target with constant selects.
 pub(crate) fn assign(shapes: &Shapes, target: u32, e: u32, state: &mut [Bit4])
-    requires covers { length state.old ≡ bit_count (design_of shapes.now) }
+    requires within { TargetBelow (length state.old) (target_tree (tree_of shapes.now target)) }
     requires target_there { target < length shapes.now.nodes }
     requires there { e < length shapes.now.nodes }
     requires target { IsTarget (tree_of shapes.now target) }

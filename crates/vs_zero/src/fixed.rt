@@ -1,11 +1,9 @@
 //! What a statement does that reads no signal (IEEE 1364-2005, clause 9).
 
 ghost use Rattle.std.specs.Prelude.{◌≡◌, ◌≤◌, ◌<◌, length, map};
-ghost use Rattle.vs_design.specs.Designs.{bit_count};
-ghost use Rattle.vs_flat.specs.DesignOf.{design_of};
 ghost use Rattle.vs_flat.specs.Trees.{branch, sequence};
 ghost use Rattle.vs_sets.specs.StatementParts.{statement_of};
-ghost use Rattle.vs_zero.specs.Constants.{EachIsFixed, IsFixed, IsFixedBranch, updated};
+ghost use Rattle.vs_zero.specs.Constants.{EachIsFixed, IsFixed, IsFixedBranch, WritesBelow, updated};
 ghost use Rattle.vs_zero.specs.States.{state_of};
 
 use crate::cases::taken_branch;
@@ -19,7 +17,7 @@ use vs_shape::Shapes;
 /// Lets a statement run that reads no signal, on the values that its updates give.
 #[cycle(running)]
 pub(crate) fn run(shapes: &Shapes, s: u32, state: &mut [Bit4])
-    requires covers { length state.old ≡ bit_count (design_of shapes.now) }
+    requires within { WritesBelow (length state.old) (statement_of shapes.now s) }
     requires there { s < length shapes.now.statements }
     requires fixed { IsFixed (statement_of shapes.now s) }
     ensures { state_of state.new ≡ updated (statement_of shapes.now s) (state_of state.old) }
@@ -52,7 +50,7 @@ pub(crate) fn run(shapes: &Shapes, s: u32, state: &mut [Bit4])
 /// Lets statements run one after the other.
 #[cycle(running)]
 fn run_all(shapes: &Shapes, s: u32, parts: &[u32], state: &mut [Bit4])
-    requires covers { length state.old ≡ bit_count (design_of shapes.now) }
+    requires within { WritesBelow (length state.old) (sequence (map (statement_of shapes.now) parts.now)) }
     requires there { s ≤ length shapes.now.statements }
     requires each { EachIsFixed shapes.now s parts.now }
     ensures { state_of state.new ≡ updated (sequence (map (statement_of shapes.now) parts.now)) (state_of state.old) }
@@ -66,7 +64,7 @@ fn run_all(shapes: &Shapes, s: u32, parts: &[u32], state: &mut [Bit4])
 /// Lets a branch run. One that isn't there does nothing.
 #[cycle(running)]
 fn run_branch(shapes: &Shapes, s: u32, part: Option<u32>, state: &mut [Bit4])
-    requires covers { length state.old ≡ bit_count (design_of shapes.now) }
+    requires within { WritesBelow (length state.old) (branch (statement_of shapes.now) part) }
     requires there { s ≤ length shapes.now.statements }
     requires fixed { IsFixedBranch shapes.now s part }
     ensures { state_of state.new ≡ updated (branch (statement_of shapes.now) part) (state_of state.old) }

@@ -17,6 +17,7 @@ ghost use Rattle.vs_zero.specs.First.{IsFirst};
 
 use crate::turns::{is_quiet, turn_early, turn_late};
 use std::alloc::{AllocError, Global};
+use vs_design::within_law;
 use vs_flat::{Kind, has_edge, lawful_law, names_law, trees_law};
 use vs_reads::{Footprints, footprint_law};
 use vs_sets::{Set4, assign};
@@ -45,12 +46,12 @@ fn turn(
     lawful_law();
     fits_law();
     footprint_law();
+    within_law();
     let shapes = typed.shapes();
     match &typed.flat().process(p).kind {
         Kind::Assign { target, expr, .. } => {
-            assign(shapes, *target, *expr, early);
-            assign(shapes, *target, *expr, late);
-            Ok(())
+            assign(alloc, shapes, *target, *expr, early)?;
+            assign(alloc, shapes, *target, *expr, late)
         }
         Kind::Block { statement, .. } => {
             let asleep = typed.sleeps(p);
@@ -126,6 +127,7 @@ fn is_uncertain(
     names_law();
     fits_law();
     footprint_law();
+    within_law();
     let shapes = typed.shapes();
     match &typed.flat().process(p).kind {
         Kind::Assign { .. } => Ok(false),

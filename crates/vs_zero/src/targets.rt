@@ -3,21 +3,20 @@
 ghost use Rattle.std.specs.Prelude.{◌≡◌, ◌≤◌, ◌<◌, ◌+◌, ◌*◌, ℕ, length, map, true, Some, None, slice_index_or};
 ghost use Rattle.vs_net.specs.Network.{write_all};
 ghost use Rattle.vs_design.specs.Bodies.{target_writes};
-ghost use Rattle.vs_design.specs.Designs.{bit_count};
 ghost use Rattle.vs_design.specs.Elaborated.{has_constant_selects};
 ghost use Rattle.vs_design.specs.Expressions as E;
 ghost use Rattle.vs_design.specs.Values.{count_from, spread};
-ghost use Rattle.vs_flat.specs.DesignOf.{design_of};
 ghost use Rattle.vs_flat.specs.Targets.{source_of};
 ghost use Rattle.vs_flat.specs.Trees.{joined};
 ghost use Rattle.vs_sets.specs.Nodes.{EachBelow, signal_of, tree_of};
 ghost use Rattle.vs_sets.specs.Tables.{bits_from};
 ghost use Rattle.vs_sets.specs.TargetsOf.{IsTarget, target_tree};
+ghost use Rattle.vs_zero.specs.Constants.{TargetBelow};
 ghost use Rattle.vs_zero.specs.States.{state_of, unknown, written};
 
 use vs_flat::Node;
 use vs_four::Bit4;
-use vs_sets::{memory_of, named_signal, span_of};
+use vs_sets::{memory_of, named_span};
 use vs_shape::{Part, Places, Shapes, first_copy, places_of, word_place};
 
 /// Writes the bits of a value one after the other, from this bit on.
@@ -45,7 +44,7 @@ fn put_places(state: &mut [Bit4], first: usize, places: &Places, value: &[Bit4])
 
 /// Writes a value to a select by a constant index (IEEE 1364-2005, 5.2.1).
 fn put_select(shapes: &Shapes, of: u32, part: Part, index: u32, value: &[Bit4], state: &mut [Bit4])
-    requires covers { length state.old ≡ bit_count (design_of shapes.now) }
+    requires within { TargetBelow (length state.old) (target_tree (E.Select (source_of (tree_of shapes.now of)) part (tree_of shapes.now index))) }
     requires of_there { of < length shapes.now.nodes }
     requires index_there { index < length shapes.now.nodes }
     requires target { IsTarget (E.Select (source_of (tree_of shapes.now of)) part (tree_of shapes.now index)) }
@@ -53,7 +52,7 @@ fn put_select(shapes: &Shapes, of: u32, part: Part, index: u32, value: &[Bit4], 
     requires many { length value.now ≡ part.width }
     ensures { state_of state.new ≡ write_all (state_of state.old) (target_writes (target_tree (E.Select (source_of (tree_of shapes.now of)) part (tree_of shapes.now index))) value.now unknown) }
 {
-    let span = span_of(shapes, named_signal(shapes, of));
+    let span = named_span(shapes, of);
     let signed = shapes.shape(index).signed;
     let places = places_of(part, signed, shapes.constant_value(index));
     put_places(state, span.first, &places, value);
@@ -71,7 +70,7 @@ fn put_word_at(state: &mut [Bit4], first: usize, place: Option<usize>, value: &[
 
 /// Writes a value to a word of a memory by a constant address (IEEE 1364-2005, 4.9.3). By an address that is out of range, or has an x or z bit, nothing is written.
 fn put_word(shapes: &Shapes, signal: u32, index: u32, value: &[Bit4], state: &mut [Bit4])
-    requires covers { length state.old ≡ bit_count (design_of shapes.now) }
+    requires within { TargetBelow (length state.old) (target_tree (E.Word (signal_of shapes.now signal) (tree_of shapes.now index))) }
     requires memory { signal < length shapes.now.signals }
     requires index_there { index < length shapes.now.nodes }
     requires target { IsTarget (E.Word (signal_of shapes.now signal) (tree_of shapes.now index)) }
@@ -88,7 +87,7 @@ fn put_word(shapes: &Shapes, signal: u32, index: u32, value: &[Bit4], state: &mu
 /// Writes a value to the target that expression e is.
 #[cycle(writing)]
 pub(crate) fn put(shapes: &Shapes, e: u32, value: &[Bit4], state: &mut [Bit4])
-    requires covers { length state.old ≡ bit_count (design_of shapes.now) }
+    requires within { TargetBelow (length state.old) (target_tree (tree_of shapes.now e)) }
     requires there { e < length shapes.now.nodes }
     requires target { IsTarget (tree_of shapes.now e) }
     requires constant { has_constant_selects (target_tree (tree_of shapes.now e)) ≡ true }
@@ -96,8 +95,8 @@ pub(crate) fn put(shapes: &Shapes, e: u32, value: &[Bit4], state: &mut [Bit4])
     ensures { state_of state.new ≡ write_all (state_of state.old) (target_writes (target_tree (tree_of shapes.now e)) value.now unknown) }
 {
     match shapes.node(e) {
-        Node::Name { signal } => {
-            put_run(state, span_of(shapes, *signal).first, value);
+        Node::Name { .. } | Node::Local { .. } => {
+            put_run(state, named_span(shapes, e).first, value);
         }
         Node::Bit { of, range, index } => {
             let part = Part {
@@ -130,7 +129,7 @@ pub(crate) fn put(shapes: &Shapes, e: u32, value: &[Bit4], state: &mut [Bit4])
 /// Writes a value to the parts of a concatenation, of which the first takes the most significant bits.
 #[cycle(writing)]
 fn put_parts(shapes: &Shapes, e: u32, parts: &[u32], value: &[Bit4], state: &mut [Bit4])
-    requires covers { length state.old ≡ bit_count (design_of shapes.now) }
+    requires within { TargetBelow (length state.old) (target_tree (joined (map (tree_of shapes.now) parts.now))) }
     requires there { e < length shapes.now.nodes }
     requires before { EachBelow e parts.now }
     requires target { IsTarget (joined (map (tree_of shapes.now) parts.now)) }

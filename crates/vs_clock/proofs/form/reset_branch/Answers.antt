@@ -1,26 +1,21 @@
 use Rattle.std.proofs.Common.{◌≡◌, Some, None, sym, ap, ◌∙◌, subst, if◌then◌else◌}
 use Rattle.vs_flat.specs.Lawful.{IsLawful}
 use Rattle.vs_clock.specs.Forms.{if_branch}
-use Rattle.vs_clock.proofs.Branches.{body_of, branch_fits, branch_is, branch_none}
+use Rattle.vs_clock.proofs.Branches.{body_of, branch_is, branch_none}
 use Rattle.vs_clock.proofs.form.reset_branch.Goals as goal
 
 pub branch_of-requires-clause-lawful : goal.branch_of-requires-clause-lawful
 branch_of-requires-clause-lawful c = subst IsLawful (sym c.flat.ensures.same) c.flat.ensures.lawful
 
-pub is_fixed_branch-requires-clause-fits : goal.is_fixed_branch-requires-clause-fits
-is_fixed_branch-requires-clause-fits c =
-    branch_fits c.args.edge c.args.bit (body_of c.args.typed.now c.args.s) (body_of c.args.typed.now c.in-Some.branch)
-    (subst (λ a. Some (body_of a c.in-Some.branch) ≡ if_branch c.args.edge c.args.bit (body_of a c.args.s)) c.flat.ensures.same c.in-Some.ensures.branch) c.requires.fits
-
-pub returns-then-branch-clause-branch : goal.returns-then-branch-clause-branch
-returns-then-branch-clause-branch c =
-    ap (λ t. if t then Some (body_of c.args.typed.now c.in-Some.branch) else None) (sym c.if-branch.true ∙ c.in_ok-is_fixed_branch-in-Some.ensures)
+pub returns-then-is_fixed_branch-clause-branch : goal.returns-then-is_fixed_branch-clause-branch
+returns-then-is_fixed_branch-clause-branch c =
+    ap (λ t. if t then Some (body_of c.args.typed.now c.in-Some.branch) else None) (sym c.if-is_fixed_branch.true ∙ c.is_fixed_branch.ensures)
     ∙ branch_is c.args.edge c.args.bit (body_of c.args.typed.now c.args.s) (body_of c.args.typed.now c.in-Some.branch)
     (subst (λ a. Some (body_of a c.in-Some.branch) ≡ if_branch c.args.edge c.args.bit (body_of a c.args.s)) c.flat.ensures.same c.in-Some.ensures.branch)
 
-pub returns-else-branch-clause-branch : goal.returns-else-branch-clause-branch
-returns-else-branch-clause-branch c =
-    ap (λ t. if t then Some (body_of c.args.typed.now c.in-Some.branch) else None) (sym c.if-branch.false ∙ c.in_ok-is_fixed_branch-in-Some.ensures)
+pub returns-else-is_fixed_branch-clause-branch : goal.returns-else-is_fixed_branch-clause-branch
+returns-else-is_fixed_branch-clause-branch c =
+    ap (λ t. if t then Some (body_of c.args.typed.now c.in-Some.branch) else None) (sym c.if-is_fixed_branch.false ∙ c.is_fixed_branch.ensures)
     ∙ branch_is c.args.edge c.args.bit (body_of c.args.typed.now c.args.s) (body_of c.args.typed.now c.in-Some.branch)
     (subst (λ a. Some (body_of a c.in-Some.branch) ≡ if_branch c.args.edge c.args.bit (body_of a c.args.s)) c.flat.ensures.same c.in-Some.ensures.branch)
 

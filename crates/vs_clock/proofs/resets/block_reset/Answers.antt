@@ -1,17 +1,13 @@
-use Rattle.std.proofs.Common.{◌≡◌, ◌<◌, ℕ, List, Result, Ok, Err, Some, length, sym, subst}
-use Rattle.std.specs.Prelude.{slice_get, IfOk}
+use Rattle.std.proofs.Common.{◌≡◌, ◌<◌, ℕ, List, Some, length, sym, subst}
+use Rattle.std.specs.Prelude.{slice_get}
 use Rattle.vs_flat.specs.declared.processes.Event.{Event}
 use Rattle.vs_flat.specs.Arena.{Arena}
 use Rattle.vs_flat.specs.Trees.{signal_at}
 use Rattle.vs_flat.specs.DesignOf.{arena_signals, event_of}
 use Rattle.vs_clock.specs.declared.events.BlockEvents.TheVariants.{Clock, Reset, Other}
-use Rattle.vs_clock.proofs.Ruled.{events_below, statement_there, statement_fits, moved}
+use Rattle.vs_clock.proofs.Ruled.{events_below, statement_there, moved}
 use Rattle.vs_clock.proofs.Resetting.{assign_absent, none_absent, clock_absent, reset_found}
 use Rattle.vs_clock.proofs.resets.block_reset.Goals as goal
-
-if_ok : {V W : Type 0} {P Q : V → Type 0} (r : Result V W) → IfOk r P → ((v : V) → P v → Q v) → IfOk r Q
-if_ok (Ok v) h k = k v h
-if_ok (Err e) h k = h
 
 pub events_of-requires : goal.events_of-requires
 events_of-requires c =
@@ -21,9 +17,6 @@ events_of-requires c =
 
 pub event_reset-requires-clause-there : goal.event_reset-requires-clause-there
 event_reset-requires-clause-there c = statement_there c.names_law.ensures.processes c.args.typed.now c.flat-flat.ensures.lawful.names c.args.p c.process.result.now c.in-Block.star c.in-Block.events c.in-Block.statement (subst (λ (a : Arena). slice_get a.processes c.args.p ≡ Some c.process.result.now) c.flat-flat.ensures.same c.process.ensures) c.in-Block.is
-
-pub event_reset-requires-clause-fits : goal.event_reset-requires-clause-fits
-event_reset-requires-clause-fits c = statement_fits c.fits_law.ensures.fits c.trees_law.ensures.processes c.args.typed.now c.flat-flat.ensures.lawful c.flat-flat.ensures.fits c.args.p c.process.result.now c.in-Block.star c.in-Block.events c.in-Block.statement (subst (λ (a : Arena). slice_get a.processes c.args.p ≡ Some c.process.result.now) c.flat-flat.ensures.same c.process.ensures) c.in-Block.is
 
 pub returns-in-Assign : goal.returns-in-Assign
 returns-in-Assign c = λ n a x e. assign_absent c.trees_law.ensures.processes c.args.typed.now c.args.p c.process.result.now c.in-Assign.target c.in-Assign.expr c.in-Assign.port (subst (λ (a : Arena). slice_get a.processes c.args.p ≡ Some c.process.result.now) c.flat-flat.ensures.same c.process.ensures) c.in-Assign.is n x e
@@ -39,6 +32,6 @@ returns-in-Other c = λ n a x e.
     (moved c.flat-flat.result.now c.args.typed.now c.args.nets.now Other c.as_slice.result.now c.in-Block.events c.flat-flat.ensures.same c.as_slice.ensures c.in-Other.ensures.events n a) x e
 
 pub returns-in-Reset : goal.returns-in-Reset
-returns-in-Reset c = if_ok c.event_reset.result c.event_reset.ensures (λ r h n a x e.
+returns-in-Reset c = λ n a x e.
     reset_found c.trees_law.ensures.processes c.args.typed.now c.args.p c.process.result.now c.in-Block.star c.in-Block.events c.in-Block.statement (subst (λ (a : Arena). slice_get a.processes c.args.p ≡ Some c.process.result.now) c.flat-flat.ensures.same c.process.ensures) c.in-Block.is n (event_of (signal_at (arena_signals c.args.typed.now)) c.in-Reset.reset)
-    (moved c.flat-flat.result.now c.args.typed.now c.args.nets.now (Reset c.in-Reset.reset) c.as_slice.result.now c.in-Block.events c.flat-flat.ensures.same c.as_slice.ensures c.in-Reset.ensures.events n a) r (h n a) x e)
+    (moved c.flat-flat.result.now c.args.typed.now c.args.nets.now (Reset c.in-Reset.reset) c.as_slice.result.now c.in-Block.events c.flat-flat.ensures.same c.as_slice.ensures c.in-Reset.ensures.events n a) c.event_reset.result (c.event_reset.ensures n a) x e

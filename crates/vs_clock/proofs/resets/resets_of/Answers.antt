@@ -17,7 +17,7 @@ pub returns-in-Formless : goal.returns-in-Formless
 returns-in-Formless c = λ n a.
     let d = design_of c.args.typed.now in
     let x = process_there d.processes c.loop-p.p (there (there c.loop-p-test.true c.process_count-p-end.ensures.count) (ap (λ (a : Arena). length a.processes) c.flat.ensures.same ∙ sym (c.trees_law.ensures.counts c.args.typed.now).processes)) in
-    first_is d (other_form c.args.typed.now n) c.loop-p.p x.0 x.1 (subst (λ (r : BlockReset). IsBlockReset c.args.typed.now n x.0 r) c.in-Formless.is (c.in_ok-block_reset.ensures n a x.0 x.1)) ((c.loop-p.invariant.1 n a).formed)
+    first_is d (other_form c.args.typed.now n) c.loop-p.p x.0 x.1 (subst (λ (r : BlockReset). IsBlockReset c.args.typed.now n x.0 r) c.in-Formless.is (c.block_reset.ensures n a x.0 x.1)) ((c.loop-p.invariant.1 n a).formed)
 
 pub loop-p-preserved : goal.loop-p-preserved
 loop-p-preserved c =
@@ -25,16 +25,16 @@ loop-p-preserved c =
     let d = design_of a in
     let x = process_there d.processes c.loop-p.p (there (there c.loop-p-test.true c.process_count-p-end.ensures.count) (ap (λ (a : Arena). length a.processes) c.flat.ensures.same ∙ sym (c.trees_law.ensures.counts a).processes)) in
     let P : List (Option Reset) → Type 0 = λ rs. (length rs ≡ c.loop-p.p + 1) × ((n : ℕ) → AreNets d n c.args.nets.now → AreBefore a n (c.loop-p.p + 1) rs) in
-    elim c.match-branch-2.branch [
+    elim c.match-block_reset.branch [
       | in-Absent+in_ok-push-in-Absent w ↦
           subst P (sym (ap (λ (v : Vec (Option Reset) Global). v.items) w.resets-is ∙ w.in_ok-push-in-Absent.ensures.items)) (
             length_push c.loop-p.resets.items None ∙ ap (λ n. n + 1) c.loop-p.invariant.0,
-            λ n h. let k = subst (λ (r : BlockReset). IsBlockReset a n x.0 r) w.in-Absent.is (c.in_ok-block_reset.ensures n h x.0 x.1) in one_more a n c.loop-p.p c.loop-p.resets.items None x.0 c.loop-p.invariant.0 x.1 k.0 k.1 (c.loop-p.invariant.1 n h),
+            λ n h. let k = subst (λ (r : BlockReset). IsBlockReset a n x.0 r) w.in-Absent.is (c.block_reset.ensures n h x.0 x.1) in one_more a n c.loop-p.p c.loop-p.resets.items None x.0 c.loop-p.invariant.0 x.1 k.0 k.1 (c.loop-p.invariant.1 n h),
           )
       | in-Present+in_ok-push-in-Present w ↦
           subst P (sym (ap (λ (v : Vec (Option Reset) Global). v.items) w.resets-is ∙ w.in_ok-push-in-Present.ensures.items)) (
             length_push c.loop-p.resets.items (Some w.in-Present.reset) ∙ ap (λ n. n + 1) c.loop-p.invariant.0,
-            λ n h. let k = subst (λ (r : BlockReset). IsBlockReset a n x.0 r) w.in-Present.is (c.in_ok-block_reset.ensures n h x.0 x.1) in one_more a n c.loop-p.p c.loop-p.resets.items (Some w.in-Present.reset) x.0 c.loop-p.invariant.0 x.1 k.0 k.1 (c.loop-p.invariant.1 n h),
+            λ n h. let k = subst (λ (r : BlockReset). IsBlockReset a n x.0 r) w.in-Present.is (c.block_reset.ensures n h x.0 x.1) in one_more a n c.loop-p.p c.loop-p.resets.items (Some w.in-Present.reset) x.0 c.loop-p.invariant.0 x.1 k.0 k.1 (c.loop-p.invariant.1 n h),
           )
     ]
 

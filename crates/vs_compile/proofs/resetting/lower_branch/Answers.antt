@@ -14,15 +14,15 @@ on_ok (Err e) h k = h
 
 pub reset-done-requires-clause-ready : goal.reset-done-requires-clause-ready
 reset-done-requires-clause-ready c =
-    ready_as (bit_count c.args.typed.now.signals) c.from-code.result c.args.program.now c.args.first_temp (falls c.args.reset.edge) c.falls.result c.args.reset.input (plain_branch c.args.typed.now c.args.reset)
+    ready_as (bit_count c.args.templates.now.arena.signals) c.from-code.result c.args.program.now c.args.first_temp (falls c.args.reset.edge) c.falls.result c.args.reset.input (plain_branch c.args.templates.now.arena c.args.reset)
     (c.from-code.ensures.calls ∙ c.replace-calls.ensures.value) c.from-code.ensures.next c.falls.ensures c.requires.ready
 
 pub returns : goal.returns
 returns c =
     on_ok c.reset-done.result c.reset-done.ensures
     (λ done l x bits first is room.
-    let r = plain_reset c.args.typed.now c.args.reset in
-    let st = plain_branch c.args.typed.now c.args.reset in
+    let r = plain_reset c.args.templates.now.arena c.args.reset in
+    let st = plain_branch c.args.templates.now.arena c.args.reset in
     let low = sym c.falls.ensures in
     let adds = done l r x bits (first ∙ sym c.from-code.ensures.next) (subst (λ (b : Bool). IsResetOf r b c.args.reset.input st) low is) (subst (λ (b : Bool). HasResetRoom x b c.args.reset.input st) low room) in
     record {

@@ -2,6 +2,7 @@ use Rattle.std.proofs.Common.{refl, arith}
 use Rattle.vs_flat.specs.Lawful.{IsLawful}
 use Rattle.vs_flat.specs.Example.{example_arena}
 use Rattle.vs_flat.specs.BlockExample.{block_arena}
+use Rattle.vs_flat.specs.FunctionExample.{function_arena}
 use Rattle.vs_flat.specs.WordExample.{word_arena}
 use Rattle.vs_flat.proofs.laws.example_law.Goals as goal
 
@@ -11,7 +12,10 @@ example_lawful = record {
   few_scopes = omega arith;
   few_nodes = omega arith;
   few_statements = omega arith;
-  names = record { nodes = refl; statements = refl; processes = refl };
+  names = record { nodes = refl; statements = refl; processes = refl; calls = refl; bodies = refl; matched = omega arith; rising = refl };
+  few_functions = omega arith;
+  complete = refl;
+  locals = refl;
   expressions = refl;
   statements = refl;
   copies = refl;
@@ -29,7 +33,31 @@ block_lawful = record {
   few_scopes = omega arith;
   few_nodes = omega arith;
   few_statements = omega arith;
-  names = record { nodes = refl; statements = refl; processes = refl };
+  names = record { nodes = refl; statements = refl; processes = refl; calls = refl; bodies = refl; matched = omega arith; rising = refl };
+  few_functions = omega arith;
+  complete = refl;
+  locals = refl;
+  expressions = refl;
+  statements = refl;
+  copies = refl;
+  assign_targets = refl;
+  statement_targets = refl;
+  expressions_once = refl;
+  statements_once = refl;
+  node_chains = refl;
+  statement_chains = refl;
+}
+
+function_lawful : IsLawful function_arena
+function_lawful = record {
+  design = record { scopes = refl; numbered = refl; bits_numbered = refl; declared = refl; memories = refl; formed = refl; functions = refl; clocked_words = refl; few_bits = omega arith; few_processes = omega arith };
+  few_scopes = omega arith;
+  few_nodes = omega arith;
+  few_statements = omega arith;
+  names = record { nodes = refl; statements = refl; processes = refl; calls = refl; bodies = refl; matched = omega arith; rising = refl };
+  few_functions = omega arith;
+  complete = refl;
+  locals = refl;
   expressions = refl;
   statements = refl;
   copies = refl;
@@ -47,7 +75,10 @@ word_lawful = record {
   few_scopes = omega arith;
   few_nodes = omega arith;
   few_statements = omega arith;
-  names = record { nodes = refl; statements = refl; processes = refl };
+  names = record { nodes = refl; statements = refl; processes = refl; calls = refl; bodies = refl; matched = omega arith; rising = refl };
+  few_functions = omega arith;
+  complete = refl;
+  locals = refl;
   expressions = refl;
   statements = refl;
   copies = refl;
@@ -60,4 +91,4 @@ word_lawful = record {
 }
 
 pub returns : goal.returns
-returns c = record { designs = (refl, refl, refl); lawful = (example_lawful, block_lawful, word_lawful) }
+returns c = record { designs = (refl, refl, refl, refl); lawful = (example_lawful, block_lawful, function_lawful, word_lawful) }

@@ -1,4 +1,4 @@
-use Rattle.std.proofs.Common.{◌≡◌, ◌∙◌, ◌++◌, ℕ, List, true, refl, sym, ap, subst}
+use Rattle.std.proofs.Common.{◌≡◌, ◌∙◌, ◌++◌, ℕ, List, true, refl, sym, ap, subst, length, arith}
 use Rattle.std.specs.List.{All}
 use Rattle.vs_code.specs.Calls.{IsCall}
 use Rattle.vs_flat.specs.Arena.{bit_count}
@@ -9,38 +9,46 @@ use Rattle.vs_lower.specs.Stated.{IsStatementReady, AddsStatement}
 use Rattle.vs_lower.proofs.Blocking.{AddsBlock, adds_clocked, block_copies_at, block_ready}
 use Rattle.vs_lower.proofs.Homeward.{at_homes, from_homes}
 use Rattle.vs_lower.proofs.Joining.{picked}
+use Rattle.vs_lower.proofs.Reaching.{own_bits}
+use Rattle.std.proofs.lemmas.List.FromFn.{length-range_with_len}
 use Rattle.vs_lower.proofs.blocks.clocked.Goals as goal
 
 pub statement-requires-clause-ready : goal.statement-requires-clause-ready
 statement-requires-clause-ready c =
-    let n = bit_count c.args.typed.now.signals in
-    let st = body_of c.args.typed.now c.args.s in
-    at_homes n c.args.count c.at_home.result c.at_home-2.result (λ (x y : List ℕ). IsStatementReady n x y c.args.code.now true st) c.requires.count c.at_home.ensures c.at_home-2.ensures (block_ready n c.args.code.now true st c.requires.ready)
+    let n = bit_count c.args.templates.now.arena.signals in
+    let st = body_of c.args.templates.now.arena c.args.s in
+    own_bits _ _ _ _ _ _
+    (at_homes n c.args.count c.at_home.result c.at_home-2.result (λ (x y : List ℕ). IsStatementReady n x y c.args.code.now true st) c.requires.count c.at_home.ensures c.at_home-2.ensures (block_ready n c.args.code.now true st c.requires.ready))
+
+pub statement-requires-clause-inside : goal.statement-requires-clause-inside
+statement-requires-clause-inside c b h =
+    let q = c.requires.ready.inside b h in
+    omega (arith, q, c.requires.count, ap (λ (xs : List ℕ). length xs) c.at_home.ensures, length-range_with_len 4 c.args.count)
 
 pub copy_all-requires-clause-inside : goal.copy_all-requires-clause-inside
 copy_all-requires-clause-inside c =
-    (block_copies_at (bit_count c.args.typed.now.signals) c.args.count c.at_home.result c.at_home-2.result c.in_ok-bits.bits.items c.as_slice.result.now c.statement.new.env.values c.statement.new.env.ahead c.args.shadows.now c.args.code.now c.statement.new.code (body_of c.args.typed.now c.args.s)
+    (block_copies_at (bit_count c.args.templates.now.arena.signals) c.args.count c.at_home.result c.at_home-2.result c.in_ok-bits.bits.items c.as_slice.result.now c.statement.new.env.values c.statement.new.env.ahead c.args.shadows.now c.args.code.now c.statement.new.code (body_of c.args.templates.now.arena c.args.s)
     c.requires.count c.at_home.ensures c.at_home-2.ensures c.requires.ready c.requires.long c.requires.layout c.in_ok-statement.ensures.adds c.in_ok-bits.ensures.rising c.in_ok-bits.ensures.same c.as_slice.ensures.value).inside
 
 pub copy_all-requires-clause-places : goal.copy_all-requires-clause-places
 copy_all-requires-clause-places c =
-    (block_copies_at (bit_count c.args.typed.now.signals) c.args.count c.at_home.result c.at_home-2.result c.in_ok-bits.bits.items c.as_slice.result.now c.statement.new.env.values c.statement.new.env.ahead c.args.shadows.now c.args.code.now c.statement.new.code (body_of c.args.typed.now c.args.s)
+    (block_copies_at (bit_count c.args.templates.now.arena.signals) c.args.count c.at_home.result c.at_home-2.result c.in_ok-bits.bits.items c.as_slice.result.now c.statement.new.env.values c.statement.new.env.ahead c.args.shadows.now c.args.code.now c.statement.new.code (body_of c.args.templates.now.arena c.args.s)
     c.requires.count c.at_home.ensures c.at_home-2.ensures c.requires.ready c.requires.long c.requires.layout c.in_ok-statement.ensures.adds c.in_ok-bits.ensures.rising c.in_ok-bits.ensures.same c.as_slice.ensures.value).places
 
 pub copy_all-requires-clause-calls : goal.copy_all-requires-clause-calls
 copy_all-requires-clause-calls c =
-    (block_copies_at (bit_count c.args.typed.now.signals) c.args.count c.at_home.result c.at_home-2.result c.in_ok-bits.bits.items c.as_slice.result.now c.statement.new.env.values c.statement.new.env.ahead c.args.shadows.now c.args.code.now c.statement.new.code (body_of c.args.typed.now c.args.s)
+    (block_copies_at (bit_count c.args.templates.now.arena.signals) c.args.count c.at_home.result c.at_home-2.result c.in_ok-bits.bits.items c.as_slice.result.now c.statement.new.env.values c.statement.new.env.ahead c.args.shadows.now c.args.code.now c.statement.new.code (body_of c.args.templates.now.arena c.args.s)
     c.requires.count c.at_home.ensures c.at_home-2.ensures c.requires.ready c.requires.long c.requires.layout c.in_ok-statement.ensures.adds c.in_ok-bits.ensures.rising c.in_ok-bits.ensures.same c.as_slice.ensures.value).calls
 
 pub copy_all-requires-clause-few : goal.copy_all-requires-clause-few
 copy_all-requires-clause-few c =
-    (block_copies_at (bit_count c.args.typed.now.signals) c.args.count c.at_home.result c.at_home-2.result c.in_ok-bits.bits.items c.as_slice.result.now c.statement.new.env.values c.statement.new.env.ahead c.args.shadows.now c.args.code.now c.statement.new.code (body_of c.args.typed.now c.args.s)
+    (block_copies_at (bit_count c.args.templates.now.arena.signals) c.args.count c.at_home.result c.at_home-2.result c.in_ok-bits.bits.items c.as_slice.result.now c.statement.new.env.values c.statement.new.env.ahead c.args.shadows.now c.args.code.now c.statement.new.code (body_of c.args.templates.now.arena c.args.s)
     c.requires.count c.at_home.ensures c.at_home-2.ensures c.requires.ready c.requires.long c.requires.layout c.in_ok-statement.ensures.adds c.in_ok-bits.ensures.rising c.in_ok-bits.ensures.same c.as_slice.ensures.value).few
 
 pub returns : goal.returns
 returns c l place star events h clocked =
-    let n = bit_count c.args.typed.now.signals in
-    let st = body_of c.args.typed.now c.args.s in
+    let n = bit_count c.args.templates.now.arena.signals in
+    let st = body_of c.args.templates.now.arena c.args.s in
     let c0 = c.args.code.now in
     let c1 = c.statement.new.code in
     let now1 = c.statement.new.env.values in

@@ -7,4 +7,4 @@ use Rattle.vs_lower.proofs.cases.tests.Given as goal
 abbrev pub invariant-loop-n : goal.invariant-loop-n
 invariant-loop-n l =
     (length l.matches.items ≡ l.n)
-    × AddsTests l.env l.subject l.initial.code l.code l.kind l.context.width l.context.signed (take l.n (map (tree_at (arena_trees l.typed)) l.items)) l.matches.items
+    × AddsTests l.env l.subject l.initial.code l.code l.kind l.context.width l.context.signed (take l.n (map (tree_at (arena_trees l.templates.arena)) l.items)) l.matches.items

@@ -16,15 +16,17 @@ use Rattle.vs_values.specs.Coded.{Coding}
 use Rattle.vs_lower.specs.Processed.{IsContinuousReady}
 use Rattle.vs_values.specs.Valued.{IsSource}
 use Rattle.vs_lower.proofs.Homeward.{assign_ready, at_homes, from_homes, AddsUpdate, CanGoHome, can_go_home, adds_continuous}
+use Rattle.vs_lower.proofs.Reaching.{own_assign}
 use Rattle.vs_lower.proofs.continuous.continuous.Goals as goal
 
 pub assign-requires-clause-ready : goal.assign-requires-clause-ready
 assign-requires-clause-ready c =
-    let a = c.args.typed.now in
+    let a = c.args.templates.now.arena in
     let n = bit_count a.signals in
     let t = target_tree (tree_at (arena_trees a) c.args.target) in
     let e = tree_at (arena_trees a) c.args.e in
-    at_homes n c.args.count c.at_home.result c.at_home-2.result (λ (x y : List ℕ). IsAssignReady n x y c.args.code.now true t e) c.requires.count c.at_home.ensures c.at_home-2.ensures (assign_ready n c.args.code.now t e c.requires.ready)
+    own_assign _ _ _ _ _ _ _
+    (at_homes n c.args.count c.at_home.result c.at_home-2.result (λ (x y : List ℕ). IsAssignReady n x y c.args.code.now true t e) c.requires.count c.at_home.ensures c.at_home-2.ensures (assign_ready n c.args.code.now t e c.requires.ready))
 
 -- what the copies need, in the words of the steps
 goes_home : (n count : ℕ) (values ahead bits slice now1 ahead1 : List ℕ) (c0 c1 : Coding) (t : Target) (e : Expression) → count ≡ n → values ≡ homes count → ahead ≡ homes count → IsContinuousReady n c0 t e
@@ -40,31 +42,31 @@ goes_home n count values ahead bits slice now1 ahead1 c0 c1 t e k a b r d s risi
 
 pub copy_home-requires-clause-long : goal.copy_home-requires-clause-long
 copy_home-requires-clause-long c =
-    let a = c.args.typed.now in
+    let a = c.args.templates.now.arena in
     (goes_home (bit_count a.signals) c.args.count c.at_home.result c.at_home-2.result c.in_ok-bits.bits.items c.as_slice.result.now c.assign.new.env.values c.assign.new.env.ahead c.args.code.now c.assign.new.code (target_tree (tree_at (arena_trees a) c.args.target)) (tree_at (arena_trees a) c.args.e)
     c.requires.count c.at_home.ensures c.at_home-2.ensures c.requires.ready c.in_ok-assign.ensures.adds (c.in_ok-assign.ensures.sources refl) c.in_ok-bits.ensures.rising c.in_ok-bits.ensures.same c.as_slice.ensures.value).long
 
 pub copy_home-requires-clause-inside : goal.copy_home-requires-clause-inside
 copy_home-requires-clause-inside c =
-    let a = c.args.typed.now in
+    let a = c.args.templates.now.arena in
     (goes_home (bit_count a.signals) c.args.count c.at_home.result c.at_home-2.result c.in_ok-bits.bits.items c.as_slice.result.now c.assign.new.env.values c.assign.new.env.ahead c.args.code.now c.assign.new.code (target_tree (tree_at (arena_trees a) c.args.target)) (tree_at (arena_trees a) c.args.e)
     c.requires.count c.at_home.ensures c.at_home-2.ensures c.requires.ready c.in_ok-assign.ensures.adds (c.in_ok-assign.ensures.sources refl) c.in_ok-bits.ensures.rising c.in_ok-bits.ensures.same c.as_slice.ensures.value).inside
 
 pub copy_home-requires-clause-calls : goal.copy_home-requires-clause-calls
 copy_home-requires-clause-calls c =
-    let a = c.args.typed.now in
+    let a = c.args.templates.now.arena in
     (goes_home (bit_count a.signals) c.args.count c.at_home.result c.at_home-2.result c.in_ok-bits.bits.items c.as_slice.result.now c.assign.new.env.values c.assign.new.env.ahead c.args.code.now c.assign.new.code (target_tree (tree_at (arena_trees a) c.args.target)) (tree_at (arena_trees a) c.args.e)
     c.requires.count c.at_home.ensures c.at_home-2.ensures c.requires.ready c.in_ok-assign.ensures.adds (c.in_ok-assign.ensures.sources refl) c.in_ok-bits.ensures.rising c.in_ok-bits.ensures.same c.as_slice.ensures.value).calls
 
 pub copy_home-requires-clause-few : goal.copy_home-requires-clause-few
 copy_home-requires-clause-few c =
-    let a = c.args.typed.now in
+    let a = c.args.templates.now.arena in
     (goes_home (bit_count a.signals) c.args.count c.at_home.result c.at_home-2.result c.in_ok-bits.bits.items c.as_slice.result.now c.assign.new.env.values c.assign.new.env.ahead c.args.code.now c.assign.new.code (target_tree (tree_at (arena_trees a) c.args.target)) (tree_at (arena_trees a) c.args.e)
     c.requires.count c.at_home.ensures c.at_home-2.ensures c.requires.ready c.in_ok-assign.ensures.adds (c.in_ok-assign.ensures.sources refl) c.in_ok-bits.ensures.rising c.in_ok-bits.ensures.same c.as_slice.ensures.value).few
 
 pub returns : goal.returns
 returns c l place target_place port hb hf =
-    let a = c.args.typed.now in
+    let a = c.args.templates.now.arena in
     let n = bit_count a.signals in
     let t = target_tree (tree_at (arena_trees a) c.args.target) in
     let e = tree_at (arena_trees a) c.args.e in

@@ -9,4 +9,4 @@ abbrev pub decreases-add_leaves : goal.decreases-add_leaves
 decreases-add_leaves l = l.target
 
 abbrev pub invariant-loop-part : goal.invariant-loop-part
-invariant-loop-part l = AddsLeaves l.typed l.initial.leaves.items l.leaves.items (flat_map (λ p. leaves_of (target_tree (tree_at (arena_trees l.typed) p))) (take l.part-index l.parts))
+invariant-loop-part l = AddsLeaves l.templates l.initial.leaves.items l.leaves.items (flat_map (λ p. leaves_of (target_tree (tree_at (arena_trees l.templates.arena) p))) (take l.part-index l.parts))

@@ -27,30 +27,30 @@ same_process o x y h k = some_is x y (sym h ∙ k)
 
 pub continuous-requires-clause-ready : goal.continuous-requires-clause-ready
 continuous-requires-clause-ready c =
-    let a = c.args.typed.now in
+    let a = c.args.templates.now.arena in
     let d = design_of a in
     let tree = tree_at (arena_trees a) in
     let is = c.kind_at.ensures.is in
     let at = is.1 ∙ ap (λ k. Some (kind_of (signal_at (arena_signals a)) tree (body_of a) is.0 k)) c.in-Assign.is in
     let lawful = c.lawful_law.ensures.design a c.flat-flat.ensures.lawful in
-    assign_is_ready d c.footprint_law.ensures.bits (c.fits_law.ensures.fits d lawful c.flat-flat.ensures.fits) lawful (bit_count a.signals) (c.trees_law.ensures.counts a).bits c.requires.no_cycle
+    assign_is_ready d c.footprint_law.ensures.bits c.within_law.ensures.expressions c.within_law.ensures.targets (c.fits_law.ensures.small d c.flat-flat.ensures.fits) (c.fits_law.ensures.fits d lawful c.flat-flat.ensures.fits) lawful (bit_count a.signals) (c.trees_law.ensures.counts a).bits c.requires.no_cycle
     c.args.code.now c.args.p is.0 (port_of c.in-Assign.port) (place_of (tree c.in-Assign.target)) (target_tree (tree c.in-Assign.target)) (tree c.in-Assign.expr) at c.requires.temps c.requires.slots c.requires.few
 
 pub clocked-requires-clause-ready : goal.clocked-requires-clause-ready
 clocked-requires-clause-ready c =
-    let a = c.args.typed.now in
+    let a = c.args.templates.now.arena in
     let d = design_of a in
     let signal = signal_at (arena_signals a) in
     let is = c.kind_at.ensures.is in
     let at = is.1 ∙ ap (λ k. Some (kind_of signal (tree_at (arena_trees a)) (body_of a) is.0 k)) c.in-Block.is in
     let lawful = c.lawful_law.ensures.design a c.flat-flat.ensures.lawful in
     let edge = edges_are signal c.in-Block.events ∙ ap (list_any (λ (e : F.Event). D.is_edge e.edge)) (sym c.as_slice.ensures) ∙ sym c.has_edge.ensures ∙ c.if-has_edge.true in
-    block_is_ready d c.footprint_law.ensures.bits (c.fits_law.ensures.fits d lawful c.flat-flat.ensures.fits) lawful (bit_count a.signals) (c.trees_law.ensures.counts a).bits c.requires.unmixed
+    block_is_ready d c.footprint_law.ensures.bits c.within_law.ensures.statements (c.fits_law.ensures.small d c.flat-flat.ensures.fits) (c.fits_law.ensures.fits d lawful c.flat-flat.ensures.fits) lawful (bit_count a.signals) (c.trees_law.ensures.counts a).bits c.requires.unmixed
     c.args.code.now true c.args.p is.0 c.in-Block.star (map (event_of signal) c.in-Block.events) (body_of a c.in-Block.statement) at edge c.requires.temps c.requires.slots c.requires.few
 
 pub clocked-requires-clause-layout : goal.clocked-requires-clause-layout
 clocked-requires-clause-layout c =
-    let a = c.args.typed.now in
+    let a = c.args.templates.now.arena in
     let d = design_of a in
     let signal = signal_at (arena_signals a) in
     let is = c.kind_at.ensures.is in
@@ -61,19 +61,19 @@ clocked-requires-clause-layout c =
 
 pub combinational-requires-clause-ready : goal.combinational-requires-clause-ready
 combinational-requires-clause-ready c =
-    let a = c.args.typed.now in
+    let a = c.args.templates.now.arena in
     let d = design_of a in
     let signal = signal_at (arena_signals a) in
     let is = c.kind_at.ensures.is in
     let at = is.1 ∙ ap (λ k. Some (kind_of signal (tree_at (arena_trees a)) (body_of a) is.0 k)) c.in-Block.is in
     let lawful = c.lawful_law.ensures.design a c.flat-flat.ensures.lawful in
     let edge = edges_are signal c.in-Block.events ∙ ap (list_any (λ (e : F.Event). D.is_edge e.edge)) (sym c.as_slice.ensures) ∙ sym c.has_edge.ensures ∙ c.if-has_edge.false in
-    block_is_ready d c.footprint_law.ensures.bits (c.fits_law.ensures.fits d lawful c.flat-flat.ensures.fits) lawful (bit_count a.signals) (c.trees_law.ensures.counts a).bits c.requires.unmixed
+    block_is_ready d c.footprint_law.ensures.bits c.within_law.ensures.statements (c.fits_law.ensures.small d c.flat-flat.ensures.fits) (c.fits_law.ensures.fits d lawful c.flat-flat.ensures.fits) lawful (bit_count a.signals) (c.trees_law.ensures.counts a).bits c.requires.unmixed
     c.args.code.now false c.args.p is.0 c.in-Block.star (map (event_of signal) c.in-Block.events) (body_of a c.in-Block.statement) at edge c.requires.temps c.requires.slots c.requires.few
 
 pub returns-then-has_edge : goal.returns-then-has_edge
 returns-then-has_edge c =
-    let a = c.args.typed.now in
+    let a = c.args.templates.now.arena in
     let d = design_of a in
     let signal = signal_at (arena_signals a) in
     let is = c.kind_at.ensures.is in
@@ -88,7 +88,7 @@ returns-then-has_edge c =
 
 pub returns-else-has_edge : goal.returns-else-has_edge
 returns-else-has_edge c =
-    let a = c.args.typed.now in
+    let a = c.args.templates.now.arena in
     let d = design_of a in
     let signal = signal_at (arena_signals a) in
     let is = c.kind_at.ensures.is in

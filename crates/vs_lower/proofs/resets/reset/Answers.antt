@@ -1,4 +1,4 @@
-use Rattle.std.proofs.Common.{◌≡◌, ◌∙◌, ◌++◌, ℕ, List, true, sym, ap, map, slice_index, length, subst}
+use Rattle.std.proofs.Common.{◌≡◌, ◌∙◌, ◌++◌, ℕ, List, true, sym, ap, map, slice_index, length, subst, arith}
 use Rattle.std.proofs.lemmas.List.FromFn.{length-range_with_len}
 use Rattle.vs_code.specs.Calls.{Call}
 use Rattle.vs_flat.specs.Arena.{bit_count}
@@ -10,25 +10,32 @@ use Rattle.vs_lower.specs.Stated.{IsStatementReady}
 use Rattle.vs_lower.specs.Resetting.{reset_condition}
 use Rattle.vs_lower.proofs.Homeward.{at_homes}
 use Rattle.vs_lower.proofs.Resetting.{Resetting, adds_reset, branch_ready, condition_ready, home_at_steps, joined_as, reset_callable, reset_few, reset_goes_home, reset_inside, resetting_at, value_at}
+use Rattle.vs_lower.proofs.Reaching.{own_bits}
 use Rattle.vs_lower.proofs.resets.reset.Goals as goal
 
 pub active-requires-clause-ready : goal.active-requires-clause-ready
 active-requires-clause-ready c =
-    let n = bit_count c.args.typed.now.signals in
-    subst (λ (m : ℕ). IsReady m (homes m) c.args.code.now (reset_condition c.args.falls c.args.input) 1) (sym c.requires.count) (condition_ready n c.args.code.now c.args.falls c.args.input (body_of c.args.typed.now c.args.s) c.requires.ready)
+    let n = bit_count c.args.templates.now.arena.signals in
+    subst (λ (m : ℕ). IsReady (homes m) c.args.code.now (reset_condition c.args.falls c.args.input) 1) (sym c.requires.count) (condition_ready n c.args.code.now c.args.falls c.args.input (body_of c.args.templates.now.arena c.args.s) c.requires.ready)
 
 pub statement-requires-clause-ready : goal.statement-requires-clause-ready
 statement-requires-clause-ready c =
-    let n = bit_count c.args.typed.now.signals in
-    let st = body_of c.args.typed.now c.args.s in
+    let n = bit_count c.args.templates.now.arena.signals in
+    let st = body_of c.args.templates.now.arena c.args.s in
     let tc = c.in_ok-condition.condition.items in
-    at_homes n c.args.count c.at_home.result c.at_home-2.result (λ (x y : List ℕ). IsStatementReady n x y c.active.new.code true st) c.requires.count c.at_home.ensures c.at_home-2.ensures
-    (branch_ready n c.args.falls c.args.input st c.args.code.now c.active.new.code tc c.requires.ready (value_at n c.args.count c.args.code.now c.active.new.code c.args.falls c.args.input tc c.requires.count c.in_ok-condition.ensures))
+    own_bits _ _ _ _ _ _
+    (at_homes n c.args.count c.at_home.result c.at_home-2.result (λ (x y : List ℕ). IsStatementReady n x y c.active.new.code true st) c.requires.count c.at_home.ensures c.at_home-2.ensures
+    (branch_ready n c.args.falls c.args.input st c.args.code.now c.active.new.code tc c.requires.ready (value_at n c.args.count c.args.code.now c.active.new.code c.args.falls c.args.input tc c.requires.count c.in_ok-condition.ensures)))
+
+pub statement-requires-clause-inside : goal.statement-requires-clause-inside
+statement-requires-clause-inside c b h =
+    let q = c.requires.ready.inside b h in
+    omega (arith, q, c.requires.count, ap (λ (xs : List ℕ). length xs) c.at_home.ensures, length-range_with_len 4 c.args.count)
 
 pub picked-requires : goal.picked-requires
 picked-requires c =
-    let n = bit_count c.args.typed.now.signals in
-    let st = body_of c.args.typed.now c.args.s in
+    let n = bit_count c.args.templates.now.arena.signals in
+    let st = body_of c.args.templates.now.arena c.args.s in
     let tc = c.in_ok-condition.condition.items in
     let t = resetting_at n c.args.count c.args.falls c.args.input st c.args.code.now c.active.new.code c.statement.new.code tc c.at_home.result c.at_home-2.result c.statement.new.env.values c.statement.new.env.ahead c.in_ok-bits.bits.items
     c.requires.count c.at_home.ensures c.at_home-2.ensures c.requires.ready c.in_ok-condition.ensures c.in_ok-statement.ensures.adds c.in_ok-statement.ensures.other c.in_ok-bits.ensures.rising c.in_ok-bits.ensures.same in
@@ -36,8 +43,8 @@ picked-requires c =
 
 pub join_written-requires-clause-inside : goal.join_written-requires-clause-inside
 join_written-requires-clause-inside c =
-    let n = bit_count c.args.typed.now.signals in
-    let st = body_of c.args.typed.now c.args.s in
+    let n = bit_count c.args.templates.now.arena.signals in
+    let st = body_of c.args.templates.now.arena c.args.s in
     let tc = c.in_ok-condition.condition.items in
     let t = resetting_at n c.args.count c.args.falls c.args.input st c.args.code.now c.active.new.code c.statement.new.code tc c.at_home.result c.at_home-2.result c.statement.new.env.values c.statement.new.env.ahead c.in_ok-bits.bits.items
     c.requires.count c.at_home.ensures c.at_home-2.ensures c.requires.ready c.in_ok-condition.ensures c.in_ok-statement.ensures.adds c.in_ok-statement.ensures.other c.in_ok-bits.ensures.rising c.in_ok-bits.ensures.same in
@@ -45,8 +52,8 @@ join_written-requires-clause-inside c =
 
 pub join_written-requires-clause-few : goal.join_written-requires-clause-few
 join_written-requires-clause-few c =
-    let n = bit_count c.args.typed.now.signals in
-    let st = body_of c.args.typed.now c.args.s in
+    let n = bit_count c.args.templates.now.arena.signals in
+    let st = body_of c.args.templates.now.arena c.args.s in
     let tc = c.in_ok-condition.condition.items in
     let t = resetting_at n c.args.count c.args.falls c.args.input st c.args.code.now c.active.new.code c.statement.new.code tc c.at_home.result c.at_home-2.result c.statement.new.env.values c.statement.new.env.ahead c.in_ok-bits.bits.items
     c.requires.count c.at_home.ensures c.at_home-2.ensures c.requires.ready c.in_ok-condition.ensures c.in_ok-statement.ensures.adds c.in_ok-statement.ensures.other c.in_ok-bits.ensures.rising c.in_ok-bits.ensures.same in
@@ -54,8 +61,8 @@ join_written-requires-clause-few c =
 
 pub join_written-requires-clause-call : goal.join_written-requires-clause-call
 join_written-requires-clause-call c =
-    let n = bit_count c.args.typed.now.signals in
-    let st = body_of c.args.typed.now c.args.s in
+    let n = bit_count c.args.templates.now.arena.signals in
+    let st = body_of c.args.templates.now.arena c.args.s in
     let tc = c.in_ok-condition.condition.items in
     let t = resetting_at n c.args.count c.args.falls c.args.input st c.args.code.now c.active.new.code c.statement.new.code tc c.at_home.result c.at_home-2.result c.statement.new.env.values c.statement.new.env.ahead c.in_ok-bits.bits.items
     c.requires.count c.at_home.ensures c.at_home-2.ensures c.requires.ready c.in_ok-condition.ensures c.in_ok-statement.ensures.adds c.in_ok-statement.ensures.other c.in_ok-bits.ensures.rising c.in_ok-bits.ensures.same in
@@ -64,8 +71,8 @@ join_written-requires-clause-call c =
 
 pub copy_home-requires-clause-long : goal.copy_home-requires-clause-long
 copy_home-requires-clause-long c =
-    let n = bit_count c.args.typed.now.signals in
-    let st = body_of c.args.typed.now c.args.s in
+    let n = bit_count c.args.templates.now.arena.signals in
+    let st = body_of c.args.templates.now.arena c.args.s in
     let tc = c.in_ok-condition.condition.items in
     let c0 = c.args.code.now in
     let c1 = c.active.new.code in
@@ -84,8 +91,8 @@ copy_home-requires-clause-long c =
 
 pub copy_home-requires-clause-inside : goal.copy_home-requires-clause-inside
 copy_home-requires-clause-inside c =
-    let n = bit_count c.args.typed.now.signals in
-    let st = body_of c.args.typed.now c.args.s in
+    let n = bit_count c.args.templates.now.arena.signals in
+    let st = body_of c.args.templates.now.arena c.args.s in
     let tc = c.in_ok-condition.condition.items in
     let c0 = c.args.code.now in
     let c1 = c.active.new.code in
@@ -104,8 +111,8 @@ copy_home-requires-clause-inside c =
 
 pub copy_home-requires-clause-calls : goal.copy_home-requires-clause-calls
 copy_home-requires-clause-calls c =
-    let n = bit_count c.args.typed.now.signals in
-    let st = body_of c.args.typed.now c.args.s in
+    let n = bit_count c.args.templates.now.arena.signals in
+    let st = body_of c.args.templates.now.arena c.args.s in
     let tc = c.in_ok-condition.condition.items in
     let c0 = c.args.code.now in
     let c1 = c.active.new.code in
@@ -124,8 +131,8 @@ copy_home-requires-clause-calls c =
 
 pub copy_home-requires-clause-few : goal.copy_home-requires-clause-few
 copy_home-requires-clause-few c =
-    let n = bit_count c.args.typed.now.signals in
-    let st = body_of c.args.typed.now c.args.s in
+    let n = bit_count c.args.templates.now.arena.signals in
+    let st = body_of c.args.templates.now.arena c.args.s in
     let tc = c.in_ok-condition.condition.items in
     let c0 = c.args.code.now in
     let c1 = c.active.new.code in
@@ -144,8 +151,8 @@ copy_home-requires-clause-few c =
 
 pub returns : goal.returns
 returns c l r p hb hf is room =
-    let n = bit_count c.args.typed.now.signals in
-    let st = body_of c.args.typed.now c.args.s in
+    let n = bit_count c.args.templates.now.arena.signals in
+    let st = body_of c.args.templates.now.arena c.args.s in
     let tc = c.in_ok-condition.condition.items in
     let c0 = c.args.code.now in
     let c1 = c.active.new.code in

@@ -12,55 +12,55 @@ on_ok (Ok v) h k = k h
 on_ok (Err e) h k = h
 
 pub wake-requires-clause-inside : goal.wake-requires-clause-inside
-wake-requires-clause-inside c = (can_wake c.sleeper_law.ensures.wake (bit_count c.args.typed.now.signals) c.args.code.now c.args.mask c.args.waits.now (body_of c.args.typed.now c.args.s) c.requires.ready).homes_fit
+wake-requires-clause-inside c = (can_wake c.sleeper_law.ensures.wake (bit_count c.args.templates.now.arena.signals) c.args.code.now c.args.mask c.args.waits.now (body_of c.args.templates.now.arena c.args.s) c.requires.ready).homes_fit
 
 pub wake-requires-clause-calls : goal.wake-requires-clause-calls
-wake-requires-clause-calls c = (can_wake c.sleeper_law.ensures.wake (bit_count c.args.typed.now.signals) c.args.code.now c.args.mask c.args.waits.now (body_of c.args.typed.now c.args.s) c.requires.ready).calls
+wake-requires-clause-calls c = (can_wake c.sleeper_law.ensures.wake (bit_count c.args.templates.now.arena.signals) c.args.code.now c.args.mask c.args.waits.now (body_of c.args.templates.now.arena c.args.s) c.requires.ready).calls
 
 pub wake-requires-clause-few : goal.wake-requires-clause-few
-wake-requires-clause-few c = (can_wake c.sleeper_law.ensures.wake (bit_count c.args.typed.now.signals) c.args.code.now c.args.mask c.args.waits.now (body_of c.args.typed.now c.args.s) c.requires.ready).few
+wake-requires-clause-few c = (can_wake c.sleeper_law.ensures.wake (bit_count c.args.templates.now.arena.signals) c.args.code.now c.args.mask c.args.waits.now (body_of c.args.templates.now.arena c.args.s) c.requires.ready).few
 
 pub settled-requires-clause-ready : goal.settled-requires-clause-ready
 settled-requires-clause-ready c =
-    (has_parts (bit_count c.args.typed.now.signals) c.args.code.now c.wake.new.code c.args.mask c.args.waits.now c.in_ok-bits.bits.items (body_of c.args.typed.now c.args.s) c.requires.ready
+    (has_parts (bit_count c.args.templates.now.arena.signals) c.args.code.now c.wake.new.code c.args.mask c.args.waits.now c.in_ok-bits.bits.items (body_of c.args.templates.now.arena c.args.s) c.requires.ready
     c.in_ok-wake.ensures.calls c.in_ok-wake.ensures.next c.in_ok-bits.ensures.rising c.in_ok-bits.ensures.same).ready
 
 pub settled-requires-clause-inside : goal.settled-requires-clause-inside
 settled-requires-clause-inside c =
-    let n = bit_count c.args.typed.now.signals in
-    let st = body_of c.args.typed.now c.args.s in
+    let n = bit_count c.args.templates.now.arena.signals in
+    let st = body_of c.args.templates.now.arena c.args.s in
     let bits = c.in_ok-bits.bits.items in
     (on_slice n c.args.code.now c.wake.new.code c.args.mask c.args.waits.now bits c.as_slice.result.now st c.as_slice.ensures.value
     (has_parts n c.args.code.now c.wake.new.code c.args.mask c.args.waits.now bits st c.requires.ready c.in_ok-wake.ensures.calls c.in_ok-wake.ensures.next c.in_ok-bits.ensures.rising c.in_ok-bits.ensures.same)).inside
 
 pub settled-requires-clause-some : goal.settled-requires-clause-some
 settled-requires-clause-some c =
-    let n = bit_count c.args.typed.now.signals in
-    let st = body_of c.args.typed.now c.args.s in
+    let n = bit_count c.args.templates.now.arena.signals in
+    let st = body_of c.args.templates.now.arena c.args.s in
     let bits = c.in_ok-bits.bits.items in
     (on_slice n c.args.code.now c.wake.new.code c.args.mask c.args.waits.now bits c.as_slice.result.now st c.as_slice.ensures.value
     (has_parts n c.args.code.now c.wake.new.code c.args.mask c.args.waits.now bits st c.requires.ready c.in_ok-wake.ensures.calls c.in_ok-wake.ensures.next c.in_ok-bits.ensures.rising c.in_ok-bits.ensures.same)).some
 
 pub settled-requires-clause-few : goal.settled-requires-clause-few
 settled-requires-clause-few c =
-    let n = bit_count c.args.typed.now.signals in
-    let st = body_of c.args.typed.now c.args.s in
+    let n = bit_count c.args.templates.now.arena.signals in
+    let st = body_of c.args.templates.now.arena c.args.s in
     let bits = c.in_ok-bits.bits.items in
     (on_slice n c.args.code.now c.wake.new.code c.args.mask c.args.waits.now bits c.as_slice.result.now st c.as_slice.ensures.value
     (has_parts n c.args.code.now c.wake.new.code c.args.mask c.args.waits.now bits st c.requires.ready c.in_ok-wake.ensures.calls c.in_ok-wake.ensures.next c.in_ok-bits.ensures.rising c.in_ok-bits.ensures.same)).few
 
 pub finish-requires-clause-inside : goal.finish-requires-clause-inside
 finish-requires-clause-inside c =
-    let n = bit_count c.args.typed.now.signals in
-    let st = body_of c.args.typed.now c.args.s in
+    let n = bit_count c.args.templates.now.arena.signals in
+    let st = body_of c.args.templates.now.arena c.args.s in
     let bits = c.in_ok-bits.bits.items in
     (on_slice n c.args.code.now c.wake.new.code c.args.mask c.args.waits.now bits c.as_slice-2.result.now st c.as_slice-2.ensures.value
     (has_parts n c.args.code.now c.wake.new.code c.args.mask c.args.waits.now bits st c.requires.ready c.in_ok-wake.ensures.calls c.in_ok-wake.ensures.next c.in_ok-bits.ensures.rising c.in_ok-bits.ensures.same)).homes_fit
 
 pub finish-requires-clause-call : goal.finish-requires-clause-call
 finish-requires-clause-call c =
-    let n = bit_count c.args.typed.now.signals in
-    let st = body_of c.args.typed.now c.args.s in
+    let n = bit_count c.args.templates.now.arena.signals in
+    let st = body_of c.args.templates.now.arena c.args.s in
     let bits = c.in_ok-bits.bits.items in
     let now = c.in_ok-now.now.items in
     let slice = c.as_slice-2.result.now in
@@ -71,8 +71,8 @@ finish-requires-clause-call c =
 
 pub finish-requires-clause-few : goal.finish-requires-clause-few
 finish-requires-clause-few c =
-    let n = bit_count c.args.typed.now.signals in
-    let st = body_of c.args.typed.now c.args.s in
+    let n = bit_count c.args.templates.now.arena.signals in
+    let st = body_of c.args.templates.now.arena c.args.s in
     let bits = c.in_ok-bits.bits.items in
     let now = c.in_ok-now.now.items in
     let slice = c.as_slice-2.result.now in
@@ -85,8 +85,8 @@ pub returns : goal.returns
 returns c =
     on_ok c.finish.result c.finish.ensures
     (λ finished l place star events hb hf comb.
-    let n = bit_count c.args.typed.now.signals in
-    let st = body_of c.args.typed.now c.args.s in
+    let n = bit_count c.args.templates.now.arena.signals in
+    let st = body_of c.args.templates.now.arena c.args.s in
     let bits = c.in_ok-bits.bits.items in
     let now = c.in_ok-now.now.items in
     let parts = has_parts n c.args.code.now c.wake.new.code c.args.mask c.args.waits.now bits st c.requires.ready c.in_ok-wake.ensures.calls c.in_ok-wake.ensures.next c.in_ok-bits.ensures.rising c.in_ok-bits.ensures.same in

@@ -1,4 +1,4 @@
-use Rattle.std.proofs.Common.{ℕ, List, length, false, Result, Ok, Err, refl}
+use Rattle.std.proofs.Common.{ℕ, List, length, false, Result, Ok, Err, refl, arith, ap}
 use Rattle.std.specs.Prelude.{IfOk}
 use Rattle.vs_flat.specs.Arena.{bit_count}
 use Rattle.vs_shape.specs.Bodies.{body_of}
@@ -6,6 +6,8 @@ use Rattle.vs_lower.specs.Stated.{IsStatementReady}
 use Rattle.vs_lower.proofs.Blocking.{block_ready}
 use Rattle.vs_lower.proofs.Homeward.{at_homes}
 use Rattle.vs_lower.proofs.Sleeping.{can_own, settled_adds, settled_inside}
+use Rattle.vs_lower.proofs.Reaching.{own_bits}
+use Rattle.std.proofs.lemmas.List.FromFn.{length-range_with_len}
 use Rattle.vs_lower.proofs.sleepers.settled.Goals as goal
 
 if_ok : {V W : Type 0} {P Q : V → Type 0} (r : Result V W) → IfOk r P → ((v : V) → P v → Q v) → IfOk r Q
@@ -14,18 +16,24 @@ if_ok (Err e) h k = h
 
 pub statement-requires-clause-ready : goal.statement-requires-clause-ready
 statement-requires-clause-ready c =
-    let n = bit_count c.args.typed.now.signals in
-    let st = body_of c.args.typed.now c.args.s in
-    at_homes n c.args.count c.at_home.result c.at_home-2.result (λ (x y : List ℕ). IsStatementReady n x y c.args.code.now false st) c.requires.count c.at_home.ensures c.at_home-2.ensures (block_ready n c.args.code.now false st c.requires.ready)
+    let n = bit_count c.args.templates.now.arena.signals in
+    let st = body_of c.args.templates.now.arena c.args.s in
+    own_bits _ _ _ _ _ _
+    (at_homes n c.args.count c.at_home.result c.at_home-2.result (λ (x y : List ℕ). IsStatementReady n x y c.args.code.now false st) c.requires.count c.at_home.ensures c.at_home-2.ensures (block_ready n c.args.code.now false st c.requires.ready))
+
+pub statement-requires-clause-inside : goal.statement-requires-clause-inside
+statement-requires-clause-inside c b h =
+    let q = c.requires.ready.inside b h in
+    omega (arith, q, c.requires.count, ap (λ (xs : List ℕ). length xs) c.at_home.ensures, length-range_with_len 4 c.args.count)
 
 pub picked-requires : goal.picked-requires
 picked-requires c =
-    settled_inside (bit_count c.args.typed.now.signals) c.args.count c.at_home.result c.at_home-2.result c.args.code.now c.statement.new.code (body_of c.args.typed.now c.args.s) c.statement.new.env.values c.statement.new.env.ahead c.args.bits.now
+    settled_inside (bit_count c.args.templates.now.arena.signals) c.args.count c.at_home.result c.at_home-2.result c.args.code.now c.statement.new.code (body_of c.args.templates.now.arena c.args.s) c.statement.new.env.values c.statement.new.env.ahead c.args.bits.now
     c.requires.count c.at_home.ensures c.at_home-2.ensures c.in_ok-statement.ensures.adds c.requires.inside
 
 pub owned-requires : goal.owned-requires
 owned-requires c = record {
-  call = λ others. can_own (bit_count c.args.typed.now.signals) c.args.count c.at_home.result c.at_home-2.result c.args.code.now c.statement.new.code (body_of c.args.typed.now c.args.s) c.statement.new.env.values c.statement.new.env.ahead c.args.bits.now
+  call = λ others. can_own (bit_count c.args.templates.now.arena.signals) c.args.count c.at_home.result c.at_home-2.result c.args.code.now c.statement.new.code (body_of c.args.templates.now.arena c.args.s) c.statement.new.env.values c.statement.new.env.ahead c.args.bits.now
       c.requires.count c.at_home.ensures c.at_home-2.ensures c.in_ok-statement.ensures.adds c.requires.inside
       c.in_ok-slots.slots.items (length c.args.bits.now) c.requires.ready c.requires.some c.requires.few c.in_ok-slots.ensures refl;
 }
@@ -33,6 +41,6 @@ owned-requires c = record {
 pub returns : goal.returns
 returns c =
     if_ok c.owned.result c.owned.ensures
-    (λ now is. settled_adds (bit_count c.args.typed.now.signals) c.args.count c.at_home.result c.at_home-2.result c.args.code.now c.statement.new.code (body_of c.args.typed.now c.args.s) c.statement.new.env.values c.statement.new.env.ahead c.args.bits.now
+    (λ now is. settled_adds (bit_count c.args.templates.now.arena.signals) c.args.count c.at_home.result c.at_home-2.result c.args.code.now c.statement.new.code (body_of c.args.templates.now.arena c.args.s) c.statement.new.env.values c.statement.new.env.ahead c.args.bits.now
     c.requires.count c.at_home.ensures c.at_home-2.ensures c.in_ok-statement.ensures.adds c.requires.inside
     c.owned.new.code c.in_ok-slots.slots.items now.items c.next-first.result (length c.args.bits.now) c.requires.ready c.requires.some c.requires.few c.in_ok-slots.ensures c.next-first.ensures refl is)

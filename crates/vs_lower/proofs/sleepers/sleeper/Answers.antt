@@ -23,18 +23,18 @@ same_process o x y h k = some_is x y (sym h ∙ k)
 
 pub asleep-requires-clause-ready : goal.asleep-requires-clause-ready
 asleep-requires-clause-ready c =
-    let a = c.args.typed.now in
+    let a = c.args.templates.now.arena in
     let d = design_of a in
     let signal = signal_at (arena_signals a) in
     let is = c.kind_at.ensures.is in
     let at = is.1 ∙ ap (λ k. Some (kind_of signal (tree_at (arena_trees a)) (body_of a) is.0 k)) c.in-Block.is in
     let lawful = c.lawful_law.ensures.design a c.flat-flat.ensures.lawful in
-    sleeper_ready d c.footprint_law.ensures.bits c.sleeper_law.ensures.some (c.fits_law.ensures.fits d lawful c.flat-flat.ensures.fits) lawful (bit_count a.signals) (c.trees_law.ensures.counts a).bits c.requires.unmixed
+    sleeper_ready d c.footprint_law.ensures.bits c.within_law.ensures.statements (c.fits_law.ensures.small d c.flat-flat.ensures.fits) c.sleeper_law.ensures.some (c.fits_law.ensures.fits d lawful c.flat-flat.ensures.fits) lawful (bit_count a.signals) (c.trees_law.ensures.counts a).bits c.requires.unmixed
     c.args.code.now c.args.p is.0 c.in-Block.star (map (event_of signal) c.in-Block.events) (body_of a c.in-Block.statement) c.args.waits.now c.args.mask at c.requires.sleeps c.requires.mask c.requires.waits c.requires.slots c.requires.few
 
 pub returns-in-Assign : goal.returns-in-Assign
 returns-in-Assign c = λ l x has.
-    let a = c.args.typed.now in
+    let a = c.args.templates.now.arena in
     let d = design_of a in
     let tree = tree_at (arena_trees a) in
     let is = c.kind_at.ensures.is in
@@ -43,7 +43,7 @@ returns-in-Assign c = λ l x has.
 
 pub returns-in-Block : goal.returns-in-Block
 returns-in-Block c =
-    let a = c.args.typed.now in
+    let a = c.args.templates.now.arena in
     let d = design_of a in
     let signal = signal_at (arena_signals a) in
     let is = c.kind_at.ensures.is in

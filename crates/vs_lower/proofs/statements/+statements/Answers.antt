@@ -8,7 +8,7 @@ use Rattle.vs_design.specs.Statements.{Statement, Case, case_width, case_sign}
 use Rattle.vs_design.specs.Fits.{fits_arms, is_fit}
 use Rattle.vs_design.specs.Footprints.{contains, statement_bits, arms_bits}
 use Rattle.vs_design.specs.Sizes.{distinct}
-use Rattle.vs_flat.specs.Arena.{bit_count}
+use Rattle.vs_values.specs.Templates.{node_bound}
 use Rattle.vs_flat.specs.DesignOf.{arena_trees}
 use Rattle.vs_flat.specs.declared.statements.Arm as F
 use Rattle.vs_flat.specs.Trees.{arms_tree, branch, target_tree, tree_at}
@@ -17,8 +17,8 @@ use Rattle.vs_lower.specs.Branched.{unwritten, written}
 use Rattle.vs_values.specs.Coded.{Coding}
 use Rattle.vs_values.specs.Environments.{placed}
 use Rattle.vs_lower.specs.Joined.{IsJoined}
-use Rattle.vs_lower.specs.Stated.{IsStatementReady, AddsCases, AddsStatement, AreAmong, AreArmsReady, AreInOrder, AreInside, HasItems}
-use Rattle.vs_lower.proofs.Armed.{arm_callable, arm_statement, at_arm, branch_among, items_are_fit, no_arm, ready_branch}
+use Rattle.vs_lower.specs.Stated.{IsStatementReady, IsArmReady, AddsCases, AddsStatement, AreAmong, AreArmsReady, AreInOrder, AreInside, HasItems}
+use Rattle.vs_lower.proofs.Armed.{arm_callable, arm_statement, arm_tests, at_arm, branch_among, items_are_fit, no_arm, ready_branch}
 use Rattle.vs_values.proofs.Binary.{adds_at, ready_at}
 use Rattle.vs_lower.proofs.Branched.{adds_if, if_joins, statement_kept, written_long}
 use Rattle.vs_lower.proofs.Conditional.{ready_if, ready_no, ready_yes}
@@ -31,13 +31,14 @@ use Rattle.vs_lower.proofs.Sequencing.{adds_empty}
 use Rattle.vs_lower.proofs.Stating.{adds_assign, adds_case, in_order, ready_arms, ready_subject}
 use Rattle.vs_values.proofs.Values.{both_true}
 use Rattle.vs_lower.proofs.Widest.{case_sign_is, case_width_is}
+use Rattle.vs_lower.proofs.Reaching.{own_arm, own_bits}
 use Rattle.vs_lower.proofs.statements.+statements.Goals as goal
 
 -- ---- a branch
 
 pub apart-optional-requires : goal.apart-optional-requires
 apart-optional-requires t c =
-    (omega (arith, c.decreases), (c.requires.there, (c.requires.part, (c.requires.ready, λ b h. member_below c.args.bits.now (bit_count c.args.typed.now.signals) b c.requires.inside (c.requires.among b h)))))
+    (omega (arith, c.decreases), (c.requires.there, (c.requires.part, (c.requires.ready, λ b h. member_below c.args.bits.now (length c.args.env.now.values) b c.requires.inside (c.requires.among b h)))))
 
 -- both environments are as they were
 kept : (clocked : Bool) (count : ℕ) (bits v a v1 a1 v2 a2 before : List ℕ) (old new : Coding) (st : T.Statement)
@@ -54,34 +55,39 @@ kept clocked count bits v a v1 a1 v2 a2 before old new st lv la inside among d o
 
 pub apart-returns-clause-values : goal.apart-returns-clause-values
 apart-returns-clause-values t c =
-    (kept c.args.clocked (bit_count c.args.typed.now.signals) c.args.bits.now c.args.env.now.values c.args.env.now.ahead c.optional.new.env.values c.optional.new.env.ahead c.exchange.new.self.values c.exchange.new.self.ahead c.as_slice.result.now c.args.code.now c.optional.new.code (branch (body_of c.args.typed.now) c.args.part)
+    (kept c.args.clocked (length c.args.env.now.values) c.args.bits.now c.args.env.now.values c.args.env.now.ahead c.optional.new.env.values c.optional.new.env.ahead c.exchange.new.self.values c.exchange.new.self.ahead c.as_slice.result.now c.args.code.now c.optional.new.code (branch (body_of c.args.templates.now.arena) c.args.part)
     c.requires.ready.now_bits c.requires.ready.later_bits c.requires.inside c.requires.among c.in_ok-optional.ensures.adds c.in_ok-optional.ensures.other (c.as_slice.ensures.value ∙ c.in_ok-before.ensures) c.in_ok-slots.ensures.placed c.in_ok-slots.ensures.other).0
 
 pub apart-returns-clause-ahead : goal.apart-returns-clause-ahead
 apart-returns-clause-ahead t c =
-    (kept c.args.clocked (bit_count c.args.typed.now.signals) c.args.bits.now c.args.env.now.values c.args.env.now.ahead c.optional.new.env.values c.optional.new.env.ahead c.exchange.new.self.values c.exchange.new.self.ahead c.as_slice.result.now c.args.code.now c.optional.new.code (branch (body_of c.args.typed.now) c.args.part)
+    (kept c.args.clocked (length c.args.env.now.values) c.args.bits.now c.args.env.now.values c.args.env.now.ahead c.optional.new.env.values c.optional.new.env.ahead c.exchange.new.self.values c.exchange.new.self.ahead c.as_slice.result.now c.args.code.now c.optional.new.code (branch (body_of c.args.templates.now.arena) c.args.part)
     c.requires.ready.now_bits c.requires.ready.later_bits c.requires.inside c.requires.among c.in_ok-optional.ensures.adds c.in_ok-optional.ensures.other (c.as_slice.ensures.value ∙ c.in_ok-before.ensures) c.in_ok-slots.ensures.placed c.in_ok-slots.ensures.other).1
 
 pub optional-returns-in-None-clause-adds : goal.optional-returns-in-None-clause-adds
 optional-returns-in-None-clause-adds t c =
-    let a = c.args.typed.now in
-    let bits = bit_count a.signals in
+    let a = c.args.templates.now.arena in
+    let bits = length c.args.env.now.values in
     subst (λ (x : Option ℕ). AddsStatement c.args.env.now.values c.args.env.now.ahead c.args.code.now c.args.code.now (branch (body_of a) x) c.args.env.now.values c.args.env.now.ahead) (sym c.in-None.is)
     (adds_empty bits c.args.env.now.values c.args.env.now.ahead c.args.code.now c.args.clocked
     (subst (λ (x : Option ℕ). IsStatementReady bits c.args.env.now.values c.args.env.now.ahead c.args.code.now c.args.clocked (branch (body_of a) x)) c.in-None.is c.requires.ready))
 
 -- ---- an arm
 
+pub arm-tests-requires-clause-ready : goal.arm-tests-requires-clause-ready
+arm-tests-requires-clause-ready t c =
+    let a = c.args.templates.now.arena in
+    arm_tests (length c.args.env.now.values) c.args.env.now.values c.args.env.now.ahead c.args.subject.now c.args.code.now c.args.clocked c.args.context.width (map (tree_at (arena_trees a)) c.args.items.now) (body_of a c.args.part) c.args.bits.now c.args.behind.items c.requires.ready
+
 pub arm-apart-requires : goal.arm-apart-requires
 arm-apart-requires t c =
-    let a = c.args.typed.now in (
+    let a = c.args.templates.now.arena in (
       omega (arith, c.decreases),
       (
         c.requires.there,
         (
           c.requires.part,
           (
-            arm_statement (bit_count a.signals) c.args.env.now.values c.args.env.now.ahead c.args.subject.now c.args.code.now c.tests.new.code c.args.clocked c.args.kind c.args.context.width c.args.context.signed (map (tree_at (arena_trees a)) c.args.items.now) (body_of a c.args.part) c.args.bits.now c.args.behind.items c.in_ok-matches.matches.items
+            arm_statement (length c.args.env.now.values) c.args.env.now.values c.args.env.now.ahead c.args.subject.now c.args.code.now c.tests.new.code c.args.clocked c.args.kind c.args.context.width c.args.context.signed (map (tree_at (arena_trees a)) c.args.items.now) (body_of a c.args.part) c.args.bits.now c.args.behind.items c.in_ok-matches.matches.items
                 c.requires.ready c.in_ok-matches.ensures.adds,
             (c.requires.inside, c.requires.among),
           ),
@@ -91,9 +97,9 @@ arm-apart-requires t c =
 
 pub arm-join_apart-requires-clause-call : goal.arm-join_apart-requires-clause-call
 arm-join_apart-requires-clause-call t c =
-    let a = c.args.typed.now in
+    let a = c.args.templates.now.arena in
     let items = map (tree_at (arena_trees a)) c.args.items.now in
-    arm_callable c.args.clocked (bit_count a.signals) c.args.env.now.values c.args.env.now.ahead c.apart.new.env.values c.apart.new.env.ahead c.args.subject.now c.args.code.now c.tests.new.code c.apart.new.code c.args.kind c.args.context.width c.args.context.signed items (body_of a c.args.part) c.args.bits.now c.args.behind.items c.as_slice-2.result.now c.in_ok-matches.matches.items c.in_ok-first.first.items c.as_slice.result.now
+    arm_callable c.args.clocked (length c.args.env.now.values) c.args.env.now.values c.args.env.now.ahead c.apart.new.env.values c.apart.new.env.ahead c.args.subject.now c.args.code.now c.tests.new.code c.apart.new.code c.args.kind c.args.context.width c.args.context.signed items (body_of a c.args.part) c.args.bits.now c.args.behind.items c.as_slice-2.result.now c.in_ok-matches.matches.items c.in_ok-first.first.items c.as_slice.result.now
     c.requires.ready c.in_ok-matches.ensures.adds (c.in_ok-matches.ensures.alike ∙ sym (length-map c.args.items.now (tree_at (arena_trees a)))) c.in_ok-first.ensures.adds c.requires.rising c.requires.inside c.requires.among
     c.in_ok-first.ensures.values c.in_ok-first.ensures.ahead c.as_slice.ensures.value c.as_slice-2.ensures.value
 
@@ -101,7 +107,7 @@ arm-join_apart-requires-clause-call t c =
 
 pub branches-apart-requires : goal.branches-apart-requires
 branches-apart-requires t c =
-    let a = c.args.typed.now in
+    let a = c.args.templates.now.arena in
     let T = tree_at (arena_trees a) in
     let B = body_of a in
     let arms = c.args.arms.now in
@@ -112,7 +118,7 @@ branches-apart-requires t c =
         (
           c.requires.other,
           (
-            ready_branch (bit_count a.signals) c.args.env.now.values c.args.env.now.ahead c.args.subject.now c.args.code.now c.args.clocked c.args.context.width (distinct (arms_bits (arms_tree T B c.args.other arms))) T B c.args.other arms c.requires.ready,
+            ready_branch (length c.args.env.now.values) c.args.env.now.values c.args.env.now.ahead c.args.subject.now c.args.code.now c.args.clocked c.args.context.width (distinct (arms_bits (arms_tree T B c.args.other arms))) T B c.args.other arms c.requires.ready,
             (c.requires.bits.inside, λ b h. c.requires.bits.all b (among b h)),
           ),
         ),
@@ -121,7 +127,7 @@ branches-apart-requires t c =
 
 pub branches-loop-k-init : goal.branches-loop-k-init
 branches-loop-k-init t c =
-    let a = c.args.typed.now in
+    let a = c.args.templates.now.arena in
     let T = tree_at (arena_trees a) in
     let B = body_of a in
     let arms = c.args.arms.now in (
@@ -132,21 +138,23 @@ branches-loop-k-init t c =
 
 pub branches-arm-requires : goal.branches-arm-requires
 branches-arm-requires t c =
-    let a = c.args.typed.now in
+    let a = c.args.templates.now.arena in
     let arms = c.args.arms.now in
     let k = c.loop-k.k in
     let n = length arms - 1 - k in
-    let here = at_arm (bit_count a.signals) a c.args.s c.args.clocked c.loop-k.env.values c.loop-k.env.ahead c.args.env.now.values c.args.env.now.ahead c.args.subject.now c.args.code.now c.loop-k.code c.args.kind c.args.context.width c.args.context.signed c.args.other arms k n c.index-arms-n.result c.index-arms-n-in-loop-k.result c.as_slice-items.result.now _ c.args.bits.now c.loop-k.behind.items
+    let here = at_arm (node_bound c.args.templates.now) (length c.args.env.now.values) a c.args.s c.args.clocked c.loop-k.env.values c.loop-k.env.ahead c.args.env.now.values c.args.env.now.ahead c.args.subject.now c.args.code.now c.loop-k.code c.args.kind c.args.context.width c.args.context.signed c.args.other arms k n c.index-arms-n.result c.index-arms-n-in-loop-k.result c.as_slice-items.result.now _ c.args.bits.now c.loop-k.behind.items
     c.loop-k-test.true refl c.as_slice-items.ensures refl c.loop-k.invariant.1 c.loop-k.invariant.2 c.requires.arms c.requires.items c.requires.ready c.requires.bits c.loop-k.invariant.0 in
-    (omega (arith, c.decreases), (c.requires.there, (here.items_there, (here.part_below, (here.ready, (c.requires.bits.rising, (c.requires.bits.inside, here.among)))))))
+    let long = sym here.ready.now_bits in
+    let ready = own_arm _ _ _ _ _ _ _ _ _ _ _ here.ready in
+    (omega (arith, c.decreases), (c.requires.there, (here.items_there, (here.part_below, (ready, (c.requires.bits.rising, (subst (λ (q : ℕ). All (λ b. b < q) c.args.bits.now) long c.requires.bits.inside, here.among)))))))
 
 pub branches-loop-k-preserved : goal.branches-loop-k-preserved
 branches-loop-k-preserved t c =
-    let a = c.args.typed.now in
+    let a = c.args.templates.now.arena in
     let arms = c.args.arms.now in
     let k = c.loop-k.k in
     let n = length arms - 1 - k in
-    let here = at_arm (bit_count a.signals) a c.args.s c.args.clocked c.loop-k.env.values c.loop-k.env.ahead c.args.env.now.values c.args.env.now.ahead c.args.subject.now c.args.code.now c.loop-k.code c.args.kind c.args.context.width c.args.context.signed c.args.other arms k n c.index-arms-n.result c.index-arms-n-in-loop-k.result c.as_slice-items.result.now _ c.args.bits.now c.loop-k.behind.items
+    let here = at_arm (node_bound c.args.templates.now) (length c.args.env.now.values) a c.args.s c.args.clocked c.loop-k.env.values c.loop-k.env.ahead c.args.env.now.values c.args.env.now.ahead c.args.subject.now c.args.code.now c.loop-k.code c.args.kind c.args.context.width c.args.context.signed c.args.other arms k n c.index-arms-n.result c.index-arms-n-in-loop-k.result c.as_slice-items.result.now _ c.args.bits.now c.loop-k.behind.items
     c.loop-k-test.true refl c.as_slice-items.ensures refl c.loop-k.invariant.1 c.loop-k.invariant.2 c.requires.arms c.requires.items c.requires.ready c.requires.bits c.loop-k.invariant.0 in
     (here.next c.arm.new.code c.in_ok-behind-2.behind.items c.in_ok-behind-2.ensures.adds, c.in_ok-behind-2.ensures.values ∙ c.loop-k.invariant.1, c.in_ok-behind-2.ensures.ahead ∙ c.loop-k.invariant.2)
 
@@ -154,25 +162,25 @@ branches-loop-k-preserved t c =
 
 pub case-case_context-context-requires-clause-items_fit : goal.case-case_context-context-requires-clause-items_fit
 case-case_context-context-requires-clause-items_fit t c =
-    let a = c.args.typed.now in
+    let a = c.args.templates.now.arena in
     let T = tree_at (arena_trees a) in
     let B = body_of a in
     items_are_fit T B c.args.other c.args.arms.now (both_true (is_fit (T c.args.of)) (fits_arms (arms_tree T B c.args.other c.args.arms.now)) c.requires.ready.fit).1
 
 pub case-lower-requires-clause-ready : goal.case-lower-requires-clause-ready
 case-lower-requires-clause-ready t c =
-    let a = c.args.typed.now in
+    let a = c.args.templates.now.arena in
     let T = tree_at (arena_trees a) in
     let B = body_of a in
     let arms = arms_tree T B c.args.other c.args.arms.now in
     let subject = T c.args.of in
     let wide : c.case_context-context.result.width ≡ case_width subject arms = c.case_context-context.ensures.width ∙ sym (case_width_is T B c.args.other c.args.arms.now (E.width subject)) in
-    ready_at (bit_count a.signals) c.args.env.now.values c.args.code.now subject (case_width subject arms) c.case_context-context.result.width wide
-    (ready_subject (bit_count a.signals) c.args.env.now.values c.args.env.now.ahead c.args.code.now c.args.clocked c.args.kind subject arms c.requires.ready)
+    ready_at c.args.env.now.values c.args.code.now subject (case_width subject arms) c.case_context-context.result.width wide
+    (ready_subject (length c.args.env.now.values) c.args.env.now.values c.args.env.now.ahead c.args.code.now c.args.clocked c.args.kind subject arms c.requires.ready)
 
 pub case-branches-requires : goal.case-branches-requires
 case-branches-requires t c =
-    let a = c.args.typed.now in
+    let a = c.args.templates.now.arena in
     let T = tree_at (arena_trees a) in
     let B = body_of a in
     let arms = arms_tree T B c.args.other c.args.arms.now in
@@ -182,7 +190,7 @@ case-branches-requires t c =
     let wide : w ≡ case_width subject arms = c.case_context-context.ensures.width ∙ sym (case_width_is T B c.args.other c.args.arms.now (E.width subject)) in
     let signed : s ≡ case_sign subject arms = c.case_context-context.ensures.signed ∙ sym (case_sign_is T B c.args.other c.args.arms.now (E.sign subject)) in
     let v = adds_at c.args.env.now.values c.args.code.now.calls c.args.code.now.next c.lower.new.code.calls c.lower.new.code.next subject w (case_width subject arms) s (case_sign subject arms) c.in_ok-subject.subject.items wide signed c.in_ok-subject.ensures in
-    let r = ready_arms (bit_count a.signals) c.args.env.now.values c.args.env.now.ahead c.args.code.now c.lower.new.code c.args.clocked c.args.kind subject arms c.in_ok-subject.subject.items c.requires.ready v in (
+    let r = ready_arms (length c.args.env.now.values) c.args.env.now.values c.args.env.now.ahead c.args.code.now c.lower.new.code c.args.clocked c.args.kind subject arms c.in_ok-subject.subject.items c.requires.ready v in (
       omega (arith, c.decreases),
       (
         c.requires.there,
@@ -193,8 +201,8 @@ case-branches-requires t c =
             (
               c.requires.other,
               (
-                subst (λ (x : List ℕ). AreArmsReady (bit_count a.signals) c.args.env.now.values c.args.env.now.ahead x c.lower.new.code c.args.clocked w (distinct (arms_bits arms)) arms) (sym c.as_slice.ensures.value)
-                    (subst (λ (x : ℕ). AreArmsReady (bit_count a.signals) c.args.env.now.values c.args.env.now.ahead c.in_ok-subject.subject.items c.lower.new.code c.args.clocked x (distinct (arms_bits arms)) arms) (sym wide) r),
+                subst (λ (x : List ℕ). AreArmsReady (length c.args.env.now.values) c.args.env.now.values c.args.env.now.ahead x c.lower.new.code c.args.clocked w (distinct (arms_bits arms)) arms) (sym c.as_slice.ensures.value)
+                    (subst (λ (x : ℕ). AreArmsReady (length c.args.env.now.values) c.args.env.now.values c.args.env.now.ahead c.in_ok-subject.subject.items c.lower.new.code c.args.clocked x (distinct (arms_bits arms)) arms) (sym wide) r),
                 c.requires.bits,
               ),
             ),
@@ -212,7 +220,7 @@ stays_unwritten clocked v a now later e f = ap (λ (x : List ℕ). unwritten clo
 
 pub case-returns-clause-adds : goal.case-returns-clause-adds
 case-returns-clause-adds t c =
-    let a = c.args.typed.now in
+    let a = c.args.templates.now.arena in
     let tree = tree_at (arena_trees a) in
     let B = body_of a in
     let arms = arms_tree tree B c.args.other c.args.arms.now in
@@ -228,7 +236,7 @@ case-returns-clause-adds t c =
     let o = subst (λ (x : List ℕ). AddsCases c.args.clocked c.args.env.now.values c.args.env.now.ahead x c.lower.new.code c.branches.new.code kind (case_width subject arms) (case_sign subject arms) (distinct (arms_bits arms)) arms c.args.bits.now slots) c.as_slice.ensures.value
     (subst (λ (x : ℕ). AddsCases c.args.clocked c.args.env.now.values c.args.env.now.ahead c.as_slice.result.now c.lower.new.code c.branches.new.code kind x (case_sign subject arms) (distinct (arms_bits arms)) arms c.args.bits.now slots) wide
     (subst (λ (x : Bool). AddsCases c.args.clocked c.args.env.now.values c.args.env.now.ahead c.as_slice.result.now c.lower.new.code c.branches.new.code kind w x (distinct (arms_bits arms)) arms c.args.bits.now slots) signed c.in_ok-slots.ensures.adds)) in
-    adds_case c.args.clocked (bit_count a.signals) c.args.env.now.values c.args.env.now.ahead c.args.code.now c.lower.new.code c.branches.new.code kind subject arms tv c.args.bits.now slots c.place.new.self.values c.place.new.self.ahead
+    adds_case c.args.clocked (length c.args.env.now.values) c.args.env.now.values c.args.env.now.ahead c.args.code.now c.lower.new.code c.branches.new.code kind subject arms tv c.args.bits.now slots c.place.new.self.values c.place.new.self.ahead
     c.requires.ready v c.requires.bits o
     (c.in_ok-place.ensures.placed ∙ as_before c.args.clocked c.args.bits.now c.branches.new.env.values c.branches.new.env.ahead c.args.env.now.values c.args.env.now.ahead c.as_slice-2.result.now slots c.in_ok-slots.ensures.values c.in_ok-slots.ensures.ahead c.as_slice-2.ensures.value)
     (c.in_ok-place.ensures.other ∙ stays_unwritten c.args.clocked c.branches.new.env.values c.branches.new.env.ahead c.args.env.now.values c.args.env.now.ahead c.in_ok-slots.ensures.values c.in_ok-slots.ensures.ahead)
@@ -237,14 +245,14 @@ case-returns-clause-adds t c =
 
 pub conditional-lower-requires-clause-ready : goal.conditional-lower-requires-clause-ready
 conditional-lower-requires-clause-ready t c =
-    let a = c.args.typed.now in
+    let a = c.args.templates.now.arena in
     let T = tree_at (arena_trees a) in
-    ready_at (bit_count a.signals) c.args.env.now.values c.args.code.now (T c.args.c) (E.width (T c.args.c)) c.own.result.width c.own.ensures.width
-    (ready_if (bit_count a.signals) c.args.env.now.values c.args.env.now.ahead c.args.code.now c.args.clocked (T c.args.c) (body_of a c.args.yes) (branch (body_of a) c.args.no) c.requires.ready)
+    ready_at c.args.env.now.values c.args.code.now (T c.args.c) (E.width (T c.args.c)) c.own.result.width c.own.ensures.width
+    (ready_if (length c.args.env.now.values) c.args.env.now.values c.args.env.now.ahead c.args.code.now c.args.clocked (T c.args.c) (body_of a c.args.yes) (branch (body_of a) c.args.no) c.requires.ready)
 
 pub conditional-apart-requires : goal.conditional-apart-requires
 conditional-apart-requires t c =
-    let a = c.args.typed.now in
+    let a = c.args.templates.now.arena in
     let e = tree_at (arena_trees a) c.args.c in
     let taken = body_of a c.args.yes in
     let other = branch (body_of a) c.args.no in
@@ -255,7 +263,7 @@ conditional-apart-requires t c =
         (
           c.requires.yes,
           (
-            ready_yes (bit_count a.signals) c.args.env.now.values c.args.env.now.ahead c.args.code.now c.lower.new.code c.args.clocked e taken other c.in_ok-condition.condition.items c.requires.ready v,
+            ready_yes (length c.args.env.now.values) c.args.env.now.values c.args.env.now.ahead c.args.code.now c.lower.new.code c.args.clocked e taken other c.in_ok-condition.condition.items c.requires.ready v,
             (c.requires.bits.inside, λ b h. c.requires.bits.all b (left_among (statement_bits taken) (statement_bits other) (statement_bits (T.If e taken other)) (λ d k. k) b h)),
           ),
         ),
@@ -264,8 +272,8 @@ conditional-apart-requires t c =
 
 pub conditional-optional-requires : goal.conditional-optional-requires
 conditional-optional-requires t c =
-    let a = c.args.typed.now in
-    let bits = bit_count a.signals in
+    let a = c.args.templates.now.arena in
+    let bits = length c.args.env.now.values in
     let e = tree_at (arena_trees a) c.args.c in
     let taken = body_of a c.args.yes in
     let other = branch (body_of a) c.args.no in
@@ -278,9 +286,11 @@ conditional-optional-requires t c =
         (
           c.requires.no,
           (
-            subst (λ (x : List ℕ). IsStatementReady bits x c.apart.new.env.ahead c.apart.new.code c.args.clocked other) (sym c.in_ok-first.ensures.values)
+            subst (λ (x : List ℕ). IsStatementReady (length x) x c.apart.new.env.ahead c.apart.new.code c.args.clocked other) (sym c.in_ok-first.ensures.values)
                 (subst (λ (x : List ℕ). IsStatementReady bits c.args.env.now.values x c.apart.new.code c.args.clocked other) (sym c.in_ok-first.ensures.ahead) r),
-            λ b h. member_below c.args.bits.now bits b c.requires.bits.inside (c.requires.bits.all b (right_among (statement_bits taken) (statement_bits other) (statement_bits (T.If e taken other)) (λ d k. k) b h)),
+            λ b h.
+                subst (λ (x : List ℕ). b < length x) (sym c.in_ok-first.ensures.values)
+                (member_below c.args.bits.now bits b c.requires.bits.inside (c.requires.bits.all b (right_among (statement_bits taken) (statement_bits other) (statement_bits (T.If e taken other)) (λ d k. k) b h))),
           ),
         ),
       ),
@@ -288,7 +298,7 @@ conditional-optional-requires t c =
 
 pub conditional-join_written-requires-clause-few : goal.conditional-join_written-requires-clause-few
 conditional-join_written-requires-clause-few t c =
-    let a = c.args.typed.now in
+    let a = c.args.templates.now.arena in
     let e = tree_at (arena_trees a) c.args.c in
     let taken = body_of a c.args.yes in
     let other = branch (body_of a) c.args.no in
@@ -300,8 +310,8 @@ from_before v a now later old new st now1 later1 e f d =
 
 pub conditional-join_written-requires-clause-call : goal.conditional-join_written-requires-clause-call
 conditional-join_written-requires-clause-call t c =
-    let a = c.args.typed.now in
-    let bits = bit_count a.signals in
+    let a = c.args.templates.now.arena in
+    let bits = length c.args.env.now.values in
     let e = tree_at (arena_trees a) c.args.c in
     let taken = body_of a c.args.yes in
     let other = branch (body_of a) c.args.no in
@@ -319,8 +329,8 @@ conditional-join_written-requires-clause-call t c =
 
 pub conditional-returns-clause-adds : goal.conditional-returns-clause-adds
 conditional-returns-clause-adds t c =
-    let a = c.args.typed.now in
-    let bits = bit_count a.signals in
+    let a = c.args.templates.now.arena in
+    let bits = length c.args.env.now.values in
     let e = tree_at (arena_trees a) c.args.c in
     let taken = body_of a c.args.yes in
     let other = branch (body_of a) c.args.no in
@@ -344,31 +354,32 @@ conditional-returns-clause-adds t c =
 
 pub in_order-loop-n-init : goal.in_order-loop-n-init
 in_order-loop-n-init t c =
-    let a = c.args.typed.now in
-    none_yet (bit_count a.signals) c.args.clocked c.args.env.now.values c.args.env.now.ahead c.args.code.now (map (body_of a) c.args.parts.now) c.requires.ready c.requires.inside
+    let a = c.args.templates.now.arena in
+    none_yet (length c.args.env.now.values) c.args.clocked c.args.env.now.values c.args.env.now.ahead c.args.code.now (map (body_of a) c.args.parts.now) c.requires.ready c.requires.inside
 
 next_is : (f : ℕ → T.Statement) (parts : List ℕ) (n : ℕ) → n < length parts → map f (drop n parts) ≡ f (slice_index parts n) ∷ map f (drop (n + 1) parts)
 next_is f parts n l = ap (map f) (drop_more parts n 0 l)
 
 pub in_order-statement-requires : goal.in_order-statement-requires
 in_order-statement-requires t c =
-    let a = c.args.typed.now in
+    let a = c.args.templates.now.arena in
     let parts = c.args.parts.now in
     let n = c.loop-n.n in
     let all = map (body_of a) parts in
-    let u = subst (λ (xs : List T.Statement). IsUpTo (bit_count a.signals) c.args.clocked c.args.env.now.values c.args.env.now.ahead c.args.code.now all xs c.loop-n.env.values c.loop-n.env.ahead c.loop-n.code) (next_is (body_of a) parts n c.loop-n-test.true) c.loop-n.invariant in
-    let r = next_ready (bit_count a.signals) c.args.clocked c.args.env.now.values c.args.env.now.ahead c.args.code.now all (body_of a (slice_index parts n)) (map (body_of a) (drop (n + 1) parts)) c.loop-n.env.values c.loop-n.env.ahead c.loop-n.code u in
+    let u = subst (λ (xs : List T.Statement). IsUpTo (length c.args.env.now.values) c.args.clocked c.args.env.now.values c.args.env.now.ahead c.args.code.now all xs c.loop-n.env.values c.loop-n.env.ahead c.loop-n.code) (next_is (body_of a) parts n c.loop-n-test.true) c.loop-n.invariant in
+    let r = next_ready (length c.args.env.now.values) c.args.clocked c.args.env.now.values c.args.env.now.ahead c.args.code.now all (body_of a (slice_index parts n)) (map (body_of a) (drop (n + 1) parts)) c.loop-n.env.values c.loop-n.env.ahead c.loop-n.code u in
     let below = c.requires.parts n c.loop-n-test.true in
-    (omega (arith, c.decreases, below), (omega (arith, below, c.requires.there), (r.0, r.1)))
+    let ready = own_bits _ _ _ _ _ _ r.0 in
+    (omega (arith, c.decreases, below), (omega (arith, below, c.requires.there), (ready, λ b h. omega (arith, r.1 b h, r.0.now_bits))))
 
 pub in_order-loop-n-preserved : goal.in_order-loop-n-preserved
 in_order-loop-n-preserved t c =
-    let a = c.args.typed.now in
+    let a = c.args.templates.now.arena in
     let parts = c.args.parts.now in
     let n = c.loop-n.n in
     let all = map (body_of a) parts in
-    let u = subst (λ (xs : List T.Statement). IsUpTo (bit_count a.signals) c.args.clocked c.args.env.now.values c.args.env.now.ahead c.args.code.now all xs c.loop-n.env.values c.loop-n.env.ahead c.loop-n.code) (next_is (body_of a) parts n c.loop-n-test.true) c.loop-n.invariant in
-    next_done (bit_count a.signals) c.args.clocked c.args.env.now.values c.args.env.now.ahead c.args.code.now all (body_of a (slice_index parts n)) (map (body_of a) (drop (n + 1) parts)) c.loop-n.env.values c.loop-n.env.ahead c.statement.new.env.values c.statement.new.env.ahead c.loop-n.code c.statement.new.code
+    let u = subst (λ (xs : List T.Statement). IsUpTo (length c.args.env.now.values) c.args.clocked c.args.env.now.values c.args.env.now.ahead c.args.code.now all xs c.loop-n.env.values c.loop-n.env.ahead c.loop-n.code) (next_is (body_of a) parts n c.loop-n-test.true) c.loop-n.invariant in
+    next_done (length c.args.env.now.values) c.args.clocked c.args.env.now.values c.args.env.now.ahead c.args.code.now all (body_of a (slice_index parts n)) (map (body_of a) (drop (n + 1) parts)) c.loop-n.env.values c.loop-n.env.ahead c.statement.new.env.values c.statement.new.env.ahead c.loop-n.code c.statement.new.code
     u c.in_ok-statement.ensures.adds c.in_ok-statement.ensures.other
 
 drop_end : (f : ℕ → T.Statement) (parts : List ℕ) (n : ℕ) → n ≡ length parts → map f (drop n parts) ≡ []
@@ -380,18 +391,18 @@ drop_end f parts n e = ap (λ k. map f (drop k parts)) e ∙ whole parts
 
 pub in_order-returns-clause-adds : goal.in_order-returns-clause-adds
 in_order-returns-clause-adds t c =
-    let a = c.args.typed.now in
+    let a = c.args.templates.now.arena in
     let parts = c.args.parts.now in
     let n = c.loop-n.n in
     let end : n ≡ length parts = omega (arith, c.loop-n.auto.n-end, c.loop-n-test.false) in
-    all_done (bit_count a.signals) c.args.clocked c.args.env.now.values c.args.env.now.ahead c.args.code.now (map (body_of a) parts) (map (body_of a) (drop n parts)) c.loop-n.env.values c.loop-n.env.ahead c.loop-n.code (drop_end (body_of a) parts n end) c.loop-n.invariant
+    all_done (length c.args.env.now.values) c.args.clocked c.args.env.now.values c.args.env.now.ahead c.args.code.now (map (body_of a) parts) (map (body_of a) (drop n parts)) c.loop-n.env.values c.loop-n.env.ahead c.loop-n.code (drop_end (body_of a) parts n end) c.loop-n.invariant
 
 -- ---- any statement
 
 pub statement-returns-in-Empty-clause-adds : goal.statement-returns-in-Empty-clause-adds
 statement-returns-in-Empty-clause-adds t c =
-    let a = c.args.typed.now in
-    let bits = bit_count a.signals in
+    let a = c.args.templates.now.arena in
+    let bits = length c.args.env.now.values in
     let tree = c.statement_of.ensures.tree ∙ ap (body_of_statement a (body_place a c.args.s)) c.in-Empty.is in
     subst (λ (x : T.Statement). AddsStatement c.args.env.now.values c.args.env.now.ahead c.args.code.now c.args.code.now x c.args.env.now.values c.args.env.now.ahead) (sym tree)
     (adds_empty bits c.args.env.now.values c.args.env.now.ahead c.args.code.now c.args.clocked
@@ -399,7 +410,7 @@ statement-returns-in-Empty-clause-adds t c =
 
 pub statement-returns-in_ok-assign-in-Assign-clause-adds : goal.statement-returns-in_ok-assign-in-Assign-clause-adds
 statement-returns-in_ok-assign-in-Assign-clause-adds t c =
-    let a = c.args.typed.now in
+    let a = c.args.templates.now.arena in
     let tree = c.statement_of.ensures.tree ∙ ap (body_of_statement a (body_place a c.args.s)) c.in-Assign.is in
     subst (λ (x : T.Statement). AddsStatement c.args.env.now.values c.args.env.now.ahead c.args.code.now c.assign.new.code x c.assign.new.env.values c.assign.new.env.ahead) (sym tree)
     (adds_assign c.args.env.now.values c.args.env.now.ahead c.args.code.now c.assign.new.code (body_place a c.args.s) (target_tree (tree_at (arena_trees a) c.in-Assign.target)) (tree_at (arena_trees a) c.in-Assign.expr) c.in-Assign.blocking c.assign.new.env.values c.assign.new.env.ahead
@@ -407,10 +418,10 @@ statement-returns-in_ok-assign-in-Assign-clause-adds t c =
 
 pub statement-conditional-requires : goal.statement-conditional-requires
 statement-conditional-requires t c =
-    let a = c.args.typed.now in
-    let bits = bit_count a.signals in
+    let a = c.args.templates.now.arena in
+    let bits = length c.args.env.now.values in
     let tree = c.statement_of.ensures.tree ∙ ap (body_of_statement a (body_place a c.args.s)) c.in-If.is in
-    let names = subst (HasBodyNames (length a.nodes) c.args.s) c.in-If.is c.statement_of.ensures.names in
+    let names = subst (HasBodyNames (node_bound c.args.templates.now) c.args.s) c.in-If.is c.statement_of.ensures.names in
     let e = tree_at (arena_trees a) c.in-If.c in
     let st = T.If e (body_of a c.in-If.yes) (branch (body_of a) c.in-If.no) in (
       omega (arith, c.decreases),
@@ -435,10 +446,10 @@ statement-conditional-requires t c =
 
 pub statement-case-requires : goal.statement-case-requires
 statement-case-requires t c =
-    let a = c.args.typed.now in
-    let bits = bit_count a.signals in
+    let a = c.args.templates.now.arena in
+    let bits = length c.args.env.now.values in
     let tree = c.statement_of.ensures.tree ∙ ap (body_of_statement a (body_place a c.args.s)) c.in-Case.is in
-    let names = subst (HasBodyNames (length a.nodes) c.args.s) c.in-Case.is c.statement_of.ensures.names in
+    let names = subst (HasBodyNames (node_bound c.args.templates.now) c.args.s) c.in-Case.is c.statement_of.ensures.names in
     let items = subst HasItems c.in-Case.is c.statement_of.ensures.items in
     let T = tree_at (arena_trees a) in
     let B = body_of a in
@@ -450,7 +461,7 @@ statement-case-requires t c =
         (
           names.0,
           (
-            subst (EachArmNames (length a.nodes) c.args.s) (sym same) names.1,
+            subst (EachArmNames (node_bound c.args.templates.now) c.args.s) (sym same) names.1,
             (
               subst (All (λ (arm : F.Arm). 1 ≤ length arm.items)) (sym same) items,
               (

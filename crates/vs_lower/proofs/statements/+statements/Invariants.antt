@@ -2,7 +2,6 @@
 use Rattle.std.proofs.Common.{◌≡◌, ◌+◌, ◌*◌, ◌-◌, drop, length, map}
 use Rattle.vs_design.specs.Footprints.{arms_bits}
 use Rattle.vs_design.specs.Sizes.{distinct}
-use Rattle.vs_flat.specs.Arena.{bit_count}
 use Rattle.vs_flat.specs.DesignOf.{arena_trees}
 use Rattle.vs_flat.specs.Trees.{arms_tree, tree_at}
 use Rattle.vs_shape.specs.Bodies.{body_of}
@@ -36,11 +35,11 @@ decreases-optional l = 8 * l.s + 2
 
 abbrev pub invariant-in_order-loop-n : goal.invariant-in_order-loop-n
 invariant-in_order-loop-n l =
-    IsUpTo (bit_count l.typed.signals) l.clocked l.initial.env.values l.initial.env.ahead l.initial.code (map (body_of l.typed) l.parts) (map (body_of l.typed) (drop l.n l.parts)) l.env.values l.env.ahead l.code
+    IsUpTo (length l.initial.env.values) l.clocked l.initial.env.values l.initial.env.ahead l.initial.code (map (body_of l.templates.arena) l.parts) (map (body_of l.templates.arena) (drop l.n l.parts)) l.env.values l.env.ahead l.code
 
 abbrev pub invariant-branches-loop-k : goal.invariant-branches-loop-k
 invariant-branches-loop-k l =
     AddsCases l.clocked l.fn.env.values l.fn.env.ahead l.subject l.fn.code l.code l.kind l.context.width l.context.signed
-    (distinct (arms_bits (arms_tree (tree_at (arena_trees l.typed)) (body_of l.typed) l.fn.other l.arms))) (arms_tree (tree_at (arena_trees l.typed)) (body_of l.typed) l.fn.other (drop (length l.arms - l.k) l.arms)) l.bits l.behind.items
+    (distinct (arms_bits (arms_tree (tree_at (arena_trees l.templates.arena)) (body_of l.templates.arena) l.fn.other l.arms))) (arms_tree (tree_at (arena_trees l.templates.arena)) (body_of l.templates.arena) l.fn.other (drop (length l.arms - l.k) l.arms)) l.bits l.behind.items
     × (l.env.values ≡ l.fn.env.values)
     × (l.env.ahead ≡ l.fn.env.ahead)

@@ -1,9 +1,10 @@
 use Rattle.std.proofs.Common.{◌≡◌, ◌+◌, ◌-◌, ◌≤◌, ℕ, List, [], ◌∷◌, map, length, take, drop, get_or, sum_by, subst, arith}
 use Rattle.std.proofs.lemmas.List.Sums.{sum_by-cons}
 use Rattle.vs_design.specs.Statements.{Target, target_width}
-use Rattle.vs_flat.specs.Arena.{Arena, bit_count}
+use Rattle.vs_flat.specs.Arena.{Arena}
 use Rattle.vs_lower.specs.declared.leaves.Leaf.{Leaf}
 use Rattle.vs_lower.specs.declared.leaves.Leaf.TheVariants as L
+use Rattle.vs_lower.specs.declared.named.Named.TheVariants as M
 use Rattle.vs_values.specs.Coded.{Coding}
 use Rattle.vs_lower.specs.Leaves.{joined_target, leaf_target}
 use Rattle.vs_lower.specs.Written.{AddsWrites, write_weight}
@@ -25,30 +26,30 @@ first g env env1 code code1 leaf ti now value low e h =
 
 pub write_leaves-requires : goal.write_leaves-requires
 write_leaves-requires t c =
-    let a = c.args.typed.now in
+    let a = c.args.templates.now.arena in
     let leaves = c.args.leaves.now in
     let indices = c.args.indices.now in
     let value = c.args.value.now in
     let low = length value - c.leaf_width.result in
     let ti = c.index-indices-0.result in
-    let d = L.Whole 0 in
+    let d = L.Whole (M.Global 0) in
     let p = first (leaf_target a) c.args.env.now c.write_leaf.new.env c.args.code.now c.write_leaf.new.code (get_or leaves 0 d) ti c.as_slice.result.now value low c.as_slice.ensures c.in_ok-write_leaf.ensures in
-    let r = rest_ready a (bit_count a.signals) c.args.env.now c.write_leaf.new.env c.args.code.now c.write_leaf.new.code leaves indices value low d ti (drop low value) c.if-leaves-gt1.true c.requires.inside c.requires.fit c.requires.room c.requires.long
+    let r = rest_ready c.args.templates.now c.args.env.now c.write_leaf.new.env c.args.code.now c.write_leaf.new.code leaves indices value low d ti (drop low value) c.if-leaves-gt1.true c.requires.inside c.requires.names c.requires.fit c.requires.room c.requires.long
     (low_is a leaves d value c.leaf_width.result c.requires.some c.leaf_width.ensures c.requires.long) c.requires.value c.requires.indices c.requires.indexed p in
-    let q = rest_as a (bit_count a.signals) c.write_leaf.new.env c.write_leaf.new.code (length leaves) (take (length leaves - 1) (drop 1 leaves)) (drop 1 leaves) (take (length indices - 1) (drop 1 indices)) (drop 1 indices) (take low value) (suffix_is 1 leaves) (suffix_is 1 indices) r in (
+    let q = rest_as c.args.templates.now c.write_leaf.new.env c.write_leaf.new.code (length leaves) (take (length leaves - 1) (drop 1 leaves)) (drop 1 leaves) (take (length indices - 1) (drop 1 indices)) (drop 1 indices) (take low value) (suffix_is 1 leaves) (suffix_is 1 indices) r in (
       omega (arith, c.decreases, q.fewer),
-      (q.some, (q.inside, (q.fit, (q.room, (q.long, (q.value_below, (q.indices_below, q.indexed))))))),
+      (q.some, (q.inside, (q.names, (q.fit, (q.room, (q.long, (q.value_below, (q.indices_below, q.indexed)))))))),
     )
 
 pub returns-in_ok-write_leaves : goal.returns-in_ok-write_leaves
 returns-in_ok-write_leaves t c =
-    let a = c.args.typed.now in
+    let a = c.args.templates.now.arena in
     let leaves = c.args.leaves.now in
     let indices = c.args.indices.now in
     let value = c.args.value.now in
     let low = length value - c.leaf_width.result in
     let ti = c.index-indices-0.result in
-    let d = L.Whole 0 in
+    let d = L.Whole (M.Global 0) in
     let p = first (leaf_target a) c.args.env.now c.write_leaf.new.env c.args.code.now c.write_leaf.new.code (get_or leaves 0 d) ti c.as_slice.result.now value low c.as_slice.ensures c.in_ok-write_leaf.ensures in
     let w : low + target_width (leaf_target a (get_or leaves 0 d)) ≡ length value = low_is a leaves d value c.leaf_width.result c.requires.some c.leaf_width.ensures c.requires.long in
     let W = λ (ls : List Leaf) (is : List (List ℕ)). AddsWrites c.write_leaf.new.env c.write_leaves.new.env c.write_leaf.new.code c.write_leaves.new.code (joined_target (map (leaf_target a) ls)) is (take low value) (sum_by write_weight (map (leaf_target a) ls)) in

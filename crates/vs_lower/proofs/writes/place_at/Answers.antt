@@ -10,6 +10,9 @@ set_at-requires-clause-inside c = λ n e.
     let inside : c.args.first + n < length c.args.env.now = c.requires.inside c.loop-k.k n (sym c.get.ensures ∙ e) in
     omega (arith, inside, c.loop-k.invariant.0)
 
+pub set_at-requires-clause-few : goal.set_at-requires-clause-few
+set_at-requires-clause-few c = λ n e. c.requires.few c.loop-k.k n (sym c.get.ensures ∙ e)
+
 pub loop-k-preserved : goal.loop-k-preserved
 loop-k-preserved c =
     let k : ℕ = c.loop-k.k in

@@ -1,4 +1,4 @@
-use Rattle.std.proofs.Common.{◌<◌, length, map, not, true, false, ap, sym, ◌∙◌, subst}
+use Rattle.std.proofs.Common.{◌≡◌, ◌<◌, length, map, not, true, false, ap, sym, ◌∙◌, subst}
 use Rattle.std.specs.Prelude.{◌&&◌}
 use Rattle.vs_design.specs.Footprints.{contains}
 use Rattle.vs_design.specs.Sleepers.{is_sleeping}
@@ -7,7 +7,9 @@ use Rattle.vs_flat.specs.Trees.{signal_at}
 use Rattle.vs_flat.specs.DesignOf.{arena_signals, design_of, event_of}
 use Rattle.vs_reads.specs.Footprint.{writes_at, waits_at}
 use Rattle.vs_reads.proofs.FitKinds.{edges_of}
+use Rattle.vs_design.specs.Within.{statement_within}
 use Rattle.vs_sets.specs.StatementParts.{statement_of}
+use Rattle.vs_sets.proofs.Limits.{block_within}
 use Rattle.vs_sets.proofs.FlagSteps.{all_below, found_kind, clocked_awake, block_sleeps, unset_awake, told_of}
 use Rattle.vs_sets.proofs.sleepers.sleeps.Goals as goal
 
@@ -20,6 +22,14 @@ are_set-requires c =
     let has = (c.footprint_law.ensures.bits d lawful.design c.args.p _ found).waits in
     let bits = c.waits.ensures ∙ ap (λ fs. waits_at fs c.args.p) c.requires.footprints in
     all_below c.waits.result.now (length c.args.still.now) (λ b k. subst (λ m. b < m) (sym c.requires.many) (has.below b (ap (λ bs. contains bs b) (sym bits) ∙ k)))
+
+pub leaves_x-requires-clause-names : goal.leaves_x-requires-clause-names
+leaves_x-requires-clause-names c =
+    let a = c.args.shapes.now in
+    let d = design_of a in
+    let lawful = subst IsLawful c.flat.ensures.same c.flat.ensures.lawful in
+    let found = found_kind c.trees_law.ensures.processes a c.args.p c.fit_process.result.now _ c.fit_process.ensures.is c.in-Block.is in
+    subst (λ n. statement_within n (statement_of a c.in-Block.statement) ≡ true) (sym c.requires.table) (block_within c.within_law.ensures.statements d lawful.design c.args.p _ _ _ _ found)
 
 pub leaves_x-requires-clause-within : goal.leaves_x-requires-clause-within
 leaves_x-requires-clause-within c =

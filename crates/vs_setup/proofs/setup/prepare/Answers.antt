@@ -1,4 +1,4 @@
-use Rattle.std.proofs.Common.{rules, ◌≤◌, ℕ, List, All, length, inr, sym, subst, ap, ◌∙◌, arith}
+use Rattle.std.proofs.Common.{rules, Err, ◌≤◌, ℕ, List, All, length, inr, sym, subst, ap, ◌∙◌, arith}
 use Rattle.std.proofs.lemmas.List.{take_all}
 use Rattle.std.proofs.lemmas.Result.{err_from_is_err_and}
 use Rattle.vs_desk.specs.Desk.{Register}
@@ -28,7 +28,7 @@ returns-in_err-drive-clause-unprepared g c =
     let behind : IsUnopened l.inputs.items job.stimuli (record mid { register = with_design old.register job.design }) new e =
     subst (λ (r : Register). IsUnopened l.inputs.items job.stimuli (record mid { register = r }) new e) c.in_ok-loaded.ensures.register
     (subst (λ (is : List Input). IsUnopened is job.stimuli mid new e) c.deref.ensures.value unopened) in
-    err_is (IsUnprepared job old new) c.from_residual-in_err-drive.result e (search rules)
+    err_is (IsUnprepared job old new) c.from_residual-in_err-drive.result e (let p = err_from_is_err_and c.from_residual-in_err-drive.result c.from_residual-in_err-drive.ensures.1 in p.1 ∙ ap Err p.2)
     (unprepared g.W.Word.lane g.W.Word.LANES job old mid new l.accepted l.inputs.items l.engine c.in_ok-loaded.ensures.loaded (λ t. (c.in_ok-loaded.ensures.only t).files) e behind)
 
 pub returns-clause-prepared : goal.returns-clause-prepared

@@ -32,7 +32,7 @@ pub least_statement-returns-in-If : goal.least_statement-returns-in-If
 least_statement-returns-in-If t c at =
     let a = c.args.shapes.now in
     let rule = c.args.rule in
-    let tree = c.statement.ensures.tree ∙ ap (body_of_statement a (body_place a c.args.s)) c.in-If.is in
+    let tree = c.statement_in.ensures.tree ∙ ap (body_of_statement a (body_place a c.args.s)) c.in-If.is in
     let condition = places_of rule at (tree_of a c.in-If.c) in
     let taken = statement_places rule at (body_of a c.in-If.yes) in
     let other = statement_places rule at (branch (body_of a) c.in-If.no) in
@@ -43,7 +43,7 @@ pub least_statement-returns-in-Case : goal.least_statement-returns-in-Case
 least_statement-returns-in-Case t c at =
     let a = c.args.shapes.now in
     let rule = c.args.rule in
-    let tree = c.statement.ensures.tree ∙ ap (body_of_statement a (body_place a c.args.s)) c.in-Case.is in
+    let tree = c.statement_in.ensures.tree ∙ ap (body_of_statement a (body_place a c.args.s)) c.in-Case.is in
     let subject = places_of rule at (tree_of a c.in-Case.of) in
     let arms = arms_places rule at (arms_of a c.in-Case.other c.in-Case.arms) in
     c.least_arms.ensures at ∙ ap (λ (xs : List Arm). least_from c.least_in-subject.result (arms_places rule at (arms_of a c.in-Case.other xs))) c.as_slice.ensures

@@ -11,14 +11,14 @@ pub least_target-least-requires : goal.least_target-least-requires
 least_target-least-requires t c =
     let a = c.args.shapes.now in
     let place = place_of a c.args.e in
-    let tree = c.node.ensures.tree ∙ ap (λ n. At place (tree_of_node a n)) c.in-Join.is in
-    let names = subst (HasNames (length a.signals) c.args.e) c.in-Join.is c.node.ensures.names in
+    let tree = c.node_in.ensures.tree ∙ ap (λ n. At place (tree_of_node a n)) c.in-Join.is in
+    let names = subst (HasNames (length a.signals) c.args.e) c.in-Join.is c.node_in.ensures.names in
     let copy = c.first_copy-part-items.result.now in
     let copied = c.first_copy-part-items.ensures.copy ∙ ap first_copy c.as_slice.ensures in
     let below = copy_below c.args.e c.as_slice.result.now copy (subst (EachBelow c.args.e) (sym c.as_slice.ensures) names) c.first_copy-part-items.ensures.prefix c.first_copy-part-items.ensures.short c.loop-part.part-index c.loop-part-test.true in
     let one = one_copy place (copy_count c.in-Join.parts) (joined (map (tree_of a) (first_copy c.in-Join.parts))) (subst HasTargetTree tree c.requires.target) in
     let target = subst (λ (ps : List ℕ). HasTargetTree (joined (map (tree_of a) ps))) (sym copied) one.target in
-    (omega (arith, below), (omega (arith, below, c.requires.there), part_target (tree_of a) copy c.loop-part.part-index c.loop-part-test.true target))
+    (omega (arith, below), (c.requires.table, (omega (arith, below, c.requires.there), part_target (tree_of a) copy c.loop-part.part-index c.loop-part-test.true target)))
 
 pub loop-part-preserved : goal.loop-part-preserved
 loop-part-preserved t c at =
@@ -30,7 +30,7 @@ returns-after-loop-part t c at =
     let rule = c.args.rule in
     let best = c.args.best in
     let place = place_of a c.args.e in
-    let tree = c.node.ensures.tree ∙ ap (λ n. At place (tree_of_node a n)) c.in-Join.is in
+    let tree = c.node_in.ensures.tree ∙ ap (λ n. At place (tree_of_node a n)) c.in-Join.is in
     let copy = c.first_copy-part-items.result.now in
     let copied = c.first_copy-part-items.ensures.copy ∙ ap first_copy c.as_slice.ensures in
     let x = joined (map (tree_of a) (first_copy c.in-Join.parts)) in

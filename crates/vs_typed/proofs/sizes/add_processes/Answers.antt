@@ -10,4 +10,4 @@ loop-p-preserved c =
     let a = c.args.shapes.now in
     let counts = c.trees_law.ensures.counts a in
     let same = ap (λ (y : Arena). length y.processes) c.flat.ensures.same in
-    sum_step process_weight (design_of a).processes c.loop-p.p c.args.total c.loop-p.sum c.in_ok-sum.sum (omega (arith, c.loop-p-test.true, c.process_count-p-end.ensures.count, counts.processes, same)) c.loop-p.invariant (λ x at. c.in_ok-sum.ensures x at)
+    sum_step process_weight (design_of a).processes c.loop-p.p 0 c.loop-p.sum c.in_ok-sum.sum (omega (arith, c.loop-p-test.true, c.process_count-p-end.ensures.count, counts.processes, same)) c.loop-p.invariant (λ x at. c.in_ok-sum.ensures x at)

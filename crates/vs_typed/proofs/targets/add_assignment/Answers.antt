@@ -5,7 +5,7 @@ use Rattle.vs_design.specs.Sizes.{weight, target_weight}
 use Rattle.vs_flat.specs.Trees.{target_tree}
 use Rattle.vs_shape.specs.Nodes.{tree_of}
 use Rattle.vs_sets.proofs.TargetFacts.{target_few, target_length}
-use Rattle.vs_typed.proofs.WeightSteps.{if_ok}
+use Rattle.vs_typed.specs.Weights.{capped}
 use Rattle.vs_typed.proofs.targets.add_assignment.Goals as goal
 
 pub returns : goal.returns
@@ -17,7 +17,7 @@ returns c =
     let same = target_length t c.requires.target in
     let bits : c.from-bits.result ≡ target_width (target_tree t) = omega (arith, few.1, c.from-bits.ensures, ap (λ s. s.width) c.shape.ensures, same) in
     let context : c.max.result ≡ max (width e) (target_width (target_tree t)) = c.max.ensures ∙ ap₂ max c.as_operand.ensures.width bits in
-    let first : c.in_ok-plus.field-0 ≡ c.args.total + c.from-bits.result = c.in_ok-plus.ensures in
-    let second : c.in_ok-sum.sum ≡ c.in_ok-plus.field-0 + target_weight (target_tree t) = c.in_ok-sum.ensures in
+    let first : c.plus.result ≡ capped (c.args.total + c.from-bits.result) = c.plus.ensures in
+    let second : c.add_target-sum.result ≡ capped (c.plus.result + target_weight (target_tree t)) = c.add_target-sum.ensures in
     let third : weight e c.max.result ≡ weight e (max (width e) (target_width (target_tree t))) = ap (weight e) context in
-    if_ok c.add_weight.result c.add_weight.ensures (λ v h. omega (arith, h, bits, first, second, third))
+    omega (arith, c.add_weight.ensures, bits, first, second, third)

@@ -8,6 +8,6 @@ use Rattle.vs_values.proofs.typed.width.Goals as goal
 
 pub returns : goal.returns
 returns c =
-    let e = tree_at (arena_trees c.args.typed.now) c.args.e in
+    let e = tree_at (arena_trees c.args.templates.now.arena) c.args.e in
     let l = fits_length e (both_true (fits e) (divides_constants e) c.requires.fit).0 in
     omega (arith, c.width.ensures, l.1)

@@ -29,7 +29,7 @@ called code signal s range args made k e f g =
 
 pub call-requires-clause-is : goal.call-requires-clause-is
 call-requires-clause-is c =
-    let signal = signal_at (arena_signals c.args.typed.now) c.args.signal in
+    let signal = signal_at (arena_signals c.args.templates.now.arena) c.args.signal in
     let from = source_slots c.args.env.now (OfSignal signal) in
     let args : c.in_ok-args.args ≡ from ∷ c.args.address.items ∷ [] = c.in_ok-args.ensures ∙ ap (λ (x : List ℕ). x ∷ c.args.address.items ∷ []) c.in_ok-from.ensures in
     let can = callable c.args.code.now signal c.args.signed c.memory_addresses-range.result c.in_ok-args.args (from ∷ c.args.address.items ∷ []) c.word_width-width.result c.memory_addresses-range.ensures args c.word_width-width.ensures c.requires.call in
@@ -37,7 +37,7 @@ call-requires-clause-is c =
 
 pub call-requires-clause-slots : goal.call-requires-clause-slots
 call-requires-clause-slots c =
-    let signal = signal_at (arena_signals c.args.typed.now) c.args.signal in
+    let signal = signal_at (arena_signals c.args.templates.now.arena) c.args.signal in
     let from = source_slots c.args.env.now (OfSignal signal) in
     let args : c.in_ok-args.args ≡ from ∷ c.args.address.items ∷ [] = c.in_ok-args.ensures ∙ ap (λ (x : List ℕ). x ∷ c.args.address.items ∷ []) c.in_ok-from.ensures in
     let can = callable c.args.code.now signal c.args.signed c.memory_addresses-range.result c.in_ok-args.args (from ∷ c.args.address.items ∷ []) c.word_width-width.result c.memory_addresses-range.ensures args c.word_width-width.ensures c.requires.call in
@@ -45,7 +45,7 @@ call-requires-clause-slots c =
 
 pub call-requires-clause-few : goal.call-requires-clause-few
 call-requires-clause-few c =
-    let signal = signal_at (arena_signals c.args.typed.now) c.args.signal in
+    let signal = signal_at (arena_signals c.args.templates.now.arena) c.args.signal in
     let from = source_slots c.args.env.now (OfSignal signal) in
     let args : c.in_ok-args.args ≡ from ∷ c.args.address.items ∷ [] = c.in_ok-args.ensures ∙ ap (λ (x : List ℕ). x ∷ c.args.address.items ∷ []) c.in_ok-from.ensures in
     let can = callable c.args.code.now signal c.args.signed c.memory_addresses-range.result c.in_ok-args.args (from ∷ c.args.address.items ∷ []) c.word_width-width.result c.memory_addresses-range.ensures args c.word_width-width.ensures c.requires.call in
@@ -55,13 +55,13 @@ pub returns-clause-to : goal.returns-clause-to
 returns-clause-to c =
     IfOk-weaker c.call.result
     (λ (to : Vec ℕ Global). to.items ≡ range_with_len c.args.code.now.next c.word_width-width.result)
-    (λ (to : Vec ℕ Global). to.items ≡ range_with_len c.args.code.now.next (word_length (signal_at (arena_signals c.args.typed.now) c.args.signal)))
+    (λ (to : Vec ℕ Global). to.items ≡ range_with_len c.args.code.now.next (word_length (signal_at (arena_signals c.args.templates.now.arena) c.args.signal)))
     (λ to h. h ∙ ap (range_with_len c.args.code.now.next) c.word_width-width.ensures)
     c.call.ensures.to
 
 pub returns-clause-ok : goal.returns-clause-ok
 returns-clause-ok c =
-    let signal = signal_at (arena_signals c.args.typed.now) c.args.signal in
+    let signal = signal_at (arena_signals c.args.templates.now.arena) c.args.signal in
     let from = source_slots c.args.env.now (OfSignal signal) in
     let args : c.in_ok-args.args ≡ from ∷ c.args.address.items ∷ [] = c.in_ok-args.ensures ∙ ap (λ (x : List ℕ). x ∷ c.args.address.items ∷ []) c.in_ok-from.ensures in
     let is = called c.args.code.now signal c.args.signed c.memory_addresses-range.result c.in_ok-args.args (from ∷ c.args.address.items ∷ []) c.word_width-width.result c.memory_addresses-range.ensures args c.word_width-width.ensures in

@@ -9,7 +9,7 @@ use Rattle.vs_values.proofs.words.chosen_word.Goals as goal
 
 pub returns-then-are_constant : goal.returns-then-are_constant
 returns-then-are_constant c =
-    let signal = signal_at (arena_signals c.args.typed.now) c.args.signal in
+    let signal = signal_at (arena_signals c.args.templates.now.arena) c.args.signal in
     let from = source_slots c.args.env.now (OfSignal signal) in
     let w = c.args.context.width in
     let s = c.args.context.signed in
@@ -29,7 +29,7 @@ returns-then-are_constant c =
 
 pub returns : goal.returns
 returns c =
-    let signal = signal_at (arena_signals c.args.typed.now) c.args.signal in
+    let signal = signal_at (arena_signals c.args.templates.now.arena) c.args.signal in
     let from = source_slots c.args.env.now (OfSignal signal) in
     let w = c.args.context.width in
     let s = c.args.context.signed in

@@ -14,7 +14,7 @@ use Rattle.vs_values.proofs.words.first_of_word.Goals as goal
 
 pub first_at-requires : goal.first_at-requires
 first_at-requires c = λ n e.
-    let a = c.args.typed.now in
+    let a = c.args.templates.now.arena in
     let s = c.signal.result.now in
     let signal = signal_at (arena_signals a) c.args.signal in
     let at : slice_get a.signals c.args.signal ≡ Some s = ap (λ (x : Arena). slice_get x.signals c.args.signal) (sym c.flat.ensures.same) ∙ c.signal.ensures in
@@ -29,7 +29,7 @@ first_at-requires c = λ n e.
 
 pub returns-clause-value : goal.returns-clause-value
 returns-clause-value c =
-    let a = c.args.typed.now in
+    let a = c.args.templates.now.arena in
     let s = c.signal.result.now in
     let signal = signal_at (arena_signals a) c.args.signal in
     let at : slice_get a.signals c.args.signal ≡ Some s = ap (λ (x : Arena). slice_get x.signals c.args.signal) (sym c.flat.ensures.same) ∙ c.signal.ensures in
@@ -42,7 +42,7 @@ returns-clause-value c =
 
 pub returns-clause-inside : goal.returns-clause-inside
 returns-clause-inside c = λ b e.
-    let a = c.args.typed.now in
+    let a = c.args.templates.now.arena in
     let s = c.signal.result.now in
     let signal = signal_at (arena_signals a) c.args.signal in
     let at : slice_get a.signals c.args.signal ≡ Some s = ap (λ (x : Arena). slice_get x.signals c.args.signal) (sym c.flat.ensures.same) ∙ c.signal.ensures in
@@ -53,4 +53,4 @@ returns-clause-inside c = λ b e.
     ∙ ap (λ (f : ℕ). option_map (λ n. f + n * c.word_width-width.result) place) (ap (λ (x : E.Signal). x.first) is)
     ∙ sym c.first_at.ensures ∙ e in
     let inside = λ (n : ℕ) (h : place ≡ Some n). subst (λ (r : Range). n < range_length r) c.memory_addresses.ensures (c.word_place-place.ensures.inside n h) in
-    omega (arith, first_within signal place b inside first, signal_within a c.args.signal c.flat.ensures.lawful.design.bits_numbered c.requires.signal)
+    omega (arith, first_within signal place b inside first)

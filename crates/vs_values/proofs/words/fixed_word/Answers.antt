@@ -1,4 +1,4 @@
-use Rattle.std.proofs.Common.{◌≡◌, ◌∙◌, ℕ, Vec, Global, map, slice_index, replicate, sym, ap, arith}
+use Rattle.std.proofs.Common.{◌≡◌, ◌∙◌, ℕ, Vec, Global, map, slice_index, replicate, length, sym, ap, arith}
 use Rattle.std.proofs.lemmas.Result.{IfOk-weaker}
 use Rattle.vs_design.specs.Expressions.{OfSignal}
 use Rattle.vs_design.specs.Values.{count_from}
@@ -6,21 +6,23 @@ use Rattle.vs_flat.specs.DesignOf.{arena_signals}
 use Rattle.vs_flat.specs.Trees.{signal_at}
 use Rattle.vs_values.specs.Constants.{constant_bits, word_slots}
 use Rattle.vs_values.specs.Made.{source_slots}
+use Rattle.vs_values.proofs.Named.{signal_within, within_is}
 use Rattle.vs_values.proofs.Wording.{slots_of_word, slots_of_none}
 use Rattle.vs_values.proofs.words.fixed_word.Goals as goal
 
 pub run-requires-clause-inside : goal.run-requires-clause-inside
-run-requires-clause-inside c = omega (arith, c.in_ok-first.ensures.inside c.in-Some.bit c.in-Some.is, c.word_width-width.ensures, c.requires.bits)
+run-requires-clause-inside c = omega (arith, c.in_ok-first.ensures.inside c.in-Some.bit c.in-Some.is, c.word_width-width.ensures, within_is (length c.args.env.now) (signal_at (arena_signals c.args.templates.now.arena) c.args.signal) c.requires.within)
 
 pub run-requires-clause-few : goal.run-requires-clause-few
 run-requires-clause-few c =
     let few = c.flat.ensures.lawful.design.few_bits in
-    let count = (c.trees_law.ensures.counts c.args.typed.now).bits in
-    omega (arith, c.in_ok-first.ensures.inside c.in-Some.bit c.in-Some.is, c.word_width-width.ensures, few, count)
+    let count = (c.trees_law.ensures.counts c.args.templates.now.arena).bits in
+    let within = signal_within c.args.templates.now.arena c.args.signal c.flat.ensures.lawful.design.bits_numbered c.requires.signal in
+    omega (arith, c.in_ok-first.ensures.inside c.in-Some.bit c.in-Some.is, c.word_width-width.ensures, within, few, count)
 
 pub returns-in-Some : goal.returns-in-Some
 returns-in-Some c =
-    let signal = signal_at (arena_signals c.args.typed.now) c.args.signal in
+    let signal = signal_at (arena_signals c.args.templates.now.arena) c.args.signal in
     let env = c.args.env.now in
     let address = constant_bits c.args.address.now in
     IfOk-weaker c.run.result
@@ -33,7 +35,7 @@ returns-in-Some c =
 
 pub returns-in-None : goal.returns-in-None
 returns-in-None c =
-    let signal = signal_at (arena_signals c.args.typed.now) c.args.signal in
+    let signal = signal_at (arena_signals c.args.templates.now.arena) c.args.signal in
     let env = c.args.env.now in
     let address = constant_bits c.args.address.now in
     IfOk-weaker c.repeated.result

@@ -7,7 +7,7 @@ use Rattle.vs_values.proofs.words.memory_addresses.Goals as goal
 
 pub returns : goal.returns
 returns c =
-    let a = c.args.typed.now in
+    let a = c.args.templates.now.arena in
     let s = c.signal.result.now in
     let at : slice_get a.signals c.args.signal ≡ Some s = ap (λ (x : Arena). slice_get x.signals c.args.signal) (sym c.flat.ensures.same) ∙ c.signal.ensures in
     let is : signal_at (arena_signals a) c.args.signal ≡ signal_of c.args.signal s = c.trees_law.ensures.signals a c.args.signal s at in

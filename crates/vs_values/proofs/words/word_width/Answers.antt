@@ -9,7 +9,7 @@ use Rattle.vs_values.proofs.words.word_width.Goals as goal
 
 pub length_of-requires : goal.length_of-requires
 length_of-requires c =
-    let a = c.args.typed.now in
+    let a = c.args.templates.now.arena in
     let s = c.signal.result.now in
     let at : slice_get a.signals c.args.signal ≡ Some s = ap (λ (x : Arena). slice_get x.signals c.args.signal) (sym c.flat.ensures.same) ∙ c.signal.ensures in
     let few = c.flat.ensures.lawful.design.few_bits in
@@ -18,7 +18,7 @@ length_of-requires c =
 
 pub returns : goal.returns
 returns c =
-    let a = c.args.typed.now in
+    let a = c.args.templates.now.arena in
     let s = c.signal.result.now in
     let at : slice_get a.signals c.args.signal ≡ Some s = ap (λ (x : Arena). slice_get x.signals c.args.signal) (sym c.flat.ensures.same) ∙ c.signal.ensures in
     let is : signal_at (arena_signals a) c.args.signal ≡ signal_of c.args.signal s = c.trees_law.ensures.signals a c.args.signal s at in

@@ -1,4 +1,4 @@
-use Rattle.std.proofs.Common.{◌≡◌, ℕ, ◌+◌, length, List, map, drop, sym, ap, ap₂, ◌∙◌, subst, arith}
+use Rattle.std.proofs.Common.{◌≡◌, ℕ, ◌+◌, length, get_or, List, map, drop, sym, ap, ap₂, ◌∙◌, subst, arith}
 use Rattle.std.proofs.lemmas.List.{drop_all}
 use Rattle.vs_net.specs.Network.{flatten, write_all}
 use Rattle.vs_design.specs.Bodies.{arms_body}
@@ -8,7 +8,9 @@ use Rattle.vs_flat.specs.declared.statements.Arm.{Arm}
 use Rattle.vs_flat.specs.Trees.{branch, sequence, target_tree}
 use Rattle.vs_sets.specs.Nodes.{tree_of}
 use Rattle.vs_sets.specs.StatementParts.{HasStatementNames, arms_of, statement_of, statement_of_node, place_of_statement}
-use Rattle.vs_zero.specs.Constants.{IsFixed, updated, IsFixedBranch, EachIsFixed, taken_arm, arms_are_constants}
+use Rattle.vs_design.specs.Footprints.{statement_bits}
+use Rattle.vs_zero.proofs.Below.{left_has, part_writes, right_has, taken_below}
+use Rattle.vs_zero.specs.Constants.{IsFixed, WritesBelow, updated, IsFixedBranch, EachIsFixed, taken_arm, arms_are_constants}
 use Rattle.vs_zero.specs.States.{state_of, unknown}
 use Rattle.vs_sets.proofs.CaseSteps.{arms_grow, arm_within}
 use Rattle.vs_sets.proofs.Fit.{fits-from_fit}
@@ -37,7 +39,8 @@ run-run-requires t c =
     let tree = c.statement_node.ensures.tree ∙ ap made c.in-If.is in
     let names = subst (HasStatementNames (length a.nodes) c.args.s) c.in-If.is c.statement_node.ensures.names in
     let f = fixed_if (tree_of a c.in-If.c) (statement_of a c.in-If.yes) (branch (statement_of a) c.in-If.no) (subst IsFixed tree c.requires.fixed) in
-    (omega (arith, names.1), (c.requires.covers, (omega (arith, names.1, c.requires.there), f.taken_fixed)))
+    let below = subst (WritesBelow (length c.args.state.now)) tree c.requires.within in
+    (omega (arith, names.1), (λ b k. below b (left_has (statement_bits (statement_of a c.in-If.yes)) (statement_bits (branch (statement_of a) c.in-If.no)) b k), (omega (arith, names.1, c.requires.there), f.taken_fixed)))
 
 pub run-run_branch-requires : goal.run-run_branch-requires
 run-run_branch-requires t c =
@@ -46,7 +49,8 @@ run-run_branch-requires t c =
     let tree = c.statement_node.ensures.tree ∙ ap made c.in-If.is in
     let names = subst (HasStatementNames (length a.nodes) c.args.s) c.in-If.is c.statement_node.ensures.names in
     let f = fixed_if (tree_of a c.in-If.c) (statement_of a c.in-If.yes) (branch (statement_of a) c.in-If.no) (subst IsFixed tree c.requires.fixed) in
-    (omega arith, (c.requires.covers, (omega (arith, c.requires.there), record { earlier = names.2; fixed = f.other_fixed })))
+    let below = subst (WritesBelow (length c.args.state.now)) tree c.requires.within in
+    (omega arith, (λ b k. below b (right_has (statement_bits (statement_of a c.in-If.yes)) (statement_bits (branch (statement_of a) c.in-If.no)) b k), (omega (arith, c.requires.there), record { earlier = names.2; fixed = f.other_fixed })))
 
 pub run-value-subject-requires-clause-valued : goal.run-value-subject-requires-clause-valued
 run-value-subject-requires-clause-valued t c =
@@ -82,10 +86,11 @@ run-run_branch-requires-in-Case t c =
     let tree = c.statement_node.ensures.tree ∙ ap made c.in-Case.is in
     let names = subst (HasStatementNames (length a.nodes) c.args.s) c.in-Case.is c.statement_node.ensures.names in
     let f = fixed_case c.in-Case.kind (tree_of a c.in-Case.of) (arms_of a c.in-Case.other c.in-Case.arms) (subst IsFixed tree c.requires.fixed) in
-    let taken = taken_fixed a (length a.nodes) c.args.s c.in-Case.kind c.case_context-context.result.width c.case_context-context.result.signed c.value-subject.result c.in-Case.other c.in-Case.arms ((f.signals, f.no_calls), f.selects, f.fits, f.unmixed) names.1 names.2 in (
+    let taken = taken_fixed a (length a.nodes) c.args.s c.in-Case.kind c.case_context-context.result.width c.case_context-context.result.signed c.value-subject.result c.in-Case.other c.in-Case.arms ((f.signals, f.no_calls), f.selects, f.fits, f.unmixed) names.1 names.2 in
+    let taken_is = c.taken_branch-taken.ensures ∙ ap (λ (arms : List Arm). taken_arm (tree_of a) c.in-Case.kind c.case_context-context.result.width c.case_context-context.result.signed c.value-subject.result c.in-Case.other arms) c.as_slice-in-Case.ensures in (
       omega arith,
       (
-        c.requires.covers,
+        subst (λ b. WritesBelow (length c.args.state.now) (branch (statement_of a) b)) (sym taken_is) (taken_below a (length c.args.state.now) c.in-Case.kind c.case_context-context.result.width c.case_context-context.result.signed c.value-subject.result c.in-Case.other c.in-Case.arms (subst (WritesBelow (length c.args.state.now)) tree c.requires.within)),
         (
           omega (arith, c.requires.there),
           subst (IsFixedBranch a c.args.s) (sym (c.taken_branch-taken.ensures ∙ ap (λ (arms : List Arm). taken_arm (tree_of a) c.in-Case.kind c.case_context-context.result.width c.case_context-context.result.signed c.value-subject.result c.in-Case.other arms) c.as_slice-in-Case.ensures)) taken,
@@ -99,7 +104,7 @@ run-run_all-requires t c =
     let made = statement_of_node a (place_of_statement a c.args.s) in
     let tree = c.statement_node.ensures.tree ∙ ap made c.in-Seq.is in
     let names = subst (HasStatementNames (length a.nodes) c.args.s) c.in-Seq.is c.statement_node.ensures.names in
-    (omega arith, (c.requires.covers, (omega (arith, c.requires.there), subst (λ (ps : List ℕ). EachIsFixed a c.args.s ps) (sym c.as_slice-in-Seq.ensures) (parts_fixed a c.args.s c.in-Seq.parts names (subst IsFixed tree c.requires.fixed)))))
+    (omega arith, (subst (λ (ps : List ℕ). WritesBelow (length c.args.state.now) (sequence (map (statement_of a) ps))) (sym c.as_slice-in-Seq.ensures) (subst (WritesBelow (length c.args.state.now)) tree c.requires.within), (omega (arith, c.requires.there), subst (λ (ps : List ℕ). EachIsFixed a c.args.s ps) (sym c.as_slice-in-Seq.ensures) (parts_fixed a c.args.s c.in-Seq.parts names (subst IsFixed tree c.requires.fixed)))))
 
 pub run-returns-in-Empty : goal.run-returns-in-Empty
 run-returns-in-Empty t c =
@@ -156,3 +161,12 @@ run_all-returns t c =
 
 pub run_branch-returns-in-None : goal.run_branch-returns-in-None
 run_branch-returns-in-None t c = sym (ap (λ b. updated (branch (statement_of c.args.shapes.now) b) (state_of c.args.state.now)) c.in-None.is ∙ updated_nothing (state_of c.args.state.now))
+
+pub run_all-run-requires : goal.run_all-run-requires
+run_all-run-requires t c =
+    let st = statement_of c.args.shapes.now in
+    let k = c.loop-part.part-index in
+    let each = c.requires.each k c.loop-part-test.true in
+    let below = part_writes st (length c.args.state.now) c.args.parts.now k c.requires.within c.loop-part-test.true in
+    let before = each.earlier in
+    (omega (arith, before), (subst (λ n. WritesBelow n (st (get_or c.args.parts.now k 0))) (sym c.loop-part.auto.state) below, (omega (arith, before, c.requires.there), each.fixed)))

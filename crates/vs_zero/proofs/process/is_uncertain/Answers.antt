@@ -74,7 +74,7 @@ is_quiet-requires-clause-block c =
     let a = c.args.typed.now in
     let clocked = edges_same (signal_at (arena_signals a)) c.in-Block.events ∙ sym (ap (list_any is_edge_event) c.as_slice.ensures) ∙ sym c.has_edge.ensures ∙ c.if-has_edge.false in
     subst (λ (b : Arena). IsBlockOf b c.in-Block.statement c.writes.result.now) (sym c.shapes-shapes.ensures)
-    (block_is c.trees_law.ensures.processes c.names_law.ensures.processes c.fits_law.ensures.fits c.footprint_law.ensures.bits a c.flat.ensures.lawful c.flat.ensures.fits c.requires.blocks c.args.p c.process.result.now c.in-Block.star c.in-Block.events c.in-Block.statement is c.in-Block.is
+    (block_is c.within_law.ensures.statements c.trees_law.ensures.processes c.names_law.ensures.processes c.fits_law.ensures.fits c.footprint_law.ensures.bits a c.flat.ensures.lawful c.flat.ensures.fits c.requires.blocks c.args.p c.process.result.now c.in-Block.star c.in-Block.events c.in-Block.statement is c.in-Block.is
     clocked c.writes.result.now (c.writes.ensures ∙ ap (λ fs. writes_at fs c.args.p) c.requires.footprints))
 
 pub returns-in_ok-is_quiet-in-Block-clause-uncertain : goal.returns-in_ok-is_quiet-in-Block-clause-uncertain

@@ -1,6 +1,6 @@
 use Rattle.std.proofs.Common.{◌≡◌, ◌<◌, Result, Ok, Err, Some, true, length, sym, ap, ◌∙◌, subst}
 use Rattle.std.specs.Prelude.{slice_get, OnOk}
-use Rattle.vs_design.specs.Designs.{bit_count}
+use Rattle.vs_design.specs.Within.{names_within, target_within}
 use Rattle.vs_design.specs.Fits.{fits_target}
 use Rattle.vs_design.specs.Footprints.{contains, statement_bits}
 use Rattle.vs_design.specs.LiftedBodies.{assign_sets}
@@ -16,7 +16,7 @@ use Rattle.vs_sets.specs.Nodes.{tree_of}
 use Rattle.vs_sets.specs.StatementParts.{statement_of}
 use Rattle.vs_sets.specs.Tables.{family_of}
 use Rattle.vs_zero.specs.Blocks.{IsBlockOf}
-use Rattle.vs_zero.proofs.ByKind.{assign_target, process_fits}
+use Rattle.vs_zero.proofs.ByKind.{assign_target, names_within_design, process_fits, target_within_design}
 use Rattle.vs_reads.proofs.ByKind.{target_there, expr_there}
 use Rattle.vs_sets.proofs.Fit.{and_left, and_right}
 use Rattle.vs_zero.proofs.Settling.{assigned_early, assigned_late, block_is, unclocked, ran_early, ran_late}
@@ -30,8 +30,33 @@ always : {V W : Type 0} {P : Type 0} (r : Result V W) → P → OnOk r P
 always (Ok v) h = h
 always (Err e) h = tt
 
-pub assign-requires-clause-covers : goal.assign-requires-clause-covers
-assign-requires-clause-covers c = c.requires.early ∙ ap (λ b. bit_count (design_of b)) (sym c.shapes-shapes.ensures)
+pub assign-requires-clause-target_within : goal.assign-requires-clause-target_within
+assign-requires-clause-target_within c =
+    let is = subst (λ (b : Arena). slice_get b.processes c.args.p ≡ Some c.process.result.now) c.flat.ensures.same c.process.ensures in
+    let a = c.args.typed.now in
+    let own = target_within_design c.within_law.ensures.targets c.trees_law.ensures.processes a c.flat.ensures.lawful c.args.p c.process.result.now c.in-Assign.target c.in-Assign.expr c.in-Assign.port is c.in-Assign.is in
+    subst (λ (b : Arena). target_within (length c.args.early.now) (target_tree (tree_of b c.in-Assign.target)) ≡ true) (sym c.shapes-shapes.ensures) (subst (λ n. target_within n (target_tree (tree_of a c.in-Assign.target)) ≡ true) (sym c.requires.early) own)
+
+pub assign-requires-clause-within : goal.assign-requires-clause-within
+assign-requires-clause-within c =
+    let is = subst (λ (b : Arena). slice_get b.processes c.args.p ≡ Some c.process.result.now) c.flat.ensures.same c.process.ensures in
+    let a = c.args.typed.now in
+    let own = names_within_design c.within_law.ensures.expressions c.trees_law.ensures.processes a c.flat.ensures.lawful c.args.p c.process.result.now c.in-Assign.target c.in-Assign.expr c.in-Assign.port is c.in-Assign.is in
+    subst (λ (b : Arena). names_within (length c.args.early.now) (tree_of b c.in-Assign.expr) ≡ true) (sym c.shapes-shapes.ensures) (subst (λ n. names_within n (tree_of a c.in-Assign.expr) ≡ true) (sym c.requires.early) own)
+
+pub assign-requires-in-Assign-clause-target_within : goal.assign-requires-in-Assign-clause-target_within
+assign-requires-in-Assign-clause-target_within c =
+    let is = subst (λ (b : Arena). slice_get b.processes c.args.p ≡ Some c.process.result.now) c.flat.ensures.same c.process.ensures in
+    let a = c.args.typed.now in
+    let own = target_within_design c.within_law.ensures.targets c.trees_law.ensures.processes a c.flat.ensures.lawful c.args.p c.process.result.now c.in-Assign.target c.in-Assign.expr c.in-Assign.port is c.in-Assign.is in
+    subst (λ (b : Arena). target_within (length c.args.late.now) (target_tree (tree_of b c.in-Assign.target)) ≡ true) (sym c.shapes-shapes.ensures) (subst (λ n. target_within n (target_tree (tree_of a c.in-Assign.target)) ≡ true) (sym c.requires.late) own)
+
+pub assign-requires-in-Assign-clause-within : goal.assign-requires-in-Assign-clause-within
+assign-requires-in-Assign-clause-within c =
+    let is = subst (λ (b : Arena). slice_get b.processes c.args.p ≡ Some c.process.result.now) c.flat.ensures.same c.process.ensures in
+    let a = c.args.typed.now in
+    let own = names_within_design c.within_law.ensures.expressions c.trees_law.ensures.processes a c.flat.ensures.lawful c.args.p c.process.result.now c.in-Assign.target c.in-Assign.expr c.in-Assign.port is c.in-Assign.is in
+    subst (λ (b : Arena). names_within (length c.args.late.now) (tree_of b c.in-Assign.expr) ≡ true) (sym c.shapes-shapes.ensures) (subst (λ n. names_within n (tree_of a c.in-Assign.expr) ≡ true) (sym c.requires.late) own)
 
 pub assign-requires-clause-target_there : goal.assign-requires-clause-target_there
 assign-requires-clause-target_there c =
@@ -83,29 +108,31 @@ pub turn_early-requires-clause-block : goal.turn_early-requires-clause-block
 turn_early-requires-clause-block c =
     let is = subst (λ (b : Arena). slice_get b.processes c.args.p ≡ Some c.process.result.now) c.flat.ensures.same c.process.ensures in
     (subst (λ (b : Arena). IsBlockOf b c.in-Block.statement c.writes-bits.result.now) (sym c.shapes-shapes.ensures)
-    (block_is c.trees_law.ensures.processes c.names_law.ensures.processes c.fits_law.ensures.fits c.footprint_law.ensures.bits c.args.typed.now c.flat.ensures.lawful c.flat.ensures.fits c.requires.blocks c.args.p c.process.result.now c.in-Block.star c.in-Block.events c.in-Block.statement is c.in-Block.is
+    (block_is c.within_law.ensures.statements c.trees_law.ensures.processes c.names_law.ensures.processes c.fits_law.ensures.fits c.footprint_law.ensures.bits c.args.typed.now c.flat.ensures.lawful c.flat.ensures.fits c.requires.blocks c.args.p c.process.result.now c.in-Block.star c.in-Block.events c.in-Block.statement is c.in-Block.is
     (unclocked c.trees_law.ensures.processes c.args.typed.now c.args.p c.process.result.now c.in-Block.star c.in-Block.events c.in-Block.statement is c.in-Block.is c.requires.settles) c.writes-bits.result.now (c.writes-bits.ensures ∙ ap (λ fs. writes_at fs c.args.p) c.requires.footprints)))
 
 pub turn_late-requires-clause-block : goal.turn_late-requires-clause-block
 turn_late-requires-clause-block c =
     let is = subst (λ (b : Arena). slice_get b.processes c.args.p ≡ Some c.process.result.now) c.flat.ensures.same c.process.ensures in
     (subst (λ (b : Arena). IsBlockOf b c.in-Block.statement c.writes-bits.result.now) (sym c.shapes-shapes.ensures)
-    (block_is c.trees_law.ensures.processes c.names_law.ensures.processes c.fits_law.ensures.fits c.footprint_law.ensures.bits c.args.typed.now c.flat.ensures.lawful c.flat.ensures.fits c.requires.blocks c.args.p c.process.result.now c.in-Block.star c.in-Block.events c.in-Block.statement is c.in-Block.is
+    (block_is c.within_law.ensures.statements c.trees_law.ensures.processes c.names_law.ensures.processes c.fits_law.ensures.fits c.footprint_law.ensures.bits c.args.typed.now c.flat.ensures.lawful c.flat.ensures.fits c.requires.blocks c.args.p c.process.result.now c.in-Block.star c.in-Block.events c.in-Block.statement is c.in-Block.is
     (unclocked c.trees_law.ensures.processes c.args.typed.now c.args.p c.process.result.now c.in-Block.star c.in-Block.events c.in-Block.statement is c.in-Block.is c.requires.settles) c.writes-bits.result.now (c.writes-bits.ensures ∙ ap (λ fs. writes_at fs c.args.p) c.requires.footprints)))
 
-pub returns-in-Assign-clause-early : goal.returns-in-Assign-clause-early
-returns-in-Assign-clause-early c = λ x e.
+pub returns-in_ok-assign-in-Assign-clause-early : goal.returns-in_ok-assign-in-Assign-clause-early
+returns-in_ok-assign-in-Assign-clause-early c = λ x e.
     let is = subst (λ (b : Arena). slice_get b.processes c.args.p ≡ Some c.process.result.now) c.flat.ensures.same c.process.ensures in
     let f = family_of c.args.early.now in
-    assigned_early c.trees_law.ensures.processes c.args.typed.now c.args.p c.process.result.now c.in-Assign.target c.in-Assign.expr c.in-Assign.port is c.in-Assign.is (is_sleeping (design_of c.args.typed.now) x) f (family_of c.assign.new.table) x e
-    (c.assign.ensures ∙ ap (λ (b : Arena). assign_sets (target_tree (tree_of b c.in-Assign.target)) (tree_of b c.in-Assign.expr) f) c.shapes-shapes.ensures)
+    always c.assign-in-Assign.result
+    (assigned_early c.trees_law.ensures.processes c.args.typed.now c.args.p c.process.result.now c.in-Assign.target c.in-Assign.expr c.in-Assign.port is c.in-Assign.is (is_sleeping (design_of c.args.typed.now) x) f (family_of c.assign.new.table) x e
+    (c.in_ok-assign-in-Assign.ensures ∙ ap (λ (b : Arena). assign_sets (target_tree (tree_of b c.in-Assign.target)) (tree_of b c.in-Assign.expr) f) c.shapes-shapes.ensures))
 
-pub returns-in-Assign-clause-late : goal.returns-in-Assign-clause-late
-returns-in-Assign-clause-late c = λ x e.
+pub returns-in_ok-assign-in-Assign-clause-late : goal.returns-in_ok-assign-in-Assign-clause-late
+returns-in_ok-assign-in-Assign-clause-late c = λ x e.
     let is = subst (λ (b : Arena). slice_get b.processes c.args.p ≡ Some c.process.result.now) c.flat.ensures.same c.process.ensures in
     let f = family_of c.args.late.now in
+    on_ok c.assign-in-Assign.result c.assign-in-Assign.ensures (λ h.
     assigned_late c.trees_law.ensures.processes c.args.typed.now c.args.p c.process.result.now c.in-Assign.target c.in-Assign.expr c.in-Assign.port is c.in-Assign.is (is_sleeping (design_of c.args.typed.now) x) f (family_of c.assign-in-Assign.new.table) x e
-    (c.assign-in-Assign.ensures ∙ ap (λ (b : Arena). assign_sets (target_tree (tree_of b c.in-Assign.target)) (tree_of b c.in-Assign.expr) f) c.shapes-shapes.ensures)
+    (h ∙ ap (λ (b : Arena). assign_sets (target_tree (tree_of b c.in-Assign.target)) (tree_of b c.in-Assign.expr) f) c.shapes-shapes.ensures))
 
 pub returns-in_ok-turn_early-in-Block-clause-early : goal.returns-in_ok-turn_early-in-Block-clause-early
 returns-in_ok-turn_early-in-Block-clause-early c = λ x e.

@@ -1,4 +1,5 @@
-use Rattle.std.proofs.Common.{List, length, sym, ap, ap₂, ◌∙◌, arith}
+use Rattle.std.specs.Prelude.{All}
+use Rattle.std.proofs.Common.{List, length, sym, ap, ap₂, ◌∙◌, arith, ◌<◌, subst}
 use Rattle.vs_net.specs.Network.{State, Write, flatten}
 use Rattle.vs_design.specs.Lifted.{Family}
 use Rattle.vs_design.specs.Resets.{branch_updates}
@@ -10,6 +11,7 @@ use Rattle.vs_zero.specs.States.{state_of}
 use Rattle.vs_zero.specs.Values.{joined, replaced_by, with_updates}
 use Rattle.vs_zero.proofs.Fixing.{updates_alone}
 use Rattle.vs_zero.proofs.Valued.{covered, values_are, unknown_again, zero_again}
+use Rattle.vs_zero.proofs.Below.{covered_below}
 use Rattle.vs_zero.proofs.values.add_values.Goals as goal
 
 pub returns-clause-table : goal.returns-clause-table
@@ -38,3 +40,9 @@ returns-clause-zero c =
     let bits = c.args.bits.now in
     zero_again bits ws c.args.from_zero.now c.reset_bits-2.new.state (covered c.write_law.ensures.body st bits c.requires.fixed.fits c.requires.bits) c.requires.zero
     (omega (arith, c.reset_bits-2.auto.state, c.run-2.auto.state)) (c.reset_bits-2.ensures ∙ ap (λ (s : State). replaced_by bits (λ b. Zero) s) c.run-2.ensures)
+
+pub run-requires-clause-within : goal.run-requires-clause-within
+run-requires-clause-within c = covered_below (length c.args.from_x.now) c.args.bits.now (statement_of c.args.shapes.now c.args.branch) (subst (λ n. All (λ b. b < n) c.args.bits.now) (sym c.requires.x_count) c.requires.within) c.requires.bits
+
+pub run-requires-2-clause-within : goal.run-requires-2-clause-within
+run-requires-2-clause-within c = covered_below (length c.args.from_zero.now) c.args.bits.now (statement_of c.args.shapes.now c.args.branch) (subst (λ n. All (λ b. b < n) c.args.bits.now) (sym c.requires.zero_count) c.requires.within) c.requires.bits

@@ -1,4 +1,5 @@
-use Rattle.std.proofs.Common.{◌++◌, ℕ, List, length, sym, ap, ap₂, ◌∙◌, arith}
+use Rattle.std.specs.Prelude.{All}
+use Rattle.std.proofs.Common.{◌++◌, ℕ, List, length, sym, ap, ap₂, ◌∙◌, arith, ◌<◌, subst}
 use Rattle.std.specs.List.{filter}
 use Rattle.vs_net.specs.Network.{State, Write, flatten, is_written}
 use Rattle.vs_design.specs.Resets.{branch_updates}
@@ -9,6 +10,7 @@ use Rattle.vs_zero.specs.Values.{are_same, replaced_by}
 use Rattle.vs_zero.proofs.Fixing.{updates_alone}
 use Rattle.vs_zero.proofs.Valued.{covered, unknown_again, zero_again}
 use Rattle.vs_zero.proofs.Updating.{same_are_written}
+use Rattle.vs_zero.proofs.Below.{covered_below}
 use Rattle.vs_zero.proofs.written.add_written.Goals as goal
 
 pub returns-clause-written : goal.returns-clause-written
@@ -36,3 +38,9 @@ returns-clause-zero c =
     let bits = c.args.bits.now in
     zero_again bits ws c.args.from_zero.now c.reset_bits-2.new.state (covered c.write_law.ensures.body st bits c.requires.fixed.fits c.requires.bits) c.requires.zero
     (omega (arith, c.reset_bits-2.auto.state, c.run-2.auto.state)) (c.reset_bits-2.ensures ∙ ap (λ (s : State). replaced_by bits (λ b. Zero) s) c.run-2.ensures)
+
+pub run-requires-clause-within : goal.run-requires-clause-within
+run-requires-clause-within c = covered_below (length c.args.from_x.now) c.args.bits.now (statement_of c.args.shapes.now c.args.branch) (c.requires.within) c.requires.bits
+
+pub run-requires-2-clause-within : goal.run-requires-2-clause-within
+run-requires-2-clause-within c = covered_below (length c.args.from_zero.now) c.args.bits.now (statement_of c.args.shapes.now c.args.branch) (subst (λ n. All (λ b. b < n) c.args.bits.now) (sym c.requires.count) c.requires.within) c.requires.bits

@@ -8,8 +8,11 @@ use Rattle.vs_accept.specs.Refused.{byte_of}
 use Rattle.vs_accept.proofs.Told.{verdict}
 use Rattle.vs_accept.proofs.places.Places.block_error.Goals as goal
 
+pub returns-in-FunctionLatch : goal.returns-in-FunctionLatch
+returns-in-FunctionLatch c = λ d clock k h. verdict (byte_of c.args.self.now.text.now c.args.self.now.tokens.now) d clock (OfBlock (rule.FunctionLatch c.in-FunctionLatch.at)) _ (k, subst (IsBlockError d) c.in-FunctionLatch.is h) c.refused_at.ensures
+
 pub returns-in-MixedAssign : goal.returns-in-MixedAssign
-returns-in-MixedAssign c = λ d clock k h. verdict (byte_of c.args.self.now.text.now c.args.self.now.tokens.now) d clock (OfBlock (rule.MixedAssign c.in-MixedAssign.at)) _ (k, subst (IsBlockError d) c.in-MixedAssign.is h) c.refused_at.ensures
+returns-in-MixedAssign c = λ d clock k h. verdict (byte_of c.args.self.now.text.now c.args.self.now.tokens.now) d clock (OfBlock (rule.MixedAssign c.in-MixedAssign.at)) _ (k, subst (IsBlockError d) c.in-MixedAssign.is h) c.refused_at-in-MixedAssign.ensures
 
 pub returns-in-Sensitivity : goal.returns-in-Sensitivity
 returns-in-Sensitivity c = λ d clock k h. let s = c.in-Sensitivity in verdict (byte_of c.args.self.now.text.now c.args.self.now.tokens.now) d clock (OfBlock (rule.Sensitivity s.process s.signal s.at)) _ (k, subst (IsBlockError d) s.is h) (ap (λ (n : ℕ). Refused (refusal.Sensitivity s.process s.signal n)) c.byte.ensures)

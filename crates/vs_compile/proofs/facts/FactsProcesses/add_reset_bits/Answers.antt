@@ -13,6 +13,6 @@ pub returns : goal.returns
 returns c = (
   c.of.result.now,
   c.in_ok-extend_from_slice.ensures.items,
-  set_known c.self.inside.typed.now c.self.inside.footprints.now c.self.inside.clocks.now c.self.inside.reset_bits c.args.self.now c.self.view_is c.self.invariant c.args.process c.requires.process
+  set_known c.self.inside.templates c.self.inside.footprints.now c.self.inside.clocks.now c.self.inside.reset_bits c.args.self.now c.self.view_is c.self.invariant c.args.process c.requires.process
       c.args._clock c.requires.clock c.of.result.now c.of.ensures,
 )

@@ -8,4 +8,5 @@ use Rattle.vs_compile.proofs.facts.FactsProcesses.is_clocked.Goals as goal
 pub returns : goal.returns
 returns c =
     subst (λ (a : Arena). c.is_clocked.result ≡ is_clocked_or (slice_get (design_of a).processes c.args.process))
-    (ap (λ (k : Known). k.arena) c.self.view_is) c.is_clocked.ensures
+    (ap (λ (k : Known). k.arena) c.self.view_is)
+    (subst (λ (a : Arena). c.is_clocked.result ≡ is_clocked_or (slice_get (design_of a).processes c.args.process)) c.typed.ensures c.is_clocked.ensures)

@@ -19,14 +19,14 @@ on_ok (Err e) h k = h
 pub lower_branch-requires-clause-count : goal.lower_branch-requires-clause-count
 lower_branch-requires-clause-count c =
     let k = c.self.inside.facts in
-    c.self.invariant.count_is ∙ (c.trees_law.ensures.counts k.arena).bits ∙ ap (λ (z : Arena). A.bit_count z.signals) (sym c.typed-typed.ensures.same)
+    c.self.invariant.count_is ∙ (c.trees_law.ensures.counts k.arena).bits ∙ ap (λ (z : Arena). A.bit_count z.signals) (sym c.templates-templates.ensures.same)
 
 pub lower_branch-requires-clause-there : goal.lower_branch-requires-clause-there
 lower_branch-requires-clause-there c =
     let k = c.self.inside.facts in
     let low = subst (λ (z : Known). c.args.process < length (design_of z.arena).processes) (sym (ap (λ (l : Laid). l.known) c.self.view_is)) c.requires.process in
     let x = there (design_of k.arena).processes c.args.process low in
-    subst (λ (z : Arena). c.in-Some.reset.branch < length z.statements) (sym c.typed-typed.ensures.same) (c.in-Some.ensures x.0 x.1).there
+    subst (λ (z : Arena). c.in-Some.reset.branch < length z.statements) (sym c.templates-templates.ensures.same) (c.in-Some.ensures x.0 x.1).there
 
 pub lower_branch-requires-clause-ready : goal.lower_branch-requires-clause-ready
 lower_branch-requires-clause-ready c =
@@ -34,19 +34,19 @@ lower_branch-requires-clause-ready c =
     let known = sym (ap (λ (l : Laid). l.known) c.self.view_is) in
     let low = subst (λ (z : Known). c.args.process < length (design_of z.arena).processes) known c.requires.process in
     let left = subst (λ (z : Known). length_of c.args.program.now + may_store (design_of z.arena) c.args.process ≤ 2 ^ 32) known c.requires.few in
-    let counted = c.self.invariant.count_is ∙ (c.trees_law.ensures.counts k.arena).bits ∙ ap (λ (z : Arena). A.bit_count z.signals) (sym c.typed-typed.ensures.same) in
+    let counted = c.self.invariant.count_is ∙ (c.trees_law.ensures.counts k.arena).bits ∙ ap (λ (z : Arena). A.bit_count z.signals) (sym c.templates-templates.ensures.same) in
     let x = there (design_of k.arena).processes c.args.process low in
-    ready_by c.reads_law.ensures.body c.list_law.ensures.ascending c.list_law.ensures.few c.sources_law.ensures c.program_law.ensures.registers k c.typed-typed.ensures.accepted
-    c.self.inside.count c.self.inside.shadows.items c.self.inside.first_temp c.self.invariant c.args.process x.0 x.1 c.in-Some.reset (c.in-Some.ensures x.0 x.1) c.args.program.now left c.typed-typed.result.now c.typed-typed.ensures.same counted
+    ready_by c.within_law.ensures.statements c.reads_law.ensures.body c.list_law.ensures.ascending c.list_law.ensures.few c.sources_law.ensures c.program_law.ensures.registers k c.templates-templates.ensures.accepted
+    c.self.inside.count c.self.inside.shadows.items c.self.inside.first_temp c.self.invariant c.args.process x.0 x.1 c.in-Some.reset (c.in-Some.ensures x.0 x.1) c.args.program.now left c.templates-templates.result.now.arena c.templates-templates.ensures.same counted
 
 pub returns-in-Some : goal.returns-in-Some
 returns-in-Some c =
     let k = c.self.inside.facts in
-    let counted = c.self.invariant.count_is ∙ (c.trees_law.ensures.counts k.arena).bits ∙ ap (λ (z : Arena). A.bit_count z.signals) (sym c.typed-typed.ensures.same) in
+    let counted = c.self.invariant.count_is ∙ (c.trees_law.ensures.counts k.arena).bits ∙ ap (λ (z : Arena). A.bit_count z.signals) (sym c.templates-templates.ensures.same) in
     on_ok c.lower_branch.result c.lower_branch.ensures
     (λ done.
-    added_by c.reads_law.ensures.body c.list_law.ensures.ascending c.list_law.ensures.few c.sources_law.ensures k c.typed-typed.ensures.accepted c.self.inside.count c.self.inside.shadows.items c.self.inside.first_temp
-    c.args.self.now c.self.view_is c.args.process c.requires.process c.args._clock c.requires.clock c.in-Some.reset c.in-Some.ensures c.args.program.now c.lower_branch.new.program c.typed-typed.result.now c.typed-typed.ensures.same counted done)
+    added_by c.within_law.ensures.statements c.reads_law.ensures.body c.list_law.ensures.ascending c.list_law.ensures.few c.sources_law.ensures k c.templates-templates.ensures.accepted c.self.inside.count c.self.inside.shadows.items c.self.inside.first_temp
+    c.args.self.now c.self.view_is c.args.process c.requires.process c.args._clock c.requires.clock c.in-Some.reset c.in-Some.ensures c.args.program.now c.lower_branch.new.program c.templates-templates.result.now.arena c.templates-templates.ensures.same counted done)
 
 pub returns-in-None : goal.returns-in-None
 returns-in-None c = (

@@ -1,15 +1,15 @@
 use Rattle.std.proofs.Common.{◌≤◌, ◌<◌, length, sym, subst}
-use Rattle.vs_design.specs.Expressions as E
+use Rattle.vs_design.specs.Fits.{source_length}
 use Rattle.vs_flat.specs.Arena.{Arena}
-use Rattle.vs_sets.specs.Nodes.{signal_of}
-use Rattle.vs_sets.proofs.Names.{named_few}
+use Rattle.vs_flat.specs.Targets.{source_of}
+use Rattle.vs_sets.specs.Nodes.{tree_of}
+use Rattle.vs_sets.proofs.Names.{source_few}
 use Rattle.vs_sets.proofs.lifter.Lifter.source_sets.Goals as goal
 
-pub signal_sets-requires-clause-few : goal.signal_sets-requires-clause-few
-signal_sets-requires-clause-few c =
+pub named_sets-requires-clause-few : goal.named_sets-requires-clause-few
+named_sets-requires-clause-few c =
     let a = c.flat.result.now in
     let e = c.args.of in
-    let s = c.in-Name.signal in
-    let there = subst (λ (x : Arena). e < length x.nodes) (sym c.flat.ensures.same) c.requires in
-    let few = named_few c.lawful_law.ensures.expressions c.trees_law.ensures.counts a e c.node_of.result.now s c.flat.ensures.lawful there c.node_of.ensures.names c.node_of.ensures.tree c.in-Name.is in
-    subst (λ (x : Arena). E.signal_length (signal_of x s) ≤ 64) c.flat.ensures.same few.1
+    let there = subst (λ (x : Arena). e < length x.nodes) (sym c.flat.ensures.same) c.requires.there in
+    let few = source_few c.lawful_law.ensures.expressions c.trees_law.ensures.functions a e c.node_of.result.now c.flat.ensures.lawful there c.node_of.ensures.tree c.in-Name.is in
+    subst (λ (x : Arena). source_length (source_of (tree_of x e)) ≤ 64) c.flat.ensures.same few

@@ -5,10 +5,10 @@ use Rattle.vs_flat.specs.Targets.{source_of}
 use Rattle.vs_flat.specs.declared.expressions.Node.TheVariants as N
 use Rattle.vs_shape.specs.Nodes.{tree_of}
 use Rattle.vs_shape.specs.Gathered.{gathered}
+use Rattle.vs_shape.proofs.Gathering.{with_argument, argument_fits, with_part, two_added, gathered_node, gathered_select, binary_gathered, choice_gathered, part_fits}
 use Rattle.vs_flat.specs.Trees.{signal_at}
 use Rattle.vs_flat.specs.DesignOf.{arena_signals}
 use Rattle.vs_shape.proofs.Addressed.{word_gathered}
-use Rattle.vs_shape.proofs.Gathering.{with_part, two_added, gathered_node, gathered_select, binary_gathered, choice_gathered, part_fits}
 use Rattle.vs_shape.proofs.shapes.Shapes.+push_reads.Goals as goal
 
 pub push_reads-requires-in-loop-part : goal.push_reads-requires-in-loop-part
@@ -68,3 +68,18 @@ returns-in_ok-push_reads-in-Choice-2 t c =
     (gathered w (tree_of a c.in-Choice.p) ++ gathered w (tree_of a c.in-Choice.q)) c.in_ok-push_reads-in-Choice-2.ensures c.push_reads-in-Choice-3.ensures refl)
     (gathered_node a c.flat-flat.result.now c.args.e c.node_of.result.now w c.flat-flat.ensures.same c.node_of.ensures.tree (N.Choice c.in-Choice.c c.in-Choice.p c.in-Choice.q) c.in-Choice.is
     ∙ choice_gathered w (tree_of a c.in-Choice.c) (tree_of a c.in-Choice.p) (tree_of a c.in-Choice.q))
+
+pub push_reads-requires-in-loop-argument : goal.push_reads-requires-in-loop-argument
+push_reads-requires-in-loop-argument t c = (
+  first_of (search rules, grind (arith, common_steps)),
+  (
+    first_of (search rules, grind (arith, common_steps)),
+    argument_fits c.args.self.now c.flat-flat.result.now c.args.e c.loop-argument.argument-index _ c.node_of.result.now c.in-Call.arguments c.as_slice-argument-items.result.now c.flat-flat.ensures.same c.node_of.ensures.tree c.in-Call.is
+        c.as_slice-argument-items.ensures c.requires.fits c.loop-argument-test.true,
+  ),
+)
+
+pub loop-argument-preserved : goal.loop-argument-preserved
+loop-argument-preserved t c =
+    with_argument c.args.whole (tree_of c.args.self.now) c.as_slice-argument-items.result.now c.loop-argument.argument-index c.loop-argument.out.items c.push_reads-in-loop-argument.new.out.items _ c.loop-argument-test.true c.loop-argument.invariant
+    c.in_ok-push_reads-in-Call.ensures

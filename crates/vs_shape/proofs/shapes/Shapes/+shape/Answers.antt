@@ -1,3 +1,4 @@
+use Rattle.vs_shape.proofs.Results.{shape_of_call}
 use Rattle.std.proofs.Common.{sym, ap, ◌∙◌}
 use Rattle.vs_design.specs.Expressions as E
 use Rattle.vs_flat.specs.Arena.{Arena}
@@ -12,6 +13,9 @@ returns-after-loop-part t c =
     shape_of_join c.args.self.now c.self.inside.flat c.args.e c.copy_count.result c.loop-part.part-index c.node_of.result.now c.in-Join.parts c.as_slice.result.now c.as_slice-in-Join.result.now c.first_copy-part-items.result.now
     c.loop-part.all c.repeat_shape.result c.self.view_is c.node_of.ensures.tree c.in-Join.is c.first_copy-part-items.ensures.copy c.as_slice.ensures c.loop-part.invariant c.loop-part-test.false c.copy_count.ensures c.as_slice-in-Join.ensures
     c.repeat_shape.ensures
+
+pub returns-in-Call : goal.returns-in-Call
+returns-in-Call t c = shape_of_call c.args.self.now c.self.inside.flat c.args.e c.in-Call.function _ c.node_of.result.now c.result_shape.result c.self.view_is c.node_of.ensures.tree c.in-Call.is c.result_shape.ensures
 
 pub returns-in-Word : goal.returns-in-Word
 returns-in-Word t c =
