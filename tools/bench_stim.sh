@@ -1,6 +1,6 @@
 #!/usr/bin/env bash
-# Prints how fast stimuli are read: texts of 100,000 lines of random digits, in memory, for 1 input of 64 bits, 2 of 32, 4 of 8 and 12 of 1 bit, in
-# millions of bytes a second of the processor's time. `mixed` is a number that each digit changes. It is no part of the gate. It proves and builds
+# Prints how fast stimuli are read: texts of 100,000 lines of random digits, in memory, for 1 input of 64 bits, 2 of 32, 4 of 8 and 12 of 1 bit, and
+# then for as many outputs of that length besides, of which digits are wanted, in millions of bytes a second of the processor's time. `mixed` is a number that each digit changes. It is no part of the gate. It proves and builds
 # what it runs first, from what `rt check` kept here.
 set -eu
 . "$(dirname "$0")/scratch.sh"
@@ -13,14 +13,14 @@ ghost use Rattle.std.specs.Prelude.{◌≡◌, ◌≤◌, All, IsTrue, IfOk};
 ghost use Rattle.vs_desk.specs.Desk.{IsAttached};
 ghost use Rattle.vs_desk.specs.declared.desk.Way.TheVariants.{Read};
 ghost use Rattle.vs_desk.specs.Places.{stimulus_place};
-ghost use Rattle.vs_stim.specs.Header.{IsInput};
+ghost use Rattle.vs_stim.specs.Header.{IsInput, IsOutput};
 
 use anyhow::Result;
 use std::alloc::{AllocError, Global};
 use std::rt::CpuClock;
 use vs_desk::{Desk, MemoryDesk};
 use vs_four::Bits;
-use vs_stim::{Input, Name, Stimulus};
+use vs_stim::{Input, Name, Output, Ports, Stimulus, Wanted};
 
 /// How many lines each text has behind its header.
 const LINES: u32 = 100000;
@@ -47,24 +47,62 @@ fn inputs(alloc: Global, count: u32, length: u32) -> Result<Vec<Input>, AllocErr
     Ok(all)
 }
 
-/// A stimulus of random digits for them.
-fn text(alloc: Global, count: u32, length: u32) -> Result<Vec<u8>, AllocError> {
-    let mut out = Vec::new(alloc);
-    out.extend_from_slice(b"inputs")?;
+/// So many outputs of this length, of the names of inputs.
+fn outputs(alloc: Global, count: u32, length: u32) -> Result<Vec<Output>, AllocError>
+    requires some { 1 ≤ length }
+    requires at_most_64 { length ≤ 64 }
+    ensures { IfOk result (λ v. All IsOutput v.items) }
+{
+    let mut all = Vec::new(alloc);
+    for n in 0..count {
+        all.push(Output {
+            name: Name::of(name(alloc, n)?),
+            length,
+        })?;
+    }
+    Ok(all)
+}
+
+/// Adds the names of so many ports.
+fn add_names(alloc: Global, out: &mut Vec<u8>, count: u32) -> Result<(), AllocError> {
     for n in 0..count {
         out.push(b' ')?;
         out.extend_from_slice(&name(alloc, n)?)?;
     }
+    Ok(())
+}
+
+/// Adds random fields for so many ports, and answers the next state.
+fn add_fields(out: &mut Vec<u8>, state: u64, count: u32, length: u32) -> Result<u64, AllocError> {
+    let mut state = state;
+    for _ in 0..count {
+        out.push(b' ')?;
+        state = state
+            .wrapping_mul(6364136223846793005)
+            .wrapping_add(1442695040888963407);
+        for k in 0..length {
+            out.push(b'0' + (((state ^ (state >> 31)) >> (k % 64)) & 1) as u8)?;
+        }
+    }
+    Ok(state)
+}
+
+/// A stimulus of random digits for so many inputs, and as many outputs where some are wanted.
+fn text(alloc: Global, count: u32, length: u32, wants: bool) -> Result<Vec<u8>, AllocError> {
+    let mut out = Vec::new(alloc);
+    out.extend_from_slice(b"inputs")?;
+    add_names(alloc, &mut out, count)?;
+    if wants {
+        out.extend_from_slice(b" ->")?;
+        add_names(alloc, &mut out, count)?;
+    }
     let mut state: u64 = 1;
     for _ in 0..LINES {
-        for n in 0..count {
-            out.push(if n == 0 { b'\n' } else { b' ' })?;
-            state = state
-                .wrapping_mul(6364136223846793005)
-                .wrapping_add(1442695040888963407);
-            for k in 0..length {
-                out.push(b'0' + (((state ^ (state >> 31)) >> (k % 64)) & 1) as u8)?;
-            }
+        out.push(b'\n')?;
+        state = add_fields(&mut out, state, count, length)?;
+        if wants {
+            out.extend_from_slice(b" ->")?;
+            state = add_fields(&mut out, state, count, length)?;
         }
     }
     Ok(out)
@@ -76,6 +114,16 @@ fn mixed(values: &[Bits]) -> u64 {
     for v in values {
         let (value, unknown) = v.planes();
         all = all.wrapping_mul(31).wrapping_add(value ^ unknown);
+    }
+    all
+}
+
+/// A number that each wanted digit changes.
+fn mixed_wanted(values: &[Wanted]) -> u64 {
+    let mut all: u64 = 0;
+    for v in values {
+        let (value, unknown, any) = v.planes();
+        all = all.wrapping_mul(31).wrapping_add(value ^ unknown ^ any);
     }
     all
 }
@@ -92,6 +140,7 @@ fn read_all<D: Desk>(desk: &mut D, stimulus: &mut Stimulus) -> (u64, u64)
             Ok(true) => {
                 count = count.wrapping_add(1);
                 all = all.wrapping_mul(7).wrapping_add(mixed(stimulus.vector()));
+                all = all.wrapping_mul(7).wrapping_add(mixed_wanted(stimulus.wanted()));
             }
             _ => return (count, all),
         }
@@ -99,14 +148,14 @@ fn read_all<D: Desk>(desk: &mut D, stimulus: &mut Stimulus) -> (u64, u64)
     (count, all)
 }
 
-/// Times the reading of a text for so many inputs of this length.
-fn time(rt: &(impl CpuClock + Print + Alloc<A = Global>), count: u32, length: u32) -> Result<()>
+/// Times the reading of a text for so many inputs of this length, and as many outputs where some are wanted.
+fn time(rt: &(impl CpuClock + Print + Alloc<A = Global>), count: u32, length: u32, wants: bool) -> Result<()>
     requires some { 1 ≤ length }
     requires at_most_64 { length ≤ 64 }
 {
     let alloc = rt.alloc();
-    let text = text(alloc, count, length)?;
-    let inputs = inputs(alloc, count, length)?;
+    let text = text(alloc, count, length, wants)?;
+    let ports = Ports::of(inputs(alloc, count, length)?, outputs(alloc, count, length)?);
     let size = text.len();
     let mut desk = MemoryDesk::new(alloc, 4096);
     desk.add_file(String::from_str(alloc, "s")?, text)?;
@@ -116,26 +165,30 @@ fn time(rt: &(impl CpuClock + Print + Alloc<A = Global>), count: u32, length: u3
         &mut desk,
         0,
         String::from_str(alloc, "s")?,
-        &inputs,
+        &ports,
     ) {
         let (vectors, all) = read_all(&mut desk, &mut stimulus);
         let spent = rt.thread_cpu_time()?.saturating_sub(start).as_micros();
         println!(rt;
-            "inputs={count} length={length} vectors={vectors} bytes={size} microseconds={spent} mixed={all}"
+            "inputs={count} length={length} wants={wants} vectors={vectors} bytes={size} microseconds={spent} mixed={all}"
         )?;
     }
     Ok(())
 }
 
 fn main(rt: HostRuntime) -> Result<()> {
-    time(&rt, 1, 64)?;
-    time(&rt, 2, 32)?;
-    time(&rt, 4, 8)?;
-    time(&rt, 12, 1)?;
+    time(&rt, 1, 64, false)?;
+    time(&rt, 2, 32, false)?;
+    time(&rt, 4, 8, false)?;
+    time(&rt, 12, 1, false)?;
+    time(&rt, 1, 64, true)?;
+    time(&rt, 2, 32, true)?;
+    time(&rt, 4, 8, true)?;
+    time(&rt, 12, 1, true)?;
     Ok(())
 }
 MAIN
-mkdir -p crates/bench_stim/proofs/inputs crates/bench_stim/proofs/read_all
+mkdir -p crates/bench_stim/proofs/inputs crates/bench_stim/proofs/outputs crates/bench_stim/proofs/read_all
 cat > crates/bench_stim/proofs/inputs/Invariants.antt <<'PROOF'
 use Rattle.std.proofs.Common.{All}
 use Rattle.vs_stim.specs.Header.{IsInput}
@@ -143,6 +196,14 @@ use Rattle.bench_stim.proofs.inputs.Given as goal
 
 abbrev pub invariant-loop-n : goal.invariant-loop-n
 invariant-loop-n l = All IsInput l.all.items
+PROOF
+cat > crates/bench_stim/proofs/outputs/Invariants.antt <<'PROOF'
+use Rattle.std.proofs.Common.{All}
+use Rattle.vs_stim.specs.Header.{IsOutput}
+use Rattle.bench_stim.proofs.outputs.Given as goal
+
+abbrev pub invariant-loop-n : goal.invariant-loop-n
+invariant-loop-n l = All IsOutput l.all.items
 PROOF
 cat > crates/bench_stim/proofs/read_all/Invariants.antt <<'PROOF'
 use Rattle.std.proofs.Common.{IsTrue}

@@ -54,7 +54,7 @@ spelled_by : (text : List ℕ) (tokens others : List Token) (source : Source) �
 spelled_by text tokens others source r reads = subst (λ (ts : List Token). SpelledBy text ts source) (same_read text tokens others r.reads reads) r.spelled
 
 -- two readings are the same
-same_source : OneSource → (text : List ℕ) (tokens others : List Token) (source other : Source) → IsRead text tokens source → IsRead text others other → source ≡ other
+pub same_source : OneSource → (text : List ℕ) (tokens others : List Token) (source other : Source) → IsRead text tokens source → IsRead text others other → source ≡ other
 same_source one text tokens others source other r s = one text source other (spells text tokens source r) (spells text others other s)
 
 -- and so is what they elaborate to

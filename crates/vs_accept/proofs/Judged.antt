@@ -1,5 +1,5 @@
 -- What the rules say of a design together.
-use Rattle.std.proofs.Common.{◌≡◌, ◌≤◌, ℕ, true, List, None, length, refl, sym, subst}
+use Rattle.std.proofs.Common.{◌≡◌, ◌≤◌, ℕ, true, List, None, length, refl, sym, ◌∙◌, subst}
 use Rattle.std.proofs.lemmas.Result.{err_from_is_err_and}
 use Rattle.vs_lexer.specs.declared.token.Token.{Token}
 use Rattle.vs_grammar.specs.Trees.{Source}
@@ -20,6 +20,7 @@ use Rattle.vs_accept.specs.Accepted.{most_bytes, IsRead, IsAcceptedText, IsRefus
 use Rattle.vs_accept.specs.Refused.{byte_of}
 use Rattle.vs_accept.specs.Answers.{IsRefusalOf, TellsLike, IsVerdict, KeepsClock}
 use Rattle.vs_accept.specs.Lent.{Acceptance}
+use Rattle.vs_accept.specs.Outputs.{top_outputs, HaveOutputs}
 use Rattle.vs_accept.proofs.Told.{by_rule}
 
 -- no rule refuses it
@@ -51,6 +52,12 @@ pub refused_text : {A : Type 0} (text top clock : List ℕ) (tokens : List Token
     → IfErr answer (IsVerdict (byte_of text tokens) d clock) → IfErr answer (IsRefusalOf text top clock)
 refused_text text top clock tokens source d (Ok a) read elaborates v = tt
 refused_text text top clock tokens source d (Err e) read elaborates v = by_rule text top clock tokens source d e read elaborates v
+
+-- the names of the outputs of the top are handed on
+pub with_outputs : (text top : List ℕ) (tokens : List Token) (source : Source) (names : List (List ℕ)) (answer : Result Acceptance AcceptError) → IsRead text tokens source
+    → IfOk answer (λ (a : Acceptance). a.outputs ≡ names) → names ≡ top_outputs source top → IfOk answer (HaveOutputs text top)
+with_outputs text top tokens source names (Ok a) read h e = record { tokens = tokens; source = source; read = read; outputs_are = h ∙ e }
+with_outputs text top tokens source names (Err x) read h e = tt
 
 -- where the text is accepted
 pub kept : {A : Type 0} → OneDesign → NotBoth → (design : A → Design) (text top clock : List ℕ) (d : Design) (answer : Result A AcceptError) → IfOk answer (λ (a : A). IsAcceptedText text top clock (design a))

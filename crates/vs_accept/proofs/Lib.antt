@@ -3,3 +3,4 @@ mod AlikeDesign
 mod Alike
 mod Told
 mod Judged
+pub mod Naming

@@ -7,12 +7,14 @@ use Rattle.vs_flat.specs.Lawful.{IsLawful}
 use Rattle.vs_reads.specs.Footprint.{Footprint, footprints_of}
 use Rattle.vs_clock.specs.Clocked.{Clocked, IsClockOf, AreResets}
 
--- the flat design, the bits that each of its processes reads, writes and waits on, what is told of its clock, and an order of its processes
+-- the flat design, the bits that each of its processes reads, writes and waits on, what is told of its clock, an order of its processes, and the names
+-- of the outputs of the text's top
 pub record Acceptance : Type 0 where
   pub flat : Arena
   pub footprints : List Footprint
   pub clocks : Clocked
   pub order : List ℕ
+  pub outputs : List (List ℕ)
 
 -- the flat design is lawful, and the rest is told of it, by this name of its clock
 pub record IsAcceptance (clock : List ℕ) (a : Acceptance) : Type 0 where

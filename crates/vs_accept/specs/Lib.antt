@@ -2,3 +2,4 @@ pub mod Refused
 pub mod Accepted
 pub mod Answers
 pub mod Lent
+pub mod Outputs

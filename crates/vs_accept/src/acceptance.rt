@@ -12,8 +12,10 @@ ghost use Rattle.vs_accept.specs.declared.error.AcceptError.TheVariants.{Memory}
 ghost use Rattle.vs_accept.specs.Accepted.{IsRead, IsAcceptedText, IsRefusedText};
 ghost use Rattle.vs_accept.specs.Answers.{IsRefusalOf, TellsLike};
 ghost use Rattle.vs_accept.specs.Lent.{IsAcceptance};
+ghost use Rattle.vs_accept.specs.Outputs.{HaveOutputs};
 
 use crate::judge::judge;
+use crate::outputs::top_outputs;
 use crate::places::Places;
 use crate::{AcceptError, Accepted, answer_law};
 use std::alloc::Global;
@@ -77,6 +79,7 @@ fn answer(alloc: Global, text: &[u8], top: &[u8], clock: &[u8]) -> Result<Accept
     requires { length text.now ≤ MAX_BYTES }
     ensures accepted { IfOk result (λ a. IsAcceptedText text.now top.now clock.now (design_of a.flat)) }
     ensures lent { IfOk result (IsAcceptance clock.now) }
+    ensures outputs { IfOk result (HaveOutputs text.now top.now) }
     ensures refused { IfErr result (IsRefusalOf text.now top.now clock.now) }
 {
     let tokens = tokens_of(alloc, text)?;
@@ -86,7 +89,8 @@ fn answer(alloc: Global, text: &[u8], top: &[u8], clock: &[u8]) -> Result<Accept
     };
     let source = tree_of(alloc, &places)?;
     let flat = flat_of(alloc, &places, &source, top)?;
-    judge(alloc, &places, flat, clock)
+    let outputs = top_outputs(alloc, &source, top)?;
+    judge(alloc, &places, flat, outputs, clock)
 }
 
 /// Accepts a text of at most `MAX_BYTES` bytes as a design whose top module and whose clock input have these names, or refuses it by the
@@ -99,6 +103,7 @@ pub fn accept(alloc: Global, text: &[u8], top: &[u8], clock: &[u8]) -> Result<Ac
     // what is accepted is a design of the text, and all that is lent belongs to it
     ensures accepted { IfOk result (λ a. IsAcceptedText text.now top.now clock.now (design_of a.flat)) }
     ensures lent { IfOk result (IsAcceptance clock.now) }
+    ensures outputs { IfOk result (HaveOutputs text.now top.now) }
     // a refusal is one of the text
     ensures refused { IfErr result (IsRefusalOf text.now top.now clock.now) }
     // a text that is accepted as a design is answered by it, and one that is refused by its refusal, but for what is left open

@@ -3,6 +3,7 @@
 ghost use Rattle.std.specs.Prelude.{◌≡◌};
 
 use std::marker::Model;
+use vs_base::Text;
 use vs_clock::Clocks;
 use vs_level::Order;
 use vs_reads::Footprints;
@@ -15,6 +16,7 @@ pub struct Accepted {
     footprints: Footprints,
     clocks: Clocks,
     order: Order,
+    outputs: Vec<Text>,
 }
 
 impl Model for Accepted {
@@ -22,19 +24,26 @@ impl Model for Accepted {
 
     ghost Value = { Acceptance };
 
-    ghost view = { λ a. record { flat = a.typed; footprints = a.footprints; clocks = a.clocks; order = a.order } };
+    ghost view = { λ a. record { flat = a.typed; footprints = a.footprints; clocks = a.clocks; order = a.order; outputs = a.outputs.items } };
 }
 
 impl Accepted {
-    /// A design with its footprints, its clock and an order of its processes.
-    pub(crate) fn of(typed: Typed, footprints: Footprints, clocks: Clocks, order: Order) -> Accepted
-        ensures { result ≡ record { flat = typed; footprints = footprints; clocks = clocks; order = order } }
+    /// A design with its footprints, its clock, an order of its processes, and the names of its top's outputs.
+    pub(crate) fn of(
+        typed: Typed,
+        footprints: Footprints,
+        clocks: Clocks,
+        order: Order,
+        outputs: Vec<Text>,
+    ) -> Accepted
+        ensures { result ≡ record { flat = typed; footprints = footprints; clocks = clocks; order = order; outputs = outputs.items } }
     {
         Accepted {
             typed,
             footprints,
             clocks,
             order,
+            outputs,
         }
     }
 
@@ -64,5 +73,12 @@ impl Accepted {
         ensures { result.now ≡ self.now.order }
     {
         &self.order
+    }
+
+    /// The names of the outputs of the text's top, in the order of their declarations.
+    pub fn outputs(&self) -> &[Text]
+        ensures { result.now ≡ self.now.outputs }
+    {
+        self.outputs.as_slice()
     }
 }

@@ -12,6 +12,7 @@ ghost use Rattle.vs_accept.specs.Lent.{IsAcceptance};
 use crate::places::Places;
 use crate::{AcceptError, Accepted};
 use std::alloc::{AllocError, Global};
+use vs_base::Text;
 use vs_block::block_forms;
 use vs_design::accepted_law;
 use vs_flat::Flat;
@@ -53,9 +54,11 @@ fn judge_typed(
     alloc: Global,
     places: &Places<'_>,
     typed: Typed,
+    outputs: Vec<Text>,
     clock: &[u8],
 ) -> Result<Accepted, AcceptError>
     ensures same { IfOk result (λ a. a.flat ≡ typed) }
+    ensures outputs { IfOk result (λ a. a.outputs ≡ outputs.items) }
     ensures accepted { IfOk result (λ a. IsAcceptedDesign (design_of typed) clock.now) }
     ensures lent { IfOk result (IsAcceptance clock.now) }
     ensures refused { IfErr result (IsVerdict (byte_of places.now.text.now places.now.tokens.now) (design_of typed) clock.now) }
@@ -73,26 +76,29 @@ fn judge_typed(
         Err(error) => return Err(places.level_error(error)),
     };
     match vs_zero::check(alloc, &typed, &footprints, &clocks, &order) {
-        Ok(()) => Ok(Accepted::of(typed, footprints, clocks, order)),
+        Ok(()) => Ok(Accepted::of(typed, footprints, clocks, order, outputs)),
         Err(error) => Err(places.zero_error(error)),
     }
 }
 
-/// Judges an elaborated design by all rules, in their order: the first one that it breaks is told. `clock` is the name of the clock input.
+/// Judges an elaborated design by all rules, in their order: the first one that it breaks is told. `clock` is the name of the clock input, and its top's
+/// outputs have these names, which go with it.
 pub(crate) fn judge(
     alloc: Global,
     places: &Places<'_>,
     flat: Flat,
+    outputs: Vec<Text>,
     clock: &[u8],
 ) -> Result<Accepted, AcceptError>
     requires { IsLawful flat }
     ensures same { IfOk result (λ a. a.flat ≡ flat) }
+    ensures outputs { IfOk result (λ a. a.outputs ≡ outputs.items) }
     ensures accepted { IfOk result (λ a. IsAcceptedDesign (design_of flat) clock.now) }
     ensures lent { IfOk result (IsAcceptance clock.now) }
     ensures refused { IfErr result (IsVerdict (byte_of places.now.text.now places.now.tokens.now) (design_of flat) clock.now) }
 {
     match type_design(alloc, flat) {
-        Ok(typed) => judge_typed(alloc, places, typed, clock),
+        Ok(typed) => judge_typed(alloc, places, typed, outputs, clock),
         Err(error) => Err(places.width_error(error)),
     }
 }

@@ -7,7 +7,7 @@ use Rattle.std.proofs.lemmas.List.{get_or-map, get_or-take, get_or-replicate, ge
 use Rattle.vs_desk.specs.Desk.{Contents}
 use Rattle.vs_desk.specs.Taking.{OnlyTaken}
 use Rattle.vs_desk.specs.Places.{stimulus_place}
-use Rattle.vs_stim.specs.declared.input.Input.{Input}
+use Rattle.vs_stim.specs.Header.{PortLists}
 use Rattle.vs_stim.specs.Known.{Known, IsReadBy}
 use Rattle.vs_stim.specs.Reading.{reading, header_refusal}
 use Rattle.vs_desk.specs.Places.{most_lanes}
@@ -20,9 +20,9 @@ pub text_at : (paths : List (String Global)) (i : ℕ) (path : String Global) �
 text_at paths i path h = get_or-map string_bytes paths i path [] h.0 ∙ ap string_bytes (sym h.1)
 
 -- a lane that was opened before stays so
-opened_kept : (tells : Bool) (inputs : List Input) (before mid after : Contents) (path : List ℕ) (i j : ℕ) (k : Known) → i < j
-    → (IsTrue tells → OnlyTaken (stimulus_place j) mid after) → IsOpened tells inputs before mid path i k → IsOpened tells inputs before after path i k
-opened_kept tells inputs before mid after path i j k below kept h =
+opened_kept : (tells : Bool) (ports : PortLists) (before mid after : Contents) (path : List ℕ) (i j : ℕ) (k : Known) → i < j
+    → (IsTrue tells → OnlyTaken (stimulus_place j) mid after) → IsOpened tells ports before mid path i k → IsOpened tells ports before after path i k
+opened_kept tells ports before mid after path i j k below kept h =
     let e : k.lane ≡ i = h.lane in
     record {
       lane = h.lane;
@@ -30,52 +30,52 @@ opened_kept tells inputs before mid after path i j k below kept h =
       sizes = h.sizes;
       count = h.count;
       reading = λ t. h.reading t ∙ sym (remaining_by_left k mid after ((kept t).left (stimulus_place k.lane) (omega arith)));
-      read = λ t. read_by inputs (before.files path) k mid after (ap (λ left. k.pending ++ left) ((kept t).left (stimulus_place k.lane) (omega arith))) (h.read t);
+      read = λ t. read_by ports (before.files path) k mid after (ap (λ left. k.pending ++ left) ((kept t).left (stimulus_place k.lane) (omega arith))) (h.read t);
     }
 
 -- The next lane is opened where the desk had other contents when the first was.
-opened_here : (tells : Bool) (inputs : List Input) (before mid after : Contents) (path text : List ℕ) (j : ℕ) (k : Known) → text ≡ path
-    → (IsTrue tells → mid.files ≡ before.files) → IsOpened tells inputs mid after path j k → IsOpened tells inputs before after text j k
-opened_here tells inputs before mid after path text j k e files h = record {
+opened_here : (tells : Bool) (ports : PortLists) (before mid after : Contents) (path text : List ℕ) (j : ℕ) (k : Known) → text ≡ path
+    → (IsTrue tells → mid.files ≡ before.files) → IsOpened tells ports mid after path j k → IsOpened tells ports before after text j k
+opened_here tells ports before mid after path text j k e files h = record {
   lane = h.lane;
   live = h.live;
   sizes = h.sizes;
   count = h.count;
-  reading = λ t. (λ i. reading inputs (sym (files t) i (e i))) ∙ h.reading t;
-  read = λ t. subst (λ (bytes : List ℕ). IsReadBy inputs bytes k after) (λ i. files t i (sym e i)) (h.read t);
+  reading = λ t. (λ i. reading ports (sym (files t) i (e i))) ∙ h.reading t;
+  read = λ t. subst (λ (bytes : List ℕ). IsReadBy ports bytes k after) (λ i. files t i (sym e i)) (h.read t);
 }
 
-pub opened_more : (tells : Bool) (inputs : List Input) (before mid after : Contents) (paths : List (List ℕ)) (path : List ℕ) (ks news : List Known)
-    → ((i : ℕ) → i < length ks → IsOpened tells inputs before mid (path_at paths i) i (lane_at ks i))
-    → news ≡ ks ++ lane_at news (length ks) ∷ [] → path_at paths (length ks) ≡ path → IsOpened tells inputs mid after path (length ks) (lane_at news (length ks))
+pub opened_more : (tells : Bool) (ports : PortLists) (before mid after : Contents) (paths : List (List ℕ)) (path : List ℕ) (ks news : List Known)
+    → ((i : ℕ) → i < length ks → IsOpened tells ports before mid (path_at paths i) i (lane_at ks i))
+    → news ≡ ks ++ lane_at news (length ks) ∷ [] → path_at paths (length ks) ≡ path → IsOpened tells ports mid after path (length ks) (lane_at news (length ks))
     → (IsTrue tells → mid.files ≡ before.files) → (IsTrue tells → OnlyTaken (stimulus_place (length ks)) mid after)
-    → (i : ℕ) → i < length news → IsOpened tells inputs before after (path_at paths i) i (lane_at news i)
-opened_more tells inputs before mid after paths path ks news each added same here files kept i below =
+    → (i : ℕ) → i < length news → IsOpened tells ports before after (path_at paths i) i (lane_at news i)
+opened_more tells ports before mid after paths path ks news each added same here files kept i below =
     let count : length news ≡ length ks + 1 = ap length added ∙ length_push ks (lane_at news (length ks)) in
     elim (cases_eq i (length ks)) [
-      | inl e ↦ subst (λ (n : ℕ). IsOpened tells inputs before after (path_at paths n) n (lane_at news n)) (sym e)
-          (opened_here tells inputs before mid after path (path_at paths (length ks)) (length ks) (lane_at news (length ks)) same files here)
+      | inl e ↦ subst (λ (n : ℕ). IsOpened tells ports before after (path_at paths n) n (lane_at news n)) (sym e)
+          (opened_here tells ports before mid after path (path_at paths (length ks)) (length ks) (lane_at news (length ks)) same files here)
       | inr ne ↦
           let old : i < length ks = omega arith in
           let stays : lane_at news i ≡ lane_at ks i =
           ap (λ l. lane_at l i) added ∙ get_or_append_left ks (lane_at news (length ks) ∷ []) ended i old in
-          subst (λ (k : Known). IsOpened tells inputs before after (path_at paths i) i k) (sym stays)
-          (opened_kept tells inputs before mid after (path_at paths i) i (length ks) (lane_at ks i) old kept (each i old))
+          subst (λ (k : Known). IsOpened tells ports before after (path_at paths i) i k) (sym stays)
+          (opened_kept tells ports before mid after (path_at paths i) i (length ks) (lane_at ks i) old kept (each i old))
     ]
 
-pub headers_more : (inputs : List Input) (before mid : Contents) (paths : List (List ℕ)) (path : List ℕ) (lanes : ℕ) → HaveHeaders inputs before.files paths lanes
-    → path_at paths lanes ≡ path → mid.files ≡ before.files → header_refusal inputs (mid.files path) ≡ None → HaveHeaders inputs before.files paths (lanes + 1)
-headers_more inputs before mid paths path lanes h same files here = record {
+pub headers_more : (ports : PortLists) (before mid : Contents) (paths : List (List ℕ)) (path : List ℕ) (lanes : ℕ) → HaveHeaders ports before.files paths lanes
+    → path_at paths lanes ≡ path → mid.files ≡ before.files → header_refusal ports (mid.files path) ≡ None → HaveHeaders ports before.files paths (lanes + 1)
+headers_more ports before mid paths path lanes h same files here = record {
   each = λ i below. elim (cases_eq i lanes) [
-    | inl e ↦ ap (λ n. header_refusal inputs (before.files (path_at paths n))) e ∙ (λ k. header_refusal inputs (sym files k (same k))) ∙ here
+    | inl e ↦ ap (λ n. header_refusal ports (before.files (path_at paths n))) e ∙ (λ k. header_refusal ports (sym files k (same k))) ∙ here
     | inr ne ↦ h.each i (omega arith)
   ];
 }
 
 -- stimuli that are opened are those of the lanes
-pub lanes_opened : (tells : Bool) (inputs : List Input) (before after : Contents) (paths : List (List ℕ)) (ks : List Known) → length paths ≤ most_lanes
-    → AreOpened tells inputs before after paths ks → AreLanes ks
-lanes_opened tells inputs before after paths ks few h =
+pub lanes_opened : (tells : Bool) (ports : PortLists) (before after : Contents) (paths : List (List ℕ)) (ks : List Known) → length paths ≤ most_lanes
+    → AreOpened tells ports before after paths ks → AreLanes ks
+lanes_opened tells ports before after paths ks few h =
     let l : length ks ≡ length paths = h.lanes in
     record {
       few = omega arith;
@@ -84,9 +84,9 @@ lanes_opened tells inputs before after paths ks few h =
     }
 
 -- all of them are live
-pub flags_opened : (tells : Bool) (inputs : List Input) (before after : Contents) (paths : List (List ℕ)) (ks : List Known) → length paths ≤ most_lanes
-    → AreOpened tells inputs before after paths ks → take (length ks) (replicate most_lanes true) ≡ map (λ (k : Known). k.live) ks
-flags_opened tells inputs before after paths ks few h =
+pub flags_opened : (tells : Bool) (ports : PortLists) (before after : Contents) (paths : List (List ℕ)) (ks : List Known) → length paths ≤ most_lanes
+    → AreOpened tells ports before after paths ks → take (length ks) (replicate most_lanes true) ≡ map (λ (k : Known). k.live) ks
+flags_opened tells ports before after paths ks few h =
     let l : length ks ≡ length paths = h.lanes in
     let room : length ks ≤ length (replicate most_lanes true) = rw (length-replicate most_lanes true) (omega arith) in
     let long : length (take (length ks) (replicate most_lanes true)) ≡ length ks = length-take-le (length ks) (replicate most_lanes true) room in

@@ -5,8 +5,8 @@ use Rattle.std.proofs.lemmas.Bool.{cases_eq}
 use Rattle.vs_desk.specs.Desk.{Contents}
 use Rattle.vs_desk.specs.Taking.{OnlyTaken}
 use Rattle.vs_desk.specs.Places.{stimulus_place}
-use Rattle.vs_stim.specs.declared.input.Input.{Input}
-use Rattle.vs_stim.specs.Known.{Known, remaining, text_left, IsReadTo, IsReadBy, IsUntold}
+use Rattle.vs_stim.specs.Header.{PortLists}
+use Rattle.vs_stim.specs.Known.{Known, last_entry, remaining, text_left, IsReadTo, IsReadBy, IsUntold}
 use Rattle.vs_stim.specs.Lines.{lines, all_lines}
 use Rattle.vs_stim.specs.Reading.{limits, read_vectors, with_vector}
 use Rattle.vs_stim.specs.Row.{sizes}
@@ -22,8 +22,8 @@ pub remaining_by_left : (k : Known) (c d : Contents) → d.left (stimulus_place 
 remaining_by_left k c d e = remains_by k c d (ap (λ left. k.pending ++ left) e)
 
 -- how far a text was read depends on the text that is left alone
-pub read_by : (inputs : List Input) (text : List ℕ) (k : Known) (c d : Contents) → text_left k d ≡ text_left k c → IsReadBy inputs text k c → IsReadBy inputs text k d
-read_by inputs text k c d e h = subst (λ (rest : List ℕ). IsReadTo inputs text k.count k.columns k.at rest) (sym e) h
+pub read_by : (ports : PortLists) (text : List ℕ) (k : Known) (c d : Contents) → text_left k d ≡ text_left k c → IsReadBy ports text k c → IsReadBy ports text k d
+read_by ports text k c d e h = subst (λ (rest : List ℕ). IsReadTo ports text k.count k.columns k.at rest) (sym e) h
 
 -- an advance, where the text that is left before and after it is the same by other contents
 pub advances_by : (tells : Bool) (c d c' d' : Contents) (old new : Known) → Advances tells c d old new
@@ -32,9 +32,9 @@ advances_by tells c d c' d' old new h e f = record {
   lane = h.lane;
   sizes = h.sizes;
   ended = h.ended;
-  vector = λ t was now. remains_by old c c' (e t) ∙ h.vector t was now ∙ ap (λ r. with_vector new.vector r) (sym (remains_by new d d' (f t)));
+  vector = λ t was now. remains_by old c c' (e t) ∙ h.vector t was now ∙ ap (λ r. with_vector (last_entry new) r) (sym (remains_by new d d' (f t)));
   count = h.count;
-  read = λ t was now inputs text far. read_by inputs text new d d' (f t) (h.read t was now inputs text (read_by inputs text old c' c (sym (e t)) far));
+  read = λ t was now ports text far. read_by ports text new d d' (f t) (h.read t was now ports text (read_by ports text old c' c (sym (e t)) far));
   end = λ t was now. remains_by old c c' (e t) ∙ h.end t was now;
   taken = λ t was now. f t ∙ h.taken t was now;
   kept = λ t was. f t ∙ h.kept t was ∙ sym (e t);

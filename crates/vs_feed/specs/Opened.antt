@@ -4,9 +4,8 @@ use Rattle.std.specs.declared.alloc.Global.{Global}
 use Rattle.vs_desk.specs.declared.desk.Way.TheVariants.{Read}
 use Rattle.vs_desk.specs.Desk.{Register, Contents, Told, Fails}
 use Rattle.vs_desk.specs.Places.{with_places, stimulus_place}
-use Rattle.vs_stim.specs.declared.input.Input.{Input}
 use Rattle.vs_stim.specs.declared.error.StimError.TheVariants as E
-use Rattle.vs_stim.specs.Header.{lengths}
+use Rattle.vs_stim.specs.Header.{PortLists, lengths}
 use Rattle.vs_stim.specs.Known.{Known, remaining, IsReadBy, IsUntold}
 use Rattle.vs_stim.specs.Reading.{first_place, reading, refused, header_refusal}
 use Rattle.vs_stim.specs.Row.{sizes}
@@ -31,23 +30,23 @@ pub record AreFree (register : Register) (lanes : ℕ) : Type 0 where
   pub each : (i : ℕ) → i < lanes → IsNone (register.attached (stimulus_place i))
 
 -- no text of the first lanes, this many, is refused up to its header
-pub record HaveHeaders (inputs : List Input) (files : List ℕ → List ℕ) (paths : List (List ℕ)) (lanes : ℕ) : Type 0 where
-  pub each : (i : ℕ) → i < lanes → header_refusal inputs (files (path_at paths i)) ≡ None
+pub record HaveHeaders (ports : PortLists) (files : List ℕ → List ℕ) (paths : List (List ℕ)) (lanes : ℕ) : Type 0 where
+  pub each : (i : ℕ) → i < lanes → header_refusal ports (files (path_at paths i)) ≡ None
 
 -- The path's stimulus is that of the lane of this number, its text was read up to behind its header, and it is about to give its first
 -- vector, where the desk had these contents before and after.
-pub record IsOpened (tells : Bool) (inputs : List Input) (before after : Contents) (path : List ℕ) (number : ℕ) (k : Known) : Type 0 where
+pub record IsOpened (tells : Bool) (ports : PortLists) (before after : Contents) (path : List ℕ) (number : ℕ) (k : Known) : Type 0 where
   pub lane : k.lane ≡ number
   pub live : k.live ≡ true
-  pub sizes : sizes k.vector ≡ lengths inputs
+  pub sizes : sizes k.vector ≡ lengths ports.inputs
   pub count : k.count ≡ 0
-  pub reading : IsTrue tells → reading inputs (before.files path) ≡ remaining k after
-  pub read : IsTrue tells → IsReadBy inputs (before.files path) k after
+  pub reading : IsTrue tells → reading ports (before.files path) ≡ remaining k after
+  pub read : IsTrue tells → IsReadBy ports (before.files path) k after
 
 -- each lane's stimulus is opened on its path
-pub record AreOpened (tells : Bool) (inputs : List Input) (before after : Contents) (paths : List (List ℕ)) (ks : List Known) : Type 0 where
+pub record AreOpened (tells : Bool) (ports : PortLists) (before after : Contents) (paths : List (List ℕ)) (ks : List Known) : Type 0 where
   pub lanes : length ks ≡ length paths
-  pub each : (i : ℕ) → i < length ks → IsOpened tells inputs before after (path_at paths i) i (lane_at ks i)
+  pub each : (i : ℕ) → i < length ks → IsOpened tells ports before after (path_at paths i) i (lane_at ks i)
 
 -- The attach of this lane's place failed, behind those of the earlier lanes.
 abbrev pub AttachFails : {tells : Bool} → List (List ℕ) → Told tells → Told tells → ℕ → Type 0
@@ -58,15 +57,15 @@ abbrev pub TakeFails : {tells : Bool} → List (List ℕ) → Told tells → Tol
 TakeFails paths old new lane = Fails (with_lanes old.register (take (lane + 1) paths)) new.register (stimulus_place lane) old.register.asked
 
 -- The first lane whose stimulus can't be opened on its path stopped the opening, with this error.
-pub record StopsOpening {tells : Bool} (inputs : List Input) (paths : List (List ℕ)) (old new : Told tells) (stopped : Stopped) : Type 0 where
+pub record StopsOpening {tells : Bool} (ports : PortLists) (paths : List (List ℕ)) (old new : Told tells) (stopped : Stopped) : Type 0 where
   pub lane : stopped.lane < length paths
   pub error : IsHeaderError stopped.error
   -- a refusal is that of the lane's text, and no earlier lane's text has one
   pub refusal : IsTrue tells → stopped.error ≢ E.ReadFault → stopped.error ≢ E.Memory
-      → header_refusal inputs (old.contents.files (path_at paths stopped.lane)) ≡ Some stopped.error
+      → header_refusal ports (old.contents.files (path_at paths stopped.lane)) ≡ Some stopped.error
   pub reading : IsTrue tells → stopped.error ≢ E.ReadFault → stopped.error ≢ E.Memory
-      → reading inputs (old.contents.files (path_at paths stopped.lane)) ≡ refused stopped.error
-  pub before : IsTrue tells → HaveHeaders inputs old.contents.files paths stopped.lane
+      → reading ports (old.contents.files (path_at paths stopped.lane)) ≡ refused stopped.error
+  pub before : IsTrue tells → HaveHeaders ports old.contents.files paths stopped.lane
   -- the places up to the lane's own are attached; where there was no memory, it may be those up to the one before
   pub attached : stopped.error ≢ E.ReadFault → stopped.error ≢ E.Memory → new.register ≡ with_lanes old.register (take (stopped.lane + 1) paths)
   pub memory : stopped.error ≡ E.Memory

@@ -2,8 +2,8 @@
 use Rattle.std.specs.Prelude.{◌≡◌, ℕ, ◌+◌, ◌<◌, ◌≤◌, Bool, true, false, IsTrue, List, [], length}
 use Rattle.vs_desk.specs.Desk.{Contents}
 use Rattle.vs_desk.specs.Places.{stimulus_place}
-use Rattle.vs_stim.specs.declared.input.Input.{Input}
-use Rattle.vs_stim.specs.Known.{Known, remaining, text_left, IsReadBy, IsUntold}
+use Rattle.vs_stim.specs.Header.{PortLists}
+use Rattle.vs_stim.specs.Known.{Known, last_entry, remaining, text_left, IsReadBy, IsUntold}
 use Rattle.vs_stim.specs.Reading.{whole, with_vector}
 use Rattle.vs_stim.specs.Row.{sizes}
 use Rattle.vs_feed.specs.Lanes.{lane_at}
@@ -14,9 +14,9 @@ pub record Advances (tells : Bool) (before after : Contents) (old new : Known) :
   pub lane : new.lane ≡ old.lane
   pub sizes : sizes new.vector ≡ sizes old.vector
   pub ended : old.live ≡ false → new ≡ old
-  pub vector : IsTrue tells → old.live ≡ true → new.live ≡ true → remaining old before ≡ with_vector new.vector (remaining new after)
+  pub vector : IsTrue tells → old.live ≡ true → new.live ≡ true → remaining old before ≡ with_vector (last_entry new) (remaining new after)
   pub count : old.live ≡ true → new.live ≡ true → new.count ≡ old.count + 1
-  pub read : IsTrue tells → old.live ≡ true → new.live ≡ true → (inputs : List Input) (text : List ℕ) → IsReadBy inputs text old before → IsReadBy inputs text new after
+  pub read : IsTrue tells → old.live ≡ true → new.live ≡ true → (ports : PortLists) (text : List ℕ) → IsReadBy ports text old before → IsReadBy ports text new after
   pub end : IsTrue tells → old.live ≡ true → new.live ≡ false → remaining old before ≡ whole
   pub taken : IsTrue tells → old.live ≡ true → new.live ≡ false → text_left new after ≡ []
   pub kept : IsTrue tells → old.live ≡ false → text_left new after ≡ text_left old before

@@ -4,7 +4,7 @@ ghost use Rattle.std.specs.Prelude.{◌≡◌, ◌≢◌, ℕ, ◌+◌, ◌<◌,
 ghost use Rattle.vs_plane.specs.Lanes.{pair_lane};
 ghost use Rattle.vs_desk.specs.Desk.{Fails};
 ghost use Rattle.vs_desk.specs.Places.{stimulus_place, most_lanes};
-ghost use Rattle.vs_stim.specs.Header.{IsInput};
+ghost use Rattle.vs_stim.specs.Header.{ArePorts};
 ghost use Rattle.vs_stim.specs.Known.{remaining};
 ghost use Rattle.vs_stim.specs.Reading.{refused};
 ghost use Rattle.vs_stim.specs.Source.{IsVectorError};
@@ -21,7 +21,7 @@ use std::alloc::Global;
 use std::marker::Model;
 use vs_desk::{Desk, MOST_LANES, attach_law};
 use vs_plane::{Lanes, Pair};
-use vs_stim::{Input, StimError, Stimulus};
+use vs_stim::{Ports, StimError, Stimulus};
 
 /// The stimuli of 1 to 256 lanes. Lane i reads place 1000 + i of a desk. Contracts see what is known
 /// of each (`Known`), by lane.
@@ -52,27 +52,27 @@ pub fn open<D: Desk>(
     alloc: Global,
     desk: &mut D,
     paths: Vec<String>,
-    inputs: &[Input],
+    ports: &Ports,
 ) -> Result<Drive, Stopped>
     requires lanes { length paths.items ≤ most_lanes }
     requires free { AreFree (D.told desk.old).register (length paths.items) }
-    requires inputs { All IsInput inputs.now }
+    requires ports { ArePorts ports.now }
 
     // Each lane's text is read up to its header.
-    ensures opened { IfOk result (AreOpened D.tells inputs.now (D.told desk.old).contents (D.told desk.new).contents (texts paths.items)) }
-    ensures headers { IsTrue D.tells → OnOk result (HaveHeaders inputs.now (D.told desk.old).contents.files (texts paths.items) (length paths.items)) }
+    ensures opened { IfOk result (AreOpened D.tells ports.now (D.told desk.old).contents (D.told desk.new).contents (texts paths.items)) }
+    ensures headers { IsTrue D.tells → OnOk result (HaveHeaders ports.now (D.told desk.old).contents.files (texts paths.items) (length paths.items)) }
     ensures numbered { IfOk result AreLanes }
     ensures attached { OnOk result ((D.told desk.new).register ≡ with_lanes (D.told desk.old).register (texts paths.items)) }
     ensures readable { IfOk result (AreAttached (D.told desk.new).register) }
 
     // The first lane that isn't stops it.
-    ensures stopped { IfErr result (StopsOpening inputs.now (texts paths.items) (D.told desk.old) (D.told desk.new)) }
+    ensures stopped { IfErr result (StopsOpening ports.now (texts paths.items) (D.told desk.old) (D.told desk.new)) }
 
     // On the desk only bytes at the lanes' places are taken.
     ensures others { IsTrue D.tells → OtherPlacesKept (length paths.items) (D.told desk.old).contents (D.told desk.new).contents }
 {
     attach_law();
-    let stimuli = open_all(alloc, desk, paths, inputs)?;
+    let stimuli = open_all(alloc, desk, paths, ports)?;
     Ok(Drive {
         stimuli,
         live: [true; MOST_LANES],

@@ -5,7 +5,7 @@ ghost use Rattle.vs_desk.specs.Desk.{Fails, with_place};
 ghost use Rattle.vs_desk.specs.declared.desk.Way.TheVariants.{Read};
 ghost use Rattle.vs_desk.specs.Taking.{OnlyTaken};
 ghost use Rattle.vs_desk.specs.Places.{stimulus_place, most_lanes};
-ghost use Rattle.vs_stim.specs.Header.{IsInput};
+ghost use Rattle.vs_stim.specs.Header.{ArePorts};
 ghost use Rattle.vs_stim.specs.Known.{IsUntold};
 ghost use Rattle.vs_stim.specs.Reading.{first_place, reading, refused, header_refusal};
 ghost use Rattle.vs_stim.specs.Source.{IsHeaderError};
@@ -15,7 +15,7 @@ ghost use Rattle.vs_feed.specs.Opened.{texts, with_lanes, AreFree, HaveHeaders, 
 use crate::Stopped;
 use std::alloc::Global;
 use vs_desk::{Desk, attach_law};
-use vs_stim::{Input, StimError, Stimulus};
+use vs_stim::{Ports, StimError, Stimulus};
 
 /// Adds the stimulus of this lane.
 fn add(stimuli: &mut Vec<Stimulus>, stimulus: Stimulus, lane: u32) -> Result<(), Stopped>
@@ -37,23 +37,23 @@ fn open_next<D: Desk>(
     alloc: Global,
     desk: &mut D,
     path: String,
-    inputs: &[Input],
+    ports: &Ports,
     stimuli: &mut Vec<Stimulus>,
 ) -> Result<(), Stopped>
     requires lane { length stimuli.old.items < most_lanes }
     requires free { IsNone ((D.told desk.old).register.attached (stimulus_place (length stimuli.old.items))) }
-    requires inputs { All IsInput inputs.now }
+    requires ports { ArePorts ports.now }
     ensures added { OnOk result (stimuli.new.items ≡ stimuli.old.items ++ lane_at stimuli.new.items (length stimuli.old.items) ∷ []) }
-    ensures opened { OnOk result (IsOpened D.tells inputs.now (D.told desk.old).contents (D.told desk.new).contents (string_bytes path) (length stimuli.old.items)
+    ensures opened { OnOk result (IsOpened D.tells ports.now (D.told desk.old).contents (D.told desk.new).contents (string_bytes path) (length stimuli.old.items)
         (lane_at stimuli.new.items (length stimuli.old.items))) }
-    ensures headed { IsTrue D.tells → OnOk result (header_refusal inputs.now ((D.told desk.old).contents.files (string_bytes path)) ≡ None) }
+    ensures headed { IsTrue D.tells → OnOk result (header_refusal ports.now ((D.told desk.old).contents.files (string_bytes path)) ≡ None) }
 
     ensures lane { IfErr result (λ stopped. stopped.lane ≡ length stimuli.old.items) }
     ensures errors { IfErr result (λ stopped. IsHeaderError stopped.error) }
     ensures refused { IsTrue D.tells → IfErr result (λ stopped. stopped.error ≢ StimError.ReadFault → stopped.error ≢ StimError.Memory →
-        header_refusal inputs.now ((D.told desk.old).contents.files (string_bytes path)) ≡ Some stopped.error) }
+        header_refusal ports.now ((D.told desk.old).contents.files (string_bytes path)) ≡ Some stopped.error) }
     ensures reading { IsTrue D.tells → IfErr result (λ stopped. stopped.error ≢ StimError.ReadFault → stopped.error ≢ StimError.Memory →
-        reading inputs.now ((D.told desk.old).contents.files (string_bytes path)) ≡ refused stopped.error) }
+        reading ports.now ((D.told desk.old).contents.files (string_bytes path)) ≡ refused stopped.error) }
 
     ensures attached { OnOk result ((D.told desk.new).register ≡ with_place (D.told desk.old).register (stimulus_place (length stimuli.old.items)) Read (string_bytes path)) }
     ensures register { IfErr result (λ stopped. stopped.error ≢ StimError.ReadFault → stopped.error ≢ StimError.Memory →
@@ -70,7 +70,7 @@ fn open_next<D: Desk>(
     ensures others { IsTrue D.tells → OnlyTaken (stimulus_place (length stimuli.old.items)) (D.told desk.old).contents (D.told desk.new).contents }
 {
     let lane = stimuli.len() as u32;
-    match Stimulus::begin(alloc, desk, lane, path, inputs) {
+    match Stimulus::begin(alloc, desk, lane, path, ports) {
         Ok(stimulus) => add(stimuli, stimulus, lane),
         Err(error) => Err(Stopped { lane, error }),
     }
@@ -81,22 +81,22 @@ pub(crate) fn open_all<D: Desk>(
     alloc: Global,
     desk: &mut D,
     paths: Vec<String>,
-    inputs: &[Input],
+    ports: &Ports,
 ) -> Result<Vec<Stimulus>, Stopped>
     requires lanes { length paths.items ≤ most_lanes }
     requires free { AreFree (D.told desk.old).register (length paths.items) }
-    requires inputs { All IsInput inputs.now }
-    ensures opened { IfOk result (λ stimuli. AreOpened D.tells inputs.now (D.told desk.old).contents (D.told desk.new).contents (texts paths.items) stimuli.items) }
-    ensures headers { IsTrue D.tells → OnOk result (HaveHeaders inputs.now (D.told desk.old).contents.files (texts paths.items) (length paths.items)) }
+    requires ports { ArePorts ports.now }
+    ensures opened { IfOk result (λ stimuli. AreOpened D.tells ports.now (D.told desk.old).contents (D.told desk.new).contents (texts paths.items) stimuli.items) }
+    ensures headers { IsTrue D.tells → OnOk result (HaveHeaders ports.now (D.told desk.old).contents.files (texts paths.items) (length paths.items)) }
     ensures attached { OnOk result ((D.told desk.new).register ≡ with_lanes (D.told desk.old).register (texts paths.items)) }
 
-    ensures stopped { IfErr result (StopsOpening inputs.now (texts paths.items) (D.told desk.old) (D.told desk.new)) }
+    ensures stopped { IfErr result (StopsOpening ports.now (texts paths.items) (D.told desk.old) (D.told desk.new)) }
     ensures others { IsTrue D.tells → OtherPlacesKept (length paths.items) (D.told desk.old).contents (D.told desk.new).contents }
 {
     attach_law();
     let mut stimuli = Vec::new(alloc);
     for path in paths {
-        open_next(alloc, desk, path, inputs, &mut stimuli)?;
+        open_next(alloc, desk, path, ports, &mut stimuli)?;
     }
     Ok(stimuli)
 }

@@ -50,7 +50,7 @@ remaining_left s c new same = ap (λ (left : ℕ → List ℕ). read_vectors lim
 pub given_left : (run : Run) (i count : ℕ) (s : Known) (c new : Contents) → new.left ≡ c.left → HasGiven run i count s c → HasGiven run i count s new
 given_left run i count s c new same h = record {
   count_is = h.count_is;
-  read = subst (λ (left : ℕ → List ℕ). IsReadTo run.inputs (run.texts i) s.count s.columns s.at (s.pending ++ left (place_of s.lane))) (sym same) h.read;
+  read = subst (λ (left : ℕ → List ℕ). IsReadTo run.ports (run.texts i) s.count s.columns s.at (s.pending ++ left (place_of s.lane))) (sym same) h.read;
 }
 
 -- nor does it matter to what is left of the texts that have ended
@@ -89,7 +89,7 @@ lane_put lane run k old m c i text h within text_is =
     let next = state lane m.engine i in
     let values = lane_values lane m.engine i in
     let done = lane_done run (reading_of run i) k (wave_at old.waves i) (state lane old.engine i) s.between next l (lane_at old.stimuli i).vector (remaining (lane_at old.stimuli i) c) (c.put (wave_place i))
-    (has_vector run.inputs (run.texts i)) (h.began.waves.each i within) (h.began.read.each i within) s.falls s.rises in
+    (has_vector run.ports (run.texts i)) (h.began.waves.each i within) (h.began.read.each i within) s.falls s.rises in
     let values_next : values_of d next ≡ values = sym (values_are lane m.engine old.engine.program i h.program ∙ signal_values_are d run.clock old.engine.program next h.began.program) in
     let noted : begun k l (values_of d s.between) (wave_at old.waves i) ≡ wave_at m.waves i =
     ap (λ (vs : List BitList). begun k l vs (wave_at old.waves i)) (sym (signal_values_are d run.clock old.engine.program s.between h.began.program)) ∙ sym s.noted in

@@ -1,12 +1,15 @@
--- The data inputs of a design, as the stimuli name them.
+-- The data inputs and the outputs of a design, as the stimuli name them.
 use Rattle.std.specs.Prelude.{◌≡◌, ℕ, Bool, not, ◌&&◌, ◌==◌, List, map, filter, length, sum, All}
+use Rattle.std.specs.List.{list_any}
 use Rattle.vs_design.specs.Expressions.{Signal, signal_length}
 use Rattle.vs_design.specs.Designs.{Design}
-use Rattle.vs_design.specs.Footprints.{contains}
+use Rattle.vs_design.specs.Footprints.{contains, is_memory}
+use Rattle.vs_design.specs.Clocks.{same_name}
 use Rattle.vs_design.specs.Resets.{reset_inputs}
 use Rattle.vs_design.specs.Accepted.{IsAcceptedDesign}
 use Rattle.vs_cone.specs.Given.{data_bits}
 use Rattle.vs_stim.specs.declared.input.Input.{Input}
+use Rattle.vs_stim.specs.declared.input.Output.{Output}
 use Rattle.vs_stim.specs.Header.{IsInput, lengths}
 
 -- an input of the top whose bit isn't the clock's
@@ -23,6 +26,21 @@ inputs_among resets clock signals = map (input_of resets) (filter (is_data_input
 -- the inputs of the top but the clock, which has this bit, in order of declaration
 abbrev pub data_inputs : Design → ℕ → List Input
 data_inputs d clock = inputs_among (reset_inputs d clock) clock d.signals
+
+-- a signal of the top, whose scope is 0, that has one of these names; a memory is no port
+abbrev pub is_output : List (List ℕ) → Signal → Bool
+is_output names s = (s.scope == 0) && (not (is_memory s) && list_any (same_name s.name) names)
+
+-- A stimulus names the signal so, and says of as many digits as it has bits what they have to be.
+abbrev pub output_of : Signal → Output
+output_of s = record { name = s.name; length = signal_length s }
+
+abbrev pub outputs_among : List (List ℕ) → List Signal → List Output
+outputs_among names signals = map output_of (filter (is_output names) signals)
+
+-- the outputs of the top, which have these names, in order of declaration
+abbrev pub outputs : Design → List (List ℕ) → List Output
+outputs d names = outputs_among names d.signals
 
 -- the stimuli drive the data inputs of the design
 pub record AreDataInputs (d : Design) (clock : ℕ) (inputs : List Input) : Type 0 where

@@ -8,7 +8,8 @@ use Rattle.vs_design.specs.Networks.{network_of}
 use Rattle.vs_desk.specs.Desk.{Contents}
 use Rattle.vs_program.specs.Compiled.{IsProgramOf}
 use Rattle.vs_engine.specs.Lanes.{Running, state}
-use Rattle.vs_stim.specs.declared.input.Input.{Input}
+use Rattle.vs_stim.specs.declared.wanted.Digit.{Digit}
+use Rattle.vs_stim.specs.Header.{PortLists}
 use Rattle.vs_stim.specs.Known.{Known, remaining, IsReadBy}
 use Rattle.vs_stim.specs.Reading.{Reading, reading, with_vector}
 use Rattle.vs_feed.specs.Lanes.{lane_at}
@@ -20,12 +21,12 @@ use Rattle.vs_waves.specs.Puts.{wave_place}
 use Rattle.vs_rounds.specs.Drives.{Vector}
 use Rattle.vs_rounds.specs.Given.{has_ended, IsGiven}
 
--- What is run: a design with the bit of its clock, the clock's half-period, the data inputs, and the text of each lane's stimulus.
+-- What is run: a design with the bit of its clock, the clock's half-period, the data inputs and the outputs, and the text of each lane's stimulus.
 pub record Run : Type 0 where
   pub design : Design
   pub clock : ℕ
   pub half : ℕ
-  pub inputs : List Input
+  pub ports : PortLists
   pub texts : ℕ → List ℕ
 
 abbrev pub network : Run → Network
@@ -33,7 +34,7 @@ network run = network_of run.design run.clock
 
 -- what the text of lane i gives
 abbrev pub reading_of : Run → ℕ → Reading
-reading_of run i = reading run.inputs (run.texts i)
+reading_of run i = reading run.ports (run.texts i)
 
 -- What contracts see of a `Machine`: what is known of each lane's stimulus, each lane's wave, and the engine of all lanes.
 pub record Simulation (W : Type 0) : Type 0 where
@@ -51,11 +52,12 @@ wave_at waves i = slice_index_or waves i closed
 
 -- what a text gives behind its first k vectors
 abbrev pub behind : ℕ → Reading → Reading
-behind k r = record { vectors = drop k r.vectors; refusal = r.refusal }
+behind k r = record { vectors = drop k r.vectors; wanted = drop k r.wanted; refusal = r.refusal }
 
--- The vector of round k was read, and this is left of the text; or else the text has ended, in this round or an earlier one.
+-- The vector of round k was read, with what outputs are wanted to have then, and this is left of the text; or else the text has ended, in this round or an earlier one.
 pub record IsRead (r : Reading) (k : ℕ) (live : Bool) (vector : Vector) (rest : Reading) : Type 0 where
-  pub vector_is : live ≡ true → behind k r ≡ with_vector vector rest
+  pub wanted : List (List Digit)
+  pub vector_is : live ≡ true → behind k r ≡ with_vector (record { values = vector; wanted = wanted }) rest
   pub unrefused : live ≡ false → r.refusal ≡ None
   pub ended : live ≡ false → length r.vectors ≤ k
 
@@ -81,7 +83,7 @@ pub record IsWaveAt (run : Run) (r : Reading) (k : ℕ) (w : Wave) (now : State)
 -- The stimulus of lane i has given this many vectors, and its text was read up to there.
 pub record HasGiven (run : Run) (i count : ℕ) (s : Known) (c : Contents) : Type 0 where
   pub count_is : s.count ≡ count
-  pub read : IsReadBy run.inputs (run.texts i) s c
+  pub read : IsReadBy run.ports (run.texts i) s c
 
 -- The vector of round k is the next that is read of each lane that hasn't ended, and nothing is left of the texts of the others, where the
 -- desk has these contents.

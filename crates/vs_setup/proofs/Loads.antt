@@ -9,13 +9,15 @@ use Rattle.vs_clock.specs.Clocked.{Clocked, IsClockOf}
 use Rattle.vs_program.specs.Program.{Program}
 use Rattle.vs_program.specs.Compiled.{IsProgramOf}
 use Rattle.vs_engine.specs.Lanes.{Running, state}
-use Rattle.vs_stim.specs.declared.input.Input.{Input}
-use Rattle.vs_stim.specs.Header.{IsInput}
+use Rattle.vs_stim.specs.Header.{PortLists, IsInput, IsOutput, ArePorts}
 use Rattle.vs_accept.specs.Lent.{Acceptance, IsAcceptance}
+use Rattle.vs_grammar.specs.Trees.{Source}
 use Rattle.vs_accept.specs.Accepted.{IsAcceptedText}
-use Rattle.vs_rounds.specs.Inputs.{inputs_among, data_inputs, InputBitsFit}
+use Rattle.vs_accept.specs.Outputs.{top_outputs, HaveOutputs, OneReading}
+use Rattle.vs_setup.specs.Ports.{ports_of}
+use Rattle.vs_rounds.specs.Inputs.{inputs_among, data_inputs, outputs_among, outputs, InputBitsFit}
 use Rattle.vs_setup.specs.Loaded.{IsLoaded}
-use Rattle.vs_setup.proofs.Signals.{are_inputs}
+use Rattle.vs_setup.proofs.Signals.{are_inputs, are_outputs}
 
 some_is : (x y : Signal) → Some x ≡ Some y → x ≡ y
 some_is x y e = cc
@@ -30,17 +32,23 @@ pub record IsMade {W : Type 0} (lane : W → ℕ → Bool) (lanes : ℕ) (p : Pr
   pub begun : engine.begun ≡ false
   pub idle : (d : Design) (clock i : ℕ) → IsProgramOf d clock p → i < lanes → state lane engine i ≡ (network_of d clock).idle
 
-pub loaded : {W : Type 0} (lane : W → ℕ → Bool) (lanes : ℕ) (text top clock : List ℕ) (a : Acceptance) (inputs : List Input) (engine : Running W) (p : Program)
-    → InputBitsFit → IsAcceptedText text top clock (design_of a.flat) → IsAcceptance clock a → IsProgramOf (design_of a.flat) a.clocks.bit p → IsMade lane lanes p engine
-    → inputs ≡ inputs_among a.clocks.reset_inputs a.clocks.bit (design_of a.flat).signals → IsLoaded lane lanes text top clock a inputs engine
-loaded lane lanes text top clock a inputs engine p fit accepted lent program made inputs_are = record {
+-- the outputs of a text that was read are those of its tree
+outputs_named : OneReading → {text top clock : List ℕ} {d : Design} (accepted : IsAcceptedText text top clock d) (a : Acceptance) → HaveOutputs text top a → a.outputs ≡ top_outputs accepted.source top
+outputs_named one {text = text} {top = top} accepted a h =
+    h.outputs_are ∙ ap (λ (s : Source). top_outputs s top) (one text h.tokens accepted.tokens h.source accepted.source h.read accepted.read)
+
+pub loaded : {W : Type 0} (lane : W → ℕ → Bool) (lanes : ℕ) (text top clock : List ℕ) (a : Acceptance) (ports : PortLists) (engine : Running W) (p : Program)
+    → InputBitsFit → OneReading → IsAcceptedText text top clock (design_of a.flat) → HaveOutputs text top a → IsAcceptance clock a → IsProgramOf (design_of a.flat) a.clocks.bit p → IsMade lane lanes p engine
+    → ports.inputs ≡ inputs_among a.clocks.reset_inputs a.clocks.bit (design_of a.flat).signals → ports.outputs ≡ outputs_among a.outputs (design_of a.flat).signals
+    → IsLoaded lane lanes text top clock a ports engine
+loaded lane lanes text top clock a ports engine p fit one accepted have lent program made inputs_are outputs_are = record {
   accepted = accepted;
   program = subst (λ n. IsProgramOf d n engine.program) (sym first) fed;
   idle = λ i h. made.idle d bit i program h ∙ ap (λ n. (network_of d n).idle) (sym first);
   begun = made.begun;
-  inputs_are = named;
-  are_inputs = each;
-  bits = fit d clock accepted.accepted inputs (record { each = each; inputs_are = named }) ∙ ap length (sym ends.inputs);
+  ports_are = λ i. record { inputs = named i; outputs = outputs_is i };
+  are_ports = record { inputs = each; outputs = each_output };
+  bits = fit d clock accepted.accepted ports.inputs (record { each = each; inputs_are = named }) ∙ ap length (sym ends.inputs);
 }
   where
     d : Design
@@ -58,8 +66,14 @@ loaded lane lanes text top clock a inputs engine p fit accepted lent program mad
     ends : IsProgramOf d accepted.accepted.clock.first engine.program
     ends = subst (λ n. IsProgramOf d n engine.program) (sym first) fed
 
-    named : inputs ≡ data_inputs d accepted.accepted.clock.first
+    named : ports.inputs ≡ data_inputs d accepted.accepted.clock.first
     named = inputs_are ∙ ap (λ (bits : List ℕ). inputs_among bits bit d.signals) lent.resets_are.inputs ∙ ap (data_inputs d) (sym first)
 
-    each : All IsInput inputs
+    outputs_is : ports.outputs ≡ outputs d (top_outputs accepted.source top)
+    outputs_is = outputs_are ∙ ap (λ (names : List (List ℕ)). outputs_among names d.signals) (outputs_named one accepted a have)
+
+    each : All IsInput ports.inputs
     each = subst (All IsInput) (sym inputs_are) (are_inputs a.clocks.reset_inputs a.flat bit lent.lawful)
+
+    each_output : All IsOutput ports.outputs
+    each_output = subst (All IsOutput) (sym outputs_are) (are_outputs a.outputs a.flat lent.lawful)

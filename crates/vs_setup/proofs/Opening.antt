@@ -2,7 +2,7 @@
 use Rattle.std.proofs.Common.{◌≡◌, ◌≢◌, ◌⊎◌, ℕ, ◌<◌, ◌≤◌, ◌+◌, List, [], ◌++◌, length, take, Some, arith, refl, inl, inr, IsTrue, Bool, true, false, Result, Ok, Err, IfOk, IfErr, sym, subst, ap, ◌∙◌}
 use Rattle.vs_desk.specs.Desk.{Contents, Told, Fails}
 use Rattle.vs_desk.specs.Places.{design_place, stimulus_place}
-use Rattle.vs_stim.specs.declared.input.Input.{Input}
+use Rattle.vs_stim.specs.Header.{PortLists}
 use Rattle.vs_stim.specs.declared.error.StimError.{StimError}
 use Rattle.vs_stim.specs.declared.error.StimError.TheVariants as E
 use Rattle.vs_stim.specs.Known.{IsUntold}
@@ -18,13 +18,13 @@ use Rattle.vs_accept.specs.Lent.{Acceptance}
 use Rattle.vs_accept.specs.Accepted.{most_bytes, IsRead, IsAcceptedText}
 use Rattle.vs_accept.specs.Answers.{IsRefusalOf}
 use Rattle.vs_job.specs.declared.job.Job.{Job}
-use Rattle.vs_rounds.specs.Inputs.{data_inputs}
 use Rattle.vs_setup.specs.declared.design_text.DesignError.{DesignError}
 use Rattle.vs_setup.specs.declared.design_text.DesignError.TheVariants as D
 use Rattle.vs_setup.specs.declared.error.SetupError.{SetupError}
 use Rattle.vs_setup.specs.declared.error.SetupError.TheVariants.{TooLong, Refused, Stimulus, ReadFault, Memory}
 use Rattle.vs_setup.specs.DesignText.{design_text, with_design, IsBehind, IsTooLong, DesignFails}
 use Rattle.vs_setup.specs.Loaded.{IsLoaded}
+use Rattle.vs_setup.specs.Ports.{ports_of}
 use Rattle.vs_setup.specs.Prepared.{IsDesignLoaded}
 use Rattle.vs_setup.specs.Unprepared.{IsUnopened, IsUnprepared, IsDesignOf, IsRefusedBehind, IsLoadError, IsTextRefusal, IsFirstRefused, error_of, design_error, accept_error}
 
@@ -47,28 +47,28 @@ text_refusal (E.LineTooLong line) h r m = h
 text_refusal E.ReadFault h r m = absurd (r refl)
 text_refusal E.Memory h r m = absurd (m refl)
 
-refusal : {tells : Bool} (inputs : List Input) (stimuli : List (List ℕ)) (old new : Told tells) (lane : ℕ) (error : StimError)
-    → StopsOpening inputs stimuli old new (record { lane = lane; error = error }) → error ≢ E.ReadFault → error ≢ E.Memory
-    → (lane < length stimuli) × IsTextRefusal error × (new.register ≡ with_lanes old.register (take (lane + 1) stimuli)) × (IsTrue tells → IsFirstRefused inputs old.contents stimuli lane error)
-refusal inputs stimuli old new lane error s r m =
+refusal : {tells : Bool} (ports : PortLists) (stimuli : List (List ℕ)) (old new : Told tells) (lane : ℕ) (error : StimError)
+    → StopsOpening ports stimuli old new (record { lane = lane; error = error }) → error ≢ E.ReadFault → error ≢ E.Memory
+    → (lane < length stimuli) × IsTextRefusal error × (new.register ≡ with_lanes old.register (take (lane + 1) stimuli)) × (IsTrue tells → IsFirstRefused ports old.contents stimuli lane error)
+refusal ports stimuli old new lane error s r m =
     (s.lane, text_refusal error s.error r m, s.attached r m, λ t. record { refused = s.refusal t r m; earlier = s.before t })
 
-pub unopened : {tells : Bool} (inputs : List Input) (stimuli : List (List ℕ)) (old new : Told tells) (lane : ℕ) (error : StimError)
-    → StopsOpening inputs stimuli old new (record { lane = lane; error = error }) → IsUnopened inputs stimuli old new (error_of lane error)
-unopened inputs stimuli old new lane E.BadHeader s = refusal inputs stimuli old new lane E.BadHeader s (λ e. cc) (λ e. cc)
-unopened inputs stimuli old new lane (E.BadVector line) s = refusal inputs stimuli old new lane (E.BadVector line) s (λ e. cc) (λ e. cc)
-unopened inputs stimuli old new lane E.FirstUnknown s = refusal inputs stimuli old new lane E.FirstUnknown s (λ e. cc) (λ e. cc)
-unopened inputs stimuli old new lane (E.UnknownReset line) s = refusal inputs stimuli old new lane (E.UnknownReset line) s (λ e. cc) (λ e. cc)
-unopened inputs stimuli old new lane E.NoVector s = refusal inputs stimuli old new lane E.NoVector s (λ e. cc) (λ e. cc)
-unopened inputs stimuli old new lane E.TooManyVectors s = refusal inputs stimuli old new lane E.TooManyVectors s (λ e. cc) (λ e. cc)
-unopened inputs stimuli old new lane E.StimulusTooLong s = refusal inputs stimuli old new lane E.StimulusTooLong s (λ e. cc) (λ e. cc)
-unopened inputs stimuli old new lane (E.LineTooLong line) s = refusal inputs stimuli old new lane (E.LineTooLong line) s (λ e. cc) (λ e. cc)
-unopened inputs stimuli old new lane E.ReadFault s =
+pub unopened : {tells : Bool} (ports : PortLists) (stimuli : List (List ℕ)) (old new : Told tells) (lane : ℕ) (error : StimError)
+    → StopsOpening ports stimuli old new (record { lane = lane; error = error }) → IsUnopened ports stimuli old new (error_of lane error)
+unopened ports stimuli old new lane E.BadHeader s = refusal ports stimuli old new lane E.BadHeader s (λ e. cc) (λ e. cc)
+unopened ports stimuli old new lane (E.BadVector line) s = refusal ports stimuli old new lane (E.BadVector line) s (λ e. cc) (λ e. cc)
+unopened ports stimuli old new lane E.FirstUnknown s = refusal ports stimuli old new lane E.FirstUnknown s (λ e. cc) (λ e. cc)
+unopened ports stimuli old new lane (E.UnknownReset line) s = refusal ports stimuli old new lane (E.UnknownReset line) s (λ e. cc) (λ e. cc)
+unopened ports stimuli old new lane E.NoVector s = refusal ports stimuli old new lane E.NoVector s (λ e. cc) (λ e. cc)
+unopened ports stimuli old new lane E.TooManyVectors s = refusal ports stimuli old new lane E.TooManyVectors s (λ e. cc) (λ e. cc)
+unopened ports stimuli old new lane E.StimulusTooLong s = refusal ports stimuli old new lane E.StimulusTooLong s (λ e. cc) (λ e. cc)
+unopened ports stimuli old new lane (E.LineTooLong line) s = refusal ports stimuli old new lane (E.LineTooLong line) s (λ e. cc) (λ e. cc)
+unopened ports stimuli old new lane E.ReadFault s =
     let attach = Fails (with_lanes old.register (take lane stimuli)) new.register (stimulus_place lane) (path_at stimuli lane) in
     let taking = Fails (with_lanes old.register (take (lane + 1) stimuli)) new.register (stimulus_place lane) old.register.asked in
     let untold = IsUntold first_place (old.contents.files (path_at stimuli lane)) (new.contents.left (stimulus_place lane)) in
     (lane, s.lane, refl, both_known _ attach taking untold (s.fault refl) (λ t. s.needed t refl), s.before)
-unopened inputs stimuli old new lane E.Memory s = of_memory (s.memory refl)
+unopened ports stimuli old new lane E.Memory s = of_memory (s.memory refl)
   where
     of_memory : (new.register ≡ with_lanes old.register (take lane stimuli)) ⊎ (new.register ≡ with_lanes old.register (take (lane + 1) stimuli)) → (lanes : ℕ) × (lanes ≤ length stimuli) × (new.register ≡ with_lanes old.register (take lanes stimuli))
     of_memory (inl e) =
@@ -107,12 +107,12 @@ pub record IsWhole (tells : Bool) (job : Job) (old new : Contents) (text : List 
   pub taken : IsTrue tells → new.left design_place ≡ []
 
 -- it is loaded
-pub loaded_behind : {W : Type 0} (lane : W → ℕ → Bool) (lanes : ℕ) (tells : Bool) (job : Job) (old : Contents) (text : List ℕ) (a : Acceptance) (inputs : List Input) (engine : Running W)
-    → IsBehind tells job.head (old.files job.design) text → IsLoaded lane lanes text job.top job.clock a inputs engine → IsDesignLoaded lane lanes tells job old a inputs engine
-loaded_behind lane lanes tells job old text a inputs engine b l = record {
+pub loaded_behind : {W : Type 0} (lane : W → ℕ → Bool) (lanes : ℕ) (tells : Bool) (job : Job) (old : Contents) (text : List ℕ) (a : Acceptance) (ports : PortLists) (engine : Running W)
+    → IsBehind tells job.head (old.files job.design) text → IsLoaded lane lanes text job.top job.clock a ports engine → IsDesignLoaded lane lanes tells job old a ports engine
+loaded_behind lane lanes tells job old text a ports engine b l = record {
   file = b.taken;
   file_is = b.taken_is;
-  loaded = subst (λ (xs : List ℕ). IsLoaded lane lanes xs job.top job.clock a inputs engine) b.text_is l;
+  loaded = subst (λ (xs : List ℕ). IsLoaded lane lanes xs job.top job.clock a ports engine) b.text_is l;
 }
 
 -- it can't be loaded
@@ -158,27 +158,27 @@ with_text top clock d text other e a = record {
 }
 
 -- a stimulus that can't be opened, behind a loaded design
-pub unprepared : {W : Type 0} {tells : Bool} (lane : W → ℕ → Bool) (lanes : ℕ) (job : Job) (old mid new : Told tells) (a : Acceptance) (inputs : List Input) (engine : Running W)
-    → IsDesignLoaded lane lanes tells job old.contents a inputs engine → (IsTrue tells → mid.contents.files ≡ old.contents.files)
-    → (e : SetupError) → IsUnopened inputs job.stimuli (record mid { register = with_design old.register job.design }) new e → IsUnprepared job old new e
+pub unprepared : {W : Type 0} {tells : Bool} (lane : W → ℕ → Bool) (lanes : ℕ) (job : Job) (old mid new : Told tells) (a : Acceptance) (ports : PortLists) (engine : Running W)
+    → IsDesignLoaded lane lanes tells job old.contents a ports engine → (IsTrue tells → mid.contents.files ≡ old.contents.files)
+    → (e : SetupError) → IsUnopened ports job.stimuli (record mid { register = with_design old.register job.design }) new e → IsUnprepared job old new e
 unfolding with_text
-unprepared {W} {tells} lane lanes job old mid new a inputs engine l same e u = by_error e u
+unprepared {W} {tells} lane lanes job old mid new a ports engine l same e u = by_error e u
   where
     accepted : (t : IsTrue tells) → IsDesignOf job old.contents (design_of a.flat)
     accepted t =
         with_text job.top job.clock (design_of a.flat) (job.head ++ l.file) (design_text job old.contents) (ap (λ (file : List ℕ). job.head ++ file) (l.file_is t)) l.loaded.accepted
 
-    inputs_are : (t : IsTrue tells) → inputs ≡ data_inputs (design_of a.flat) (accepted t).accepted.clock.first
-    inputs_are t = l.loaded.inputs_are
+    ports_are : (t : IsTrue tells) → ports ≡ ports_of (accepted t)
+    ports_are t = l.loaded.ports_are
 
-    headers : (t : IsTrue tells) (n : ℕ) → HaveHeaders inputs mid.contents.files job.stimuli n → HaveHeaders (data_inputs (design_of a.flat) (accepted t).accepted.clock.first) old.contents.files job.stimuli n
-    headers t n h = subst (λ (is : List Input). HaveHeaders is old.contents.files job.stimuli n) (inputs_are t) (subst (λ (files : List ℕ → List ℕ). HaveHeaders inputs files job.stimuli n) (same t) h)
+    headers : (t : IsTrue tells) (n : ℕ) → HaveHeaders ports mid.contents.files job.stimuli n → HaveHeaders (ports_of (accepted t)) old.contents.files job.stimuli n
+    headers t n h = subst (λ (is : PortLists). HaveHeaders is old.contents.files job.stimuli n) (ports_are t) (subst (λ (files : List ℕ → List ℕ). HaveHeaders ports files job.stimuli n) (same t) h)
 
-    refused : (t : IsTrue tells) (n : ℕ) (error : StimError) → header_refusal inputs (mid.contents.files (path_at job.stimuli n)) ≡ Some error
-        → header_refusal (data_inputs (design_of a.flat) (accepted t).accepted.clock.first) (old.contents.files (path_at job.stimuli n)) ≡ Some error
-    refused t n error h = ap (λ is. header_refusal is (old.contents.files (path_at job.stimuli n))) (sym (inputs_are t)) ∙ ap (λ (files : List ℕ → List ℕ). header_refusal inputs (files (path_at job.stimuli n))) (sym (same t)) ∙ h
+    refused : (t : IsTrue tells) (n : ℕ) (error : StimError) → header_refusal ports (mid.contents.files (path_at job.stimuli n)) ≡ Some error
+        → header_refusal (ports_of (accepted t)) (old.contents.files (path_at job.stimuli n)) ≡ Some error
+    refused t n error h = ap (λ is. header_refusal is (old.contents.files (path_at job.stimuli n))) (sym (ports_are t)) ∙ ap (λ (files : List ℕ → List ℕ). header_refusal ports (files (path_at job.stimuli n))) (sym (same t)) ∙ h
 
-    by_error : (e : SetupError) → IsUnopened inputs job.stimuli (record mid { register = with_design old.register job.design }) new e → IsUnprepared job old new e
+    by_error : (e : SetupError) → IsUnopened ports job.stimuli (record mid { register = with_design old.register job.design }) new e → IsUnprepared job old new e
     by_error TooLong u = absurd u
     by_error (Refused r) u = absurd u
     by_error (Stimulus n error) u = (

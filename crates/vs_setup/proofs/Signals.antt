@@ -1,7 +1,7 @@
 -- The data inputs, signal by signal.
 use Rattle.std.proofs.Common.{◌≡◌, ℕ, zero, suc, Bool, true, false, List, [], ◌∷◌, ◌++◌, ◌&&◌, ◌||◌, not, ◌==◌, if◌then◌else◌, ◌+◌, ◌-◌, ◌≤◌, nat_lt, nat_le, length, map, drop, slice_get, Option, Some, None, arith, append-nil, append_assoc, drop_of_length-le, sym, ap, ◌∙◌, refl, subst, All}
 use Rattle.std.specs.Prelude.{is_some}
-use Rattle.std.specs.List.{filter, list_all}
+use Rattle.std.specs.List.{filter, list_all, list_any}
 use Rattle.std.proofs.lemmas.Bool.{and_parts}
 use Rattle.std.proofs.lemmas.List.Elements.{All-cons, All-nil}
 use Rattle.vs_four.specs.declared.Range.{Range}
@@ -9,6 +9,7 @@ use Rattle.vs_four.specs.Selects.{range_length, is_descending}
 use Rattle.vs_design.specs.Expressions.{Signal, range_or_one, words_length, signal_length}
 use Rattle.vs_design.specs.Designs.{Design}
 use Rattle.vs_design.specs.Elaborated.{is_lawful_range, is_declared, are_lawful_words, is_lawful_memory}
+use Rattle.vs_design.specs.Clocks.{same_name}
 use Rattle.vs_design.specs.Footprints.{is_memory, is_variable}
 use Rattle.vs_flat.specs.declared.processes.Signal as F
 use Rattle.vs_flat.specs.Arena.{Arena}
@@ -16,8 +17,9 @@ use Rattle.vs_flat.specs.Trees.{signal_of, signals_from}
 use Rattle.vs_flat.specs.DesignOf.{arena_signals, design_of}
 use Rattle.vs_flat.specs.Lawful.{IsLawful}
 use Rattle.vs_stim.specs.declared.input.Input.{Input}
-use Rattle.vs_stim.specs.Header.{IsInput}
-use Rattle.vs_rounds.specs.Inputs.{is_data_input, input_of, inputs_among}
+use Rattle.vs_stim.specs.declared.input.Output.{Output}
+use Rattle.vs_stim.specs.Header.{IsInput, IsOutput}
+use Rattle.vs_rounds.specs.Inputs.{is_data_input, input_of, inputs_among, is_output, output_of, outputs_among}
 
 some_is : {A : Type 0} (x y : A) → Some x ≡ Some y → x ≡ y
 some_is x y e = cc
@@ -150,3 +152,62 @@ pub all : (resets : List ℕ) (clock : ℕ) (a : Arena) (n count : ℕ) (so_far 
 all resets clock a n count so_far is past so_far_is =
     let end : length (arena_signals a) ≤ n = omega (arith, is, past, length-signals_from 0 a.signals) in
     sym (append-nil so_far) ∙ ap (λ r. so_far ++ r) (sym (ap (inputs_among resets clock) (drop_of_length-le (arena_signals a) end))) ∙ so_far_is
+
+-- ---- outputs
+
+plain_output : (d : Design) (names : List (List ℕ)) (s : Signal) → is_declared d s ≡ true → is_output names s ≡ true → HasFew s
+plain_output d names s declared output =
+    let parts = and_parts (s.scope == 0) (not (is_memory s) && list_any (same_name s.name) names) output in
+    let plain = and_parts (not (is_memory s)) (list_any (same_name s.name) names) parts.1 in
+    let long : signal_length s ≡ range_or_one s.range = of_words s.words plain.0 in
+    record { some = omega (arith, long, one_or_more s.range); at_most_64 = omega (arith, long, few_bits d s declared) }
+  where
+    of_words : (words : Option Range) → not (is_some words) ≡ true → words_length words (range_or_one s.range) ≡ range_or_one s.range
+    of_words None e = refl
+    of_words (Some r) e = cc
+
+pub few_output_at : (a : Arena) (names : List (List ℕ)) → IsLawful a → (n : ℕ) (s : F.Signal) → slice_get a.signals n ≡ Some s → is_output names (signal_of n s) ≡ true → HasFew (signal_of n s)
+few_output_at a names lawful n s e output =
+    plain_output (design_of a) names (signal_of n s) (all_at (is_declared (design_of a)) (arena_signals a) n (signal_of n s) lawful.design.declared (signal_there a n s e)) output
+
+outputs_of : (d : Design) (names : List (List ℕ)) (ss : List Signal) → list_all (is_declared d) ss ≡ true → All IsOutput (outputs_among names ss)
+outputs_of d names [] h = All-nil IsOutput
+outputs_of d names (s ∷ ss) h =
+    let declared = and_parts (is_declared d s) (list_all (is_declared d) ss) h in
+    here (is_output names s) (λ output. plain_output d names s declared.0 output) (outputs_of d names ss declared.1)
+  where
+    here : (c : Bool) → (c ≡ true → HasFew s) → All IsOutput (outputs_among names ss)
+        → All IsOutput (map output_of (if c then (s ∷ filter (is_output names) ss) else filter (is_output names) ss))
+    here true few others = All-cons IsOutput (output_of s) (outputs_among names ss) (record { some = (few refl).some; at_most_64 = (few refl).at_most_64 }) others
+    here false few others = others
+
+pub are_outputs : (names : List (List ℕ)) (a : Arena) → IsLawful a → All IsOutput (outputs_among names (design_of a).signals)
+are_outputs names a lawful = outputs_of (design_of a) names (design_of a).signals lawful.design.declared
+
+-- one more signal, which may be an output
+pub more_outputs : (names : List (List ℕ)) (a : Arena) (n : ℕ) (s : F.Signal) (test : Bool) (so_far new : List Output) → slice_get a.signals n ≡ Some s
+    → test ≡ is_output names (signal_of n s)
+    → new ≡ so_far ++ (if test then (output_of (signal_of n s) ∷ []) else [])
+    → so_far ++ outputs_among names (drop n (arena_signals a)) ≡ outputs_among names (arena_signals a)
+    → new ++ outputs_among names (drop (n + 1) (arena_signals a)) ≡ outputs_among names (arena_signals a)
+more_outputs names a n s test so_far new at is pushed so_far_is =
+    ap (λ (xs : List Output). xs ++ outputs_among names rest) pushed
+    ∙ append_assoc so_far (if test then (output_of (signal_of n s) ∷ []) else []) (outputs_among names rest)
+    ∙ ap (λ (xs : List Output). so_far ++ xs) (one test is ∙ ap (outputs_among names) (sym (drop_some (arena_signals a) n (signal_of n s) (signal_there a n s at))))
+    ∙ so_far_is
+  where
+    rest : List Signal
+    rest = drop (n + 1) (arena_signals a)
+
+    one : (t : Bool) → t ≡ is_output names (signal_of n s) → (if t then (output_of (signal_of n s) ∷ []) else []) ++ outputs_among names rest ≡ outputs_among names (signal_of n s ∷ rest)
+    one t e = ap (λ (c : Bool). (if c then (output_of (signal_of n s) ∷ []) else []) ++ outputs_among names rest) e ∙ both (is_output names (signal_of n s))
+      where
+        both : (c : Bool) → (if c then (output_of (signal_of n s) ∷ []) else []) ++ outputs_among names rest ≡ map output_of (if c then (signal_of n s ∷ filter (is_output names) rest) else filter (is_output names) rest)
+        both true = refl
+        both false = refl
+
+pub all_outputs : (names : List (List ℕ)) (a : Arena) (n count : ℕ) (so_far : List Output) → count ≡ length a.signals → count ≤ n
+    → so_far ++ outputs_among names (drop n (arena_signals a)) ≡ outputs_among names (arena_signals a) → so_far ≡ outputs_among names (design_of a).signals
+all_outputs names a n count so_far is past so_far_is =
+    let end : length (arena_signals a) ≤ n = omega (arith, is, past, length-signals_from 0 a.signals) in
+    sym (append-nil so_far) ∙ ap (λ r. so_far ++ r) (sym (ap (outputs_among names) (drop_of_length-le (arena_signals a) end))) ∙ so_far_is

@@ -1,4 +1,5 @@
 pub mod DesignText
+pub mod Ports
 pub mod Places
 pub mod Prepared
 pub mod Unprepared

@@ -8,21 +8,20 @@ use Rattle.vs_program.specs.Compiled.{IsProgramOf}
 use Rattle.vs_engine.specs.Lanes.{Running}
 use Rattle.vs_accept.specs.Accepted.{IsAcceptedText}
 use Rattle.vs_accept.specs.Lent.{Acceptance}
-use Rattle.vs_stim.specs.Header.{IsInput}
+use Rattle.vs_stim.specs.Header.{PortLists, ArePorts}
 use Rattle.vs_feed.specs.Lanes.{AreAttached}
 use Rattle.vs_feed.specs.Opened.{path_at, HaveHeaders}
 use Rattle.vs_job.specs.declared.job.Job.{Job}
 use Rattle.vs_job.specs.Places.{vcd_path}
-use Rattle.vs_rounds.specs.Inputs.{data_inputs}
 use Rattle.vs_rounds.specs.Lanes.{Run, Simulation, AreOpened}
 use Rattle.vs_rounds.specs.Ready.{IsReady}
 use Rattle.vs_setup.specs.Loaded.{IsLoaded}
-use Rattle.vs_stim.specs.declared.input.Input.{Input}
+use Rattle.vs_setup.specs.Ports.{ports_of}
 use Rattle.vs_setup.specs.Places.{with_texts}
 
--- What a job runs where the files have these bytes: its design, with the bit of its clock, and a text for each lane.
-abbrev pub run_of : Job → (List ℕ → List ℕ) → Design → ℕ → Run
-run_of job files d clock = record { design = d; clock = clock; half = job.half; inputs = data_inputs d clock; texts = λ i. files (path_at job.stimuli i) }
+-- What a job runs where the files have these bytes: its design, with the bit of its clock and the ports that stimuli name, and a text for each lane.
+abbrev pub run_of : Job → (List ℕ → List ℕ) → Design → ℕ → PortLists → Run
+run_of job files d clock ports = record { design = d; clock = clock; half = job.half; ports = ports; texts = λ i. files (path_at job.stimuli i) }
 
 -- nothing changed of the files and of what was put
 pub record AreTextsKept (old new : Contents) : Type 0 where
@@ -42,12 +41,12 @@ pub record IsPrepared {W : Type 0} (lane : W → ℕ → Bool) {tells : Bool} (j
   pub program : IsProgramOf design accepted.accepted.clock.first m.engine.program
   -- no slot was run
   pub begun : m.engine.begun ≡ false
-  pub all_inputs : All IsInput (data_inputs design accepted.accepted.clock.first)
+  pub all_ports : ArePorts (ports_of accepted)
   -- the lanes
   pub lanes : length m.stimuli ≡ length job.stimuli
-  pub headers : IsTrue tells → HaveHeaders (data_inputs design accepted.accepted.clock.first) old.contents.files job.stimuli (length job.stimuli)
+  pub headers : IsTrue tells → HaveHeaders (ports_of accepted) old.contents.files job.stimuli (length job.stimuli)
   pub ready : IsReady 0 m
-  pub opened : IsTrue tells → AreOpened lane (run_of job old.contents.files design accepted.accepted.clock.first) m new.contents
+  pub opened : IsTrue tells → AreOpened lane (run_of job old.contents.files design accepted.accepted.clock.first (ports_of accepted)) m new.contents
   pub paths : wave_paths ≡ map vcd_path job.stimuli
   -- the desk
   pub register_is : new.register ≡ with_texts old.register job job.stimuli
@@ -55,7 +54,7 @@ pub record IsPrepared {W : Type 0} (lane : W → ℕ → Bool) {tells : Bool} (j
   pub kept : IsTrue tells → AreTextsKept old.contents new.contents
 
 -- the design's file was loaded behind the head, where the desk told this
-pub record IsDesignLoaded {W : Type 0} (lane : W → ℕ → Bool) (lanes : ℕ) (tells : Bool) (job : Job) (old : Contents) (a : Acceptance) (inputs : List Input) (engine : Running W) : Type 0 where
+pub record IsDesignLoaded {W : Type 0} (lane : W → ℕ → Bool) (lanes : ℕ) (tells : Bool) (job : Job) (old : Contents) (a : Acceptance) (ports : PortLists) (engine : Running W) : Type 0 where
   pub file : List ℕ
   pub file_is : IsTrue tells → file ≡ old.files job.design
-  pub loaded : IsLoaded lane lanes (job.head ++ file) job.top job.clock a inputs engine
+  pub loaded : IsLoaded lane lanes (job.head ++ file) job.top job.clock a ports engine

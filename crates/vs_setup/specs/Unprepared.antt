@@ -8,7 +8,7 @@ use Rattle.vs_refusal.specs.Behind.{behind}
 use Rattle.vs_accept.specs.declared.error.AcceptError.{AcceptError}
 use Rattle.vs_accept.specs.declared.error.AcceptError.TheVariants as A
 use Rattle.vs_accept.specs.Accepted.{most_bytes, IsAcceptedText, IsRefusedText}
-use Rattle.vs_stim.specs.declared.input.Input.{Input}
+use Rattle.vs_stim.specs.Header.{PortLists}
 use Rattle.vs_stim.specs.declared.error.StimError.{StimError}
 use Rattle.vs_stim.specs.declared.error.StimError.TheVariants as E
 use Rattle.vs_stim.specs.Known.{IsUntold}
@@ -16,11 +16,11 @@ use Rattle.vs_stim.specs.Reading.{first_place, header_refusal}
 use Rattle.vs_stim.specs.Source.{IsHeaderError}
 use Rattle.vs_feed.specs.Opened.{path_at, with_lanes, HaveHeaders}
 use Rattle.vs_job.specs.declared.job.Job.{Job}
-use Rattle.vs_rounds.specs.Inputs.{data_inputs}
 use Rattle.vs_setup.specs.declared.design_text.DesignError.{DesignError}
 use Rattle.vs_setup.specs.declared.design_text.DesignError.TheVariants as D
 use Rattle.vs_setup.specs.declared.error.SetupError.{SetupError}
 use Rattle.vs_setup.specs.declared.error.SetupError.TheVariants.{TooLong, Refused, Stimulus, ReadFault, Memory}
+use Rattle.vs_setup.specs.Ports.{ports_of}
 use Rattle.vs_setup.specs.DesignText.{design_text, with_design, IsTooLong, DesignFails}
 use Rattle.vs_setup.specs.Places.{with_texts}
 
@@ -48,22 +48,22 @@ IsSomeRefusal job r = (file : List ℕ) × IsRefusedBehind (length job.head) (jo
 abbrev pub text_of : Contents → List (List ℕ) → ℕ → List ℕ
 text_of c stimuli i = c.files (path_at stimuli i)
 
--- The stimulus of this lane is the first that is refused up to its header, where the design has these inputs.
-pub record IsFirstRefused (inputs : List Input) (c : Contents) (stimuli : List (List ℕ)) (lane : ℕ) (error : StimError) : Type 0 where
-  pub refused : header_refusal inputs (text_of c stimuli lane) ≡ Some error
-  pub earlier : HaveHeaders inputs c.files stimuli lane
+-- The stimulus of this lane is the first that is refused up to its header, where the design has these ports.
+pub record IsFirstRefused (ports : PortLists) (c : Contents) (stimuli : List (List ℕ)) (lane : ℕ) (error : StimError) : Type 0 where
+  pub refused : header_refusal ports (text_of c stimuli lane) ≡ Some error
+  pub earlier : HaveHeaders ports c.files stimuli lane
 
 -- no stimulus before this lane's is refused up to its header
 pub record AreEarlierOpened (job : Job) (c : Contents) (lane : ℕ) : Type 0 where
   pub design : Design
   pub accepted : IsDesignOf job c design
-  pub headers : HaveHeaders (data_inputs design accepted.accepted.clock.first) c.files job.stimuli lane
+  pub headers : HaveHeaders (ports_of accepted) c.files job.stimuli lane
 
 -- The design is accepted, and this lane's stimulus is the first that is refused up to its header.
 pub record IsHeaderRefusal (job : Job) (c : Contents) (lane : ℕ) (error : StimError) : Type 0 where
   pub design : Design
   pub accepted : IsDesignOf job c design
-  pub first : IsFirstRefused (data_inputs design accepted.accepted.clock.first) c job.stimuli lane error
+  pub first : IsFirstRefused (ports_of accepted) c job.stimuli lane error
 
 -- The attach of this lane's stimulus failed, behind the earlier ones, or a take there did, behind bytes of its text that tell neither a header nor
 -- a refusal, where the register was this before the first one.
@@ -101,15 +101,15 @@ IsUnprepared {tells} job old new (Stimulus lane error) =
 IsUnprepared {tells} job old new (ReadFault place) = IsDesignFault job old new place ⊎ IsStimulusFault job old new place
 IsUnprepared {tells} job old new Memory = (new.register ≡ old.register) ⊎ ((lanes : ℕ) × (lanes ≤ length job.stimuli) × (new.register ≡ with_texts old.register job (take lanes job.stimuli)))
 
--- Why a stimulus can't be opened, where the design's inputs are these.
-abbrev pub IsUnopened : {tells : Bool} → List Input → List (List ℕ) → Told tells → Told tells → SetupError → Type 0
-IsUnopened {tells} inputs stimuli old new TooLong = ⊥
-IsUnopened {tells} inputs stimuli old new (Refused r) = ⊥
-IsUnopened {tells} inputs stimuli old new (Stimulus lane error) =
-    (lane < length stimuli) × IsTextRefusal error × (new.register ≡ with_lanes old.register (take (lane + 1) stimuli)) × (IsTrue tells → IsFirstRefused inputs old.contents stimuli lane error)
-IsUnopened {tells} inputs stimuli old new (ReadFault place) =
-    (lane : ℕ) × (lane < length stimuli) × (place ≡ stimulus_place lane) × StimulusFails stimuli old.register old new lane × (IsTrue tells → HaveHeaders inputs old.contents.files stimuli lane)
-IsUnopened {tells} inputs stimuli old new Memory = (lanes : ℕ) × (lanes ≤ length stimuli) × (new.register ≡ with_lanes old.register (take lanes stimuli))
+-- Why a stimulus can't be opened, where the design's ports are these.
+abbrev pub IsUnopened : {tells : Bool} → PortLists → List (List ℕ) → Told tells → Told tells → SetupError → Type 0
+IsUnopened {tells} ports stimuli old new TooLong = ⊥
+IsUnopened {tells} ports stimuli old new (Refused r) = ⊥
+IsUnopened {tells} ports stimuli old new (Stimulus lane error) =
+    (lane < length stimuli) × IsTextRefusal error × (new.register ≡ with_lanes old.register (take (lane + 1) stimuli)) × (IsTrue tells → IsFirstRefused ports old.contents stimuli lane error)
+IsUnopened {tells} ports stimuli old new (ReadFault place) =
+    (lane : ℕ) × (lane < length stimuli) × (place ≡ stimulus_place lane) × StimulusFails stimuli old.register old new lane × (IsTrue tells → HaveHeaders ports old.contents.files stimuli lane)
+IsUnopened {tells} ports stimuli old new Memory = (lanes : ℕ) × (lanes ≤ length stimuli) × (new.register ≡ with_lanes old.register (take lanes stimuli))
 
 -- the error of a stimulus that can't be opened
 abbrev pub error_of : ℕ → StimError → SetupError

@@ -1,16 +1,19 @@
-//! The data inputs of a design.
+//! The data inputs and the outputs of a design.
 
 ghost use Rattle.std.specs.Prelude.{◌≡◌, ◌≤◌, ℕ, IfOk};
+ghost use Rattle.std.specs.List.{list_any};
+ghost use Rattle.vs_design.specs.Clocks.{same_name};
 ghost use Rattle.vs_design.specs.Footprints.{contains};
 ghost use Rattle.vs_flat.specs.Arena.{signal_length};
 ghost use Rattle.vs_flat.specs.DesignOf.{design_of};
 ghost use Rattle.vs_flat.specs.Lawful.{IsLawful};
 ghost use Rattle.vs_flat.specs.Trees.{signal_of};
-ghost use Rattle.vs_rounds.specs.Inputs.{input_of, inputs_among, is_data_input};
+ghost use Rattle.vs_rounds.specs.Inputs.{input_of, inputs_among, is_data_input, is_output, output_of, outputs_among};
 
 use std::alloc::{AllocError, Global};
+use vs_base::Text;
 use vs_flat::{Flat, Signal, bits_of};
-use vs_stim::{Input, Name};
+use vs_stim::{Input, Name, Output};
 
 /// The data inputs of a design whose clock and whose reset inputs are these bits, in order of declaration.
 pub(crate) fn data_inputs(
@@ -57,4 +60,49 @@ fn contains(bits: &[u32], bit: u32) -> bool
     ensures { result ≡ contains bits.now bit }
 {
     bits.iter().any(|b| bit == *b)
+}
+
+/// The outputs of a design, which have these names, in order of declaration.
+pub(crate) fn outputs(
+    alloc: Global,
+    flat: &Flat,
+    names: &[Text],
+) -> Result<Vec<Output>, AllocError>
+    requires { IsLawful flat.now }
+    ensures { IfOk result (λ outputs. outputs.items ≡ outputs_among names.now (design_of flat.now).signals) }
+{
+    let mut outputs = Vec::new(alloc);
+    for n in 0..flat.signal_count() {
+        let signal = flat.signal(n);
+        if is_output(signal, names) {
+            outputs.push(output_of(alloc, signal)?)?;
+        }
+    }
+    Ok(outputs)
+}
+
+/// Whether a signal is one of the top's that has one of these names.
+fn is_output(signal: &Signal, names: &[Text]) -> bool
+    ensures { (n : ℕ) → result ≡ is_output names.now (signal_of n signal.now) }
+{
+    signal.scope == 0 && signal.words.is_none() && is_among(names, signal.name.as_slice())
+}
+
+/// A signal's name and length.
+fn output_of(alloc: Global, signal: &Signal) -> Result<Output, AllocError>
+    requires { signal_length signal.now ≤ 64 }
+    ensures { IfOk result (λ output. (n : ℕ) → output ≡ output_of (signal_of n signal.now)) }
+{
+    let name = signal.name.as_slice().to_vec(alloc)?;
+    Ok(Output {
+        name: Name::of(name),
+        length: bits_of(signal),
+    })
+}
+
+/// Whether the name is one of these.
+fn is_among(names: &[Text], name: &[u8]) -> bool
+    ensures { result ≡ list_any (same_name name.now) names.now }
+{
+    names.iter().any(|other| name == other.as_slice())
 }

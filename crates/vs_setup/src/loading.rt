@@ -5,14 +5,14 @@ ghost use Rattle.vs_accept.specs.Accepted.{most_bytes};
 ghost use Rattle.vs_accept.specs.Answers.{IsRefusalOf};
 ghost use Rattle.vs_setup.specs.Loaded.{IsLoaded};
 
-use crate::inputs::data_inputs;
+use crate::inputs::{data_inputs, outputs};
 use std::alloc::Global;
-use vs_accept::{AcceptError, Accepted, accept};
+use vs_accept::{AcceptError, Accepted, accept, answer_law};
 use vs_compile::compile;
 use vs_engine::Engine;
 use vs_plane::{Lanes, Word};
 use vs_rounds::inputs_law;
-use vs_stim::Input;
+use vs_stim::Ports;
 
 /// A design that is ready to run.
 #[derive(Drop)]
@@ -21,8 +21,8 @@ pub struct Loaded<W: Word> {
     pub accepted: Accepted,
     /// What runs it, with each bit idle in every lane.
     pub engine: Engine<W>,
-    /// The inputs of the top but the clock, in order of declaration.
-    pub inputs: Vec<Input>,
+    /// The inputs of the top but the clock, and its outputs, in order of declaration.
+    pub ports: Ports,
 }
 
 /// Loads the design of a text of at most 4,194,304 bytes whose top module and whose clock input have these names: it is accepted and compiled.
@@ -34,10 +34,11 @@ pub fn load<W: Lanes>(
     clock: &[u8],
 ) -> Result<Loaded<W>, AcceptError>
     requires { length text.now ≤ most_bytes }
-    ensures loaded { IfOk result (λ l. IsLoaded W.lane W.LANES text.now top.now clock.now l.accepted l.inputs.items l.engine) }
+    ensures loaded { IfOk result (λ l. IsLoaded W.lane W.LANES text.now top.now clock.now l.accepted l.ports l.engine) }
     ensures refused { IfErr result (IsRefusalOf text.now top.now clock.now) }
 {
     inputs_law();
+    answer_law();
     let accepted = accept(alloc, text, top, clock)?;
     let typed = accepted.typed();
     let clocks = accepted.clocks();
@@ -50,9 +51,10 @@ pub fn load<W: Lanes>(
     )?;
     let engine = Engine::new(alloc, compiled)?;
     let inputs = data_inputs(alloc, typed.flat(), clocks.bit(), clocks.reset_inputs())?;
+    let outputs = outputs(alloc, typed.flat(), accepted.outputs())?;
     Ok(Loaded {
         accepted,
         engine,
-        inputs,
+        ports: Ports::of(inputs, outputs),
     })
 }

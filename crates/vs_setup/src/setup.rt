@@ -7,7 +7,7 @@ ghost use Rattle.vs_flat.specs.DesignOf.{design_of};
 ghost use Rattle.vs_accept.specs.Accepted.{most_bytes};
 ghost use Rattle.vs_design.specs.Sizes.{size as size_of};
 ghost use Rattle.vs_setup.specs.Loaded.{IsLoaded};
-ghost use Rattle.vs_stim.specs.Header.{IsInput};
+ghost use Rattle.vs_stim.specs.Header.{ArePorts};
 ghost use Rattle.vs_feed.specs.Lanes.{AreAttached, AreLanes, OtherPlacesKept};
 ghost use Rattle.vs_feed.specs.Opened.{AreFree, AreOpened, HaveHeaders, with_lanes};
 ghost use Rattle.vs_waves.specs.Wave.{IsNewWave};
@@ -27,7 +27,7 @@ use vs_feed::{Drive, Stopped, open};
 use vs_job::{Job, stimulus_paths, vcd_paths};
 use vs_plane::Lanes;
 use vs_rounds::Machine;
-use vs_stim::{Input, StimError};
+use vs_stim::{Ports, StimError};
 use vs_waves::Waves;
 
 /// A run that can begin.
@@ -56,7 +56,7 @@ pub fn prepare<W: Lanes, D: Desk>(
     ensures kept { IsTrue D.tells → AreTextsKept (D.told desk.old).contents (D.told desk.new).contents }
 {
     let loaded = read_and_load::<W, D>(alloc, job, desk)?;
-    let drive = open_stimuli(alloc, job, desk, &loaded.inputs)?;
+    let drive = open_stimuli(alloc, job, desk, &loaded.ports)?;
     let prepared = assemble(alloc, job, loaded, drive)?;
     Ok(prepared)
 }
@@ -69,7 +69,7 @@ fn read_and_load<W: Lanes, D: Desk>(
 ) -> Result<Loaded<W>, SetupError>
     requires free { IsNone ((D.told desk.old).register.attached design_place) }
     requires head { length job.now.head ≤ most_head }
-    ensures loaded { IfOk result (λ l. IsDesignLoaded W.lane W.LANES D.tells job.now (D.told desk.old).contents l.accepted l.inputs.items l.engine) }
+    ensures loaded { IfOk result (λ l. IsDesignLoaded W.lane W.LANES D.tells job.now (D.told desk.old).contents l.accepted l.ports l.engine) }
     ensures register { OnOk result ((D.told desk.new).register ≡ with_design (D.told desk.old).register job.now.design) }
     ensures unprepared { IfErr result (IsUnprepared job.now (D.told desk.old) (D.told desk.new)) }
     ensures taken { IsTrue D.tells → OnOk result ((D.told desk.new).contents.left design_place ≡ []) }
@@ -84,7 +84,7 @@ fn read_and_load<W: Lanes, D: Desk>(
 fn load_text<W: Lanes>(alloc: Global, job: &Job, text: &[u8]) -> Result<Loaded<W>, SetupError>
     requires text { length text.now ≤ most_bytes }
     requires head { length job.now.head ≤ most_head }
-    ensures loaded { IfOk result (λ l. IsLoaded W.lane W.LANES text.now job.now.top job.now.clock l.accepted l.inputs.items l.engine) }
+    ensures loaded { IfOk result (λ l. IsLoaded W.lane W.LANES text.now job.now.top job.now.clock l.accepted l.ports l.engine) }
     ensures refused { IfErr result (IsLoadError (length job.now.head) text.now job.now.top job.now.clock) }
 {
     match load(alloc, text, job.top.as_bytes(), job.clock.as_bytes()) {
@@ -98,21 +98,21 @@ fn open_stimuli<D: Desk>(
     alloc: Global,
     job: &Job,
     desk: &mut D,
-    inputs: &[Input],
+    ports: &Ports,
 ) -> Result<Drive, SetupError>
     requires lanes { length job.now.stimuli ≤ most_lanes }
     requires free { AreFree (D.told desk.old).register (length job.now.stimuli) }
-    requires inputs { All IsInput inputs.now }
-    ensures opened { IfOk result (AreOpened D.tells inputs.now (D.told desk.old).contents (D.told desk.new).contents job.now.stimuli) }
-    ensures headers { IsTrue D.tells → OnOk result (HaveHeaders inputs.now (D.told desk.old).contents.files job.now.stimuli (length job.now.stimuli)) }
+    requires ports { ArePorts ports.now }
+    ensures opened { IfOk result (AreOpened D.tells ports.now (D.told desk.old).contents (D.told desk.new).contents job.now.stimuli) }
+    ensures headers { IsTrue D.tells → OnOk result (HaveHeaders ports.now (D.told desk.old).contents.files job.now.stimuli (length job.now.stimuli)) }
     ensures numbered { IfOk result AreLanes }
     ensures register { OnOk result ((D.told desk.new).register ≡ with_lanes (D.told desk.old).register job.now.stimuli) }
     ensures readable { IfOk result (AreAttached (D.told desk.new).register) }
-    ensures unopened { IfErr result (IsUnopened inputs.now job.now.stimuli (D.told desk.old) (D.told desk.new)) }
+    ensures unopened { IfErr result (IsUnopened ports.now job.now.stimuli (D.told desk.old) (D.told desk.new)) }
     ensures others { IsTrue D.tells → OtherPlacesKept (length job.now.stimuli) (D.told desk.old).contents (D.told desk.new).contents }
 {
     let paths = stimulus_paths(alloc, job)?;
-    match open(alloc, desk, paths, inputs) {
+    match open(alloc, desk, paths, ports) {
         Ok(drive) => Ok(drive),
         Err(stopped) => Err(stopped_at(stopped)),
     }
@@ -152,9 +152,9 @@ fn assemble<W: Lanes>(
     let Loaded {
         accepted,
         engine,
-        inputs,
+        ports,
     } = loaded;
-    let _ = inputs;
+    let _ = ports;
     let half = job.half as u64;
     let typed = accepted.typed();
     let waves = Waves::new(alloc, typed.flat(), half, drive.lanes())?;

@@ -1,6 +1,6 @@
 -- Runs of digits: as planes, in a field, and in a line.
 use Rattle.std.proofs.Common.{◌≡◌, ℕ, zero, suc, ◌+◌, ◌*◌, ◌/◌, ◌%◌, ◌^◌, ◌<◌, ◌≤◌, Bool, true, false, not, ◌&&◌, ◌||◌, nat_eq, List, [], ◌∷◌, ◌++◌, length, get_or, take, refl, sym, ap, ◌∙◌, subst, inl, inr, arith, lit≤, add-one, add-zero, take-suc, append_assoc, length-append}
-use Rattle.std.proofs.lemmas.List.{append-nil}
+use Rattle.std.proofs.lemmas.List.{append-nil, map-append}
 use Rattle.std.proofs.lemmas.Bool.Decides.{eqb_tells}
 use Rattle.std.proofs.Math.Nat.{pow-suc, pow-le-pow_right}
 use Rattle.std.specs.Prelude.{Option, Some, None, IsTrue, slice_set}
@@ -10,16 +10,22 @@ use Rattle.vs_four.specs.Planes.{value_digit, unknown_digit, decode, bits_of_pla
 use Rattle.vs_four.specs.PlanesBack.{length-planes}
 use Rattle.vs_desk.specs.Desk.{Told}
 use Rattle.vs_stim.specs.declared.input.Column.{Column}
+use Rattle.vs_stim.specs.declared.input.Expected.{Expected}
+use Rattle.vs_stim.specs.declared.wanted.Digit.{Digit}
+use Rattle.vs_stim.specs.declared.wanted.Digit.TheVariants.{Exactly, Any}
+use Rattle.vs_stim.specs.declared.wants.Wants.{Wants}
 use Rattle.vs_stim.specs.declared.row.Row.{Row}
 use Rattle.vs_stim.specs.declared.source.Source.{Source}
 use Rattle.vs_stim.specs.Fields.{Fields, words, all_fields}
 use Rattle.vs_stim.specs.Lines.{Lines, lines, with_lf, with_byte, without_cr, no_lf, is_inner}
 use Rattle.vs_stim.specs.Reading.{Said, limits, too_long}
 use Rattle.vs_stim.specs.Reading.Said.{Malformed}
-use Rattle.vs_stim.specs.Vectors.{digit, with_top, bits_of}
-use Rattle.vs_stim.specs.Row.{Values, to_come, in_field, row_with}
+use Rattle.vs_stim.specs.Vectors.{digit, with_top, digits_by, bits_of, wanted_digit, wanted_of}
+use Rattle.vs_stim.specs.Wanted.{Wanteds, exactly}
+use Rattle.vs_stim.specs.Wants.{wanted_to_come, in_wanted, wants_with}
+use Rattle.vs_stim.specs.Row.{Values, Tail, to_come, in_field, row_with}
 use Rattle.vs_stim.proofs.Counted.{both}
-use Rattle.vs_stim.specs.Source.{Open, says, open_before, open_at, in_block, SameLine, GoesOn, GivesByte, WentOn, ReadsDigits, ReadsAhead, is_told}
+use Rattle.vs_stim.specs.Source.{Open, says, open_before, open_at, in_block, SameLine, GoesOn, GivesByte, WentOn, ReadsDigits, ReadsAhead, ReadsWantedDigits, ReadsBehind, is_told}
 
 -- ---- planes
 
@@ -77,72 +83,85 @@ unknown_below Z = omega arith
 -- ---- bytes that are digits
 
 -- a digit is no other byte
-other : (a n : ℕ) (d : Bit4) → digit a ≡ Some d → digit n ≡ None → nat_eq a n ≡ false
-other a n d h k = elim (eqb_tells a n) [ inl e ↦ absurd (never (sym h ∙ ap digit e.1 ∙ k)) | inr e ↦ e.0 ]
+other : {D : Type 0} (read : ℕ → Option D) (a n : ℕ) (d : D) → read a ≡ Some d → read n ≡ None → nat_eq a n ≡ false
+other {D = D} read a n d h k = elim (eqb_tells a n) [ inl e ↦ absurd (never (sym h ∙ ap read e.1 ∙ k)) | inr e ↦ e.0 ]
   where
-    never : Some d ≡ None → ⊥
+    never : ◌≡◌ {A = Option D} (Some d) None → ⊥
     never e = cc
 
 -- what holds of the first byte and of the others
-pub record FirstDigit (a : ℕ) (text : List ℕ) (bits : List Bit4) : Type 0 where
-  pub first : Bit4
-  pub is : digit a ≡ Some first
-  pub later : List Bit4
-  pub are : bits_of text ≡ Some later
-  pub bits_are : bits ≡ later ++ first ∷ []
+pub record FirstDigit {D : Type 0} (read : ℕ → Option D) (a : ℕ) (text : List ℕ) (digits : List D) : Type 0 where
+  pub first : D
+  pub is : read a ≡ Some first
+  pub later : List D
+  pub are : digits_by read text ≡ Some later
+  pub digits_are : digits ≡ later ++ first ∷ []
 
-pub first_digit : (a : ℕ) (text : List ℕ) (bits : List Bit4) → bits_of (a ∷ text) ≡ Some bits → FirstDigit a text bits
-first_digit a text bits h = of (digit a) (bits_of text) refl refl h
+pub first_digit : {D : Type 0} (read : ℕ → Option D) (a : ℕ) (text : List ℕ) (digits : List D) → digits_by read (a ∷ text) ≡ Some digits → FirstDigit read a text digits
+first_digit {D = D} read a text digits h = of (read a) (digits_by read text) refl refl h
   where
-    top : (d : Bit4) (ds : List Bit4) → (let o : Option (List Bit4) = Some (ds ++ d ∷ []) in o) ≡ Some bits → bits ≡ ds ++ d ∷ []
+    top : (d : D) (ds : List D) → (let o : Option (List D) = Some (ds ++ d ∷ []) in o) ≡ Some digits → digits ≡ ds ++ d ∷ []
     top d ds e = cc
 
-    of : (o : Option Bit4) (r : Option (List Bit4)) → digit a ≡ o → bits_of text ≡ r → (elim o as (λ _. Option (List Bit4)) [ None ↦ None | Some d ↦ with_top d r ]) ≡ Some bits → FirstDigit a text bits
+    of : (o : Option D) (r : Option (List D)) → read a ≡ o → digits_by read text ≡ r → (elim o as (λ _. Option (List D)) [ None ↦ None | Some d ↦ with_top d r ]) ≡ Some digits → FirstDigit read a text digits
     of None r e f k = absurd (let x = k in cc)
     of (Some d) None e f k = absurd (let x = k in cc)
-    of (Some d) (Some ds) e f k = record { first = d; is = e; later = ds; are = f; bits_are = top d ds k }
+    of (Some d) (Some ds) e f k = record { first = d; is = e; later = ds; are = f; digits_are = top d ds k }
 
-none_bits : (bits : List Bit4) → bits_of [] ≡ Some bits → bits ≡ []
-none_bits bits h = cc
+none_read : {D : Type 0} (read : ℕ → Option D) (digits : List D) → digits_by read [] ≡ Some digits → digits ≡ []
+none_read read digits h = cc
 
 -- one more behind them
 pub bits_more : (text : List ℕ) (b : ℕ) (bits : List Bit4) (d : Bit4) → bits_of text ≡ Some bits → digit b ≡ Some d → bits_of (text ++ b ∷ []) ≡ Some (d ∷ bits)
-bits_more [] b bits d h e = ap (λ o. elim o as (λ _. Option (List Bit4)) [ None ↦ None | Some x ↦ with_top x (Some []) ]) e ∙ ap (λ ds. let o : Option (List Bit4) = Some (d ∷ ds) in o) (sym (none_bits bits h))
+bits_more [] b bits d h e = ap (λ o. elim o as (λ _. Option (List Bit4)) [ None ↦ None | Some x ↦ with_top x (Some []) ]) e ∙ ap (λ ds. let o : Option (List Bit4) = Some (d ∷ ds) in o) (sym (none_read digit bits h))
 bits_more (a ∷ text) b bits d h e =
-    let f = first_digit a text bits h in
+    let f = first_digit digit a text bits h in
     ap (λ o. elim o as (λ _. Option (List Bit4)) [ None ↦ None | Some x ↦ with_top x (bits_of (text ++ b ∷ [])) ]) f.is
     ∙ ap (with_top f.first) (bits_more text b f.later d f.are e)
-    ∙ ap (λ ds. let o : Option (List Bit4) = Some (d ∷ ds) in o) (sym f.bits_are)
+    ∙ ap (λ ds. let o : Option (List Bit4) = Some (d ∷ ds) in o) (sym f.digits_are)
 
-bits_length : (text : List ℕ) (bits : List Bit4) → bits_of text ≡ Some bits → length bits ≡ length text
-bits_length [] bits h = ap length (none_bits bits h)
-bits_length (a ∷ text) bits h =
-    let f = first_digit a text bits h in
-    let e : length bits ≡ length (f.later ++ f.first ∷ []) = ap length f.bits_are in
-    omega (arith, e, length-append f.later (f.first ∷ []), bits_length text f.later f.are)
+digits_length : {D : Type 0} (read : ℕ → Option D) (text : List ℕ) (digits : List D) → digits_by read text ≡ Some digits → length digits ≡ length text
+digits_length read [] digits h = ap length (none_read read digits h)
+digits_length read (a ∷ text) digits h =
+    let f = first_digit read a text digits h in
+    let e : length digits ≡ length (f.later ++ f.first ∷ []) = ap length f.digits_are in
+    omega (arith, e, length-append f.later (f.first ∷ []), digits_length read text f.later f.are)
 
--- bits of later bytes below them
-above : List Bit4 → Option (List Bit4) → Option (List Bit4)
-above bits None = None
-above bits (Some ds) = Some (ds ++ bits)
+-- digits of later bytes below them
+above : {D : Type 0} → List D → Option (List D) → Option (List D)
+above digits None = None
+above digits (Some ds) = Some (ds ++ digits)
 
-bits_front : (text w : List ℕ) (bits : List Bit4) → bits_of text ≡ Some bits → bits_of (text ++ w) ≡ above bits (bits_of w)
+digits_front : {D : Type 0} (read : ℕ → Option D) (text w : List ℕ) (digits : List D) → digits_by read text ≡ Some digits → digits_by read (text ++ w) ≡ above digits (digits_by read w)
 unfolding above
-bits_front [] w bits h = alone (bits_of w) ∙ ap (λ bs. above bs (bits_of w)) (sym (none_bits bits h))
+digits_front {D = D} read [] w digits h = alone (digits_by read w) ∙ ap (λ ds. above ds (digits_by read w)) (sym (none_read read digits h))
   where
-    alone : (o : Option (List Bit4)) → o ≡ above [] o
+    alone : (o : Option (List D)) → o ≡ above [] o
     alone None = refl
-    alone (Some ds) = ap (λ xs. let o : Option (List Bit4) = Some xs in o) (sym (append-nil ds))
-bits_front (a ∷ text) w bits h =
-    let f = first_digit a text bits h in
-    ap (λ o. elim o as (λ _. Option (List Bit4)) [ None ↦ None | Some x ↦ with_top x (bits_of (text ++ w)) ]) f.is
-    ∙ ap (with_top f.first) (bits_front text w f.later f.are)
-    ∙ topped f.later f.first (bits_of w)
-    ∙ ap (λ bs. above bs (bits_of w)) (sym f.bits_are)
+    alone (Some ds) = ap (λ xs. let o : Option (List D) = Some xs in o) (sym (append-nil ds))
+digits_front {D = D} read (a ∷ text) w digits h =
+    let f = first_digit read a text digits h in
+    ap (λ o. elim o as (λ _. Option (List D)) [ None ↦ None | Some x ↦ with_top x (digits_by read (text ++ w)) ]) f.is
+    ∙ ap (with_top f.first) (digits_front read text w f.later f.are)
+    ∙ topped f.later f.first (digits_by read w)
+    ∙ ap (λ ds. above ds (digits_by read w)) (sym f.digits_are)
   where
-    topped : (ds : List Bit4) (d : Bit4) (o : Option (List Bit4)) → with_top d (above ds o) ≡ above (ds ++ d ∷ []) o
+    topped : (ds : List D) (d : D) (o : Option (List D)) → with_top d (above ds o) ≡ above (ds ++ d ∷ []) o
     topped ds d None = refl
-    topped ds d (Some es) = ap (λ xs. let o : Option (List Bit4) = Some xs in o) (append_assoc es ds (d ∷ []))
+    topped ds d (Some es) = ap (λ xs. let o : Option (List D) = Some xs in o) (append_assoc es ds (d ∷ []))
+
+-- the same digits, as such that an output is wanted to have
+pub exactly_read : (text : List ℕ) (bits : List Bit4) → bits_of text ≡ Some bits → wanted_of text ≡ Some (exactly bits)
+exactly_read [] bits h = ap (λ bs. let o : Option (List Digit) = Some (exactly bs) in o) (sym (none_read digit bits h))
+exactly_read (a ∷ text) bits h =
+    let f = first_digit digit a text bits h in
+    let no_dash : nat_eq a 45 ≡ false = other digit a 45 f.first f.is refl in
+    let is : wanted_digit a ≡ Some (Exactly f.first) =
+    (λ i. elim (no_dash i) as (λ _. Option Digit) [ true ↦ Some Any | false ↦ elim (f.is i) as (λ _. Option Digit) [ None ↦ None | Some d ↦ Some (Exactly d) ] ]) in
+    ap (λ o. elim o as (λ _. Option (List Digit)) [ None ↦ None | Some x ↦ with_top x (wanted_of text) ]) is
+    ∙ ap (with_top (Exactly f.first)) (exactly_read text f.later f.are)
+    ∙ ap (λ ds. let o : Option (List Digit) = Some ds in o) (sym (map-append (λ b. Exactly b) f.later (f.first ∷ [])))
+    ∙ ap (λ bs. let o : Option (List Digit) = Some (exactly bs) in o) (sym f.digits_are)
 
 -- so many bytes were read, below the bits of these planes
 pub record HasRead (bytes : List ℕ) (count n v u value unknown : ℕ) : Type 0 where
@@ -196,38 +215,67 @@ read_plain bytes count n v u value unknown b (suc (suc m)) h k e few p q = absur
 
 -- ---- in a field
 
-words_ahead : (text rest : List ℕ) (bits : List Bit4) → bits_of text ≡ Some bits → words (text ++ rest) ≡ record { word = text ++ (words rest).word; later = (words rest).later }
-words_ahead [] rest bits h = refl
-words_ahead (a ∷ text) rest bits h =
-    let f = first_digit a text bits h in
-    (λ i. with_word (other a 32 f.first f.is refl i || other a 9 f.first f.is refl i) (words_ahead text rest f.later f.are i))
+-- no digit is a blank
+record NoBlanks {D : Type 0} (read : ℕ → Option D) : Type 0 where
+  space : read 32 ≡ None
+  tab : read 9 ≡ None
+
+words_ahead : {D : Type 0} (read : ℕ → Option D) → NoBlanks read → (text rest : List ℕ) (digits : List D) → digits_by read text ≡ Some digits
+    → words (text ++ rest) ≡ record { word = text ++ (words rest).word; later = (words rest).later }
+words_ahead read n [] rest digits h = refl
+words_ahead read n (a ∷ text) rest digits h =
+    let f = first_digit read a text digits h in
+    (λ i. with_word (other read a 32 f.first f.is n.space i || other read a 9 f.first f.is n.tab i) (words_ahead read n text rest f.later f.are i))
   where
     with_word : Bool → Fields → Fields
     with_word b t = elim b as (λ _. Fields) [ true ↦ record { word = []; later = all_fields t.word t.later } | false ↦ record { word = a ∷ t.word; later = t.later } ]
 
-field_ahead : (c : Column) (text : List ℕ) (bits high : List Bit4) (left : List Column) (stored : Values) (t : Fields) → bits_of text ≡ Some bits
-    → in_field c (bits ++ high) left stored t ≡ in_field c high left stored (record { word = text ++ t.word; later = t.later })
-unfolding above
-field_ahead c text bits high left stored t h =
-    let long : length t.word + length (bits ++ high) ≡ length (text ++ t.word) + length high = omega (arith, length-append bits high, length-append text t.word, bits_length text bits h) in
-    ap (λ n. elim (nat_eq n c.length) as (λ _. Said Values) [
+-- a field of so many digits has begun, and `next` is what the line says by all its digits and the fields behind it
+in_digits : {D A : Type 0} → (ℕ → Option D) → ℕ → (List D → List (List ℕ) → Said A) → List D → Fields → Said A
+in_digits {A = A} read long next high t =
+    elim (nat_eq (length t.word + length high) long) as (λ _. Said A) [
       | false ↦ Malformed
-      | true ↦ elim (bits_of t.word) as (λ _. Said Values) [ None ↦ Malformed | Some ds ↦ to_come left (slice_set stored c.input (ds ++ (bits ++ high))) t.later ]
-    ]) long
-    ∙ ap (λ s. elim (nat_eq (length (text ++ t.word) + length high) c.length) as (λ _. Said Values) [ false ↦ Malformed | true ↦ s ]) (below (bits_of t.word) ∙ ap read (sym (bits_front text t.word bits h)))
-  where
-    read : Option (List Bit4) → Said Values
-    read o = elim o as (λ _. Said Values) [ None ↦ Malformed | Some ds ↦ to_come left (slice_set stored c.input (ds ++ high)) t.later ]
+      | true ↦ elim (digits_by read t.word) as (λ _. Said A) [ None ↦ Malformed | Some ds ↦ next (ds ++ high) t.later ]
+    ]
 
-    below : (o : Option (List Bit4)) → (elim o as (λ _. Said Values) [ None ↦ Malformed | Some ds ↦ to_come left (slice_set stored c.input (ds ++ (bits ++ high))) t.later ]) ≡ read (above bits o)
+field_ahead : {D A : Type 0} (read : ℕ → Option D) (long : ℕ) (next : List D → List (List ℕ) → Said A) (text : List ℕ) (digits high : List D) (t : Fields) → digits_by read text ≡ Some digits
+    → in_digits read long next (digits ++ high) t ≡ in_digits read long next high (record { word = text ++ t.word; later = t.later })
+unfolding above in_digits
+field_ahead {D = D} {A = A} read long next text digits high t h =
+    let many : length t.word + length (digits ++ high) ≡ length (text ++ t.word) + length high = omega (arith, length-append digits high, length-append text t.word, digits_length read text digits h) in
+    ap (λ n. elim (nat_eq n long) as (λ _. Said A) [
+      | false ↦ Malformed
+      | true ↦ elim (digits_by read t.word) as (λ _. Said A) [ None ↦ Malformed | Some ds ↦ next (ds ++ (digits ++ high)) t.later ]
+    ]) many
+    ∙ ap (λ s. elim (nat_eq (length (text ++ t.word) + length high) long) as (λ _. Said A) [ false ↦ Malformed | true ↦ s ]) (below (digits_by read t.word) ∙ ap behind (sym (digits_front read text t.word digits h)))
+  where
+    behind : Option (List D) → Said A
+    behind o = elim o as (λ _. Said A) [ None ↦ Malformed | Some ds ↦ next (ds ++ high) t.later ]
+
+    below : (o : Option (List D)) → (elim o as (λ _. Said A) [ None ↦ Malformed | Some ds ↦ next (ds ++ (digits ++ high)) t.later ]) ≡ behind (above digits o)
     below None = refl
-    below (Some ds) = ap (λ v. to_come left (slice_set stored c.input v) t.later) (sym (append_assoc ds bits high))
+    below (Some ds) = ap (λ v. next v t.later) (sym (append_assoc ds digits high))
 
 -- digits in front of what a field goes on with
-pub field_goes_on : (c : Column) (text : List ℕ) (bits high all : List Bit4) (left : List Column) (stored : Values) (rest : List ℕ) → bits_of text ≡ Some bits → all ≡ bits ++ high
-    → in_field c all left stored (words rest) ≡ in_field c high left stored (words (text ++ rest))
-field_goes_on c text bits high all left stored rest h e =
-    ap (λ a. in_field c a left stored (words rest)) e ∙ field_ahead c text bits high left stored (words rest) h ∙ ap (in_field c high left stored) (sym (words_ahead text rest bits h))
+digits_go_on : {D A : Type 0} (read : ℕ → Option D) → NoBlanks read → (long : ℕ) (next : List D → List (List ℕ) → Said A) (text : List ℕ) (digits high all : List D) (rest : List ℕ)
+    → digits_by read text ≡ Some digits → all ≡ digits ++ high → in_digits read long next all (words rest) ≡ in_digits read long next high (words (text ++ rest))
+digits_go_on read n long next text digits high all rest h e =
+    ap (λ a. in_digits read long next a (words rest)) e
+    ∙ field_ahead read long next text digits high (words rest) h
+    ∙ ap (in_digits read long next high) (sym (words_ahead read n text rest digits h))
+
+pub field_goes_on : (tail : Tail) (c : Column) (text : List ℕ) (bits high all : List Bit4) (left : List Column) (stored : Values) (rest : List ℕ) → bits_of text ≡ Some bits → all ≡ bits ++ high
+    → in_field tail c all left stored (words rest) ≡ in_field tail c high left stored (words (text ++ rest))
+unfolding in_digits
+field_goes_on tail c text bits high all left stored rest h e =
+    digits_go_on digit (record { space = refl; tab = refl }) c.length (λ v fs. to_come tail left (slice_set stored c.input v) fs) text bits high all rest h e
+
+pub wanted_goes_on : (es : List Expected) (n : ℕ) (text : List ℕ) (digits high all : List Digit) (stored : Wanteds) (rest : List ℕ) → wanted_of text ≡ Some digits → all ≡ digits ++ high
+    → in_wanted es all n stored (words rest) ≡ in_wanted es high n stored (words (text ++ rest))
+unfolding in_digits
+wanted_goes_on [] n text digits high all stored rest h e = refl
+wanted_goes_on (x ∷ es) n text digits high all stored rest h e =
+    digits_go_on wanted_digit (record { space = refl; tab = refl }) x.length (λ w fs. wanted_to_come es (n + 1) (slice_set stored n w) fs) text digits high all rest h e
 
 -- ---- in a line
 
@@ -242,11 +290,16 @@ inner_parts a text h =
     is_false true e = sym e
     is_false false e = refl
 
-inner_digits : (text : List ℕ) (bits : List Bit4) → bits_of text ≡ Some bits → is_inner text ≡ true
-inner_digits [] bits h = refl
-inner_digits (a ∷ text) bits h =
-    let f = first_digit a text bits h in
-    (λ i. not (other a 10 f.first f.is refl i) && not (other a 13 f.first f.is refl i) && is_inner text) ∙ inner_digits text f.later f.are
+-- no digit ends a line
+record NoEnds {D : Type 0} (read : ℕ → Option D) : Type 0 where
+  lf : read 10 ≡ None
+  cr : read 13 ≡ None
+
+inner_digits : {D : Type 0} (read : ℕ → Option D) → NoEnds read → (text : List ℕ) (digits : List D) → digits_by read text ≡ Some digits → is_inner text ≡ true
+inner_digits read n [] digits h = refl
+inner_digits read n (a ∷ text) digits h =
+    let f = first_digit read a text digits h in
+    (λ i. not (other read a 10 f.first f.is n.lf i) && not (other read a 13 f.first f.is n.cr i) && is_inner text) ∙ inner_digits read n text f.later f.are
 
 inner-append : (a b : List ℕ) → is_inner a ≡ true → is_inner b ≡ true → is_inner (a ++ b) ≡ true
 inner-append [] b h k = k
@@ -316,7 +369,27 @@ reads_none row s = record {
 -- digits were read
 pub reads_digits : (before after : Row) (old new : Source) (high all : List Bit4) → ReadsDigits old new high all
     → ((text rest : List ℕ) (bits : List Bit4) → bits_of text ≡ Some bits → all ≡ bits ++ high → row_with after rest ≡ row_with before (text ++ rest)) → ReadsAhead before after old new
-reads_digits before after old new high all r f = record { text = r.text; went = r.went; inner = inner_digits r.text r.bits r.are; says = λ rest. f r.text rest r.bits r.are r.below }
+reads_digits before after old new high all r f = record { text = r.text; went = r.went; inner = inner_digits digit (record { lf = refl; cr = refl }) r.text r.bits r.are; says = λ rest. f r.text rest r.bits r.are r.below }
+
+-- digits that an output is wanted to have were read
+pub reads_wanted : (before after : Wants) (old new : Source) (high all : List Digit) → ReadsWantedDigits old new high all
+    → ((text rest : List ℕ) (digits : List Digit) → wanted_of text ≡ Some digits → all ≡ digits ++ high → wants_with after rest ≡ wants_with before (text ++ rest))
+    → ReadsBehind before after old new
+reads_wanted before after old new high all r f = record {
+  text = r.text;
+  went = r.went;
+  inner = inner_digits wanted_digit (record { lf = refl; cr = refl }) r.text r.digits r.are;
+  says = λ rest. f r.text rest r.digits r.are r.below;
+}
+
+-- nothing was read
+pub behind_none : (w : Wants) (s : Source) → ReadsBehind w w s s
+behind_none w s = record {
+  text = [];
+  went = record { block = refl; moved = ap (λ n. record s { length = n }) (sym (add-zero s.length)) };
+  inner = refl;
+  says = λ rest. refl;
+}
 
 -- one behind the other
 pub reads_more : (a b c : Row) (s t u : Source) → ReadsAhead a b s t → ReadsAhead b c t u → ReadsAhead a c s u

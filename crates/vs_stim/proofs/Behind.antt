@@ -2,14 +2,14 @@
 use Rattle.std.proofs.Common.{◌≡◌, ℕ, zero, suc, ◌+◌, Bool, true, false, nat_eq, List, [], ◌∷◌, ◌++◌, length, take, refl, ap, sym, ◌∙◌}
 use Rattle.std.proofs.lemmas.List.{take_at}
 use Rattle.std.specs.Prelude.{Option, Some, None}
-use Rattle.vs_four.specs.declared.Bit4.{Bit4}
+use Rattle.vs_stim.specs.Header.{PortLists, ColumnLists}
 use Rattle.vs_stim.specs.declared.error.StimError.{StimError}
 use Rattle.vs_stim.specs.declared.error.StimError.TheVariants.{BadHeader, BadVector}
-use Rattle.vs_stim.specs.declared.input.Input.{Input}
-use Rattle.vs_stim.specs.declared.input.Column.{Column}
 use Rattle.vs_stim.specs.Lines.{Line, Lines, lines, all_lines, with_lf, with_byte, content}
 use Rattle.vs_stim.specs.Reading.{Reading, refused, with_vector, limits, Place, behind, too_long, Said, header_line, vector_line, not_taken, first_place, reading, read_vectors, read_header}
 use Rattle.vs_stim.specs.Reading.Said.{Skipped, Malformed, Given}
+use Rattle.vs_stim.specs.Vectors.{Entry}
+use Rattle.vs_four.specs.declared.Bit4.{Bit4}
 
 abbrev Vector : Type 0
 Vector = List (List Bit4)
@@ -42,14 +42,14 @@ record Begins (a b : Reading) : Type 0 where
 none_first : (a b : Reading) → a.vectors ≡ [] → Begins a b
 none_first a b e = record { more = b.vectors; same = ap (λ vs. vs ++ b.vectors) (sym e) }
 
-with_both : (v : Vector) (a b : Reading) → Begins a b → Begins (with_vector v a) (with_vector v b)
-with_both v a b h = record { more = h.more; same = ap (λ vs. v ∷ vs) h.same }
+with_both : (v : Entry) (a b : Reading) → Begins a b → Begins (with_vector v a) (with_vector v b)
+with_both v a b h = record { more = h.more; same = ap (λ vs. v.values ∷ vs) h.same }
 
 -- the line behind the last LF of a text that ends with it
 last_lines : List Line
 last_lines = record { bytes = []; ended = false } ∷ []
 
-last_vectors : (cs : List Column) (p : Place) (count : ℕ) → (read_vectors limits cs p count last_lines).vectors ≡ []
+last_vectors : (cs : ColumnLists) (p : Place) (count : ℕ) → (read_vectors limits cs p count last_lines).vectors ≡ []
 unfolding last_lines
 last_vectors cs p count = go (too_long limits p 0 false) count
   where
@@ -58,7 +58,7 @@ last_vectors cs p count = go (too_long limits p 0 false) count
     go None zero = refl
     go None (suc n) = refl
 
-last_header : (is : List Input) (p : Place) → (read_header limits is p last_lines).vectors ≡ []
+last_header : (is : PortLists) (p : Place) → (read_header limits is p last_lines).vectors ≡ []
 unfolding last_lines
 last_header is p = go (too_long limits p 0 false)
   where
@@ -66,14 +66,14 @@ last_header is p = go (too_long limits p 0 false)
     go (Some e) = refl
     go None = refl
 
-vectors_begin : (cs : List Column) (p : Place) (count : ℕ) (ls ms : List Line)
+vectors_begin : (cs : ColumnLists) (p : Place) (count : ℕ) (ls ms : List Line)
     → Begins (read_vectors limits cs p count (ls ++ last_lines)) (read_vectors limits cs p count (ls ++ ms))
 vectors_begin cs p count [] ms = none_first (read_vectors limits cs p count last_lines) (read_vectors limits cs p count ms) (last_vectors cs p count)
 vectors_begin cs p count (l ∷ ls) ms =
     go (too_long limits p (length l.bytes) l.ended) (vector_line cs (content l)) (not_taken limits cs p.number count) _ _ _ _
     (vectors_begin cs (behind p (length l.bytes)) count ls ms) (vectors_begin cs (behind p (length l.bytes)) (count + 1) ls ms)
   where
-    turn : Option StimError → Said Vector → (Vector → Option StimError) → Reading → Reading → Reading
+    turn : Option StimError → Said Entry → (Entry → Option StimError) → Reading → Reading → Reading
     turn long s taken skipped given =
         elim long [
           | Some e ↦ refused e
@@ -84,37 +84,37 @@ vectors_begin cs p count (l ∷ ls) ms =
           ]
         ]
 
-    last : (v : Vector) (o : Option StimError) (a b : Reading) → Begins a b
+    last : (v : Entry) (o : Option StimError) (a b : Reading) → Begins a b
         → Begins (elim o as (λ _. Reading) [ Some e ↦ refused e | None ↦ with_vector v a ]) (elim o as (λ _. Reading) [ Some e ↦ refused e | None ↦ with_vector v b ])
     last v (Some e) a b h = none_first (refused e) (refused e) refl
     last v None a b h = with_both v a b h
 
-    go : (long : Option StimError) (s : Said Vector) (taken : Vector → Option StimError) (a b c d : Reading) → Begins a b → Begins c d → Begins (turn long s taken a c) (turn long s taken b d)
+    go : (long : Option StimError) (s : Said Entry) (taken : Entry → Option StimError) (a b c d : Reading) → Begins a b → Begins c d → Begins (turn long s taken a c) (turn long s taken b d)
     go (Some e) s taken a b c d h k = none_first (refused e) (refused e) refl
     go None Skipped taken a b c d h k = h
     go None Malformed taken a b c d h k = none_first (refused (BadVector p.number)) (refused (BadVector p.number)) refl
     go None (Given v) taken a b c d h k = last v (taken v) c d k
 
-header_begins : (is : List Input) (p : Place) (ls ms : List Line) → Begins (read_header limits is p (ls ++ last_lines)) (read_header limits is p (ls ++ ms))
+header_begins : (is : PortLists) (p : Place) (ls ms : List Line) → Begins (read_header limits is p (ls ++ last_lines)) (read_header limits is p (ls ++ ms))
 header_begins is p [] ms = none_first (read_header limits is p last_lines) (read_header limits is p ms) (last_header is p)
 header_begins is p (l ∷ ls) ms =
     go (too_long limits p (length l.bytes) l.ended) (header_line is (content l)) _ _ _ _ (header_begins is (behind p (length l.bytes)) ls ms)
     (λ cs. vectors_begin cs (behind p (length l.bytes)) 0 ls ms)
   where
-    turn : Option StimError → Said (List Column) → Reading → (List Column → Reading) → Reading
+    turn : Option StimError → Said (ColumnLists) → Reading → (ColumnLists → Reading) → Reading
     turn long s skipped given =
         elim long [
           | Some e ↦ refused e
           | None ↦ elim s [ Skipped ↦ skipped | Malformed ↦ refused BadHeader | Given cs ↦ given cs ]
         ]
 
-    go : (long : Option StimError) (s : Said (List Column)) (a b : Reading) (c d : List Column → Reading) → Begins a b → ((cs : List Column) → Begins (c cs) (d cs)) → Begins (turn long s a c) (turn long s b d)
+    go : (long : Option StimError) (s : Said (ColumnLists)) (a b : Reading) (c d : ColumnLists → Reading) → Begins a b → ((cs : ColumnLists) → Begins (c cs) (d cs)) → Begins (turn long s a c) (turn long s b d)
     go (Some e) s a b c d h k = none_first (refused e) (refused e) refl
     go None Skipped a b c d h k = h
     go None Malformed a b c d h k = none_first (refused BadHeader) (refused BadHeader) refl
     go None (Given cs) a b c d h k = k cs
 
-pub later_lines : (is : List Input) (text later : List ℕ)
+pub later_lines : (is : PortLists) (text later : List ℕ)
     → take (length (reading is (text ++ 10 ∷ [])).vectors) (reading is (text ++ 10 ∷ later)).vectors ≡ (reading is (text ++ 10 ∷ [])).vectors
 unfolding joined last_lines
 later_lines is text later =

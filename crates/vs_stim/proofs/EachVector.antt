@@ -6,9 +6,8 @@ use Rattle.std.specs.List.{AllByRecursion}
 use Rattle.vs_four.specs.declared.Bit4.{Bit4}
 use Rattle.vs_stim.specs.declared.error.StimError.{StimError}
 use Rattle.vs_stim.specs.declared.error.StimError.TheVariants.{BadHeader, BadVector}
-use Rattle.vs_stim.specs.declared.input.Input.{Input}
-use Rattle.vs_stim.specs.declared.input.Column.{Column}
-use Rattle.vs_stim.specs.Header.{IsInput}
+use Rattle.vs_stim.specs.Header.{PortLists, ColumnLists, IsInput}
+use Rattle.vs_stim.specs.Vectors.{Entry}
 use Rattle.vs_stim.specs.Lines.{Line, lines, all_lines, content}
 use Rattle.vs_stim.specs.Reading.{Reading, refused, with_vector, limits, Place, behind, too_long, Said, header_line, vector_line, not_taken, first_place, reading, read_vectors, read_header}
 use Rattle.vs_stim.specs.Reading.Said.{Skipped, Malformed, Given}
@@ -18,32 +17,34 @@ abbrev Vector : Type 0
 Vector = List (List Bit4)
 
 -- a vector that may be taken behind a header of these inputs
-pub record IsTaken (is : List Input) (v : Vector) : Type 0 where
-  pub columns : List Column
+pub record IsTaken (is : PortLists) (v : Vector) : Type 0 where
+  pub columns : ColumnLists
+  pub entry : Entry
+  pub values : v ≡ entry.values
   pub text : List ℕ
   pub number : ℕ
   pub count : ℕ
-  pub head : IsHead is columns
-  pub given : vector_line columns text ≡ Given v
-  pub taken : not_taken limits columns number count v ≡ None
+  pub head : IsHead is.inputs columns.inputs
+  pub given : vector_line columns text ≡ Given entry
+  pub taken : not_taken limits columns number count entry ≡ None
 
 -- all vectors of a reading are such
-abbrev AreTaken : List Input → Reading → Type 0
+abbrev AreTaken : PortLists → Reading → Type 0
 AreTaken is r = AllByRecursion (IsTaken is) r.vectors
 
-vectors_taken : (is : List Input) (cs : List Column) (p : Place) (count : ℕ) (ls : List Line) → IsHead is cs → AreTaken is (read_vectors limits cs p count ls)
+vectors_taken : (is : PortLists) (cs : ColumnLists) (p : Place) (count : ℕ) (ls : List Line) → IsHead is.inputs cs.inputs → AreTaken is (read_vectors limits cs p count ls)
 vectors_taken is cs p zero [] head = tt
 vectors_taken is cs p (suc n) [] head = tt
 vectors_taken is cs p count (l ∷ ls) head =
     go (too_long limits p (length l.bytes) l.ended) (vector_line cs (content l)) refl (read_vectors limits cs (behind p (length l.bytes)) count ls) (read_vectors limits cs (behind p (length l.bytes)) (count + 1) ls)
     (vectors_taken is cs (behind p (length l.bytes)) count ls head) (vectors_taken is cs (behind p (length l.bytes)) (count + 1) ls head)
   where
-    last : (v : Vector) (o : Option StimError) (given : Reading) → vector_line cs (content l) ≡ Given v → not_taken limits cs p.number count v ≡ o → AreTaken is given
+    last : (v : Entry) (o : Option StimError) (given : Reading) → vector_line cs (content l) ≡ Given v → not_taken limits cs p.number count v ≡ o → AreTaken is given
         → AreTaken is (elim o as (λ _. Reading) [ Some e ↦ refused e | None ↦ with_vector v given ])
     last v (Some e) given line taken later = tt
-    last v None given line taken later = (record { columns = cs; text = content l; number = p.number; count = count; head = head; given = line; taken = taken }, later)
+    last v None given line taken later = (record { columns = cs; entry = v; values = refl; text = content l; number = p.number; count = count; head = head; given = line; taken = taken }, later)
 
-    go : (long : Option StimError) (s : Said Vector) → vector_line cs (content l) ≡ s → (skipped given : Reading) → AreTaken is skipped → AreTaken is given
+    go : (long : Option StimError) (s : Said Entry) → vector_line cs (content l) ≡ s → (skipped given : Reading) → AreTaken is skipped → AreTaken is given
         → AreTaken is (elim long as (λ _. Reading) [
           | Some e ↦ refused e
           | None ↦ elim s as (λ _. Reading) [
@@ -57,14 +58,14 @@ vectors_taken is cs p count (l ∷ ls) head =
     go None Malformed line skipped given k m = tt
     go None (Given v) line skipped given k m = last v (not_taken limits cs p.number count v) given line refl m
 
-header_taken : (is : List Input) (p : Place) (ls : List Line) → AllByRecursion IsInput is → AreTaken is (read_header limits is p ls)
+header_taken : (is : PortLists) (p : Place) (ls : List Line) → AllByRecursion IsInput is.inputs → AreTaken is (read_header limits is p ls)
 header_taken is p [] h = tt
 header_taken is p (l ∷ ls) h =
     go (too_long limits p (length l.bytes) l.ended) (header_line is (content l)) (read_header limits is (behind p (length l.bytes)) ls) (λ cs. read_vectors limits cs (behind p (length l.bytes)) 0 ls) (header_given is (content l) h) (header_taken is (behind p (length l.bytes)) ls h)
     (λ cs head. vectors_taken is cs (behind p (length l.bytes)) 0 ls head)
   where
-    go : (long : Option StimError) (s : Said (List Column)) (skipped : Reading) (given : List Column → Reading) → IfGiven (IsHead is) s → AreTaken is skipped
-        → ((cs : List Column) → IsHead is cs → AreTaken is (given cs))
+    go : (long : Option StimError) (s : Said ColumnLists) (skipped : Reading) (given : ColumnLists → Reading) → IfGiven (λ cs. IsHead is.inputs cs.inputs) s → AreTaken is skipped
+        → ((cs : ColumnLists) → IsHead is.inputs cs.inputs → AreTaken is (given cs))
         → AreTaken is (elim long as (λ _. Reading) [
           | Some e ↦ refused e
           | None ↦ elim s as (λ _. Reading) [ Skipped ↦ skipped | Malformed ↦ refused BadHeader | Given cs ↦ given cs ]
@@ -75,9 +76,9 @@ header_taken is p (l ∷ ls) h =
     go None (Given cs) skipped given h k m = m cs h
 
 -- What holds of each vector that may be taken holds of all vectors of a text.
-pub each_vector : (is : List Input) (text : List ℕ) (P : Vector → Type 0) → All IsInput is → ((v : Vector) → IsTaken is v → P v) → All P (reading is text).vectors
+pub each_vector : (is : PortLists) (text : List ℕ) (P : Vector → Type 0) → All IsInput is.inputs → ((v : Vector) → IsTaken is v → P v) → All P (reading is text).vectors
 each_vector is text P h f =
-    All-from_recursion P (reading is text).vectors (mapped (reading is text).vectors (header_taken is first_place (all_lines (lines text)) (recursion_from_All IsInput is h)))
+    All-from_recursion P (reading is text).vectors (mapped (reading is text).vectors (header_taken is first_place (all_lines (lines text)) (recursion_from_All IsInput is.inputs h)))
   where
     mapped : (vs : List Vector) → AllByRecursion (IsTaken is) vs → AllByRecursion P vs
     mapped [] k = tt

@@ -2,14 +2,13 @@
 use Rattle.std.proofs.Common.{◌≡◌, ℕ, ◌+◌, ◌<◌, Bool, true, false, not, ◌&&◌, nat_eq, List, [], ◌∷◌, length, refl, ap, sym, ◌∙◌, arith}
 use Rattle.std.specs.Prelude.{Option, Some, None}
 use Rattle.vs_four.specs.declared.Bit4.{Bit4}
+use Rattle.vs_stim.specs.Header.{PortLists, ColumnLists}
 use Rattle.vs_stim.specs.declared.error.StimError.{StimError}
 use Rattle.vs_stim.specs.declared.error.StimError.TheVariants.{BadHeader, BadVector, FirstUnknown, UnknownReset, TooManyVectors}
-use Rattle.vs_stim.specs.declared.input.Input.{Input}
-use Rattle.vs_stim.specs.declared.input.Column.{Column}
 use Rattle.vs_stim.specs.Lines.{Line, lines, all_lines, content}
 use Rattle.vs_stim.specs.Reading.{Reading, refused, with_vector, limits, Place, behind, too_long, Said, header_line, vector_line, not_taken, first_place, reading, read_vectors, read_header}
 use Rattle.vs_stim.specs.Reading.Said.{Skipped, Malformed, Given}
-use Rattle.vs_stim.specs.Vectors.{vector_known, resets_known}
+use Rattle.vs_stim.specs.Vectors.{Entry, vector_known, resets_known}
 
 abbrev Vector : Type 0
 Vector = List (List Bit4)
@@ -29,7 +28,7 @@ none_whole : (e : StimError) → HasVector (refused e)
 none_whole e = record { some = λ h. cc }
 
 -- a reading of lines, by the first line
-turn : Place → Option StimError → Said Vector → (Vector → Option StimError) → Reading → (Vector → Reading) → Reading
+turn : Place → Option StimError → Said Entry → (Entry → Option StimError) → Reading → (Entry → Reading) → Reading
 turn p long s taken skipped given =
     elim long [
       | Some e ↦ refused e
@@ -40,32 +39,32 @@ turn p long s taken skipped given =
       ]
     ]
 
-turn_known : (cs : List Column) (p : Place) (long : Option StimError) (s : Said Vector) (skipped : Reading) (given : Vector → Reading) → FirstKnown skipped
+turn_known : (cs : ColumnLists) (p : Place) (long : Option StimError) (s : Said Entry) (skipped : Reading) (given : Entry → Reading) → FirstKnown skipped
     → FirstKnown (turn p long s (not_taken limits cs p.number 0) skipped given)
 unfolding turn
 turn_known cs p (Some e) s skipped given h = none_known e
 turn_known cs p None Skipped skipped given h = h
 turn_known cs p None Malformed skipped given h = none_known (BadVector p.number)
-turn_known cs p None (Given v) skipped given h = go (vector_known v) refl
+turn_known cs p None (Given v) skipped given h = go (vector_known v.values) refl
   where
-    known : (r : Bool) → vector_known v ≡ true → FirstKnown (elim (elim r as (λ _. Option StimError) [
+    known : (r : Bool) → vector_known v.values ≡ true → FirstKnown (elim (elim r as (λ _. Option StimError) [
       | false ↦ Some (UnknownReset p.number)
       | true ↦ None
     ]) as (λ _. Reading) [ Some e ↦ refused e | None ↦ with_vector v (given v) ])
     known false e = none_known (UnknownReset p.number)
-    known true e = record { known = λ first later h. let same : v ≡ first = cc in ap vector_known (sym same) ∙ e }
+    known true e = record { known = λ first later h. let same : v.values ≡ first = cc in ap vector_known (sym same) ∙ e }
 
-    go : (b : Bool) → vector_known v ≡ b → FirstKnown (elim (elim (nat_eq 0 0 && not b) as (λ _. Option StimError) [
+    go : (b : Bool) → vector_known v.values ≡ b → FirstKnown (elim (elim (nat_eq 0 0 && not b) as (λ _. Option StimError) [
       | true ↦ Some FirstUnknown
-      | false ↦ elim (resets_known cs v) [
+      | false ↦ elim (resets_known cs.inputs v.values) [
         | false ↦ Some (UnknownReset p.number)
         | true ↦ elim (nat_eq 0 limits.vectors) [ true ↦ Some TooManyVectors | false ↦ None ]
       ]
     ]) as (λ _. Reading) [ Some e ↦ refused e | None ↦ with_vector v (given v) ])
     go false e = none_known FirstUnknown
-    go true e = known (resets_known cs v) e
+    go true e = known (resets_known cs.inputs v.values) e
 
-pub vectors_known : (cs : List Column) (p : Place) (ls : List Line) → FirstKnown (read_vectors limits cs p 0 ls)
+pub vectors_known : (cs : ColumnLists) (p : Place) (ls : List Line) → FirstKnown (read_vectors limits cs p 0 ls)
 unfolding turn
 vectors_known cs p [] = record { known = λ first later h. cc }
 vectors_known cs p (l ∷ ls) =
@@ -73,7 +72,7 @@ vectors_known cs p (l ∷ ls) =
     (λ v. read_vectors limits cs (behind p (length l.bytes)) (0 + 1) ls) (vectors_known cs (behind p (length l.bytes)) ls)
 
 -- lines before the vectors, by the first of them
-head_turn : Option StimError → Said (List Column) → Reading → (List Column → Reading) → Reading
+head_turn : Option StimError → Said (ColumnLists) → Reading → (ColumnLists → Reading) → Reading
 head_turn long s skipped given =
     elim long [
       | Some e ↦ refused e
@@ -81,16 +80,16 @@ head_turn long s skipped given =
     ]
 
 -- what holds of each refusal and of each reading behind a header holds of the whole
-head_case : (P : Reading → Type 0) → ((e : StimError) → P (refused e)) → (long : Option StimError) (s : Said (List Column)) (skipped : Reading) (given : List Column → Reading)
-    → P skipped → ((cs : List Column) → P (given cs)) → P (head_turn long s skipped given)
+head_case : (P : Reading → Type 0) → ((e : StimError) → P (refused e)) → (long : Option StimError) (s : Said (ColumnLists)) (skipped : Reading) (given : ColumnLists → Reading)
+    → P skipped → ((cs : ColumnLists) → P (given cs)) → P (head_turn long s skipped given)
 unfolding head_turn
 head_case P none (Some e) s skipped given h k = none e
 head_case P none None Skipped skipped given h k = h
 head_case P none None Malformed skipped given h k = none BadHeader
 head_case P none None (Given cs) skipped given h k = k cs
 
-header_case : (P : Reading → Type 0) → ((e : StimError) → P (refused e)) → ((cs : List Column) (p : Place) (ls : List Line) → P (read_vectors limits cs p 0 ls))
-    → (is : List Input) (p : Place) (ls : List Line) → P (read_header limits is p ls)
+header_case : (P : Reading → Type 0) → ((e : StimError) → P (refused e)) → ((cs : ColumnLists) (p : Place) (ls : List Line) → P (read_vectors limits cs p 0 ls))
+    → (is : PortLists) (p : Place) (ls : List Line) → P (read_header limits is p ls)
 unfolding head_turn
 header_case P none vectors is p [] = none BadHeader
 header_case P none vectors is p (l ∷ ls) =
@@ -98,10 +97,10 @@ header_case P none vectors is p (l ∷ ls) =
     (λ cs. read_vectors limits cs (behind p (length l.bytes)) 0 ls) (header_case P none vectors is (behind p (length l.bytes)) ls)
     (λ cs. vectors cs (behind p (length l.bytes)) ls)
 
-pub first_known : (is : List Input) (text : List ℕ) → FirstKnown (reading is text)
+pub first_known : (is : PortLists) (text : List ℕ) → FirstKnown (reading is text)
 first_known is text = header_case FirstKnown none_known vectors_known is first_place (all_lines (lines text))
 
-turn_whole : (p : Place) (long : Option StimError) (s : Said Vector) (taken : Vector → Option StimError) (skipped : Reading) (given : Vector → Reading) → HasVector skipped
+turn_whole : (p : Place) (long : Option StimError) (s : Said Entry) (taken : Entry → Option StimError) (skipped : Reading) (given : Entry → Reading) → HasVector skipped
     → HasVector (turn p long s taken skipped given)
 unfolding turn
 turn_whole p (Some e) s taken skipped given h = none_whole e
@@ -113,12 +112,12 @@ turn_whole p None (Given v) taken skipped given h = go (taken v)
     go (Some e) = none_whole e
     go None = record { some = λ _. omega arith }
 
-vectors_whole : (cs : List Column) (p : Place) (ls : List Line) → HasVector (read_vectors limits cs p 0 ls)
+vectors_whole : (cs : ColumnLists) (p : Place) (ls : List Line) → HasVector (read_vectors limits cs p 0 ls)
 unfolding turn
 vectors_whole cs p [] = record { some = λ h. cc }
 vectors_whole cs p (l ∷ ls) =
     turn_whole p (too_long limits p (length l.bytes) l.ended) (vector_line cs (content l)) (not_taken limits cs p.number 0) (read_vectors limits cs (behind p (length l.bytes)) 0 ls)
     (λ v. read_vectors limits cs (behind p (length l.bytes)) (0 + 1) ls) (vectors_whole cs (behind p (length l.bytes)) ls)
 
-pub has_vector : (is : List Input) (text : List ℕ) → HasVector (reading is text)
+pub has_vector : (is : PortLists) (text : List ℕ) → HasVector (reading is text)
 has_vector is text = header_case HasVector none_whole vectors_whole is first_place (all_lines (lines text))

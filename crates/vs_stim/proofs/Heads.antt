@@ -4,8 +4,9 @@ use Rattle.std.specs.Prelude.{Option, Some, None, IfSome, bytes_eq, codes}
 use Rattle.std.specs.List.{AllByRecursion}
 use Rattle.vs_stim.specs.declared.input.Input.{Input}
 use Rattle.vs_stim.specs.declared.input.Column.{Column}
+use Rattle.vs_stim.specs.declared.input.Expected.{Expected}
 use Rattle.vs_stim.specs.Fields.{is_skipped, fields}
-use Rattle.vs_stim.specs.Header.{IsInput, lengths, column_of, with_column, columns_of, count_of, each_once, all_named, header}
+use Rattle.vs_stim.specs.Header.{PortLists, ColumnLists, IsInput, lengths, column_of, with_column, columns_of, count_of, each_once, all_named, parts, behind_arrow, both_columns, named_columns, header}
 use Rattle.vs_stim.specs.Reading.{Said, said, header_line}
 use Rattle.vs_stim.specs.Reading.Said.{Skipped, Malformed, Given}
 use Rattle.vs_stim.specs.Row.{IsColumn}
@@ -86,9 +87,8 @@ head_columns is cs h = columns_named is cs h.each
 pub head_once : (is : List Input) (cs : List Column) → IsHead is cs → (j : ℕ) → j < length is → count_of j cs ≡ 1
 head_once is cs h j below = once_below (length is) cs h.once j below
 
-head_known : (is : List Input) (fs : List (List ℕ)) → AllByRecursion IsInput is → IfSome (header is fs) (IsHead is)
-head_known is [] h = tt
-head_known is (f ∷ fs) h = first (bytes_eq f (codes "inputs"))
+named_known : (is : List Input) (fs : List (List ℕ)) → AllByRecursion IsInput is → IfSome (all_named is (columns_of is fs)) (IsHead is)
+named_known is fs h = named (columns_of is fs) (columns_known is fs h)
   where
     once : (cs : List Column) (b : Bool) → each_once (length is) cs ≡ b → AllByRecursion (IsNamed is) cs
         → IfSome (elim b as (λ _. Option (List Column)) [ true ↦ Some cs | false ↦ None ]) (IsHead is)
@@ -99,8 +99,18 @@ head_known is (f ∷ fs) h = first (bytes_eq f (codes "inputs"))
     named None k = tt
     named (Some cs) k = once cs (each_once (length is) cs) refl k
 
-    first : (b : Bool) → IfSome (elim b as (λ _. Option (List Column)) [ true ↦ all_named is (columns_of is fs) | false ↦ None ]) (IsHead is)
-    first true = named (columns_of is fs) (columns_known is fs h)
+head_known : (ports : PortLists) (fs : List (List ℕ)) → AllByRecursion IsInput ports.inputs → IfSome (header ports fs) (λ cs. IsHead ports.inputs cs.inputs)
+head_known ports [] h = tt
+head_known ports (f ∷ fs) h = first (bytes_eq f (codes "inputs"))
+  where
+    both : (o : Option (List Column)) (p : Option (List Expected)) → IfSome o (IsHead ports.inputs) → IfSome (both_columns o p) (λ cs. IsHead ports.inputs cs.inputs)
+    both None p k = tt
+    both (Some cs) None k = tt
+    both (Some cs) (Some es) k = k
+
+    first : (b : Bool) → IfSome (elim b as (λ _. Option ColumnLists) [ true ↦ named_columns ports fs | false ↦ None ]) (λ cs. IsHead ports.inputs cs.inputs)
+    first true =
+        both (all_named ports.inputs (columns_of ports.inputs (parts fs).before)) (behind_arrow ports.outputs (parts fs).behind) (named_known ports.inputs (parts fs).before h)
     first false = tt
 
 -- a fact of what a line gives
@@ -117,5 +127,5 @@ pub given_line : {A : Type 0} (P : A → Type 0) (b : Bool) (o : Option A) → I
 given_line P true o h = tt
 given_line P false o h = given_said P o h
 
-pub header_given : (is : List Input) (text : List ℕ) → AllByRecursion IsInput is → IfGiven (IsHead is) (header_line is text)
-header_given is text h = given_line (IsHead is) (is_skipped text) (header is (fields text)) (head_known is (fields text) h)
+pub header_given : (ports : PortLists) (text : List ℕ) → AllByRecursion IsInput ports.inputs → IfGiven (λ cs. IsHead ports.inputs cs.inputs) (header_line ports text)
+header_given ports text h = given_line (λ cs. IsHead ports.inputs cs.inputs) (is_skipped text) (header ports (fields text)) (head_known ports (fields text) h)

@@ -1,5 +1,5 @@
 -- No vector has an x or z bit in a reset input.
-use Rattle.std.proofs.Common.{◌≡◌, ℕ, suc, ◌+◌, ◌<◌, Bool, true, false, not, ◌&&◌, ◌||◌, nat_eq, List, [], ◌∷◌, length, get_or, refl, ap, ◌∙◌, subst, arith, eqb-true}
+use Rattle.std.proofs.Common.{◌≡◌, ℕ, suc, ◌+◌, ◌<◌, Bool, true, false, not, ◌&&◌, ◌||◌, nat_eq, List, [], ◌∷◌, length, get_or, refl, ap, sym, ◌∙◌, subst, arith, eqb-true}
 use Rattle.std.specs.Prelude.{All, Option, Some, None}
 use Rattle.std.specs.List.{AllByRecursion}
 use Rattle.vs_four.specs.declared.Bit4.{Bit4}
@@ -7,10 +7,10 @@ use Rattle.vs_stim.specs.declared.error.StimError.{StimError}
 use Rattle.vs_stim.specs.declared.error.StimError.TheVariants.{FirstUnknown, UnknownReset, TooManyVectors}
 use Rattle.vs_stim.specs.declared.input.Input.{Input}
 use Rattle.vs_stim.specs.declared.input.Column.{Column}
-use Rattle.vs_stim.specs.Header.{IsInput, count_of}
+use Rattle.vs_stim.specs.Header.{PortLists, ColumnLists, IsInput, count_of}
 use Rattle.vs_stim.specs.Laws.{known_in_resets}
 use Rattle.vs_stim.specs.Reading.{limits, not_taken, reading}
-use Rattle.vs_stim.specs.Vectors.{all_known, vector_known, resets_known}
+use Rattle.vs_stim.specs.Vectors.{Entry, all_known, vector_known, resets_known}
 use Rattle.vs_stim.proofs.Counted.{both}
 use Rattle.vs_stim.proofs.EachVector.{IsTaken, each_vector}
 use Rattle.vs_stim.proofs.Heads.{resets, IsNamed, head_once}
@@ -19,8 +19,8 @@ abbrev Vector : Type 0
 Vector = List (List Bit4)
 
 -- a vector that is taken is known in its resets
-taken_known : (cs : List Column) (number count : ℕ) (v : Vector) → not_taken limits cs number count v ≡ None → resets_known cs v ≡ true
-taken_known cs number count v = go (nat_eq count 0 && not (vector_known v)) (resets_known cs v)
+taken_known : (cs : ColumnLists) (number count : ℕ) (v : Entry) → not_taken limits cs number count v ≡ None → resets_known cs.inputs v.values ≡ true
+taken_known cs number count v = go (nat_eq count 0 && not (vector_known v.values)) (resets_known cs.inputs v.values)
   where
     go : (first known : Bool) → (elim first as (λ _. Option StimError) [
       | true ↦ Some FirstUnknown
@@ -60,9 +60,12 @@ all_resets (i ∷ is) [] h = refl
 all_resets (i ∷ is) (x ∷ xs) h =
     λ k. h 0 (omega arith) k && all_resets is xs (λ j below. h (suc j) (omega arith)) k
 
-taken_resets : (is : List Input) (v : Vector) → IsTaken is v → known_in_resets is v ≡ true
-taken_resets is v h =
-    all_resets is v (λ j below. value_known is h.columns v j h.head.each (taken_known h.columns h.number h.count v h.taken) (omega (arith, head_once is h.columns h.head j below)))
+taken_resets : (ports : PortLists) (v : Vector) → IsTaken ports v → known_in_resets ports.inputs v ≡ true
+taken_resets ports v h =
+    let is = ports.inputs in
+    subst (λ (w : Vector). known_in_resets is w ≡ true) (sym h.values)
+    (all_resets is h.entry.values
+    (λ j below. value_known is h.columns.inputs h.entry.values j h.head.each (taken_known h.columns h.number h.count h.entry h.taken) (omega (arith, head_once is h.columns.inputs h.head j below))))
 
-pub reading_resets : (is : List Input) (text : List ℕ) → All IsInput is → All (λ v. known_in_resets is v ≡ true) (reading is text).vectors
-reading_resets is text h = each_vector is text (λ v. known_in_resets is v ≡ true) h (taken_resets is)
+pub reading_resets : (ports : PortLists) (text : List ℕ) → All IsInput ports.inputs → All (λ v. known_in_resets ports.inputs v ≡ true) (reading ports text).vectors
+reading_resets ports text h = each_vector ports text (λ v. known_in_resets ports.inputs v ≡ true) h (taken_resets ports)

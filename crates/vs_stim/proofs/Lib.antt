@@ -15,3 +15,6 @@ pub mod Turns
 pub mod Untold
 pub mod Passed
 pub mod Ahead
+pub mod Marked
+pub mod Wanting
+pub mod Endings

@@ -5,11 +5,10 @@ use Rattle.std.specs.Prelude.{Option, Some, None, ◌==◌}
 use Rattle.std.proofs.lemmas.Bool.{cond-true, eq-eqb}
 use Rattle.vs_desk.specs.declared.desk.Way.TheVariants.{Read}
 use Rattle.vs_desk.specs.Desk.{Contents, Told, with_attached}
-use Rattle.vs_four.specs.declared.Bit4.{Bit4}
+use Rattle.vs_stim.specs.Header.{PortLists, ColumnLists}
+use Rattle.vs_stim.specs.Vectors.{Entry}
 use Rattle.vs_stim.specs.declared.error.StimError.{StimError}
 use Rattle.vs_stim.specs.declared.error.StimError.TheVariants.{BadHeader, BadVector}
-use Rattle.vs_stim.specs.declared.input.Column.{Column}
-use Rattle.vs_stim.specs.declared.input.Input.{Input}
 use Rattle.vs_stim.specs.Known.{IsReadTo}
 use Rattle.vs_stim.specs.Lines.{lines, all_lines, content}
 use Rattle.vs_stim.specs.Reading.{limits, Place, behind, too_long, Reading, Said, refused, with_vector, with_vectors, header_line, vector_line, not_taken, first_place, reading, read_vectors, read_header}
@@ -20,7 +19,7 @@ use Rattle.vs_stim.proofs.Turns.{vectors_found, header_last}
 use Rattle.vs_stim.proofs.Untold.{IsPassed, lines_closed}
 
 -- what lines behind the header give, by the first one's refusal, what it says, and whether its vector is taken
-vectors_turn : Place → Option StimError → Said (List (List Bit4)) → (List (List Bit4) → Option StimError) → Reading → Reading → Reading
+vectors_turn : Place → Option StimError → Said Entry → (Entry → Option StimError) → Reading → Reading → Reading
 vectors_turn at r s taken skipped given =
     elim r [
       | Some e ↦ refused e
@@ -32,7 +31,7 @@ vectors_turn at r s taken skipped given =
     ]
 
 -- the vector's line has its LF
-vector_ended : (cs : List Column) (count : ℕ) (v : List (List Bit4)) (o p : Open) → o.taken ≡ 0 → PassesLf o p → Passes false o p → vector_line cs (says o) ≡ Given v
+vector_ended : (cs : ColumnLists) (count : ℕ) (v : Entry) (o p : Open) → o.taken ≡ 0 → PassesLf o p → Passes false o p → vector_line cs (says o) ≡ Given v
     → not_taken limits cs o.at.number count v ≡ None → PassesVector cs count v o p
 unfolding vectors_turn
 vector_ended cs count v o p z h k s n =
@@ -57,7 +56,7 @@ vector_ended cs count v o p z h k s n =
     }
 
 -- the text ends with the vector's line
-vector_last : (cs : List Column) (count : ℕ) (v : List (List Bit4)) (o p : Open) → o.taken ≡ 0 → Passes true o p → p.at.start ≤ 4294967296
+vector_last : (cs : ColumnLists) (count : ℕ) (v : Entry) (o p : Open) → o.taken ≡ 0 → Passes true o p → p.at.start ≤ 4294967296
     → vector_line cs (says o) ≡ Given v → not_taken limits cs o.at.number count v ≡ None → PassesVector cs count v o p
 vector_last cs count v o p z k b s n =
     let nothing : p.rest ≡ [] = k.nothing refl in
@@ -71,13 +70,13 @@ vector_last cs count v o p z k b s n =
           ∙ ap (λ r. with_vector v (read_vectors limits cs p.at (count + 1) (all_lines (lines r)))) (nothing ∙ sym e);
     }
 
-vector_here : (cs : List Column) (count : ℕ) (v : List (List Bit4)) (o p : Open) (last : Bool) → o.taken ≡ 0 → (last ≡ false → PassesLf o p) → Passes last o p
+vector_here : (cs : ColumnLists) (count : ℕ) (v : Entry) (o p : Open) (last : Bool) → o.taken ≡ 0 → (last ≡ false → PassesLf o p) → Passes last o p
     → p.at.start ≤ 4294967296 → vector_line cs (says o) ≡ Given v → not_taken limits cs o.at.number count v ≡ None → PassesVector cs count v o p
 vector_here cs count v o p true z h k b s n = vector_last cs count v o p z k b s n
 vector_here cs count v o p false z h k b s n = vector_ended cs count v o p z (h refl) k s n
 
 -- A vector was read, behind whole lines.
-pub vector_passed : (cs : List Column) (count : ℕ) (v : List (List Bit4)) (a o p : Open) (last : Bool) → IsPassed a o → o.taken ≡ 0 → (last ≡ false → PassesLf o p)
+pub vector_passed : (cs : ColumnLists) (count : ℕ) (v : Entry) (a o p : Open) (last : Bool) → IsPassed a o → o.taken ≡ 0 → (last ≡ false → PassesLf o p)
     → Passes last o p → p.at.start ≤ 4294967296 → vector_line cs (says o) ≡ Given v → not_taken limits cs o.at.number count v ≡ None → PassesVector cs count v a p
 unfolding IsPassed
 vector_passed cs count v a o p last h z f k b s n =
@@ -92,10 +91,10 @@ vector_passed cs count v a o p last h z f k b s n =
     }
 
 -- what lines before the vectors give, by the first one's refusal, and what it says
-header_turn : Option StimError → Said (List Column) → Reading → (List Column → Reading) → Reading
+header_turn : Option StimError → Said ColumnLists → Reading → (ColumnLists → Reading) → Reading
 header_turn r s skipped given = elim r [ Some e ↦ refused e | None ↦ elim s [ Skipped ↦ skipped | Malformed ↦ refused BadHeader | Given cs ↦ given cs ] ]
 
-header_ended : (is : List Input) (cs : List Column) (o p : Open) → o.taken ≡ 0 → PassesLf o p → Passes false o p → header_line is (says o) ≡ Given cs → PassesHeader is cs o p
+header_ended : (is : PortLists) (cs : ColumnLists) (o p : Open) → o.taken ≡ 0 → PassesLf o p → Passes false o p → header_line is (says o) ≡ Given cs → PassesHeader is cs o p
 unfolding header_turn
 header_ended is cs o p z h k s =
     let first : lines o.rest ≡ record { first = record { bytes = h.bytes; ended = true }; later = all_lines (lines p.rest) } =
@@ -115,7 +114,7 @@ header_ended is cs o p z h k s =
           ∙ ap (λ at. read_vectors limits cs at 0 later) (sym (k.at refl ∙ ap (behind o.at) long));
     }
 
-header_ends : (is : List Input) (cs : List Column) (o p : Open) → o.taken ≡ 0 → Passes true o p → p.at.start ≤ 4294967296 → header_line is (says o) ≡ Given cs
+header_ends : (is : PortLists) (cs : ColumnLists) (o p : Open) → o.taken ≡ 0 → Passes true o p → p.at.start ≤ 4294967296 → header_line is (says o) ≡ Given cs
     → PassesHeader is cs o p
 header_ends is cs o p z k b s =
     let nothing : p.rest ≡ [] = k.nothing refl in
@@ -129,13 +128,13 @@ header_ends is cs o p z k b s =
           ∙ ap (λ r. read_vectors limits cs p.at 0 (all_lines (lines r))) (nothing ∙ sym e);
     }
 
-header_here : (is : List Input) (cs : List Column) (o p : Open) (last : Bool) → o.taken ≡ 0 → (last ≡ false → PassesLf o p) → Passes last o p → p.at.start ≤ 4294967296
+header_here : (is : PortLists) (cs : ColumnLists) (o p : Open) (last : Bool) → o.taken ≡ 0 → (last ≡ false → PassesLf o p) → Passes last o p → p.at.start ≤ 4294967296
     → header_line is (says o) ≡ Given cs → PassesHeader is cs o p
 header_here is cs o p true z h k b s = header_ends is cs o p z k b s
 header_here is cs o p false z h k b s = header_ended is cs o p z (h refl) k s
 
 -- A header was read, behind whole lines.
-pub header_passed : (is : List Input) (cs : List Column) (a o p : Open) (last : Bool) → IsPassed a o → o.taken ≡ 0 → (last ≡ false → PassesLf o p) → Passes last o p
+pub header_passed : (is : PortLists) (cs : ColumnLists) (a o p : Open) (last : Bool) → IsPassed a o → o.taken ≡ 0 → (last ≡ false → PassesLf o p) → Passes last o p
     → p.at.start ≤ 4294967296 → header_line is (says o) ≡ Given cs → PassesHeader is cs a p
 unfolding IsPassed
 header_passed is cs a o p last h z f k b s =
@@ -148,7 +147,7 @@ header_passed is cs a o p last h z f k b s =
     }
 
 -- the text was read up to behind its header
-pub read_first : (is : List Input) (cs : List Column) (o p : Open) → o.at ≡ first_place → PassesHeader is cs o p → IsReadTo is o.rest 0 cs p.at p.rest
+pub read_first : (is : PortLists) (cs : ColumnLists) (o p : Open) → o.at ≡ first_place → PassesHeader is cs o p → IsReadTo is o.rest 0 cs p.at p.rest
 read_first is cs o p e h = record {
   given = h.bytes;
   text_is = h.rest;
@@ -162,7 +161,11 @@ none_before : (xs ys : List ℕ) → xs ++ ys ≡ [] → (xs ≡ []) × (ys ≡ 
 none_before [] ys e = (refl, e)
 none_before (x ∷ xs) ys e = absurd (cc)
 
-pub read_more : (is : List Input) (text : List ℕ) (cs : List Column) (count : ℕ) (v : List (List Bit4)) (o p : Open) → PassesVector cs count v o p
+with_more : (vs : List Entry) (v : Entry) (r : Reading) → with_vectors vs (with_vector v r) ≡ with_vectors (vs ++ v ∷ []) r
+with_more [] v r = refl
+with_more (w ∷ vs) v r = ap (with_vector w) (with_more vs v r)
+
+pub read_more : (is : PortLists) (text : List ℕ) (cs : ColumnLists) (count : ℕ) (v : Entry) (o p : Open) → PassesVector cs count v o p
     → IsReadTo is text count cs o.at o.rest → IsReadTo is text (count + 1) cs p.at p.rest
 read_more is text cs count v o p h r = record {
   given = r.given ++ h.bytes;
@@ -176,7 +179,7 @@ read_more is text cs count v o p h r = record {
       ap (reading is) (append_assoc r.given h.bytes more)
       ∙ r.goes_on (h.bytes ++ more) no_more
       ∙ ap (with_vectors r.vectors) (h.gives more none)
-      ∙ (λ i. record { vectors = sym (append_assoc r.vectors (v ∷ []) later.vectors) i; refusal = later.refusal });
+      ∙ with_more r.vectors v later;
 }
 
 -- what is left of a text whose place was attached, where nothing was taken

@@ -1,12 +1,14 @@
 -- Worked texts, computed.
-use Rattle.std.proofs.Common.{◌≡◌, ℕ, true, false, List, [], ◌∷◌, ◌++◌, refl}
+use Rattle.std.proofs.Common.{◌≡◌, ℕ, true, false, List, [], ◌∷◌, ◌++◌, map, refl}
 use Rattle.std.specs.Prelude.{codes, Option, Some, None}
 use Rattle.vs_four.specs.declared.Bit4.{Bit4}
 use Rattle.vs_four.specs.declared.Bit4.TheVariants.{Zero, One, X, Z}
 use Rattle.vs_stim.specs.declared.input.Input.{Input}
+use Rattle.vs_stim.specs.declared.wanted.Digit.TheVariants.{Exactly, Any}
 use Rattle.vs_stim.specs.declared.error.StimError.{StimError}
 use Rattle.vs_stim.specs.declared.error.StimError.TheVariants.{BadHeader, BadVector, FirstUnknown, UnknownReset, NoVector, TooManyVectors, StimulusTooLong, LineTooLong}
-use Rattle.vs_stim.specs.Reading.{Reading, Limits, reading, reading_within, refused}
+use Rattle.vs_stim.specs.Header.{PortLists}
+use Rattle.vs_stim.specs.Reading.{Reading, Limits, reading, reading_within, columns, refused}
 
 -- a line with its LF
 abbrev line : List ℕ → List ℕ
@@ -18,16 +20,26 @@ crlf text = text ++ 13 ∷ 10 ∷ []
 
 -- the vectors, and then this refusal or none
 abbrev gives : List (List (List Bit4)) → Option StimError → Reading
-gives vs e = record { vectors = vs; refusal = e }
+gives vs e = record { vectors = vs; wanted = map (λ v. []) vs; refusal = e }
 
-abbrev two : List Input
-two = record { name = codes "a"; length = 1; reset = false } ∷ record { name = codes "b"; length = 1; reset = false } ∷ []
+-- these inputs, and no outputs
+abbrev inputs_alone : List Input → PortLists
+inputs_alone is = record { inputs = is; outputs = [] }
 
-abbrev wide : List Input
-wide = record { name = codes "a"; length = 4; reset = false } ∷ record { name = codes "b"; length = 2; reset = false } ∷ []
+abbrev none : PortLists
+none = inputs_alone []
 
-abbrev with_reset : List Input
-with_reset = record { name = codes "a"; length = 1; reset = false } ∷ record { name = codes "b"; length = 1; reset = true } ∷ []
+abbrev two_inputs : List Input
+two_inputs = record { name = codes "a"; length = 1; reset = false } ∷ record { name = codes "b"; length = 1; reset = false } ∷ []
+
+abbrev two : PortLists
+two = inputs_alone two_inputs
+
+abbrev wide : PortLists
+wide = inputs_alone (record { name = codes "a"; length = 4; reset = false } ∷ record { name = codes "b"; length = 2; reset = false } ∷ [])
+
+abbrev with_reset : PortLists
+with_reset = inputs_alone (record { name = codes "a"; length = 1; reset = false } ∷ record { name = codes "b"; length = 1; reset = true } ∷ [])
 
 abbrev small : Limits
 small = record { vectors = 2; line = 10; bytes = 20 }
@@ -65,10 +77,10 @@ skipped : reading two (line (codes "# s") ++ line [] ++ line (codes " \t") ++ li
 skipped = refl
 
 -- no inputs: the one field `-`
-no_inputs : reading [] (line (codes "inputs") ++ line (codes " - ") ++ line (codes "-")) ≡ gives ([] ∷ [] ∷ []) None
+no_inputs : reading none (line (codes "inputs") ++ line (codes " - ") ++ line (codes "-")) ≡ gives ([] ∷ [] ∷ []) None
 no_inputs = refl
 
-no_dash : reading [] (line (codes "inputs") ++ line (codes "- -")) ≡ refused (BadVector 2)
+no_dash : reading none (line (codes "inputs") ++ line (codes "- -")) ≡ refused (BadVector 2)
 no_dash = refl
 
 empty : reading two [] ≡ refused BadHeader
@@ -116,30 +128,96 @@ malformed_reset : reading with_reset (line (codes "inputs a b") ++ line (codes "
 malformed_reset = refl
 
 -- the limits, small ones
-line_limit : reading_within small [] (line (codes "#") ++ line (codes "# 34567890")) ≡ refused BadHeader
+line_limit : reading_within small none (line (codes "#") ++ line (codes "# 34567890")) ≡ refused BadHeader
 line_limit = refl
 
-line_too_long : reading_within small [] (line (codes "#") ++ line (codes "2 345678901")) ≡ refused (LineTooLong 2)
+line_too_long : reading_within small none (line (codes "#") ++ line (codes "2 345678901")) ≡ refused (LineTooLong 2)
 line_too_long = refl
 
 -- twenty bytes are kept, and the LF would be one more
-bytes_kept : reading_within small [] (line (codes "inputs") ++ line (codes "-") ++ line (codes "-") ++ codes "# 3456789") ≡ gives ([] ∷ [] ∷ []) None
+bytes_kept : reading_within small none (line (codes "inputs") ++ line (codes "-") ++ line (codes "-") ++ codes "# 3456789") ≡ gives ([] ∷ [] ∷ []) None
 bytes_kept = refl
 
-bytes_limit : reading_within small [] (line (codes "inputs") ++ line (codes "-") ++ line (codes "-") ++ line (codes "# 3456789")) ≡ gives ([] ∷ [] ∷ []) (Some StimulusTooLong)
+bytes_limit : reading_within small none (line (codes "inputs") ++ line (codes "-") ++ line (codes "-") ++ line (codes "# 3456789")) ≡ gives ([] ∷ [] ∷ []) (Some StimulusTooLong)
 bytes_limit = refl
 
 -- of two limits at one byte the line's is answered
-both_limits : reading_within (record { vectors = 2; line = 10; bytes = 12 }) [] (line (codes "#") ++ codes "# 345678901") ≡ refused (LineTooLong 2)
+both_limits : reading_within (record { vectors = 2; line = 10; bytes = 12 }) none (line (codes "#") ++ codes "# 345678901") ≡ refused (LineTooLong 2)
 both_limits = refl
 
-vectors_limit : reading_within small [] (line (codes "inputs") ++ line (codes "-") ++ line (codes "-") ++ line (codes "-")) ≡ gives ([] ∷ [] ∷ []) (Some TooManyVectors)
+vectors_limit : reading_within small none (line (codes "inputs") ++ line (codes "-") ++ line (codes "-") ++ line (codes "-")) ≡ gives ([] ∷ [] ∷ []) (Some TooManyVectors)
 vectors_limit = refl
 
 -- a malformed line comes before the limit on vectors
-malformed_past : reading_within small [] (line (codes "inputs") ++ line (codes "-") ++ line (codes "-") ++ line (codes "=")) ≡ gives ([] ∷ [] ∷ []) (Some (BadVector 4))
+malformed_past : reading_within small none (line (codes "inputs") ++ line (codes "-") ++ line (codes "-") ++ line (codes "=")) ≡ gives ([] ∷ [] ∷ []) (Some (BadVector 4))
 malformed_past = refl
 
 -- and so does an unknown reset
 reset_past : reading_within (record { vectors = 1; line = 10; bytes = 40 }) with_reset (line (codes "inputs a b") ++ line (codes "1 0") ++ line (codes "1 x")) ≡ gives (one_zero ∷ []) (Some (UnknownReset 3))
 reset_past = refl
+
+-- ---- expectations
+
+abbrev with_outputs : PortLists
+with_outputs = record { inputs = two_inputs; outputs = record { name = codes "y"; length = 1 } ∷ record { name = codes "q"; length = 3 } ∷ [] }
+
+abbrev bare_outputs : PortLists
+bare_outputs = record { inputs = []; outputs = record { name = codes "y"; length = 1 } ∷ [] }
+
+-- in the header's order, most significant first; `-` is any bit
+expected : reading with_outputs (line (codes "inputs b a -> q y") ++ line (codes "0 1 -> 01- 1") ++ line (codes "1 1 -> zXx  -"))
+    ≡ record {
+      vectors = one_zero ∷ one_one ∷ [];
+      wanted = ((Any ∷ Exactly One ∷ Exactly Zero ∷ []) ∷ (Exactly One ∷ []) ∷ []) ∷ ((Exactly X ∷ Exactly X ∷ Exactly Z ∷ []) ∷ (Any ∷ []) ∷ []) ∷ [];
+      refusal = None;
+    }
+expected = refl
+
+-- no inputs
+bare_expected : reading bare_outputs (line (codes "inputs -> y") ++ line (codes "- -> 0")) ≡ record { vectors = [] ∷ []; wanted = ((Exactly Zero ∷ []) ∷ []) ∷ []; refusal = None }
+bare_expected = refl
+
+-- a header that names no outputs
+none_expected : reading with_outputs (line (codes "inputs a b") ++ line (codes "1 0") ++ line (codes "1 1 -> 1")) ≡ gives (one_zero ∷ []) (Some (BadVector 3))
+none_expected = refl
+
+-- one name at least, of outputs alone, each at most once
+no_names : reading with_outputs (line (codes "inputs a b ->")) ≡ refused BadHeader
+no_names = refl
+
+input_expected : reading with_outputs (line (codes "inputs a b -> a")) ≡ refused BadHeader
+input_expected = refl
+
+twice_expected : reading with_outputs (line (codes "inputs a b -> y y")) ≡ refused BadHeader
+twice_expected = refl
+
+second_arrow : reading with_outputs (line (codes "inputs a b -> y -> q")) ≡ refused BadHeader
+second_arrow = refl
+
+input_missing : reading with_outputs (line (codes "inputs a -> y")) ≡ refused BadHeader
+input_missing = refl
+
+-- each vector has all fields
+arrow_missing : reading with_outputs (line (codes "inputs a b -> y") ++ line (codes "1 0")) ≡ refused (BadVector 2)
+arrow_missing = refl
+
+field_missing : reading with_outputs (line (codes "inputs a b -> y q") ++ line (codes "1 0 -> 1")) ≡ refused (BadVector 2)
+field_missing = refl
+
+field_short : reading with_outputs (line (codes "inputs a b -> q") ++ line (codes "1 0 -> 11")) ≡ refused (BadVector 2)
+field_short = refl
+
+no_blank : reading with_outputs (line (codes "inputs a b -> y") ++ line (codes "1 0 ->1")) ≡ refused (BadVector 2)
+no_blank = refl
+
+-- `-` is no digit of an input, and digits of outputs needn't be known
+dash_input : reading with_outputs (line (codes "inputs a b -> y") ++ line (codes "1 - -> 1")) ≡ refused (BadVector 2)
+dash_input = refl
+
+-- the columns of a header
+header_is : columns with_outputs (line (codes "# s") ++ line (codes "inputs b a -> q y"))
+    ≡ Some (record {
+      inputs = record { input = 1; length = 1; reset = false } ∷ record { input = 0; length = 1; reset = false } ∷ [];
+      expected = record { output = 1; length = 3 } ∷ record { output = 0; length = 1 } ∷ [];
+    })
+header_is = refl

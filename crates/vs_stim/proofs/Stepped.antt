@@ -1,8 +1,10 @@
 -- Where a reader is, by its parts; and a line's refusal before and after a CR.
-use Rattle.std.proofs.Common.{◌≡◌, ◌≢◌, ℕ, ◌+◌, true, List, [], ◌∷◌, length, refl, ap, arith, inl, inr}
+use Rattle.std.proofs.Common.{◌≡◌, ◌≢◌, ℕ, ◌+◌, true, List, [], ◌∷◌, length, refl, ap, ◌∙◌, arith, inl, inr}
 use Rattle.std.proofs.lemmas.Bool.Decides.{eqb_tells}
 use Rattle.vs_stim.specs.Lines.{lines, no_lf}
 use Rattle.vs_stim.specs.Reading.{Place, limits, too_long}
+use Rattle.vs_stim.specs.declared.row.Row.{Row}
+use Rattle.vs_stim.specs.Row.{columns_in, SameForm}
 use Rattle.vs_stim.specs.Source.{Open, line_refusal, GoesOn}
 
 pub same_open : (a b : Open) → a.at.number ≡ b.at.number → a.at.start ≡ b.at.start → a.taken ≡ b.taken → a.rest ≡ b.rest → a ≡ b
@@ -25,3 +27,13 @@ byte_read o p byte h e n s t = record {
   where
     no_lf_alone : no_lf (byte ∷ []) ≡ true
     no_lf_alone = elim (eqb_tells byte 10) [ inl k ↦ absurd (h k.1) | inr k ↦ rw k.0 refl ]
+
+-- a row that keeps its form keeps its columns
+pub same_columns : (old new : Row) → SameForm old new → columns_in new ≡ columns_in old
+same_columns old new h = λ i. record { inputs = (h.columns i).items; expected = (h.expected i).items }
+
+pub same_form : (row : Row) → SameForm row row
+same_form row = record { columns = refl; expected = refl; lengths = refl; wanted = refl }
+
+pub form_on : (a b c : Row) → SameForm a b → SameForm b c → SameForm a c
+form_on a b c h k = record { columns = k.columns ∙ h.columns; expected = k.expected ∙ h.expected; lengths = k.lengths ∙ h.lengths; wanted = k.wanted ∙ h.wanted }

@@ -4,14 +4,12 @@ use Rattle.std.proofs.lemmas.Bool.{le-ltb}
 use Rattle.std.specs.Prelude.{Option, Some, None, IsTrue}
 use Rattle.vs_stim.specs.declared.error.StimError.{StimError}
 use Rattle.vs_stim.specs.declared.error.StimError.TheVariants.{BadHeader, BadVector, StimulusTooLong}
-use Rattle.vs_stim.specs.declared.input.Column.{Column}
-use Rattle.vs_stim.specs.declared.input.Input.{Input}
 use Rattle.vs_stim.specs.Lines.{lines, all_lines}
 use Rattle.vs_stim.specs.Reading.{Reading, refused, with_vector, limits, behind, too_long, Said, said, header_line, header_fault, vector_line, not_taken, at_end, read_vectors, read_header}
 use Rattle.vs_stim.specs.Reading.Said.{Skipped, Malformed, Given}
-use Rattle.vs_stim.specs.Row.{Values}
 use Rattle.vs_stim.specs.Fields.{is_skipped, fields}
-use Rattle.vs_stim.specs.Vectors.{vector}
+use Rattle.vs_stim.specs.Header.{PortLists, ColumnLists}
+use Rattle.vs_stim.specs.Vectors.{Entry, entry}
 use Rattle.vs_stim.specs.Known.{lines_tell}
 use Rattle.vs_stim.specs.Source.{Open, line_length, line_refusal, says, vectors_from, header_from, header_fault_from, text_tells, is_told, Passes}
 
@@ -22,7 +20,7 @@ length_here : (o : Open) → o.taken ≡ 0 → line_length o ≡ length (lines o
 length_here o z = ap (λ t. t + length (lines o.rest).first.bytes) z ∙ zero-add (length (lines o.rest).first.bytes)
 
 -- a line behind the header, by its refusal, by what it says and by whether a vector is taken
-vector_turn : List Column → Open → ℕ → Option StimError → Said Values → (Values → Option StimError) → Reading
+vector_turn : ColumnLists → Open → ℕ → Option StimError → Said Entry → (Entry → Option StimError) → Reading
 vector_turn cs o count r s taken =
     elim r [
       | Some e ↦ refused e
@@ -36,20 +34,20 @@ vector_turn cs o count r s taken =
       ]
     ]
 
-turned : (cs : List Column) (o : Open) (count : ℕ) (r : Option StimError) (s : Said Values) → o.taken ≡ 0 → line_refusal o ≡ r → vector_line cs (says o) ≡ s → vectors_from cs count o ≡ vector_turn cs o count r s (not_taken limits cs o.at.number count)
+turned : (cs : ColumnLists) (o : Open) (count : ℕ) (r : Option StimError) (s : Said Entry) → o.taken ≡ 0 → line_refusal o ≡ r → vector_line cs (says o) ≡ s → vectors_from cs count o ≡ vector_turn cs o count r s (not_taken limits cs o.at.number count)
 unfolding vector_turn
 turned cs o count r s z e f = λ i. vector_turn cs o count ((refusal_here o z ∙ e) i) (f i) (not_taken limits cs o.at.number count)
 
 -- the lines behind this one
-later_vectors : (cs : List Column) (o p : Open) (count : ℕ) → o.taken ≡ 0 → Passes false o p → read_vectors limits cs (behind o.at (length (lines o.rest).first.bytes)) count (lines o.rest).later ≡ vectors_from cs count p
+later_vectors : (cs : ColumnLists) (o p : Open) (count : ℕ) → o.taken ≡ 0 → Passes false o p → read_vectors limits cs (behind o.at (length (lines o.rest).first.bytes)) count (lines o.rest).later ≡ vectors_from cs count p
 later_vectors cs o p count z h = λ i. read_vectors limits cs (sym (h.at refl ∙ ap (behind o.at) (length_here o z)) i) count (sym (h.more refl) i)
 
-pub vectors_skipped : (cs : List Column) (o p : Open) (count : ℕ) → o.taken ≡ 0 → Passes false o p → vector_line cs (says o) ≡ Skipped → vectors_from cs count o ≡ vectors_from cs count p
+pub vectors_skipped : (cs : ColumnLists) (o p : Open) (count : ℕ) → o.taken ≡ 0 → Passes false o p → vector_line cs (says o) ≡ Skipped → vectors_from cs count o ≡ vectors_from cs count p
 unfolding vector_turn
 vectors_skipped cs o p count z h s = turned cs o count None Skipped z h.kept s ∙ later_vectors cs o p count z h
 
 -- a line before the vectors, by its refusal and by what it says
-fault_turn : List Input → Open → Option StimError → Said (List Column) → Option StimError
+fault_turn : PortLists → Open → Option StimError → Said ColumnLists → Option StimError
 fault_turn is o r s =
     elim r [
       | Some e ↦ Some e
@@ -60,39 +58,39 @@ fault_turn is o r s =
       ]
     ]
 
-pub fault_skipped : (is : List Input) (o p : Open) → o.taken ≡ 0 → Passes false o p → header_line is (says o) ≡ Skipped → header_fault_from is o ≡ header_fault_from is p
+pub fault_skipped : (is : PortLists) (o p : Open) → o.taken ≡ 0 → Passes false o p → header_line is (says o) ≡ Skipped → header_fault_from is o ≡ header_fault_from is p
 unfolding fault_turn
 fault_skipped is o p z h s =
     let turned : header_fault_from is o ≡ fault_turn is o None Skipped = λ i. fault_turn is o ((refusal_here o z ∙ h.kept) i) (s i) in
     turned ∙ (λ i. header_fault limits is (sym (h.at refl ∙ ap (behind o.at) (length_here o z)) i) (sym (h.more refl) i))
 
-last_vectors : (cs : List Column) (o p : Open) (count : ℕ) → Passes true o p → read_vectors limits cs (behind o.at (length (lines o.rest).first.bytes)) count (lines o.rest).later ≡ at_end count
+last_vectors : (cs : ColumnLists) (o p : Open) (count : ℕ) → Passes true o p → read_vectors limits cs (behind o.at (length (lines o.rest).first.bytes)) count (lines o.rest).later ≡ at_end count
 last_vectors cs o p count h = ap (read_vectors limits cs (behind o.at (length (lines o.rest).first.bytes)) count) (h.none refl)
 
-vectors_given : (cs : List Column) (o : Open) (count : ℕ) (v : Values) → o.taken ≡ 0 → line_refusal o ≡ None → vector_line cs (says o) ≡ Given v → not_taken limits cs o.at.number count v ≡ None → vectors_from cs count o ≡ with_vector v (read_vectors limits cs (behind o.at (length (lines o.rest).first.bytes)) (count + 1) (lines o.rest).later)
+vectors_given : (cs : ColumnLists) (o : Open) (count : ℕ) (v : Entry) → o.taken ≡ 0 → line_refusal o ≡ None → vector_line cs (says o) ≡ Given v → not_taken limits cs o.at.number count v ≡ None → vectors_from cs count o ≡ with_vector v (read_vectors limits cs (behind o.at (length (lines o.rest).first.bytes)) (count + 1) (lines o.rest).later)
 unfolding vector_turn
 vectors_given cs o count v z h s n = turned cs o count None (Given v) z h s ∙ (λ i. vector_turn cs o count None (Given v) (λ _. n i))
 
-pub vectors_taken : (cs : List Column) (o p : Open) (count : ℕ) (v : Values) → o.taken ≡ 0 → Passes false o p → vector_line cs (says o) ≡ Given v → not_taken limits cs o.at.number count v ≡ None → vectors_from cs count o ≡ with_vector v (vectors_from cs (count + 1) p)
+pub vectors_taken : (cs : ColumnLists) (o p : Open) (count : ℕ) (v : Entry) → o.taken ≡ 0 → Passes false o p → vector_line cs (says o) ≡ Given v → not_taken limits cs o.at.number count v ≡ None → vectors_from cs count o ≡ with_vector v (vectors_from cs (count + 1) p)
 vectors_taken cs o p count v z h s n = vectors_given cs o count v z h.kept s n ∙ ap (with_vector v) (later_vectors cs o p (count + 1) z h)
 
 -- nothing is left of the text
-pub nothing_left : (cs : List Column) (p : Open) (count : ℕ) → p.rest ≡ [] → p.at.start ≤ 4294967296 → vectors_from cs count p ≡ at_end count
+pub nothing_left : (cs : ColumnLists) (p : Open) (count : ℕ) → p.rest ≡ [] → p.at.start ≤ 4294967296 → vectors_from cs count p ≡ at_end count
 nothing_left cs p count e h = ap (λ r. read_vectors limits cs p.at count (all_lines (lines r))) e ∙ ap past (le-ltb 4294967296 (p.at.start + 0) (omega arith))
   where
     past : Bool → Reading
     past b = elim (elim b as (λ _. Option StimError) [ true ↦ Some StimulusTooLong | false ↦ None ]) as (λ _. Reading) [ Some e ↦ refused e | None ↦ at_end count ]
 
-pub vectors_taken_last : (cs : List Column) (o p : Open) (count : ℕ) (v : Values) → o.taken ≡ 0 → Passes true o p → p.at.start ≤ 4294967296 → vector_line cs (says o) ≡ Given v → not_taken limits cs o.at.number count v ≡ None → vectors_from cs count o ≡ with_vector v (vectors_from cs (count + 1) p)
+pub vectors_taken_last : (cs : ColumnLists) (o p : Open) (count : ℕ) (v : Entry) → o.taken ≡ 0 → Passes true o p → p.at.start ≤ 4294967296 → vector_line cs (says o) ≡ Given v → not_taken limits cs o.at.number count v ≡ None → vectors_from cs count o ≡ with_vector v (vectors_from cs (count + 1) p)
 vectors_taken_last cs o p count v z h b s n = vectors_given cs o count v z h.kept s n ∙ ap (with_vector v) (last_vectors cs o p (count + 1) h ∙ sym (nothing_left cs p (count + 1) (h.nothing refl) b))
 
 -- A vector was read.
-pub vectors_found : (cs : List Column) (o p : Open) (count : ℕ) (v : Values) (last : Bool) → o.taken ≡ 0 → Passes last o p → p.at.start ≤ 4294967296 → vector_line cs (says o) ≡ Given v → not_taken limits cs o.at.number count v ≡ None → vectors_from cs count o ≡ with_vector v (vectors_from cs (count + 1) p)
+pub vectors_found : (cs : ColumnLists) (o p : Open) (count : ℕ) (v : Entry) (last : Bool) → o.taken ≡ 0 → Passes last o p → p.at.start ≤ 4294967296 → vector_line cs (says o) ≡ Given v → not_taken limits cs o.at.number count v ≡ None → vectors_from cs count o ≡ with_vector v (vectors_from cs (count + 1) p)
 vectors_found cs o p count v true z h b s n = vectors_taken_last cs o p count v z h b s n
 vectors_found cs o p count v false z h b s n = vectors_taken cs o p count v z h s n
 
 -- a line before the vectors, by its refusal and by what it says
-header_turn : List Input → Open → Option StimError → Said (List Column) → Reading
+header_turn : PortLists → Open → Option StimError → Said ColumnLists → Reading
 header_turn is o r s =
     elim r [
       | Some e ↦ refused e
@@ -104,12 +102,21 @@ header_turn is o r s =
     ]
 
 -- A header was read, with which the text ends.
-pub header_last : (is : List Input) (cs : List Column) (o p : Open) → o.taken ≡ 0 → Passes true o p → p.at.start ≤ 4294967296 → header_line is (says o) ≡ Given cs
+pub header_last : (is : PortLists) (cs : ColumnLists) (o p : Open) → o.taken ≡ 0 → Passes true o p → p.at.start ≤ 4294967296 → header_line is (says o) ≡ Given cs
     → header_from is o ≡ vectors_from cs 0 p
 unfolding header_turn
 header_last is cs o p z h b s =
     let turned : header_from is o ≡ header_turn is o None (Given cs) = λ i. header_turn is o ((refusal_here o z ∙ h.kept) i) (s i) in
     turned ∙ last_vectors cs o p 0 h ∙ sym (nothing_left cs p 0 (h.nothing refl) b)
+
+-- A header was read.
+pub header_found : (is : PortLists) (cs : ColumnLists) (o p : Open) (last : Bool) → o.taken ≡ 0 → Passes last o p → p.at.start ≤ 4294967296 → header_line is (says o) ≡ Given cs
+    → header_from is o ≡ vectors_from cs 0 p
+unfolding header_turn
+header_found is cs o p true z h b s = header_last is cs o p z h b s
+header_found is cs o p false z h b s =
+    let turned : header_from is o ≡ header_turn is o None (Given cs) = λ i. header_turn is o ((refusal_here o z ∙ h.kept) i) (s i) in
+    turned ∙ later_vectors cs o p 0 z h
 
 -- what is skipped
 pub skipped_is : {A : Type 0} (t : List ℕ) (o : Option A) → Skipped ≡ (elim (is_skipped t) as (λ _. Said A) [ true ↦ Skipped | false ↦ said o ]) → is_skipped t ≡ true
@@ -142,13 +149,13 @@ tells_line o z t = go (line_refusal o) (lines o.rest).first.ended (is_skipped (s
     go None false s k h = h
 
 -- Where a line tells what is read next and was skipped, the lines behind it tell.
-pub tells_on : (cs : List Column) (o p : Open) → o.taken ≡ 0 → Passes false o p → Skipped ≡ vector_line cs (says o) → IsTrue (text_tells o) → IsTrue (text_tells p)
+pub tells_on : (cs : ColumnLists) (o p : Open) → o.taken ≡ 0 → Passes false o p → Skipped ≡ vector_line cs (says o) → IsTrue (text_tells o) → IsTrue (text_tells p)
 unfolding tell
 tells_on cs o p z h s t =
     let k = lines_tell (behind o.at (length (lines o.rest).first.bytes)) (lines o.rest).later in
     let e = (lines o.rest).first.ended in
     let moved : text_tells p ≡ k = (λ i. lines_tell ((h.at refl ∙ ap (behind o.at) (length_here o z)) i) (h.more refl i)) in
-    let known : tell None e true k ≡ true = (λ i. tell (sym h.kept i) e (sym (skipped_is (says o) (vector cs (fields (says o))) s) i) k) ∙ told_parts o z t in
+    let known : tell None e true k ≡ true = (λ i. tell (sym h.kept i) e (sym (skipped_is (says o) (entry cs (fields (says o))) s) i) k) ∙ told_parts o z t in
     moved ∙ go e k known
   where
     go : (e k : Bool) → tell None e true k ≡ true → k ≡ true

@@ -3,17 +3,14 @@ use Rattle.std.proofs.Common.{◌≡◌, ℕ, ◌+◌, ◌≤◌, Bool, true, fa
 use Rattle.std.proofs.lemmas.Bool.{le-ltb}
 use Rattle.std.specs.Prelude.{Option, Some, None}
 use Rattle.vs_stim.specs.declared.error.StimError.{StimError}
-use Rattle.vs_four.specs.declared.Bit4.{Bit4}
 use Rattle.vs_stim.specs.declared.error.StimError.TheVariants.{BadHeader, BadVector, LineTooLong, StimulusTooLong}
-use Rattle.vs_stim.specs.declared.input.Column.{Column}
-use Rattle.vs_stim.specs.declared.input.Input.{Input}
 use Rattle.vs_stim.specs.Fields.{is_skipped, fields}
-use Rattle.vs_stim.specs.Header.{header}
+use Rattle.vs_stim.specs.Header.{PortLists, ColumnLists, header}
 use Rattle.vs_stim.specs.Lines.{Lines, lines, all_lines, with_lf, with_byte, content, no_lf}
 use Rattle.vs_stim.specs.Known.{lines_tell, IsUntold}
 use Rattle.vs_stim.specs.Reading.{limits, Place, behind, too_long, Reading, Said, said, refused, with_vector, not_taken, read_vectors, read_header}
 use Rattle.vs_stim.specs.Reading.Said.{Skipped, Malformed, Given}
-use Rattle.vs_stim.specs.Vectors.{vector}
+use Rattle.vs_stim.specs.Vectors.{Entry, entry}
 use Rattle.vs_stim.specs.Source.{Open, line_length, says, GoesOn, PassesLf, Passes}
 use Rattle.vs_stim.proofs.Counted.{both}
 
@@ -72,9 +69,9 @@ pub record WholeLines (old new : Open) : Type 0 where
   pub bytes : List ℕ
   pub rest : old.rest ≡ bytes ++ new.rest
   pub tells : (more : List ℕ) → lines_tell old.at (all_lines (lines (bytes ++ more))) ≡ lines_tell new.at (all_lines (lines more))
-  pub vectors : (cs : List Column) (count : ℕ) (more : List ℕ)
+  pub vectors : (cs : ColumnLists) (count : ℕ) (more : List ℕ)
       → read_vectors limits cs old.at count (all_lines (lines (bytes ++ more))) ≡ read_vectors limits cs new.at count (all_lines (lines more))
-  pub headers : (is : List Input) (more : List ℕ) → read_header limits is old.at (all_lines (lines (bytes ++ more))) ≡ read_header limits is new.at (all_lines (lines more))
+  pub headers : (is : PortLists) (more : List ℕ) → read_header limits is old.at (all_lines (lines (bytes ++ more))) ≡ read_header limits is new.at (all_lines (lines more))
 
 -- the reader passed whole lines, which tell nothing, and give nothing
 unfoldable pub IsPassed : Open → Open → Type 0
@@ -132,17 +129,17 @@ line_passed o p z h k s =
           let next = behind o.at (length h.bytes) in
           let later = all_lines (lines more) in
           let text = content (record { bytes = h.bytes; ended = true }) in
-          let given : List (List Bit4) → Reading =
+          let given : Entry → Reading =
           λ v. elim (not_taken limits cs o.at.number count v) [ Some e ↦ refused e | None ↦ with_vector v (read_vectors limits cs next (count + 1) later) ] in
           ap (λ bs. read_vectors limits cs o.at count (all_lines (lines bs))) (append_assoc h.bytes (10 ∷ []) more)
           ∙ ap (λ t. read_vectors limits cs o.at count (all_lines t)) (lines_closed h.bytes more h.inner)
-          ∙ (λ i. give_ended (kept i) (skipped i) (said (vector cs (fields text))) (read_vectors limits cs next count later) (refused (BadVector o.at.number)) given)
+          ∙ (λ i. give_ended (kept i) (skipped i) (said (entry cs (fields text))) (read_vectors limits cs next count later) (refused (BadVector o.at.number)) given)
           ∙ ap (λ at. read_vectors limits cs at count later) (sym (k.at refl ∙ ap (behind o.at) long));
       headers = λ is more.
           let next = behind o.at (length h.bytes) in
           let later = all_lines (lines more) in
           let text = content (record { bytes = h.bytes; ended = true }) in
-          let given : List Column → Reading = λ cs. read_vectors limits cs next 0 later in
+          let given : ColumnLists → Reading = λ cs. read_vectors limits cs next 0 later in
           ap (λ bs. read_header limits is o.at (all_lines (lines bs))) (append_assoc h.bytes (10 ∷ []) more)
           ∙ ap (λ t. read_header limits is o.at (all_lines t)) (lines_closed h.bytes more h.inner)
           ∙ (λ i. give_ended (kept i) (skipped i) (said (header is (fields text))) (read_header limits is next later) (refused BadHeader) given)

@@ -1,5 +1,5 @@
 -- A vector's values have the lengths of the inputs.
-use Rattle.std.proofs.Common.{◌≡◌, ℕ, zero, suc, ◌+◌, ◌<◌, Bool, true, false, nat_eq, List, [], ◌∷◌, length, drop, get_or, refl, ap, sym, ◌∙◌, subst, arith, eqb-true, add-one}
+use Rattle.std.proofs.Common.{◌≡◌, ℕ, zero, suc, ◌+◌, ◌<◌, Bool, true, false, nat_eq, List, [], ◌∷◌, length, take, drop, get_or, refl, ap, sym, ◌∙◌, subst, arith, eqb-true, add-one}
 use Rattle.std.proofs.lemmas.List.{length-map, nil_from_length, length_push, drop_all}
 use Rattle.std.proofs.lemmas.List.Elements.{All-from_recursion}
 use Rattle.std.proofs.Math.Seq.{drop-cons}
@@ -8,11 +8,12 @@ use Rattle.std.specs.List.{AllByRecursion}
 use Rattle.vs_four.specs.declared.Bit4.{Bit4}
 use Rattle.vs_stim.specs.declared.input.Input.{Input}
 use Rattle.vs_stim.specs.declared.input.Column.{Column}
+use Rattle.vs_stim.specs.declared.wanted.Digit.{Digit}
 use Rattle.vs_stim.specs.Fields.{is_skipped, fields}
-use Rattle.vs_stim.specs.Header.{IsInput, lengths, count_of}
-use Rattle.vs_stim.specs.Reading.{vector_line, reading}
+use Rattle.vs_stim.specs.Header.{PortLists, ColumnLists, IsInput, lengths, count_of}
+use Rattle.vs_stim.specs.Reading.{Said, vector_line, reading}
 use Rattle.vs_stim.specs.Row.{sizes, IsColumn}
-use Rattle.vs_stim.specs.Vectors.{digit, with_top, bits_of, value, with_value, values, value_at, values_from, arranged, is_dash, vector}
+use Rattle.vs_stim.specs.Vectors.{digit, with_top, bits_of, value, with_value, values, value_at, values_from, arranged, is_dash, vector, wants, Entry, both_parts, field_count, entry}
 use Rattle.vs_stim.proofs.Counted.{length-each_once}
 use Rattle.vs_stim.proofs.EachVector.{IsTaken, each_vector}
 use Rattle.vs_stim.proofs.Heads.{IsHead, head_columns, head_once, IfGiven, given_line}
@@ -103,11 +104,22 @@ vector_long is cs fs head = go cs (head_columns is cs head) long (λ j below. he
     go [] each l once = dash (is_dash fs) (sym (nil_from_length (lengths is) (sym l)))
     go (c ∷ cs) each l once = placed (c ∷ cs) (values (c ∷ cs) fs) each l once (values_fit (c ∷ cs) fs)
 
-vector_given : (is : List Input) (cs : List Column) (text : List ℕ) → IsHead is cs → IfGiven (λ v. sizes v ≡ lengths is) (vector_line cs text)
-vector_given is cs text h = given_line (λ v. sizes v ≡ lengths is) (is_skipped text) (vector cs (fields text)) (vector_long is cs (fields text) h)
+entry_long : (is : List Input) (cs : ColumnLists) (fs : List (List ℕ)) → IsHead is cs.inputs → IfSome (entry cs fs) (λ v. sizes v.values ≡ lengths is)
+entry_long is cs fs head =
+    go (vector cs.inputs (take (field_count cs.inputs) fs)) (wants cs.expected (drop (field_count cs.inputs) fs)) (vector_long is cs.inputs (take (field_count cs.inputs) fs) head)
+  where
+    go : (o : Option (List (List Bit4))) (p : Option (List (List Digit))) → IfSome o (λ v. sizes v ≡ lengths is) → IfSome (both_parts o p) (λ v. sizes v.values ≡ lengths is)
+    go None p h = tt
+    go (Some vs) None h = tt
+    go (Some vs) (Some ws) h = h
 
-pub taken_fits : (is : List Input) (v : List (List Bit4)) → IsTaken is v → sizes v ≡ lengths is
-taken_fits is v h = let P = IfGiven (λ v. sizes v ≡ lengths is) in subst P h.given (vector_given is h.columns h.text h.head)
+vector_given : (is : List Input) (cs : ColumnLists) (text : List ℕ) → IsHead is cs.inputs → IfGiven (λ v. sizes v.values ≡ lengths is) (vector_line cs text)
+vector_given is cs text h = given_line (λ v. sizes v.values ≡ lengths is) (is_skipped text) (entry cs (fields text)) (entry_long is cs (fields text) h)
 
-pub reading_fits : (is : List Input) (text : List ℕ) → All IsInput is → All (λ v. sizes v ≡ lengths is) (reading is text).vectors
-reading_fits is text h = each_vector is text (λ v. sizes v ≡ lengths is) h (taken_fits is)
+pub taken_fits : (ports : PortLists) (v : List (List Bit4)) → IsTaken ports v → sizes v ≡ lengths ports.inputs
+taken_fits ports v h =
+    let P : Said Entry → Type 0 = IfGiven (λ v. sizes v.values ≡ lengths ports.inputs) in
+    subst (λ (w : List (List Bit4)). sizes w ≡ lengths ports.inputs) (sym h.values) (subst P h.given (vector_given ports.inputs h.columns h.text h.head))
+
+pub reading_fits : (ports : PortLists) (text : List ℕ) → All IsInput ports.inputs → All (λ v. sizes v ≡ lengths ports.inputs) (reading ports text).vectors
+reading_fits ports text h = each_vector ports text (λ v. sizes v ≡ lengths ports.inputs) h (taken_fits ports)

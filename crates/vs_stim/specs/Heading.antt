@@ -1,56 +1,111 @@
 -- What a line before the vectors says, where some of it was read already.
 use Rattle.std.specs.Prelude.{◌≡◌, ℕ, ◌<◌, Bool, true, false, List, [], ◌∷◌, ◌++◌, length, Some, None, codes, bytes_eq, slice_index, All}
-use Rattle.vs_stim.specs.declared.input.Input.{Input}
 use Rattle.vs_stim.specs.declared.input.Column.{Column}
+use Rattle.vs_stim.specs.declared.input.Expected.{Expected}
+use Rattle.vs_stim.specs.declared.input.Columns.{Columns}
 use Rattle.vs_stim.specs.declared.heading.Stage.{Stage}
 use Rattle.vs_stim.specs.declared.heading.Stage.TheVariants.{Start, Comment, Gap, Word, Bad}
+use Rattle.vs_stim.specs.declared.heading.Section.{Section}
+use Rattle.vs_stim.specs.declared.heading.Section.TheVariants.{Title, Inputs, Outputs}
 use Rattle.vs_stim.specs.declared.heading.Heading.{Heading}
 use Rattle.vs_stim.specs.Fields.{is_skipped, words, fields}
-use Rattle.vs_stim.specs.Header.{lengths, column_of, count_of, each_once}
+use Rattle.vs_stim.specs.Header.{PortLists, ColumnLists, lengths, column_of, count_of, each_once, is_arrow, expected_of, is_expected}
 use Rattle.vs_stim.specs.Row.{IsColumn}
+use Rattle.vs_stim.specs.Wants.{IsExpected}
 use Rattle.vs_stim.specs.Reading.{Said}
 use Rattle.vs_stim.specs.Reading.Said.{Skipped, Malformed, Given}
 
--- names are still to come behind these columns
-abbrev pub names_to_come : List Input → List Column → List (List ℕ) → Said (List Column)
-names_to_come is cs [] = elim (each_once (length is) cs) [ true ↦ Given cs | false ↦ Malformed ]
-names_to_come is cs (f ∷ fs) = elim (column_of 0 f is) [ None ↦ Malformed | Some c ↦ names_to_come is (cs ++ c ∷ []) fs ]
+-- all names were read, and there is one of an output at least
+abbrev pub some_expected : List Column → List Expected → Said ColumnLists
+some_expected cs [] = Malformed
+some_expected cs (e ∷ es) = Given (record { inputs = cs; expected = e ∷ es })
 
--- the fields that are still to come, where `inputs` was read or not
-abbrev pub fields_to_come : List Input → Bool → List Column → List (List ℕ) → Said (List Column)
-fields_to_come is true cs fs = names_to_come is cs fs
-fields_to_come is false cs [] = Malformed
-fields_to_come is false cs (f ∷ fs) = elim (bytes_eq f (codes "inputs")) [ true ↦ names_to_come is cs fs | false ↦ Malformed ]
+-- names of outputs are still to come behind these columns
+abbrev pub outputs_to_come : PortLists → List Column → List Expected → List (List ℕ) → Said ColumnLists
+outputs_to_come ports cs es [] = some_expected cs es
+outputs_to_come ports cs es (f ∷ fs) =
+    elim (expected_of 0 f ports.outputs) [
+      | None ↦ Malformed
+      | Some e ↦ elim (is_expected e.output es) [ true ↦ Malformed | false ↦ outputs_to_come ports cs (es ++ e ∷ []) fs ]
+    ]
 
-abbrev pub at_stage : Stage → List Input → Bool → List Column → List ℕ → List ℕ → Said (List Column)
-at_stage Start is titled cs word rest = elim (is_skipped rest) [ true ↦ Skipped | false ↦ fields_to_come is titled cs (fields rest) ]
-at_stage Comment is titled cs word rest = Skipped
-at_stage Gap is titled cs word rest = fields_to_come is titled cs (fields rest)
-at_stage Word is titled cs word rest = fields_to_come is titled cs ((word ++ (words rest).word) ∷ (words rest).later)
-at_stage Bad is titled cs word rest = Malformed
+-- names of inputs are still to come behind these columns
+abbrev pub names_to_come : PortLists → List Column → List Expected → List (List ℕ) → Said ColumnLists
+names_to_come ports cs es [] = elim (each_once (length ports.inputs) cs) [ true ↦ Given (record { inputs = cs; expected = es }) | false ↦ Malformed ]
+names_to_come ports cs es (f ∷ fs) =
+    elim (is_arrow f) [
+      | true ↦ elim (each_once (length ports.inputs) cs) [ true ↦ outputs_to_come ports cs es fs | false ↦ Malformed ]
+      | false ↦ elim (column_of 0 f ports.inputs) [ None ↦ Malformed | Some c ↦ names_to_come ports (cs ++ c ∷ []) es fs ]
+    ]
+
+-- `inputs` is still to come
+abbrev pub title_to_come : PortLists → List Column → List Expected → List (List ℕ) → Said ColumnLists
+title_to_come ports cs es [] = Malformed
+title_to_come ports cs es (f ∷ fs) = elim (bytes_eq f (codes "inputs")) [ true ↦ names_to_come ports cs es fs | false ↦ Malformed ]
+
+-- the fields that are still to come in this section
+abbrev pub fields_to_come : PortLists → Section → List Column → List Expected → List (List ℕ) → Said ColumnLists
+fields_to_come ports Title cs es fs = title_to_come ports cs es fs
+fields_to_come ports Inputs cs es fs = names_to_come ports cs es fs
+fields_to_come ports Outputs cs es fs = outputs_to_come ports cs es fs
+
+abbrev pub at_stage : Stage → PortLists → Section → List Column → List Expected → List ℕ → List ℕ → Said ColumnLists
+at_stage Start ports section cs es word rest = elim (is_skipped rest) [ true ↦ Skipped | false ↦ fields_to_come ports section cs es (fields rest) ]
+at_stage Comment ports section cs es word rest = Skipped
+at_stage Gap ports section cs es word rest = fields_to_come ports section cs es (fields rest)
+at_stage Word ports section cs es word rest = fields_to_come ports section cs es ((word ++ (words rest).word) ∷ (words rest).later)
+at_stage Bad ports section cs es word rest = Malformed
 
 -- what the line says if it goes on with this
-abbrev pub heading_with : List Input → Heading → List ℕ → Said (List Column)
-heading_with is h rest = at_stage h.stage is h.titled h.columns.items h.word.items rest
+abbrev pub heading_with : PortLists → Heading → List ℕ → Said ColumnLists
+heading_with ports h rest = at_stage h.stage ports h.section h.columns.items h.expected.items h.word.items rest
+
+-- no more names are called for
+abbrev pub is_whole : Section → ℕ → List Column → List Expected → Bool
+is_whole Title n cs es = false
+is_whole Inputs n cs es = each_once n cs
+is_whole Outputs n cs [] = false
+is_whole Outputs n cs (e ∷ es) = true
+
+abbrev pub lists_of : Columns → ColumnLists
+lists_of cs = record { inputs = cs.inputs.items; expected = cs.expected.items }
+
+-- the columns that it has read
+abbrev pub columns_of_heading : Heading → ColumnLists
+columns_of_heading h = record { inputs = h.columns.items; expected = h.expected.items }
 
 -- the counts are those of each input's columns, of n inputs
 pub record AreCounts (n : ℕ) (counts : List ℕ) (cs : List Column) : Type 0 where
   pub length : length counts ≡ n
   pub each : (j : ℕ) → j < n → slice_index counts j ≡ count_of j cs
 
+-- nothing was read but what is skipped
+pub record IsUnread (h : Heading) : Type 0 where
+  pub section : h.section ≡ Title
+  pub columns : h.columns.items ≡ []
+  pub expected : h.expected.items ≡ []
+
 -- no field was read yet, where none can have been
-abbrev pub IsUntouched : Stage → Bool → List Column → Type 0
-IsUntouched Start titled cs = (titled ≡ false) × (cs ≡ [])
-IsUntouched Comment titled cs = (titled ≡ false) × (cs ≡ [])
-IsUntouched Gap titled cs = Unit {0}
-IsUntouched Word titled cs = Unit {0}
-IsUntouched Bad titled cs = Unit {0}
+abbrev pub IsUntouched : Stage → Heading → Type 0
+IsUntouched Start h = IsUnread h
+IsUntouched Comment h = IsUnread h
+IsUntouched Gap h = Unit {0}
+IsUntouched Word h = Unit {0}
+IsUntouched Bad h = Unit {0}
+
+-- each input has a column where those of outputs are read
+abbrev pub AreNamed : Section → ℕ → List Column → Type 0
+AreNamed Title n cs = Unit {0}
+AreNamed Inputs n cs = Unit {0}
+AreNamed Outputs n cs = each_once n cs ≡ true
 
 -- what is kept while a line is read
-pub record IsHeading (is : List Input) (h : Heading) : Type 0 where
-  pub counts : AreCounts (length is) h.counts.items h.columns.items
-  pub columns : All (IsColumn (lengths is)) h.columns.items
-  pub untouched : IsUntouched h.stage h.titled h.columns.items
+pub record IsHeading (ports : PortLists) (h : Heading) : Type 0 where
+  pub counts : AreCounts (length ports.inputs) h.counts.items h.columns.items
+  pub columns : All (IsColumn (lengths ports.inputs)) h.columns.items
+  pub expected : All IsExpected h.expected.items
+  pub named : AreNamed h.section (length ports.inputs) h.columns.items
+  pub untouched : IsUntouched h.stage h
 
 -- no word is open
 abbrev pub IsBetween : Stage → Type 0

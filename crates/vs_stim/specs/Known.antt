@@ -3,22 +3,29 @@ use Rattle.std.specs.Prelude.{◌≡◌, ℕ, Bool, true, false, List, [], ◌�
 use Rattle.vs_desk.specs.Desk.{Contents}
 use Rattle.vs_desk.specs.Places.{stimulus_place}
 use Rattle.vs_four.specs.declared.Bit4.{Bit4}
-use Rattle.vs_stim.specs.declared.input.Input.{Input}
-use Rattle.vs_stim.specs.declared.input.Column.{Column}
+use Rattle.vs_stim.specs.declared.wanted.Digit.{Digit}
+use Rattle.vs_stim.specs.Header.{PortLists, ColumnLists}
+use Rattle.vs_stim.specs.Vectors.{Entry}
 use Rattle.vs_stim.specs.Lines.{Line, lines, all_lines, content}
 use Rattle.vs_stim.specs.Fields.{is_skipped}
 use Rattle.vs_stim.specs.Reading.{Place, Reading, limits, behind, too_long, with_vectors, reading, read_vectors}
 
 -- A stimulus between two lines: its lane, whether the next line may be read, the columns of its header, how many vectors
--- were given, the last of them, where the next line stands, and the bytes that were taken and not yet read.
+-- were given, the last of them, what the expected outputs are wanted to have with it, where the next line stands, and the bytes that were taken and not
+-- yet read.
 pub record Known : Type 0 where
   pub lane : ℕ
   pub live : Bool
-  pub columns : List Column
+  pub columns : ColumnLists
   pub count : ℕ
   pub vector : List (List Bit4)
+  pub wanted : List (List Digit)
   pub at : Place
   pub pending : List ℕ
+
+-- what the line of the last vector gave
+abbrev pub last_entry : Known → Entry
+last_entry k = record { values = k.vector; wanted = k.wanted }
 
 -- the place of a lane's stimulus
 abbrev pub place_of : ℕ → ℕ
@@ -56,21 +63,21 @@ pub record IsUntold (p : Place) (text left : List ℕ) : Type 0 where
 
 -- A text was read up to here: its header, which has these columns, and so many vectors. What stands behind them is read on from this place,
 -- whatever it is. Where nothing stands behind them in this text, its last line may lack an LF, and nothing is said of more behind it.
-pub record IsReadTo (inputs : List Input) (text : List ℕ) (count : ℕ) (columns : List Column) (at : Place) (rest : List ℕ) : Type 0 where
+pub record IsReadTo (ports : PortLists) (text : List ℕ) (count : ℕ) (columns : ColumnLists) (at : Place) (rest : List ℕ) : Type 0 where
   pub given : List ℕ
   pub text_is : text ≡ given ++ rest
-  pub vectors : List (List (List Bit4))
+  pub vectors : List Entry
   pub count_is : length vectors ≡ count
-  pub goes_on : (more : List ℕ) → (rest ≡ [] → more ≡ []) → reading inputs (given ++ more) ≡ with_vectors vectors (read_vectors limits columns at count (all_lines (lines more)))
+  pub goes_on : (more : List ℕ) → (rest ≡ [] → more ≡ []) → reading ports (given ++ more) ≡ with_vectors vectors (read_vectors limits columns at count (all_lines (lines more)))
 
 -- the text was read up to where a stimulus stands
-abbrev pub IsReadBy : List Input → List ℕ → Known → Contents → Type 0
-IsReadBy inputs text k contents = IsReadTo inputs text k.count k.columns k.at (text_left k contents)
+abbrev pub IsReadBy : PortLists → List ℕ → Known → Contents → Type 0
+IsReadBy ports text k contents = IsReadTo ports text k.count k.columns k.at (text_left k contents)
 
 -- A take failed behind so many vectors of a text, and what was taken has no refusal, and doesn't tell what is read next.
-pub record IsUntoldBehind (inputs : List Input) (count : ℕ) (text left : List ℕ) : Type 0 where
-  pub columns : List Column
+pub record IsUntoldBehind (ports : PortLists) (count : ℕ) (text left : List ℕ) : Type 0 where
+  pub columns : ColumnLists
   pub at : Place
   pub rest : List ℕ
-  pub read : IsReadTo inputs text count columns at rest
+  pub read : IsReadTo ports text count columns at rest
   pub untold : IsUntold at rest left

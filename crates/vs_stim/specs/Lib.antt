@@ -9,3 +9,5 @@ pub mod Source
 pub mod Known
 pub mod Stimulus
 pub mod Laws
+pub mod Wanted
+pub mod Wants

@@ -3,18 +3,20 @@ use Rattle.std.specs.Prelude.{◌≡◌, ℕ, ◌+◌, ◌<◌, ◌≤◌, List,
 use Rattle.vs_desk.specs.Desk.{Told}
 use Rattle.vs_four.specs.declared.Bit4.{Bit4}
 use Rattle.vs_stim.specs.declared.error.StimError.{StimError}
-use Rattle.vs_stim.specs.declared.input.Input.{Input}
-use Rattle.vs_stim.specs.declared.input.Column.{Column}
+use Rattle.vs_stim.specs.declared.wanted.Digit.{Digit}
 use Rattle.vs_stim.specs.declared.error.StimError.TheVariants.{BadHeader, BadVector, FirstUnknown, UnknownReset, NoVector, TooManyVectors, StimulusTooLong, LineTooLong, ReadFault, Memory}
 use Rattle.vs_stim.specs.declared.source.Source.{Source}
 use Rattle.vs_stim.specs.declared.source.Piece.{Piece}
 use Rattle.vs_stim.specs.declared.source.Piece.TheVariants.{Byte, LineEnd, TextEnd}
 use Rattle.vs_stim.specs.Known.{lines_tell}
+use Rattle.vs_stim.specs.Header.{PortLists, ColumnLists}
 use Rattle.vs_stim.specs.Lines.{lines, all_lines, content, no_lf, is_inner}
 use Rattle.vs_stim.specs.Reading.{limits, Place, behind, too_long, Reading, with_vector, read_vectors, read_header, header_fault}
 use Rattle.vs_stim.specs.declared.row.Row.{Row}
-use Rattle.vs_stim.specs.Vectors.{bits_of}
-use Rattle.vs_stim.specs.Row.{Values, row_with}
+use Rattle.vs_stim.specs.Vectors.{Entry, bits_of, wanted_of}
+use Rattle.vs_stim.specs.declared.wants.Wants.{Wants}
+use Rattle.vs_stim.specs.Wants.{wants_with}
+use Rattle.vs_stim.specs.Row.{row_with}
 
 -- where the line stands, how many of its bytes were read, and the text that is left
 pub record Open : Type 0 where
@@ -138,6 +140,21 @@ pub record ReadsDigits (old new : Source) (high all : List Bit4) : Type 0 where
   pub are : bits_of text ≡ Some bits
   pub below : all ≡ bits ++ high
 
+-- And the same of digits that an output is wanted to have.
+pub record ReadsWantedDigits (old new : Source) (high all : List Digit) : Type 0 where
+  pub text : List ℕ
+  pub went : WentOn text old new
+  pub digits : List Digit
+  pub are : wanted_of text ≡ Some digits
+  pub below : all ≡ digits ++ high
+
+-- What is behind the inputs' fields read the text, in which no line ends.
+pub record ReadsBehind (before after : Wants) (old new : Source) : Type 0 where
+  pub text : List ℕ
+  pub went : WentOn text old new
+  pub inner : is_inner text ≡ true
+  pub says : (rest : List ℕ) → wants_with after rest ≡ wants_with before (text ++ rest)
+
 -- The row read the text, in which no line ends.
 pub record ReadsAhead (before after : Row) (old new : Source) : Type 0 where
   pub text : List ℕ
@@ -146,7 +163,7 @@ pub record ReadsAhead (before after : Row) (old new : Source) : Type 0 where
   pub says : (rest : List ℕ) → row_with after rest ≡ row_with before (text ++ rest)
 
 -- what lines behind the header give from here on, where this many vectors stand before them
-abbrev pub vectors_from : List Column → ℕ → Open → Reading
+abbrev pub vectors_from : ColumnLists → ℕ → Open → Reading
 vectors_from cs count o = read_vectors limits cs o.at count (all_lines (lines o.rest))
 
 -- the answers of a line that should be a vector, but for Ok
@@ -163,12 +180,12 @@ IsVectorError ReadFault = Unit {0}
 IsVectorError Memory = ⊥
 
 -- what lines before the vectors give from here on
-abbrev pub header_from : List Input → Open → Reading
-header_from is o = read_header limits is o.at (all_lines (lines o.rest))
+abbrev pub header_from : PortLists → Open → Reading
+header_from ports o = read_header limits ports o.at (all_lines (lines o.rest))
 
 -- why lines before the vectors are refused from here on, up to the header
-abbrev pub header_fault_from : List Input → Open → Option StimError
-header_fault_from is o = header_fault limits is o.at (all_lines (lines o.rest))
+abbrev pub header_fault_from : PortLists → Open → Option StimError
+header_fault_from ports o = header_fault limits ports o.at (all_lines (lines o.rest))
 
 -- the answers of a line that should be a header, but for Ok
 abbrev pub IsHeaderError : StimError → Type 0
@@ -203,14 +220,14 @@ abbrev pub text_tells : Open → Bool
 text_tells o = lines_tell o.at (all_lines (lines o.rest))
 
 -- The reader passed lines, the last of which is a vector: whatever stands behind them, or nothing where the text ends.
-pub record PassesVector (cs : List Column) (count : ℕ) (v : Values) (old new : Open) : Type 0 where
+pub record PassesVector (cs : ColumnLists) (count : ℕ) (v : Entry) (old new : Open) : Type 0 where
   pub bytes : List ℕ
   pub rest : old.rest ≡ bytes ++ new.rest
   pub gives : (more : List ℕ) → (new.rest ≡ [] → more ≡ [])
       → read_vectors limits cs old.at count (all_lines (lines (bytes ++ more))) ≡ with_vector v (read_vectors limits cs new.at (count + 1) (all_lines (lines more)))
 
 -- And the same of lines whose last is the header.
-pub record PassesHeader (is : List Input) (cs : List Column) (old new : Open) : Type 0 where
+pub record PassesHeader (ports : PortLists) (cs : ColumnLists) (old new : Open) : Type 0 where
   pub bytes : List ℕ
   pub rest : old.rest ≡ bytes ++ new.rest
-  pub gives : (more : List ℕ) → (new.rest ≡ [] → more ≡ []) → read_header limits is old.at (all_lines (lines (bytes ++ more))) ≡ read_vectors limits cs new.at 0 (all_lines (lines more))
+  pub gives : (more : List ℕ) → (new.rest ≡ [] → more ≡ []) → read_header limits ports old.at (all_lines (lines (bytes ++ more))) ≡ read_vectors limits cs new.at 0 (all_lines (lines more))

@@ -3,7 +3,7 @@ use Rattle.std.specs.Prelude.{◌≡◌, ◌<◌, ◌≤◌, true, IsTrue}
 use Rattle.vs_desk.specs.Places.{stimulus_place, waveform_place}
 use Rattle.vs_stim.specs.Reading.{limits}
 use Rattle.vs_stim.specs.declared.stimulus.Stimulus.TheInside.{Inside}
-use Rattle.vs_stim.specs.Row.{IsRow, each_input}
+use Rattle.vs_stim.specs.Row.{IsRow, each_input, columns_in}
 use Rattle.vs_stim.specs.Source.{IsSource}
 use Rattle.vs_stim.specs.Known.{Known}
 
@@ -11,9 +11,10 @@ abbrev pub known : Inside → Known
 known s = record {
   lane = s.lane;
   live = s.live;
-  columns = s.row.columns.items;
+  columns = columns_in s.row;
   count = s.count;
   vector = s.row.values.items;
+  wanted = s.row.wants.values.items;
   at = record { number = s.source.number; start = s.source.start };
   pending = s.source.block;
 }

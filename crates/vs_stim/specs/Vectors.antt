@@ -1,9 +1,14 @@
--- A vector: for each name of the header as many digits as the input has bits, most significant first.
-use Rattle.std.specs.Prelude.{ℕ, zero, suc, ◌+◌, Bool, true, false, ◌&&◌, ◌||◌, List, [], ◌∷◌, ◌++◌, length, not, nat_eq, slice_index_or, Option, Some, None, codes, bytes_eq}
+-- A vector: for each name of the header as many digits as the input has bits, most significant first; and behind the field `->` those that the
+-- expected outputs are wanted to have.
+use Rattle.std.specs.Prelude.{ℕ, zero, suc, ◌+◌, Bool, true, false, ◌&&◌, ◌||◌, List, [], ◌∷◌, ◌++◌, length, take, drop, not, nat_eq, slice_index_or, Option, Some, None, codes, bytes_eq}
 use Rattle.vs_four.specs.declared.Bit4.{Bit4}
 use Rattle.vs_four.specs.declared.Bit4.TheVariants.{Zero, One, X, Z}
 use Rattle.vs_four.specs.Tables.{is_known}
 use Rattle.vs_stim.specs.declared.input.Column.{Column}
+use Rattle.vs_stim.specs.declared.input.Expected.{Expected}
+use Rattle.vs_stim.specs.declared.wanted.Digit.{Digit}
+use Rattle.vs_stim.specs.declared.wanted.Digit.TheVariants.{Exactly, Any}
+use Rattle.vs_stim.specs.Header.{is_arrow, ColumnLists}
 
 -- a digit: `0`, `1`, `x` or `X`, `z` or `Z`
 abbrev pub digit : ℕ → Option Bit4
@@ -19,15 +24,19 @@ digit b =
       ]
     ]
 
--- bits with one more above them
-abbrev pub with_top : Bit4 → Option (List Bit4) → Option (List Bit4)
+-- digits with one more above them
+abbrev pub with_top : {D : Type 0} → D → Option (List D) → Option (List D)
 with_top d None = None
 with_top d (Some ds) = Some (ds ++ d ∷ [])
 
--- the bits of digits, least significant first: the first digit is the most significant one
+-- what all bytes stand for, least significant first, where `read` reads one: the first digit is the most significant one
+abbrev pub digits_by : {D : Type 0} → (read : ℕ → Option D) → List ℕ → Option (List D)
+digits_by read [] = Some []
+digits_by read (b ∷ bs) = elim (read b) [ None ↦ None | Some d ↦ with_top d (digits_by read bs) ]
+
+-- the bits of digits
 abbrev pub bits_of : List ℕ → Option (List Bit4)
-bits_of [] = Some []
-bits_of (b ∷ bs) = elim (digit b) [ None ↦ None | Some d ↦ with_top d (bits_of bs) ]
+bits_of bs = digits_by digit bs
 
 -- the value of a field of a column: as many digits as the input has bits
 abbrev pub value : Column → List ℕ → Option (List Bit4)
@@ -71,6 +80,61 @@ is_dash (f ∷ g ∷ fs) = false
 abbrev pub vector : List Column → List (List ℕ) → Option (List (List Bit4))
 vector [] fs = elim (is_dash fs) [ true ↦ Some [] | false ↦ None ]
 vector (c ∷ cs) fs = arranged (c ∷ cs) (values (c ∷ cs) fs)
+
+-- ---- what outputs are wanted to have
+
+-- a digit, or `-`, which stands for any bit
+abbrev pub wanted_digit : ℕ → Option Digit
+wanted_digit b = elim (nat_eq b 45) [ true ↦ Some Any | false ↦ elim (digit b) [ None ↦ None | Some d ↦ Some (Exactly d) ] ]
+
+-- the digits that an output is wanted to have, least significant first
+abbrev pub wanted_of : List ℕ → Option (List Digit)
+wanted_of bs = digits_by wanted_digit bs
+
+-- the digits of a field of an expected output: as many as it has bits
+abbrev pub wanted : Expected → List ℕ → Option (List Digit)
+wanted e f = elim (nat_eq (length f) e.length) [ true ↦ wanted_of f | false ↦ None ]
+
+abbrev pub with_wanted : List Digit → Option (List (List Digit)) → Option (List (List Digit))
+with_wanted w None = None
+with_wanted w (Some ws) = Some (w ∷ ws)
+
+-- the digits of the fields, one for each expected output
+abbrev pub all_wanted : List Expected → List (List ℕ) → Option (List (List Digit))
+all_wanted [] [] = Some []
+all_wanted [] (f ∷ fs) = None
+all_wanted (e ∷ es) [] = None
+all_wanted (e ∷ es) (f ∷ fs) = elim (wanted e f) [ None ↦ None | Some w ↦ with_wanted w (all_wanted es fs) ]
+
+-- what fields behind those of inputs want: where outputs are expected, `->` and then a field for each; else there are none
+abbrev pub wants : List Expected → List (List ℕ) → Option (List (List Digit))
+wants [] [] = Some []
+wants [] (f ∷ fs) = None
+wants (e ∷ es) [] = None
+wants (e ∷ es) (f ∷ fs) = elim (is_arrow f) [ true ↦ all_wanted (e ∷ es) fs | false ↦ None ]
+
+-- ---- the whole
+
+-- what a line gives: a value for each input, in the design's order, and what each expected output is wanted to have, in the header's order
+pub record Entry : Type 0 where
+  pub values : List (List Bit4)
+  pub wanted : List (List Digit)
+
+abbrev pub both_parts : Option (List (List Bit4)) → Option (List (List Digit)) → Option Entry
+both_parts None ws = None
+both_parts (Some vs) None = None
+both_parts (Some vs) (Some ws) = Some (record { values = vs; wanted = ws })
+
+-- how many fields inputs have: one each, and the one field `-` where there are none
+abbrev pub field_count : List Column → ℕ
+field_count [] = 1
+field_count (c ∷ cs) = length (c ∷ cs)
+
+-- what a line gives, by its fields; none where they are no vector
+abbrev pub entry : ColumnLists → List (List ℕ) → Option Entry
+entry cs fs = both_parts (vector cs.inputs (take (field_count cs.inputs) fs)) (wants cs.expected (drop (field_count cs.inputs) fs))
+
+-- ---- known bits
 
 -- no x or z bit
 abbrev pub all_known : List Bit4 → Bool

@@ -1,4 +1,4 @@
-//! The data inputs that a stimulus drives.
+//! The data inputs that a stimulus drives, and the outputs of which it may say what they have to be.
 
 ghost use Rattle.std.specs.Prelude.{◌≡◌, bytes_eq};
 
@@ -58,6 +58,51 @@ pub struct Input {
     pub reset: bool,
 }
 
+/// An output of the design's top: its name, and its length in bits, from 1 to 64.
+#[derive(Debug, Drop)]
+pub struct Output {
+    pub name: Name,
+    pub length: u32,
+}
+
+/// The data inputs and the outputs of a design, which a header may name. Contracts see their lists.
+#[derive(Debug, Drop)]
+pub struct Ports {
+    inputs: Vec<Input>,
+    outputs: Vec<Output>,
+}
+
+impl Model for Ports {
+    ghost use Rattle.vs_stim.specs.Header.{PortLists};
+
+    ghost Value = { PortLists };
+
+    ghost view = { λ ports. record { inputs = ports.inputs.items; outputs = ports.outputs.items } };
+}
+
+impl Ports {
+    /// These data inputs and outputs, each in the design's order.
+    pub fn of(inputs: Vec<Input>, outputs: Vec<Output>) -> Ports
+        ensures { result ≡ record { inputs = inputs.items; outputs = outputs.items } }
+    {
+        Ports { inputs, outputs }
+    }
+
+    /// The data inputs, in the design's order.
+    pub fn inputs(&self) -> &[Input]
+        ensures { result.now ≡ self.now.inputs }
+    {
+        self.inputs.as_slice()
+    }
+
+    /// The outputs, in the design's order.
+    pub fn outputs(&self) -> &[Output]
+        ensures { result.now ≡ self.now.outputs }
+    {
+        self.outputs.as_slice()
+    }
+}
+
 /// What a field of each vector holds: the value of this input, which has this length in bits and may be a reset input.
 ///
 /// Inputs are numbered from 0 in the design's order.
@@ -66,4 +111,21 @@ pub struct Column {
     pub input: usize,
     pub length: u32,
     pub reset: bool,
+}
+
+/// What a field of each vector behind `->` holds: what this output, which has this length in bits, is wanted to be.
+///
+/// Outputs are numbered from 0 in the design's order.
+#[derive(Clone, Copy, PartialEq, Eq, Debug)]
+pub struct Expected {
+    pub output: usize,
+    pub length: u32,
+}
+
+/// What the fields of each vector hold: the columns of inputs, and behind `->` those of expected outputs, each in the header's order. Contracts see
+/// their lists.
+#[derive(Drop)]
+pub(crate) struct Columns {
+    pub(crate) inputs: Vec<Column>,
+    pub(crate) expected: Vec<Expected>,
 }

@@ -12,7 +12,10 @@ mod row;
 mod source;
 mod stimulus;
 mod vectors;
+mod wanted;
+mod wants;
 
 pub use error::StimError;
-pub use input::{Column, Input, Name};
+pub use input::{Column, Expected, Input, Name, Output, Ports};
 pub use stimulus::Stimulus;
+pub use wanted::{Digit, Wanted};

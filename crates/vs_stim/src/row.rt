@@ -1,8 +1,14 @@
 //! A line behind the header, read byte by byte, but for the digits `0` and `1` of a field, which are read in one go.
 
+ghost use Rattle.std.specs.Prelude.{◌≡◌};
+ghost use Rattle.vs_stim.specs.Vectors.{Entry};
+ghost use Rattle.vs_stim.specs.Wants.{if_whole};
+ghost use Rattle.vs_stim.specs.Row.{as_said, with_values};
+
 use crate::Column;
 use crate::digits::{Digits, bit_of, is_blank};
 use crate::source::Source;
+use crate::wants::Wants;
 use vs_four::Bits;
 
 /// Where in a line the next byte stands.
@@ -18,8 +24,8 @@ pub(crate) enum Spot {
     Field(Column),
     /// Behind a `-` that is the whole line so far.
     Dash,
-    /// Behind a `-` and blanks.
-    AfterDash,
+    /// Behind the fields of the inputs, at the byte behind the blanks or further on.
+    Behind,
     /// In a line that is no vector.
     Bad,
 }
@@ -44,21 +50,27 @@ pub(crate) struct Row {
     pub(crate) column: usize,
     /// The digits of the field so far.
     pub(crate) digits: Digits,
+    /// What the line says behind the fields of the inputs.
+    pub(crate) wants: Wants,
 }
 
 impl Row {
-    ghost use Rattle.std.specs.Prelude.{All, ◌≡◌, ◌<◌, ◌≤◌, ℕ, List, [], ◌∷◌, length, drop, true, false};
+    ghost use Rattle.std.specs.Prelude.{All, ◌<◌, ◌≤◌, ℕ, List, [], ◌∷◌, length, drop, true, false};
     ghost use Rattle.vs_stim.specs.Fields.{is_blank, words, fields};
-    ghost use Rattle.vs_stim.specs.Row.{row_with, in_field, to_come, as_said, sizes, IsRow, IsOutside, IsColumn, SameForm};
+    ghost use Rattle.vs_stim.specs.Row.{row_with, in_field, to_come, entry_in, sizes, IsRow, IsOutside, IsColumn, SameForm};
+    ghost use Rattle.vs_stim.specs.Wants.{wants_said, AreWants, AreUnbegun};
     ghost use Rattle.vs_stim.specs.Source.{IsSource, ReadsAhead};
     ghost use Rattle.vs_stim.specs.declared.row.Spot.TheVariants.{Start};
 
     /// Before the first line. The values are written over.
-    pub(crate) fn new(columns: Vec<Column>, values: Vec<Bits>) -> Row
-        requires { All (IsColumn (sizes values.items)) columns.items }
+    pub(crate) fn new(columns: Vec<Column>, values: Vec<Bits>, wants: Wants) -> Row
+        requires columns { All (IsColumn (sizes values.items)) columns.items }
+        requires wants { AreWants wants }
+        requires unbegun { AreUnbegun wants }
         ensures row { IsRow result }
         ensures columns { result.columns ≡ columns }
         ensures values { result.values ≡ values }
+        ensures wants { result.wants ≡ wants }
     {
         Row {
             columns,
@@ -66,6 +78,7 @@ impl Row {
             spot: Spot::Start,
             column: 0,
             digits: Digits::new(),
+            wants,
         }
     }
 
@@ -77,9 +90,12 @@ impl Row {
         ensures column { self.new.column ≡ 0 }
         ensures values { self.new.values ≡ self.old.values }
         ensures columns { self.new.columns ≡ self.old.columns }
+        ensures wanted { self.new.wants.values ≡ self.old.wants.values }
+        ensures expected { self.new.wants.expected ≡ self.old.wants.expected }
     {
         self.spot = Spot::Start;
         self.column = 0;
+        self.wants.begin();
     }
 
     /// Reads the next byte of the line.
@@ -104,17 +120,9 @@ impl Row {
                 }
             }
             Spot::Dash => {
-                self.spot = if is_blank(byte) {
-                    Spot::AfterDash
-                } else {
-                    Spot::Bad
-                };
+                self.spot = if is_blank(byte) { Spot::Gap } else { Spot::Bad };
             }
-            Spot::AfterDash => {
-                if !is_blank(byte) {
-                    self.spot = Spot::Bad;
-                }
-            }
+            Spot::Behind => self.wants.feed(byte),
             Spot::Comment | Spot::Bad => {}
         }
     }
@@ -148,9 +156,13 @@ impl Row {
         ensures source { IsSource source.new }
         ensures reads { ReadsAhead self.old self.new source.old source.new }
     {
-        if let Spot::Field(column) = self.spot {
-            let room = column.length as usize - self.digits.len();
-            source.read_digits(&mut self.digits, room);
+        match self.spot {
+            Spot::Field(column) => {
+                let room = column.length as usize - self.digits.len();
+                source.read_digits(&mut self.digits, room);
+            }
+            Spot::Behind => self.wants.feed_digits(source),
+            Spot::Start | Spot::Comment | Spot::Gap | Spot::Dash | Spot::Bad => {}
         }
     }
 
@@ -177,14 +189,16 @@ impl Row {
     /// Reads the first byte of a field.
     fn begin_field(&mut self, byte: u8)
         requires row { IsRow self.old }
+        requires unbegun { AreUnbegun self.old.wants }
         requires no_blank { is_blank byte ≡ false }
         ensures row { IsRow self.new }
         ensures says { (rest : List ℕ) → row_with self.new rest
-            ≡ to_come (drop self.old.column self.old.columns.items) self.old.values.items (fields (byte ∷ rest)) }
+            ≡ to_come (wants_said self.old.wants) (drop self.old.column self.old.columns.items) self.old.values.items (fields (byte ∷ rest)) }
         ensures form { SameForm self.old self.new }
     {
         if self.column == self.columns.len() {
-            self.spot = Spot::Bad;
+            self.spot = Spot::Behind;
+            self.wants.feed(byte);
             return;
         }
         let column = self.columns[self.column];
@@ -199,9 +213,11 @@ impl Row {
         requires within { self.old.column ≤ length self.old.columns.items }
         requires column { IsColumn (sizes self.old.values.items) column }
         requires room { length self.old.digits ≤ column.length }
+        requires wants { AreWants self.old.wants }
+        requires unbegun { AreUnbegun self.old.wants }
         ensures row { IsRow self.new }
         ensures says { (rest : List ℕ) → row_with self.new rest
-            ≡ in_field column self.old.digits (drop self.old.column self.old.columns.items) self.old.values.items
+            ≡ in_field (wants_said self.old.wants) column self.old.digits (drop self.old.column self.old.columns.items) self.old.values.items
             (record { word = byte ∷ (words rest).word; later = (words rest).later }) }
         ensures form { SameForm self.old self.new }
     {
@@ -218,11 +234,12 @@ impl Row {
     fn end_field(&mut self, column: Column)
         requires row { IsRow self.old }
         requires column { IsColumn (sizes self.old.values.items) column }
+        requires unbegun { AreUnbegun self.old.wants }
         ensures row { IsRow self.new }
         ensures says { (rest : List ℕ) → row_with self.new rest
-            ≡ in_field column self.old.digits (drop self.old.column self.old.columns.items) self.old.values.items
+            ≡ in_field (wants_said self.old.wants) column self.old.digits (drop self.old.column self.old.columns.items) self.old.values.items
             (record { word = []; later = fields rest }) }
-        ensures outside { IsOutside self.new.spot }
+        ensures outside { IsOutside self.new.spot self.new.wants.part }
         ensures form { SameForm self.old self.new }
     {
         if self.digits.len() == column.length as usize {
@@ -237,7 +254,7 @@ impl Row {
     pub(crate) fn finish(&mut self) -> LineKind
         requires { IsRow self.old }
         ensures row { IsRow self.new }
-        ensures says { as_said result self.new.values.items ≡ row_with self.old [] }
+        ensures says { as_said result (entry_in self.new) ≡ row_with self.old [] }
         ensures form { SameForm self.old self.new }
     {
         self.end_word();
@@ -249,31 +266,45 @@ impl Row {
         requires { IsRow self.old }
         ensures row { IsRow self.new }
         ensures says { row_with self.new [] ≡ row_with self.old [] }
-        ensures outside { IsOutside self.new.spot }
+        ensures outside { IsOutside self.new.spot self.new.wants.part }
         ensures form { SameForm self.old self.new }
     {
-        if let Spot::Field(column) = self.spot {
-            self.end_field(column);
+        match self.spot {
+            Spot::Field(column) => self.end_field(column),
+            Spot::Behind => self.wants.end_word(),
+            Spot::Start | Spot::Comment | Spot::Gap | Spot::Dash | Spot::Bad => {}
         }
     }
 
     /// What a line is that ends here.
     fn kind(&self) -> LineKind
-        requires within { self.now.column ≤ length self.now.columns.items }
-        requires outside { IsOutside self.now.spot }
-        ensures { as_said result self.now.values.items ≡ row_with self.now [] }
+        requires row { IsRow self.now }
+        requires outside { IsOutside self.now.spot self.now.wants.part }
+        ensures { as_said result (entry_in self.now) ≡ row_with self.now [] }
     {
         match self.spot {
             Spot::Start | Spot::Comment => LineKind::Skipped,
-            Spot::Dash | Spot::AfterDash => LineKind::Given,
+            Spot::Dash => kind_of(self.wants.is_whole()),
+            Spot::Behind => kind_of(self.wants.is_whole()),
             Spot::Gap => {
                 if self.column == self.columns.len() {
-                    LineKind::Given
+                    kind_of(self.wants.is_whole())
                 } else {
                     LineKind::Malformed
                 }
             }
             Spot::Field(_) | Spot::Bad => LineKind::Malformed,
         }
+    }
+}
+
+/// What a line is that isn't skipped, by whether it has all its fields.
+fn kind_of(is_whole: bool) -> LineKind
+    ensures { (entry : Entry) → as_said result entry ≡ with_values entry.values (if_whole is_whole entry.wanted) }
+{
+    if is_whole {
+        LineKind::Given
+    } else {
+        LineKind::Malformed
     }
 }

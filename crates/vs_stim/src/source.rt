@@ -3,6 +3,7 @@
 use crate::StimError;
 use crate::block::Block;
 use crate::digits::Digits;
+use crate::wanted::WantedDigits;
 use std::alloc::{AllocError, Global};
 use vs_desk::Desk;
 
@@ -45,7 +46,7 @@ impl Source {
     ghost use Rattle.vs_desk.specs.Taking.{OnlyTaken, TakesAt};
     ghost use Rattle.vs_stim.specs.Reading.{limits};
     ghost use Rattle.vs_stim.specs.Lines.{lines, is_inner};
-    ghost use Rattle.vs_stim.specs.Source.{open_at, open_before, in_block, is_told, rest_of, line_refusal, Gives, GoesOn, ComesBy, Moves, IsReadError, IsSource, WentOn, ReadsDigits};
+    ghost use Rattle.vs_stim.specs.Source.{open_at, open_before, in_block, is_told, rest_of, line_refusal, Gives, GoesOn, ComesBy, Moves, IsReadError, IsSource, WentOn, ReadsDigits, ReadsWantedDigits};
 
     /// The start of the text at this place.
     pub(crate) fn new(alloc: Global, place: u32) -> Result<Source, AllocError>
@@ -100,6 +101,21 @@ impl Source {
         let line = (LINE_BYTES - self.length) as usize;
         let text = (TEXT_BYTES - self.start - self.length) as usize;
         let count = digits.read(self.block.as_slice(), most.min(line).min(text));
+        self.block.skip(count);
+        self.length += count as u64;
+    }
+
+    /// And the same of digits that an output is wanted to have.
+    pub(crate) fn read_wanted(&mut self, digits: &mut WantedDigits, most: usize)
+        requires source { IsSource self.old }
+        requires room { length digits.old + most ≤ 64 }
+        ensures source { IsSource self.new }
+        ensures most { length digits.new ≤ length digits.old + most }
+        ensures reads { ReadsWantedDigits self.old self.new digits.old digits.new }
+    {
+        let line = (LINE_BYTES - self.length) as usize;
+        let text = (TEXT_BYTES - self.start - self.length) as usize;
+        let count = digits.read(self.block.as_slice(), most.min(text).min(line));
         self.block.skip(count);
         self.length += count as u64;
     }

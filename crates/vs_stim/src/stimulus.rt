@@ -5,18 +5,20 @@ ghost use Rattle.vs_desk.specs.Desk.{IsAttached, Fails, with_place};
 ghost use Rattle.vs_desk.specs.declared.desk.Way.TheVariants.{Read};
 ghost use Rattle.vs_desk.specs.Taking.{OnlyTaken, TakesAt};
 ghost use Rattle.vs_desk.specs.Places.{stimulus_place, waveform_place};
-ghost use Rattle.vs_stim.specs.Header.{IsInput, lengths};
+ghost use Rattle.vs_stim.specs.Header.{PortLists, IsInput, ArePorts, lengths};
 ghost use Rattle.vs_stim.specs.Row.{sizes};
+ghost use Rattle.vs_stim.specs.Wanted.{wanted_sizes};
+ghost use Rattle.vs_stim.specs.Wants.{expected_lengths, IsExpected, AreWants, AreUnbegun};
 ghost use Rattle.vs_stim.specs.Reading.{first_place, reading, header_refusal, refused, whole, with_vector};
-ghost use Rattle.vs_stim.specs.Known.{remaining, pending_tells, text_left, IsReadBy, IsUntold};
-ghost use Rattle.vs_stim.specs.declared.input.Input.{Input};
+ghost use Rattle.vs_stim.specs.Known.{last_entry, remaining, pending_tells, text_left, IsReadBy, IsUntold};
 ghost use Rattle.vs_stim.specs.Source.{IsSource, IsVectorError, IsHeaderError};
 
 use crate::header::find_header;
 use crate::row::Row;
 use crate::source::Source;
 use crate::vectors::find_vector;
-use crate::{Input, StimError};
+use crate::wants::Wants;
+use crate::{Expected, Input, Ports, StimError, Wanted};
 use std::alloc::{AllocError, Global};
 use std::marker::Model;
 use vs_desk::{Desk, FIRST_STIMULUS, Way};
@@ -55,27 +57,28 @@ impl Stimulus {
         desk: &mut D,
         lane: u32,
         path: String,
-        inputs: &[Input],
+        ports: &Ports,
     ) -> Result<Stimulus, StimError>
         requires lane { stimulus_place lane < waveform_place 0 }
         requires free { IsNone ((D.told desk.old).register.attached (stimulus_place lane)) }
-        requires inputs { All IsInput inputs.now }
+        requires ports { ArePorts ports.now }
 
         // Where the desk tells its bytes, the answer is what the definition reads first of the path's bytes.
-        ensures header { IsTrue D.tells → IfOk result (λ s. reading inputs.now ((D.told desk.old).contents.files (string_bytes path)) ≡ remaining s (D.told desk.new).contents) }
-        ensures read { IsTrue D.tells → IfOk result (λ s. IsReadBy inputs.now ((D.told desk.old).contents.files (string_bytes path)) s (D.told desk.new).contents) }
+        ensures header { IsTrue D.tells → IfOk result (λ s. reading ports.now ((D.told desk.old).contents.files (string_bytes path)) ≡ remaining s (D.told desk.new).contents) }
+        ensures read { IsTrue D.tells → IfOk result (λ s. IsReadBy ports.now ((D.told desk.old).contents.files (string_bytes path)) s (D.told desk.new).contents) }
         ensures refused { IsTrue D.tells → IfErr result (λ e. e ≢ StimError.ReadFault → e ≢ StimError.Memory →
-            reading inputs.now ((D.told desk.old).contents.files (string_bytes path)) ≡ refused e) }
-        ensures headed { IsTrue D.tells → OnOk result (header_refusal inputs.now ((D.told desk.old).contents.files (string_bytes path)) ≡ None) }
+            reading ports.now ((D.told desk.old).contents.files (string_bytes path)) ≡ refused e) }
+        ensures headed { IsTrue D.tells → OnOk result (header_refusal ports.now ((D.told desk.old).contents.files (string_bytes path)) ≡ None) }
         ensures faulty { IsTrue D.tells → IfErr result (λ e. e ≢ StimError.ReadFault → e ≢ StimError.Memory →
-            header_refusal inputs.now ((D.told desk.old).contents.files (string_bytes path)) ≡ Some e) }
+            header_refusal ports.now ((D.told desk.old).contents.files (string_bytes path)) ≡ Some e) }
 
         // Whatever the desk tells.
         ensures errors { IfErr result IsHeaderError }
         ensures live { IfOk result (λ s. IsTrue s.live) }
         ensures lane { IfOk result (λ s. s.lane ≡ lane) }
         ensures count { IfOk result (λ s. s.count ≡ 0) }
-        ensures sizes { IfOk result (λ s. sizes s.vector ≡ lengths inputs.now) }
+        ensures sizes { IfOk result (λ s. sizes s.vector ≡ lengths ports.now.inputs) }
+        ensures wanted_sizes { IfOk result (λ s. wanted_sizes s.wanted ≡ expected_lengths s.columns.expected) }
 
         // On the desk the place is attached and bytes are taken there, and a fault is a failed call.
         ensures attached { OnOk result ((D.told desk.new).register ≡ with_place (D.told desk.old).register (stimulus_place lane) Read (string_bytes path)) }
@@ -93,15 +96,16 @@ impl Stimulus {
             ⊎ IsUntold first_place ((D.told desk.old).contents.files (string_bytes path)) ((D.told desk.new).contents.left (stimulus_place lane)) }
     {
         let place = FIRST_STIMULUS + lane;
-        let (mut source, values) = room(alloc, place, inputs)?;
+        let (mut source, values) = room(alloc, place, ports.inputs())?;
         desk.attach(place, path, Way::Read)?;
-        let columns = find_header(alloc, &mut source, inputs, desk)?;
+        let columns = find_header(alloc, &mut source, ports, desk)?;
+        let wants = wants_room(alloc, columns.expected)?;
         Ok(Stimulus {
             lane,
             live: true,
             count: 0,
             source,
-            row: Row::new(columns, values),
+            row: Row::new(columns.inputs, values, wants),
         })
     }
 
@@ -119,6 +123,20 @@ impl Stimulus {
         self.row.values.as_slice()
     }
 
+    /// The columns of the outputs that the header names behind `->`, in its order.
+    pub fn expected(&self) -> &[Expected]
+        ensures { result.now ≡ self.now.columns.expected }
+    {
+        self.row.wants.expected.as_slice()
+    }
+
+    /// The digits that each of these outputs is wanted to have with the vector that was read last.
+    pub fn wanted(&self) -> &[Wanted]
+        ensures { result.now ≡ self.now.wanted }
+    {
+        self.row.wants.values.as_slice()
+    }
+
     /// Reads the next vector, which then stands in `vector`. Answers false at the end of the text.
     ///
     /// It takes no memory. The refusals are 71 to 77 (`StimError`). On an end, a refusal or a fault the
@@ -129,9 +147,9 @@ impl Stimulus {
 
         // Where the desk tells its bytes, the answer is what the definition reads next.
         ensures vector { IsTrue D.tells → result ≡ Ok true →
-            remaining self.old (D.told desk.old).contents ≡ with_vector self.new.vector (remaining self.new (D.told desk.new).contents) }
-        ensures read { IsTrue D.tells → result ≡ Ok true → (inputs : List Input) (text : List ℕ)
-            → IsReadBy inputs text self.old (D.told desk.old).contents → IsReadBy inputs text self.new (D.told desk.new).contents }
+            remaining self.old (D.told desk.old).contents ≡ with_vector (last_entry self.new) (remaining self.new (D.told desk.new).contents) }
+        ensures read { IsTrue D.tells → result ≡ Ok true → (ports : PortLists) (text : List ℕ)
+            → IsReadBy ports text self.old (D.told desk.old).contents → IsReadBy ports text self.new (D.told desk.new).contents }
         ensures end { IsTrue D.tells → result ≡ Ok false → remaining self.old (D.told desk.old).contents ≡ whole }
         ensures taken { IsTrue D.tells → result ≡ Ok false → text_left self.new (D.told desk.new).contents ≡ [] }
         ensures refused { IsTrue D.tells → IfErr result (λ e. e ≢ StimError.ReadFault → remaining self.old (D.told desk.old).contents ≡ refused e) }
@@ -142,6 +160,8 @@ impl Stimulus {
         ensures lane { self.new.lane ≡ self.old.lane }
         ensures count { result ≡ Ok true → self.new.count ≡ self.old.count + 1 }
         ensures sizes { sizes self.new.vector ≡ sizes self.old.vector }
+        ensures wanted_sizes { wanted_sizes self.new.wanted ≡ wanted_sizes self.old.wanted }
+        ensures columns { self.new.columns ≡ self.old.columns }
 
         // On the desk only bytes at the place are taken, and a fault is a failed call there.
         ensures desk { TakesAt (stimulus_place self.old.lane) (D.told desk.old) (D.told desk.new) StimError.ReadFault result }
@@ -177,6 +197,20 @@ fn room(alloc: Global, place: u32, inputs: &[Input]) -> Result<(Source, Vec<Bits
         values.push(unknown(input.length))?;
     }
     Ok((source, values))
+}
+
+/// What the columns of outputs want before the first line, any bits.
+fn wants_room(alloc: Global, expected: Vec<Expected>) -> Result<Wants, AllocError>
+    requires { All IsExpected expected.items }
+    ensures wants { IfOk result AreWants }
+    ensures unbegun { IfOk result AreUnbegun }
+    ensures expected { IfOk result (λ w. w.expected ≡ expected) }
+{
+    let mut values = Vec::new(alloc);
+    for column in &expected {
+        values.push(Wanted::any(column.length))?;
+    }
+    Ok(Wants::new(expected, values))
 }
 
 /// This many x bits.

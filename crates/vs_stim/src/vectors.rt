@@ -7,7 +7,7 @@ ghost use Rattle.vs_desk.specs.Taking.{OnlyTaken, TakesAt};
 ghost use Rattle.vs_four.specs.Tables.{is_known};
 ghost use Rattle.vs_stim.specs.Vectors.{all_known, vector_known, resets_known};
 ghost use Rattle.vs_stim.specs.Reading.{vector_line, limits, not_taken, at_end, refused, whole, with_vector};
-ghost use Rattle.vs_stim.specs.Row.{row_with, as_said, sizes, each_input, IsColumn, IsRow, SameForm};
+ghost use Rattle.vs_stim.specs.Row.{row_with, as_said, entry_in, columns_in, sizes, each_input, IsColumn, IsRow, SameForm};
 ghost use Rattle.vs_stim.specs.Source.{open_at, in_block, is_told, text_tells, line_refusal, says, IsSource, IsReadError, IsVectorError, GoesOn, PassesLf, Passes, PassesVector, rest_of, vectors_from};
 ghost use Rattle.vs_stim.specs.Known.{IsUntold};
 
@@ -74,7 +74,7 @@ fn read_row<D: Desk>(
     ensures place { source.new.place ≡ source.old.place }
     ensures moves { IfOk result (λ line. line.1 ≡ false → source.old.start < source.new.start) }
     ensures begins { OnOk result (source.new.length ≡ 0) }
-    ensures says { IsTrue D.tells → IfOk result (λ line. as_said line.0 row.new.values.items ≡ vector_line row.old.columns.items (says (open_at source.old (D.told desk.old)))) }
+    ensures says { IsTrue D.tells → IfOk result (λ line. as_said line.0 (entry_in row.new) ≡ vector_line (columns_in row.old) (says (open_at source.old (D.told desk.old)))) }
     ensures passes { IsTrue D.tells → IfOk result (λ line. Passes line.1 (open_at source.old (D.told desk.old)) (open_at source.new (D.told desk.new))) }
 
     ensures refused { IsTrue D.tells → IfErr result (λ e. e ≢ StimError.ReadFault → line_refusal (open_at source.old (D.told desk.old)) ≡ Some e) }
@@ -83,7 +83,7 @@ fn read_row<D: Desk>(
     ensures frugal { IsTrue (is_told (in_block source.old)) → desk.new ≡ desk.old }
     ensures told { IsTrue (is_told (in_block source.old)) → IfOk result (λ line. Passes line.1 (in_block source.old) (in_block source.new)) }
     ensures told_last { IsTrue (is_told (in_block source.old)) → IfOk result (λ line. line.1 ≡ false) }
-    ensures told_says { IsTrue (is_told (in_block source.old)) → IfOk result (λ line. as_said line.0 row.new.values.items ≡ vector_line row.old.columns.items (says (in_block source.old))) }
+    ensures told_says { IsTrue (is_told (in_block source.old)) → IfOk result (λ line. as_said line.0 (entry_in row.new) ≡ vector_line (columns_in row.old) (says (in_block source.old))) }
 
     ensures went { IsTrue D.tells → result ≡ Err StimError.ReadFault → GoesOn (open_at source.old (D.told desk.old)) (open_at source.new (D.told desk.new)) }
     ensures empty { result ≡ Err StimError.ReadFault → source.new.block ≡ [] }
@@ -144,8 +144,8 @@ fn are_resets_known(columns: &[Column], values: &[Bits]) -> bool
 /// Whether the row's values may be the vector on the line of this number, behind this many others.
 fn check_vector(row: &Row, number: u64, count: u32) -> Result<(), StimError>
     requires { IsRow row.now }
-    ensures ok { OnOk result (not_taken limits row.now.columns.items number count row.now.values.items ≡ None) }
-    ensures err { IfErr result (λ e. not_taken limits row.now.columns.items number count row.now.values.items ≡ Some e) }
+    ensures ok { OnOk result (not_taken limits (columns_in row.now) number count (entry_in row.now) ≡ None) }
+    ensures err { IfErr result (λ e. not_taken limits (columns_in row.now) number count (entry_in row.now) ≡ Some e) }
     ensures errors { IfErr result IsVectorError }
     ensures no_fault { result ≢ Err StimError.ReadFault }
 {
@@ -196,13 +196,13 @@ pub(crate) fn find_vector<D: Desk>(
     ensures begins { OnOk result (source.new.length ≡ 0) }
     ensures room { result ≡ Ok true → count < limits.vectors }
 
-    ensures found { IsTrue D.tells → result ≡ Ok true → vectors_from row.old.columns.items count (open_at source.old (D.told desk.old))
-        ≡ with_vector row.new.values.items (vectors_from row.old.columns.items (count + 1) (open_at source.new (D.told desk.new))) }
+    ensures found { IsTrue D.tells → result ≡ Ok true → vectors_from (columns_in row.old) count (open_at source.old (D.told desk.old))
+        ≡ with_vector (entry_in row.new) (vectors_from (columns_in row.old) (count + 1) (open_at source.new (D.told desk.new))) }
     ensures passes { IsTrue D.tells → result ≡ Ok true
-        → PassesVector row.old.columns.items count row.new.values.items (open_at source.old (D.told desk.old)) (open_at source.new (D.told desk.new)) }
-    ensures whole { IsTrue D.tells → result ≡ Ok false → vectors_from row.old.columns.items count (open_at source.old (D.told desk.old)) ≡ whole }
+        → PassesVector (columns_in row.old) count (entry_in row.new) (open_at source.old (D.told desk.old)) (open_at source.new (D.told desk.new)) }
+    ensures whole { IsTrue D.tells → result ≡ Ok false → vectors_from (columns_in row.old) count (open_at source.old (D.told desk.old)) ≡ whole }
     ensures end { IsTrue D.tells → result ≡ Ok false → rest_of source.new (D.told desk.new) ≡ [] }
-    ensures refused { IsTrue D.tells → IfErr result (λ e. e ≢ StimError.ReadFault → vectors_from row.old.columns.items count (open_at source.old (D.told desk.old)) ≡ refused e) }
+    ensures refused { IsTrue D.tells → IfErr result (λ e. e ≢ StimError.ReadFault → vectors_from (columns_in row.old) count (open_at source.old (D.told desk.old)) ≡ refused e) }
 
     ensures errors { IfErr result IsVectorError }
     ensures desk { TakesAt source.old.place (D.told desk.old) (D.told desk.new) StimError.ReadFault result }

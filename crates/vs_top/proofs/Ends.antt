@@ -5,7 +5,7 @@ use Rattle.vs_desk.specs.Desk.{Told, Register, Contents, with_put}
 use Rattle.vs_desk.specs.Places.{stimulus_place}
 use Rattle.vs_waves.specs.Puts.{wave_place}
 use Rattle.vs_feed.specs.Opened.{path_at}
-use Rattle.vs_rounds.specs.Inputs.{data_inputs}
+use Rattle.vs_setup.specs.Ports.{ports_of}
 use Rattle.vs_job.specs.declared.job.Job.{Job}
 use Rattle.vs_top.specs.declared.outcome.Summary.{Summary}
 use Rattle.vs_top.specs.declared.outcome.Outcome.{Outcome}
@@ -48,7 +48,7 @@ written_still job old mid new r line s e w = record {
   accepted = w.accepted;
   design_taken = ap (λ (c : Contents). c.left 1) e ∙ w.design_taken;
   stimuli_taken = λ i h. ap (λ (c : Contents). c.left (stimulus_place i)) e ∙ w.stimuli_taken i h;
-  lanes = λ i h. subst (λ (put : List ℕ). IsLaneWritten w.design w.accepted.accepted.clock.first job.half (data_inputs w.design w.accepted.accepted.clock.first) (old.files (path_at job.stimuli i)) put) (sym (ap (λ (c : Contents). c.put (wave_place i)) e ∙ kept r mid line i)) (w.lanes i h);
+  lanes = λ i h. subst (λ (put : List ℕ). IsLaneWritten w.design w.accepted.accepted.clock.first job.half (ports_of w.accepted) (old.files (path_at job.stimuli i)) put) (sym (ap (λ (c : Contents). c.put (wave_place i)) e ∙ kept r mid line i)) (w.lanes i h);
   lanes_are = w.lanes_are;
   counted = w.counted;
   size_is = w.size_is;

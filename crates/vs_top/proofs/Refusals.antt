@@ -2,14 +2,15 @@
 use Rattle.std.proofs.Common.{◌≡◌, ℕ, suc, ◌<◌, ◌≤◌, Bool, IsTrue, List, length, Option, Some, None, refl, sym, ap, ◌∙◌, subst, inl, inr, arith}
 use Rattle.std.proofs.lemmas.Bool.{cases_lt, cases_order}
 use Rattle.vs_desk.specs.Desk.{Told, Contents}
-use Rattle.vs_stim.specs.declared.input.Input.{Input}
+use Rattle.vs_stim.specs.Header.{PortLists}
 use Rattle.vs_stim.specs.declared.error.StimError.{StimError}
 use Rattle.vs_stim.specs.Reading.{Reading, header_refusal}
 use Rattle.vs_design.specs.Expressions.{Signal}
 use Rattle.vs_design.specs.Designs.{Design}
 use Rattle.vs_feed.specs.Opened.{HaveHeaders}
 use Rattle.vs_waves.specs.Puts.{wave_place}
-use Rattle.vs_rounds.specs.Inputs.{data_inputs}
+use Rattle.vs_accept.specs.Outputs.{OneReading, top_outputs}
+use Rattle.vs_rounds.specs.Inputs.{data_inputs, outputs}
 use Rattle.vs_rounds.specs.Lanes.{Run, reading_of}
 use Rattle.vs_rounds.specs.Stops.{IsUnrefused, IsReadStop, IsRefusal, ReadStops, StopsIn, IsLaneOf}
 use Rattle.vs_rounds.specs.declared.stop.Stop.{Stop}
@@ -22,6 +23,7 @@ use Rattle.vs_job.specs.declared.job.Job.{Job}
 use Rattle.vs_job.specs.Places.{same_paths}
 use Rattle.vs_setup.specs.declared.error.SetupError.{SetupError}
 use Rattle.vs_setup.specs.declared.error.SetupError.TheVariants as S
+use Rattle.vs_setup.specs.Ports.{ports_of}
 use Rattle.vs_setup.specs.Prepared.{run_of}
 use Rattle.vs_setup.specs.DesignText.{design_text}
 use Rattle.vs_setup.specs.Unprepared.{IsUnprepared, IsDesignOf, IsRefusedBehind, IsHeaderRefusal, text_of}
@@ -92,15 +94,27 @@ refused_job job old new told o r is (whole d e) = absurd (done e.summary (is ∙
 
 -- ---- a job has one design, and so one run
 
-pub one_inputs : OneDesign → (job : Job) (c : Contents) (d : Design) (a : IsDesignOf job c d) (e : Design) (b : IsDesignOf job c e) → data_inputs d a.accepted.clock.first ≡ data_inputs e b.accepted.clock.first
-one_inputs one job c d a e b =
-    subst (λ (e : Design). (b : IsDesignOf job c e) → data_inputs d a.accepted.clock.first ≡ data_inputs e b.accepted.clock.first) (one (design_text job c) job.top job.clock d e a b)
-    (λ b. ap (λ (s : Signal). data_inputs d s.first) (some_same _ a.accepted.clock b.accepted.clock a.accepted.clock_found b.accepted.clock_found)) b
+-- a text is read as one tree and accepted as one design
+pub record OneText : Type 0 where
+  pub reading : OneReading
+  pub design : OneDesign
 
-one_run : OneDesign → (job : Job) (c : Contents) (m n : Run) → IsRunOf job c m → IsRunOf job c n → m ≡ n
+one_clock : OneText → (job : Job) (c : Contents) (d : Design) (a : IsDesignOf job c d) (e : Design) (b : IsDesignOf job c e) → a.accepted.clock.first ≡ b.accepted.clock.first
+one_clock one job c d a e b =
+    subst (λ (e : Design). (b : IsDesignOf job c e) → a.accepted.clock.first ≡ b.accepted.clock.first) (one.design (design_text job c) job.top job.clock d e a b)
+    (λ b. ap (λ (s : Signal). s.first) (some_same _ a.accepted.clock b.accepted.clock a.accepted.clock_found b.accepted.clock_found)) b
+
+pub one_ports : OneText → (job : Job) (c : Contents) (d : Design) (a : IsDesignOf job c d) (e : Design) (b : IsDesignOf job c e) → ports_of a ≡ ports_of b
+one_ports one job c d a e b =
+    let design = one.design (design_text job c) job.top job.clock d e a b in
+    let source = one.reading (design_text job c) a.tokens b.tokens a.source b.source a.read b.read in
+    λ i. record { inputs = data_inputs (design i) (one_clock one job c d a e b i); outputs = outputs (design i) (top_outputs (source i) job.top) }
+
+one_run : OneText → (job : Job) (c : Contents) (m n : Run) → IsRunOf job c m → IsRunOf job c n → m ≡ n
 one_run one job c m n a b =
-    a.run_is ∙ subst (λ (e : Design). (b : IsDesignOf job c e) → run_of job c.files a.design a.accepted.accepted.clock.first ≡ run_of job c.files e b.accepted.clock.first) (one (design_text job c) job.top job.clock a.design b.design a.accepted b.accepted)
-    (λ b. ap (λ (s : Signal). run_of job c.files a.design s.first) (some_same _ a.accepted.accepted.clock b.accepted.clock a.accepted.accepted.clock_found b.accepted.clock_found)) b.accepted
+    let design = one.design (design_text job c) job.top job.clock a.design b.design a.accepted b.accepted in
+    a.run_is
+    ∙ (λ i. run_of job c.files (design i) (one_clock one job c a.design a.accepted b.design b.accepted i) (one_ports one job c a.design a.accepted b.design b.accepted i))
     ∙ sym b.run_is
 
 -- ---- the first refused line
@@ -140,15 +154,15 @@ one_line run lanes k i l j e f lt also a b =
 
 -- ---- the first refused header
 
-no_header : (is : List Input) (c : Contents) (stimuli : List (List ℕ)) (lanes i : ℕ) (error : StimError) → i < lanes → header_refusal is (text_of c stimuli i) ≡ Some error → HaveHeaders is c.files stimuli lanes → ⊥
+no_header : (is : PortLists) (c : Contents) (stimuli : List (List ℕ)) (lanes i : ℕ) (error : StimError) → i < lanes → header_refusal is (text_of c stimuli i) ≡ Some error → HaveHeaders is c.files stimuli lanes → ⊥
 no_header is c stimuli lanes i error lt refused have = some_none (header_refusal is (text_of c stimuli i)) error refused (have.each i lt)
 
-one_header : OneDesign → (job : Job) (c : Contents) (i j : ℕ) (e f : StimError) → IsHeaderRefusal job c i e → IsHeaderRefusal job c j f → stimulus_outcome i e ≡ stimulus_outcome j f
+one_header : OneText → (job : Job) (c : Contents) (i j : ℕ) (e f : StimError) → IsHeaderRefusal job c i e → IsHeaderRefusal job c j f → stimulus_outcome i e ≡ stimulus_outcome j f
 one_header one job c i j e f a b =
-    let inputs = one_inputs one job c b.design b.accepted a.design a.accepted in
-    let is = data_inputs a.design a.accepted.accepted.clock.first in
-    let refused = subst (λ (is : List Input). header_refusal is (text_of c job.stimuli j) ≡ Some f) inputs b.first.refused in
-    let earlier = subst (λ (is : List Input). HaveHeaders is c.files job.stimuli j) inputs b.first.earlier in
+    let ports = one_ports one job c b.design b.accepted a.design a.accepted in
+    let is = ports_of a.accepted in
+    let refused = subst (λ (is : PortLists). header_refusal is (text_of c job.stimuli j) ≡ Some f) ports b.first.refused in
+    let earlier = subst (λ (is : PortLists). HaveHeaders is c.files job.stimuli j) ports b.first.earlier in
     elim (cases_order i j) [
       | inl at ↦
           let there = subst (λ (n : ℕ). header_refusal is (text_of c job.stimuli n) ≡ Some f) (sym at) refused in
@@ -163,7 +177,7 @@ one_header one job c i j e f a b =
 
 -- what holds of every text
 record Laws : Type 0 where
-  one : OneDesign
+  one : OneText
   not_both : NotBoth
   alike : OneRefusal
 
@@ -196,11 +210,11 @@ by_design laws job c r q d short t (ByHeader e j f lt h be) = absurd (laws.not_b
 by_design laws job c r q d short t (ByLine e n l j f lt m h be) = absurd (laws.not_both (design_text job c) job.top job.clock m.design t.refusal m.accepted t.refused)
 
 -- a header that is refused, and the job's run
-header_run : OneDesign → (job : Job) (c : Contents) (i : ℕ) (e : StimError) (n : Run) → i < length job.stimuli → IsHeaderRefusal job c i e → IsRunOf job c n → ⊥
+header_run : OneText → (job : Job) (c : Contents) (i : ℕ) (e : StimError) (n : Run) → i < length job.stimuli → IsHeaderRefusal job c i e → IsRunOf job c n → ⊥
 header_run one job c i e n lt h m =
-    let inputs = ap (λ (n : Run). n.inputs) m.run_is ∙ one_inputs one job c m.design m.accepted h.design h.accepted in
-    no_header (data_inputs h.design h.accepted.accepted.clock.first) c job.stimuli (length job.stimuli) i e lt h.first.refused
-    (subst (λ (is : List Input). HaveHeaders is c.files job.stimuli (length job.stimuli)) inputs m.headers)
+    let ports = ap (λ (n : Run). n.ports) m.run_is ∙ one_ports one job c m.design m.accepted h.design h.accepted in
+    no_header (ports_of h.accepted) c job.stimuli (length job.stimuli) i e lt h.first.refused
+    (subst (λ (is : PortLists). HaveHeaders is c.files job.stimuli (length job.stimuli)) ports m.headers)
 
 by_header : Laws → (job : Job) (c : Contents) (r q : Refusal) → same_paths job ≡ None → (i : ℕ) (e : StimError) → i < length job.stimuli → IsHeaderRefusal job c i e → Refused r ≡ stimulus_outcome i e → IsRefusedJob job c q → AreAlike r q
 by_header laws job c r q d i e lt h is (ByPaths v w two be) = absurd (some_none (same_paths job) (v, w) two d)
@@ -219,7 +233,7 @@ by_line laws job c r q d n k i e lt m h is (ByLine x o l j f also p g be) =
     let there = subst (λ (run : Run). IsRefusal run (length job.stimuli) l j f) (one_run laws.one job c o n p m) g in
     same_told r q (stimulus_outcome i e) (stimulus_outcome j f) is (one_line n (length job.stimuli) k i l j e f lt also h there) be
 
-pub alike : OneDesign → NotBoth → OneRefusal → (job : Job) (c : Contents) (r q : Refusal) → IsRefusedJob job c r → IsRefusedJob job c q → AreAlike r q
+pub alike : OneText → NotBoth → OneRefusal → (job : Job) (c : Contents) (r q : Refusal) → IsRefusedJob job c r → IsRefusedJob job c q → AreAlike r q
 alike one not_both texts job c r q = of (record { one = one; not_both = not_both; alike = texts })
   where
     of : Laws → IsRefusedJob job c r → IsRefusedJob job c q → AreAlike r q

@@ -11,7 +11,7 @@ use Rattle.vs_top.specs.Headline.{AreStores}
 
 -- a valid stimulus has a vector
 pub has_vector : WholeHasVector → (run : Run) (i : ℕ) → (reading_of run i).refusal ≡ None → 0 < vectors_of run i
-has_vector law run i whole = law run.inputs (run.texts i) whole
+has_vector law run i whole = law run.ports (run.texts i) whole
 
 at_most_greatest : (k : ℕ) (f : ℕ → ℕ) → 0 < k → f 0 ≤ greatest_below k f
 at_most_greatest zero f some = absurd (omega arith)

@@ -7,7 +7,8 @@ use Rattle.vs_feed.specs.Opened.{path_at}
 use Rattle.vs_rounds.specs.Drives.{Vector}
 use Rattle.vs_job.specs.declared.job.Job.{Job}
 use Rattle.vs_job.specs.Places.{same_paths}
-use Rattle.vs_rounds.specs.Inputs.{data_inputs}
+use Rattle.vs_stim.specs.declared.wanted.Digit.{Digit}
+use Rattle.vs_setup.specs.Ports.{ports_of}
 use Rattle.vs_setup.specs.Unprepared.{IsDesignOf}
 use Rattle.vs_top.specs.declared.outcome.Outcome.{Outcome}
 use Rattle.vs_top.specs.declared.outcome.Outcome.TheVariants.{Done, Refused, ReadFault, WriteFault, Memory}
@@ -39,7 +40,7 @@ pub record IsLawful (job : Job) (c : Contents) : Type 0 where
   pub design : Design
   pub accepted : IsDesignOf job c design
   pub valid : (d : Design) (a : IsDesignOf job c d) (i : ℕ) → i < length job.stimuli
-      → (vectors : List Vector) × stimulus (c.files (path_at job.stimuli i)) (data_inputs d a.accepted.clock.first) vectors
+      → (vectors : List Vector) × ((wanted : List (List (List Digit))) × stimulus (c.files (path_at job.stimuli i)) (ports_of a).inputs (ports_of a).outputs vectors wanted)
 
 -- no call failed
 pub record IsFaultless {tells : Bool} (old new : Told tells) : Type 0 where

@@ -15,6 +15,7 @@ use Rattle.vs_job.specs.declared.job.Job.{Job}
 use Rattle.vs_job.specs.Places.{same_paths, vcd_path}
 use Rattle.vs_setup.specs.declared.error.SetupError.{SetupError}
 use Rattle.vs_setup.specs.Places.{IsFresh, with_texts}
+use Rattle.vs_setup.specs.Ports.{ports_of}
 use Rattle.vs_setup.specs.Prepared.{AreTextsKept, run_of}
 use Rattle.vs_setup.specs.Unprepared.{IsUnprepared, IsDesignOf}
 use Rattle.vs_top.specs.declared.outcome.Summary.{Summary}
@@ -44,8 +45,8 @@ OnlyWavesPut lanes old new = (place : ℕ) → ((i : ℕ) → i < lanes → plac
 pub record IsRunOf (job : Job) (old : Contents) (run : Run) : Type 0 where
   pub design : Design
   pub accepted : IsDesignOf job old design
-  pub run_is : run ≡ run_of job old.files design accepted.accepted.clock.first
-  pub headers : HaveHeaders run.inputs old.files job.stimuli (length job.stimuli)
+  pub run_is : run ≡ run_of job old.files design accepted.accepted.clock.first (ports_of accepted)
+  pub headers : HaveHeaders run.ports old.files job.stimuli (length job.stimuli)
 
 -- Two places have one path. Nothing was called.
 pub record IsSameEnd {tells : Bool} (job : Job) (old new : Told tells) (o : Outcome) : Type 0 where

@@ -10,7 +10,8 @@ use Rattle.vs_desk.specs.Places.{stimulus_place, design_place}
 use Rattle.vs_program.specs.Program.{Program, first_stores, fall_stores, rise_stores}
 use Rattle.vs_program.specs.Compiled.{IsProgramOf}
 use Rattle.vs_accept.specs.Accepted.{IsAcceptedText}
-use Rattle.vs_stim.specs.declared.input.Input.{Input}
+use Rattle.vs_stim.specs.declared.wanted.Digit.{Digit}
+use Rattle.vs_stim.specs.Header.{PortLists}
 use Rattle.vs_stim.specs.Reading.{stimulus}
 use Rattle.vs_feed.specs.Opened.{path_at}
 use Rattle.vs_vcd.specs.Texts.{vcd}
@@ -18,8 +19,8 @@ use Rattle.vs_waves.specs.Puts.{wave_place}
 use Rattle.vs_rounds.specs.Drives.{Vector, vector_state}
 use Rattle.vs_rounds.specs.Counts.{AreCounted}
 use Rattle.vs_job.specs.declared.job.Job.{Job}
-use Rattle.vs_rounds.specs.Inputs.{data_inputs}
 use Rattle.vs_setup.specs.DesignText.{design_text}
+use Rattle.vs_setup.specs.Ports.{ports_of}
 use Rattle.vs_setup.specs.Prepared.{run_of}
 use Rattle.vs_top.specs.declared.outcome.Summary.{Summary}
 
@@ -39,9 +40,10 @@ pub record IsRunOn (d : Design) (clock : ℕ) (vectors : List Vector) (values : 
 
 -- The stimulus of a lane is valid, and what was put is the VCD of the slot-end values that every completed run of the event queue on that
 -- stimulus alone has; and there is such a run.
-pub record IsLaneWritten (d : Design) (clock half : ℕ) (inputs : List Input) (text put : List ℕ) : Type 0 where
+pub record IsLaneWritten (d : Design) (clock half : ℕ) (ports : PortLists) (text put : List ℕ) : Type 0 where
   pub vectors : List Vector
-  pub valid : stimulus text inputs vectors
+  pub wanted : List (List (List Digit))
+  pub valid : stimulus text ports.inputs ports.outputs vectors wanted
   pub every : (values : List State) → IsRunOn d clock vectors values → put ≡ vcd d half values
   pub some : (values : List State) × IsRunOn d clock vectors values
 
@@ -60,10 +62,10 @@ pub record IsWritten (job : Job) (old new : Contents) (s : Summary) : Type 0 whe
   pub design : Design
   pub accepted : IsAcceptedText (design_text job old) job.top job.clock design
   pub lanes : (i : ℕ) → i < length job.stimuli
-      → IsLaneWritten design accepted.accepted.clock.first job.half (data_inputs design accepted.accepted.clock.first) (old.files (path_at job.stimuli i)) (new.put (wave_place i))
+      → IsLaneWritten design accepted.accepted.clock.first job.half (ports_of accepted) (old.files (path_at job.stimuli i)) (new.put (wave_place i))
   pub design_taken : new.left design_place ≡ []
   pub stimuli_taken : (i : ℕ) → i < length job.stimuli → new.left (stimulus_place i) ≡ []
   pub lanes_are : s.lanes ≡ length job.stimuli
-  pub counted : AreCounted (run_of job old.files design accepted.accepted.clock.first) (length job.stimuli) s.vectors s.settlings
+  pub counted : AreCounted (run_of job old.files design accepted.accepted.clock.first (ports_of accepted)) (length job.stimuli) s.vectors s.settlings
   pub size_is : s.size ≡ size_of design
   pub stored : AreStores design accepted.accepted.clock.first s.settlings s.operations

@@ -1,7 +1,7 @@
 use Rattle.vs_ast.specs.Views as view
 use Rattle.vs_flat.specs.DesignOf.{design_of}
 use Rattle.vs_accept.specs.Answers.{IsRefusalOf}
-use Rattle.vs_accept.proofs.Judged.{passed_on, accepted_text, refused_text}
+use Rattle.vs_accept.proofs.Judged.{passed_on, accepted_text, refused_text, with_outputs}
 use Rattle.vs_accept.proofs.acceptance.answer.Goals as goal
 
 pub returns-in_err-tokens-clause-refused : goal.returns-in_err-tokens-clause-refused
@@ -28,3 +28,7 @@ pub returns-clause-refused : goal.returns-clause-refused
 returns-clause-refused c =
     refused_text c.args.text.now c.args.top.now c.args.clock.now _ (view.source c.in_ok-source.source) (design_of c.in_ok-flat.flat) c.judge.result c.in_ok-source.ensures.read c.in_ok-flat.ensures.elaborates
     c.judge.ensures.refused
+
+pub returns-clause-outputs : goal.returns-clause-outputs
+returns-clause-outputs c =
+    with_outputs c.args.text.now c.args.top.now _ (view.source c.in_ok-source.source) c.in_ok-outputs.outputs.items c.judge.result c.in_ok-source.ensures.read c.judge.ensures.outputs c.in_ok-outputs.ensures

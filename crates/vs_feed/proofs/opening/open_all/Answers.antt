@@ -52,9 +52,9 @@ loop-path-preserved g c =
     let after = (g.D.Desk.told c.open_next.new.desk).contents in
     record {
       lanes = count ∙ ap (λ n. n + 1) inv.lanes ∙ sym (length_push c.loop-path.yielded path);
-      each = opened_more g.D.Desk.tells c.args.inputs.now before mid after (texts paths) (string_bytes path) c.loop-path.stimuli.items c.open_next.new.stimuli.items
+      each = opened_more g.D.Desk.tells c.args.ports.now before mid after (texts paths) (string_bytes path) c.loop-path.stimuli.items c.open_next.new.stimuli.items
           inv.each h.added here h.opened (λ t. (inv.others t).files) h.others;
-      headers = λ t. rw count (headers_more c.args.inputs.now before mid (texts paths) (string_bytes path) lane (inv.headers t) here (inv.others t).files (h.headed t));
+      headers = λ t. rw count (headers_more c.args.ports.now before mid (texts paths) (string_bytes path) lane (inv.headers t) here (inv.others t).files (h.headed t));
       attached = h.attached ∙ next ∙ ap (λ n. with_lanes (g.D.Desk.told c.args.desk.now).register (take n (texts paths))) (sym count);
       others = λ t. others_on (length paths) lane before mid after turn.0 (inv.others t) (h.others t);
     }
@@ -80,11 +80,11 @@ returns-in_err-open_next-clause-stopped g c =
     let asked : mid.register.asked ≡ r.asked = (λ i. (inv.attached i).asked) ∙ (c.attach_law.ensures.quiet r (stimulus_place 0) Read (take lane (texts paths))).asked in
     let attach_fails = λ (f : Fails mid.register new.register (stimulus_place lane) (string_bytes path)).
     subst (λ (m : Register). Fails m new.register (stimulus_place lane) (path_at (texts paths) lane)) inv.attached (subst (λ (q : List ℕ). Fails mid.register new.register (stimulus_place lane) q) (sym here) f) in
-    rw (p.1, p.2) (subst (λ (s : Stopped). StopsOpening c.args.inputs.now (texts paths) old new s) (stopped_is c.in_err-open_next.field-0.0 lane h.lane) (record {
+    rw (p.1, p.2) (subst (λ (s : Stopped). StopsOpening c.args.ports.now (texts paths) old new s) (stopped_is c.in_err-open_next.field-0.0 lane h.lane) (record {
       lane = within;
       error = h.errors;
-      refusal = λ t read memory. ap (λ (bytes : List ℕ). header_refusal c.args.inputs.now bytes) (λ i. (sym (inv.others t).files) i (here i)) ∙ h.refused t read memory;
-      reading = λ t read memory. ap (λ (bytes : List ℕ). reading c.args.inputs.now bytes) (λ i. (sym (inv.others t).files) i (here i)) ∙ h.reading t read memory;
+      refusal = λ t read memory. ap (λ (bytes : List ℕ). header_refusal c.args.ports.now bytes) (λ i. (sym (inv.others t).files) i (here i)) ∙ h.refused t read memory;
+      reading = λ t read memory. ap (λ (bytes : List ℕ). reading c.args.ports.now bytes) (λ i. (sym (inv.others t).files) i (here i)) ∙ h.reading t read memory;
       before = inv.headers;
       attached = λ read memory. h.register read memory ∙ next;
       memory = λ e. elim (h.memory e) [ inl same ↦ inl (same ∙ inv.attached) | inr placed ↦ inr (placed ∙ next) ];

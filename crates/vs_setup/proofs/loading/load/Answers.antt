@@ -1,3 +1,5 @@
+use Rattle.std.proofs.Common.{ap, ◌∙◌}
+use Rattle.vs_stim.specs.Header.{PortLists}
 use Rattle.vs_setup.proofs.Loads.{loaded}
 use Rattle.vs_setup.proofs.loading.load.Goals as goal
 
@@ -18,10 +20,14 @@ compile-requires-clause-order g c = rw (c.typed-typed.ensures, c.order.ensures) 
 pub data_inputs-requires : goal.data_inputs-requires
 data_inputs-requires g c = rw c.flat.ensures.same c.flat.ensures.lawful
 
+pub outputs-requires : goal.outputs-requires
+outputs-requires g c = rw c.flat-2.ensures.same c.flat-2.ensures.lawful
+
 pub returns-clause-loaded : goal.returns-clause-loaded
 returns-clause-loaded g c =
-    loaded _ _ c.args.text.now c.args.top.now c.args.clock.now c.in_ok-accepted.accepted _ c.in_ok-engine.engine c.in_ok-compiled.compiled
-    c.inputs_law.ensures c.in_ok-accepted.ensures.accepted c.in_ok-accepted.ensures.lent
+    loaded _ _ c.args.text.now c.args.top.now c.args.clock.now c.in_ok-accepted.accepted c.of.result c.in_ok-engine.engine c.in_ok-compiled.compiled
+    c.inputs_law.ensures c.answer_law.ensures.reading c.in_ok-accepted.ensures.accepted c.in_ok-accepted.ensures.outputs c.in_ok-accepted.ensures.lent
     (rw (c.typed-typed.ensures, c.clocks-clocks.ensures) at c.in_ok-compiled.ensures)
     (record { program = c.in_ok-engine.ensures.program; begun = c.in_ok-engine.ensures.begun; idle = c.in_ok-engine.ensures.idle })
-    (rw (c.reset_inputs.ensures, c.bit.ensures, c.clocks-clocks.ensures, c.flat.ensures.same, c.typed-typed.ensures) at c.in_ok-inputs.ensures)
+    (ap (λ (p : PortLists). p.inputs) c.of.ensures ∙ (rw (c.reset_inputs.ensures, c.bit.ensures, c.clocks-clocks.ensures, c.flat.ensures.same, c.typed-typed.ensures) at c.in_ok-inputs.ensures))
+    (ap (λ (p : PortLists). p.outputs) c.of.ensures ∙ (rw (c.outputs.ensures, c.flat-2.ensures.same, c.typed-typed.ensures) at c.in_ok-outputs.ensures))

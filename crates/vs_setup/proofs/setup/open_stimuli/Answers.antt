@@ -15,6 +15,6 @@ returns-in-Err-clause-unopened g c =
     let paths = texts c.in_ok-paths.paths.items in
     let lane = c.in-Err.stopped.lane in
     let error = c.in-Err.stopped.error in
-    subst (λ (e : SetupError). IsUnopened c.args.inputs.now c.args.job.now.stimuli old new e) (sym c.stopped_at.ensures)
-    (subst (λ (ps : List (List ℕ)). IsUnopened c.args.inputs.now ps old new (error_of lane error)) c.in_ok-paths.ensures
-    (unopened c.args.inputs.now paths old new lane error c.in-Err.ensures.stopped))
+    subst (λ (e : SetupError). IsUnopened c.args.ports.now c.args.job.now.stimuli old new e) (sym c.stopped_at.ensures)
+    (subst (λ (ps : List (List ℕ)). IsUnopened c.args.ports.now ps old new (error_of lane error)) c.in_ok-paths.ensures
+    (unopened c.args.ports.now paths old new lane error c.in-Err.ensures.stopped))

@@ -4,11 +4,10 @@ use Rattle.std.proofs.lemmas.Result.{err_from_is_err_and}
 use Rattle.vs_desk.specs.Desk.{Register}
 use Rattle.vs_flat.specs.DesignOf.{design_of}
 use Rattle.vs_engine.specs.Lanes.{Running}
-use Rattle.vs_stim.specs.Header.{IsInput}
+use Rattle.vs_stim.specs.Header.{PortLists, ArePorts}
 use Rattle.vs_feed.specs.Opened as drive
 use Rattle.vs_feed.specs.Opened.{with_lanes, HaveHeaders}
 use Rattle.vs_feed.specs.Lanes.{AreLanes, AreAttached}
-use Rattle.vs_stim.specs.declared.input.Input.{Input}
 use Rattle.vs_setup.specs.DesignText.{with_design}
 use Rattle.vs_setup.specs.Places.{with_texts}
 use Rattle.vs_setup.specs.Unprepared.{IsUnprepared, IsUnopened}
@@ -24,12 +23,12 @@ returns-in_err-drive-clause-unprepared g c =
     let new = g.D.Desk.told c.open_stimuli.new.desk in
     let l = c.in_ok-loaded.loaded in
     let e = c.in_err-drive.field-0.0 in
-    let unopened : IsUnopened c.deref.result.now job.stimuli mid new e = c.in_err-drive.ensures.unopened in
-    let behind : IsUnopened l.inputs.items job.stimuli (record mid { register = with_design old.register job.design }) new e =
-    subst (λ (r : Register). IsUnopened l.inputs.items job.stimuli (record mid { register = r }) new e) c.in_ok-loaded.ensures.register
-    (subst (λ (is : List Input). IsUnopened is job.stimuli mid new e) c.deref.ensures.value unopened) in
+    let unopened : IsUnopened l.ports job.stimuli mid new e = c.in_err-drive.ensures.unopened in
+    let behind : IsUnopened l.ports job.stimuli (record mid { register = with_design old.register job.design }) new e =
+    subst (λ (r : Register). IsUnopened l.ports job.stimuli (record mid { register = r }) new e) c.in_ok-loaded.ensures.register
+    unopened in
     err_is (IsUnprepared job old new) c.from_residual-in_err-drive.result e (let p = err_from_is_err_and c.from_residual-in_err-drive.result c.from_residual-in_err-drive.ensures.1 in p.1 ∙ ap Err p.2)
-    (unprepared g.W.Word.lane g.W.Word.LANES job old mid new l.accepted l.inputs.items l.engine c.in_ok-loaded.ensures.loaded (λ t. (c.in_ok-loaded.ensures.only t).files) e behind)
+    (unprepared g.W.Word.lane g.W.Word.LANES job old mid new l.accepted l.ports l.engine c.in_ok-loaded.ensures.loaded (λ t. (c.in_ok-loaded.ensures.only t).files) e behind)
 
 pub returns-clause-prepared : goal.returns-clause-prepared
 returns-clause-prepared g c =
@@ -41,12 +40,12 @@ returns-clause-prepared g c =
     let m = c.in_ok-prepared.prepared.machine in
     let tells = g.D.Desk.tells in
     let drive_is = c.in_ok-prepared.ensures.stimuli in
-    let opened : drive.AreOpened tells l.inputs.items mid new job.stimuli c.in_ok-drive.drive =
-    subst (λ (is : List Input). drive.AreOpened tells is mid new job.stimuli c.in_ok-drive.drive) c.deref.ensures.value c.in_ok-drive.ensures.opened in
-    let parts : HasParts g.W.Word.lane g.W.Word.LANES tells job old mid new l.accepted l.inputs.items l.engine m = record {
+    let opened : drive.AreOpened tells l.ports mid new job.stimuli c.in_ok-drive.drive =
+    c.in_ok-drive.ensures.opened in
+    let parts : HasParts g.W.Word.lane g.W.Word.LANES tells job old mid new l.accepted l.ports l.engine m = record {
       loaded = c.in_ok-loaded.ensures.loaded;
       files = λ t. (c.in_ok-loaded.ensures.only t).files;
-      opened = subst (λ ks. drive.AreOpened tells l.inputs.items mid new job.stimuli ks) (sym drive_is) opened;
+      opened = subst (λ ks. drive.AreOpened tells l.ports mid new job.stimuli ks) (sym drive_is) opened;
       numbered = subst AreLanes (sym drive_is) c.in_ok-drive.ensures.numbered;
       engine_is = c.in_ok-prepared.ensures.engine;
       waves = c.in_ok-prepared.ensures.lanes ∙ ap length (sym drive_is);
@@ -61,15 +60,15 @@ returns-clause-prepared g c =
       design = design_of l.accepted.flat;
       accepted = parts.loaded.loaded.accepted;
       size_is = c.in_ok-prepared.ensures.size;
-      program = program_is g.W.Word.lane g.W.Word.LANES tells job old mid new l.accepted l.inputs.items l.engine m parts;
+      program = program_is g.W.Word.lane g.W.Word.LANES tells job old mid new l.accepted l.ports l.engine m parts;
       begun = ap (λ (e : Running _). e.begun) c.in_ok-prepared.ensures.engine ∙ parts.loaded.loaded.begun;
-      all_inputs = subst (All IsInput) parts.loaded.loaded.inputs_are parts.loaded.loaded.are_inputs;
+      all_ports = subst ArePorts parts.loaded.loaded.ports_are parts.loaded.loaded.are_ports;
       lanes = parts.opened.lanes;
       headers = λ t.
-          subst (λ (is : List Input). HaveHeaders is old.files job.stimuli (length job.stimuli)) (c.deref.ensures.value ∙ parts.loaded.loaded.inputs_are)
-          (subst (λ (files : List ℕ → List ℕ). HaveHeaders c.deref.result.now files job.stimuli (length job.stimuli)) (c.in_ok-loaded.ensures.only t).files (c.in_ok-drive.ensures.headers t));
-      ready = ready g.W.Word.lane g.W.Word.LANES tells job old mid new l.accepted l.inputs.items l.engine m parts;
-      opened = begins g.W.Word.lane g.W.Word.LANES tells job old mid new l.accepted l.inputs.items l.engine m parts;
+          subst (λ (is : PortLists). HaveHeaders is old.files job.stimuli (length job.stimuli)) parts.loaded.loaded.ports_are
+          (subst (λ (files : List ℕ → List ℕ). HaveHeaders l.ports files job.stimuli (length job.stimuli)) (c.in_ok-loaded.ensures.only t).files (c.in_ok-drive.ensures.headers t));
+      ready = ready g.W.Word.lane g.W.Word.LANES tells job old mid new l.accepted l.ports l.engine m parts;
+      opened = begins g.W.Word.lane g.W.Word.LANES tells job old mid new l.accepted l.ports l.engine m parts;
       paths = c.in_ok-prepared.ensures.paths;
       register_is = c.in_ok-drive.ensures.register ∙ ap (λ (r : Register). with_lanes r job.stimuli) c.in_ok-loaded.ensures.register;
       readable = subst (λ ks. AreAttached (g.D.Desk.told c.open_stimuli.new.desk).register ks) (sym drive_is) c.in_ok-drive.ensures.readable;

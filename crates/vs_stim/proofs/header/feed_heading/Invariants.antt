@@ -11,7 +11,7 @@ invariant-line g l =
     let now = open_at l.source (g.D.Desk.told l.desk) in
     record {
       source : IsSource l.source;
-      heading : IsHeading l.inputs l.heading;
+      heading : IsHeading l.ports l.heading;
       place : l.source.place ≡ l.initial.source.place;
       number : l.source.number ≡ l.initial.source.number;
       start : l.source.start ≡ l.initial.source.start;
@@ -19,7 +19,7 @@ invariant-line g l =
       others : IsTrue g.D.Desk.tells → OnlyTaken l.initial.source.place (g.D.Desk.told l.initial.desk).contents (g.D.Desk.told l.desk).contents;
       line : IsTrue g.D.Desk.tells → SameLine before now;
       goes : IsTrue g.D.Desk.tells → GoesOn before now;
-      says : IsTrue g.D.Desk.tells → heading_with l.inputs l.heading (says now) ≡ heading_with l.inputs l.initial.heading (says before);
+      says : IsTrue g.D.Desk.tells → heading_with l.ports l.heading (says now) ≡ heading_with l.ports l.initial.heading (says before);
     }
 
 abbrev pub decreases-line : goal.decreases-line

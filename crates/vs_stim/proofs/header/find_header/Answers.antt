@@ -1,11 +1,13 @@
 use Rattle.std.proofs.Common.{rules, ◌≡◌, ◌++◌, refl, Bool, Global, Vec, sym, ◌∙◌, subst, arith}
 use Rattle.std.proofs.lemmas.Grind.{common_steps}
 use Rattle.vs_stim.specs.declared.input.Column.{Column}
+use Rattle.vs_stim.specs.declared.input.Expected.{Expected}
+use Rattle.vs_stim.specs.Heading.{columns_of_heading}
 use Rattle.vs_stim.specs.Fields.{fields}
 use Rattle.vs_stim.specs.Header.{header}
-use Rattle.vs_stim.specs.Source.{open_at, rest_of, says, Passes, PassesHeader}
+use Rattle.vs_stim.specs.Source.{open_at, rest_of, says, vectors_from, Passes, PassesHeader}
 use Rattle.vs_stim.proofs.Passed.{header_passed}
-use Rattle.vs_stim.proofs.Turns.{skipped_is, fault_skipped}
+use Rattle.vs_stim.proofs.Turns.{skipped_is, fault_skipped, header_found}
 use Rattle.vs_stim.proofs.Untold.{none_passed, passed_more, untold_here}
 use Rattle.vs_stim.proofs.header.find_header.Goals as goal
 
@@ -26,13 +28,13 @@ lines-preserved g c =
           let p = open_at c.read_heading.new.source (g.D.Desk.told c.read_heading.new.desk) in
           let P : Bool → Type 0 = λ b. Passes b o p in
           passed_more _ o p (inv.passed t) inv.begins (h.ends t c.if-last.false) (subst P c.if-last.false (h.passes t))
-          (skipped_is (says o) (header c.args.inputs.now (fields (says o))) (rw c.in-Skipped.is at (h.says t)));
+          (skipped_is (says o) (header c.args.ports.now (fields (says o))) (rw c.in-Skipped.is at (h.says t)));
       reading = grind (arith, common_steps);
       fault = λ t.
           let o = open_at c.lines.source (g.D.Desk.told c.lines.desk) in
           let p = open_at c.read_heading.new.source (g.D.Desk.told c.read_heading.new.desk) in
           let P : Bool → Type 0 = λ b. Passes b o p in
-          inv.fault t ∙ fault_skipped c.args.inputs.now o p inv.begins (subst P c.if-last.false (h.passes t)) (sym (rw c.in-Skipped.is at (h.says t)));
+          inv.fault t ∙ fault_skipped c.args.ports.now o p inv.begins (subst P c.if-last.false (h.passes t)) (sym (rw c.in-Skipped.is at (h.says t)));
     }
 
 pub lines-init : goal.lines-init
@@ -65,10 +67,22 @@ pub returns-in-Given-clause-passes : goal.returns-in-Given-clause-passes
 returns-in-Given-clause-passes g c = λ t.
     let h = c.in_ok-kind.ensures in
     let inv = c.lines.invariant in
-    let is = c.args.inputs.now in
-    let columns = c.read_heading.new.heading.columns.items in
+    let is = c.args.ports.now in
+    let columns = columns_of_heading c.read_heading.new.heading in
     let a = open_at c.args.source.now (g.D.Desk.told c.args.desk.now) in
     let o = open_at c.lines.source (g.D.Desk.told c.lines.desk) in
     let p = open_at c.read_heading.new.source (g.D.Desk.told c.read_heading.new.desk) in
-    subst (λ (cs : Vec Column Global). PassesHeader is cs.items a p) (sym c.into_columns.ensures)
-    (header_passed is columns a o p c.in_ok-kind.last (inv.passed t) inv.begins (h.ends t) (h.passes t) (omega (arith, h.source.bytes)) (sym (rw c.in-Given.is at (h.says t))))
+    subst (λ (es : Vec Expected Global). PassesHeader is (record { inputs = c.into_columns.result.inputs.items; expected = es.items }) a p) (sym c.into_columns.ensures.expected)
+    (subst (λ (cs : Vec Column Global). PassesHeader is (record { inputs = cs.items; expected = c.read_heading.new.heading.expected.items }) a p) (sym c.into_columns.ensures.inputs)
+    (header_passed is columns a o p c.in_ok-kind.last (inv.passed t) inv.begins (h.ends t) (h.passes t) (omega (arith, h.source.bytes)) (sym (rw c.in-Given.is at (h.says t)))))
+
+pub returns-in-Given-clause-found : goal.returns-in-Given-clause-found
+returns-in-Given-clause-found g c = λ t.
+    let h = c.in_ok-kind.ensures in
+    let inv = c.lines.invariant in
+    let columns = columns_of_heading c.read_heading.new.heading in
+    let o = open_at c.lines.source (g.D.Desk.told c.lines.desk) in
+    let p = open_at c.read_heading.new.source (g.D.Desk.told c.read_heading.new.desk) in
+    inv.reading t
+    ∙ header_found c.args.ports.now columns o p c.in_ok-kind.last inv.begins (h.passes t) (omega (arith, h.source.bytes)) (sym (rw c.in-Given.is at (h.says t)))
+    ∙ (λ i. vectors_from (record { inputs = (sym c.into_columns.ensures.inputs i).items; expected = (sym c.into_columns.ensures.expected i).items }) 0 p)

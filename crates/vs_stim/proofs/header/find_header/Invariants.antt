@@ -12,16 +12,16 @@ invariant-lines g l =
     record {
       source : IsSource l.source;
       begins : l.source.length ≡ 0;
-      heading : IsHeading l.inputs l.heading;
+      heading : IsHeading l.ports l.heading;
       stage : l.heading.stage ≡ Start;
       place : l.source.place ≡ l.initial.source.place;
       register : (g.D.Desk.told l.desk).register ≡ (g.D.Desk.told l.initial.desk).register;
       others : IsTrue g.D.Desk.tells → OnlyTaken l.initial.source.place (g.D.Desk.told l.initial.desk).contents (g.D.Desk.told l.desk).contents;
       passed : IsTrue g.D.Desk.tells → IsPassed (open_at l.initial.source (g.D.Desk.told l.initial.desk)) (open_at l.source (g.D.Desk.told l.desk));
       reading : IsTrue g.D.Desk.tells →
-          header_from l.inputs (open_at l.initial.source (g.D.Desk.told l.initial.desk)) ≡ header_from l.inputs (open_at l.source (g.D.Desk.told l.desk));
+          header_from l.ports (open_at l.initial.source (g.D.Desk.told l.initial.desk)) ≡ header_from l.ports (open_at l.source (g.D.Desk.told l.desk));
       fault : IsTrue g.D.Desk.tells →
-          header_fault_from l.inputs (open_at l.initial.source (g.D.Desk.told l.initial.desk)) ≡ header_fault_from l.inputs (open_at l.source (g.D.Desk.told l.desk));
+          header_fault_from l.ports (open_at l.initial.source (g.D.Desk.told l.initial.desk)) ≡ header_fault_from l.ports (open_at l.source (g.D.Desk.told l.desk));
     }
 
 abbrev pub decreases-lines : goal.decreases-lines

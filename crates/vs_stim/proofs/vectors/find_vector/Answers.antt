@@ -1,7 +1,9 @@
-use Rattle.std.proofs.Common.{rules, ◌≡◌, ◌+◌, ◌++◌, Bool, Global, Vec, IsTrue, refl, sym, ◌∙◌, ap, subst, arith}
-use Rattle.vs_stim.specs.declared.input.Column.{Column}
+use Rattle.std.proofs.Common.{rules, ◌≡◌, ◌+◌, ◌++◌, Bool, IsTrue, refl, sym, ◌∙◌, ap, subst, arith}
+use Rattle.vs_stim.specs.Header.{ColumnLists}
+use Rattle.vs_stim.specs.Row.{columns_in, entry_in}
+use Rattle.vs_stim.proofs.Stepped.{same_columns}
 use Rattle.vs_stim.specs.Fields.{fields}
-use Rattle.vs_stim.specs.Vectors.{vector}
+use Rattle.vs_stim.specs.Vectors.{entry}
 use Rattle.vs_stim.specs.Reading.{limits, not_taken, with_vector}
 use Rattle.vs_stim.specs.Source.{open_at, rest_of, in_block, is_told, says, vectors_from, Passes, PassesVector}
 use Rattle.vs_stim.proofs.Passed.{vector_passed}
@@ -15,7 +17,7 @@ lines-preserved g c =
     let inv = c.lines.invariant in
     let before = c.lines.source in
     let now = c.read_row.new.source in
-    let columns = c.lines.row.columns in
+    let columns = columns_in c.lines.row in
     record {
       source = search rules;
       begins = search rules;
@@ -29,49 +31,49 @@ lines-preserved g c =
       told = λ x.
           let y : IsTrue (is_told (in_block before)) = tells_line (in_block before) inv.begins (inv.told x) in
           let P : Bool → Type 0 = λ b. Passes b (in_block before) (in_block now) in
-          tells_on columns.items (in_block before) (in_block now) inv.begins (subst P c.if-last.false (h.told y)) (rw c.in-Skipped.is at (h.told_says y)) (inv.told x);
+          tells_on columns (in_block before) (in_block now) inv.begins (subst P c.if-last.false (h.told y)) (rw c.in-Skipped.is at (h.told_says y)) (inv.told x);
       passed = λ t.
           let o = open_at before (g.D.Desk.told c.lines.desk) in
           let p = open_at now (g.D.Desk.told c.read_row.new.desk) in
           let P : Bool → Type 0 = λ b. Passes b o p in
           passed_more _ o p (inv.passed t) inv.begins (h.ends t c.if-last.false) (subst P c.if-last.false (h.passes t))
-          (skipped_is (says o) (vector columns.items (fields (says o))) (rw c.in-Skipped.is at (h.says t)));
+          (skipped_is (says o) (entry columns (fields (says o))) (rw c.in-Skipped.is at (h.says t)));
       reading = λ t.
           let o = open_at before (g.D.Desk.told c.lines.desk) in
           let p = open_at now (g.D.Desk.told c.read_row.new.desk) in
           let P : Bool → Type 0 = λ b. Passes b o p in
           inv.reading t
-          ∙ vectors_skipped columns.items o p c.args.count inv.begins (subst P c.if-last.false (h.passes t)) (sym (rw c.in-Skipped.is at (h.says t)))
-          ∙ sym (ap (λ cs. vectors_from cs.items c.args.count p) h.form.columns);
+          ∙ vectors_skipped columns o p c.args.count inv.begins (subst P c.if-last.false (h.passes t)) (sym (rw c.in-Skipped.is at (h.says t)))
+          ∙ sym (ap (λ cs. vectors_from cs c.args.count p) (same_columns c.lines.row c.read_row.new.row h.form));
     }
 
 pub returns-in-Given-clause-found : goal.returns-in-Given-clause-found
 returns-in-Given-clause-found g c =
     let h = c.in_ok-kind.ensures in
     let inv = c.lines.invariant in
-    let columns = c.lines.row.columns in
-    let values = c.read_row.new.row.values.items in
-    let taken = ap (λ cs. not_taken limits cs.items c.lines.source.number c.args.count values) (sym h.form.columns) ∙ c.in_ok-check_vector-in-Given.ensures.ok in
+    let columns = columns_in c.lines.row in
+    let values = entry_in c.read_row.new.row in
+    let taken = ap (λ cs. not_taken limits cs c.lines.source.number c.args.count values) (sym (same_columns c.lines.row c.read_row.new.row h.form)) ∙ c.in_ok-check_vector-in-Given.ensures.ok in
     λ t _.
     let o = open_at c.lines.source (g.D.Desk.told c.lines.desk) in
     let p = open_at c.read_row.new.source (g.D.Desk.told c.read_row.new.desk) in
     inv.reading t
-    ∙ vectors_found columns.items o p c.args.count values c.in_ok-kind.last inv.begins (h.passes t) (omega (arith, h.source.bytes)) (sym (rw c.in-Given.is at (h.says t))) taken
-    ∙ ap (λ cs. with_vector values (vectors_from cs.items (c.args.count + 1) p)) inv.form.columns
+    ∙ vectors_found columns o p c.args.count values c.in_ok-kind.last inv.begins (h.passes t) (omega (arith, h.source.bytes)) (sym (rw c.in-Given.is at (h.says t))) taken
+    ∙ ap (λ cs. with_vector values (vectors_from cs (c.args.count + 1) p)) (same_columns c.args.row.now c.lines.row inv.form)
 
 pub returns-in-Given-clause-passes : goal.returns-in-Given-clause-passes
 returns-in-Given-clause-passes g c =
     let h = c.in_ok-kind.ensures in
     let inv = c.lines.invariant in
-    let columns = c.lines.row.columns in
-    let values = c.read_row.new.row.values.items in
-    let taken = ap (λ cs. not_taken limits cs.items c.lines.source.number c.args.count values) (sym h.form.columns) ∙ c.in_ok-check_vector-in-Given.ensures.ok in
+    let columns = columns_in c.lines.row in
+    let values = entry_in c.read_row.new.row in
+    let taken = ap (λ cs. not_taken limits cs c.lines.source.number c.args.count values) (sym (same_columns c.lines.row c.read_row.new.row h.form)) ∙ c.in_ok-check_vector-in-Given.ensures.ok in
     λ t _.
     let o = open_at c.lines.source (g.D.Desk.told c.lines.desk) in
     let p = open_at c.read_row.new.source (g.D.Desk.told c.read_row.new.desk) in
     let a = open_at c.args.source.now (g.D.Desk.told c.args.desk.now) in
-    subst (λ (cs : Vec Column Global). PassesVector cs.items c.args.count values a p) inv.form.columns
-    (vector_passed columns.items c.args.count values a o p c.in_ok-kind.last (inv.passed t) inv.begins (h.ends t) (h.passes t) (omega (arith, h.source.bytes)) (sym (rw c.in-Given.is at (h.says t))) taken)
+    subst (λ (cs : ColumnLists). PassesVector cs c.args.count values a p) (same_columns c.args.row.now c.lines.row inv.form)
+    (vector_passed columns c.args.count values a o p c.in_ok-kind.last (inv.passed t) inv.begins (h.ends t) (h.passes t) (omega (arith, h.source.bytes)) (sym (rw c.in-Given.is at (h.says t))) taken)
 
 pub lines-init : goal.lines-init
 lines-init g c = record {

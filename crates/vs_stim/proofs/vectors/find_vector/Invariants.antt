@@ -1,7 +1,7 @@
 use Rattle.std.proofs.Common.{◌≡◌, ◌-◌, IsTrue}
 use Rattle.vs_desk.specs.Taking.{OnlyTaken}
 use Rattle.vs_stim.specs.Reading.{limits}
-use Rattle.vs_stim.specs.Row.{IsRow, SameForm, each_input}
+use Rattle.vs_stim.specs.Row.{IsRow, SameForm, each_input, columns_in}
 use Rattle.vs_stim.specs.Source.{open_at, in_block, text_tells, IsSource, vectors_from}
 use Rattle.vs_stim.proofs.Untold.{IsPassed}
 use Rattle.vs_stim.proofs.vectors.find_vector.Given as goal
@@ -21,7 +21,7 @@ invariant-lines g l =
       told : IsTrue (text_tells (in_block l.initial.source)) → IsTrue (text_tells (in_block l.source));
       passed : IsTrue g.D.Desk.tells → IsPassed (open_at l.initial.source (g.D.Desk.told l.initial.desk)) (open_at l.source (g.D.Desk.told l.desk));
       reading : IsTrue g.D.Desk.tells →
-          vectors_from l.initial.row.columns.items l.count (open_at l.initial.source (g.D.Desk.told l.initial.desk)) ≡ vectors_from l.row.columns.items l.count (open_at l.source (g.D.Desk.told l.desk));
+          vectors_from (columns_in l.initial.row) l.count (open_at l.initial.source (g.D.Desk.told l.initial.desk)) ≡ vectors_from (columns_in l.row) l.count (open_at l.source (g.D.Desk.told l.desk));
     }
 
 abbrev pub decreases-lines : goal.decreases-lines

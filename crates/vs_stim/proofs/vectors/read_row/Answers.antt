@@ -1,4 +1,4 @@
-use Rattle.std.proofs.Common.{◌∙◌, ap, IsTrue}
+use Rattle.std.proofs.Common.{◌∙◌, IsTrue}
 use Rattle.vs_stim.specs.Reading.{vector_line}
 use Rattle.vs_stim.specs.Row.{each_input}
 use Rattle.vs_stim.specs.Source.{open_at, in_block, says}
@@ -11,8 +11,8 @@ returns-clause-says g c = λ t.
     let each : IsTrue (each_input c.begin.new.self) = rw (c.begin.ensures.values, c.begin.ensures.columns) c.requires.each in
     c.finish.ensures.says
     ∙ c.in_ok-last.ensures.says t
-    ∙ row_says c.begin.new.self rest c.begin.ensures.spot each
-    ∙ ap (λ columns. vector_line columns.items rest) c.begin.ensures.columns
+    ∙ row_says c.begin.new.self rest c.begin.ensures.spot each c.begin.ensures.row.wants
+    ∙ (λ i. vector_line (record { inputs = (c.begin.ensures.columns i).items; expected = (c.begin.ensures.expected i).items }) rest)
 
 pub returns-clause-told_says : goal.returns-clause-told_says
 returns-clause-told_says g c = λ t.
@@ -20,5 +20,5 @@ returns-clause-told_says g c = λ t.
     let each : IsTrue (each_input c.begin.new.self) = rw (c.begin.ensures.values, c.begin.ensures.columns) c.requires.each in
     c.finish.ensures.says
     ∙ c.in_ok-last.ensures.told_says t
-    ∙ row_says c.begin.new.self rest c.begin.ensures.spot each
-    ∙ ap (λ columns. vector_line columns.items rest) c.begin.ensures.columns
+    ∙ row_says c.begin.new.self rest c.begin.ensures.spot each c.begin.ensures.row.wants
+    ∙ (λ i. vector_line (record { inputs = (c.begin.ensures.columns i).items; expected = (c.begin.ensures.expected i).items }) rest)

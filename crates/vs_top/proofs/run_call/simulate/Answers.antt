@@ -51,9 +51,9 @@ returns-in-Err-clause-complete g c = λ told lawful faultless.
 pub returns-in-Ok-clause-refused : goal.returns-in-Ok-clause-refused
 returns-in-Ok-clause-refused g c = λ told q job_refused faultless.
     absurd (refused_undone c.args.job.now (g.D.Desk.told c.args.desk.now) (g.D.Desk.told c.run_job.new.desk) c.in-Ok.summary
-    c.answer_law.ensures.one c.answer_law.ensures.not_both c.in-Ok.ensures.done (c.in-Ok.ensures.written told) q job_refused)
+    (record { reading = c.answer_law.ensures.reading; design = c.answer_law.ensures.one }) c.answer_law.ensures.not_both c.in-Ok.ensures.done (c.in-Ok.ensures.written told) q job_refused)
 
 pub returns-in-Err-clause-refused : goal.returns-in-Err-clause-refused
 returns-in-Err-clause-refused g c = λ told q job_refused faultless.
     stopped_refused c.args.job.now (g.D.Desk.told c.args.desk.now) (g.D.Desk.told c.run_job.new.desk) (g.D.Desk.told c.report-in-Err.new.desk) c.in-Err.outcome c.report-in-Err.result
-    c.answer_law.ensures.one c.answer_law.ensures.not_both c.answer_law.ensures.alike c.in-Err.ensures.not_done c.in-Err.ensures.stopped c.report-in-Err.ensures.stopped (returns-in-Err-clause-causes g c) told q job_refused faultless
+    (record { reading = c.answer_law.ensures.reading; design = c.answer_law.ensures.one }) c.answer_law.ensures.not_both c.answer_law.ensures.alike c.in-Err.ensures.not_done c.in-Err.ensures.stopped c.report-in-Err.ensures.stopped (returns-in-Err-clause-causes g c) told q job_refused faultless

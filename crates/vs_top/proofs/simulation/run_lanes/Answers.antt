@@ -15,6 +15,7 @@ use Rattle.vs_rounds.specs.Stops.{AreUnrefused, IsLaneOf, HasCause, ReadStops, S
 use Rattle.vs_rounds.specs.Counts.{AreDone, AreCounted}
 use Rattle.vs_job.specs.Places.{vcd_path}
 use Rattle.vs_setup.specs.DesignText.{design_text}
+use Rattle.vs_setup.specs.Ports.{ports_of}
 use Rattle.vs_setup.specs.Prepared.{run_of}
 use Rattle.vs_setup.specs.Places.{with_texts}
 use Rattle.vs_top.specs.declared.outcome.Outcome.TheVariants.{Done}
@@ -32,7 +33,7 @@ returns-in-Err-begin-clause-unbegun g c =
     let job = c.args.job.now in
     let p = c.in-Ok.ensures.prepared in
     let stop = c.in-Err-begin.stop in
-    let run = run_of job (g.D.Desk.told c.args.desk.now).contents.files p.design p.accepted.accepted.clock.first in
+    let run = run_of job (g.D.Desk.told c.args.desk.now).contents.files p.design p.accepted.accepted.clock.first (ports_of p.accepted) in
     first (sym c.same_paths.ensures ∙ c.in_default.is) (record {
       stop = stop;
       outcome_is = c.stop_outcome.ensures.outcome;
@@ -84,7 +85,7 @@ returns-in-Err-attach-clause-unbegun g c =
     let lane = c.in-Err-attach.fault.lane in
     let items : List (String Global) = c.in-Ok.prepared.wave_paths.items in
     let lanes : length items ≡ length job.stimuli = sym (length-map items (string_bytes {Z = Global})) ∙ ap length p.paths ∙ length-map job.stimuli vcd_path in
-    let run = run_of job (g.D.Desk.told c.args.desk.now).contents.files p.design p.accepted.accepted.clock.first in
+    let run = run_of job (g.D.Desk.told c.args.desk.now).contents.files p.design p.accepted.accepted.clock.first (ports_of p.accepted) in
     let P : Register → List (List ℕ) → List (List ℕ) → Type 0 = λ r taken all. Fails (with_places r (waveform_place 0) Write taken) now (wave_place lane) (path_at all lane) in
     let begun = subst (λ (r : Register). P r (map string_bytes (take lane items)) (map string_bytes items)) (c.in_default-begin.ensures.same ∙ p.register_is) c.in-Err-attach.ensures.failed in
     let mapped = subst (λ (taken : List (List ℕ)). P (with_texts before job job.stimuli) taken (map string_bytes items)) (sym (take-map string_bytes lane items)) begun in
@@ -130,7 +131,7 @@ all_written g c =
     let p = c.in-Ok.ensures.prepared in
     let counts = c.in-Ok-rounds.counts in
     let clock = p.accepted.accepted.clock.first in
-    let run = run_of job old.files p.design clock in
+    let run = run_of job old.files p.design clock (ports_of p.accepted) in
     let items : List (String Global) = c.in-Ok.prepared.wave_paths.items in
     let lanes : length c.begin.new.self.stimuli ≡ length job.stimuli = c.in_default-begin.ensures.lanes ∙ p.lanes in
     let paths : length items ≡ length job.stimuli = sym (length-map items (string_bytes {Z = Global})) ∙ ap length p.paths ∙ length-map job.stimuli vcd_path in
@@ -155,7 +156,7 @@ all_written g c =
         accepted = accepted_as job.top job.clock p.design (job.head ++ p.file) (design_text job old) (ap (λ (file : List ℕ). job.head ++ file) (p.file_is t)) p.accepted;
         stimuli_taken = λ i h. (done t).taken i h;
         design_taken = (c.rounds.ensures.others t).left 1 (omega arith) ∙ ap (λ (left : ℕ → List ℕ). left 1) (empty t).left ∙ (c.begin.ensures.others t).before 1 (omega arith) ∙ p.taken t;
-        lanes = λ i h. lane_written c.headline_law.ensures.every c.headline_law.ensures.some c.known_law.ensures.some p.design job.clock p.accepted.accepted job.half run.inputs (are_data_inputs p.design clock p.all_inputs)
+        lanes = λ i h. lane_written c.headline_law.ensures.every c.headline_law.ensures.some c.known_law.ensures.some p.design job.clock p.accepted.accepted job.half run.ports (are_data_inputs p.design clock p.all_ports.inputs)
             (run.texts i) (new.put (wave_place i)) ((done t).valid i h) ((done t).given i h);
         lanes_are = search rules;
         counted = counted t;
@@ -191,7 +192,7 @@ returns-clause-stopped g c =
     let now = (g.D.Desk.told c.rounds.new.desk).register in
     let p = c.in-Ok.ensures.prepared in
     let stop = c.in-Err-rounds.stop in
-    let run = run_of job old.files p.design p.accepted.accepted.clock.first in
+    let run = run_of job old.files p.design p.accepted.accepted.clock.first (ports_of p.accepted) in
     let items : List (String Global) = c.in-Ok.prepared.wave_paths.items in
     let lanes : length c.begin.new.self.stimuli ≡ length job.stimuli = c.in_default-begin.ensures.lanes ∙ p.lanes in
     let paths : length items ≡ length job.stimuli = sym (length-map items (string_bytes {Z = Global})) ∙ ap length p.paths ∙ length-map job.stimuli vcd_path in

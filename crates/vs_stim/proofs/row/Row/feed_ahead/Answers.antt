@@ -1,11 +1,12 @@
-use Rattle.std.proofs.Common.{refl, sym, ◌∙◌, subst}
+use Rattle.std.proofs.Common.{sym, subst}
 use Rattle.vs_stim.specs.declared.source.Source.{Source}
 use Rattle.vs_stim.specs.Source.{ReadsAhead}
 use Rattle.vs_stim.proofs.Ahead.{reads_none, reads_more, reads_on}
+use Rattle.vs_stim.proofs.Stepped.{same_form, form_on}
 use Rattle.vs_stim.proofs.row.Row.feed_ahead.Goals as goal
 
 pub bytes-init : goal.bytes-init
-bytes-init c = record { row = c.requires.row; form = record { columns = refl; lengths = refl }; source = c.requires.source; reads = reads_none c.args.self.now c.args.source.now }
+bytes-init c = record { row = c.requires.row; form = same_form c.args.self.now; source = c.requires.source; reads = reads_none c.args.self.now c.args.source.now }
 
 pub bytes-preserved : goal.bytes-preserved
 bytes-preserved c =
@@ -15,10 +16,7 @@ bytes-preserved c =
     let start = c.args.source.now in
     record {
       row = c.feed.ensures.row;
-      form = record {
-        columns = c.feed.ensures.form.columns ∙ digits.form.columns ∙ inv.form.columns;
-        lengths = c.feed.ensures.form.lengths ∙ digits.form.lengths ∙ inv.form.lengths;
-      };
+      form = form_on c.args.self.now c.feed_digits.new.self c.feed.new.self (form_on c.args.self.now c.bytes.self c.feed_digits.new.self inv.form digits.form) c.feed.ensures.form;
       source = c.next_inner.ensures.source;
       reads =
           reads_on first c.feed_digits.new.self c.feed.new.self start c.feed_digits.new.source c.next_inner.new.self c.in-Some.byte

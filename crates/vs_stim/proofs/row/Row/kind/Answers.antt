@@ -1,14 +1,19 @@
-use Rattle.std.proofs.Common.{◌≡◌, ◌<◌, List, [], ◌∷◌, length, drop, refl, arith, length-drop}
-use Rattle.vs_stim.specs.declared.input.Column.{Column}
-use Rattle.vs_stim.specs.Reading.Said.{Malformed}
-use Rattle.vs_stim.specs.Row.{Values, to_come}
+use Rattle.std.proofs.Common.{◌≡◌, length, ◌∙◌, subst, arith}
+use Rattle.vs_stim.specs.declared.row.Spot.{Spot}
+use Rattle.vs_stim.specs.Row.{AreBehind, entry_in}
+use Rattle.vs_stim.proofs.Endings.{kind_dash, kind_open}
 use Rattle.vs_stim.proofs.row.Row.kind.Goals as goal
 
--- no vector ends before its last field
-still_open : (cs : List Column) (stored : Values) → 0 < length cs → Malformed ≡ to_come cs stored []
-still_open [] stored h = absurd (omega arith)
-still_open (c ∷ cs) stored h = refl
+pub returns-in-Dash : goal.returns-in-Dash
+returns-in-Dash c =
+    let row = c.args.self.now in
+    kind_dash row c.kind_of.result c.is_whole.result (record { kind_says = c.kind_of.ensures (entry_in row); whole_says = c.is_whole.ensures }) c.in-Dash.is
+    (subst (λ (s : Spot). AreBehind s row.wants) c.in-Dash.is c.requires.row.behind)
 
 pub returns-else-self-len : goal.returns-else-self-len
 returns-else-self-len c =
-    rw c.in-Gap.is (still_open (drop c.args.self.now.column c.args.self.now.columns.items) c.args.self.now.values.items (simp length-drop (omega arith)))
+    let row = c.args.self.now in
+    let within = c.requires.row.within in
+    let other = c.if-self-len.false in
+    let many : c.len.result ≡ length row.columns.items = c.len.ensures ∙ row.columns.ok.0 in
+    kind_open row c.in-Gap.is (omega (arith, within, other, many))

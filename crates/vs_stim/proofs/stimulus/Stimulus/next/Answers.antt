@@ -1,6 +1,8 @@
-use Rattle.std.proofs.Common.{rules, ◌≡◌, ◌+◌, ◌++◌, ℕ, Global, Vec, sym, subst}
+use Rattle.std.proofs.Common.{rules, ◌≡◌, ◌+◌, ◌++◌, ℕ, sym, subst}
 use Rattle.vs_desk.specs.Places.{stimulus_place}
-use Rattle.vs_stim.specs.declared.input.Column.{Column}
+use Rattle.vs_stim.specs.Header.{ColumnLists}
+use Rattle.vs_stim.specs.Row.{columns_in, entry_in}
+use Rattle.vs_stim.proofs.Stepped.{same_columns}
 use Rattle.vs_stim.specs.Known.{Known, IsReadTo, IsReadBy}
 use Rattle.vs_stim.specs.Source.{open_at}
 use Rattle.vs_stim.proofs.Passed.{read_more}
@@ -16,10 +18,10 @@ returns-then-found-clause-read g c = λ t is inputs text h.
     let p = open_at new after in
     let was : inside.source.place ≡ stimulus_place inside.lane = search rules in
     let place : new.place ≡ stimulus_place inside.lane = search rules in
-    let known : IsReadTo inputs text inside.count inside.row.columns.items o.at (inside.source.block ++ before.contents.left (stimulus_place inside.lane)) =
+    let known : IsReadTo inputs text inside.count (columns_in inside.row) o.at (inside.source.block ++ before.contents.left (stimulus_place inside.lane)) =
     subst (λ (k : Known). IsReadBy inputs text k before.contents) (sym c.self.view_is) h in
-    let here : IsReadTo inputs text inside.count inside.row.columns.items o.at o.rest =
-    subst (λ (n : ℕ). IsReadTo inputs text inside.count inside.row.columns.items o.at (inside.source.block ++ before.contents.left n)) (sym was) known in
-    subst (λ (n : ℕ). IsReadTo inputs text (inside.count + 1) c.find_vector.new.row.columns.items p.at (new.block ++ after.contents.left n)) place
-    (subst (λ (ds : Vec Column Global). IsReadTo inputs text (inside.count + 1) ds.items p.at p.rest) (sym c.in_ok-found.ensures.form.columns)
-    (read_more inputs text inside.row.columns.items inside.count c.find_vector.new.row.values.items o p (c.in_ok-found.ensures.passes t is) here))
+    let here : IsReadTo inputs text inside.count (columns_in inside.row) o.at o.rest =
+    subst (λ (n : ℕ). IsReadTo inputs text inside.count (columns_in inside.row) o.at (inside.source.block ++ before.contents.left n)) (sym was) known in
+    subst (λ (n : ℕ). IsReadTo inputs text (inside.count + 1) (columns_in c.find_vector.new.row) p.at (new.block ++ after.contents.left n)) place
+    (subst (λ (ds : ColumnLists). IsReadTo inputs text (inside.count + 1) ds p.at p.rest) (sym (same_columns inside.row c.find_vector.new.row c.in_ok-found.ensures.form))
+    (read_more inputs text (columns_in inside.row) inside.count (entry_in c.find_vector.new.row) o p (c.in_ok-found.ensures.passes t is) here))
