@@ -11,7 +11,8 @@ use std::sync::ledger::{Blank, Ledger};
 use std::{fmt, str};
 use vs_desk::{FIRST_WAVEFORM, MOST_LANES, MemoryDesk};
 use vs_plane::Steps;
-use vs_top::{Outcome, run, status};
+use vs_explain::explain_run;
+use vs_top::{Outcome, status};
 
 /// What a run has left.
 #[derive(Drop)]
@@ -88,7 +89,7 @@ fn run_counted<L: Ledger>(
     requires unused { memory.register desk ≡ no_register }
 {
     let mut counter: Steps<L> = Steps::new(blank);
-    let outcome = run(alloc, words, &mut desk, &mut counter);
+    let outcome = explain_run(alloc, words, &mut desk, &mut counter);
     let steps = match &outcome {
         Outcome::Done(summary) => Some(summary.operations),
         _ => None,

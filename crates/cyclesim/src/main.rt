@@ -1,7 +1,7 @@
 //! The program: `cyclesim run --top T --clock C [--half H] [--define NAME[=TEXT]].. DESIGN STIM..` over the system's files, and
-//! `cyclesim bench N [L]` in memory.
+//! `cyclesim bench N [L]` in memory; with `--explain` as the first word it says behind the report line what that means.
 //!
-//! It puts one line on standard output and ends with the status of the outcome. Where its own words or
+//! It puts one line on standard output, and what explains it, and ends with the status of the outcome. Where its own words or
 //! desk find no memory it puts no line and ends with 7.
 #![tactic(auto)]
 
@@ -16,7 +16,8 @@ use std::rt::{Env, Files};
 use std::sync::ledger::{Blank, Ledger};
 use vs_desk::HostDesk;
 use vs_plane::Steps;
-use vs_top::{run, status};
+use vs_explain::explain_run;
+use vs_top::status;
 
 /// The status where the words or the desk find no memory.
 const NO_MEMORY: u8 = 7;
@@ -43,7 +44,7 @@ fn run_words<L: Ledger>(
 {
     let mut steps: Steps<L> = Steps::new(blank);
     match HostDesk::new(rt, alloc) {
-        Ok(mut desk) => status(&run(alloc, words, &mut desk, &mut steps)),
+        Ok(mut desk) => status(&explain_run(alloc, words, &mut desk, &mut steps)),
         Err(AllocError) => NO_MEMORY,
     }
 }

@@ -1,0 +1,4 @@
+pub mod Added
+pub mod Waves
+pub mod Newlines
+pub mod Lines

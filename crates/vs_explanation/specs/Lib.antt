@@ -1,0 +1,6 @@
+pub mod Seen
+pub mod Placed
+pub mod Subjects
+pub mod Located
+pub mod Refused
+pub mod Ended

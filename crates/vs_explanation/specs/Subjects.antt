@@ -1,0 +1,59 @@
+-- The name or the number in the sentence of a refusal.
+use Rattle.std.specs.Prelude.{ℕ, ◌-◌, nat_lt, List, [], ◌++◌, slice_get, Option, codes, decimal, if◌then◌else◌}
+use Rattle.std.specs.Option.{option_map_or}
+use Rattle.vs_desk.specs.Places.{stimulus_place, waveform_place}
+use Rattle.vs_flat.specs.DesignOf.{design_of}
+use Rattle.vs_names.specs.Names.{bit_text, signal_of_number}
+use Rattle.vs_names.specs.Drawn.{Drawn}
+use Rattle.vs_job.specs.declared.job.Job.{Job}
+use Rattle.vs_refusal.specs.declared.names.BareName.TheVariants.{NoTop, NoClock}
+use Rattle.vs_refusal.specs.declared.refusal.Refusal.{Refusal}
+use Rattle.vs_refusal.specs.declared.refusal.Refusal.TheVariants.{Bare, SamePath, TooLarge, Latch, Sensitivity, TwoDrivers}
+use Rattle.vs_excerpt.specs.Escapes.{escaped}
+
+-- the path of the waveform of a stimulus, as it is shown
+abbrev pub wave_path : List ℕ → List ℕ
+wave_path stimulus = escaped stimulus ++ codes ".vcd"
+
+-- a place of a run in words
+abbrev pub role_text : ℕ → List ℕ
+role_text place =
+    if nat_lt place (stimulus_place 0) then codes "the design"
+    else (if nat_lt place (waveform_place 0) then codes "the stimulus of lane " ++ decimal (place - stimulus_place 0) else codes "the waveform of lane " ++ decimal (place - waveform_place 0))
+
+-- the path of a lane's stimulus, as it is shown, and of its waveform; of a lane that the job hasn't they are empty
+abbrev pub stimulus_path : Job → ℕ → List ℕ
+stimulus_path job lane = option_map_or escaped (slice_get job.stimuli lane) []
+
+abbrev pub waveform_path : Job → ℕ → List ℕ
+waveform_path job lane = option_map_or wave_path (slice_get job.stimuli lane) []
+
+-- the path of a place
+abbrev pub path_text : Job → ℕ → List ℕ
+path_text job place =
+    if nat_lt place (stimulus_place 0) then escaped job.design
+    else (if nat_lt place (waveform_place 0) then stimulus_path job (place - stimulus_place 0) else waveform_path job (place - waveform_place 0))
+
+-- a bit by its name, and by its number where there is no design
+abbrev pub bit_subject : Option Drawn → ℕ → List ℕ
+bit_subject drawn bit = option_map_or (λ (d : Drawn). bit_text (design_of d.flat) bit) drawn (codes "bit " ++ decimal bit)
+
+abbrev pub signal_subject : Option Drawn → ℕ → List ℕ
+signal_subject drawn signal = option_map_or (λ (d : Drawn). signal_of_number (design_of d.flat) signal) drawn (codes "signal " ++ decimal signal)
+
+abbrev pub roles_text : ℕ → ℕ → List ℕ
+roles_text first second = role_text first ++ (codes " and to " ++ role_text second)
+
+abbrev pub size_text : ℕ → List ℕ
+size_text size = decimal size ++ codes " plane operations a half-period"
+
+-- nothing where the sentence has neither
+abbrev pub subject : Job → Option Drawn → Refusal → List ℕ
+subject job drawn (Bare NoTop) = escaped job.top
+subject job drawn (Bare NoClock) = escaped job.clock
+subject job drawn (SamePath first second) = roles_text first second
+subject job drawn (TooLarge size) = size_text size
+subject job drawn (Latch process bit at) = bit_subject drawn bit
+subject job drawn (Sensitivity process signal at) = signal_subject drawn signal
+subject job drawn (TwoDrivers bit first second at) = bit_subject drawn bit
+subject job drawn _ = []

@@ -1,0 +1,57 @@
+//! Places of a file.
+
+ghost use Rattle.std.specs.Prelude.{◌≡◌, ◌++◌, OnOk, option_map};
+ghost use Rattle.vs_explanation.specs.Placed as spec;
+
+use std::alloc::AllocError;
+use vs_excerpt::{Page, column, line_number, push_excerpt};
+
+/// Adds a line and a column.
+pub(crate) fn push_line_column(page: &mut Page, line: u64, column: u64) -> Result<(), AllocError>
+    ensures { OnOk result (page.new ≡ page.old ++ spec.line_column line column) }
+{
+    page.text(":")?;
+    page.number(line)?;
+    page.text(":")?;
+    page.number(column)
+}
+
+/// Adds the place of byte `at` of a file, or the path alone where that isn't there.
+pub(crate) fn push_place(
+    page: &mut Page,
+    path: &[u8],
+    file: Option<&[u8]>,
+    at: u32,
+) -> Result<(), AllocError>
+    ensures { OnOk result (page.new ≡ page.old ++ spec.place_text path.now (option_map (λ t. t.now) file.entry) at) }
+{
+    page.escaped(path)?;
+    match file {
+        Some(text) if at as usize <= text.len() => {
+            let at = at as usize;
+            push_line_column(page, line_number(text, at) as u64, column(text, at) as u64)
+        }
+        _ => Ok(()),
+    }
+}
+
+/// Adds the line of byte `at` of a file and a caret below it, where that is there.
+pub(crate) fn push_caret(page: &mut Page, file: Option<&[u8]>, at: u32) -> Result<(), AllocError>
+    ensures { OnOk result (page.new ≡ page.old ++ spec.caret_text (option_map (λ t. t.now) file.entry) at) }
+{
+    match file {
+        Some(text) if at as usize <= text.len() => push_excerpt(page, text, at as usize),
+        _ => Ok(()),
+    }
+}
+
+/// Adds a note where byte `at` isn't there.
+pub(crate) fn push_change(page: &mut Page, file: Option<&[u8]>, at: u32) -> Result<(), AllocError>
+    ensures { OnOk result (page.new ≡ page.old ++ spec.change_text (option_map (λ t. t.now) file.entry) at) }
+{
+    match file {
+        None => page.text("note: the file can't be read again\n"),
+        Some(text) if at as usize <= text.len() => Ok(()),
+        Some(_) => page.text("note: the file has changed: it ends before this place\n"),
+    }
+}

@@ -1,0 +1,66 @@
+//! The places of a run in words, and their paths.
+
+ghost use Rattle.std.specs.Prelude.{◌≡◌, ◌++◌, OnOk, decimal};
+ghost use Rattle.vs_explanation.specs.Subjects as spec;
+
+use std::alloc::AllocError;
+use vs_desk::{FIRST_STIMULUS, FIRST_WAVEFORM};
+use vs_excerpt::Page;
+use vs_job::Job;
+
+/// Adds a file of a lane in words.
+fn push_of_lane(page: &mut Page, what: &str, lane: u32) -> Result<(), AllocError>
+    ensures { OnOk result (page.new ≡ page.old ++ (what.now ++ decimal lane)) }
+{
+    page.text(what)?;
+    page.number(u64::from(lane))
+}
+
+/// Adds a place of a run in words.
+pub(crate) fn push_role(page: &mut Page, place: u32) -> Result<(), AllocError>
+    ensures { OnOk result (page.new ≡ page.old ++ spec.role_text place) }
+{
+    if place < FIRST_STIMULUS {
+        page.text("the design")
+    } else if place < FIRST_WAVEFORM {
+        push_of_lane(page, "the stimulus of lane ", place - FIRST_STIMULUS)
+    } else {
+        push_of_lane(page, "the waveform of lane ", place - FIRST_WAVEFORM)
+    }
+}
+
+/// Adds the path of a lane's stimulus, or nothing where the job has no such lane.
+fn push_stimulus(page: &mut Page, job: &Job, lane: usize) -> Result<(), AllocError>
+    ensures { OnOk result (page.new ≡ page.old ++ spec.stimulus_path job.now lane) }
+{
+    if lane >= job.stimuli.len() {
+        return Ok(());
+    }
+    page.escaped(job.stimuli.get(lane).as_bytes())
+}
+
+/// Adds the path of a lane's waveform, or nothing where the job has no such lane.
+fn push_waveform(page: &mut Page, job: &Job, lane: usize) -> Result<(), AllocError>
+    ensures { OnOk result (page.new ≡ page.old ++ spec.waveform_path job.now lane) }
+{
+    if lane >= job.stimuli.len() {
+        return Ok(());
+    }
+    page.escaped(job.stimuli.get(lane).as_bytes())?;
+    page.text(".vcd")
+}
+
+/// Adds the path of a place.
+pub(crate) fn push_path(page: &mut Page, job: &Job, place: u64) -> Result<(), AllocError>
+    ensures { OnOk result (page.new ≡ page.old ++ spec.path_text job.now place) }
+{
+    let first_stimulus = u64::from(FIRST_STIMULUS);
+    let first_waveform = u64::from(FIRST_WAVEFORM);
+    if place < first_stimulus {
+        return page.escaped(job.design.as_bytes());
+    }
+    if place < first_waveform {
+        return push_stimulus(page, job, (place - first_stimulus) as usize);
+    }
+    push_waveform(page, job, (place - first_waveform) as usize)
+}

@@ -1,0 +1,14 @@
+//! What was seen again of a job's files.
+
+use vs_names::Drawing;
+
+/// What was seen again of the file that an answer is about.
+#[derive(Drop)]
+pub struct Seen<'a> {
+    /// The bytes of the file, without the lines of macros that stand before a design, or None where it couldn't be read.
+    pub file: Option<&'a [u8]>,
+    /// How many bytes the lines of macros before the file have.
+    pub head: u32,
+    /// The design that these lines and the file elaborate to, or None where they don't.
+    pub drawing: Option<&'a Drawing>,
+}

@@ -1,0 +1,6 @@
+//! What refusals say to a person.
+#![tactic(auto)]
+
+mod hints;
+
+pub use hints::{closing, opening, remedy};

@@ -1,0 +1,12 @@
+-- Texts added to a page one behind the other.
+use Rattle.std.proofs.Common.{◌≡◌, ℕ, List, ◌++◌, Result, Ok, Err, OnOk, append_assoc, ap, ◌∙◌}
+
+-- the first part was added, and then the second was tried
+pub then_ok : {V E : Type 0} (result : Result V E) (old now new first second : List ℕ) → now ≡ old ++ first → OnOk result (new ≡ now ++ second) → OnOk result (new ≡ old ++ (first ++ second))
+then_ok (Ok v) old now new first second h k = k ∙ ap (λ (xs : List ℕ). xs ++ second) h ∙ append_assoc old first second
+then_ok (Err e) old now new first second h k = tt
+
+-- the same text by another name
+pub as_ok : {V E : Type 0} (result : Result V E) (old new first second : List ℕ) → first ≡ second → OnOk result (new ≡ old ++ first) → OnOk result (new ≡ old ++ second)
+as_ok (Ok v) old new first second h k = k ∙ ap (λ (xs : List ℕ). old ++ xs) h
+as_ok (Err e) old new first second h k = tt

@@ -1,0 +1,15 @@
+-- A design and the tokens of its text.
+use Rattle.std.specs.Prelude.{ℕ, List, Option, option_map, option_and_then, slice_get}
+use Rattle.vs_lexer.specs.declared.token.Token.{Token}
+use Rattle.vs_design.specs.Designs.{Process, process_place}
+use Rattle.vs_flat.specs.Arena.{Arena}
+use Rattle.vs_flat.specs.DesignOf.{design_of}
+
+-- the tokens as which a text is read, and the design that it elaborates to, whose places are numbers of tokens
+pub record Drawn : Type 0 where
+  pub tokens : List Token
+  pub flat : Arena
+
+-- the byte of the text at which a reader finds the token that begins a process; none where there is no such process or token
+abbrev pub process_byte : Drawn → ℕ → Option ℕ
+process_byte d p = option_and_then (λ (q : Process). option_map (λ (t : Token). t.at) (slice_get d.tokens (process_place q))) (slice_get (design_of d.flat).processes p)

@@ -1,0 +1,64 @@
+//! A design and the tokens of its text.
+
+ghost use Rattle.std.specs.Prelude.{◌≡◌, ◌++◌, OnOk};
+ghost use Rattle.vs_flat.specs.DesignOf.{design_of};
+ghost use Rattle.vs_names.specs.Names as spec;
+ghost use Rattle.vs_names.specs.Drawn.{process_byte};
+
+use crate::bits::{push_bit, push_signal};
+use std::alloc::AllocError;
+use std::marker::Model;
+use vs_excerpt::Page;
+use vs_flat::{Flat, trees_law};
+use vs_lexer::Token;
+
+/// The design that a text elaborates to, and the tokens as which the text is read: they say where a part of the design stands in it.
+#[derive(Drop)]
+pub struct Drawing {
+    tokens: Vec<Token>,
+    flat: Flat,
+}
+
+impl Model for Drawing {
+    ghost use Rattle.vs_names.specs.Drawn.{Drawn};
+
+    ghost Value = { Drawn };
+
+    ghost view = { λ d. record { tokens = d.tokens.items; flat = d.flat } };
+}
+
+impl Drawing {
+    /// These tokens and this design. It takes no memory.
+    pub fn of(tokens: Vec<Token>, flat: Flat) -> Drawing
+        ensures { result ≡ record { tokens = tokens.items; flat = flat } }
+    {
+        Drawing { tokens, flat }
+    }
+
+    /// The byte of the text at which a reader finds a process: where it begins, or, where a macro gave it, where the outermost use begins that it came from.
+    /// None where the design has no such process.
+    pub fn process_byte(&self, process: u32) -> Option<u32>
+        ensures { result ≡ process_byte self.now process }
+    {
+        trees_law();
+        if process >= self.flat.process_count() {
+            return None;
+        }
+        let at = self.flat.process(process).at;
+        Some(self.tokens.get(at as usize)?.at)
+    }
+
+    /// Adds the name of a bit to a page, as `net top.u.q[3]`, or its number where no signal has it. The only error is that memory ran out.
+    pub fn push_bit(&self, page: &mut Page, bit: u32) -> Result<(), AllocError>
+        ensures { OnOk result (page.new ≡ page.old ++ spec.bit_text (design_of self.now.flat) bit) }
+    {
+        push_bit(page, &self.flat, bit)
+    }
+
+    /// Adds the name of a signal to a page, as `net top.u.q`, or its number where there is no such signal. The only error is that memory ran out.
+    pub fn push_signal(&self, page: &mut Page, signal: u32) -> Result<(), AllocError>
+        ensures { OnOk result (page.new ≡ page.old ++ spec.signal_of_number (design_of self.now.flat) signal) }
+    {
+        push_signal(page, &self.flat, signal)
+    }
+}
