@@ -104,7 +104,7 @@ process_remedy TimeZero = codes "let it read an input, or write an assign in its
 process_remedy ResetForm = codes "write if (r) for posedge r and if (!r) or if (~r) for negedge r, the reset's values as constants in the first branch, and all else in else"
 
 abbrev pub lane_sentence : LaneName → List ℕ
-lane_sentence BadHeader = codes "the header isn't inputs and then each data input once"
+lane_sentence BadHeader = codes "the header isn't inputs and then each data input once, or has behind -> no name, one that is no output of the top, or one twice"
 lane_sentence FirstUnknown = codes "the first vector has an x or z digit"
 lane_sentence NoVector = codes "there is a header and no vector"
 lane_sentence TooManyVectors = codes "the stimulus has more than 16,777,216 vectors"
@@ -118,7 +118,7 @@ lane_remedy TooManyVectors = codes "split the stimulus"
 lane_remedy StimulusTooLong = codes "split the stimulus"
 
 abbrev pub line_sentence : LineName → List ℕ
-line_sentence BadVector = codes "the line isn't one field of digits for each input"
+line_sentence BadVector = codes "the line isn't one field of digits for each input, and behind -> one for each output that the header names"
 line_sentence LineTooLong = codes "the line has more than 65,536 bytes"
 line_sentence UnknownReset = codes "a vector behind the first has an x or z digit of a reset input"
 
