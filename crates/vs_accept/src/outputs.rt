@@ -1,12 +1,13 @@
 //! The outputs of a text's top.
 
-ghost use Rattle.std.specs.Prelude.{◌≡◌, ◌++◌, IfOk, OnOk};
+ghost use Rattle.std.specs.Prelude.{◌≡◌, ◌++◌, IfOk, OnOk, map, flat_map, option_map};
 ghost use Rattle.vs_design.specs.Clocks.{same_name};
 ghost use Rattle.vs_ast.specs.Views as view;
-ghost use Rattle.vs_accept.specs.Outputs.{is_output, outputs_in, header_outputs, module_outputs, top_outputs};
+ghost use Rattle.vs_elaborated.specs.Ports.{find_in};
+ghost use Rattle.vs_accept.specs.Outputs.{is_output, names_in, outputs_in, item_outputs, header_outputs, module_outputs, top_outputs};
 
 use std::alloc::{AllocError, Global};
-use vs_ast::{Header, Item, Module, SignalKind, Signals, Source};
+use vs_ast::{Declarator, Header, Item, Module, SignalKind, Signals, Source};
 use vs_base::Text;
 
 /// Whether it declares an output port.
@@ -26,48 +27,100 @@ fn are_same(a: &[u8], b: &[u8]) -> bool
     a == b
 }
 
-/// Adds the names of a declaration, if it is one of outputs.
-fn add_outputs(
+/// Adds the names of declarators.
+fn push_names(
     alloc: Global,
     names: &mut Vec<Text>,
-    signals: &Signals,
+    declarators: &[Declarator],
 ) -> Result<(), AllocError>
-    ensures { OnOk result (names.new.items ≡ names.old.items ++ outputs_in (view.signals signals.now)) }
+    ensures { OnOk result (names.new.items ≡ names.old.items ++ names_in (map view.declarator declarators.now)) }
 {
-    if !is_output(signals.kind) {
-        return Ok(());
-    }
-    for declarator in &signals.names {
+    for declarator in declarators {
         let bytes = declarator.name.text.as_slice().to_vec(alloc)?;
         names.push(Text::of(bytes))?;
     }
     Ok(())
 }
 
-/// The names that a header declares as outputs.
-fn header_outputs(alloc: Global, header: &Header) -> Result<Vec<Text>, AllocError>
-    ensures { IfOk result (λ names. names.items ≡ header_outputs (view.header header.now)) }
+/// Adds the names of a declaration, if it is one of outputs.
+fn push_outputs(
+    alloc: Global,
+    names: &mut Vec<Text>,
+    signals: &Signals,
+) -> Result<(), AllocError>
+    ensures { OnOk result (names.new.items ≡ names.old.items ++ outputs_in (view.signals signals.now)) }
 {
-    let mut names = Vec::new(alloc);
-    if let Header::Declared(ports) = header {
-        for signals in ports {
-            add_outputs(alloc, &mut names, signals)?;
-        }
+    if is_output(signals.kind) {
+        push_names(alloc, names, &signals.names)
+    } else {
+        Ok(())
     }
-    Ok(names)
+}
+
+/// Adds the outputs that a header declares.
+fn push_declared(
+    alloc: Global,
+    names: &mut Vec<Text>,
+    declarations: &[Signals],
+) -> Result<(), AllocError>
+    ensures { OnOk result (names.new.items ≡ names.old.items ++ flat_map outputs_in (map view.signals declarations.now)) }
+{
+    for signals in declarations {
+        push_outputs(alloc, names, signals)?;
+    }
+    Ok(())
+}
+
+/// Adds the outputs of a header.
+fn push_header(alloc: Global, names: &mut Vec<Text>, header: &Header) -> Result<(), AllocError>
+    ensures { OnOk result (names.new.items ≡ names.old.items ++ header_outputs (view.header header.now)) }
+{
+    match header {
+        Header::Declared(declarations) => push_declared(alloc, names, declarations),
+        Header::NoPorts | Header::Plain(_) => Ok(()),
+    }
+}
+
+/// Adds the outputs that an item declares.
+fn push_item(alloc: Global, names: &mut Vec<Text>, item: &Item) -> Result<(), AllocError>
+    ensures { OnOk result (names.new.items ≡ names.old.items ++ item_outputs (view.item item.now)) }
+{
+    match item {
+        Item::Signals(signals) => push_outputs(alloc, names, signals),
+        _ => Ok(()),
+    }
+}
+
+/// Adds the outputs that items declare.
+fn push_body(alloc: Global, names: &mut Vec<Text>, items: &[Item]) -> Result<(), AllocError>
+    ensures { OnOk result (names.new.items ≡ names.old.items ++ flat_map item_outputs (map view.item items.now)) }
+{
+    for item in items {
+        push_item(alloc, names, item)?;
+    }
+    Ok(())
 }
 
 /// The names of a module's outputs.
-fn module_outputs(alloc: Global, top: &Module) -> Result<Vec<Text>, AllocError>
-    ensures { IfOk result (λ names. names.items ≡ module_outputs (view.module_tree top.now)) }
+fn module_outputs(alloc: Global, of: &Module) -> Result<Vec<Text>, AllocError>
+    ensures { IfOk result (λ names. names.items ≡ module_outputs (view.module_tree of.now)) }
 {
-    let mut names = header_outputs(alloc, &top.header)?;
-    for item in &top.items {
-        if let Item::Signals(signals) = item {
-            add_outputs(alloc, &mut names, signals)?;
+    let mut names = Vec::new(alloc);
+    push_header(alloc, &mut names, &of.header)?;
+    push_body(alloc, &mut names, &of.items)?;
+    Ok(names)
+}
+
+/// The first module of this name, if there is one.
+fn find_module<'a>(modules: &'a [Module], name: &[u8]) -> Option<&'a Module>
+    ensures { option_map (λ m. view.module_tree m.now) result ≡ find_in (map view.module_tree modules.now) name.now }
+{
+    for candidate in modules {
+        if are_same(candidate.name.text.as_slice(), name) {
+            return Some(candidate);
         }
     }
-    Ok(names)
+    None
 }
 
 /// The names of the outputs of the module that is the top; none where there is no such module.
@@ -78,10 +131,8 @@ pub(crate) fn top_outputs(
 ) -> Result<Vec<Text>, AllocError>
     ensures { IfOk result (λ names. names.items ≡ top_outputs (view.source source.now) top.now) }
 {
-    for candidate in &source.modules {
-        if are_same(candidate.name.text.as_slice(), top) {
-            return module_outputs(alloc, candidate);
-        }
+    match find_module(&source.modules, top) {
+        Some(of) => module_outputs(alloc, of),
+        None => Ok(Vec::new(alloc)),
     }
-    Ok(Vec::new(alloc))
 }
