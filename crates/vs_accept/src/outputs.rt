@@ -43,11 +43,7 @@ fn push_names(
 }
 
 /// Adds the names of a declaration, if it is one of outputs.
-fn push_outputs(
-    alloc: Global,
-    names: &mut Vec<Text>,
-    signals: &Signals,
-) -> Result<(), AllocError>
+fn push_outputs(alloc: Global, names: &mut Vec<Text>, signals: &Signals) -> Result<(), AllocError>
     ensures { OnOk result (names.new.items ≡ names.old.items ++ outputs_in (view.signals signals.now)) }
 {
     if is_output(signals.kind) {

@@ -1,6 +1,7 @@
--- The data inputs, signal by signal.
+-- The data inputs and the outputs, signal by signal.
 use Rattle.std.proofs.Common.{◌≡◌, ℕ, zero, suc, Bool, true, false, List, [], ◌∷◌, ◌++◌, ◌&&◌, ◌||◌, not, ◌==◌, if◌then◌else◌, ◌+◌, ◌-◌, ◌≤◌, nat_lt, nat_le, length, map, drop, slice_get, Option, Some, None, arith, append-nil, append_assoc, drop_of_length-le, sym, ap, ◌∙◌, refl, subst, All}
-use Rattle.std.specs.Prelude.{is_some}
+use Rattle.std.specs.Prelude.{is_some, nat_eq}
+use Rattle.std.specs.Cmp.Lexicographic.{pointwise}
 use Rattle.std.specs.List.{filter, list_all, list_any}
 use Rattle.std.proofs.lemmas.Bool.{and_parts}
 use Rattle.std.proofs.lemmas.List.Elements.{All-cons, All-nil}
@@ -154,6 +155,13 @@ all resets clock a n count so_far is past so_far_is =
     sym (append-nil so_far) ∙ ap (λ r. so_far ++ r) (sym (ap (inputs_among resets clock) (drop_of_length-le (arena_signals a) end))) ∙ so_far_is
 
 -- ---- outputs
+
+-- equality of names is that of their bytes
+pub same_is : (xs ys : List ℕ) → pointwise nat_eq xs ys ≡ same_name xs ys
+same_is [] [] = refl
+same_is [] (y ∷ ys) = refl
+same_is (x ∷ xs) [] = refl
+same_is (x ∷ xs) (y ∷ ys) = ap {B = Bool} (λ t. (x == y) && t) (same_is xs ys)
 
 plain_output : (d : Design) (names : List (List ℕ)) (s : Signal) → is_declared d s ≡ true → is_output names s ≡ true → HasFew s
 plain_output d names s declared output =

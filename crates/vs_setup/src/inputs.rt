@@ -63,11 +63,7 @@ fn contains(bits: &[u32], bit: u32) -> bool
 }
 
 /// The outputs of a design, which have these names, in order of declaration.
-pub(crate) fn outputs(
-    alloc: Global,
-    flat: &Flat,
-    names: &[Text],
-) -> Result<Vec<Output>, AllocError>
+pub(crate) fn outputs(alloc: Global, flat: &Flat, names: &[Text]) -> Result<Vec<Output>, AllocError>
     requires { IsLawful flat.now }
     ensures { IfOk result (λ outputs. outputs.items ≡ outputs_among names.now (design_of flat.now).signals) }
 {
@@ -104,5 +100,12 @@ fn output_of(alloc: Global, signal: &Signal) -> Result<Output, AllocError>
 fn is_among(names: &[Text], name: &[u8]) -> bool
     ensures { result ≡ list_any (same_name name.now) names.now }
 {
-    names.iter().any(|other| name == other.as_slice())
+    names.iter().any(|other| are_same(name, other.as_slice()))
+}
+
+/// Whether two texts are the same.
+fn are_same(a: &[u8], b: &[u8]) -> bool
+    ensures { result ≡ same_name a.now b.now }
+{
+    a == b
 }
