@@ -63,7 +63,11 @@ fn contains(bits: &[u32], bit: u32) -> bool
 }
 
 /// The outputs of a design, which have these names, in order of declaration.
-pub(crate) fn outputs(alloc: Global, flat: &Flat, names: &[Text]) -> Result<Vec<Output>, AllocError>
+pub(crate) fn outputs_of(
+    alloc: Global,
+    flat: &Flat,
+    names: &[Text],
+) -> Result<Vec<Output>, AllocError>
     requires { IsLawful flat.now }
     ensures { IfOk result (λ outputs. outputs.items ≡ outputs_among names.now (design_of flat.now).signals) }
 {

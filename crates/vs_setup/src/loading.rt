@@ -5,7 +5,7 @@ ghost use Rattle.vs_accept.specs.Accepted.{most_bytes};
 ghost use Rattle.vs_accept.specs.Answers.{IsRefusalOf};
 ghost use Rattle.vs_setup.specs.Loaded.{IsLoaded};
 
-use crate::inputs::{data_inputs, outputs};
+use crate::inputs::{data_inputs, outputs_of};
 use std::alloc::Global;
 use vs_accept::{AcceptError, Accepted, accept, answer_law};
 use vs_compile::compile;
@@ -51,7 +51,7 @@ pub fn load<W: Lanes>(
     )?;
     let engine = Engine::new(alloc, compiled)?;
     let inputs = data_inputs(alloc, typed.flat(), clocks.bit(), clocks.reset_inputs())?;
-    let outputs = outputs(alloc, typed.flat(), accepted.outputs())?;
+    let outputs = outputs_of(alloc, typed.flat(), accepted.outputs())?;
     Ok(Loaded {
         accepted,
         engine,

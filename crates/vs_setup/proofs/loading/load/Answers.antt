@@ -20,8 +20,8 @@ compile-requires-clause-order g c = rw (c.typed-typed.ensures, c.order.ensures) 
 pub data_inputs-requires : goal.data_inputs-requires
 data_inputs-requires g c = rw c.flat.ensures.same c.flat.ensures.lawful
 
-pub outputs-requires : goal.outputs-requires
-outputs-requires g c = rw c.flat-2.ensures.same c.flat-2.ensures.lawful
+pub outputs_of-requires : goal.outputs_of-requires
+outputs_of-requires g c = rw c.flat-2.ensures.same c.flat-2.ensures.lawful
 
 pub returns-clause-loaded : goal.returns-clause-loaded
 returns-clause-loaded g c =

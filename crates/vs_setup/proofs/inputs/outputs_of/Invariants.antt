@@ -1,7 +1,7 @@
 use Rattle.std.proofs.Common.{◌≡◌, ◌++◌, drop}
 use Rattle.vs_flat.specs.DesignOf.{arena_signals}
 use Rattle.vs_rounds.specs.Inputs.{outputs_among}
-use Rattle.vs_setup.proofs.inputs.outputs.Given as goal
+use Rattle.vs_setup.proofs.inputs.outputs_of.Given as goal
 
 -- the outputs so far, and those among the rest of the signals
 abbrev pub invariant-loop-n : goal.invariant-loop-n

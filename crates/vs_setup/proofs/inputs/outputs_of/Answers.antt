@@ -3,8 +3,8 @@ use Rattle.vs_stim.specs.declared.input.Output.{Output}
 use Rattle.vs_flat.specs.Trees.{signal_of}
 use Rattle.vs_rounds.specs.Inputs.{output_of}
 use Rattle.vs_setup.proofs.Signals.{few_output_at, more_outputs, all_outputs}
-use Rattle.vs_setup.proofs.inputs.outputs.Goals as goal
-use Rattle.vs_setup.proofs.inputs.outputs.Goals.{then-is_output+in_ok-output_of+in_ok-push, else-is_output}
+use Rattle.vs_setup.proofs.inputs.outputs_of.Goals as goal
+use Rattle.vs_setup.proofs.inputs.outputs_of.Goals.{then-is_output+in_ok-output_of+in_ok-push, else-is_output}
 
 pub output_of-requires : goal.output_of-requires
 output_of-requires c =
