@@ -1,5 +1,5 @@
 -- The outputs of a text's top, by their names (IEEE 1364-2005, 12.3.3 and 12.3.4).
-use Rattle.std.specs.Prelude.{◌≡◌, ℕ, Bool, true, false, List, [], ◌++◌, map, flat_map, if◌then◌else◌, Option, Some, None}
+use Rattle.std.specs.Prelude.{◌≡◌, ℕ, Bool, true, false, List, [], ◌++◌, map, flat_map, if◌then◌else◌, Some, None}
 use Rattle.vs_grammar.specs.Trees as tree
 use Rattle.vs_grammar.specs.Trees.{items_list}
 use Rattle.vs_elaborated.specs.Ports.{find_module}
