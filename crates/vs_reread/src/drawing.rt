@@ -43,14 +43,17 @@ fn tokens_of(alloc: Global, text: &[u8]) -> Result<Option<Vec<Token>>, AllocErro
 /// The tree that the tokens of a text spell, if they spell one.
 fn tree_of(alloc: Global, text: &[u8], tokens: &[Token]) -> Result<Option<Source>, AllocError>
     requires { ReadsAs text.now tokens.now }
-    ensures { IfOk result (λ o. MatchOption o ((s : tree.Source) → SpelledBy text.now tokens.now s → ⊥) (λ s. SpelledBy text.now tokens.now (view.source s))) }
+    ensures { IfOk result (λ o. MatchOption o ((s : tree.Source) → SpelledBy text.now tokens.now s → ⊥)
+        (λ v. SpelledBy text.now tokens.now (view.source v) × ((s : tree.Source) → SpelledBy text.now tokens.now s → view.source v ≡ s))) }
 {
     tokens_law();
     kept_law();
     match parse(alloc, text, tokens) {
         Ok(source) => Ok(Some(source)),
-        Err(ParseError::Memory) => Err(AllocError),
-        Err(_) => Ok(None),
+        Err(error) => match error {
+            ParseError::Memory => Err(AllocError),
+            _ => Ok(None),
+        },
     }
 }
 
