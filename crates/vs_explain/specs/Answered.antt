@@ -17,7 +17,7 @@ use Rattle.vs_top.specs.Causes.{IsDoneOrMemory, IsFaultless, IsLawful, ShowsCaus
 use Rattle.vs_top.specs.Refused.{IsRefusedJob, IsRefusedSo}
 use Rattle.vs_top.specs.Reports.{IsSimulated, IsReported}
 use Rattle.vs_top.specs.Headline.{IsWritten}
-use Rattle.vs_explainer.specs.Told.{ExplainsRefusal, Says, ending_text, usage_text}
+use Rattle.vs_explainer.specs.Told.{ExplainsRefusal, IsPut, Says, ending_text, usage_text}
 
 -- All clauses of `run` of vs_top: these words were run from the one desk to the other, with so many steps before and after.
 pub record IsRun {tells : Bool} {D : Type 0} (told : D → Told tells) (words : List Text) (old new : D) (before after : ℕ) (result : Outcome) : Type 0 where
@@ -32,14 +32,14 @@ pub record IsRun {tells : Bool} {D : Type 0} (told : D → Told tells) (words : 
   pub complete : IsTrue tells → (j : Job) → job words ≡ Some j → IsLawful j (told old).contents → IsFaultless (told old) (told new) → IsDoneOrMemory result
 
 -- What is put behind the report of an answer: of a refusal of a job by what is seen again of its file, of words that call for nothing the forms of all words,
--- and of any other answer what it says. Nothing is put where memory runs out, and some first bytes where a call at place 0 fails.
+-- and of any other answer what it says. Nothing is put where memory runs out, but of the forms, and some first bytes where a call at place 0 fails.
 abbrev pub Explains : {tells : Bool} → Option Job → Outcome → Told tells → Told tells → Type 0
 Explains (Some j) (Refused r) old new = ExplainsRefusal j r old new
-Explains None (Refused r) old new = Says old old new usage_text
-Explains j (Done s) old new = Says old old new (ending_text j (ending.Done s.lanes s.vectors s.settlings s.size))
-Explains j (ReadFault place) old new = Says old old new (ending_text j (ending.ReadFault place))
-Explains j (WriteFault place) old new = Says old old new (ending_text j (ending.WriteFault place))
-Explains j Memory old new = Says old old new (ending_text j ending.Memory)
+Explains None (Refused r) old new = IsPut old new usage_text
+Explains j (Done s) old new = Says old new (ending_text j (ending.Done s.lanes s.vectors s.settlings s.size))
+Explains j (ReadFault place) old new = Says old new (ending_text j (ending.ReadFault place))
+Explains j (WriteFault place) old new = Says old new (ending_text j (ending.WriteFault place))
+Explains j Memory old new = Says old new (ending_text j ending.Memory)
 
 -- The same by the words; where there is no memory for their job nothing is put.
 pub data ExplainsWords {tells : Bool} (words : List Text) (o : Outcome) (old new : Told tells) : Type 0 where

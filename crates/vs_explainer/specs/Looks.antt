@@ -8,32 +8,33 @@ use Rattle.vs_names.specs.Drawn.{Drawn}
 use Rattle.vs_explanation.specs.Seen.{Seen}
 use Rattle.vs_explanation.specs.Located.{has_numbers}
 use Rattle.vs_explanation.specs.Refused.{at_of}
-use Rattle.vs_reread.specs.Again.{most_bytes, OnlyRead, IsFaultless}
+use Rattle.vs_reread.specs.Again.{design_again, stimulus_again, most_bytes, OnlyRead, IsFaultless}
 use Rattle.vs_reread.specs.Drawings.{IsDrawing}
 
--- the path of a file, the lines of macros before it, and whether its design is drawn
+-- the place at which a file is read again, its path, the lines of macros before it, and whether its design is drawn
 pub record Look : Type 0 where
+  pub place : ℕ
   pub path : List ℕ
   pub head : List ℕ
   pub draws : Bool
 
 abbrev pub stimulus_look : List ℕ → Look
-stimulus_look path = record { path = path; head = []; draws = false }
+stimulus_look path = record { place = stimulus_again; path = path; head = []; draws = false }
 
-abbrev pub design_look : Job → Refusal → Look
-design_look job r = record { path = job.design; head = job.head; draws = has_numbers r }
+abbrev pub design_look : Job → (draws : Bool) → Look
+design_look job draws = record { place = design_again; path = job.design; head = job.head; draws = draws }
 
 -- Of a refusal with a byte it is the design, which is drawn where the refusal has numbers of the elaborated design; of one with a line it is the lane's
 -- stimulus; and of any other it is none.
 abbrev pub look_for : Job → Refusal → Option Look
 look_for job (Line kind lane row) = option_map stimulus_look (slice_get job.stimuli lane)
-look_for job r = option_map (λ (at : ℕ). design_look job r) (at_of r)
+look_for job r = option_map (λ (at : ℕ). design_look job (has_numbers r)) (at_of r)
 
 -- nothing was seen of a file
 abbrev pub unseen : ℕ → Seen
 unseen head = record { file = None; head = head; drawn = None }
 
--- The file couldn't be read: a call at the place of files that are read again failed.
+-- The file couldn't be read: a call at the place where it is read again failed.
 pub record IsUnread {tells : Bool} (l : Look) (old new : Told tells) (seen : Seen) : Type 0 where
   pub seen_is : seen ≡ unseen (length l.head)
   pub failed : Rose old.register.faults new.register.faults
@@ -52,6 +53,6 @@ abbrev pub SeesOf : {tells : Bool} → List ℕ → Option Look → Told tells �
 SeesOf top None old new seen = (new ≡ old) × (seen ≡ unseen 0)
 SeesOf top (Some l) old new seen = OnlyRead old new × (IsUnread l old new seen ⊎ IsRead top l old new seen)
 
--- What was seen again of the file that a refusal of a job is about; of what the desk tells nothing changed but at the place of files that are read again.
+-- What was seen again of the file that a refusal of a job is about; of what the desk tells nothing changed but at the places of files that are read again.
 abbrev pub IsSeen : {tells : Bool} → Job → Refusal → Told tells → Told tells → Seen → Type 0
 IsSeen job r old new seen = SeesOf job.top (look_for job r) old new seen

@@ -12,18 +12,20 @@ use Rattle.vs_explanation.specs.Ended.{done_text, waves_from, read_fault_text, w
 use Rattle.vs_reread.specs.Again.{OnlyRead}
 use Rattle.vs_explainer.specs.Looks.{IsSeen}
 
--- Want of memory: nothing was put, and nothing else has changed but at the place of files that are read again. Or the text was put at place 0 behind
--- this desk, whole or, where a call there failed, some first bytes of it.
-pub data Says {tells : Bool} (old middle new : Told tells) (text : List ℕ) : Type 0 where
-  silent : OnlyRead old new → Says old middle new text
-  said : (result : Result (Unit {0}) Failed) → PutsAll middle new 0 text result → Says old middle new text
+-- the text was put at place 0, whole or, where a call there failed, some first bytes of it
+abbrev pub IsPut : {tells : Bool} → Told tells → Told tells → List ℕ → Type 0
+IsPut old new text = (result : Result (Unit {0}) Failed) × PutsAll old new 0 text result
 
--- a refusal of a job was explained
-pub record ExplainsRefusal {tells : Bool} (job : Job) (r : Refusal) (old new : Told tells) : Type 0 where
-  pub seen : Seen
-  pub middle : Told tells
-  pub sees : IsSeen job r old middle seen
-  pub says : Says old middle new (refusal_text job seen r)
+-- The text was put, or, for want of memory, nothing was.
+pub data Says {tells : Bool} (old new : Told tells) (text : List ℕ) : Type 0 where
+  silent : new ≡ old → Says old new text
+  said : IsPut old new text → Says old new text
+
+-- A refusal of a job was explained: the text of what was seen again was put behind the desk that saw it. Or, for want of memory, nothing was put, and
+-- nothing else has changed but at the places of files that are read again.
+pub data ExplainsRefusal {tells : Bool} (job : Job) (r : Refusal) (old new : Told tells) : Type 0 where
+  unexplained : OnlyRead old new → ExplainsRefusal job r old new
+  explained : (seen : Seen) (middle : Told tells) → IsSeen job r old middle seen → IsPut middle new (refusal_text job seen r) → ExplainsRefusal job r old new
 
 -- standard output is all that a bench writes
 abbrev pub output_fault : List ℕ

@@ -1,7 +1,7 @@
 //! The explanation of an answer that isn't a refusal of a job.
 
 ghost use Rattle.std.specs.Prelude.{◌≡◌, ◌++◌, IfOk, OnOk, option_map};
-ghost use Rattle.vs_explainer.specs.Told.{Says, ending_text, usage_text};
+ghost use Rattle.vs_explainer.specs.Told.{IsPut, Says, ending_text, usage_text};
 
 use std::alloc::{AllocError, Global};
 use vs_desk::{Desk, put_all};
@@ -57,7 +57,7 @@ fn page_of(alloc: Global, job: Option<&Job>, ending: &Ending) -> Result<Page, Al
 ///
 /// Where memory runs out nothing is put, and where a call at place 0 fails some first bytes are.
 pub fn explain_ending<D: Desk>(alloc: Global, job: Option<&Job>, ending: &Ending, desk: &mut D)
-    ensures { Says (D.told desk.old) (D.told desk.old) (D.told desk.new) (ending_text (option_map (λ j. j.now) job.entry) ending.now) }
+    ensures { Says (D.told desk.old) (D.told desk.new) (ending_text (option_map (λ j. j.now) job.entry) ending.now) }
 {
     if let Ok(page) = page_of(alloc, job, ending) {
         let _ = put_all(desk, 0, page.as_slice());
@@ -70,7 +70,7 @@ const FORMS: &str =
 
 /// Puts the forms of all words at place 0 of a desk. It takes no memory. Where a call fails some first bytes are put.
 pub fn explain_usage<D: Desk>(desk: &mut D)
-    ensures { Says (D.told desk.old) (D.told desk.old) (D.told desk.new) usage_text }
+    ensures { IsPut (D.told desk.old) (D.told desk.new) usage_text }
 {
     let _ = put_all(desk, 0, FORMS.as_bytes());
 }

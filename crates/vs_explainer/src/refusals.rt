@@ -1,7 +1,7 @@
 //! The explanation of a refusal of a job.
 
-ghost use Rattle.std.specs.Prelude.{◌≡◌, ◌≤◌, Option, None, Some, IsNone, IfOk, MatchBool, drop, length};
-ghost use Rattle.vs_reread.specs.Again.{again_place, most_bytes, OnlyRead};
+ghost use Rattle.std.specs.Prelude.{◌≡◌, ◌≤◌, Option, None, Some, IfOk, MatchBool, drop, length};
+ghost use Rattle.vs_reread.specs.Again.{IsAgain, AreUnread, most_bytes, OnlyRead};
 ghost use Rattle.vs_reread.specs.Drawings.{IsDrawing};
 ghost use Rattle.vs_names.specs.Drawn.{Drawn};
 ghost use Rattle.vs_explanation.specs.Seen.{Seen as Saw};
@@ -64,7 +64,8 @@ fn looked_page<D: Desk>(
     look: &Look<'_>,
     desk: &mut D,
 ) -> Result<Page, AllocError>
-    requires free { IsNone ((D.told desk.old).register.attached again_place) }
+    requires again { IsAgain look.now.place }
+    requires unread { AreUnread (D.told desk.old).register }
     requires head { length look.now.head.now ≤ most_bytes }
     ensures only { OnlyRead (D.told desk.old) (D.told desk.new) }
     ensures page { IfOk result (λ page. (seen : Saw) × SeesOf job.now.top (Some (look_of look.now)) (D.told desk.old) (D.told desk.new) seen × (page ≡ refusal_text job.now seen refusal.now)) }
@@ -82,7 +83,7 @@ fn page_of<D: Desk>(
     refusal: &Refusal,
     desk: &mut D,
 ) -> Result<Page, AllocError>
-    requires free { IsNone ((D.told desk.old).register.attached again_place) }
+    requires unread { AreUnread (D.told desk.old).register }
     requires head { length job.now.head ≤ most_bytes }
     ensures only { OnlyRead (D.told desk.old) (D.told desk.new) }
     ensures page { IfOk result (λ page. (seen : Saw) × IsSeen job.now refusal.now (D.told desk.old) (D.told desk.new) seen × (page ≡ refusal_text job.now seen refusal.now)) }
@@ -94,11 +95,11 @@ fn page_of<D: Desk>(
 }
 
 /// Puts at place 0 of a desk what is said of a refusal of a job: where it is told, its sentence, the line with a caret, further places, names for numbers, and a
-/// remedy. For that the file is read again, at place 2.
+/// remedy. For that the file is read again, a design at place 2 and a stimulus at place 3.
 ///
 /// Where memory runs out nothing is put, and where a call at place 0 fails some first bytes are.
 pub fn explain_refusal<D: Desk>(alloc: Global, job: &Job, refusal: &Refusal, desk: &mut D)
-    requires free { IsNone ((D.told desk.old).register.attached again_place) }
+    requires unread { AreUnread (D.told desk.old).register }
     requires head { length job.now.head ≤ most_bytes }
     ensures { ExplainsRefusal job.now refusal.now (D.told desk.old) (D.told desk.new) }
 {
