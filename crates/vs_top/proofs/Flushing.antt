@@ -15,7 +15,7 @@ use Rattle.vs_top.specs.declared.outcome.Summary.{Summary}
 use Rattle.vs_top.specs.declared.outcome.Outcome.{Outcome}
 use Rattle.vs_top.specs.declared.outcome.Outcome.TheVariants.{Done, WriteFault}
 use Rattle.vs_top.specs.Headline.{IsWritten}
-use Rattle.vs_top.specs.Ended.{IsEnd, IsRoundEnd, IsWholeEnd, IsUnflushedEnd, OnlyWavesPut, with_waves, wave_paths}
+use Rattle.vs_top.specs.Ended.{IsEnd, IsRoundEnd, IsWholeEnd, OnlyWavesPut, with_waves, wave_paths}
 use Rattle.vs_top.specs.Ended.IsEnd.{stopped, whole, unflushed}
 use Rattle.vs_top.proofs.Places.{with_places-at}
 

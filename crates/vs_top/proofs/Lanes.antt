@@ -6,8 +6,7 @@ use Rattle.vs_design.specs.Networks.{network_of}
 use Rattle.vs_design.specs.Accepted.{IsAcceptedDesign}
 use Rattle.vs_desk.specs.Desk.{Told}
 use Rattle.vs_accept.specs.Accepted.{IsAcceptedText, IsRead, most_bytes}
-use Rattle.vs_stim.specs.declared.wanted.Digit.{Digit}
-use Rattle.vs_stim.specs.Header.{PortLists, ArePorts, IsInput}
+use Rattle.vs_stim.specs.Header.{PortLists, IsInput}
 use Rattle.vs_stim.specs.Reading.{reading, stimulus}
 use Rattle.vs_stim.specs.Laws.{WholeHasVector}
 use Rattle.vs_vcd.specs.Texts.{vcd}
