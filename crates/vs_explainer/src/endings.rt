@@ -1,7 +1,7 @@
 //! The explanation of an answer that isn't a refusal of a job.
 
 ghost use Rattle.std.specs.Prelude.{◌≡◌, ◌++◌, IfOk, OnOk, option_map};
-ghost use Rattle.vs_explainer.specs.Told.{IsPut, Says, ending_text, usage_text};
+ghost use Rattle.vs_explainer.specs.Told.{IsPut, Says, ending_text, output_fault, usage_text};
 
 use std::alloc::{AllocError, Global};
 use vs_desk::{Desk, put_all};
@@ -9,6 +9,13 @@ use vs_excerpt::Page;
 use vs_explanation::{push_done, push_memory, push_read_fault, push_waves, push_write_fault};
 use vs_job::Job;
 use vs_refusal::Ending;
+
+/// Adds that standard output can't be written.
+fn push_output_fault(page: &mut Page) -> Result<(), AllocError>
+    ensures { OnOk result (page.new ≡ page.old ++ output_fault) }
+{
+    page.text("error: WriteFault: standard output can't be written\n")
+}
 
 /// What is said where a file can't be read or written, or there is no memory.
 fn push_ending(page: &mut Page, job: Option<&Job>, ending: &Ending) -> Result<(), AllocError>
@@ -39,7 +46,8 @@ fn push_ending(page: &mut Page, job: Option<&Job>, ending: &Ending) -> Result<()
         (Some(job), Ending::ReadFault { place }) => push_read_fault(page, job, *place),
         (Some(job), Ending::WriteFault { place }) => push_write_fault(page, job, *place),
         (_, Ending::Memory) => push_memory(page),
-        (None, _) => page.text("error: WriteFault: standard output can't be written\n"),
+        (None, Ending::ReadFault { .. }) => push_output_fault(page),
+        (None, Ending::WriteFault { .. }) => push_output_fault(page),
     }
 }
 
