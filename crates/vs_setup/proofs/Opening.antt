@@ -1,6 +1,7 @@
 -- Why a stimulus can't be opened.
-use Rattle.std.proofs.Common.{◌≡◌, ◌≢◌, ◌⊎◌, ℕ, ◌<◌, ◌≤◌, ◌+◌, List, [], ◌++◌, length, take, Some, arith, refl, inl, inr, IsTrue, Bool, true, false, Result, Ok, Err, IfOk, IfErr, sym, subst, ap, ◌∙◌}
-use Rattle.vs_desk.specs.Desk.{Contents, Told, Fails}
+use Rattle.std.proofs.Common.{◌≡◌, ◌≢◌, ◌⊎◌, Option, IsNone, ℕ, ◌<◌, ◌≤◌, ◌+◌, List, [], ◌++◌, length, take, Some, arith, refl, inl, inr, IsTrue, Bool, true, false, Result, Ok, Err, IfOk, IfErr, sym, subst, ap, ◌∙◌}
+use Rattle.std.proofs.lemmas.Bool.{ne_eqb, cond-false}
+use Rattle.vs_desk.specs.Desk.{Attachment, Register, Contents, Told, Fails}
 use Rattle.vs_desk.specs.Places.{design_place, stimulus_place}
 use Rattle.vs_stim.specs.Header.{PortLists}
 use Rattle.vs_stim.specs.declared.error.StimError.{StimError}
@@ -8,7 +9,7 @@ use Rattle.vs_stim.specs.declared.error.StimError.TheVariants as E
 use Rattle.vs_stim.specs.Known.{IsUntold}
 use Rattle.vs_stim.specs.Reading.{first_place, header_refusal}
 use Rattle.vs_stim.specs.Source.{IsHeaderError}
-use Rattle.vs_feed.specs.Opened.{path_at, with_lanes, HaveHeaders, StopsOpening}
+use Rattle.vs_feed.specs.Opened.{path_at, with_lanes, AreFree, HaveHeaders, StopsOpening}
 use Rattle.vs_design.specs.Designs.{Design}
 use Rattle.vs_flat.specs.DesignOf.{design_of}
 use Rattle.vs_engine.specs.Lanes.{Running}
@@ -24,6 +25,7 @@ use Rattle.vs_setup.specs.declared.error.SetupError.{SetupError}
 use Rattle.vs_setup.specs.declared.error.SetupError.TheVariants.{TooLong, Refused, Stimulus, ReadFault, Memory}
 use Rattle.vs_setup.specs.DesignText.{design_text, with_design, IsBehind, IsTooLong, DesignFails}
 use Rattle.vs_setup.specs.Loaded.{IsLoaded}
+use Rattle.vs_setup.specs.Places.{IsFresh}
 use Rattle.vs_setup.specs.Ports.{ports_of}
 use Rattle.vs_setup.specs.Prepared.{IsDesignLoaded}
 use Rattle.vs_setup.specs.Unprepared.{IsUnopened, IsUnprepared, IsDesignOf, IsRefusedBehind, IsLoadError, IsTextRefusal, IsFirstRefused, error_of, design_error, accept_error}
@@ -202,3 +204,14 @@ unprepared {W} {tells} lane lanes job old mid new a ports engine l same e u = by
       earlier = λ t. record { design = design_of a.flat; accepted = accepted t; headers = headers t u.0 (u.4 t) };
     })
     by_error Memory u = inr u
+
+-- want of memory is told by its error alone
+pub memory_is : {V : Type 0} (text top clock : List ℕ) (r : Result V AcceptError) (e : AcceptError) → ◌≡◌ {A = Result V AcceptError} r (Err e) → e ≡ A.Memory → IfErr r (IsRefusalOf text top clock)
+memory_is text top clock r e is memory = err_is (IsRefusalOf text top clock) r A.Memory (is ∙ ap Err memory) tt
+
+-- the stimuli's places stay free where the design's is attached
+pub free_behind : (r : Register) (path : List ℕ) (lanes : ℕ) → IsFresh r lanes → AreFree (with_design r path) lanes
+free_behind r path lanes h = record {
+  each = λ i lt.
+      subst (λ (o : Option Attachment). IsNone o) (sym (cond-false _ _ _ (ne_eqb (stimulus_place i) design_place (λ e. omega arith)))) (h.stimuli i lt);
+}

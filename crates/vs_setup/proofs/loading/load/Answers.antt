@@ -1,6 +1,8 @@
 use Rattle.std.proofs.Common.{ap, ◌∙◌}
+use Rattle.std.proofs.lemmas.Result.{err_from_is_err_and}
 use Rattle.vs_stim.specs.Header.{PortLists}
 use Rattle.vs_setup.proofs.Loads.{loaded}
+use Rattle.vs_setup.proofs.Opening.{memory_is}
 use Rattle.vs_setup.proofs.loading.load.Goals as goal
 
 pub compile-requires-clause-accepted : goal.compile-requires-clause-accepted
@@ -22,6 +24,11 @@ data_inputs-requires g c = rw c.flat.ensures.same c.flat.ensures.lawful
 
 pub outputs_of-requires : goal.outputs_of-requires
 outputs_of-requires g c = rw c.flat-2.ensures.same c.flat-2.ensures.lawful
+
+pub returns-in_err-outputs-clause-refused : goal.returns-in_err-outputs-clause-refused
+returns-in_err-outputs-clause-refused g c =
+    let p = err_from_is_err_and c.from_residual-in_err-outputs.result c.from_residual-in_err-outputs.ensures.1 in
+    memory_is c.args.text.now c.args.top.now c.args.clock.now c.from_residual-in_err-outputs.result p.0 p.1 p.2
 
 pub returns-clause-loaded : goal.returns-clause-loaded
 returns-clause-loaded g c =

@@ -11,9 +11,14 @@ use Rattle.vs_feed.specs.Lanes.{AreLanes, AreAttached}
 use Rattle.vs_setup.specs.DesignText.{with_design}
 use Rattle.vs_setup.specs.Places.{with_texts}
 use Rattle.vs_setup.specs.Unprepared.{IsUnprepared, IsUnopened}
-use Rattle.vs_setup.proofs.Opening.{err_is, unprepared}
+use Rattle.vs_setup.proofs.Opening.{err_is, unprepared, free_behind}
 use Rattle.vs_setup.proofs.Readied.{HasParts, program_is, ready, begins}
 use Rattle.vs_setup.proofs.setup.prepare.Goals as goal
+
+pub open_stimuli-requires-clause-free : goal.open_stimuli-requires-clause-free
+open_stimuli-requires-clause-free g c =
+    subst (λ (r : Register). drive.AreFree r (length c.args.job.now.stimuli)) (sym c.in_ok-loaded.ensures.register)
+    (free_behind (g.D.Desk.told c.args.desk.now).register c.args.job.now.design (length c.args.job.now.stimuli) c.requires.fresh)
 
 pub returns-in_err-drive-clause-unprepared : goal.returns-in_err-drive-clause-unprepared
 returns-in_err-drive-clause-unprepared g c =
