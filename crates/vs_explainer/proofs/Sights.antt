@@ -1,9 +1,11 @@
 -- What is seen of a file that was read again.
-use Rattle.std.proofs.Common.{◌≡◌, ◌≤◌, ℕ, Bool, List, length, drop, Option, Some, None, Result, Ok, Err, IfOk, IsNone, refl, ap, ◌∙◌, subst, inl, inr, arith}
+use Rattle.std.proofs.Common.{◌≡◌, ◌≤◌, ℕ, Bool, List, [], ◌++◌, length, drop, Option, Some, None, Result, Ok, Err, IfOk, IsNone, refl, ap, ◌∙◌, subst, inl, inr, arith}
 use Rattle.std.specs.Prelude.{MatchBool}
 use Rattle.std.proofs.lemmas.List.{drop_at, length-append}
 use Rattle.vs_desk.specs.Desk.{Register, Told, Rose}
 use Rattle.vs_names.specs.Drawn.{Drawn}
+use Rattle.vs_refusal.specs.declared.refusal.Refusal.{Refusal}
+use Rattle.vs_explanation.specs.Seen.{Seen}
 use Rattle.vs_reread.specs.Again.{IsStart, IsFaultless, IsAgain, AreUnread, OnlyRead}
 use Rattle.vs_reread.specs.Drawings.{IsDrawing}
 use Rattle.vs_explainer.specs.Looks.{Look, IsRead, SeesOf, unseen}
@@ -46,3 +48,13 @@ free r place (inr e) h = rw e h.stimulus
 
 pub same_only : {tells : Bool} (old new : Told tells) → new ≡ old → OnlyRead old new
 same_only old new e = rw e (record { others = λ p h k. refl; losses = refl; files = λ t. refl; put = λ t. refl; left = λ t p h k. refl })
+
+-- the text of a refusal stands on a page that was empty
+pub pushed : (text : Seen → Refusal → List ℕ) (old new : List ℕ) (r : Refusal) (head : ℕ) (seen file : List ℕ) (lent drawn : Option Drawn)
+    → old ≡ [] → new ≡ old ++ text (record { file = Some seen; head = head; drawn = lent }) r → seen ≡ file → lent ≡ drawn
+    → new ≡ text (record { file = Some file; head = head; drawn = drawn }) r
+pushed text old new r head seen file lent drawn empty is same drew =
+    is
+    ∙ ap (λ (xs : List ℕ). xs ++ text (record { file = Some seen; head = head; drawn = lent }) r) empty
+    ∙ ap (λ (xs : List ℕ). text (record { file = Some xs; head = head; drawn = lent }) r) same
+    ∙ ap (λ (d : Option Drawn). text (record { file = Some file; head = head; drawn = d }) r) drew

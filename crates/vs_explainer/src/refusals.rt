@@ -1,6 +1,6 @@
 //! The explanation of a refusal of a job.
 
-ghost use Rattle.std.specs.Prelude.{◌≡◌, ◌≤◌, Option, None, Some, IfOk, MatchBool, drop, length};
+ghost use Rattle.std.specs.Prelude.{◌≡◌, ◌≤◌, ◌++◌, Option, None, Some, IfOk, OnOk, MatchBool, drop, length, option_map};
 ghost use Rattle.vs_reread.specs.Again.{IsAgain, AreUnread, most_bytes, OnlyRead};
 ghost use Rattle.vs_reread.specs.Drawings.{IsDrawing};
 ghost use Rattle.vs_names.specs.Drawn.{Drawn};
@@ -16,6 +16,7 @@ use vs_desk::{Desk, put_all};
 use vs_excerpt::Page;
 use vs_explanation::{Seen, push_refusal};
 use vs_job::Job;
+use vs_names::Drawing;
 use vs_refusal::Refusal;
 
 /// A refusal of which no file is seen.
@@ -30,6 +31,33 @@ fn unseen_page(alloc: Global, job: &Job, refusal: &Refusal, head: u32) -> Result
     };
     push_refusal(&mut page, job, &seen, refusal)?;
     Ok(page)
+}
+
+/// The file of a text, behind the lines of macros.
+fn behind_head<'a>(text: &'a [u8], head: &[u8]) -> &'a [u8]
+    requires { length head.now ≤ length text.now }
+    ensures { result.now ≡ drop (length head.now) text.now }
+{
+    &text[head.len()..]
+}
+
+/// Adds the lines of a refusal, by what is seen of a file.
+fn push_seen(
+    page: &mut Page,
+    job: &Job,
+    refusal: &Refusal,
+    file: &[u8],
+    head: u32,
+    drawing: Option<&Drawing>,
+) -> Result<(), AllocError>
+    ensures { OnOk result (page.new ≡ page.old ++ refusal_text job.now (record { file = Some file.now; head = head; drawn = option_map (λ d. d.now) drawing.entry }) refusal.now) }
+{
+    let seen = Seen {
+        file: Some(file),
+        head,
+        drawing,
+    };
+    push_refusal(page, job, &seen, refusal)
 }
 
 /// A refusal, with what is seen of a text.
@@ -47,12 +75,9 @@ fn seen_page(
 {
     let drawing = draw_look(alloc, look.draws, text, job.top.as_bytes())?;
     let mut page = Page::new(alloc);
-    let seen = Seen {
-        file: Some(&text[look.head.len()..]),
-        head: look.head.len() as u32,
-        drawing: drawing.as_ref(),
-    };
-    push_refusal(&mut page, job, &seen, refusal)?;
+    let file = behind_head(text, look.head);
+    let head = look.head.len() as u32;
+    push_seen(&mut page, job, refusal, file, head, drawing.as_ref())?;
     Ok(page)
 }
 
