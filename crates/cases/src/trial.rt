@@ -10,8 +10,8 @@ use std::marker::Brand;
 use std::sync::ledger::{Blank, Ledger};
 use std::{fmt, str};
 use vs_desk::{FIRST_WAVEFORM, MOST_LANES, MemoryDesk};
-use vs_plane::Steps;
 use vs_explain::explain_run;
+use vs_plane::Steps;
 use vs_top::{Outcome, status};
 
 /// What a run has left.

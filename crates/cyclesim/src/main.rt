@@ -15,8 +15,8 @@ use std::process::ExitCode;
 use std::rt::{Env, Files};
 use std::sync::ledger::{Blank, Ledger};
 use vs_desk::HostDesk;
-use vs_plane::Steps;
 use vs_explain::explain_run;
+use vs_plane::Steps;
 use vs_top::status;
 
 /// The status where the words or the desk find no memory.
