@@ -71,7 +71,7 @@ stimulus_fails p w law stimuli start old new lane (inr h) = fails p w (with_lane
 unprepared : (p : ℕ) → IsOther p → {tells : Bool} → OtherPlacesStay → (j : Job) (old new : Told tells) (e : SetupError) → IsUnprepared j old new e → IsLeft p old.register new.register
 unprepared p w law j old new setup.TooLong h = same p w (with_design old.register j.design) new.register h.0 ∙ designs p w old.register j.design
 unprepared p w law j old new (setup.Refused r) h = same p w (with_design old.register j.design) new.register h.0 ∙ designs p w old.register j.design
-unprepared p w law j old new (setup.Stimulus lane error) h = same p w (with_texts old.register j (take (lane + 1) j.stimuli)) new.register h.2.0 ∙ texts p w law old.register j (take (lane + 1) j.stimuli)
+unprepared p w law j old new (setup.Stimulus lane error) h = same p w (with_texts old.register j (take (lane + 1) j.stimuli)) new.register h.2 ∙ texts p w law old.register j (take (lane + 1) j.stimuli)
 unprepared p w law j old new (setup.ReadFault place) (inl h) = design_fails p w old new j.head j.design h.fails
 unprepared p w law j old new (setup.ReadFault place) (inr h) = stimulus_fails p w law j.stimuli (with_design old.register j.design) old new h.lane h.fails ∙ designs p w old.register j.design
 unprepared p w law j old new setup.Memory (inl e) = same p w old.register new.register e

@@ -31,11 +31,15 @@ pub record IsRun {tells : Bool} {D : Type 0} (told : D → Told tells) (words : 
   pub refused : IsTrue tells → (j : Job) → job words ≡ Some j → (q : Refusal) → IsRefusedJob j (told old).contents q → IsFaultless (told old) (told new) → IsRefusedSo q result
   pub complete : IsTrue tells → (j : Job) → job words ≡ Some j → IsLawful j (told old).contents → IsFaultless (told old) (told new) → IsDoneOrMemory result
 
+-- what is put of a refusal: of a job's what is seen again of its file says, of words that call for none the forms of all words
+abbrev pub ExplainsRefused : {tells : Bool} → Option Job → Refusal → Told tells → Told tells → Type 0
+ExplainsRefused (Some j) r old new = ExplainsRefusal j r old new
+ExplainsRefused None r old new = IsPut old new usage_text
+
 -- What is put behind the report of an answer: of a refusal of a job by what is seen again of its file, of words that call for nothing the forms of all words,
 -- and of any other answer what it says. Nothing is put where memory runs out, but of the forms, and some first bytes where a call at place 0 fails.
 abbrev pub Explains : {tells : Bool} → Option Job → Outcome → Told tells → Told tells → Type 0
-Explains (Some j) (Refused r) old new = ExplainsRefusal j r old new
-Explains None (Refused r) old new = IsPut old new usage_text
+Explains j (Refused r) old new = ExplainsRefused j r old new
 Explains j (Done s) old new = Says old new (ending_text j (ending.Done s.lanes s.vectors s.settlings s.size))
 Explains j (ReadFault place) old new = Says old new (ending_text j (ending.ReadFault place))
 Explains j (WriteFault place) old new = Says old new (ending_text j (ending.WriteFault place))

@@ -6,7 +6,7 @@ ghost use Rattle.std.specs.Option.{ForSome};
 ghost use Rattle.vs_top.specs.Ended.{IsUnused};
 ghost use Rattle.vs_reread.specs.Again.{AreUnread, most_bytes};
 ghost use Rattle.vs_explain.specs.Asked as spec;
-ghost use Rattle.vs_explain.specs.Answered.{IsRun, Explains, ExplainsWords};
+ghost use Rattle.vs_explain.specs.Answered.{IsRun, Explains, ExplainsRefused, ExplainsWords};
 
 use std::alloc::Global;
 use std::sync::ledger::Ledger;
@@ -14,7 +14,7 @@ use vs_desk::{Desk, attach_law};
 use vs_explainer::{explain_ending, explain_refusal, explain_usage};
 use vs_job::{Job, JobError, read_job};
 use vs_plane::Steps;
-use vs_refusal::Ending;
+use vs_refusal::{Ending, Refusal};
 use vs_top::{Outcome, run};
 
 /// Whether the first word behind the program's own name is `--explain`.
@@ -27,31 +27,55 @@ fn is_asked(words: &[String]) -> bool
     }
 }
 
+/// The words behind the program's own name.
+fn behind_name(words: &[String]) -> &[String]
+    ensures { map string_bytes result.now ≡ spec.asked (map string_bytes words.now) }
+{
+    match words {
+        [_, rest @ ..] => rest,
+        [] => words,
+    }
+}
+
+/// Puts what a refusal says to a person behind its report line.
+fn explain_refused<D: Desk>(alloc: Global, job: Option<&Job>, refusal: &Refusal, desk: &mut D)
+    requires unread { AreUnread (D.told desk.old).register }
+    requires heads { ForSome job (λ j. length j.now.head ≤ most_bytes) }
+    ensures { ExplainsRefused (option_map (λ j. j.now) job.entry) refusal.now (D.told desk.old) (D.told desk.new) }
+{
+    match job {
+        Some(job) => explain_refusal(alloc, job, refusal, desk),
+        None => explain_usage(desk),
+    }
+}
+
 /// Puts what an answer says to a person behind its report line.
 fn explain<D: Desk>(alloc: Global, job: Option<&Job>, outcome: &Outcome, desk: &mut D)
     requires unread { AreUnread (D.told desk.old).register }
-    requires heads { ForSome job.entry (λ j. length j.now.head ≤ most_bytes) }
+    requires heads { ForSome job (λ j. length j.now.head ≤ most_bytes) }
     ensures { Explains (option_map (λ j. j.now) job.entry) outcome.now (D.told desk.old) (D.told desk.new) }
 {
-    let ending = match outcome {
-        Outcome::Refused(refusal) => {
-            match job {
-                Some(job) => explain_refusal(alloc, job, refusal, desk),
-                None => explain_usage(desk),
-            }
-            return;
+    match outcome {
+        Outcome::Refused(refusal) => explain_refused(alloc, job, refusal, desk),
+        Outcome::Done(summary) => {
+            let done = Ending::Done {
+                lanes: summary.lanes,
+                vectors: summary.vectors,
+                settlings: summary.settlings,
+                size: summary.size,
+            };
+            explain_ending(alloc, job, &done, desk);
         }
-        Outcome::Done(summary) => Ending::Done {
-            lanes: summary.lanes,
-            vectors: summary.vectors,
-            settlings: summary.settlings,
-            size: summary.size,
-        },
-        Outcome::ReadFault { place } => Ending::ReadFault { place: *place },
-        Outcome::WriteFault { place } => Ending::WriteFault { place: *place },
-        Outcome::Memory => Ending::Memory,
-    };
-    explain_ending(alloc, job, &ending, desk);
+        Outcome::ReadFault { place } => {
+            let fault = Ending::ReadFault { place: *place };
+            explain_ending(alloc, job, &fault, desk);
+        }
+        Outcome::WriteFault { place } => {
+            let fault = Ending::WriteFault { place: *place };
+            explain_ending(alloc, job, &fault, desk);
+        }
+        Outcome::Memory => explain_ending(alloc, job, &Ending::Memory, desk),
+    }
 }
 
 /// Puts what an answer to these words says, unless there is no memory for the job.
@@ -105,7 +129,7 @@ pub fn explain_run<D: Desk, L: Ledger>(
     if !is_asked(words) {
         return run_words(alloc, words, desk, steps);
     }
-    let asked = &words[1..];
+    let asked = behind_name(words);
     let outcome = run_words(alloc, asked, desk, steps);
     explain_words(alloc, asked, &outcome, desk);
     outcome
