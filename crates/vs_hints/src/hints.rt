@@ -151,11 +151,13 @@ fn lane_sentence(name: LaneName) -> &'static str
     ensures { result.now ≡ spec.lane_sentence name }
 {
     match name {
-        LaneName::BadHeader => "the header isn't inputs and then each data input once, or has behind -> no name, one that is no output of the top, or one twice",
+        LaneName::BadHeader =>
+            "the header isn't inputs and then each data input once, or has behind -> no name, one that is no output of the top, or one twice",
         LaneName::FirstUnknown => "the first vector has an x or z digit",
         LaneName::NoVector => "there is a header and no vector",
         LaneName::TooManyVectors => "the stimulus has more than 16,777,216 vectors",
         LaneName::StimulusTooLong => "the stimulus has more than 4,294,967,296 bytes",
+        LaneName::NoExpectation => "the header names no output behind ->",
     }
 }
 
@@ -169,6 +171,7 @@ fn lane_remedy(name: LaneName) -> &'static str
         LaneName::NoVector => "add one",
         LaneName::TooManyVectors => "split the stimulus",
         LaneName::StimulusTooLong => "split the stimulus",
+        LaneName::NoExpectation => "name outputs behind -> (docs/stimulus.md), or use cyclesim run",
     }
 }
 
@@ -177,7 +180,8 @@ fn line_sentence(name: LineName) -> &'static str
     ensures { result.now ≡ spec.line_sentence name }
 {
     match name {
-        LineName::BadVector => "the line isn't one field of digits for each input, and behind -> one for each output that the header names",
+        LineName::BadVector =>
+            "the line isn't one field of digits for each input, and behind -> one for each output that the header names",
         LineName::LineTooLong => "the line has more than 65,536 bytes",
         LineName::UnknownReset => "a vector behind the first has an x or z digit of a reset input",
     }

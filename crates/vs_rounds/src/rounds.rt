@@ -19,7 +19,7 @@ use vs_desk::Desk;
 use vs_plane::{Lanes, Steps};
 
 /// A stimulus has at most 16,777,216 vectors, and its end is read in one more round.
-const MOST_ROUNDS: u64 = 16_777_217;
+pub(crate) const MOST_ROUNDS: u64 = 16_777_217;
 
 /// What a whole run counts.
 #[derive(Clone, Copy, PartialEq, Eq, Debug)]

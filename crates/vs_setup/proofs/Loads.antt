@@ -14,7 +14,6 @@ use Rattle.vs_accept.specs.Lent.{Acceptance, IsAcceptance}
 use Rattle.vs_grammar.specs.Trees.{Source}
 use Rattle.vs_accept.specs.Accepted.{IsAcceptedText}
 use Rattle.vs_accept.specs.Outputs.{top_outputs, HaveOutputs, OneReading}
-use Rattle.vs_setup.specs.Ports.{ports_of}
 use Rattle.vs_rounds.specs.Inputs.{inputs_among, data_inputs, outputs_among, outputs, InputBitsFit}
 use Rattle.vs_setup.specs.Loaded.{IsLoaded}
 use Rattle.vs_setup.proofs.Signals.{are_inputs, are_outputs}
@@ -37,16 +36,17 @@ outputs_named : OneReading → {text top clock : List ℕ} {d : Design} (accepte
 outputs_named one {text = text} {top = top} accepted a h =
     h.outputs_are ∙ ap (λ (s : Source). top_outputs s top) (one text h.tokens accepted.tokens h.source accepted.source h.read accepted.read)
 
-pub loaded : {W : Type 0} (lane : W → ℕ → Bool) (lanes : ℕ) (text top clock : List ℕ) (a : Acceptance) (ports : PortLists) (engine : Running W) (p : Program)
+pub loaded : {W : Type 0} (lane : W → ℕ → Bool) (lanes : ℕ) (demanded : Bool) (text top clock : List ℕ) (a : Acceptance) (ports : PortLists) (engine : Running W) (p : Program)
     → InputBitsFit → OneReading → IsAcceptedText text top clock (design_of a.flat) → HaveOutputs text top a → IsAcceptance clock a → IsProgramOf (design_of a.flat) a.clocks.bit p → IsMade lane lanes p engine
     → ports.inputs ≡ inputs_among a.clocks.reset_inputs a.clocks.bit (design_of a.flat).signals → ports.outputs ≡ outputs_among a.outputs (design_of a.flat).signals
-    → IsLoaded lane lanes text top clock a ports engine
-loaded lane lanes text top clock a ports engine p fit one accepted have lent program made inputs_are outputs_are = record {
+    → ports.demanded ≡ demanded → IsLoaded lane lanes demanded text top clock a ports engine
+loaded lane lanes demanded text top clock a ports engine p fit one accepted have lent program made inputs_are outputs_are demanded_is = record {
   accepted = accepted;
   program = subst (λ n. IsProgramOf d n engine.program) (sym first) fed;
   idle = λ i h. made.idle d bit i program h ∙ ap (λ n. (network_of d n).idle) (sym first);
   begun = made.begun;
-  ports_are = λ i. record { inputs = named i; outputs = outputs_is i };
+  ports_are = λ i. record { inputs = named i; outputs = outputs_is i; demanded = demanded_is i };
+  names_are = outputs_named one accepted a have;
   are_ports = record { inputs = each; outputs = each_output };
   bits = fit d clock accepted.accepted ports.inputs (record { each = each; inputs_are = named }) ∙ ap length (sym ends.inputs);
 }

@@ -26,15 +26,17 @@ pub struct Loaded<W: Word> {
 }
 
 /// Loads the design of a text of at most 4,194,304 bytes whose top module and whose clock input have these names: it is accepted and compiled.
+/// Where outputs are demanded, the header of a stimulus has to name one at least.
 /// All memory that an engine needs is taken here. Otherwise the text is refused, by the first rule that it breaks, or there is no memory.
 pub fn load<W: Lanes>(
     alloc: Global,
     text: &[u8],
     top: &[u8],
     clock: &[u8],
+    demanded: bool,
 ) -> Result<Loaded<W>, AcceptError>
     requires { length text.now ≤ most_bytes }
-    ensures loaded { IfOk result (λ l. IsLoaded W.lane W.LANES text.now top.now clock.now l.accepted l.ports l.engine) }
+    ensures loaded { IfOk result (λ l. IsLoaded W.lane W.LANES demanded text.now top.now clock.now l.accepted l.ports l.engine) }
     ensures refused { IfErr result (IsRefusalOf text.now top.now clock.now) }
 {
     inputs_law();
@@ -55,6 +57,6 @@ pub fn load<W: Lanes>(
     Ok(Loaded {
         accepted,
         engine,
-        ports: Ports::of(inputs, outputs),
+        ports: Ports::of(inputs, outputs, demanded),
     })
 }

@@ -1,4 +1,4 @@
-//! The set-up of a run.
+//! The set-up of a run, and what a check's has in common with it.
 
 ghost use Rattle.std.specs.Prelude.{◌≡◌, ◌≤◌, ◌<◌, [], All, IsNone, IsTrue, IfOk, IfErr, OnOk, length, map, string_bytes};
 ghost use Rattle.vs_desk.specs.Taking.{OnlyTaken};
@@ -7,6 +7,7 @@ ghost use Rattle.vs_flat.specs.DesignOf.{design_of};
 ghost use Rattle.vs_accept.specs.Accepted.{most_bytes};
 ghost use Rattle.vs_design.specs.Sizes.{size as size_of};
 ghost use Rattle.vs_setup.specs.Loaded.{IsLoaded};
+ghost use Rattle.vs_setup.specs.Ports.{demands};
 ghost use Rattle.vs_stim.specs.Header.{ArePorts};
 ghost use Rattle.vs_feed.specs.Lanes.{AreAttached, AreLanes, OtherPlacesKept};
 ghost use Rattle.vs_feed.specs.Opened.{AreFree, AreOpened, HaveHeaders, with_lanes};
@@ -24,7 +25,7 @@ use crate::loading::{Loaded, load};
 use std::alloc::{AllocError, Global};
 use vs_desk::{Desk, FIRST_STIMULUS};
 use vs_feed::{Drive, Stopped, open};
-use vs_job::{Job, stimulus_paths, vcd_paths};
+use vs_job::{Job, Mode, stimulus_paths, vcd_paths};
 use vs_plane::Lanes;
 use vs_rounds::Machine;
 use vs_stim::{Ports, StimError};
@@ -62,7 +63,7 @@ pub fn prepare<W: Lanes, D: Desk>(
 }
 
 /// Reads the design and loads it.
-fn read_and_load<W: Lanes, D: Desk>(
+pub(crate) fn read_and_load<W: Lanes, D: Desk>(
     alloc: Global,
     job: &Job,
     desk: &mut D,
@@ -84,17 +85,34 @@ fn read_and_load<W: Lanes, D: Desk>(
 fn load_text<W: Lanes>(alloc: Global, job: &Job, text: &[u8]) -> Result<Loaded<W>, SetupError>
     requires text { length text.now ≤ most_bytes }
     requires head { length job.now.head ≤ most_head }
-    ensures loaded { IfOk result (λ l. IsLoaded W.lane W.LANES text.now job.now.top job.now.clock l.accepted l.ports l.engine) }
+    ensures loaded { IfOk result (λ l. IsLoaded W.lane W.LANES (demands job.now.mode) text.now job.now.top job.now.clock l.accepted l.ports l.engine) }
     ensures refused { IfErr result (IsLoadError (length job.now.head) text.now job.now.top job.now.clock) }
 {
-    match load(alloc, text, job.top.as_bytes(), job.clock.as_bytes()) {
+    let demanded = demands(job.mode);
+    match load(
+        alloc,
+        text,
+        job.top.as_bytes(),
+        job.clock.as_bytes(),
+        demanded,
+    ) {
         Ok(loaded) => Ok(loaded),
         Err(error) => Err(SetupError::unaccepted(error, job.head.as_bytes().len() as u32)),
     }
 }
 
+/// Whether the header of a stimulus has to name an output: a check has to have something to compare.
+fn demands(mode: Mode) -> bool
+    ensures { result ≡ demands mode }
+{
+    match mode {
+        Mode::Run => false,
+        Mode::Check => true,
+    }
+}
+
 /// Opens the stimuli.
-fn open_stimuli<D: Desk>(
+pub(crate) fn open_stimuli<D: Desk>(
     alloc: Global,
     job: &Job,
     desk: &mut D,

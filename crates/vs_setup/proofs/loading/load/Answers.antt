@@ -25,6 +25,11 @@ data_inputs-requires g c = rw c.flat.ensures.same c.flat.ensures.lawful
 pub outputs_of-requires : goal.outputs_of-requires
 outputs_of-requires g c = rw c.flat-2.ensures.same c.flat-2.ensures.lawful
 
+pub returns-in_err-inputs-clause-refused : goal.returns-in_err-inputs-clause-refused
+returns-in_err-inputs-clause-refused g c =
+    let p = err_from_is_err_and c.from_residual-in_err-inputs.result c.from_residual-in_err-inputs.ensures.1 in
+    memory_is c.args.text.now c.args.top.now c.args.clock.now c.from_residual-in_err-inputs.result p.0 p.1 p.2
+
 pub returns-in_err-outputs-clause-refused : goal.returns-in_err-outputs-clause-refused
 returns-in_err-outputs-clause-refused g c =
     let p = err_from_is_err_and c.from_residual-in_err-outputs.result c.from_residual-in_err-outputs.ensures.1 in
@@ -32,9 +37,10 @@ returns-in_err-outputs-clause-refused g c =
 
 pub returns-clause-loaded : goal.returns-clause-loaded
 returns-clause-loaded g c =
-    loaded _ _ c.args.text.now c.args.top.now c.args.clock.now c.in_ok-accepted.accepted c.of.result c.in_ok-engine.engine c.in_ok-compiled.compiled
+    loaded _ _ c.args.demanded c.args.text.now c.args.top.now c.args.clock.now c.in_ok-accepted.accepted c.of.result c.in_ok-engine.engine c.in_ok-compiled.compiled
     c.inputs_law.ensures c.answer_law.ensures.reading c.in_ok-accepted.ensures.accepted c.in_ok-accepted.ensures.outputs c.in_ok-accepted.ensures.lent
     (rw (c.typed-typed.ensures, c.clocks-clocks.ensures) at c.in_ok-compiled.ensures)
     (record { program = c.in_ok-engine.ensures.program; begun = c.in_ok-engine.ensures.begun; idle = c.in_ok-engine.ensures.idle })
     (ap (λ (p : PortLists). p.inputs) c.of.ensures ∙ (rw (c.reset_inputs.ensures, c.bit.ensures, c.clocks-clocks.ensures, c.flat.ensures.same, c.typed-typed.ensures) at c.in_ok-inputs.ensures))
     (ap (λ (p : PortLists). p.outputs) c.of.ensures ∙ (rw (c.outputs.ensures, c.flat-2.ensures.same, c.typed-typed.ensures) at c.in_ok-outputs.ensures))
+    (ap (λ (p : PortLists). p.demanded) c.of.ensures)

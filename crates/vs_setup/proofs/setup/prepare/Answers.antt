@@ -4,15 +4,16 @@ use Rattle.std.proofs.lemmas.Result.{err_from_is_err_and}
 use Rattle.vs_desk.specs.Desk.{Register}
 use Rattle.vs_flat.specs.DesignOf.{design_of}
 use Rattle.vs_engine.specs.Lanes.{Running}
-use Rattle.vs_stim.specs.Header.{PortLists, ArePorts}
+use Rattle.vs_stim.specs.Header.{ArePorts}
 use Rattle.vs_feed.specs.Opened as drive
-use Rattle.vs_feed.specs.Opened.{with_lanes, HaveHeaders}
+use Rattle.vs_feed.specs.Opened.{with_lanes}
 use Rattle.vs_feed.specs.Lanes.{AreLanes, AreAttached}
 use Rattle.vs_setup.specs.DesignText.{with_design}
 use Rattle.vs_setup.specs.Places.{with_texts}
 use Rattle.vs_setup.specs.Unprepared.{IsUnprepared, IsUnopened}
 use Rattle.vs_setup.proofs.Opening.{err_is, unprepared, free_behind}
-use Rattle.vs_setup.proofs.Readied.{HasParts, program_is, ready, begins}
+use Rattle.vs_setup.proofs.Lanes.{HasLanes, program_is, have_headers}
+use Rattle.vs_setup.proofs.Readied.{HasParts, ready, begins}
 use Rattle.vs_setup.proofs.setup.prepare.Goals as goal
 
 pub open_stimuli-requires-clause-free : goal.open_stimuli-requires-clause-free
@@ -47,31 +48,32 @@ returns-clause-prepared g c =
     let drive_is = c.in_ok-prepared.ensures.stimuli in
     let opened : drive.AreOpened tells l.ports mid new job.stimuli c.in_ok-drive.drive =
     c.in_ok-drive.ensures.opened in
-    let parts : HasParts g.W.Word.lane g.W.Word.LANES tells job old mid new l.accepted l.ports l.engine m = record {
+    let behind : HasLanes g.W.Word.lane g.W.Word.LANES tells job old mid new l.accepted l.ports l.engine m.engine m.stimuli = record {
       loaded = c.in_ok-loaded.ensures.loaded;
       files = λ t. (c.in_ok-loaded.ensures.only t).files;
       opened = subst (λ ks. drive.AreOpened tells l.ports mid new job.stimuli ks) (sym drive_is) opened;
       numbered = subst AreLanes (sym drive_is) c.in_ok-drive.ensures.numbered;
       engine_is = c.in_ok-prepared.ensures.engine;
+      few = subst (λ ks. length ks ≤ g.W.Word.LANES) (sym drive_is) (omega (arith, c.requires.lanes, opened.lanes));
+    } in
+    let parts : HasParts g.W.Word.lane g.W.Word.LANES tells job old mid new l.accepted l.ports l.engine m = record {
+      lanes_are = behind;
       waves = c.in_ok-prepared.ensures.lanes ∙ ap length (sym drive_is);
       new_waves = c.in_ok-prepared.ensures.waves;
       half = c.requires.job.half_to;
-      few = subst (λ ks. length ks ≤ g.W.Word.LANES) (sym drive_is) (omega (arith, c.requires.lanes, opened.lanes));
     } in
     record {
-      file = parts.loaded.file;
-      file_is = parts.loaded.file_is;
+      file = behind.loaded.file;
+      file_is = behind.loaded.file_is;
       taken = λ t. (c.in_ok-drive.ensures.others t).before 1 (omega arith) ∙ c.in_ok-loaded.ensures.taken t;
       design = design_of l.accepted.flat;
-      accepted = parts.loaded.loaded.accepted;
+      accepted = behind.loaded.loaded.accepted;
       size_is = c.in_ok-prepared.ensures.size;
-      program = program_is g.W.Word.lane g.W.Word.LANES tells job old mid new l.accepted l.ports l.engine m parts;
-      begun = ap (λ (e : Running _). e.begun) c.in_ok-prepared.ensures.engine ∙ parts.loaded.loaded.begun;
-      all_ports = subst ArePorts parts.loaded.loaded.ports_are parts.loaded.loaded.are_ports;
-      lanes = parts.opened.lanes;
-      headers = λ t.
-          subst (λ (is : PortLists). HaveHeaders is old.files job.stimuli (length job.stimuli)) parts.loaded.loaded.ports_are
-          (subst (λ (files : List ℕ → List ℕ). HaveHeaders l.ports files job.stimuli (length job.stimuli)) (c.in_ok-loaded.ensures.only t).files (c.in_ok-drive.ensures.headers t));
+      program = program_is g.W.Word.lane g.W.Word.LANES tells job old mid new l.accepted l.ports l.engine m.engine m.stimuli behind;
+      begun = ap (λ (e : Running _). e.begun) c.in_ok-prepared.ensures.engine ∙ behind.loaded.loaded.begun;
+      all_ports = subst ArePorts behind.loaded.loaded.ports_are behind.loaded.loaded.are_ports;
+      lanes = behind.opened.lanes;
+      headers = λ t. have_headers g.W.Word.lane g.W.Word.LANES tells job old mid new l.accepted l.ports l.engine m.engine m.stimuli behind t (c.in_ok-drive.ensures.headers t);
       ready = ready g.W.Word.lane g.W.Word.LANES tells job old mid new l.accepted l.ports l.engine m parts;
       opened = begins g.W.Word.lane g.W.Word.LANES tells job old mid new l.accepted l.ports l.engine m parts;
       paths = c.in_ok-prepared.ensures.paths;

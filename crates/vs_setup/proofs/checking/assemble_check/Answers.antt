@@ -1,0 +1,30 @@
+use Rattle.std.proofs.Common.{◌≡◌, List, sym, subst, ap, ◌∙◌}
+use Rattle.vs_flat.specs.Arena.{Arena}
+use Rattle.vs_flat.specs.DesignOf.{design_of}
+use Rattle.vs_design.specs.Sizes.{size as size_of}
+use Rattle.vs_program.specs.declared.compiled.Span.{Span}
+use Rattle.vs_misses.specs.Watch.{AllFit}
+use Rattle.vs_rounds.specs.Checked.{AreCheckParts}
+use Rattle.vs_setup.specs.Loaded.{watched}
+use Rattle.vs_setup.proofs.checking.assemble_check.Goals as goal
+
+pub output_spans-requires : goal.output_spans-requires
+output_spans-requires g c = rw c.flat.ensures.same c.flat.ensures.lawful
+
+pub new-requires-clause-fit : goal.new-requires-clause-fit
+new-requires-clause-fit g c =
+    let outputs_are : c.in_ok-outputs.outputs.items ≡ watched c.args.loaded.accepted = rw (c.outputs.ensures, c.flat.ensures.same, c.typed-typed.ensures) at c.in_ok-outputs.ensures.spans in
+    subst (λ (os : List Span). AllFit os c.args.drive) (sym outputs_are) c.requires.fit
+
+pub returns-clause-outputs : goal.returns-clause-outputs
+returns-clause-outputs g c =
+    let outputs_are : c.in_ok-outputs.outputs.items ≡ watched c.args.loaded.accepted = rw (c.outputs.ensures, c.flat.ensures.same, c.typed-typed.ensures) at c.in_ok-outputs.ensures.spans in
+    c.in_ok-new.ensures.outputs ∙ outputs_are
+
+pub returns-clause-ready : goal.returns-clause-ready
+returns-clause-ready g c = λ d clock parts.
+    let outputs_are : c.in_ok-outputs.outputs.items ≡ watched c.args.loaded.accepted = rw (c.outputs.ensures, c.flat.ensures.same, c.typed-typed.ensures) at c.in_ok-outputs.ensures.spans in
+    c.in_ok-new.ensures.ready d clock (subst (λ (os : List Span). AreCheckParts d clock c.args.drive c.args.loaded.engine.program os) (sym outputs_are) parts)
+
+pub returns-clause-size : goal.returns-clause-size
+returns-clause-size g c = c.size.ensures.is ∙ ap (λ (f : Arena). size_of (design_of f)) c.typed-typed.ensures
