@@ -1,5 +1,6 @@
 #!/usr/bin/env python3
-"""Compares the sentences and remedies of `crates/vs_hints` with the tables of `docs/refusals.md`.
+"""Compares the sentences and remedies of `crates/vs_hints` with the tables of `docs/refusals.md`, and the answers that are
+explained in `docs/` with the cases of `crates/cases/data/explained.cases`, which the program is tried on.
 
 A cause in the tables begins with the sentence, and a remedy with the remedy; what may follow is said behind a full
 stop, a semicolon or a colon. Marks of code count for nothing. Where a sentence has a name or a number in it the tables
@@ -57,6 +58,37 @@ def begins(cell, text):
     return cell == text or any(cell.startswith(text + mark) for mark in (". ", "; ", ": ", ", as "))
 
 
+def case_answers(text):
+    """The words and the answer of each case."""
+    found = set()
+    for part in re.split(r"^==== ", text, flags=re.M)[1:]:
+        words = part.splitlines()[1]
+        for answer in re.findall(r"^>>>> \d+\n(.*?)(?=^(?:>>>>|\+\+\+\+|\?\?\?\?|----|====) |\Z)", part, flags=re.M | re.S):
+            found.add((words, answer.replace("\\t", "\t").replace("\\\\", "\\").rstrip("\n")))
+    return found
+
+
+def shown_answers(document):
+    """The words and the answer of each run that a document shows with `--explain`."""
+    for block in re.findall(r"^    > (cyclesim --explain.*(?:\n    .*)*)", document, flags=re.M):
+        words, *answer = block.splitlines()
+        yield words, "\n".join(line[4:] for line in answer)
+
+
+def unknown_answers():
+    """How many answers that the documents show are none of a case's."""
+    known = case_answers((ROOT / "crates/cases/data/explained.cases").read_text())
+    wrong = shown = 0
+    for name in ("docs/refusals.md", "docs/running.md", "README.md"):
+        for words, answer in shown_answers((ROOT / name).read_text()):
+            shown += 1
+            if (words, answer) not in known:
+                print(f"{name}: no case has\n  {words}\n{answer}")
+                wrong += 1
+    print(f"{shown} answers, {wrong} that no case has")
+    return wrong
+
+
 def main():
     hints = table((ROOT / "crates/vs_hints/src/hints.rt").read_text())
     wrong = 0
@@ -77,7 +109,7 @@ def main():
         print(f"{name}: no row")
         wrong += 1
     print(f"{len(seen)} refusals, {wrong} differences")
-    return 1 if wrong else 0
+    return 1 if wrong + unknown_answers() else 0
 
 
 if __name__ == "__main__":

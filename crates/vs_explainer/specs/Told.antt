@@ -12,7 +12,7 @@ use Rattle.vs_explanation.specs.Ended.{done_text, waves_from, read_fault_text, w
 use Rattle.vs_reread.specs.Again.{OnlyRead}
 use Rattle.vs_explainer.specs.Looks.{IsSeen}
 
--- Want of memory: nothing was put, and nothing else has changed but at the place of files that are read again. Or the text was put at place 0 behind
+-- Want of memory: nothing was put, and nothing else has changed but at the places of files that are read again. Or the text was put at place 0 behind
 -- this desk, whole or, where a call there failed, some first bytes of it.
 pub data Says {tells : Bool} (old middle new : Told tells) (text : List ℕ) : Type 0 where
   silent : OnlyRead old new → Says old middle new text

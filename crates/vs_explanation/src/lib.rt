@@ -8,6 +8,7 @@ mod placed;
 mod refused;
 mod roles;
 mod seen;
+mod stimuli;
 mod subjects;
 
 pub use ended::{push_done, push_memory, push_read_fault, push_waves, push_write_fault};

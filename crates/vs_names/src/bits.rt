@@ -1,11 +1,12 @@
 //! The names of signals and bits.
 
-ghost use Rattle.std.specs.Prelude.{◌≡◌, ◌++◌, ◌<◌, ◌≤◌, ◌^◌, ℕ, None, Some, OnOk, MatchOption, find, length};
+ghost use Rattle.std.specs.Prelude.{◌≡◌, ◌++◌, ◌<◌, ◌≤◌, ◌^◌, ℕ, None, Some, OnOk, MatchOption, find, length, option_map};
 ghost use Rattle.vs_design.specs.Expressions as E;
 ghost use Rattle.vs_flat.specs.Arena.{signal_length};
 ghost use Rattle.vs_flat.specs.DesignOf.{arena_signals, design_of};
 ghost use Rattle.vs_flat.specs.Trees.{signal_at, signal_of};
 ghost use Rattle.vs_names.specs.Names as spec;
+ghost use Rattle.vs_names.specs.Drawn as D;
 
 use crate::indices::push_place;
 use crate::scopes::push_scope;
@@ -33,6 +34,46 @@ fn signal_with(flat: &Flat, bit: u32) -> Option<u32>
         }
     }
     None
+}
+
+/// Whether the top declares the signal, by this name.
+fn is_port(signal: &Signal, name: &[u8]) -> bool
+    ensures { (n : ℕ) → result ≡ D.is_port name.now (signal_of n signal.now) }
+{
+    signal.scope == 0 && name == signal.name.as_slice()
+}
+
+/// The number of the signal that the top declares by this name.
+fn port_named(flat: &Flat, name: &[u8]) -> Option<u32>
+    ensures { MatchOption result (find (D.is_port name.now) (arena_signals flat.now) ≡ None) (λ n. (n < length flat.now.signals) ×
+        (find (D.is_port name.now) (arena_signals flat.now) ≡ Some (signal_at (arena_signals flat.now) n))) }
+{
+    trees_law();
+    for n in 0..flat.signal_count() {
+        if is_port(flat.signal(n), name) {
+            return Some(n);
+        }
+    }
+    None
+}
+
+/// How many bits a signal has.
+fn signal_bits(signal: &Signal) -> u32
+    requires { signal_length signal.now ≤ 2 ^ 20 }
+    ensures { (n : ℕ) → result ≡ E.signal_length (signal_of n signal.now) }
+{
+    bits_of(signal)
+}
+
+/// How many bits the signal has that the top declares by this name.
+pub(crate) fn port_bits(flat: &Flat, name: &[u8]) -> Option<u32>
+    ensures { result ≡ option_map E.signal_length (find (D.is_port name.now) (arena_signals flat.now)) }
+{
+    trees_law();
+    match port_named(flat, name) {
+        None => None,
+        Some(n) => Some(signal_bits(flat.signal(n))),
+    }
 }
 
 /// Adds what a signal is.

@@ -1,11 +1,21 @@
--- A file that is read again, at a place of its own.
-use Rattle.std.specs.Prelude.{◌≡◌, ◌≢◌, ℕ, ◌-◌, Bool, IsTrue, List, ◌++◌, length, take, Option}
-use Rattle.vs_desk.specs.declared.desk.Way.TheVariants.{Read}
-use Rattle.vs_desk.specs.Desk.{Register, Contents, Told, with_place, Fails}
+-- Files that are read again, at places of their own.
+use Rattle.std.specs.Prelude.{◌≡◌, ◌≢◌, ◌⊎◌, ℕ, ◌-◌, Bool, IsTrue, IsNone, List, ◌++◌, length, take}
+use Rattle.vs_desk.specs.Desk.{Register, Told}
 
--- the place at which a file is read again; a run has no such place
-abbrev pub again_place : ℕ
-again_place = 2
+-- the places at which files are read again, a design and a stimulus; a run has no such places
+abbrev pub design_again : ℕ
+design_again = 2
+
+abbrev pub stimulus_again : ℕ
+stimulus_again = 3
+
+abbrev pub IsAgain : ℕ → Type 0
+IsAgain place = (place ≡ design_again) ⊎ (place ≡ stimulus_again)
+
+-- nothing is attached there
+pub record AreUnread (register : Register) : Type 0 where
+  pub design : IsNone (register.attached design_again)
+  pub stimulus : IsNone (register.attached stimulus_again)
 
 -- the greatest number of bytes in the text of a design
 abbrev pub most_bytes : ℕ
@@ -17,17 +27,13 @@ pub record IsStart (tells : Bool) (head file text : List ℕ) : Type 0 where
   pub text_is : text ≡ head ++ taken
   pub taken_is : IsTrue tells → taken ≡ take (most_bytes - length head) file
 
--- the register after the place was attached to the path
-abbrev pub with_again : Register → List ℕ → Register
-with_again register path = with_place register again_place Read path
-
--- Nothing that a desk tells has changed but at the place at which a file is read again. A call at that place may have failed.
+-- Nothing that a desk tells has changed but at the places at which files are read again. A call at such a place may have failed.
 pub record OnlyRead {tells : Bool} (old new : Told tells) : Type 0 where
-  pub others : (p : ℕ) → p ≢ again_place → new.register.attached p ≡ old.register.attached p
+  pub others : (p : ℕ) → p ≢ design_again → p ≢ stimulus_again → new.register.attached p ≡ old.register.attached p
   pub losses : new.register.losses ≡ old.register.losses
   pub files : IsTrue tells → new.contents.files ≡ old.contents.files
   pub put : IsTrue tells → new.contents.put ≡ old.contents.put
-  pub left : IsTrue tells → (p : ℕ) → p ≢ again_place → new.contents.left p ≡ old.contents.left p
+  pub left : IsTrue tells → (p : ℕ) → p ≢ design_again → p ≢ stimulus_again → new.contents.left p ≡ old.contents.left p
 
 -- no call failed
 pub record IsFaultless (old new : Register) : Type 0 where

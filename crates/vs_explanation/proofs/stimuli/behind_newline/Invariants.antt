@@ -1,6 +1,6 @@
 use Rattle.std.proofs.Common.{◌≡◌, ℕ, ◌≤◌, ◌<◌, ◌-◌, get_or, length, false}
 use Rattle.vs_excerpt.specs.Positions.{is_newline}
-use Rattle.vs_explanation.proofs.refused.behind_newline.Given as goal
+use Rattle.vs_explanation.proofs.stimuli.behind_newline.Given as goal
 
 abbrev pub invariant-loop-end : goal.invariant-loop-end
 invariant-loop-end l = record {
